@@ -1,0 +1,2 @@
+pub mod Enough
+pub mod AnyCode

@@ -1,0 +1,40 @@
+ghost use Rattle.pgp_code.specs.Enough.{enough_shards, enough_shards-mono, enough_shards-nil};
+ghost use Rattle.std.specs.Prelude.{◌≡◌, ◌≤◌, ◌↔◌, true, IsSome, IfSome};
+
+use super::recoverable::Recoverable;
+use pgp_ids::SlotSet;
+
+/// An erasure code: each member holds the shard of its place, and any `k` shards are enough.
+#[derive(Clone, Copy, Debug, PartialEq, Eq, Hash)]
+pub struct Erasure {
+    pub k: u8,
+    ghost at_least_one: { 1 ≤ k },
+}
+
+impl Erasure {
+    /// The code of `k` data shards, where that is at least 1.
+    pub fn new(k: u8) -> Option<Self>
+        ensures variant { IsSome result ↔ (1 ≤ k) }
+        ensures value { IfSome result (λ code. code.k ≡ k) }
+    {
+        if k >= 1 { Some(Erasure { k }) } else { None }
+    }
+}
+
+impl Recoverable for Erasure {
+    ghost enough = { λ code slots. enough_shards code.k slots };
+
+    ghost by_place = { λ _. true };
+
+    ghost monotone = { λ code a b. enough_shards-mono code.k a b };
+
+    ghost empty_is_short = { λ code. enough_shards-nil code.k code.at_least_one };
+
+    fn enough(&self, have: SlotSet) -> bool {
+        have.count() >= u32::from(self.k)
+    }
+
+    fn by_place(&self) -> bool {
+        true
+    }
+}

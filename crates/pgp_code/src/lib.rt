@@ -1,0 +1,18 @@
+//! When the slots at hand are enough to serve a group: the codes that a pool can have.
+//!
+//! A code is anything that meets the laws of [`Recoverable`]: more slots never hurt, and no slot is never enough. The
+//! layers above use these laws alone.
+#![tactic(auto)]
+
+mod any;
+mod erasure;
+pub mod laws;
+mod recoverable;
+mod replicated;
+#[cfg(test)]
+mod tests;
+
+pub use any::AnyCode;
+pub use erasure::Erasure;
+pub use recoverable::Recoverable;
+pub use replicated::Replicated;

@@ -1,0 +1,9 @@
+-- How many weights a bucket has.
+use Rattle.std.specs.Prelude.{ℕ}
+use Rattle.pgp_ids.specs.declared.bucket.BucketAlg.{BucketAlg}
+use Rattle.pgp_ids.specs.declared.bucket.BucketAlg.TheVariants.{Uniform, List}
+
+-- one for each item in a list bucket, else none
+abbrev pub weight_count : BucketAlg → ℕ → ℕ
+weight_count Uniform items = 0
+weight_count List items = items

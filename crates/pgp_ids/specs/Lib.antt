@@ -1,0 +1,10 @@
+pub mod Osds
+pub mod SlotSet
+pub mod SlotBits
+pub mod TextFault
+pub mod Bucket
+pub mod Version
+pub mod Names
+pub mod Refusal
+pub mod AskRefusal
+pub mod Member

@@ -1,0 +1,15 @@
+use super::incremental::Incremental;
+use super::report::{Info, Report};
+
+/// An entry of the log of all that monitor and devices have told.
+#[derive(Debug, Drop)]
+pub enum Entry {
+    /// The next cluster map.
+    Inc(Incremental),
+    /// A member's info.
+    Info(Info),
+    /// A part of a member's log.
+    Entries(Report),
+    /// The log ends here, and takes no further entry.
+    Close,
+}

@@ -1,0 +1,48 @@
+ghost use Rattle.std.specs.Prelude.{◌≡◌, ℕ, ◌+◌, ◌<◌, ◌^◌, Some, SomeIff};
+
+use std::fmt;
+use std::marker::Model;
+
+/// The number of a cluster map. The empty map before the first incremental is epoch 0.
+#[derive(Clone, Copy, Debug, PartialEq, Eq, Hash, PartialOrd, Ord)]
+pub struct Epoch {
+    number: u32,
+}
+
+impl Model for Epoch {
+    ghost Value = { ℕ };
+
+    ghost view = { λ e. e.number };
+
+    ghost inverse = { λ n. record { number = n } };
+}
+
+impl Epoch {
+    pub fn new(number: u32) -> Self
+        ensures { result ≡ number }
+    {
+        Epoch { number }
+    }
+
+    pub fn number(self) -> u32
+        ensures { result ≡ self }
+    {
+        self.number
+    }
+
+    /// The epoch after this one, where there is one.
+    pub fn next(self) -> Option<Self>
+        ensures { SomeIff result (self + 1 < 2 ^ 32) (self + 1) }
+    {
+        match self.number.checked_add(1) {
+            Some(number) => Some(Epoch { number }),
+            None => None,
+        }
+    }
+}
+
+impl fmt::Display for Epoch {
+    fn fmt<W: fmt::Write>(&self, f: &mut fmt::Formatter<W>) -> fmt::Result {
+        write!(f, "{}", self.number)
+    }
+}

@@ -1,0 +1,24 @@
+ghost use Rattle.std.specs.Prelude.{◌≡◌};
+ghost use Rattle.pgp_ids.specs.Member.{is_before};
+
+use super::osd::OsdId;
+
+/// A member of a placement group: a device in a slot. Ordered by device and then by slot.
+///
+/// In a replicated pool the slot is 0. In an erasure pool it is the place in the group's list, whose shard the device
+/// holds.
+#[derive(Clone, Copy, Debug, PartialEq, Eq, Hash, PartialOrd, Ord)]
+pub struct Member {
+    pub osd: OsdId,
+    /// 0 to 15.
+    pub slot: u8,
+}
+
+impl Member {
+    /// Whether the member stands before the other in lists of members.
+    pub fn is_before(self, other: Member) -> bool
+        ensures { result ≡ is_before self other }
+    {
+        self < other
+    }
+}

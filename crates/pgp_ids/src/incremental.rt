@@ -1,0 +1,51 @@
+use super::bucket::BucketSpec;
+use super::epoch::Epoch;
+use super::osd::OsdId;
+use super::pg_id::PgId;
+use super::pool::{PoolSizes, PoolSpec};
+use super::seq::Seq;
+
+/// A device's weight, in units of 1/0x10000: 0 is out, 0x10000 is fully in.
+#[derive(Clone, Copy, Debug, PartialEq, Eq, Hash)]
+pub struct DeviceWeight {
+    pub osd: OsdId,
+    pub weight: u32,
+}
+
+/// An epoch that is told of a device.
+#[derive(Clone, Copy, Debug, PartialEq, Eq, Hash)]
+pub struct DeviceEpoch {
+    pub osd: OsdId,
+    pub epoch: Epoch,
+}
+
+/// The list of devices that stands in for a group's placement (pg_temp), place by place; the empty list takes it away.
+#[derive(Debug, Drop)]
+pub struct TempList {
+    pub pg: PgId,
+    pub osds: Seq<Option<OsdId>>,
+}
+
+/// The step from one cluster map to the next. All its parts take effect together.
+#[derive(Debug, Drop)]
+pub struct Incremental {
+    /// The epoch of the map to which it leads.
+    pub epoch: Epoch,
+    /// The devices that boot.
+    pub up: Seq<OsdId>,
+    /// The devices that are taken for down.
+    pub down: Seq<OsdId>,
+    /// The devices that are destroyed.
+    pub gone: Seq<OsdId>,
+    pub weight: Seq<DeviceWeight>,
+    /// The last epochs through which devices are known to have been up.
+    pub up_thru: Seq<DeviceEpoch>,
+    /// The epochs at which devices are given up for lost.
+    pub lost: Seq<DeviceEpoch>,
+    /// The pools that are made.
+    pub pools: Seq<PoolSpec>,
+    pub sizes: Seq<PoolSizes>,
+    pub temp: Seq<TempList>,
+    /// The buckets of the placement tree that replaces the old one.
+    pub crush: Option<Seq<BucketSpec>>,
+}

@@ -1,0 +1,58 @@
+//! The plain data that every layer speaks of: ids, epochs, lists of devices, memberships, past intervals, and the
+//! faults of a line.
+//!
+//! This crate decides nothing. It fixes the names and ranges, and what a contract sees of each type: an id is its
+//! number, a list is a list, a set of slots is the ascending list of its slots.
+#![tactic(auto)]
+
+mod ask_refusal;
+mod bucket;
+mod entry;
+mod epoch;
+mod group_member;
+mod history;
+mod incremental;
+mod log_entry;
+mod member;
+mod object_name;
+mod osd;
+mod osds;
+mod past;
+mod peer;
+mod pg_id;
+mod pool;
+mod pool_id;
+mod refusal;
+mod report;
+mod seq;
+mod slots;
+mod text_fault;
+mod verdict;
+mod version;
+mod view;
+
+pub use ask_refusal::AskRefusal;
+pub use bucket::{BucketAlg, BucketSpec};
+pub use entry::Entry;
+pub use epoch::Epoch;
+pub use group_member::Member;
+pub use history::{EpochState, PrimaryFacts};
+pub use incremental::{DeviceEpoch, DeviceWeight, Incremental, TempList};
+pub use log_entry::{Change, LogEntry};
+pub use member::Membership;
+pub use object_name::ObjectName;
+pub use osd::OsdId;
+pub use osds::{MAX_OSDS, Osds};
+pub use past::Past;
+pub use peer::{MissingObject, PeerMissing, PeerState};
+pub use pg_id::PgId;
+pub use pool::{PoolKind, PoolSizes, PoolSpec};
+pub use pool_id::PoolId;
+pub use refusal::Refusal;
+pub use report::{Info, Report};
+pub use seq::Seq;
+pub use slots::{SLOT_LIMIT, SlotSet};
+pub use text_fault::TextFault;
+pub use verdict::Verdict;
+pub use version::Version;
+pub use view::View;

@@ -1,0 +1,102 @@
+ghost use Rattle.std.specs.Prelude.{◌≡◌, ℕ, ◌+◌, ◌<◌, ◌≤◌, ◌==◌, List, [], ◌∷◌, ◌++◌, Option, Some, None, length, is_some, count_by};
+ghost use Rattle.pgp_ids.specs.Osds.{first_osd, osd_count};
+
+use super::osd::OsdId;
+use arrayvec::ArrayVec;
+use std::alloc::{AllocError, Global};
+use std::marker::Model;
+
+/// How many places a list of devices has at most.
+pub const MAX_OSDS: usize = 16;
+
+/// A list of at most [`MAX_OSDS`] places, each of which holds a device or is empty (NONE).
+///
+/// In a replicated pool the places have no meaning beyond their order; in an erasure pool place `i` holds shard `i`.
+#[derive(Debug, PartialEq, Eq, Drop)]
+pub struct Osds {
+    places: ArrayVec<Option<OsdId>, 16>,
+}
+
+impl Model for Osds {
+    ghost Value = { List (Option ℕ) };
+
+    ghost view = { λ o. o.places.items };
+
+    ghost invariant = { λ o. length o.places.items ≤ 16 };
+
+    ghost inverse = { λ xs. record { places = record { items = xs } } };
+}
+
+impl Osds {
+    pub fn new() -> Self
+        ensures { result ≡ [] }
+    {
+        Osds {
+            places: ArrayVec::new(),
+        }
+    }
+
+    pub fn len(&self) -> usize
+        ensures value { result ≡ length self.now }
+        ensures within { result ≤ 16 }
+    {
+        self.places.len()
+    }
+
+    pub fn is_empty(&self) -> bool
+        ensures { result ≡ (length self.now == 0) }
+    {
+        self.places.is_empty()
+    }
+
+    pub fn is_full(&self) -> bool
+        ensures { result ≡ (length self.now == 16) }
+    {
+        self.places.is_full()
+    }
+
+    /// Appends a place.
+    pub fn push(&mut self, place: Option<OsdId>)
+        requires { length self.old < 16 }
+        ensures { self.new ≡ self.old ++ place ∷ [] }
+    {
+        self.places.push(place);
+    }
+
+    /// The places in order.
+    pub fn as_slice(&self) -> &[Option<OsdId>]
+        ensures value { result.now ≡ self.now }
+        ensures within { length result.now ≤ 16 }
+    {
+        self.places.as_slice()
+    }
+
+    /// The first device, past the empty places.
+    pub fn first(&self) -> Option<OsdId>
+        ensures { result ≡ first_osd self.now }
+    {
+        first_of(self.places.as_slice())
+    }
+
+    /// How many places hold a device.
+    pub fn osd_count(&self) -> usize
+        ensures { result ≡ osd_count self.now }
+    {
+        self.places
+            .as_slice()
+            .iter()
+            .filter(|place| place.is_some())
+            .count()
+    }
+}
+
+fn first_of(places: &[Option<OsdId>]) -> Option<OsdId>
+    ensures { result ≡ first_osd places.now }
+{
+    for place in places {
+        if let Some(osd) = place {
+            return Some(*osd);
+        }
+    }
+    None
+}

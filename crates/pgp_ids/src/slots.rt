@@ -1,0 +1,67 @@
+ghost use Rattle.std.specs.Prelude.{◌≡◌, ℕ, ◌<◌, ◌^◌, List, [], length};
+ghost use Rattle.pgp_ids.specs.SlotSet.{has_slot, with_slot, is_within};
+
+use std::marker::Model;
+
+/// Slots are numbered from 0 to one below this.
+pub const SLOT_LIMIT: u8 = 32;
+
+/// A set of slots, each below [`SLOT_LIMIT`]. Contracts see it as the list of its slots in ascending order.
+#[derive(Clone, Copy, Debug)]
+pub struct SlotSet {
+    bits: u32,
+}
+
+impl Model for SlotSet {
+    ghost use Rattle.std.specs.Prelude.{List, ℕ, ◌<◌, ◌^◌};
+    ghost use Rattle.pgp_ids.specs.SlotBits.{slots_of, bits_of, bits_of-slots_of};
+
+    ghost Value = { List ℕ };
+
+    ghost view = { λ s. slots_of s.bits };
+
+    ghost invariant = { λ s. s.bits < 2 ^ 32 };
+
+    ghost inverse = { λ slots. record { bits = bits_of slots } };
+
+    ghost inverse_ok = { λ s fits. bits_of-slots_of s fits };
+}
+
+impl SlotSet {
+    pub fn empty() -> Self
+        ensures { result ≡ [] }
+    {
+        SlotSet { bits: 0 }
+    }
+
+    /// The set with this slot too.
+    pub fn with(self, slot: u8) -> Self
+        requires { slot < 32 }
+        ensures { result ≡ with_slot slot self }
+    {
+        SlotSet {
+            bits: self.bits | 1 << slot,
+        }
+    }
+
+    pub fn has(self, slot: u8) -> bool
+        requires { slot < 32 }
+        ensures { result ≡ has_slot slot self }
+    {
+        self.bits >> slot & 1 == 1
+    }
+
+    /// How many slots it has.
+    pub fn count(self) -> u32
+        ensures { result ≡ length self }
+    {
+        self.bits.count_ones()
+    }
+
+    /// Whether each of its slots is in `other`.
+    pub fn within(self, other: SlotSet) -> bool
+        ensures { result ≡ is_within self other }
+    {
+        self.bits & !other.bits == 0
+    }
+}

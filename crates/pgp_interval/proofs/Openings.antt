@@ -1,0 +1,53 @@
+-- Where intervals open: the greatest opening place, met from below.
+use Rattle.std.proofs.Common.{◌≡◌, ℕ, zero, suc, ◌+◌, ◌-◌, ◌≤◌, [], ◌∷◌, Bool, true, false, cond, filter, fold, max, ap, sym, ◌∙◌, arith, add-one, inl, inr}
+use Rattle.std.specs.List.{range_with_len}
+use Rattle.std.proofs.lemmas.Bool.{cases_Bool, true≢false}
+use Rattle.std.proofs.lemmas.List.Sums.{fold-append}
+use Rattle.std.proofs.Math.Nat.{max-eq_right}
+use Rattle.pgp_interval.proofs.Ranges.{filter_range-suc}
+use Rattle.pgp_interval.specs.History.{History}
+use Rattle.pgp_interval.specs.Runs.{ends_at, opens_at, greatest_below, opening_of}
+
+greatest_below-suc : (test : ℕ → Bool) (n : ℕ) → greatest_below test (suc n) ≡ fold max (greatest_below test n) (cond (test n) (n ∷ []) [])
+greatest_below-suc test n = ap (fold max 0) (filter_range-suc test n) ∙ fold-append max 0 (filter test (range_with_len 0 n)) _
+
+greatest_below-fails : (test : ℕ → Bool) (n : ℕ) → test n ≡ false → greatest_below test (suc n) ≡ greatest_below test n
+greatest_below-fails test n fails = greatest_below-suc test n ∙ ap (λ b. fold max (greatest_below test n) (cond b (n ∷ []) [])) fails
+
+greatest_below-le : (test : ℕ → Bool) (n : ℕ) → greatest_below test n ≤ n
+greatest_below-le test zero = omega arith
+greatest_below-le test (suc n) =
+    let below : greatest_below test n ≤ n = greatest_below-le test n in
+    rw greatest_below-suc (elim (test n) as (λ b. fold max (greatest_below test n) (cond b (n ∷ []) []) ≤ suc n) [ true ↦ omega arith | false ↦ omega arith ])
+
+greatest_below-passes : (test : ℕ → Bool) (n : ℕ) → test n ≡ true → greatest_below test (suc n) ≡ n
+greatest_below-passes test n passes =
+    greatest_below-suc test n ∙ ap (λ b. fold max (greatest_below test n) (cond b (n ∷ []) [])) passes
+    ∙ max-eq_right (greatest_below-le test n)
+
+-- ---- the opening of a place
+
+pub opening_of-opens : {C : Type 0} (h : History C) (place : ℕ) → opens_at h place ≡ true → opening_of h place ≡ place
+opening_of-opens h place opens = ap (greatest_below (opens_at h)) (add-one place) ∙ greatest_below-passes (opens_at h) place opens
+
+pub opening_of-stays : {C : Type 0} (h : History C) (place : ℕ) → ends_at h place ≡ false → opening_of h (suc place) ≡ opening_of h place
+opening_of-stays h place stays =
+    ap (greatest_below (opens_at h)) (add-one (suc place)) ∙ greatest_below-fails (opens_at h) (suc place) stays
+    ∙ sym (ap (greatest_below (opens_at h)) (add-one place))
+
+pub opening_of-le : {C : Type 0} (h : History C) (place : ℕ) → opening_of h place ≤ place
+opening_of-le h zero = omega arith
+opening_of-le h (suc place) = elim (cases_Bool (ends_at h place)) [
+  | inl ends ↦ omega (arith, opening_of-opens h (suc place) ends)
+  | inr stays ↦ omega (arith, opening_of-stays h place stays, opening_of-le h place)
+]
+
+-- one place further down from a place that opens nothing
+pub opening_of-before : {C : Type 0} (h : History C) (place : ℕ) → opens_at h place ≡ false → opening_of h (place - 1) ≡ opening_of h place
+opening_of-before h zero fails = absurd (true≢false fails)
+opening_of-before h (suc place) fails =
+    let same : suc place - 1 ≡ place = omega arith in
+    ap (opening_of h) same ∙ sym (opening_of-stays h place fails)
+
+pub opens_at-next : {C : Type 0} (h : History C) (place : ℕ) → opens_at h (place + 1) ≡ ends_at h place
+opens_at-next h place = ap (opens_at h) (add-one place)

@@ -1,0 +1,6 @@
+pub mod SameMembers
+pub mod History
+pub mod ReadWrite
+pub mod Runs
+pub mod Interval
+pub mod Examples

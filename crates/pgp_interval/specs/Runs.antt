@@ -1,0 +1,61 @@
+-- The intervals of a history: the maximal runs of epochs of equal membership (Ceph's developer documentation on
+-- peering). The run that reaches the last epoch is the current interval, the others are past.
+use Rattle.std.specs.Prelude.{ℕ, zero, suc, ◌+◌, List, Bool, true, not, map, filter, fold, max}
+use Rattle.std.specs.List.{range_with_len}
+use Rattle.pgp_ids.specs.declared.history.EpochState.{EpochState}
+use Rattle.pgp_ids.specs.declared.history.PrimaryFacts.{PrimaryFacts}
+use Rattle.pgp_ids.specs.declared.past.Past.{Past}
+use Rattle.pgp_interval.specs.SameMembers.{is_same}
+use Rattle.pgp_interval.specs.History.{History, state_at, members_at, last_place}
+use Rattle.pgp_interval.specs.ReadWrite.{may_have_gone_rw}
+
+-- an interval ends at this place: the next membership differs
+abbrev pub ends_at : {C : Type 0} → History C → ℕ → Bool
+ends_at h place = not (is_same (members_at h place) (members_at h (place + 1)))
+
+-- an interval opens at this place: it is the first, or the membership before differs
+abbrev pub opens_at : {C : Type 0} → History C → ℕ → Bool
+opens_at h zero = true
+opens_at h (suc place) = ends_at h place
+
+-- the greatest number below the limit that passes the test, or 0
+abbrev pub greatest_below : (ℕ → Bool) → ℕ → ℕ
+greatest_below test limit = fold max 0 (filter test (range_with_len 0 limit))
+
+-- where the interval that holds this place opens: the greatest opening place that is not above it
+abbrev pub opening_of : {C : Type 0} → History C → ℕ → ℕ
+opening_of h place = greatest_below (opens_at h) (place + 1)
+
+-- the past interval that ends at this place
+abbrev pub past_ending : {C : Type 0} → (C → List ℕ → Bool) → (C → Bool) → History C → ℕ → Past
+past_ending enough by_place h last =
+    let first = h.first + opening_of h last in
+    record {
+      first = first;
+      last = h.first + last;
+      members = members_at h last;
+      rw = may_have_gone_rw (enough h.code) (by_place h.code) (state_at h last) first;
+    }
+
+-- the last places of the past intervals, in ascending order
+abbrev pub past_ends : {C : Type 0} → History C → List ℕ
+past_ends h = filter (ends_at h) (range_with_len 0 (last_place h))
+
+-- the past intervals, in ascending order
+abbrev pub past_intervals : {C : Type 0} → (C → List ℕ → Bool) → (C → Bool) → History C → List Past
+past_intervals enough by_place h = map (past_ending enough by_place h) (past_ends h)
+
+-- the first epoch of the current interval
+abbrev pub current_first : {C : Type 0} → History C → ℕ
+current_first h = h.first + opening_of h (last_place h)
+
+-- the current interval as a past one, where it ends with these facts
+abbrev pub current_ending : {C : Type 0} → (C → List ℕ → Bool) → (C → Bool) → History C → PrimaryFacts → Past
+current_ending enough by_place h facts =
+    let last : EpochState = record { members = h.current; facts = facts } in
+    record {
+      first = current_first h;
+      last = h.first + last_place h;
+      members = h.current;
+      rw = may_have_gone_rw (enough h.code) (by_place h.code) last (current_first h);
+    }

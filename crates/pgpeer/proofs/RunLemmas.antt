@@ -1,0 +1,287 @@
+-- How an answering goes on, and how it stops.
+use Rattle.std.proofs.Common.{◌≡◌, ◌≢◌, ℕ, ◌+◌, ◌-◌, ◌<◌, ◌≤◌, List, [], ◌∷◌, ◌++◌, Bool, true, false, Option, length, take, refl, sym, ap, ◌∙◌, append_assoc, append-nil, arith, take_all, nat_lt, inl, inr}
+use Rattle.std.proofs.lemmas.Bool.Decides.{nat_tests, eqb_tells}
+use Rattle.std.proofs.Math.Seq.{take-append_seam, take-append-add}
+use Rattle.std.specs.List.{list_any}
+use Rattle.std.specs.Io.KnownBytes.{Appends}
+use Rattle.std.proofs.lemmas.List.{length-append}
+use Rattle.pgpeer.specs.Lines.{Cut, is_line_feed, cut, last_line, lines_of}
+use Rattle.pgpeer.specs.Line.{Holds}
+use Rattle.pgpeer.specs.Output.{FrontWent}
+use Rattle.pgpeer.specs.Script.{answer, answers, lines_before_cut}
+use Rattle.pgpeer.specs.Run.{Puts, PutsFront, IsAfter, Answered, CutOff, BrokenOff, IsDone, Taken}
+use Rattle.pgpeer.specs.declared.line.LineBuffer.{LineBuffer}
+use Rattle.pgpeer.specs.declared.output.Output.{Output}
+use Rattle.pgpeer.specs.declared.script.Script.{Script}
+use Rattle.pgpeer.specs.declared.script.Bounds.{Bounds}
+use Rattle.pgpeer.proofs.OutputLemmas.{Went-then, FrontWent-then, FrontWent-pending, Went-flushed}
+use Rattle.pgpeer.proofs.CutLemmas.{cut-piece, cut-feed, lines-goes, cut-goes}
+
+-- ---- answers to more lines
+
+pub answers-push : (met : List Bool) (lines : List (List ℕ)) (m : Bool) (line : List ℕ) → length met ≡ length lines
+    → answers (met ++ m ∷ []) (lines ++ line ∷ []) ≡ answers met lines ++ answer m line
+answers-push [] [] m line same = append-nil (answer m line)
+answers-push [] (l ∷ lines) m line same = absurd (omega arith)
+answers-push (n ∷ met) [] m line same = absurd (omega arith)
+answers-push (n ∷ met) (l ∷ lines) m line same =
+    let tails : length met ≡ length lines = omega arith in
+    ap (λ rest. answer n l ++ rest) (answers-push met lines m line tails) ∙ sym (append_assoc (answer n l) (answers met lines) (answer m line))
+
+pub answers-front : (met : List Bool) (lines others : List (List ℕ)) → length met ≡ length lines → answers met (lines ++ others) ≡ answers met lines
+answers-front [] [] others same = refl
+answers-front [] (l ∷ lines) others same = refl
+answers-front (m ∷ met) [] others same = absurd (omega arith)
+answers-front (m ∷ met) (l ∷ lines) others same =
+    let tails : length met ≡ length lines = omega arith in
+    ap (λ rest. answer m l ++ rest) (answers-front met lines others tails)
+
+-- ---- one step
+
+pub after-add : (bounds : Bounds) (script : Script) (line : LineBuffer) (start now : Option (List ℕ)) (bytes piece : List ℕ)
+    → list_any is_line_feed piece ≡ false → 0 < script.left.lines → length piece ≤ script.left.bytes
+    → ((part : List ℕ) → Holds script.line part → Holds line (part ++ piece))
+    → IsAfter bounds script start now bytes
+    → IsAfter bounds (record script { line = line; left = record script.left { bytes = script.left.bytes - length piece } }) start now (bytes ++ piece)
+after-add bounds script line start now bytes piece none room fits added after =
+    let whole : (cut (bytes ++ piece)).whole ≡ (cut bytes).whole = ap (λ (c : Cut). c.whole) (cut-piece bytes piece none) in
+    let rest : (cut (bytes ++ piece)).rest ≡ (cut bytes).rest ++ piece = ap (λ (c : Cut). c.rest) (cut-piece bytes piece none) in
+    record {
+      line = rw rest (added (cut bytes).rest after.line);
+      lines_left = rw whole after.lines_left;
+      bytes_left = omega (arith, after.bytes_left, length-append bytes piece);
+      closed = λ none_left. absurd (omega arith);
+      met = after.met;
+      each = rw whole after.each;
+      text = rw whole after.text;
+    }
+
+pub after-end : (bounds : Bounds) (script : Script) (line : LineBuffer) (output : Output) (start now new : Option (List ℕ)) (bytes : List ℕ)
+    → 0 < script.left.lines → 0 < script.left.bytes → Holds line []
+    → Puts now new script.output.pending.items output.pending.items (cut bytes).rest
+    → IsAfter bounds script start now bytes
+    → IsAfter bounds (record { line = line; output = output; left = record { lines = script.left.lines - 1; bytes = script.left.bytes - 1 } }) start new (bytes ++ 10 ∷ [])
+after-end bounds script line output start now new bytes room fits begun puts after =
+    let whole : (cut (bytes ++ 10 ∷ [])).whole ≡ (cut bytes).whole ++ (cut bytes).rest ∷ [] = ap (λ (c : Cut). c.whole) (cut-feed bytes) in
+    let rest : (cut (bytes ++ 10 ∷ [])).rest ≡ [] = ap (λ (c : Cut). c.rest) (cut-feed bytes) in
+    record {
+      line = rw rest begun;
+      lines_left = rw whole (omega (arith, after.lines_left, length-append (cut bytes).whole ((cut bytes).rest ∷ [])));
+      bytes_left = omega (arith, after.bytes_left, length-append bytes (10 ∷ []));
+      closed = λ _. rest;
+      met = after.met ++ puts.met ∷ [];
+      each = rw whole (omega (arith, after.each, length-append after.met (puts.met ∷ []), length-append (cut bytes).whole ((cut bytes).rest ∷ [])));
+      text = rw (whole, answers-push after.met (cut bytes).whole puts.met (cut bytes).rest after.each)
+          (Went-then start now new _ _ _ _ after.text puts.went);
+    }
+
+pub broken_by : (bounds : Bounds) (script : Script) (start now new : Option (List ℕ)) (bytes more : List ℕ)
+    → PutsFront now new script.output.pending.items (cut bytes).rest
+    → IsAfter bounds script start now bytes
+    → BrokenOff start new (bytes ++ 10 ∷ more)
+broken_by bounds script start now new bytes more front after =
+    let goes = lines-goes (bytes ++ 10 ∷ []) more in
+    let whole : (cut (bytes ++ 10 ∷ [])).whole ≡ (cut bytes).whole ++ (cut bytes).rest ∷ [] = ap (λ (c : Cut). c.whole) (cut-feed bytes) in
+    let met = after.met ++ front.met ∷ [] in
+    let same : answers met (lines_of (bytes ++ 10 ∷ more)) ≡ answers after.met (cut bytes).whole ++ answer front.met (cut bytes).rest =
+    ap (λ b. answers met (lines_of b)) (sym (append_assoc bytes (10 ∷ []) more)) ∙ ap (answers met) (goes.1 ∙ ap (λ w. w ++ goes.0) whole)
+    ∙ answers-front met ((cut bytes).whole ++ (cut bytes).rest ∷ []) goes.0
+    (length-append after.met (front.met ∷ []) ∙ ap (λ n. n + 1) after.each ∙ sym (length-append (cut bytes).whole ((cut bytes).rest ∷ [])))
+    ∙ answers-push after.met (cut bytes).whole front.met (cut bytes).rest after.each in
+    record { met = met; front = rw same (FrontWent-then start now new _ _ _ after.text front.front) }
+
+pub broken_at_end : (script : Script) (now new : Option (List ℕ))
+    → ((line : List ℕ) → Holds script.line line → PutsFront now new script.output.pending.items line)
+    → (bounds : Bounds) (start : Option (List ℕ)) (bytes more : List ℕ) → IsAfter bounds script start now bytes → BrokenOff start new (bytes ++ 10 ∷ more)
+broken_at_end script now new puts bounds start bytes more after = broken_by bounds script start now new bytes more (puts (cut bytes).rest after.line) after
+
+-- ---- the loop over a chunk
+
+pub taken-none : (script : Script) (now : Option (List ℕ)) (chunk : List ℕ) → Taken script script now now chunk chunk
+taken-none script now chunk = record {
+  done = [];
+  whole = refl;
+  after = λ bounds start bytes after. rw append-nil after;
+}
+
+pub taken-more : (old mid new : Script) (before now then : Option (List ℕ)) (chunk rest piece others : List ℕ) → Taken old mid before now chunk rest → rest ≡ piece ++ others
+    → ((bounds : Bounds) (start : Option (List ℕ)) (bytes : List ℕ) → IsAfter bounds mid start now bytes → IsAfter bounds new start then (bytes ++ piece))
+    → Taken old new before then chunk others
+taken-more old mid new before now then chunk rest piece others taken parts step = record {
+  done = taken.done ++ piece;
+  whole = append_assoc taken.done piece others ∙ ap (λ l. taken.done ++ l) (sym parts) ∙ taken.whole;
+  after = λ bounds start bytes after. rw (← append_assoc) (step bounds start (bytes ++ taken.done) (taken.after bounds start bytes after));
+}
+
+-- the lines that have ended are answered first, whatever follows
+same_answers : (met : List Bool) (bytes more : List ℕ) → length met ≡ length (cut bytes).whole → answers met (lines_of (bytes ++ more)) ≡ answers met (cut bytes).whole
+same_answers met bytes more each =
+    let goes = lines-goes bytes more in
+    ap (answers met) goes.1 ∙ answers-front met (cut bytes).whole goes.0 each
+
+pub broken_flush : (bounds : Bounds) (script : Script) (start now new : Option (List ℕ)) (bytes more : List ℕ)
+    → IsAfter bounds script start now bytes → FrontWent now new script.output.pending.items → BrokenOff start new (bytes ++ more)
+broken_flush bounds script start now new bytes more after front = record {
+  met = after.met;
+  front = rw (same_answers after.met bytes more after.each) (FrontWent-pending start now new _ _ after.text front);
+}
+
+take_within : (n : ℕ) (bytes more : List ℕ) → length bytes ≤ n → take n (bytes ++ more) ≡ bytes ++ take (n - length bytes) more
+take_within n bytes more within =
+    let split : n ≡ length bytes + (n - length bytes) = omega arith in
+    ap (λ k. take k (bytes ++ more)) split ∙ take-append-add bytes more (n - length bytes)
+
+-- all the lines that the bounds allow have ended
+pub cut_by_lines : (bounds : Bounds) (script : Script) (start now new : Option (List ℕ)) (bytes more : List ℕ)
+    → IsAfter bounds script start now bytes → script.left.lines ≡ 0 → Appends now new script.output.pending.items → CutOff bounds start new (bytes ++ more)
+cut_by_lines bounds script start now new bytes more after none flushed =
+    let within : length bytes ≤ bounds.bytes = omega (arith, after.bytes_left) in
+    let many : bounds.lines ≡ length (cut bytes).whole = omega (arith, after.lines_left, none) in
+    let goes = cut-goes bytes (take (bounds.bytes - length bytes) more) in
+    let same : lines_before_cut bounds.lines bounds.bytes (bytes ++ more) ≡ (cut bytes).whole =
+    ap (λ b. take bounds.lines (cut b).whole) (take_within bounds.bytes bytes more within)
+    ∙ ap (take bounds.lines) goes.whole ∙ ap (λ n. take n ((cut bytes).whole ++ goes.others)) many ∙ take-append_seam (cut bytes).whole goes.others in
+    record {
+      out = answers after.met (cut bytes).whole;
+      all = record { met = after.met; each = rw same after.each; text = rw same refl };
+      went = Went-flushed start now new _ _ after.text flushed;
+    }
+
+-- all the bytes that the bounds allow were read
+pub cut_by_bytes : (bounds : Bounds) (script : Script) (start now new : Option (List ℕ)) (bytes more : List ℕ)
+    → IsAfter bounds script start now bytes → script.left.bytes ≡ 0 → Appends now new script.output.pending.items → CutOff bounds start new (bytes ++ more)
+cut_by_bytes bounds script start now new bytes more after none flushed =
+    let all_bytes : bounds.bytes ≡ length bytes = omega (arith, after.bytes_left, none) in
+    let few : length (cut bytes).whole ≤ bounds.lines = omega (arith, after.lines_left) in
+    let same : lines_before_cut bounds.lines bounds.bytes (bytes ++ more) ≡ (cut bytes).whole =
+    ap (λ n. take bounds.lines (cut (take n (bytes ++ more))).whole) all_bytes ∙ ap (λ b. take bounds.lines (cut b).whole) (take-append_seam bytes more)
+    ∙ take_all bounds.lines (cut bytes).whole few in
+    record {
+      out = answers after.met (cut bytes).whole;
+      all = record { met = after.met; each = rw same after.each; text = rw same refl };
+      went = Went-flushed start now new _ _ after.text flushed;
+    }
+
+-- the reader stopped within the bounds
+pub cut_by_reader : (bounds : Bounds) (script : Script) (start now new : Option (List ℕ)) (bytes : List ℕ)
+    → IsAfter bounds script start now bytes → Appends now new script.output.pending.items → CutOff bounds start new bytes
+cut_by_reader bounds script start now new bytes after flushed =
+    let within : length bytes ≤ bounds.bytes = omega (arith, after.bytes_left) in
+    let few : length (cut bytes).whole ≤ bounds.lines = omega (arith, after.lines_left) in
+    let same : lines_before_cut bounds.lines bounds.bytes bytes ≡ (cut bytes).whole =
+    ap (λ b. take bounds.lines (cut b).whole) (take_all bounds.bytes bytes within) ∙ take_all bounds.lines (cut bytes).whole few in
+    record {
+      out = answers after.met (cut bytes).whole;
+      all = record { met = after.met; each = rw same after.each; text = rw same refl };
+      went = Went-flushed start now new _ _ after.text flushed;
+    }
+
+-- ---- one list of bytes, cut in other ways
+
+pub regroup : (bytes done rest chunk more : List ℕ) → done ++ rest ≡ chunk → (bytes ++ done) ++ (rest ++ more) ≡ bytes ++ (chunk ++ more)
+regroup bytes done rest chunk more whole =
+    append_assoc bytes done (rest ++ more) ∙ ap (λ l. bytes ++ l) (sym (append_assoc done rest more) ∙ ap (λ l. l ++ more) whole)
+
+pub regroup_line : (bytes done rest chunk piece others more : List ℕ) → done ++ rest ≡ chunk → rest ≡ piece ++ 10 ∷ others
+    → ((bytes ++ done) ++ piece) ++ 10 ∷ (others ++ more) ≡ bytes ++ (chunk ++ more)
+regroup_line bytes done rest chunk piece others more whole parts =
+    append_assoc (bytes ++ done) piece (10 ∷ (others ++ more))
+    ∙ ap (λ l. (bytes ++ done) ++ l) (sym (append_assoc piece (10 ∷ others) more) ∙ ap (λ l. l ++ more) (sym parts))
+    ∙ regroup bytes done rest chunk more whole
+
+-- ---- the end of the script
+
+-- a line that has a byte is the last line of the script
+started_line : (bytes : List ℕ) → nat_lt 0 (length (cut bytes).rest) ≡ true → lines_of bytes ≡ (cut bytes).whole ++ (cut bytes).rest ∷ []
+started_line bytes started = ap (λ l. (cut bytes).whole ++ l) (go (cut bytes).rest started) where
+  go : (rest : List ℕ) → nat_lt 0 (length rest) ≡ true → last_line rest ≡ rest ∷ []
+  go [] started = cc
+  go (byte ∷ rest) started = refl
+
+no_line : (bytes : List ℕ) → nat_lt 0 (length (cut bytes).rest) ≡ false → lines_of bytes ≡ (cut bytes).whole
+no_line bytes none = ap (λ l. (cut bytes).whole ++ l) (go (cut bytes).rest none) ∙ append-nil (cut bytes).whole where
+  go : (rest : List ℕ) → nat_lt 0 (length rest) ≡ false → last_line rest ≡ []
+  go [] none = refl
+  go (byte ∷ rest) none = let some : nat_lt 0 (length (byte ∷ rest)) ≡ true = grind (arith, nat_tests) in cc
+
+-- a line can only be open where the bounds allow another
+lines_are_left : (bounds : Bounds) (script : Script) (start now : Option (List ℕ)) (bytes : List ℕ) → IsAfter bounds script start now bytes → script.line.started ≡ true → 0 < script.left.lines
+lines_are_left bounds script start now bytes after started =
+    elim (eqb_tells script.left.lines 0) [
+      | inl none ↦
+          let empty : length (cut bytes).rest ≡ 0 = ap length (after.closed none.1) in
+          let some : nat_lt 0 (length (cut bytes).rest) ≡ true = sym after.line.started ∙ started in
+          let no : nat_lt 0 (length (cut bytes).rest) ≡ false = rw empty refl in
+          cc
+      | inr some ↦ let ne : script.left.lines ≢ 0 = some.1 in omega arith
+    ]
+
+pub done_started : (script : Script) (now new : Option (List ℕ)) (still : List ℕ) → script.line.started ≡ true
+    → ((line : List ℕ) → Holds script.line line → Puts now new script.output.pending.items still line)
+    → (bounds : Bounds) (start : Option (List ℕ)) (bytes : List ℕ) → IsAfter bounds script start now bytes → IsDone bounds start new still bytes
+done_started script now new still started puts bounds start bytes after =
+    let lines = started_line bytes (sym after.line.started ∙ started) in
+    let put = puts (cut bytes).rest after.line in
+    let many = length-append (cut bytes).whole ((cut bytes).rest ∷ []) in
+    record {
+      within = record {
+        few_lines = rw lines (omega (arith, many, after.lines_left, lines_are_left bounds script start now bytes after started));
+        few_bytes = omega (arith, after.bytes_left);
+      };
+      met = after.met ++ put.met ∷ [];
+      each = rw lines (length-append after.met (put.met ∷ []) ∙ ap (λ n. n + 1) after.each ∙ sym many);
+      text = rw (lines, answers-push after.met (cut bytes).whole put.met (cut bytes).rest after.each) (Went-then start now new _ _ _ _ after.text put.went);
+    }
+
+pub done_ended : (script : Script) (now : Option (List ℕ)) → script.line.started ≡ false
+    → (bounds : Bounds) (start : Option (List ℕ)) (bytes : List ℕ) → IsAfter bounds script start now bytes → IsDone bounds start now script.output.pending.items bytes
+done_ended script now none bounds start bytes after =
+    let lines = no_line bytes (sym after.line.started ∙ none) in
+    record {
+      within = record {
+        few_lines = rw lines (omega (arith, after.lines_left));
+        few_bytes = omega (arith, after.bytes_left);
+      };
+      met = after.met;
+      each = rw lines after.each;
+      text = rw lines after.text;
+    }
+
+pub broken_last : (script : Script) (now new : Option (List ℕ)) → script.line.started ≡ true
+    → ((line : List ℕ) → Holds script.line line → PutsFront now new script.output.pending.items line)
+    → (bounds : Bounds) (start : Option (List ℕ)) (bytes : List ℕ) → IsAfter bounds script start now bytes → BrokenOff start new bytes
+broken_last script now new started puts bounds start bytes after =
+    let lines = started_line bytes (sym after.line.started ∙ started) in
+    let put = puts (cut bytes).rest after.line in
+    record {
+      met = after.met ++ put.met ∷ [];
+      front = rw (lines, answers-push after.met (cut bytes).whole put.met (cut bytes).rest after.each) (FrontWent-then start now new _ _ _ after.text put.front);
+    }
+
+pub answered_of : (now new : Option (List ℕ)) (pending : List ℕ) → Appends now new pending
+    → (bounds : Bounds) (start : Option (List ℕ)) (bytes : List ℕ) → IsDone bounds start now pending bytes → Answered bounds start new bytes
+answered_of now new pending flushed bounds start bytes done = record {
+  within = done.within;
+  out = answers done.met (lines_of bytes);
+  all = record { met = done.met; each = done.each; text = refl };
+  went = Went-flushed start now new _ _ done.text flushed;
+}
+
+pub broken_close : (now new : Option (List ℕ)) (pending : List ℕ) → FrontWent now new pending
+    → (bounds : Bounds) (start : Option (List ℕ)) (bytes : List ℕ) → IsDone bounds start now pending bytes → BrokenOff start new bytes
+broken_close now new pending front bounds start bytes done = record {
+  met = done.met;
+  front = FrontWent-pending start now new _ _ done.text front;
+}
+
+pub answered_by : (script : Script) (before now new : Option (List ℕ)) (pending : List ℕ)
+    → ((bounds : Bounds) (start : Option (List ℕ)) (bytes : List ℕ) → IsAfter bounds script start before bytes → IsDone bounds start now pending bytes)
+    → Appends now new pending
+    → (bounds : Bounds) (start : Option (List ℕ)) (bytes : List ℕ) → IsAfter bounds script start before bytes → Answered bounds start new bytes
+answered_by script before now new pending done flushed bounds start bytes after = answered_of now new pending flushed bounds start bytes (done bounds start bytes after)
+
+pub broken_by_close : (script : Script) (before now new : Option (List ℕ)) (pending : List ℕ)
+    → ((bounds : Bounds) (start : Option (List ℕ)) (bytes : List ℕ) → IsAfter bounds script start before bytes → IsDone bounds start now pending bytes)
+    → FrontWent now new pending
+    → (bounds : Bounds) (start : Option (List ℕ)) (bytes : List ℕ) → IsAfter bounds script start before bytes → BrokenOff start new bytes
+broken_by_close script before now new pending done front bounds start bytes after = broken_close now new pending front bounds start bytes (done bounds start bytes after)

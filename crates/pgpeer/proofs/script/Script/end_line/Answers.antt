@@ -1,0 +1,14 @@
+use Rattle.std.proofs.Common.{ap}
+use Rattle.pgpeer.specs.declared.script.Script.{Script}
+use Rattle.pgpeer.proofs.RunLemmas.{after-end, broken_at_end}
+use Rattle.pgpeer.proofs.OutputLemmas.{on_err}
+use Rattle.pgpeer.proofs.script.Script.end_line.Goals as goal
+
+pub returns-in_err-put_answer-clause-err : goal.returns-in_err-put_answer-clause-err
+returns-in_err-put_answer-clause-err g c = on_err _ (broken_at_end c.args.self.now _ _ c.in_err-put_answer.ensures.err)
+
+pub returns-clause-ok : goal.returns-clause-ok
+returns-clause-ok g c bounds start bytes after =
+    let left = ap (λ (s : Script). s.left) c.in_ok-put_answer.ensures.kept in
+    rw left (after-end bounds c.args.self.now c.clear.new.self c.put_answer.new.self.output start _ _ bytes c.requires.room c.requires.fits c.clear.ensures
+    (c.in_ok-put_answer.ensures.ok _ after.line) after)

@@ -1,0 +1,44 @@
+use Rattle.std.proofs.Common.{◌≡◌, [], ◌++◌, ◌∙◌, take, drop, ap, append_assoc, append-nil, take-append-drop, arith, length-take}
+use Rattle.pgpeer.specs.declared.script.ScriptFault.TheVariants.{Read, Write}
+use Rattle.pgpeer.proofs.RunLemmas.{broken_flush, cut_by_bytes}
+use Rattle.pgpeer.proofs.TurnLemmas.{cut_same, broken_same}
+use Rattle.pgpeer.proofs.script.Script.take.Goals as goal
+
+pub returns-then-chunk-self-clause-read : goal.returns-then-chunk-self-clause-read
+returns-then-chunk-self-clause-read g c is bounds start bytes after =
+    cut_same bounds start _ _ _ (ap (λ l. bytes ++ l) (append-nil c.args.chunk.now)) (c.take_allowed.ensures.read is bounds start bytes [] after)
+
+pub returns-then-chunk-self-clause-write : goal.returns-then-chunk-self-clause-write
+returns-then-chunk-self-clause-write g c is bounds start bytes after =
+    broken_same start _ _ _ (ap (λ l. bytes ++ l) (append-nil c.args.chunk.now)) (c.take_allowed.ensures.write is bounds start bytes [] after)
+
+pub returns-in-Ok-clause-read : goal.returns-in-Ok-clause-read
+returns-in-Ok-clause-read g c is bounds start bytes after =
+    let fault : c.stop_reading.result ≡ Read = cc in
+    let left = c.args.self.now.left.bytes in
+    let chunk = c.args.chunk.now in
+    let whole : (bytes ++ take left chunk) ++ drop left chunk ≡ bytes ++ chunk =
+    append_assoc bytes (take left chunk) (drop left chunk) ∙ ap (λ l. bytes ++ l) (take-append-drop left chunk) in
+    let none : c.take_allowed-2.new.self.left.bytes ≡ 0 = omega (arith, c.in-Ok.ensures.left, length-take left chunk, c.if-chunk-self.false) in
+    cut_same bounds start _ _ _ whole
+    (cut_by_bytes bounds _ start _ _ (bytes ++ take left chunk) (drop left chunk) (c.in-Ok.ensures.ok bounds start bytes after) none (c.stop_reading.ensures.read fault))
+
+pub returns-in-Ok-clause-write : goal.returns-in-Ok-clause-write
+returns-in-Ok-clause-write g c is bounds start bytes after =
+    let fault : c.stop_reading.result ≡ Write = cc in
+    let left = c.args.self.now.left.bytes in
+    let chunk = c.args.chunk.now in
+    let whole : (bytes ++ take left chunk) ++ drop left chunk ≡ bytes ++ chunk =
+    append_assoc bytes (take left chunk) (drop left chunk) ∙ ap (λ l. bytes ++ l) (take-append-drop left chunk) in
+    broken_same start _ _ _ whole
+    (broken_flush bounds _ start _ _ (bytes ++ take left chunk) (drop left chunk) (c.in-Ok.ensures.ok bounds start bytes after) (c.stop_reading.ensures.write fault))
+
+pub returns-in-Err-clause-read : goal.returns-in-Err-clause-read
+returns-in-Err-clause-read g c is bounds start bytes after =
+    cut_same bounds start _ _ _ (ap (λ l. bytes ++ l) (take-append-drop c.args.self.now.left.bytes c.args.chunk.now))
+    (c.in-Err.ensures.read is bounds start bytes (drop c.args.self.now.left.bytes c.args.chunk.now) after)
+
+pub returns-in-Err-clause-write : goal.returns-in-Err-clause-write
+returns-in-Err-clause-write g c is bounds start bytes after =
+    broken_same start _ _ _ (ap (λ l. bytes ++ l) (take-append-drop c.args.self.now.left.bytes c.args.chunk.now))
+    (c.in-Err.ensures.write is bounds start bytes (drop c.args.self.now.left.bytes c.args.chunk.now) after)

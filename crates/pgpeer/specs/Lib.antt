@@ -1,0 +1,14 @@
+pub mod LineFault
+pub mod Shapes
+pub mod Trace
+pub mod Command
+pub mod Reply
+pub mod Worked
+pub mod History
+pub mod Answer
+pub mod Lines
+pub mod Script
+pub mod Line
+pub mod Output
+pub mod Run
+pub mod Status

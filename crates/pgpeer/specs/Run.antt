@@ -1,0 +1,89 @@
+-- What has been read and written of a script, as its answering goes on and as it stops.
+use Rattle.std.specs.Prelude.{◌≡◌, ℕ, ◌+◌, List, [], ◌++◌, Bool, length, Option}
+use Rattle.std.specs.Io.KnownBytes.{Appends, Consumes, IsAtEnd}
+use Rattle.pgpeer.specs.Lines.{cut, lines_of}
+use Rattle.pgpeer.specs.Line.{Holds}
+use Rattle.pgpeer.specs.Script.{answer, answers, Within, Answers, lines_before_cut}
+use Rattle.pgpeer.specs.Output.{Went, FrontWent}
+use Rattle.pgpeer.specs.declared.script.Script.{Script}
+use Rattle.pgpeer.specs.declared.script.Bounds.{Bounds}
+
+-- the answer to the line was put after what was pending
+pub record Puts (old new : Option (List ℕ)) (pending still line : List ℕ) : Type 0 where
+  pub met : Bool
+  pub went : Went old new (pending ++ answer met line) still
+
+-- a front of what was pending and the answer to the line went out
+pub record PutsFront (old new : Option (List ℕ)) (pending line : List ℕ) : Type 0 where
+  pub met : Bool
+  pub front : FrontWent old new (pending ++ answer met line)
+
+-- Of a script within these bounds, these bytes were read, and the answers to the lines that have ended are written
+-- or pending.
+pub record IsAfter (bounds : Bounds) (script : Script) (start now : Option (List ℕ)) (bytes : List ℕ) : Type 0 where
+  pub line : Holds script.line (cut bytes).rest
+  pub lines_left : script.left.lines + length (cut bytes).whole ≡ bounds.lines
+  pub bytes_left : script.left.bytes + length bytes ≡ bounds.bytes
+  -- no byte stands after the last line that the bounds allow
+  pub closed : script.left.lines ≡ 0 → (cut bytes).rest ≡ []
+  pub met : List Bool
+  pub each : length met ≡ length (cut bytes).whole
+  pub text : Went start now (answers met (cut bytes).whole) script.output.pending.items
+
+-- The whole script was read, and the answers to its lines are written or pending.
+pub record IsDone (bounds : Bounds) (start now : Option (List ℕ)) (pending bytes : List ℕ) : Type 0 where
+  pub within : Within bounds.lines bounds.bytes bytes
+  pub met : List Bool
+  pub each : length met ≡ length (lines_of bytes)
+  pub text : Went start now (answers met (lines_of bytes)) pending
+
+-- the writer got the answers to the whole script
+pub record Answered (bounds : Bounds) (start now : Option (List ℕ)) (bytes : List ℕ) : Type 0 where
+  pub within : Within bounds.lines bounds.bytes bytes
+  pub out : List ℕ
+  pub all : Answers (lines_of bytes) out
+  pub went : Appends start now out
+
+-- the writer got the answers to the lines that were read whole within the bounds
+pub record CutOff (bounds : Bounds) (start now : Option (List ℕ)) (bytes : List ℕ) : Type 0 where
+  pub out : List ℕ
+  pub all : Answers (lines_before_cut bounds.lines bounds.bytes bytes) out
+  pub went : Appends start now out
+
+-- the writer got a front of the answers to the lines, or to some of the first
+pub record BrokenOff (start now : Option (List ℕ)) (bytes : List ℕ) : Type 0 where
+  pub met : List Bool
+  pub front : FrontWent start now (answers met (lines_of bytes))
+
+-- ---- what a run did to its reader and writer
+
+-- The reader gave these bytes and is at its end, and the writer got the answers to their lines.
+pub record AllAnswered (bounds : Bounds) (from to start now : Option (List ℕ)) : Type 0 where
+  pub script : List ℕ
+  pub consumed : Consumes from to script
+  pub ended : IsAtEnd to
+  pub answered : Answered bounds start now script
+
+-- The reader gave these bytes, and the writer got the answers to the lines that were read whole.
+pub record ReadStopped (bounds : Bounds) (from to start now : Option (List ℕ)) : Type 0 where
+  pub script : List ℕ
+  pub consumed : Consumes from to script
+  pub answered : CutOff bounds start now script
+
+-- The reader gave these bytes, and the writer got a front of the answers to their lines.
+pub record WriteStopped (from to start now : Option (List ℕ)) : Type 0 where
+  pub script : List ℕ
+  pub consumed : Consumes from to script
+  pub answered : BrokenOff start now script
+
+-- The reader gave these bytes, and so much is done of them.
+pub record Reads (bounds : Bounds) (script : Script) (from to start now : Option (List ℕ)) : Type 0 where
+  pub bytes : List ℕ
+  pub consumed : Consumes from to bytes
+  pub after : IsAfter bounds script start now bytes
+
+-- the front of the chunk before `rest` was taken
+pub record Taken (old new : Script) (before now : Option (List ℕ)) (chunk rest : List ℕ) : Type 0 where
+  pub done : List ℕ
+  pub whole : done ++ rest ≡ chunk
+  pub after : (bounds : Bounds) (start : Option (List ℕ)) (bytes : List ℕ) → IsAfter bounds old start before bytes → IsAfter bounds new start now (bytes ++ done)

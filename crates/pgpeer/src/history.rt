@@ -1,0 +1,30 @@
+ghost use Rattle.std.specs.Prelude.{◌≡◌, ◌<◌, IfOk, length};
+ghost use Rattle.std.specs.Vec.Iter.{into_iter_items};
+ghost use Rattle.pgpeer.specs.History.{told_history};
+
+use pgp_code::AnyCode;
+use pgp_ids::{Epoch, EpochState};
+use pgp_interval::Intervals;
+use std::alloc::{AllocError, Global};
+use std::vec::IntoIter;
+
+/// The history of a group whose pool has this code: the opening state is that of epoch 1, and each other one is that of
+/// the next epoch.
+pub fn history(
+    alloc: Global,
+    code: AnyCode,
+    opening: EpochState,
+    others: IntoIter<EpochState>,
+) -> Result<Intervals<AnyCode>, AllocError>
+    requires { length (into_iter_items others) < 4096 }
+    ensures { IfOk result (λ history. history ≡ told_history code opening (into_iter_items others)) }
+{
+    let mut history = Intervals::begin(alloc, code, Epoch::new(1), opening.members);
+    let mut facts = opening.facts;
+    for state in others {
+        let epoch = Epoch::new(history.last().number() + 1);
+        history.step(epoch, state.members, facts)?;
+        facts = state.facts;
+    }
+    Ok(history)
+}

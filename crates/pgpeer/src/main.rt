@@ -1,0 +1,44 @@
+//! The program: lines of JSON in, one answer for each.
+//!
+//! Everything but the standard streams is a function over any reader and writers: `status::status_of` does what the
+//! command line asks for, and `script::run_within` answers a script.
+#![tactic(auto)]
+
+use clap::Error;
+use status::{USAGE, status_of};
+use std::env;
+use std::process::ExitCode;
+
+mod answer;
+mod command;
+mod history;
+mod laws;
+mod line;
+mod options;
+mod output;
+mod reply;
+mod script;
+mod status;
+#[cfg(test)]
+mod tests;
+
+fn main(rt: HostRuntime) -> ExitCode {
+    let alloc = rt.alloc();
+    let words = match env::args(&rt) {
+        Ok(args) => args.collect::<Vec<String>>(alloc),
+        Err(_) => Err(std::alloc::AllocError),
+    };
+    match words {
+        Ok(words) => ExitCode::from(status_of(
+            alloc,
+            words.as_slice(),
+            &mut rt.stdin(),
+            &mut rt.stdout(),
+            &mut rt.stderr(),
+        )),
+        Err(error) => {
+            let _ = Error::from(error).print(&rt);
+            ExitCode::from(USAGE)
+        }
+    }
+}

@@ -1,0 +1,84 @@
+ghost use Rattle.std.specs.Prelude.{◌≡◌, ℕ, List, [], ◌++◌, OnOk, OnErr, vec_items};
+ghost use Rattle.std.specs.Io.KnownBytes.{Appends};
+ghost use Rattle.pgpeer.specs.Output.{Went, FrontWent};
+
+use std::alloc::Global;
+use std::io::Write;
+
+/// A write failed, or took no byte.
+#[derive(Clone, Copy, Debug, PartialEq, Eq)]
+pub struct WriteFault;
+
+/// How many bytes of answers wait before they are written.
+const PENDING_LIMIT: usize = 65536;
+
+/// Answers that are not yet written.
+#[derive(Debug, Drop)]
+pub struct Output {
+    pub pending: Vec<u8>,
+}
+
+impl Output {
+    pub fn new(alloc: Global) -> Self
+        ensures { result.pending.items ≡ [] }
+    {
+        Output {
+            pending: Vec::new(alloc),
+        }
+    }
+
+    /// Writes what is pending.
+    pub fn flush<W: Write>(&mut self, writer: &mut W) -> Result<(), WriteFault>
+        ensures ok { OnOk result (Appends (W.contents writer.old) (W.contents writer.new) self.old.pending.items) }
+        ensures empty { OnOk result (self.new.pending.items ≡ []) }
+        ensures err { OnErr result (FrontWent (W.contents writer.old) (W.contents writer.new) self.old.pending.items) }
+    {
+        write_out(writer, self.pending.as_slice())?;
+        self.pending.clear();
+        Ok(())
+    }
+
+    /// Writes what is pending, and has the writer pass it on.
+    pub fn close<W: Write>(&mut self, writer: &mut W) -> Result<(), WriteFault>
+        ensures ok { OnOk result (Appends (W.contents writer.old) (W.contents writer.new) self.old.pending.items) }
+        ensures err { OnErr result (FrontWent (W.contents writer.old) (W.contents writer.new) self.old.pending.items) }
+    {
+        self.flush(writer)?;
+        match writer.flush() {
+            Ok(()) => Ok(()),
+            Err(_) => Err(WriteFault),
+        }
+    }
+
+    /// Puts text after what is pending. Where there is no memory for it, all of it is written at once.
+    pub fn put<W: Write>(&mut self, text: &[u8], writer: &mut W) -> Result<(), WriteFault>
+        ensures ok { OnOk result (Went (W.contents writer.old) (W.contents writer.new)
+            (self.old.pending.items ++ text.now) self.new.pending.items) }
+        ensures err { OnErr result (FrontWent (W.contents writer.old) (W.contents writer.new)
+            (self.old.pending.items ++ text.now)) }
+    {
+        match self.pending.extend_from_slice(text) {
+            Ok(()) if self.pending.len() <= PENDING_LIMIT => Ok(()),
+            Ok(()) => self.flush(writer),
+            Err(_) => {
+                self.flush(writer)?;
+                write_out(writer, text)
+            }
+        }
+    }
+}
+
+/// Writes all of `text`.
+fn write_out<W: Write>(writer: &mut W, text: &[u8]) -> Result<(), WriteFault>
+    ensures ok { OnOk result (Appends (W.contents writer.old) (W.contents writer.new) text.now) }
+    ensures err { OnErr result (FrontWent (W.contents writer.old) (W.contents writer.new) text.now) }
+{
+    let mut rest = text;
+    while !rest.is_empty() {
+        match writer.write(rest) {
+            Ok(0) | Err(_) => return Err(WriteFault),
+            Ok(n) => rest = &rest[n..],
+        }
+    }
+    Ok(())
+}
