@@ -1,5 +1,6 @@
-//! The plain data that every layer speaks of: ids, epochs, lists of devices, memberships, past intervals, and the
-//! faults of a line.
+//! The plain data that every layer speaks of: ids, epochs and versions, lists of devices and sets of slots, memberships
+//! and past intervals, what monitor and devices tell (map incrementals, infos, log entries), what is answered (views)
+//! and why a line or an entry is refused.
 //!
 //! This crate decides nothing. It fixes the names and ranges, and what a contract sees of each type: an id is its
 //! number, a list is a list, a set of slots is the ascending list of its slots.

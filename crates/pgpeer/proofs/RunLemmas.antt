@@ -8,14 +8,14 @@ use Rattle.std.proofs.lemmas.List.{length-append}
 use Rattle.pgpeer.specs.Lines.{Cut, is_line_feed, cut, last_line, lines_of}
 use Rattle.pgpeer.specs.Line.{Holds}
 use Rattle.pgpeer.specs.Output.{FrontWent}
-use Rattle.pgpeer.specs.Script.{answer, answers, lines_before_cut}
-use Rattle.pgpeer.specs.Run.{Puts, PutsFront, IsAfter, Answered, CutOff, BrokenOff, IsDone, Taken}
+use Rattle.pgpeer.specs.Script.{answer, answers, Within, lines_before_cut}
+use Rattle.pgpeer.specs.Run.{Puts, PutsFront, IsAfter, Answered, CutOff, BrokenOff, BrokenAtEnd, IsDone, Taken}
 use Rattle.pgpeer.specs.declared.line.LineBuffer.{LineBuffer}
 use Rattle.pgpeer.specs.declared.output.Output.{Output}
 use Rattle.pgpeer.specs.declared.script.Script.{Script}
 use Rattle.pgpeer.specs.declared.script.Bounds.{Bounds}
 use Rattle.pgpeer.proofs.OutputLemmas.{Went-then, FrontWent-then, FrontWent-pending, Went-flushed}
-use Rattle.pgpeer.proofs.CutLemmas.{cut-piece, cut-feed, lines-goes, cut-goes}
+use Rattle.pgpeer.proofs.CutLemmas.{cut-piece, cut-feed, cut-goes}
 
 -- ---- answers to more lines
 
@@ -35,6 +35,22 @@ answers-front (m ∷ met) [] others same = absurd (omega arith)
 answers-front (m ∷ met) (l ∷ lines) others same =
     let tails : length met ≡ length lines = omega arith in
     ap (λ rest. answer m l ++ rest) (answers-front met lines others tails)
+
+-- ---- the lines that have ended are the first ones, whatever follows
+
+take_within : {A : Type 0} (n : ℕ) (xs more : List A) → length xs ≤ n → take n (xs ++ more) ≡ xs ++ take (n - length xs) more
+take_within n xs more within =
+    let split : n ≡ length xs + (n - length xs) = omega arith in
+    ap (λ k. take k (xs ++ more)) split ∙ take-append-add xs more (n - length xs)
+
+front_of_cut : (bounds : Bounds) (bytes more : List ℕ) → length bytes ≤ bounds.bytes → length (cut bytes).whole ≤ bounds.lines
+    → (others : List (List ℕ)) × (lines_before_cut bounds.lines bounds.bytes (bytes ++ more) ≡ (cut bytes).whole ++ others)
+front_of_cut bounds bytes more few_bytes few_lines =
+    let goes = cut-goes bytes (take (bounds.bytes - length bytes) more) in (
+      take (bounds.lines - length (cut bytes).whole) goes.others,
+      ap (λ b. take bounds.lines (cut b).whole) (take_within bounds.bytes bytes more few_bytes)
+          ∙ ap (take bounds.lines) goes.whole ∙ take_within bounds.lines (cut bytes).whole goes.others few_lines,
+    )
 
 -- ---- one step
 
@@ -75,25 +91,29 @@ after-end bounds script line output start now new bytes room fits begun puts aft
           (Went-then start now new _ _ _ _ after.text puts.went);
     }
 
-pub broken_by : (bounds : Bounds) (script : Script) (start now new : Option (List ℕ)) (bytes more : List ℕ)
+pub broken_by : (bounds : Bounds) (script : Script) (start now new : Option (List ℕ)) (bytes more : List ℕ) → 0 < script.left.lines → 0 < script.left.bytes
     → PutsFront now new script.output.pending.items (cut bytes).rest
     → IsAfter bounds script start now bytes
-    → BrokenOff start new (bytes ++ 10 ∷ more)
-broken_by bounds script start now new bytes more front after =
-    let goes = lines-goes (bytes ++ 10 ∷ []) more in
+    → BrokenOff bounds start new (bytes ++ 10 ∷ more)
+broken_by bounds script start now new bytes more room fits front after =
     let whole : (cut (bytes ++ 10 ∷ [])).whole ≡ (cut bytes).whole ++ (cut bytes).rest ∷ [] = ap (λ (c : Cut). c.whole) (cut-feed bytes) in
+    let many : length (cut (bytes ++ 10 ∷ [])).whole ≡ length (cut bytes).whole + 1 = ap length whole ∙ length-append (cut bytes).whole ((cut bytes).rest ∷ []) in
+    let few_bytes : length (bytes ++ 10 ∷ []) ≤ bounds.bytes = omega (arith, after.bytes_left, length-append bytes (10 ∷ [])) in
+    let few_lines : length (cut (bytes ++ 10 ∷ [])).whole ≤ bounds.lines = omega (arith, many, after.lines_left) in
+    let goes = front_of_cut bounds (bytes ++ 10 ∷ []) more few_bytes few_lines in
     let met = after.met ++ front.met ∷ [] in
-    let same : answers met (lines_of (bytes ++ 10 ∷ more)) ≡ answers after.met (cut bytes).whole ++ answer front.met (cut bytes).rest =
-    ap (λ b. answers met (lines_of b)) (sym (append_assoc bytes (10 ∷ []) more)) ∙ ap (answers met) (goes.1 ∙ ap (λ w. w ++ goes.0) whole)
+    let same : answers met (lines_before_cut bounds.lines bounds.bytes (bytes ++ 10 ∷ more)) ≡ answers after.met (cut bytes).whole ++ answer front.met (cut bytes).rest =
+    ap (λ b. answers met (lines_before_cut bounds.lines bounds.bytes b)) (sym (append_assoc bytes (10 ∷ []) more)) ∙ ap (answers met) (goes.1 ∙ ap (λ w. w ++ goes.0) whole)
     ∙ answers-front met ((cut bytes).whole ++ (cut bytes).rest ∷ []) goes.0
     (length-append after.met (front.met ∷ []) ∙ ap (λ n. n + 1) after.each ∙ sym (length-append (cut bytes).whole ((cut bytes).rest ∷ [])))
     ∙ answers-push after.met (cut bytes).whole front.met (cut bytes).rest after.each in
     record { met = met; front = rw same (FrontWent-then start now new _ _ _ after.text front.front) }
 
-pub broken_at_end : (script : Script) (now new : Option (List ℕ))
+pub broken_at_feed : (script : Script) (now new : Option (List ℕ)) → 0 < script.left.lines → 0 < script.left.bytes
     → ((line : List ℕ) → Holds script.line line → PutsFront now new script.output.pending.items line)
-    → (bounds : Bounds) (start : Option (List ℕ)) (bytes more : List ℕ) → IsAfter bounds script start now bytes → BrokenOff start new (bytes ++ 10 ∷ more)
-broken_at_end script now new puts bounds start bytes more after = broken_by bounds script start now new bytes more (puts (cut bytes).rest after.line) after
+    → (bounds : Bounds) (start : Option (List ℕ)) (bytes more : List ℕ) → IsAfter bounds script start now bytes → BrokenOff bounds start new (bytes ++ 10 ∷ more)
+broken_at_feed script now new room fits puts bounds start bytes more after =
+    broken_by bounds script start now new bytes more room fits (puts (cut bytes).rest after.line) after
 
 -- ---- the loop over a chunk
 
@@ -113,23 +133,15 @@ taken-more old mid new before now then chunk rest piece others taken parts step 
   after = λ bounds start bytes after. rw (← append_assoc) (step bounds start (bytes ++ taken.done) (taken.after bounds start bytes after));
 }
 
--- the lines that have ended are answered first, whatever follows
-same_answers : (met : List Bool) (bytes more : List ℕ) → length met ≡ length (cut bytes).whole → answers met (lines_of (bytes ++ more)) ≡ answers met (cut bytes).whole
-same_answers met bytes more each =
-    let goes = lines-goes bytes more in
-    ap (answers met) goes.1 ∙ answers-front met (cut bytes).whole goes.0 each
-
 pub broken_flush : (bounds : Bounds) (script : Script) (start now new : Option (List ℕ)) (bytes more : List ℕ)
-    → IsAfter bounds script start now bytes → FrontWent now new script.output.pending.items → BrokenOff start new (bytes ++ more)
-broken_flush bounds script start now new bytes more after front = record {
-  met = after.met;
-  front = rw (same_answers after.met bytes more after.each) (FrontWent-pending start now new _ _ after.text front);
-}
-
-take_within : (n : ℕ) (bytes more : List ℕ) → length bytes ≤ n → take n (bytes ++ more) ≡ bytes ++ take (n - length bytes) more
-take_within n bytes more within =
-    let split : n ≡ length bytes + (n - length bytes) = omega arith in
-    ap (λ k. take k (bytes ++ more)) split ∙ take-append-add bytes more (n - length bytes)
+    → IsAfter bounds script start now bytes → FrontWent now new script.output.pending.items → BrokenOff bounds start new (bytes ++ more)
+broken_flush bounds script start now new bytes more after front =
+    let few_bytes : length bytes ≤ bounds.bytes = omega (arith, after.bytes_left) in
+    let few_lines : length (cut bytes).whole ≤ bounds.lines = omega (arith, after.lines_left) in
+    let goes = front_of_cut bounds bytes more few_bytes few_lines in
+    let same : answers after.met (lines_before_cut bounds.lines bounds.bytes (bytes ++ more)) ≡ answers after.met (cut bytes).whole =
+    ap (answers after.met) goes.1 ∙ answers-front after.met (cut bytes).whole goes.0 after.each in
+    record { met = after.met; front = rw same (FrontWent-pending start now new _ _ after.text front) }
 
 -- all the lines that the bounds allow have ended
 pub cut_by_lines : (bounds : Bounds) (script : Script) (start now new : Option (List ℕ)) (bytes more : List ℕ)
@@ -216,6 +228,16 @@ lines_are_left bounds script start now bytes after started =
       | inr some ↦ let ne : script.left.lines ≢ 0 = some.1 in omega arith
     ]
 
+within_started : (bounds : Bounds) (script : Script) (start now : Option (List ℕ)) (bytes : List ℕ) → script.line.started ≡ true → IsAfter bounds script start now bytes
+    → Within bounds.lines bounds.bytes bytes
+within_started bounds script start now bytes started after =
+    let lines = started_line bytes (sym after.line.started ∙ started) in
+    let many = length-append (cut bytes).whole ((cut bytes).rest ∷ []) in
+    record {
+      few_lines = rw lines (omega (arith, many, after.lines_left, lines_are_left bounds script start now bytes after started));
+      few_bytes = omega (arith, after.bytes_left);
+    }
+
 pub done_started : (script : Script) (now new : Option (List ℕ)) (still : List ℕ) → script.line.started ≡ true
     → ((line : List ℕ) → Holds script.line line → Puts now new script.output.pending.items still line)
     → (bounds : Bounds) (start : Option (List ℕ)) (bytes : List ℕ) → IsAfter bounds script start now bytes → IsDone bounds start new still bytes
@@ -224,10 +246,7 @@ done_started script now new still started puts bounds start bytes after =
     let put = puts (cut bytes).rest after.line in
     let many = length-append (cut bytes).whole ((cut bytes).rest ∷ []) in
     record {
-      within = record {
-        few_lines = rw lines (omega (arith, many, after.lines_left, lines_are_left bounds script start now bytes after started));
-        few_bytes = omega (arith, after.bytes_left);
-      };
+      within = within_started bounds script start now bytes started after;
       met = after.met ++ put.met ∷ [];
       each = rw lines (length-append after.met (put.met ∷ []) ∙ ap (λ n. n + 1) after.each ∙ sym many);
       text = rw (lines, answers-push after.met (cut bytes).whole put.met (cut bytes).rest after.each) (Went-then start now new _ _ _ _ after.text put.went);
@@ -249,11 +268,12 @@ done_ended script now none bounds start bytes after =
 
 pub broken_last : (script : Script) (now new : Option (List ℕ)) → script.line.started ≡ true
     → ((line : List ℕ) → Holds script.line line → PutsFront now new script.output.pending.items line)
-    → (bounds : Bounds) (start : Option (List ℕ)) (bytes : List ℕ) → IsAfter bounds script start now bytes → BrokenOff start new bytes
+    → (bounds : Bounds) (start : Option (List ℕ)) (bytes : List ℕ) → IsAfter bounds script start now bytes → BrokenAtEnd bounds start new bytes
 broken_last script now new started puts bounds start bytes after =
     let lines = started_line bytes (sym after.line.started ∙ started) in
     let put = puts (cut bytes).rest after.line in
     record {
+      within = within_started bounds script start now bytes started after;
       met = after.met ++ put.met ∷ [];
       front = rw (lines, answers-push after.met (cut bytes).whole put.met (cut bytes).rest after.each) (FrontWent-then start now new _ _ _ after.text put.front);
     }
@@ -268,8 +288,9 @@ answered_of now new pending flushed bounds start bytes done = record {
 }
 
 pub broken_close : (now new : Option (List ℕ)) (pending : List ℕ) → FrontWent now new pending
-    → (bounds : Bounds) (start : Option (List ℕ)) (bytes : List ℕ) → IsDone bounds start now pending bytes → BrokenOff start new bytes
+    → (bounds : Bounds) (start : Option (List ℕ)) (bytes : List ℕ) → IsDone bounds start now pending bytes → BrokenAtEnd bounds start new bytes
 broken_close now new pending front bounds start bytes done = record {
+  within = done.within;
   met = done.met;
   front = FrontWent-pending start now new _ _ done.text front;
 }
@@ -283,5 +304,5 @@ answered_by script before now new pending done flushed bounds start bytes after 
 pub broken_by_close : (script : Script) (before now new : Option (List ℕ)) (pending : List ℕ)
     → ((bounds : Bounds) (start : Option (List ℕ)) (bytes : List ℕ) → IsAfter bounds script start before bytes → IsDone bounds start now pending bytes)
     → FrontWent now new pending
-    → (bounds : Bounds) (start : Option (List ℕ)) (bytes : List ℕ) → IsAfter bounds script start before bytes → BrokenOff start new bytes
+    → (bounds : Bounds) (start : Option (List ℕ)) (bytes : List ℕ) → IsAfter bounds script start before bytes → BrokenAtEnd bounds start new bytes
 broken_by_close script before now new pending done front bounds start bytes after = broken_close now new pending front bounds start bytes (done bounds start bytes after)

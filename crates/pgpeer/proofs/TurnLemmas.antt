@@ -1,9 +1,9 @@
 -- One turn of the loop over the reader, and the ways in which it stops.
-use Rattle.std.proofs.Common.{◌≡◌, ℕ, List, [], ◌++◌, Option, subst, append-nil}
+use Rattle.std.proofs.Common.{◌≡◌, ℕ, List, [], ◌++◌, Option, subst, append-nil, inl, inr}
 use Rattle.std.specs.Io.KnownBytes.{Appends, Consumes, Keeps, IsAtEnd}
 use Rattle.std.proofs.KnownBytes.{Consumes-nil, Consumes-trans, Consumes-kept}
 use Rattle.pgpeer.specs.Output.{FrontWent}
-use Rattle.pgpeer.specs.Run.{IsAfter, Answered, CutOff, BrokenOff, Reads, AllAnswered, ReadStopped, WriteStopped}
+use Rattle.pgpeer.specs.Run.{IsAfter, Answered, CutOff, BrokenOff, BrokenAtEnd, Reads, AllAnswered, ReadStopped, WriteStopped}
 use Rattle.pgpeer.specs.declared.output.Output.{Output}
 use Rattle.pgpeer.specs.declared.script.Script.{Script}
 use Rattle.pgpeer.specs.declared.script.Bounds.{Bounds}
@@ -13,8 +13,8 @@ use Rattle.pgpeer.proofs.RunLemmas.{broken_flush, cut_by_reader}
 pub cut_same : (bounds : Bounds) (start now : Option (List ℕ)) (a b : List ℕ) → a ≡ b → CutOff bounds start now a → CutOff bounds start now b
 cut_same bounds start now a b same cut = subst (CutOff bounds start now) same cut
 
-pub broken_same : (start now : Option (List ℕ)) (a b : List ℕ) → a ≡ b → BrokenOff start now a → BrokenOff start now b
-broken_same start now a b same broken = subst (BrokenOff start now) same broken
+pub broken_same : (bounds : Bounds) (start now : Option (List ℕ)) (a b : List ℕ) → a ≡ b → BrokenOff bounds start now a → BrokenOff bounds start now b
+broken_same bounds start now a b same broken = subst (BrokenOff bounds start now) same broken
 
 pub reads_none : (bounds : Bounds) (script : Script) (from start : Option (List ℕ)) → IsAfter bounds script start start [] → Reads bounds script from from start start
 reads_none bounds script from start after = record { bytes = []; consumed = Consumes-nil from; after = after }
@@ -44,11 +44,11 @@ turn bounds script new output from mid to start now flushed then chunk reads wro
 }
 
 pub stops_at_flush : (bounds : Bounds) (script : Script) (from to start now new : Option (List ℕ))
-    → Reads bounds script from to start now → FrontWent now new script.output.pending.items → WriteStopped from to start new
+    → Reads bounds script from to start now → FrontWent now new script.output.pending.items → WriteStopped bounds from to start new
 stops_at_flush bounds script from to start now new reads front = record {
   script = reads.bytes;
   consumed = reads.consumed;
-  answered = subst (BrokenOff start new) (append-nil reads.bytes) (broken_flush bounds script start now new reads.bytes [] reads.after front);
+  answered = inl (broken_same bounds start new _ _ (append-nil reads.bytes) (broken_flush bounds script start now new reads.bytes [] reads.after front));
 }
 
 pub stops_at_read : (bounds : Bounds) (script : Script) (from mid to start now new : Option (List ℕ))
@@ -71,12 +71,12 @@ stops_in_chunk_read bounds script output from mid to start now flushed then chun
 
 pub stops_in_chunk_write : (bounds : Bounds) (script : Script) (output : Output) (from mid to start now flushed then : Option (List ℕ)) (chunk : List ℕ)
     → Reads bounds script from mid start now → Appends now flushed script.output.pending.items → output.pending.items ≡ [] → Consumes mid to chunk
-    → ((bounds : Bounds) (start : Option (List ℕ)) (bytes : List ℕ) → IsAfter bounds (record script { output = output }) start flushed bytes → BrokenOff start then (bytes ++ chunk))
-    → WriteStopped from to start then
+    → ((bounds : Bounds) (start : Option (List ℕ)) (bytes : List ℕ) → IsAfter bounds (record script { output = output }) start flushed bytes → BrokenOff bounds start then (bytes ++ chunk))
+    → WriteStopped bounds from to start then
 stops_in_chunk_write bounds script output from mid to start now flushed then chunk reads wrote none more stop = record {
   script = reads.bytes ++ chunk;
   consumed = Consumes-trans from mid to reads.bytes chunk reads.consumed more;
-  answered = stop bounds start reads.bytes (after_flush bounds script output start now flushed reads.bytes wrote none reads.after);
+  answered = inl (stop bounds start reads.bytes (after_flush bounds script output start now flushed reads.bytes wrote none reads.after));
 }
 
 ended : (bounds : Bounds) (script : Script) (output : Output) (from mid to start now flushed : Option (List ℕ))
@@ -97,9 +97,9 @@ ends bounds script output from mid to start now flushed then reads wrote none mo
     record { script = read.bytes; consumed = read.consumed; ended = end; answered = finish bounds start read.bytes read.after }
 
 pub stops_at_end : (bounds : Bounds) (script : Script) (output : Output) (from mid to start now flushed then : Option (List ℕ))
-    → Reads bounds script from mid start now → Appends now flushed script.output.pending.items → output.pending.items ≡ [] → Consumes mid to []
-    → ((bounds : Bounds) (start : Option (List ℕ)) (bytes : List ℕ) → IsAfter bounds (record script { output = output }) start flushed bytes → BrokenOff start then bytes)
-    → WriteStopped from to start then
-stops_at_end bounds script output from mid to start now flushed then reads wrote none more stop =
+    → Reads bounds script from mid start now → Appends now flushed script.output.pending.items → output.pending.items ≡ [] → Consumes mid to [] → IsAtEnd to
+    → ((bounds : Bounds) (start : Option (List ℕ)) (bytes : List ℕ) → IsAfter bounds (record script { output = output }) start flushed bytes → BrokenAtEnd bounds start then bytes)
+    → WriteStopped bounds from to start then
+stops_at_end bounds script output from mid to start now flushed then reads wrote none more end stop =
     let read = ended bounds script output from mid to start now flushed reads wrote none more in
-    record { script = read.bytes; consumed = read.consumed; answered = stop bounds start read.bytes read.after }
+    record { script = read.bytes; consumed = read.consumed; answered = inr (end, stop bounds start read.bytes read.after) }

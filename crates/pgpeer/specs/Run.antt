@@ -1,5 +1,5 @@
 -- What has been read and written of a script, as its answering goes on and as it stops.
-use Rattle.std.specs.Prelude.{◌≡◌, ℕ, ◌+◌, List, [], ◌++◌, Bool, length, Option}
+use Rattle.std.specs.Prelude.{◌≡◌, ◌⊎◌, ℕ, ◌+◌, List, [], ◌++◌, Bool, length, Option}
 use Rattle.std.specs.Io.KnownBytes.{Appends, Consumes, IsAtEnd}
 use Rattle.pgpeer.specs.Lines.{cut, lines_of}
 use Rattle.pgpeer.specs.Line.{Holds}
@@ -50,8 +50,14 @@ pub record CutOff (bounds : Bounds) (start now : Option (List ℕ)) (bytes : Lis
   pub all : Answers (lines_before_cut bounds.lines bounds.bytes bytes) out
   pub went : Appends start now out
 
--- the writer got a front of the answers to the lines, or to some of the first
-pub record BrokenOff (start now : Option (List ℕ)) (bytes : List ℕ) : Type 0 where
+-- the writer got a front of the answers to the lines that were read whole within the bounds
+pub record BrokenOff (bounds : Bounds) (start now : Option (List ℕ)) (bytes : List ℕ) : Type 0 where
+  pub met : List Bool
+  pub front : FrontWent start now (answers met (lines_before_cut bounds.lines bounds.bytes bytes))
+
+-- the writer got a front of the answers to the whole script
+pub record BrokenAtEnd (bounds : Bounds) (start now : Option (List ℕ)) (bytes : List ℕ) : Type 0 where
+  pub within : Within bounds.lines bounds.bytes bytes
   pub met : List Bool
   pub front : FrontWent start now (answers met (lines_of bytes))
 
@@ -70,11 +76,16 @@ pub record ReadStopped (bounds : Bounds) (from to start now : Option (List ℕ))
   pub consumed : Consumes from to script
   pub answered : CutOff bounds start now script
 
--- The reader gave these bytes, and the writer got a front of the answers to their lines.
-pub record WriteStopped (from to start now : Option (List ℕ)) : Type 0 where
+-- The reader gave these bytes, and the writer got a front of the answers to the lines that were read whole, or, at the
+-- reader's end, to all lines.
+pub record WriteStopped (bounds : Bounds) (from to start now : Option (List ℕ)) : Type 0 where
   pub script : List ℕ
   pub consumed : Consumes from to script
-  pub answered : BrokenOff start now script
+  pub answered : BrokenOff bounds start now script ⊎ (IsAtEnd to × BrokenAtEnd bounds start now script)
+
+-- one of the two
+abbrev pub Stopped : Bounds → Option (List ℕ) → Option (List ℕ) → Option (List ℕ) → Option (List ℕ) → Type 0
+Stopped bounds from to start now = ReadStopped bounds from to start now ⊎ WriteStopped bounds from to start now
 
 -- The reader gave these bytes, and so much is done of them.
 pub record Reads (bounds : Bounds) (script : Script) (from to start now : Option (List ℕ)) : Type 0 where

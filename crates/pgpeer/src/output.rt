@@ -41,6 +41,7 @@ impl Output {
     /// Writes what is pending, and has the writer pass it on.
     pub fn close<W: Write>(&mut self, writer: &mut W) -> Result<(), WriteFault>
         ensures ok { OnOk result (Appends (W.contents writer.old) (W.contents writer.new) self.old.pending.items) }
+        ensures empty { OnOk result (self.new.pending.items ≡ []) }
         ensures err { OnErr result (FrontWent (W.contents writer.old) (W.contents writer.new) self.old.pending.items) }
     {
         self.flush(writer)?;

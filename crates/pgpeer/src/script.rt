@@ -6,7 +6,7 @@ ghost use Rattle.pgpeer.specs.Lines.{is_line_feed};
 ghost use Rattle.pgpeer.specs.Line.{Holds};
 ghost use Rattle.std.specs.Io.KnownBytes.{Appends};
 ghost use Rattle.pgpeer.specs.Output.{FrontWent};
-ghost use Rattle.pgpeer.specs.Run.{IsAfter, Answered, CutOff, BrokenOff, IsDone, Puts, PutsFront, AllAnswered, ReadStopped, WriteStopped};
+ghost use Rattle.pgpeer.specs.Run.{IsAfter, Answered, CutOff, BrokenOff, BrokenAtEnd, IsDone, Puts, PutsFront, AllAnswered, ReadStopped, WriteStopped};
 
 use super::line::LineBuffer;
 use super::output::{Output, WriteFault};
@@ -99,7 +99,7 @@ impl Script {
         ensures read { result ≡ ScriptFault.Read → Appends (W.contents writer.old) (W.contents writer.new) self.old.output.pending.items }
         ensures write { result ≡ ScriptFault.Write → FrontWent (W.contents writer.old) (W.contents writer.new) self.old.output.pending.items }
     {
-        match self.output.flush(writer) {
+        match self.output.close(writer) {
             Ok(()) => ScriptFault::Read,
             Err(_) => ScriptFault::Write,
         }
@@ -115,7 +115,7 @@ impl Script {
             → IsAfter bounds self.new start (W.contents writer.new) (bytes ++ 10 ∷ [])) }
         ensures err { OnErr result ((bounds : Bounds) (start : Option (List ℕ)) (bytes more : List ℕ)
             → IsAfter bounds self.old start (W.contents writer.old) bytes
-            → BrokenOff start (W.contents writer.new) (bytes ++ 10 ∷ more)) }
+            → BrokenOff bounds start (W.contents writer.new) (bytes ++ 10 ∷ more)) }
     {
         self.put_answer(alloc, writer)?;
         self.line.clear();
@@ -143,7 +143,7 @@ impl Script {
             → CutOff bounds start (W.contents writer.new) (bytes ++ (chunk.now ++ more)) }
         ensures write { result ≡ Err ScriptFault.Write → (bounds : Bounds) (start : Option (List ℕ)) (bytes more : List ℕ)
             → IsAfter bounds self.old start (W.contents writer.old) bytes
-            → BrokenOff start (W.contents writer.new) (bytes ++ (chunk.now ++ more)) }
+            → BrokenOff bounds start (W.contents writer.new) (bytes ++ (chunk.now ++ more)) }
     {
         let mut rest = chunk;
         while !rest.is_empty() {
@@ -183,7 +183,7 @@ impl Script {
             → CutOff bounds start (W.contents writer.new) (bytes ++ chunk.now) }
         ensures write { result ≡ Err ScriptFault.Write → (bounds : Bounds) (start : Option (List ℕ)) (bytes : List ℕ)
             → IsAfter bounds self.old start (W.contents writer.old) bytes
-            → BrokenOff start (W.contents writer.new) (bytes ++ chunk.now) }
+            → BrokenOff bounds start (W.contents writer.new) (bytes ++ chunk.now) }
     {
         if chunk.len() as u64 <= self.left.bytes {
             return self.take_allowed(alloc, chunk, writer);
@@ -202,7 +202,7 @@ impl Script {
             → IsDone bounds start (W.contents writer.new) self.new.output.pending.items bytes) }
         ensures err { OnErr result ((bounds : Bounds) (start : Option (List ℕ)) (bytes : List ℕ)
             → IsAfter bounds self.old start (W.contents writer.old) bytes
-            → BrokenOff start (W.contents writer.new) bytes) }
+            → BrokenAtEnd bounds start (W.contents writer.new) bytes) }
     {
         if self.line.started {
             self.put_answer(alloc, writer)
@@ -218,7 +218,7 @@ impl Script {
             → Answered bounds start (W.contents writer.new) bytes) }
         ensures err { OnErr result ((bounds : Bounds) (start : Option (List ℕ)) (bytes : List ℕ)
             → IsAfter bounds self.old start (W.contents writer.old) bytes
-            → BrokenOff start (W.contents writer.new) bytes) }
+            → BrokenAtEnd bounds start (W.contents writer.new) bytes) }
     {
         self.put_last(alloc, writer)?;
         self.output.close(writer)
@@ -239,13 +239,13 @@ pub fn run_within<R: Read, W: Write>(
         (W.contents writer.old) (W.contents writer.new)) }
     ensures read { result ≡ Err ScriptFault.Read → ReadStopped bounds (R.remaining reader.old) (R.remaining reader.new)
         (W.contents writer.old) (W.contents writer.new) }
-    ensures write { result ≡ Err ScriptFault.Write → WriteStopped (R.remaining reader.old) (R.remaining reader.new)
+    ensures write { result ≡ Err ScriptFault.Write → WriteStopped bounds (R.remaining reader.old) (R.remaining reader.new)
         (W.contents writer.old) (W.contents writer.new) }
 {
     let mut chunk = [0u8; CHUNK];
     let mut script = Script::new(alloc, bounds);
     loop {
-        script.output.flush(writer)?;
+        script.output.close(writer)?;
         let count = match reader.read(&mut chunk) {
             Ok(0) => break,
             Ok(count) => count,

@@ -1,7 +1,7 @@
 //! What the program does, over any reader and writers, and the status that it ends with.
 
 ghost use Rattle.std.specs.Prelude.{◌≡◌, ◌≢◌, ◌⊎◌, ⊤};
-ghost use Rattle.pgpeer.specs.Run.{AllAnswered, ReadStopped, WriteStopped};
+ghost use Rattle.pgpeer.specs.Run.{AllAnswered, Stopped};
 ghost use Rattle.pgpeer.specs.Status.{script_bounds};
 
 use super::options::options;
@@ -32,7 +32,15 @@ pub fn status_of<R: Read, W: Write, E: Write>(
     writer: &mut W,
     errors: &mut E,
 ) -> u8
-    ensures { (result ≡ DONE) ⊎ ((result ≡ USAGE) ⊎ (result ≡ FAULT)) }
+    // The script was answered to its end, or help was shown and nothing was read.
+    ensures done { result ≡ DONE → AllAnswered script_bounds (R.remaining reader.old) (R.remaining reader.new)
+        (W.contents writer.old) (W.contents writer.new) ⊎ (reader.new ≡ reader.old) }
+    // Nothing was read, and nothing was answered.
+    ensures usage { result ≡ USAGE → (reader.new ≡ reader.old) × (writer.new ≡ writer.old) }
+    // The script was answered as far as it was read whole, or as far as it could be written, or help could not be shown.
+    ensures fault { result ≢ DONE → result ≢ USAGE → (result ≡ FAULT)
+        × (Stopped script_bounds (R.remaining reader.old) (R.remaining reader.new) (W.contents writer.old) (W.contents writer.new)
+        ⊎ (reader.new ≡ reader.old)) }
 {
     let Err(error) = options(alloc, words) else {
         return run(alloc, reader, writer, errors);
@@ -57,8 +65,7 @@ fn run<R: Read, W: Write, E: Write>(
     ensures done { result ≡ DONE → AllAnswered script_bounds (R.remaining reader.old) (R.remaining reader.new)
         (W.contents writer.old) (W.contents writer.new) }
     ensures fault { result ≢ DONE → (result ≡ FAULT)
-        × (ReadStopped script_bounds (R.remaining reader.old) (R.remaining reader.new) (W.contents writer.old) (W.contents writer.new)
-        ⊎ WriteStopped (R.remaining reader.old) (R.remaining reader.new) (W.contents writer.old) (W.contents writer.new)) }
+        × Stopped script_bounds (R.remaining reader.old) (R.remaining reader.new) (W.contents writer.old) (W.contents writer.new) }
 {
     match run_within(alloc, reader, writer, SCRIPT_BOUNDS) {
         Ok(()) => DONE,

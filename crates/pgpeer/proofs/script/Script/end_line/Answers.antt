@@ -1,11 +1,11 @@
 use Rattle.std.proofs.Common.{ap}
 use Rattle.pgpeer.specs.declared.script.Script.{Script}
-use Rattle.pgpeer.proofs.RunLemmas.{after-end, broken_at_end}
+use Rattle.pgpeer.proofs.RunLemmas.{after-end, broken_at_feed}
 use Rattle.pgpeer.proofs.OutputLemmas.{on_err}
 use Rattle.pgpeer.proofs.script.Script.end_line.Goals as goal
 
 pub returns-in_err-put_answer-clause-err : goal.returns-in_err-put_answer-clause-err
-returns-in_err-put_answer-clause-err g c = on_err _ (broken_at_end c.args.self.now _ _ c.in_err-put_answer.ensures.err)
+returns-in_err-put_answer-clause-err g c = on_err _ (broken_at_feed c.args.self.now _ _ c.requires.room c.requires.fits c.in_err-put_answer.ensures.err)
 
 pub returns-clause-ok : goal.returns-clause-ok
 returns-clause-ok g c bounds start bytes after =

@@ -10,7 +10,7 @@ returns-then-chunk-self-clause-read g c is bounds start bytes after =
 
 pub returns-then-chunk-self-clause-write : goal.returns-then-chunk-self-clause-write
 returns-then-chunk-self-clause-write g c is bounds start bytes after =
-    broken_same start _ _ _ (ap (λ l. bytes ++ l) (append-nil c.args.chunk.now)) (c.take_allowed.ensures.write is bounds start bytes [] after)
+    broken_same bounds start _ _ _ (ap (λ l. bytes ++ l) (append-nil c.args.chunk.now)) (c.take_allowed.ensures.write is bounds start bytes [] after)
 
 pub returns-in-Ok-clause-read : goal.returns-in-Ok-clause-read
 returns-in-Ok-clause-read g c is bounds start bytes after =
@@ -30,7 +30,7 @@ returns-in-Ok-clause-write g c is bounds start bytes after =
     let chunk = c.args.chunk.now in
     let whole : (bytes ++ take left chunk) ++ drop left chunk ≡ bytes ++ chunk =
     append_assoc bytes (take left chunk) (drop left chunk) ∙ ap (λ l. bytes ++ l) (take-append-drop left chunk) in
-    broken_same start _ _ _ whole
+    broken_same bounds start _ _ _ whole
     (broken_flush bounds _ start _ _ (bytes ++ take left chunk) (drop left chunk) (c.in-Ok.ensures.ok bounds start bytes after) (c.stop_reading.ensures.write fault))
 
 pub returns-in-Err-clause-read : goal.returns-in-Err-clause-read
@@ -40,5 +40,5 @@ returns-in-Err-clause-read g c is bounds start bytes after =
 
 pub returns-in-Err-clause-write : goal.returns-in-Err-clause-write
 returns-in-Err-clause-write g c is bounds start bytes after =
-    broken_same start _ _ _ (ap (λ l. bytes ++ l) (take-append-drop c.args.self.now.left.bytes c.args.chunk.now))
+    broken_same bounds start _ _ _ (ap (λ l. bytes ++ l) (take-append-drop c.args.self.now.left.bytes c.args.chunk.now))
     (c.in-Err.ensures.write is bounds start bytes (drop c.args.self.now.left.bytes c.args.chunk.now) after)

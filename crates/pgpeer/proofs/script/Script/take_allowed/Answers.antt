@@ -17,14 +17,14 @@ pub returns-then-self-eq0-clause-write : goal.returns-then-self-eq0-clause-write
 returns-then-self-eq0-clause-write g c is bounds start bytes more after =
     let taken = c.loop-rest.invariant.taken in
     let fault : c.stop_reading.result ≡ Write = cc in
-    subst (BrokenOff start _) (regroup bytes taken.done c.loop-rest.rest.now c.args.chunk.now more taken.whole)
+    subst (BrokenOff bounds start _) (regroup bytes taken.done c.loop-rest.rest.now c.args.chunk.now more taken.whole)
     (broken_flush bounds c.loop-rest.self start _ _ (bytes ++ taken.done) (c.loop-rest.rest.now ++ more) (taken.after bounds start bytes after)
     (c.stop_reading.ensures.write fault))
 
 pub returns-in_err-end_line-in-Some-clause-write : goal.returns-in_err-end_line-in-Some-clause-write
 returns-in_err-end_line-in-Some-clause-write g c is bounds start bytes more after =
     let taken = c.loop-rest.invariant.taken in
-    subst (BrokenOff start _)
+    subst (BrokenOff bounds start _)
     (regroup_line bytes taken.done c.loop-rest.rest.now c.args.chunk.now c.in-Some.piece.now c.in-Some.others.now more taken.whole c.in-Some.ensures.whole)
     (c.in_err-end_line-in-Some.ensures.err bounds start ((bytes ++ taken.done) ++ c.in-Some.piece.now) (c.in-Some.others.now ++ more)
     (c.add.ensures.after bounds start _ (bytes ++ taken.done) (taken.after bounds start bytes after)))

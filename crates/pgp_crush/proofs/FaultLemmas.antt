@@ -1,0 +1,87 @@
+-- The tests of a list of buckets.
+use Rattle.std.proofs.Common.{◌≡◌, ◌<◌, ℕ, ◌+◌, zero, suc, ℤ, List, [], ◌∷◌, ◌++◌, length, map, drop, get_or, slice_get, Bool, true, false, cond, not, ◌||◌, nat_lt, nat_eq, refl, arith, ap, sym, ◌∙◌, add-one, Option, Some, None}
+use Rattle.std.specs.List.{list_any, find, flat_map, filter, count_by}
+use Rattle.std.specs.Ordering.{int_eq}
+use Rattle.std.proofs.lemmas.List.Folds.{list_any-append}
+use Rattle.std.proofs.lemmas.List.Sums.{sum_by-cons}
+use Rattle.std.proofs.lemmas.Bool.Decides.{nat_tests}
+use Rattle.pgp_ids.specs.declared.bucket.BucketSpec.{BucketSpec}
+use Rattle.pgp_crush.specs.declared.fault.TreeFault.{TreeFault}
+use Rattle.pgp_crush.specs.declared.fault.TreeFault.TheVariants.{NoRoot}
+use Rattle.pgp_crush.specs.Bucket.{Bucket, bucket_of, is_held, root_of}
+use Rattle.pgp_crush.specs.TreeFault.{items_of, has_no_root, below_levels, fault_below_root, tree_fault}
+
+pub items_of-map : (buckets : List BucketSpec) → flat_map (λ b. b.items) buckets ≡ items_of (map bucket_of buckets)
+items_of-map [] = refl
+items_of-map (b ∷ buckets) = ap (λ (items : List ℤ). b.items ++ items) (items_of-map buckets)
+
+pub ids-map : (buckets : List BucketSpec) → map (λ b. b.id) buckets ≡ map (λ b. b.id) (map bucket_of buckets)
+ids-map [] = refl
+ids-map (b ∷ buckets) = ap (λ (ids : List ℤ). b.id ∷ ids) (ids-map buckets)
+
+-- an item is held exactly if it is an item of some bucket
+pub is_held_is : (tree : List Bucket) (item : ℤ) → is_held tree item ≡ list_any (int_eq item) (items_of tree)
+is_held_is [] item = refl
+is_held_is (b ∷ tree) item =
+    ap (λ (t : Bool). list_any (int_eq item) b.items || t) (is_held_is tree item) ∙ sym (list_any-append (int_eq item) b.items (items_of tree))
+
+-- a search down a list has come to one that passes
+pub find-here : (test : Bucket → Bool) (buckets : List BucketSpec) (k : ℕ) (b : BucketSpec) → k < length buckets → b ≡ get_or buckets k b →
+    test (bucket_of b) ≡ true → find test (map bucket_of (drop k buckets)) ≡ slice_get (map bucket_of buckets) k
+find-here test [] k b h is pass = absurd (omega arith)
+find-here test (x ∷ buckets) zero b h is pass =
+    ap (λ (t : Bool). cond t (Some (bucket_of x)) (find test (map bucket_of buckets))) (ap (λ (y : BucketSpec). test (bucket_of y)) (sym is) ∙ pass)
+find-here test (x ∷ buckets) (suc k) b h is pass = find-here test buckets k b (omega arith) is pass
+
+-- none passes
+pub find-none : (test : Bucket → Bool) (tree : List Bucket) → find test tree ≡ None → count_by test tree ≡ 0
+find-none test [] h = refl
+find-none test (b ∷ tree) h =
+    sum_by-cons (λ x. cond (test x) 1 0) b tree ∙ by_test (test b) h (find-none test tree)
+  where
+    by_test : (t : Bool) → cond t (Some b) (find test tree) ≡ None → (find test tree ≡ None → count_by test tree ≡ 0) → cond t 1 0 + count_by test tree ≡ 0
+    by_test true h rest = cc
+    by_test false h rest = let none : count_by test tree ≡ 0 = rest h in omega arith
+
+pub any-filter : (test : Bucket → Bool) (tree : List Bucket) → nat_lt 0 (length (filter test tree)) ≡ list_any test tree
+any-filter test [] = refl
+any-filter test (b ∷ tree) = by_test (test b) (any-filter test tree)
+  where
+    by_test : (t : Bool) → nat_lt 0 (length (filter test tree)) ≡ list_any test tree →
+        nat_lt 0 (length (cond t (b ∷ filter test tree) (filter test tree))) ≡ (t || list_any test tree)
+    by_test true h = grind (arith, nat_tests)
+    by_test false h = h
+
+pub below_levels-zero : (tree : List Bucket) → below_levels tree 0 ≡ tree
+unfolding below_levels
+below_levels-zero tree = refl
+
+below_levels-suc : (tree : List Bucket) (k : ℕ) → below_levels tree (suc k) ≡ filter (λ b. is_held (below_levels tree k) b.id) tree
+unfolding below_levels
+below_levels-suc tree k = refl
+
+filter-same : (p q : Bucket → Bool) (tree : List Bucket) → ((b : Bucket) → p b ≡ q b) → filter p tree ≡ filter q tree
+filter-same p q [] h = refl
+filter-same p q (b ∷ tree) h =
+    ap (λ (t : Bool). cond t (b ∷ filter p tree) (filter p tree)) (h b) ∙ ap (λ (rest : List Bucket). cond (q b) (b ∷ rest) rest) (filter-same p q tree h)
+
+-- the next level, by a test that tells which ids the level before holds
+pub below_levels-more : (tree : List Bucket) (k : ℕ) (held : ℤ → Bool) → ((q : ℤ) → held q ≡ is_held (below_levels tree k) q) →
+    filter (λ b. held b.id) tree ≡ below_levels tree (k + 1)
+below_levels-more tree k held h =
+    filter-same (λ b. held b.id) (λ b. is_held (below_levels tree k) b.id) tree (λ b. h b.id)
+    ∙ sym (below_levels-suc tree k) ∙ ap (below_levels tree) (sym (add-one k))
+
+pub no_root_found : (tree : List Bucket) (at : Option Bucket) → root_of tree ≡ at → at ≡ None → has_no_root tree ≡ true
+no_root_found tree at e none =
+    ap (λ (k : ℕ). not (nat_eq k 1)) (find-none (λ b. not (is_held tree b.id)) tree (e ∙ none))
+
+-- The first fault of a list.
+
+pub fault-no_root : (tree : List Bucket) → has_no_root tree ≡ true → tree_fault tree ≡ Some NoRoot
+unfolding tree_fault
+fault-no_root tree h = ap (λ (t : Bool). cond t (Some NoRoot) (fault_below_root tree)) h
+
+pub fault-below : (tree : List Bucket) (fault : Option TreeFault) → has_no_root tree ≡ false → fault ≡ fault_below_root tree → tree_fault tree ≡ fault
+unfolding tree_fault
+fault-below tree fault h e = ap (λ (t : Bool). cond t (Some NoRoot) (fault_below_root tree)) h ∙ sym e

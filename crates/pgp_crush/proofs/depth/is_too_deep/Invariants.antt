@@ -1,0 +1,9 @@
+use Rattle.std.proofs.Common.{◌≡◌, ◌-◌, ℤ, map}
+use Rattle.std.specs.Ordering.{int_eq}
+use Rattle.std.specs.HashSet as bag
+use Rattle.pgp_crush.specs.Bucket.{bucket_of, is_held}
+use Rattle.pgp_crush.specs.TreeFault.{below_levels}
+use Rattle.pgp_crush.proofs.depth.is_too_deep.Given as goal
+
+abbrev pub invariant-loop-level : goal.invariant-loop-level
+invariant-loop-level l = (q : ℤ) → bag.contains int_eq l.below q ≡ is_held (below_levels (map bucket_of l.buckets) (l._level - 1)) q

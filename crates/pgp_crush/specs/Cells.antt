@@ -1,0 +1,48 @@
+-- What the positions of an erasure pool have so far, as the code keeps it: without the rounds of their tables.
+use Rattle.std.specs.Prelude.{ℕ, zero, suc, ℤ, List, replicate, Bool, true, false, Option, Some, None, slice_index_or, slice_set, if◌then◌else◌}
+use Rattle.std.specs.List.{list_any}
+use Rattle.std.specs.Ordering.{int_eq}
+use Rattle.pgp_crush.specs.declared.candidate.Candidate.{Candidate}
+use Rattle.pgp_crush.specs.declared.candidate.Candidate.TheVariants.{Early, Unfit, Fit}
+use Rattle.pgp_crush.specs.declared.indep.Cell.{Cell}
+use Rattle.pgp_crush.specs.declared.indep.Cell.TheVariants.{Open, Gone, Held}
+use Rattle.pgp_crush.specs.Candidate.{Input}
+use Rattle.pgp_crush.specs.Indep.{cell}
+
+abbrev pub is_open : Cell → Bool
+is_open Open = true
+is_open Gone = false
+is_open (Held pick) = false
+
+-- the position holds this item
+abbrev pub holds : ℤ → Cell → Bool
+holds item Open = false
+holds item Gone = false
+holds item (Held pick) = int_eq pick.item item
+
+-- what an open position has after a try
+abbrev pub after_try : List Cell → Candidate → Cell
+after_try cells Early = Gone
+after_try cells Unfit = Open
+after_try cells (Fit pick) = if list_any (holds pick.item) cells then Open else Held pick
+
+-- the positions after one of them was looked at
+abbrev pub cells_with : Input → ℕ → ℕ → List Cell → ℕ → List Cell
+cells_with i n round cells position =
+    if is_open (slice_index_or cells position Open) then slice_set cells position (after_try cells (cell i n round position)) else cells
+
+-- after the first positions of a round were
+unfoldable pub cells_row : Input → ℕ → ℕ → List Cell → ℕ → List Cell
+cells_row i n round cells zero = cells
+cells_row i n round cells (suc position) = cells_with i n round (cells_row i n round cells position) position
+
+-- after the first rounds
+unfoldable pub cells_after : Input → ℕ → ℕ → List Cell
+cells_after i n zero = replicate n Open
+cells_after i n (suc round) = cells_row i n round (cells_after i n round) n
+
+-- the leaf that a position holds
+abbrev pub leaf_held : Cell → Option ℕ
+leaf_held Open = None
+leaf_held Gone = None
+leaf_held (Held pick) = Some pick.leaf

@@ -1,0 +1,54 @@
+-- The way down from a bucket: the item chosen in it, the item chosen in that bucket, and so on.
+use Rattle.std.specs.Prelude.{ℕ, zero, suc, ◌+◌, ◌*◌, ◌%◌, List, [], ◌∷◌, length, Bool, false, ◌||◌, Option, Some, None, nat_eq, if◌then◌else◌}
+use Rattle.std.specs.List.{find}
+use Rattle.pgp_ids.specs.declared.bucket.BucketAlg.{BucketAlg}
+use Rattle.pgp_ids.specs.declared.bucket.BucketAlg.TheVariants.{Uniform, List as Weighed}
+use Rattle.pgp_crush.specs.declared.descent.Rank.{Rank}
+use Rattle.pgp_crush.specs.declared.descent.Rank.TheVariants.{Same, Spread}
+use Rattle.pgp_crush.specs.declared.descent.Step.{Step}
+use Rattle.pgp_crush.specs.declared.descent.Descent.{Descent}
+use Rattle.pgp_crush.specs.declared.descent.Descent.TheVariants.{Found, Early, Empty}
+use Rattle.pgp_crush.specs.Bucket.{Bucket, bucket_at, has_kind, is_device}
+use Rattle.pgp_crush.specs.Choice.{choice}
+
+-- a uniform bucket whose number of items is a multiple of n
+abbrev pub is_multiple : BucketAlg → ℕ → ℕ → Bool
+is_multiple Uniform items n = nat_eq (items % n) 0
+is_multiple Weighed items n = false
+
+-- the number r with which a bucket chooses
+abbrev pub rank_at : Rank → Bucket → ℕ
+rank_at (Same r) b = r
+rank_at (Spread position round n) b =
+    if is_multiple b.alg (length b.items) n then position + (n + 1) * round else position + n * round
+
+-- how many levels of buckets a path has at most
+abbrev pub level_limit : ℕ
+level_limit = 10
+
+-- the first steps of the way down, of at most so many; it ends at a device, and below an empty bucket
+unfoldable pub path : List Bucket → ℕ → Rank → ℕ → Option Bucket → List Step
+path tree x rank zero from = []
+path tree x rank (suc levels) None = []
+path tree x rank (suc levels) (Some b) = elim (choice x (rank_at rank b) b) [
+  | None ↦ []
+  | Some item ↦ record { item = item; r = rank_at rank b } ∷ path tree x rank levels (bucket_at tree item)
+]
+
+-- what a step is at which a way down stops, if there is one: an item of the type sought, or a device before it
+abbrev pub stop_at : List Bucket → ℕ → Option Step → Descent
+stop_at tree kind None = Empty
+stop_at tree kind (Some s) = if has_kind tree kind s.item then Found s else Early
+
+-- what comes first among the steps of a way down
+unfoldable pub first_stop : List Bucket → ℕ → List Step → Descent
+first_stop tree kind steps = stop_at tree kind (find (λ s. has_kind tree kind s.item || is_device s.item) steps)
+
+-- what the way down from a bucket comes to first
+abbrev pub descent : List Bucket → ℕ → Rank → ℕ → Option Bucket → Descent
+descent tree x rank kind from = first_stop tree kind (path tree x rank level_limit from)
+
+-- the greatest number with which a bucket chooses
+abbrev pub rank_limit : Rank → ℕ
+rank_limit (Same r) = r
+rank_limit (Spread position round n) = position + (n + 1) * round

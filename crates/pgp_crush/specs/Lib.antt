@@ -1,0 +1,17 @@
+pub mod Bucket
+pub mod Choice
+pub mod Least
+pub mod Descent
+pub mod Out
+pub mod Candidate
+pub mod Picks
+pub mod FirstN
+pub mod Indep
+pub mod Cells
+pub mod Placement
+pub mod Worked
+pub mod Examples
+pub mod Chosen
+pub mod TreeFault
+pub mod Place
+pub mod Tree

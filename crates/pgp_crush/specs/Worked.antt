@@ -1,0 +1,17 @@
+-- For worked examples: a proof that unfolds the one definition here sees all definitions of a
+-- placement unfolded, so that they compute on numerals.
+use Rattle.pgp_hash.specs.Mix.{mix_a, mix_b, mix_c, mix}
+use Rattle.pgp_hash.specs.Hash.{hash2, hash3, hash4}
+use Rattle.pgp_crush.specs.Least.{least_from, greatest_below}
+use Rattle.pgp_crush.specs.Choice.{list_place, traced_back, uniform_place, choice}
+use Rattle.pgp_crush.specs.Descent.{path, first_stop}
+use Rattle.pgp_crush.specs.Out.{is_in}
+use Rattle.pgp_crush.specs.Candidate.{leaf_of, candidate}
+use Rattle.pgp_crush.specs.FirstN.{pick_of, first_picks}
+use Rattle.pgp_crush.specs.Indep.{with_row, table_after}
+use Rattle.pgp_crush.specs.TreeFault.{below_levels, fault_below_root, tree_fault}
+
+-- nothing but a name for the list below
+unfoldable pub placements_computed : Type 0
+unfolding mix_a mix_b mix_c mix hash2 hash3 hash4 least_from greatest_below list_place traced_back uniform_place choice path first_stop is_in leaf_of candidate pick_of first_picks with_row table_after below_levels fault_below_root tree_fault
+placements_computed = Unit {0}

@@ -1,0 +1,104 @@
+//! The way down from a bucket to an item of a type.
+
+ghost use Rattle.std.specs.Prelude.{◌≡◌, ℕ, ◌<◌, ◌≤◌, ◌^◌, length, sum, Some};
+ghost use Rattle.pgp_crush.specs.declared.descent.Step.{Step};
+ghost use Rattle.pgp_crush.specs.declared.descent.Descent.TheVariants.{Found};
+ghost use Rattle.pgp_crush.specs.Bucket.{bucket_of};
+ghost use Rattle.pgp_crush.specs.Descent.{rank_at, rank_limit, is_multiple, descent};
+
+use super::choice::choice;
+use super::tree::Tree;
+use pgp_ids::{BucketAlg, BucketSpec};
+
+/// With which number `r` each bucket on a way down chooses.
+#[derive(Clone, Copy, Debug)]
+pub enum Rank {
+    /// Each with this number.
+    Same(u32),
+    /// As position `.0` in round `.1` of `.2` positions.
+    Spread(u8, u8, u8),
+}
+
+/// An item on a way down, and the number with which its bucket chose it.
+#[derive(Clone, Copy, Debug)]
+pub struct Step {
+    pub item: i32,
+    pub r: u32,
+}
+
+/// What a way down came to first.
+#[derive(Clone, Copy, Debug)]
+pub enum Descent {
+    /// An item of the type sought.
+    Found(Step),
+    /// A device, where a bucket was sought.
+    Early,
+    /// An empty bucket.
+    Empty,
+}
+
+/// How many levels of buckets a tree has at most.
+pub(crate) const LEVELS: u8 = 10;
+
+impl Rank {
+    /// The number with which a bucket of this kind and so many items chooses.
+    pub(crate) fn number_at(self, bucket: &BucketSpec) -> u32
+        ensures value { result ≡ rank_at self (bucket_of bucket.now) }
+        ensures within { result ≤ rank_limit self }
+    {
+        match self {
+            Rank::Same(r) => r,
+            Rank::Spread(position, round, n) => {
+                let stride = if is_multiple(bucket, usize::from(n)) {
+                    u32::from(n) + 1
+                } else {
+                    u32::from(n)
+                };
+                u32::from(position) + stride * u32::from(round)
+            }
+        }
+    }
+}
+
+/// The bucket is uniform, and its number of items is a multiple of `n`.
+fn is_multiple(bucket: &BucketSpec, n: usize) -> bool
+    ensures { result ≡ is_multiple bucket.now.alg (length bucket.now.items) n }
+{
+    match bucket.alg {
+        BucketAlg::Uniform => bucket.items.len().is_multiple_of(n),
+        BucketAlg::List => false,
+    }
+}
+
+/// What the way down from the bucket `from` comes to first: an item of type `kind`, a device before it, or its end.
+///
+/// `x` is the input of the placement.
+pub(crate) fn descend(tree: &Tree, x: u32, rank: Rank, kind: u8, from: &BucketSpec) -> Descent
+    requires { sum from.now.weights < 2 ^ 32 }
+    ensures value { result ≡ descent tree.now x rank kind (Some (bucket_of from.now)) }
+    ensures within { (step : Step) → result ≡ Found step → step.r ≤ rank_limit rank }
+{
+    let mut bucket = from;
+    for _level in 0..LEVELS {
+        let r = rank.number_at(bucket);
+        let Some(item) = choice(bucket, x, r) else {
+            return Descent::Empty;
+        };
+        let step = Step { item, r };
+        if item >= 0 {
+            return if kind == 0 {
+                Descent::Found(step)
+            } else {
+                Descent::Early
+            };
+        }
+        let Some(next) = tree.bucket(item) else {
+            return Descent::Empty;
+        };
+        if next.kind == kind {
+            return Descent::Found(step);
+        }
+        bucket = next;
+    }
+    Descent::Empty
+}

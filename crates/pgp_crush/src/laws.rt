@@ -1,0 +1,79 @@
+//! Worked examples that the definitions compute, and that the table of an erasure pool's placement is one and the only one.
+#![tactic(auto, unfolding(crate::specs::Worked::placements_computed))]
+
+ghost use Rattle.std.specs.Prelude.{◌≡◌, ℕ, pos, negsuc, [], ◌∷◌, Some, None, List, Option, map};
+ghost use Rattle.pgp_ids.specs.Osds.{first_osd, osd_count};
+ghost use Rattle.pgp_crush.specs.declared.fault.TreeFault.TheVariants.{NoRoot, TwiceHeld, WrongType, Unknown, TooDeep, TooMany, WeightSum};
+ghost use Rattle.pgp_crush.specs.declared.descent.Rank.TheVariants.{Same};
+ghost use Rattle.pgp_crush.specs.declared.descent.Descent.TheVariants.{Early, Empty};
+ghost use Rattle.pgp_crush.specs.Candidate.{Input, input_of};
+ghost use Rattle.pgp_crush.specs.Choice.{choice};
+ghost use Rattle.pgp_crush.specs.Descent.{descent};
+ghost use Rattle.pgp_crush.specs.FirstN.{first_n};
+ghost use Rattle.std.specs.List.{range_with_len};
+ghost use Rattle.pgp_crush.specs.Indep.{indep, IsTable, place_at, table_after};
+ghost use Rattle.pgp_crush.specs.Bucket.{root_of};
+ghost use Rattle.pgp_crush.specs.TreeFault.{tree_fault};
+ghost use Rattle.pgp_crush.specs.Examples.{uniform, weighed, three_devices, one_in, device_in_a_row, empty_root, two_hosts, chain, wide};
+
+/// Of three devices device 0 alone is in: a replicated pool lists it, and in an erasure pool one place of three has it.
+pub fn one_device_in()
+    ensures listed { first_n (input_of three_devices one_in 7 0) 3 ≡ Some 0 ∷ [] }
+    ensures listed_for_another_input { first_n (input_of three_devices one_in 4294967295 0) 3 ≡ Some 0 ∷ [] }
+    ensures placed { first_osd (indep (input_of three_devices one_in 7 0) 3) ≡ Some 0 }
+    ensures placed_once { osd_count (indep (input_of three_devices one_in 7 0) 3) ≡ 1 }
+    ensures placed_for_another_input { first_osd (indep (input_of three_devices one_in 4294967295 0) 3) ≡ Some 0 }
+    ensures placed_once_for_another_input { osd_count (indep (input_of three_devices one_in 4294967295 0) 3) ≡ 1 }
+{}
+
+/// A device that stands where a bucket is sought ends the search.
+pub fn device_too_early()
+    ensures early { descent device_in_a_row 7 (Same 0) 1 (root_of device_in_a_row) ≡ Early }
+    ensures none_listed { first_n (input_of device_in_a_row one_in 7 1) 3 ≡ [] }
+    ensures none_placed { indep (input_of device_in_a_row one_in 7 1) 3 ≡ None ∷ None ∷ None ∷ [] }
+{}
+
+/// A list bucket chooses its first item, if that has all the weight, and also if none has a weight.
+pub fn list_of_little_weight()
+    ensures one_weight { choice 7 3 (weighed (0x10000 ∷ 0 ∷ [])) ≡ Some (pos 0) }
+    ensures no_weight { choice 7 3 (weighed (0 ∷ 0 ∷ [])) ≡ Some (pos 0) }
+    ensures last_has_all { choice 7 3 (weighed (0 ∷ 0x10000 ∷ [])) ≡ Some (pos 1) }
+{}
+
+/// A bucket with no items chooses nothing.
+pub fn empty_bucket()
+    ensures empty { descent empty_root 7 (Same 0) 0 (root_of empty_root) ≡ Empty }
+    ensures none_listed { first_n (input_of empty_root one_in 7 0) 2 ≡ [] }
+    ensures none_placed { indep (input_of empty_root one_in 7 0) 2 ≡ None ∷ None ∷ [] }
+    ensures no_fault { tree_fault empty_root ≡ None }
+{}
+
+/// Trees that are refused, each with its first fault, and trees that stand at the limits.
+pub fn refused_trees()
+    ensures two_roots { tree_fault (uniform (negsuc 0) 1 (pos 0 ∷ []) ∷ uniform (negsuc 1) 1 (pos 1 ∷ []) ∷ []) ≡ Some NoRoot }
+    ensures no_bucket { tree_fault [] ≡ Some NoRoot }
+    ensures device_in_two_places { tree_fault (uniform (negsuc 0) 2 (negsuc 1 ∷ pos 0 ∷ []) ∷ uniform (negsuc 1) 1 (pos 0 ∷ []) ∷ []) ≡ Some TwiceHeld }
+    ensures type_not_above { tree_fault (uniform (negsuc 0) 1 (negsuc 1 ∷ []) ∷ uniform (negsuc 1) 1 (pos 0 ∷ []) ∷ []) ≡ Some WrongType }
+    ensures no_such_bucket { tree_fault (uniform (negsuc 0) 2 (negsuc 6 ∷ []) ∷ []) ≡ Some Unknown }
+    ensures no_such_device { tree_fault (uniform (negsuc 0) 1 (pos 4096 ∷ []) ∷ []) ≡ Some Unknown }
+    ensures last_device { tree_fault (uniform (negsuc 0) 1 (pos 4095 ∷ []) ∷ []) ≡ None }
+    ensures eleven_levels { tree_fault (chain 11 0) ≡ Some TooDeep }
+    ensures ten_levels { tree_fault (chain 10 0) ≡ None }
+    ensures many_items { tree_fault (wide 257) ≡ Some TooMany }
+    ensures heavy { tree_fault (weighed (4294967295 ∷ 1 ∷ []) ∷ []) ≡ Some WeightSum }
+    ensures as_heavy_as_may_be { tree_fault (weighed (4294967294 ∷ 1 ∷ []) ∷ []) ≡ None }
+    ensures two_hosts { tree_fault two_hosts ≡ None }
+{}
+
+/// An erasure pool's placement has a table, in which each position has its least round.
+#[tactic(auto, using(crate::proofs::TableLemmas::table_is))]
+pub fn table_is_there()
+    ensures { (i : Input) (n : ℕ) → IsTable i n (table_after i n 51) }
+{}
+
+/// That table is the only one, and the placement is read off it.
+#[tactic(auto, using(crate::proofs::TableLemmas::table_is_one, crate::proofs::TableLemmas::indep_by_table))]
+pub fn table_is_the_only_one()
+    ensures only { (i : Input) (n : ℕ) (table : List (Option ℕ)) → IsTable i n table → table ≡ table_after i n 51 }
+    ensures placement { (i : Input) (n : ℕ) (table : List (Option ℕ)) → IsTable i n table → indep i n ≡ map (place_at i n table) (range_with_len 0 n) }
+{}

@@ -1,0 +1,24 @@
+//! Which devices take part in a placement.
+
+ghost use Rattle.std.specs.Prelude.{◌≡◌, length};
+ghost use Rattle.pgp_crush.specs.Out.{is_in};
+
+use pgp_hash::hash2;
+use pgp_ids::OsdId;
+
+/// The weight, in units of 1/0x10000, from which on a device is always in.
+const FULL_WEIGHT: u32 = 0x1_0000;
+
+/// The device takes part in the placement of `x`. `weights` has each device's weight, in units of 1/0x10000.
+#[tactic(auto, unfolding(crate::specs::Out::is_in))]
+pub(crate) fn is_in(weights: &[u32], x: u32, osd: OsdId) -> bool
+    requires { length weights.now ≡ 4096 }
+    ensures { result ≡ is_in weights.now x osd }
+{
+    let weight = weights[usize::from(osd.number())];
+    if weight == 0 {
+        false
+    } else {
+        weight >= FULL_WEIGHT || hash2(x, u32::from(osd.number())) % FULL_WEIGHT < weight
+    }
+}

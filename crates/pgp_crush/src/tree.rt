@@ -1,0 +1,80 @@
+//! Checked placement trees.
+
+ghost use Rattle.std.specs.Prelude.{◌≡◌, ◌<◌, ◌^◌, ◌⊎◌, map, sum, Some, None, IfSome, IfOk, IfErr, OnOk};
+ghost use Rattle.std.specs.Option.{option_copied, option_map};
+ghost use Rattle.pgp_crush.specs.Bucket.{bucket_of, bucket_at, root_of};
+ghost use Rattle.pgp_crush.specs.TreeFault.{tree_fault};
+
+use super::fault::TreeFault;
+use super::faults::{fault_below_root, find_root, items_of};
+use super::index::{index_of, set_of};
+use pgp_ids::BucketSpec;
+use std::alloc::Global;
+use std::collections::HashMap;
+use std::marker::Model;
+
+/// A placement tree without fault.
+///
+/// It is seen as the list of its buckets, in the order in which they were given.
+#[derive(Debug, Drop)]
+pub struct Tree {
+    buckets: Vec<BucketSpec>,
+    /// The place of the bucket of each id.
+    index: HashMap<i32, usize>,
+    /// The place of the root.
+    root: usize,
+}
+
+impl Model for Tree {
+    ghost use Rattle.std.specs.Prelude.{List};
+    ghost use Rattle.pgp_crush.specs.Bucket.{Bucket};
+
+    ghost Value = { List Bucket };
+
+    ghost use Rattle.pgp_crush.specs.Tree.{buckets_of, IsChecked};
+
+    ghost view = { buckets_of };
+
+    ghost invariant = { IsChecked };
+}
+
+impl Tree {
+    /// The tree of these buckets, or the first fault of the list in the order of [`TreeFault`].
+    pub fn check(alloc: Global, buckets: Vec<BucketSpec>) -> Result<Tree, TreeFault>
+        ensures ok { IfOk result (λ tree. tree ≡ map bucket_of buckets.items) }
+        ensures faultless { OnOk result (tree_fault (map bucket_of buckets.items) ≡ None) }
+        ensures fault { IfErr result (λ fault. (fault ≡ TreeFault.Memory) ⊎ (tree_fault (map bucket_of buckets.items) ≡ Some fault)) }
+    {
+        let items = items_of(alloc, &buckets)?;
+        let held = set_of(alloc, &items)?;
+        let Some(root) = find_root(&buckets, &held) else {
+            return Err(TreeFault::NoRoot);
+        };
+        let index = index_of(alloc, &buckets)?;
+        if let Some(fault) = fault_below_root(alloc, &buckets, &items, held, &index)? {
+            return Err(fault);
+        }
+        Ok(Tree {
+            buckets,
+            index,
+            root,
+        })
+    }
+
+    /// The bucket that none holds.
+    pub(crate) fn root(&self) -> &BucketSpec
+        ensures value { Some (bucket_of result.now) ≡ root_of self.now }
+        ensures weighed { sum result.now.weights < 2 ^ 32 }
+    {
+        &self.buckets[self.root]
+    }
+
+    /// The bucket of this id.
+    pub(crate) fn bucket(&self, id: i32) -> Option<&BucketSpec>
+        ensures value { option_map bucket_of (option_copied result) ≡ bucket_at self.now id }
+        ensures weighed { IfSome result (λ b. sum b.now.weights < 2 ^ 32) }
+    {
+        let place = *self.index.get(&id)?;
+        Some(&self.buckets[place])
+    }
+}

@@ -1,0 +1,2 @@
+pub mod PreferenceLemmas
+pub mod BestLemmas

@@ -1,0 +1,3 @@
+pub mod Preference
+pub mod Best
+pub mod Examples

@@ -1,0 +1,62 @@
+//! What the best info is for any preference, and what the definitions say of small groups.
+ghost use Rattle.std.specs.Prelude.{◌≡◌, ◌↔◌, List, [], ◌∷◌, Option, Some, None, Bool, true, false};
+ghost use Rattle.pgp_ids.specs.declared.group_member.Member.{Member};
+ghost use Rattle.pgp_ids.specs.declared.report.Info.{Info};
+ghost use Rattle.pgp_info.specs.Preference.{newest_first, oldest_first, IsPreference};
+ghost use Rattle.pgp_info.specs.Best.{HasDistinctMembers, candidates, best_info, IsBest};
+ghost use Rattle.pgp_info.specs.Examples.{in_slot, at, copy_up_to, fresh, device_0};
+
+/// Both preferences are strict total orders over infos of distinct members, whoever leads.
+pub fn preferences_are_strict_total_orders()
+    ensures newest { (primary : Option Member) → IsPreference (newest_first primary) }
+    ensures oldest { (primary : Option Member) → IsPreference (oldest_first primary) }
+{}
+
+/// By any preference the best info is the one candidate to which no other is preferred, and there is one wherever there
+/// is a candidate.
+pub fn best_info_is_the_unbeaten_candidate()
+    ensures best { (better : Info → Info → Bool) (infos : List Info) (info : Info)
+        → IsPreference better → HasDistinctMembers infos
+        → (best_info better infos ≡ Some info) ↔ IsBest better infos info }
+    ensures none { (better : Info → Info → Bool) (infos : List Info)
+        → IsPreference better → HasDistinctMembers infos
+        → (best_info better infos ≡ None) ↔ (candidates infos ≡ []) }
+{}
+
+/// Of equal copies that of the acting primary is the best, and without it that of the least device.
+pub fn equal_copies()
+    ensures primary { let infos = fresh 0 ∷ fresh 1 ∷ fresh 2 ∷ [] in
+        best_info (newest_first (Some (in_slot 2 0))) infos ≡ Some (fresh 2) }
+    ensures none_leads { let infos = fresh 2 ∷ fresh 0 ∷ fresh 1 ∷ [] in
+        best_info (newest_first None) infos ≡ Some (fresh 0) }
+    ensures least { let infos = fresh 2 ∷ fresh 0 ∷ fresh 1 ∷ [] in
+        best_info (newest_first device_0) infos ≡ Some (fresh 0) }
+{}
+
+/// A copy that isn't complete is never the best, even the acting primary's.
+pub fn incomplete_copy()
+    ensures next { let partial = record (fresh 0) { complete = false } in
+        best_info (newest_first device_0) (partial ∷ fresh 1 ∷ fresh 2 ∷ []) ≡ Some (fresh 1) }
+    ensures alone { let partial = record (fresh 0) { complete = false } in
+        best_info (newest_first device_0) (partial ∷ []) ≡ None }
+{}
+
+/// An erasure pool goes by the copy that lacks the last write, a replicated pool by one that has it.
+pub fn copies_that_differ_in_one_write()
+    ensures erasure { let infos = copy_up_to (at 1 2) (in_slot 0 0) ∷ copy_up_to (at 1 1) (in_slot 1 1)
+        ∷ copy_up_to (at 1 2) (in_slot 2 2) ∷ [] in
+        best_info (oldest_first device_0) infos ≡ Some (copy_up_to (at 1 1) (in_slot 1 1)) }
+    ensures replicated { let infos = copy_up_to (at 1 1) (in_slot 0 0) ∷ copy_up_to (at 1 2) (in_slot 1 0)
+        ∷ copy_up_to (at 1 2) (in_slot 2 0) ∷ [] in
+        best_info (newest_first device_0) infos ≡ Some (copy_up_to (at 1 2) (in_slot 1 0)) }
+{}
+
+/// A copy that served before the group did last is never the best, however new its last write; nor is any where only
+/// the history tells of that time.
+pub fn copy_from_before()
+    ensures older { let served = record (fresh 1) { les = 4 } in
+        let newer = record (copy_up_to (at 3 9) (in_slot 0 0)) { les = 3 } in
+        best_info (newest_first device_0) (newer ∷ served ∷ []) ≡ Some served }
+    ensures none { best_info (newest_first device_0) (fresh 0 ∷ record (fresh 1) { history_les = 1 } ∷ []) ≡ None }
+    ensures nobody { best_info (newest_first device_0) [] ≡ None }
+{}

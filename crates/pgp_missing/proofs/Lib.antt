@@ -1,0 +1,3 @@
+pub mod MissingLemmas
+pub mod NumberLemmas
+pub mod ObjectLemmas

@@ -1,0 +1,85 @@
+//! What the definitions say of small logs, and of a peer that has all writes.
+ghost use Rattle.std.specs.Prelude.{◌≡◌, ℕ, Contains, ◌≤◌, ◌↔◌, List, [], ◌∷◌, true, false, codes};
+ghost use Rattle.pgp_ids.specs.Version.{is_older};
+ghost use Rattle.pgp_ids.specs.declared.log_entry.LogEntry.{LogEntry};
+ghost use Rattle.pgp_ids.specs.declared.peer.MissingObject.{MissingObject};
+ghost use Rattle.pgp_ids.specs.declared.peer.PeerState.TheVariants.{Missing, Backfill, Diverged};
+ghost use Rattle.pgp_ids.specs.declared.report.Info.{Info};
+ghost use Rattle.pgp_missing.specs.Log.{log_of, has_each_number, HasEachNumber, is_whole};
+ghost use Rattle.pgp_missing.specs.Missing.{missing_above, IsMissing, peer_state};
+ghost use Rattle.pgp_missing.specs.Examples.{at, modify, delete, lacks, copy, copy_at, two_writes};
+
+/// A complete peer that has the best copy's last write misses nothing.
+pub fn equal_peers_miss_nothing()
+    ensures { (best : Info) (reported : List LogEntry) (peer : Info)
+        → is_whole best reported ≡ true → is_older best.last_update best.log_tail ≡ false
+        → peer.complete ≡ true → peer.last_update ≡ best.last_update
+        → peer_state best reported peer ≡ Missing [] }
+{}
+
+/// A log has as many entries as it has numbers exactly where an entry with each of its numbers was reported.
+pub fn counting_shows_that_no_number_is_lacking()
+    ensures { (info : Info) (reported : List LogEntry) → info.log_tail.v ≤ info.last_update.v
+        → (has_each_number info reported ≡ true) ↔ HasEachNumber info reported }
+{}
+
+/// A copy with the writes up to a number lacks just the objects whose newest entry is a modify above that number.
+pub fn missing_objects_are_those_modified_last()
+    ensures { (v : ℕ) (entries : List LogEntry) (missing : MissingObject)
+        → Contains (missing_above v entries) missing
+        ↔ ((entry : LogEntry) × IsMissing v entries missing entry) }
+{}
+
+/// With both entries the log from [1,1] to [2,3] is whole, and says what a peer lacks that stands at one of its versions.
+pub fn whole_log()
+    ensures whole { is_whole (copy (at 1 1) (at 2 3)) two_writes ≡ true }
+    ensures at_the_first { let best = copy (at 1 1) (at 2 3) in
+        peer_state best two_writes (copy_at (at 1 2)) ≡ Missing (lacks (codes "b") (at 2 3) ∷ []) }
+    ensures at_the_tail { let best = copy (at 1 1) (at 2 3) in
+        peer_state best two_writes (copy_at (at 1 1))
+        ≡ Missing (lacks (codes "a") (at 1 2) ∷ lacks (codes "b") (at 2 3) ∷ []) }
+    ensures at_no_version { let best = copy (at 1 1) (at 2 3) in
+        peer_state best two_writes (copy_at (at 2 2)) ≡ Diverged }
+    ensures before_the_tail { let best = copy (at 1 1) (at 2 3) in
+        peer_state best two_writes (copy_at (at 0 0)) ≡ Backfill }
+    ensures not_complete { let best = copy (at 1 1) (at 2 3) in
+        peer_state best two_writes (record (copy_at (at 2 3)) { complete = false }) ≡ Backfill }
+{}
+
+/// A log isn't whole whose last entry isn't last_update, whose epochs fall, or that lacks a number.
+pub fn broken_logs()
+    ensures another_last { let last = modify (codes "b") (at 1 3) in
+        is_whole (copy (at 1 1) (at 2 3)) (modify (codes "a") (at 1 2) ∷ last ∷ []) ≡ false }
+    ensures falls_from_the_tail { is_whole (copy (at 2 1) (at 2 3)) two_writes ≡ false }
+    ensures falls_between { let first = modify (codes "a") (at 3 2) in
+        is_whole (copy (at 1 1) (at 2 3)) (first ∷ modify (codes "b") (at 2 3) ∷ []) ≡ false }
+    ensures lacks_one { is_whole (copy (at 1 0) (at 2 3)) two_writes ≡ false }
+    ensures lacks_most { is_whole (copy (at 1 1) (at 2 4294967295)) two_writes ≡ false }
+    ensures no_entries { is_whole (copy (at 1 1) (at 2 3)) [] ≡ false }
+{}
+
+/// A log with no number is whole whatever was reported.
+pub fn empty_log()
+    ensures whole { is_whole (copy_at (at 2 3)) two_writes ≡ true }
+    ensures empty { log_of (copy_at (at 2 3)) two_writes ≡ [] }
+    ensures at_the_tail { peer_state (copy_at (at 2 3)) [] (copy_at (at 2 3)) ≡ Missing [] }
+{}
+
+/// Of the entries with one number the last counts, and their order is free.
+pub fn entries_told_again()
+    ensures last { let first = modify (codes "z") (at 1 3) in
+        log_of (copy (at 1 1) (at 2 3)) (first ∷ two_writes) ≡ two_writes }
+    ensures whole { let first = modify (codes "z") (at 1 3) in
+        is_whole (copy (at 1 1) (at 2 3)) (first ∷ two_writes) ≡ true }
+    ensures any_order { let reported = modify (codes "b") (at 2 3) ∷ modify (codes "a") (at 1 2) ∷ [] in
+        is_whole (copy (at 1 1) (at 2 3)) reported ≡ true }
+{}
+
+/// An object whose newest entry deletes it isn't missing; one that was made again is, once, at its newest version.
+pub fn deletes()
+    ensures deleted { missing_above 1 (modify (codes "a") (at 1 2) ∷ delete (codes "a") (at 1 3) ∷ []) ≡ [] }
+    ensures made_again { let first = modify (codes "a") (at 1 2) ∷ delete (codes "a") (at 1 3) ∷ [] in
+        missing_above 1 (modify (codes "a") (at 1 4) ∷ first) ≡ lacks (codes "a") (at 1 4) ∷ [] }
+    ensures deleted_before { missing_above 2 (delete (codes "a") (at 1 2) ∷ modify (codes "b") (at 1 3) ∷ [])
+        ≡ lacks (codes "b") (at 1 3) ∷ [] }
+{}
