@@ -1,5 +1,5 @@
 -- What a piece of a line, and a line feed, do to the cut of the bytes before them.
-use Rattle.std.proofs.Common.{◌≡◌, ℕ, List, [], ◌∷◌, ◌++◌, Bool, true, false, ◌||◌, cond, refl, ap, ◌∙◌, append_assoc}
+use Rattle.std.proofs.Common.{◌≡◌, ℕ, ◌<◌, List, [], ◌∷◌, ◌++◌, Bool, true, false, ◌||◌, cond, length, refl, ap, ◌∙◌, append_assoc, arith}
 use Rattle.std.specs.List.{list_any}
 use Rattle.pgpeer.specs.Lines.{Cut, onto_first, is_line_feed, cut, last_line, lines_of}
 
@@ -93,3 +93,44 @@ lines-goes bytes more =
       goes.others ++ last_line (cut (bytes ++ more)).rest,
       ap (λ lines. lines ++ last_line (cut (bytes ++ more)).rest) goes.whole ∙ append_assoc (cut bytes).whole goes.others (last_line (cut (bytes ++ more)).rest),
     )
+
+-- ---- bytes after a line feed begin lines of their own
+
+-- the lines of both, one after the other
+abbrev join : Cut → Cut → Cut
+join a b = make (a.whole ++ b.whole) b.rest
+
+closed_onto : (byte : ℕ) (lines : List (List ℕ)) (rest : List ℕ) (more joined : Cut) → (rest ≡ [] → joined ≡ join (make lines rest) more)
+    → (onto_first byte lines rest).rest ≡ [] → onto_first byte joined.whole joined.rest ≡ join (onto_first byte lines rest) more
+closed_onto byte [] rest more joined same closed = cc
+closed_onto byte (line ∷ lines) rest more joined same closed = ap (λ (c : Cut). onto_first byte c.whole c.rest) (same closed)
+
+closed_before : (byte : ℕ) (c more joined : Cut) → (c.rest ≡ [] → joined ≡ join c more) → (before byte c).rest ≡ [] → before byte joined ≡ join (before byte c) more
+closed_before byte c more joined same =
+    elim (is_line_feed byte) as (λ b. (cond b (make ([] ∷ c.whole) c.rest) (onto_first byte c.whole c.rest)).rest ≡ []
+    → cond b (make ([] ∷ joined.whole) joined.rest) (onto_first byte joined.whole joined.rest) ≡ join (cond b (make ([] ∷ c.whole) c.rest) (onto_first byte c.whole c.rest)) more) [
+      | true ↦ λ closed. ap (λ (c : Cut). make ([] ∷ c.whole) c.rest) (same closed)
+      | false ↦ closed_onto byte c.whole c.rest more joined same
+    ]
+
+cut-closed : (bytes more : List ℕ) → (cut bytes).rest ≡ [] → cut (bytes ++ more) ≡ join (cut bytes) (cut more)
+cut-closed [] more closed = refl
+cut-closed (byte ∷ bytes) more closed = closed_before byte (cut bytes) (cut more) (cut (bytes ++ more)) (cut-closed bytes more) closed
+
+pub lines-closed : (bytes more : List ℕ) → (cut bytes).rest ≡ [] → lines_of (bytes ++ more) ≡ (cut bytes).whole ++ lines_of more
+lines-closed bytes more closed =
+    ap (λ (c : Cut). c.whole ++ last_line c.rest) (cut-closed bytes more closed) ∙ append_assoc (cut bytes).whole (cut more).whole (last_line (cut more).rest)
+
+onto_some : (byte : ℕ) (lines : List (List ℕ)) (rest : List ℕ) → 0 < length ((onto_first byte lines rest).whole ++ last_line (onto_first byte lines rest).rest)
+onto_some byte [] rest = omega arith
+onto_some byte (line ∷ lines) rest = omega arith
+
+-- bytes have a line
+pub some-line : (bytes : List ℕ) → 0 < length bytes → 0 < length (lines_of bytes)
+some-line [] some = absurd (omega arith)
+some-line (byte ∷ bytes) some =
+    elim (is_line_feed byte) as (λ b. 0 < length ((cond b (make ([] ∷ (cut bytes).whole) (cut bytes).rest) (onto_first byte (cut bytes).whole (cut bytes).rest)).whole
+    ++ last_line (cond b (make ([] ∷ (cut bytes).whole) (cut bytes).rest) (onto_first byte (cut bytes).whole (cut bytes).rest)).rest)) [
+      | true ↦ omega arith
+      | false ↦ onto_some byte (cut bytes).whole (cut bytes).rest
+    ]

@@ -9,13 +9,13 @@ use Rattle.pgpeer.specs.Lines.{Cut, is_line_feed, cut, last_line, lines_of}
 use Rattle.pgpeer.specs.Line.{Holds}
 use Rattle.pgpeer.specs.Output.{FrontWent}
 use Rattle.pgpeer.specs.Script.{answer, answers, Within, lines_before_cut}
-use Rattle.pgpeer.specs.Run.{Puts, PutsFront, IsAfter, Answered, CutOff, BrokenOff, BrokenAtEnd, IsDone, Taken}
+use Rattle.pgpeer.specs.Run.{Puts, PutsFront, IsAfter, Answered, CutOff, BrokenOff, BrokenAtEnd, IsDone, IsBeyond, Taken}
 use Rattle.pgpeer.specs.declared.line.LineBuffer.{LineBuffer}
 use Rattle.pgpeer.specs.declared.output.Output.{Output}
 use Rattle.pgpeer.specs.declared.script.Script.{Script}
 use Rattle.pgpeer.specs.declared.script.Bounds.{Bounds}
 use Rattle.pgpeer.proofs.OutputLemmas.{Went-then, FrontWent-then, FrontWent-pending, Went-flushed}
-use Rattle.pgpeer.proofs.CutLemmas.{cut-piece, cut-feed, cut-goes}
+use Rattle.pgpeer.proofs.CutLemmas.{cut-piece, cut-feed, cut-goes, lines-closed, some-line}
 
 -- ---- answers to more lines
 
@@ -187,6 +187,22 @@ cut_by_reader bounds script start now new bytes after flushed =
       all = record { met = after.met; each = rw same after.each; text = rw same refl };
       went = Went-flushed start now new _ _ after.text flushed;
     }
+
+-- ---- more than the bounds allow
+
+-- a byte stands after the last line that the bounds allow
+pub beyond_lines : (bounds : Bounds) (script : Script) (start now : Option (List ℕ)) (bytes more : List ℕ)
+    → IsAfter bounds script start now bytes → script.left.lines ≡ 0 → 0 < length more → IsBeyond bounds (bytes ++ more)
+beyond_lines bounds script start now bytes more after none some within =
+    let lines = ap length (lines-closed bytes more (after.closed none)) in
+    let both = length-append (cut bytes).whole (lines_of more) in
+    absurd (omega (arith, after.lines_left, none, lines, both, some-line more some, within.few_lines))
+
+-- a byte stands after the last one that the bounds allow
+pub beyond_bytes : (bounds : Bounds) (script : Script) (start now : Option (List ℕ)) (bytes more : List ℕ)
+    → IsAfter bounds script start now bytes → script.left.bytes ≡ 0 → 0 < length more → IsBeyond bounds (bytes ++ more)
+beyond_bytes bounds script start now bytes more after none some within =
+    absurd (omega (arith, after.bytes_left, none, length-append bytes more, some, within.few_bytes))
 
 -- ---- one list of bytes, cut in other ways
 

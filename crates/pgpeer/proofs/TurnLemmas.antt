@@ -1,9 +1,9 @@
 -- One turn of the loop over the reader, and the ways in which it stops.
-use Rattle.std.proofs.Common.{◌≡◌, ℕ, List, [], ◌++◌, Option, subst, append-nil, inl, inr}
+use Rattle.std.proofs.Common.{◌≡◌, ℕ, List, [], ◌++◌, Bool, true, Option, subst, append-nil, inl, inr}
 use Rattle.std.specs.Io.KnownBytes.{Appends, Consumes, Keeps, IsAtEnd}
 use Rattle.std.proofs.KnownBytes.{Consumes-nil, Consumes-trans, Consumes-kept}
 use Rattle.pgpeer.specs.Output.{FrontWent}
-use Rattle.pgpeer.specs.Run.{IsAfter, Answered, CutOff, BrokenOff, BrokenAtEnd, Reads, AllAnswered, ReadStopped, WriteStopped}
+use Rattle.pgpeer.specs.Run.{IsAfter, Answered, CutOff, BrokenOff, BrokenAtEnd, IsBeyond, Reads, AllAnswered, ReadStopped, WriteStopped}
 use Rattle.pgpeer.specs.declared.output.Output.{Output}
 use Rattle.pgpeer.specs.declared.script.Script.{Script}
 use Rattle.pgpeer.specs.declared.script.Bounds.{Bounds}
@@ -43,38 +43,45 @@ turn bounds script new output from mid to start now flushed then chunk reads wro
   after = step bounds start reads.bytes (after_flush bounds script output start now flushed reads.bytes wrote none reads.after);
 }
 
-pub stops_at_flush : (bounds : Bounds) (script : Script) (from to start now new : Option (List ℕ))
-    → Reads bounds script from to start now → FrontWent now new script.output.pending.items → WriteStopped bounds from to start new
-stops_at_flush bounds script from to start now new reads front = record {
+pub stops_at_flush : (bounds : Bounds) (script : Script) (from to start now new : Option (List ℕ)) (failed : Bool)
+    → Reads bounds script from to start now → FrontWent now new script.output.pending.items → failed ≡ true → WriteStopped bounds from to start new failed
+stops_at_flush bounds script from to start now new failed reads front cause = record {
   script = reads.bytes;
   consumed = reads.consumed;
+  cause = cause;
   answered = inl (broken_same bounds start new _ _ (append-nil reads.bytes) (broken_flush bounds script start now new reads.bytes [] reads.after front));
 }
 
-pub stops_at_read : (bounds : Bounds) (script : Script) (from mid to start now new : Option (List ℕ))
-    → Reads bounds script from mid start now → Appends now new script.output.pending.items → Keeps mid to → ReadStopped bounds from to start new
-stops_at_read bounds script from mid to start now new reads wrote kept = record {
+pub stops_at_read : (bounds : Bounds) (script : Script) (from mid to start now new : Option (List ℕ)) (failed : Bool)
+    → Reads bounds script from mid start now → Appends now new script.output.pending.items → Keeps mid to → failed ≡ true
+    → ReadStopped bounds from to start new failed
+stops_at_read bounds script from mid to start now new failed reads wrote kept cause = record {
   script = reads.bytes;
+  cause = inl cause;
   consumed = Consumes-kept from mid to reads.bytes reads.consumed kept;
   answered = cut_by_reader bounds script start now new reads.bytes reads.after wrote;
 }
 
-pub stops_in_chunk_read : (bounds : Bounds) (script : Script) (output : Output) (from mid to start now flushed then : Option (List ℕ)) (chunk : List ℕ)
+pub stops_in_chunk_read : (bounds : Bounds) (script : Script) (output : Output) (from mid to start now flushed then : Option (List ℕ)) (chunk : List ℕ) (failed : Bool)
     → Reads bounds script from mid start now → Appends now flushed script.output.pending.items → output.pending.items ≡ [] → Consumes mid to chunk
     → ((bounds : Bounds) (start : Option (List ℕ)) (bytes : List ℕ) → IsAfter bounds (record script { output = output }) start flushed bytes → CutOff bounds start then (bytes ++ chunk))
-    → ReadStopped bounds from to start then
-stops_in_chunk_read bounds script output from mid to start now flushed then chunk reads wrote none more stop = record {
+    → ((bounds : Bounds) (start : Option (List ℕ)) (bytes : List ℕ) → IsAfter bounds (record script { output = output }) start flushed bytes → IsBeyond bounds (bytes ++ chunk))
+    → ReadStopped bounds from to start then failed
+stops_in_chunk_read bounds script output from mid to start now flushed then chunk failed reads wrote none more stop beyond = record {
   script = reads.bytes ++ chunk;
+  cause = inr (beyond bounds start reads.bytes (after_flush bounds script output start now flushed reads.bytes wrote none reads.after));
   consumed = Consumes-trans from mid to reads.bytes chunk reads.consumed more;
   answered = stop bounds start reads.bytes (after_flush bounds script output start now flushed reads.bytes wrote none reads.after);
 }
 
-pub stops_in_chunk_write : (bounds : Bounds) (script : Script) (output : Output) (from mid to start now flushed then : Option (List ℕ)) (chunk : List ℕ)
+pub stops_in_chunk_write : (bounds : Bounds) (script : Script) (output : Output) (from mid to start now flushed then : Option (List ℕ)) (chunk : List ℕ) (failed : Bool)
     → Reads bounds script from mid start now → Appends now flushed script.output.pending.items → output.pending.items ≡ [] → Consumes mid to chunk
     → ((bounds : Bounds) (start : Option (List ℕ)) (bytes : List ℕ) → IsAfter bounds (record script { output = output }) start flushed bytes → BrokenOff bounds start then (bytes ++ chunk))
-    → WriteStopped bounds from to start then
-stops_in_chunk_write bounds script output from mid to start now flushed then chunk reads wrote none more stop = record {
+    → failed ≡ true
+    → WriteStopped bounds from to start then failed
+stops_in_chunk_write bounds script output from mid to start now flushed then chunk failed reads wrote none more stop cause = record {
   script = reads.bytes ++ chunk;
+  cause = cause;
   consumed = Consumes-trans from mid to reads.bytes chunk reads.consumed more;
   answered = inl (stop bounds start reads.bytes (after_flush bounds script output start now flushed reads.bytes wrote none reads.after));
 }
@@ -96,10 +103,11 @@ ends bounds script output from mid to start now flushed then reads wrote none mo
     let read = ended bounds script output from mid to start now flushed reads wrote none more in
     record { script = read.bytes; consumed = read.consumed; ended = end; answered = finish bounds start read.bytes read.after }
 
-pub stops_at_end : (bounds : Bounds) (script : Script) (output : Output) (from mid to start now flushed then : Option (List ℕ))
+pub stops_at_end : (bounds : Bounds) (script : Script) (output : Output) (from mid to start now flushed then : Option (List ℕ)) (failed : Bool)
     → Reads bounds script from mid start now → Appends now flushed script.output.pending.items → output.pending.items ≡ [] → Consumes mid to [] → IsAtEnd to
     → ((bounds : Bounds) (start : Option (List ℕ)) (bytes : List ℕ) → IsAfter bounds (record script { output = output }) start flushed bytes → BrokenAtEnd bounds start then bytes)
-    → WriteStopped bounds from to start then
-stops_at_end bounds script output from mid to start now flushed then reads wrote none more end stop =
+    → failed ≡ true
+    → WriteStopped bounds from to start then failed
+stops_at_end bounds script output from mid to start now flushed then failed reads wrote none more end stop cause =
     let read = ended bounds script output from mid to start now flushed reads wrote none more in
-    record { script = read.bytes; consumed = read.consumed; answered = inr (end, stop bounds start read.bytes read.after) }
+    record { script = read.bytes; consumed = read.consumed; cause = cause; answered = inr (end, stop bounds start read.bytes read.after) }

@@ -9,6 +9,7 @@ pub mod Answer
 pub mod Lines
 pub mod Script
 pub mod Line
+pub mod Options
 pub mod Output
 pub mod Run
 pub mod Status

@@ -1,5 +1,5 @@
 -- What has been read and written of a script, as its answering goes on and as it stops.
-use Rattle.std.specs.Prelude.{◌≡◌, ◌⊎◌, ℕ, ◌+◌, List, [], ◌++◌, Bool, length, Option}
+use Rattle.std.specs.Prelude.{◌≡◌, ◌⊎◌, ℕ, ◌+◌, List, [], ◌++◌, Bool, true, length, Option}
 use Rattle.std.specs.Io.KnownBytes.{Appends, Consumes, IsAtEnd}
 use Rattle.pgpeer.specs.Lines.{cut, lines_of}
 use Rattle.pgpeer.specs.Line.{Holds}
@@ -61,6 +61,10 @@ pub record BrokenAtEnd (bounds : Bounds) (start now : Option (List ℕ)) (bytes 
   pub met : List Bool
   pub front : FrontWent start now (answers met (lines_of bytes))
 
+-- the script is larger than its bounds
+abbrev pub IsBeyond : Bounds → List ℕ → Type 0
+IsBeyond bounds script = Within bounds.lines bounds.bytes script → ⊥
+
 -- ---- what a run did to its reader and writer
 
 -- The reader gave these bytes and is at its end, and the writer got the answers to their lines.
@@ -70,22 +74,26 @@ pub record AllAnswered (bounds : Bounds) (from to start now : Option (List ℕ))
   pub ended : IsAtEnd to
   pub answered : Answered bounds start now script
 
--- The reader gave these bytes, and the writer got the answers to the lines that were read whole.
-pub record ReadStopped (bounds : Bounds) (from to start now : Option (List ℕ)) : Type 0 where
+-- The reader gave these bytes, and the writer got the answers to the lines that were read whole. A read failed, or the
+-- script is too large.
+pub record ReadStopped (bounds : Bounds) (from to start now : Option (List ℕ)) (read_failed : Bool) : Type 0 where
   pub script : List ℕ
   pub consumed : Consumes from to script
   pub answered : CutOff bounds start now script
+  pub cause : (read_failed ≡ true) ⊎ IsBeyond bounds script
 
 -- The reader gave these bytes, and the writer got a front of the answers to the lines that were read whole, or, at the
--- reader's end, to all lines.
-pub record WriteStopped (bounds : Bounds) (from to start now : Option (List ℕ)) : Type 0 where
+-- reader's end, to all lines. A write failed.
+pub record WriteStopped (bounds : Bounds) (from to start now : Option (List ℕ)) (write_failed : Bool) : Type 0 where
   pub script : List ℕ
   pub consumed : Consumes from to script
   pub answered : BrokenOff bounds start now script ⊎ (IsAtEnd to × BrokenAtEnd bounds start now script)
+  pub cause : write_failed ≡ true
 
 -- one of the two
-abbrev pub Stopped : Bounds → Option (List ℕ) → Option (List ℕ) → Option (List ℕ) → Option (List ℕ) → Type 0
-Stopped bounds from to start now = ReadStopped bounds from to start now ⊎ WriteStopped bounds from to start now
+abbrev pub Stopped : Bounds → Option (List ℕ) → Option (List ℕ) → Option (List ℕ) → Option (List ℕ) → Bool → Bool → Type 0
+Stopped bounds from to start now read_failed write_failed =
+    ReadStopped bounds from to start now read_failed ⊎ WriteStopped bounds from to start now write_failed
 
 -- The reader gave these bytes, and so much is done of them.
 pub record Reads (bounds : Bounds) (script : Script) (from to start now : Option (List ℕ)) : Type 0 where

@@ -1,7 +1,9 @@
-//! Worked lines and answers, computed by the definitions.
+//! Worked lines, answers and command lines, computed by the definitions.
 ghost use Rattle.std.specs.Prelude.{◌≡◌, [], ◌∷◌, ◌++◌, codes, Ok, Err, String, string_bytes};
 ghost use Rattle.std.specs.Global.{Global};
 ghost use Rattle.pgp_ids.specs.declared.text_fault.TextFault.TheVariants.{BadField, Memory};
+ghost use Rattle.clap.specs.declared.error.kind.ErrorKind.TheVariants.{DisplayHelp, MissingSubcommand, UnknownArgument};
+ghost use Rattle.pgpeer.specs.Options.{faults_in};
 ghost use Rattle.pgpeer.specs.LineFault.{not_json, no_op, unknown_key, bad_field};
 ghost use Rattle.pgpeer.specs.Command.{command_of};
 ghost use Rattle.pgpeer.specs.Reply.{reply_text};
@@ -55,4 +57,12 @@ pub fn traced_text()
 /// What is said for want of memory is the text of that refusal.
 pub fn memory_text()
     ensures { MEMORY_LINE.now ≡ reply_text (Refused Memory) ++ 10 ∷ [] }
+{}
+
+/// The words of a command line: `run` alone is asked for, and help is a request of its own.
+pub fn command_lines()
+    ensures run { faults_in (codes "pgpeer" ∷ codes "run" ∷ []) ≡ [] }
+    ensures help { faults_in (codes "pgpeer" ∷ codes "--help" ∷ []) ≡ DisplayHelp ∷ [] }
+    ensures nothing { faults_in (codes "pgpeer" ∷ []) ≡ MissingSubcommand ∷ [] }
+    ensures more { faults_in (codes "pgpeer" ∷ codes "run" ∷ codes "now" ∷ []) ≡ UnknownArgument ∷ [] }
 {}

@@ -8,6 +8,7 @@ use clap::Error;
 use status::{USAGE, status_of};
 use std::env;
 use std::process::ExitCode;
+use streams::Watched;
 
 mod answer;
 mod command;
@@ -19,6 +20,7 @@ mod output;
 mod reply;
 mod script;
 mod status;
+mod streams;
 #[cfg(test)]
 mod tests;
 
@@ -32,8 +34,8 @@ fn main(rt: HostRuntime) -> ExitCode {
         Ok(words) => ExitCode::from(status_of(
             alloc,
             words.as_slice(),
-            &mut rt.stdin(),
-            &mut rt.stdout(),
+            &mut Watched::new(rt.stdin()),
+            &mut Watched::new(rt.stdout()),
             &mut rt.stderr(),
         )),
         Err(error) => {

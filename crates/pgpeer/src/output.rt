@@ -1,9 +1,9 @@
-ghost use Rattle.std.specs.Prelude.{◌≡◌, ℕ, List, [], ◌++◌, OnOk, OnErr, vec_items};
+ghost use Rattle.std.specs.Prelude.{◌≡◌, ℕ, List, [], ◌++◌, true, OnOk, OnErr, vec_items};
 ghost use Rattle.std.specs.Io.KnownBytes.{Appends};
 ghost use Rattle.pgpeer.specs.Output.{Went, FrontWent};
 
+use super::streams::Sink;
 use std::alloc::Global;
-use std::io::Write;
 
 /// A write failed, or took no byte.
 #[derive(Clone, Copy, Debug, PartialEq, Eq)]
@@ -28,10 +28,11 @@ impl Output {
     }
 
     /// Writes what is pending.
-    pub fn flush<W: Write>(&mut self, writer: &mut W) -> Result<(), WriteFault>
+    pub fn flush<W: Sink>(&mut self, writer: &mut W) -> Result<(), WriteFault>
         ensures ok { OnOk result (Appends (W.contents writer.old) (W.contents writer.new) self.old.pending.items) }
         ensures empty { OnOk result (self.new.pending.items ≡ []) }
         ensures err { OnErr result (FrontWent (W.contents writer.old) (W.contents writer.new) self.old.pending.items) }
+        ensures told { OnErr result (W.failed writer.new ≡ true) }
     {
         write_out(writer, self.pending.as_slice())?;
         self.pending.clear();
@@ -39,10 +40,11 @@ impl Output {
     }
 
     /// Writes what is pending, and has the writer pass it on.
-    pub fn close<W: Write>(&mut self, writer: &mut W) -> Result<(), WriteFault>
+    pub fn close<W: Sink>(&mut self, writer: &mut W) -> Result<(), WriteFault>
         ensures ok { OnOk result (Appends (W.contents writer.old) (W.contents writer.new) self.old.pending.items) }
         ensures empty { OnOk result (self.new.pending.items ≡ []) }
         ensures err { OnErr result (FrontWent (W.contents writer.old) (W.contents writer.new) self.old.pending.items) }
+        ensures told { OnErr result (W.failed writer.new ≡ true) }
     {
         self.flush(writer)?;
         match writer.flush() {
@@ -52,11 +54,12 @@ impl Output {
     }
 
     /// Puts text after what is pending. Where there is no memory for it, all of it is written at once.
-    pub fn put<W: Write>(&mut self, text: &[u8], writer: &mut W) -> Result<(), WriteFault>
+    pub fn put<W: Sink>(&mut self, text: &[u8], writer: &mut W) -> Result<(), WriteFault>
         ensures ok { OnOk result (Went (W.contents writer.old) (W.contents writer.new)
             (self.old.pending.items ++ text.now) self.new.pending.items) }
         ensures err { OnErr result (FrontWent (W.contents writer.old) (W.contents writer.new)
             (self.old.pending.items ++ text.now)) }
+        ensures told { OnErr result (W.failed writer.new ≡ true) }
     {
         match self.pending.extend_from_slice(text) {
             Ok(()) if self.pending.len() <= PENDING_LIMIT => Ok(()),
@@ -70,9 +73,10 @@ impl Output {
 }
 
 /// Writes all of `text`.
-fn write_out<W: Write>(writer: &mut W, text: &[u8]) -> Result<(), WriteFault>
+pub fn write_out<W: Sink>(writer: &mut W, text: &[u8]) -> Result<(), WriteFault>
     ensures ok { OnOk result (Appends (W.contents writer.old) (W.contents writer.new) text.now) }
     ensures err { OnErr result (FrontWent (W.contents writer.old) (W.contents writer.new) text.now) }
+    ensures told { OnErr result (W.failed writer.new ≡ true) }
 {
     let mut rest = text;
     while !rest.is_empty() {

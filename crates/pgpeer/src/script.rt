@@ -1,18 +1,18 @@
 //! Answering a script: its lines are read, and the answer to each is written.
 
-ghost use Rattle.std.specs.Prelude.{◌≡◌, ℕ, ◌+◌, ◌-◌, ◌<◌, ◌≤◌, List, [], ◌∷◌, ◌++◌, Bool, false, Option, OnOk, OnErr, IfSome, IfNone, length};
+ghost use Rattle.std.specs.Prelude.{◌≡◌, ℕ, ◌+◌, ◌-◌, ◌<◌, ◌≤◌, List, [], ◌∷◌, ◌++◌, Bool, true, false, Option, OnOk, OnErr, IfSome, IfNone, length};
 ghost use Rattle.std.specs.List.{list_any};
 ghost use Rattle.pgpeer.specs.Lines.{is_line_feed};
 ghost use Rattle.pgpeer.specs.Line.{Holds};
 ghost use Rattle.std.specs.Io.KnownBytes.{Appends};
 ghost use Rattle.pgpeer.specs.Output.{FrontWent};
-ghost use Rattle.pgpeer.specs.Run.{IsAfter, Answered, CutOff, BrokenOff, BrokenAtEnd, IsDone, Puts, PutsFront, AllAnswered, ReadStopped, WriteStopped};
+ghost use Rattle.pgpeer.specs.Run.{IsAfter, Answered, CutOff, BrokenOff, BrokenAtEnd, IsDone, IsBeyond, Puts, PutsFront, AllAnswered, ReadStopped, WriteStopped};
 
 use super::line::LineBuffer;
 use super::output::{Output, WriteFault};
+use super::streams::{Sink, Source};
 use memchr::memchr;
 use std::alloc::Global;
-use std::io::{Read, Write};
 use thiserror::Error;
 
 /// How many bytes a read asks for.
@@ -82,12 +82,13 @@ impl Script {
     }
 
     /// Answers the line that is being read.
-    fn put_answer<W: Write>(&mut self, alloc: Global, writer: &mut W) -> Result<(), WriteFault>
+    fn put_answer<W: Sink>(&mut self, alloc: Global, writer: &mut W) -> Result<(), WriteFault>
         ensures ok { OnOk result ((line : List ℕ) → Holds self.old.line line
             → Puts (W.contents writer.old) (W.contents writer.new) self.old.output.pending.items
             self.new.output.pending.items line) }
         ensures err { OnErr result ((line : List ℕ) → Holds self.old.line line
             → PutsFront (W.contents writer.old) (W.contents writer.new) self.old.output.pending.items line) }
+        ensures told { OnErr result (W.failed writer.new ≡ true) }
         ensures kept { self.new ≡ record self.old { output = self.new.output } }
     {
         let answer = self.line.answer(alloc);
@@ -95,9 +96,10 @@ impl Script {
     }
 
     /// Writes what is pending, and says which fault ends the script: that of the write comes first.
-    fn stop_reading<W: Write>(&mut self, writer: &mut W) -> ScriptFault
+    fn stop_reading<W: Sink>(&mut self, writer: &mut W) -> ScriptFault
         ensures read { result ≡ ScriptFault.Read → Appends (W.contents writer.old) (W.contents writer.new) self.old.output.pending.items }
         ensures write { result ≡ ScriptFault.Write → FrontWent (W.contents writer.old) (W.contents writer.new) self.old.output.pending.items }
+        ensures told { result ≡ ScriptFault.Write → W.failed writer.new ≡ true }
     {
         match self.output.close(writer) {
             Ok(()) => ScriptFault::Read,
@@ -106,7 +108,7 @@ impl Script {
     }
 
     /// Takes the line feed that ends the line.
-    fn end_line<W: Write>(&mut self, alloc: Global, writer: &mut W) -> Result<(), WriteFault>
+    fn end_line<W: Sink>(&mut self, alloc: Global, writer: &mut W) -> Result<(), WriteFault>
         requires room { 0 < self.old.left.lines }
         requires fits { 0 < self.old.left.bytes }
         ensures left { OnOk result (self.new.left.bytes ≡ self.old.left.bytes - 1) }
@@ -116,6 +118,7 @@ impl Script {
         ensures err { OnErr result ((bounds : Bounds) (start : Option (List ℕ)) (bytes more : List ℕ)
             → IsAfter bounds self.old start (W.contents writer.old) bytes
             → BrokenOff bounds start (W.contents writer.new) (bytes ++ 10 ∷ more)) }
+        ensures told { OnErr result (W.failed writer.new ≡ true) }
     {
         self.put_answer(alloc, writer)?;
         self.line.clear();
@@ -127,7 +130,7 @@ impl Script {
 
 impl Script {
     /// Takes bytes that the bounds on bytes allow.
-    fn take_allowed<W: Write>(
+    fn take_allowed<W: Sink>(
         &mut self,
         alloc: Global,
         chunk: &[u8],
@@ -141,9 +144,13 @@ impl Script {
         ensures read { result ≡ Err ScriptFault.Read → (bounds : Bounds) (start : Option (List ℕ)) (bytes more : List ℕ)
             → IsAfter bounds self.old start (W.contents writer.old) bytes
             → CutOff bounds start (W.contents writer.new) (bytes ++ (chunk.now ++ more)) }
+        ensures beyond { result ≡ Err ScriptFault.Read → (bounds : Bounds) (start : Option (List ℕ)) (bytes more : List ℕ)
+            → IsAfter bounds self.old start (W.contents writer.old) bytes
+            → IsBeyond bounds (bytes ++ (chunk.now ++ more)) }
         ensures write { result ≡ Err ScriptFault.Write → (bounds : Bounds) (start : Option (List ℕ)) (bytes more : List ℕ)
             → IsAfter bounds self.old start (W.contents writer.old) bytes
             → BrokenOff bounds start (W.contents writer.new) (bytes ++ (chunk.now ++ more)) }
+        ensures told { result ≡ Err ScriptFault.Write → W.failed writer.new ≡ true }
     {
         let mut rest = chunk;
         while !rest.is_empty() {
@@ -168,7 +175,7 @@ impl Script {
 
 impl Script {
     /// Takes bytes that were read.
-    fn take<W: Write>(
+    fn take<W: Sink>(
         &mut self,
         alloc: Global,
         chunk: &[u8],
@@ -181,9 +188,13 @@ impl Script {
         ensures read { result ≡ Err ScriptFault.Read → (bounds : Bounds) (start : Option (List ℕ)) (bytes : List ℕ)
             → IsAfter bounds self.old start (W.contents writer.old) bytes
             → CutOff bounds start (W.contents writer.new) (bytes ++ chunk.now) }
+        ensures beyond { result ≡ Err ScriptFault.Read → (bounds : Bounds) (start : Option (List ℕ)) (bytes : List ℕ)
+            → IsAfter bounds self.old start (W.contents writer.old) bytes
+            → IsBeyond bounds (bytes ++ chunk.now) }
         ensures write { result ≡ Err ScriptFault.Write → (bounds : Bounds) (start : Option (List ℕ)) (bytes : List ℕ)
             → IsAfter bounds self.old start (W.contents writer.old) bytes
             → BrokenOff bounds start (W.contents writer.new) (bytes ++ chunk.now) }
+        ensures told { result ≡ Err ScriptFault.Write → W.failed writer.new ≡ true }
     {
         if chunk.len() as u64 <= self.left.bytes {
             return self.take_allowed(alloc, chunk, writer);
@@ -196,13 +207,14 @@ impl Script {
     }
 
     /// Answers a last line that no line feed ends.
-    fn put_last<W: Write>(&mut self, alloc: Global, writer: &mut W) -> Result<(), WriteFault>
+    fn put_last<W: Sink>(&mut self, alloc: Global, writer: &mut W) -> Result<(), WriteFault>
         ensures ok { OnOk result ((bounds : Bounds) (start : Option (List ℕ)) (bytes : List ℕ)
             → IsAfter bounds self.old start (W.contents writer.old) bytes
             → IsDone bounds start (W.contents writer.new) self.new.output.pending.items bytes) }
         ensures err { OnErr result ((bounds : Bounds) (start : Option (List ℕ)) (bytes : List ℕ)
             → IsAfter bounds self.old start (W.contents writer.old) bytes
             → BrokenAtEnd bounds start (W.contents writer.new) bytes) }
+        ensures told { OnErr result (W.failed writer.new ≡ true) }
     {
         if self.line.started {
             self.put_answer(alloc, writer)
@@ -212,13 +224,14 @@ impl Script {
     }
 
     /// Answers a last line that no line feed ends, and writes what is pending.
-    fn finish<W: Write>(&mut self, alloc: Global, writer: &mut W) -> Result<(), WriteFault>
+    fn finish<W: Sink>(&mut self, alloc: Global, writer: &mut W) -> Result<(), WriteFault>
         ensures ok { OnOk result ((bounds : Bounds) (start : Option (List ℕ)) (bytes : List ℕ)
             → IsAfter bounds self.old start (W.contents writer.old) bytes
             → Answered bounds start (W.contents writer.new) bytes) }
         ensures err { OnErr result ((bounds : Bounds) (start : Option (List ℕ)) (bytes : List ℕ)
             → IsAfter bounds self.old start (W.contents writer.old) bytes
             → BrokenAtEnd bounds start (W.contents writer.new) bytes) }
+        ensures told { OnErr result (W.failed writer.new ≡ true) }
     {
         self.put_last(alloc, writer)?;
         self.output.close(writer)
@@ -228,8 +241,9 @@ impl Script {
 /// Answers the script that the reader gives, within bounds.
 ///
 /// What was read is answered to its end, and a fault says what it leaves: after [`ScriptFault::Read`] the lines that
-/// were read whole within the bounds are answered, and after [`ScriptFault::Write`] a front of the answers went out.
-pub fn run_within<R: Read, W: Write>(
+/// were read whole within the bounds are answered, and after [`ScriptFault::Write`] a front of the answers went out. A
+/// fault is told only where a read or a write failed, or the script is larger than its bounds.
+pub fn run_within<R: Source, W: Sink>(
     alloc: Global,
     reader: &mut R,
     writer: &mut W,
@@ -238,9 +252,9 @@ pub fn run_within<R: Read, W: Write>(
     ensures ok { OnOk result (AllAnswered bounds (R.remaining reader.old) (R.remaining reader.new)
         (W.contents writer.old) (W.contents writer.new)) }
     ensures read { result ≡ Err ScriptFault.Read → ReadStopped bounds (R.remaining reader.old) (R.remaining reader.new)
-        (W.contents writer.old) (W.contents writer.new) }
+        (W.contents writer.old) (W.contents writer.new) (R.failed reader.new) }
     ensures write { result ≡ Err ScriptFault.Write → WriteStopped bounds (R.remaining reader.old) (R.remaining reader.new)
-        (W.contents writer.old) (W.contents writer.new) }
+        (W.contents writer.old) (W.contents writer.new) (W.failed writer.new) }
 {
     let mut chunk = [0u8; CHUNK];
     let mut script = Script::new(alloc, bounds);

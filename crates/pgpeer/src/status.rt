@@ -1,13 +1,19 @@
 //! What the program does, over any reader and writers, and the status that it ends with.
 
-ghost use Rattle.std.specs.Prelude.{◌≡◌, ◌≢◌, ◌⊎◌, ⊤};
+ghost use Rattle.std.specs.Prelude.{◌≡◌, ◌≢◌, ◌⊎◌, true, map, string_bytes};
+ghost use Rattle.std.specs.Io.KnownBytes.{Appends};
+ghost use Rattle.clap.specs.Values.{kind_of};
+ghost use Rattle.pgpeer.specs.Options.{AsksForRun, AsksForHelp, IsRequest};
 ghost use Rattle.pgpeer.specs.Run.{AllAnswered, Stopped};
 ghost use Rattle.pgpeer.specs.Status.{script_bounds};
 
 use super::options::options;
+use super::output::write_out;
 use super::script::{Bounds, ScriptFault, run_within};
-use std::alloc::Global;
-use std::io::{Read, Write};
+use super::streams::{Sink, Source};
+use clap::Error;
+use std::alloc::{AllocError, Global};
+use std::io::Write;
 
 /// The script was answered to its end, or help was shown.
 pub const DONE: u8 = 0;
@@ -25,38 +31,73 @@ pub const SCRIPT_BOUNDS: Bounds = Bounds {
 /// Does what the words ask for, the program's name first, and gives the status to exit with.
 ///
 /// Answers and help go to `writer`, and what is wrong goes to `errors`. What cannot be written to `errors` is lost.
-pub fn status_of<R: Read, W: Write, E: Write>(
+pub fn status_of<R: Source, W: Sink, E: Write>(
     alloc: Global,
     words: &[String],
     reader: &mut R,
     writer: &mut W,
     errors: &mut E,
 ) -> u8
-    // The script was answered to its end, or help was shown and nothing was read.
-    ensures done { result ≡ DONE → AllAnswered script_bounds (R.remaining reader.old) (R.remaining reader.new)
-        (W.contents writer.old) (W.contents writer.new) ⊎ (reader.new ≡ reader.old) }
+    // The script was answered to its end, or help was asked for and nothing was read.
+    ensures done { result ≡ DONE
+        → (AsksForRun (map string_bytes words.now) × AllAnswered script_bounds (R.remaining reader.old) (R.remaining reader.new)
+        (W.contents writer.old) (W.contents writer.new))
+        ⊎ (AsksForHelp (map string_bytes words.now) × (reader.new ≡ reader.old)) }
     // Nothing was read, and nothing was answered.
     ensures usage { result ≡ USAGE → (reader.new ≡ reader.old) × (writer.new ≡ writer.old) }
     // The script was answered as far as it was read whole, or as far as it could be written, or help could not be shown.
     ensures fault { result ≢ DONE → result ≢ USAGE → (result ≡ FAULT)
-        × (Stopped script_bounds (R.remaining reader.old) (R.remaining reader.new) (W.contents writer.old) (W.contents writer.new)
-        ⊎ (reader.new ≡ reader.old)) }
+        × ((AsksForRun (map string_bytes words.now)
+        × Stopped script_bounds (R.remaining reader.old) (R.remaining reader.new) (W.contents writer.old) (W.contents writer.new)
+        (R.failed reader.new) (W.failed writer.new))
+        ⊎ (AsksForHelp (map string_bytes words.now) × (reader.new ≡ reader.old) × (W.failed writer.new ≡ true))) }
 {
-    let Err(error) = options(alloc, words) else {
-        return run(alloc, reader, writer, errors);
-    };
-    if error.use_stderr() {
-        let _ = write!(errors, "{error}");
-        return USAGE;
+    match options(alloc, words) {
+        Ok(()) => run(alloc, reader, writer, errors),
+        Err(error) => explain(alloc, &error, writer, errors),
     }
-    match write!(writer, "{error}").and_then(|()| writer.flush()) {
-        Ok(()) => DONE,
+}
+
+/// Shows help where that was asked for, and else tells what is wrong with the command line.
+fn explain<W: Sink, E: Write>(alloc: Global, error: &Error, writer: &mut W, errors: &mut E) -> u8
+    ensures done { result ≡ DONE → IsRequest (kind_of error.now) }
+    ensures usage { result ≡ USAGE → writer.new ≡ writer.old }
+    ensures fault { result ≢ DONE → result ≢ USAGE
+        → (result ≡ FAULT) × IsRequest (kind_of error.now) × (W.failed writer.new ≡ true) }
+{
+    if error.use_stderr() {
+        return usage(error, errors);
+    }
+    match format!(in alloc; "{error}") {
+        Ok(help) => show_help(help.as_str(), writer, errors),
+        Err(_) => usage(&Error::from(AllocError), errors),
+    }
+}
+
+/// Tells what is wrong with the command line.
+fn usage<E: Write>(error: &Error, errors: &mut E) -> u8
+    ensures { result ≡ USAGE }
+{
+    let _ = write!(errors, "{error}");
+    USAGE
+}
+
+/// Shows the text of help.
+fn show_help<W: Sink, E: Write>(help: &str, writer: &mut W, errors: &mut E) -> u8
+    ensures fault { result ≢ DONE → (result ≡ FAULT) × (W.failed writer.new ≡ true) }
+    ensures shown { result ≡ DONE → Appends (W.contents writer.old) (W.contents writer.new) help.now }
+{
+    match write_out(writer, help.as_bytes()) {
+        Ok(()) => match writer.flush() {
+            Ok(()) => DONE,
+            Err(_) => fault(ScriptFault::Write, errors),
+        },
         Err(_) => fault(ScriptFault::Write, errors),
     }
 }
 
 /// Answers the script.
-fn run<R: Read, W: Write, E: Write>(
+fn run<R: Source, W: Sink, E: Write>(
     alloc: Global,
     reader: &mut R,
     writer: &mut W,
@@ -65,7 +106,8 @@ fn run<R: Read, W: Write, E: Write>(
     ensures done { result ≡ DONE → AllAnswered script_bounds (R.remaining reader.old) (R.remaining reader.new)
         (W.contents writer.old) (W.contents writer.new) }
     ensures fault { result ≢ DONE → (result ≡ FAULT)
-        × Stopped script_bounds (R.remaining reader.old) (R.remaining reader.new) (W.contents writer.old) (W.contents writer.new) }
+        × Stopped script_bounds (R.remaining reader.old) (R.remaining reader.new) (W.contents writer.old) (W.contents writer.new)
+        (R.failed reader.new) (W.failed writer.new) }
 {
     match run_within(alloc, reader, writer, SCRIPT_BOUNDS) {
         Ok(()) => DONE,

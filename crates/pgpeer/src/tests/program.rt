@@ -3,7 +3,9 @@
 use super::fakes::{Endless, Giver, Taker};
 use crate::script::{Bounds, ScriptFault, run_within};
 use crate::status::{DONE, FAULT, USAGE, status_of};
+use crate::streams::Watched;
 use std::alloc::Global;
+use std::io::{Read, Write};
 use std::test::Fail;
 
 /// Three lines with answers, a blank one between them, and no line feed at the end.
@@ -21,11 +23,28 @@ fn run_with(alloc: Global, words: &[&str], script: &[u8]) -> Result<(u8, Vec<u8>
     for word in words {
         given.push(String::from_str(alloc, word)?)?;
     }
-    let mut reader = script;
-    let mut out = Vec::new(alloc);
+    let mut out = Watched::new(Vec::new(alloc));
     let mut errors = Vec::new(alloc);
-    let status = status_of(alloc, given.as_slice(), &mut reader, &mut out, &mut errors);
-    Ok((status, out, errors))
+    let status = status_of(
+        alloc,
+        given.as_slice(),
+        &mut Watched::new(script),
+        &mut out,
+        &mut errors,
+    );
+    Ok((status, out.into_inner(), errors))
+}
+
+/// How a run over these streams ended, and the writer after it.
+fn run_over<R: Read + Drop, W: Write + Drop>(
+    alloc: Global,
+    reader: R,
+    writer: W,
+    bounds: Bounds,
+) -> (Result<(), ScriptFault>, W) {
+    let mut out = Watched::new(writer);
+    let run = run_within(alloc, &mut Watched::new(reader), &mut out, bounds);
+    (run, out.into_inner())
 }
 
 /// The bounds of a run that has none.
@@ -113,13 +132,8 @@ fn passes_over_long_lines(rt: HostRuntime) -> Result<(), Fail> {
 #[test]
 fn takes_any_pieces(rt: HostRuntime) -> Result<(), Fail> {
     for step in 1..SCRIPT.len() {
-        let mut out = Vec::new(rt.alloc());
-        let run = run_within(
-            rt.alloc(),
-            &mut Giver::new(SCRIPT, step, NEVER),
-            &mut out,
-            wide(),
-        );
+        let reader = Giver::new(SCRIPT, step, NEVER);
+        let (run, out) = run_over(rt.alloc(), reader, Vec::new(rt.alloc()), wide());
         assert_eq!(rt; run, Ok(()));
         assert_eq!(rt; out.as_slice(), ANSWERS, "{step} bytes at a time");
     }
@@ -130,13 +144,8 @@ fn takes_any_pieces(rt: HostRuntime) -> Result<(), Fail> {
 fn answers_what_was_read_whole(rt: HostRuntime) -> Result<(), Fail> {
     // How many lines are answered, by the call at which the reader fails. At the last it has ended before.
     for (fails_at, answers) in [0, 0, 0, 0, 1, 2, 2, 3].iter().enumerate() {
-        let mut out = Vec::new(rt.alloc());
-        let run = run_within(
-            rt.alloc(),
-            &mut Giver::new(SCRIPT, 16, fails_at),
-            &mut out,
-            wide(),
-        );
+        let reader = Giver::new(SCRIPT, 16, fails_at);
+        let (run, out) = run_over(rt.alloc(), reader, Vec::new(rt.alloc()), wide());
         let ended = fails_at == 7;
         assert_eq!(rt;
             run,
@@ -158,13 +167,9 @@ fn answers_what_was_read_whole(rt: HostRuntime) -> Result<(), Fail> {
 fn writes_a_front_of_the_answers(rt: HostRuntime) -> Result<(), Fail> {
     let mut failed = 0u8;
     for fails_at in 0..100 {
-        let mut out = Taker::new(rt.alloc(), 10, fails_at);
-        let run = run_within(
-            rt.alloc(),
-            &mut Giver::new(SCRIPT, 16, NEVER),
-            &mut out,
-            wide(),
-        );
+        let reader = Giver::new(SCRIPT, 16, NEVER);
+        let writer = Taker::new(rt.alloc(), 10, fails_at);
+        let (run, out) = run_over(rt.alloc(), reader, writer, wide());
         assert!(rt;
             ANSWERS.starts_with(out.taken.as_slice()),
             "call {fails_at}"
@@ -184,17 +189,12 @@ fn writes_a_front_of_the_answers(rt: HostRuntime) -> Result<(), Fail> {
 #[test]
 fn tells_the_write_fault_first(rt: HostRuntime) -> Result<(), Fail> {
     // The first read ends after the first line, and the second one fails; the answer waits until then.
-    let mut out = Taker::new(rt.alloc(), 10, 0);
-    let run = run_within(rt.alloc(), &mut Giver::new(SCRIPT, 60, 1), &mut out, wide());
+    let writer = Taker::new(rt.alloc(), 10, 0);
+    let (run, _) = run_over(rt.alloc(), Giver::new(SCRIPT, 60, 1), writer, wide());
     assert_eq!(rt; run, Err(ScriptFault::Write));
     // A writer that takes no byte.
-    let mut out = Taker::new(rt.alloc(), 0, NEVER);
-    let run = run_within(
-        rt.alloc(),
-        &mut Giver::new(SCRIPT, 60, NEVER),
-        &mut out,
-        wide(),
-    );
+    let writer = Taker::new(rt.alloc(), 0, NEVER);
+    let (run, out) = run_over(rt.alloc(), Giver::new(SCRIPT, 60, NEVER), writer, wide());
     assert_eq!(rt; run, Err(ScriptFault::Write));
     assert!(rt; out.taken.is_empty());
     Ok(())
@@ -205,54 +205,32 @@ fn keeps_the_bounds(rt: HostRuntime) -> Result<(), Fail> {
     let alloc = rt.alloc();
     let no_lines: &[u8] = b"";
     let one_line: &[u8] = b"{\"code\":32,\"refused\":\"NoOp\"}\n";
+    let read = Some(ScriptFault::Read);
     for (script, lines, bytes, fault, answers) in [
-        (b"\n\n".as_slice(), 2, 10, None, no_lines),
-        (
-            b"\n\n\n".as_slice(),
-            2,
-            10,
-            Some(ScriptFault::Read),
-            no_lines,
-        ),
-        (b"[]\n".as_slice(), 1, 3, None, one_line),
-        (
-            b"[]\n[]".as_slice(),
-            1,
-            10,
-            Some(ScriptFault::Read),
-            one_line,
-        ),
-        (
-            b"[]\n[]".as_slice(),
-            2,
-            4,
-            Some(ScriptFault::Read),
-            one_line,
-        ),
-        (b"[]".as_slice(), 1, 2, None, one_line),
-        (b"[]".as_slice(), 0, 2, Some(ScriptFault::Read), no_lines),
+        ("\n\n", 2, 10, None, no_lines),
+        ("\n\n\n", 2, 10, read, no_lines),
+        ("[]\n", 1, 3, None, one_line),
+        ("[]\n[]", 1, 10, read, one_line),
+        ("[]\n[]", 2, 4, read, one_line),
+        ("[]", 1, 2, None, one_line),
+        ("[]", 0, 2, read, no_lines),
     ] {
-        let mut out = Vec::new(alloc);
-        let run = run_within(
-            alloc,
-            &mut Giver::new(script, 1, NEVER),
-            &mut out,
-            Bounds { lines, bytes },
-        );
+        let reader = Giver::new(script.as_bytes(), 1, NEVER);
+        let (run, out) = run_over(alloc, reader, Vec::new(alloc), Bounds { lines, bytes });
         assert_eq!(rt; run.err(), fault, "{script:?}");
         assert_eq!(rt; out.as_slice(), answers, "{script:?}");
     }
+    Ok(())
+}
+
+#[test]
+fn stops_endless_readers(rt: HostRuntime) -> Result<(), Fail> {
+    let bounds = Bounds {
+        lines: 100,
+        bytes: 1000,
+    };
     for byte in [b'x', b'\n'] {
-        let mut out = Vec::new(alloc);
-        let run = run_within(
-            alloc,
-            &mut Endless(byte),
-            &mut out,
-            Bounds {
-                lines: 100,
-                bytes: 1000,
-            },
-        );
+        let (run, out) = run_over(rt.alloc(), Endless(byte), Vec::new(rt.alloc()), bounds);
         assert_eq!(rt; run, Err(ScriptFault::Read));
         assert!(rt; out.is_empty());
     }
@@ -284,26 +262,47 @@ fn tells_faults(rt: HostRuntime) -> Result<(), Fail> {
         String::from_str(alloc, "pgpeer")?,
         String::from_str(alloc, "run")?,
     ];
-    let (mut out, mut errors) = (Vec::new(alloc), Vec::new(alloc));
+    let mut errors = Vec::new(alloc);
     let status = status_of(
         alloc,
         &words,
-        &mut Giver::new(SCRIPT, 60, 1),
-        &mut out,
+        &mut Watched::new(Giver::new(SCRIPT, 60, 1)),
+        &mut Watched::new(Vec::new(alloc)),
         &mut errors,
     );
     assert_eq!(rt; status, FAULT);
     assert_eq!(rt; errors.as_slice(), b"pgpeer: read fault\n".as_slice());
     errors.clear();
-    let mut broken = Taker::new(alloc, 1, 5);
     let status = status_of(
         alloc,
         &words,
-        &mut Giver::new(SCRIPT, 60, NEVER),
-        &mut broken,
+        &mut Watched::new(Giver::new(SCRIPT, 60, NEVER)),
+        &mut Watched::new(Taker::new(alloc, 1, 5)),
         &mut errors,
     );
     assert_eq!(rt; status, FAULT);
     assert_eq!(rt; errors.as_slice(), b"pgpeer: write fault\n".as_slice());
+    Ok(())
+}
+
+#[test]
+fn tells_that_help_could_not_be_shown(rt: HostRuntime) -> Result<(), Fail> {
+    let alloc = rt.alloc();
+    let words = [
+        String::from_str(alloc, "pgpeer")?,
+        String::from_str(alloc, "--help")?,
+    ];
+    for fails_at in [0, 1] {
+        let mut errors = Vec::new(alloc);
+        let status = status_of(
+            alloc,
+            &words,
+            &mut Watched::new(SCRIPT),
+            &mut Watched::new(Taker::new(alloc, 10_000, fails_at)),
+            &mut errors,
+        );
+        assert_eq!(rt; status, FAULT, "call {fails_at}");
+        assert_eq!(rt; errors.as_slice(), b"pgpeer: write fault\n".as_slice());
+    }
     Ok(())
 }

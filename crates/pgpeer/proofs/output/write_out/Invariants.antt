@@ -3,7 +3,7 @@ use Rattle.pgpeer.specs.Output.{Went}
 use Rattle.pgpeer.proofs.output.write_out.Given as goal
 
 abbrev pub invariant-loop-rest : goal.invariant-loop-rest
-invariant-loop-rest g l = Went (g.W.Write.contents l.initial.writer) (g.W.Write.contents l.writer) l.text l.rest
+invariant-loop-rest g l = Went (g.W.Sink.contents l.initial.writer) (g.W.Sink.contents l.writer) l.text l.rest
 
 abbrev pub decreases-loop-rest : goal.decreases-loop-rest
 decreases-loop-rest g l = length l.rest

@@ -5,7 +5,7 @@ use Rattle.pgpeer.proofs.script.run_within.Given as goal
 abbrev pub invariant-loop-script : goal.invariant-loop-script
 invariant-loop-script g l = record {
   room : 0 < length l.chunk;
-  reads : Reads l.fn.bounds l.script (g.R.Read.remaining l.initial.reader) (g.R.Read.remaining l.reader) (g.W.Write.contents l.initial.writer) (g.W.Write.contents l.writer);
+  reads : Reads l.fn.bounds l.script (g.R.Source.remaining l.initial.reader) (g.R.Source.remaining l.reader) (g.W.Sink.contents l.initial.writer) (g.W.Sink.contents l.writer);
 }
 
 abbrev pub decreases-loop-script : goal.decreases-loop-script

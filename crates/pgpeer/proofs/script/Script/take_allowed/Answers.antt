@@ -1,8 +1,9 @@
-use Rattle.std.proofs.Common.{◌≡◌, [], ◌∷◌, ◌++◌, length, refl, sym, ap, subst, append-nil, arith, length-append}
-use Rattle.pgpeer.specs.Run.{CutOff, BrokenOff}
+use Rattle.std.proofs.Common.{◌≡◌, ◌<◌, [], ◌∷◌, ◌++◌, length, refl, sym, ap, subst, append-nil, arith, length-append}
+use Rattle.std.proofs.lemmas.Bool.Decides.{nat_tests}
+use Rattle.pgpeer.specs.Run.{CutOff, BrokenOff, IsBeyond}
 use Rattle.pgpeer.specs.declared.script.Bounds.{Bounds}
 use Rattle.pgpeer.specs.declared.script.ScriptFault.TheVariants.{Read, Write}
-use Rattle.pgpeer.proofs.RunLemmas.{broken_flush, cut_by_lines, taken-more, regroup, regroup_line}
+use Rattle.pgpeer.proofs.RunLemmas.{broken_flush, cut_by_lines, beyond_lines, taken-more, regroup, regroup_line}
 use Rattle.pgpeer.proofs.script.Script.take_allowed.Goals as goal
 
 pub returns-then-self-eq0-clause-read : goal.returns-then-self-eq0-clause-read
@@ -12,6 +13,15 @@ returns-then-self-eq0-clause-read g c is bounds start bytes more after =
     subst (CutOff bounds start _) (regroup bytes taken.done c.loop-rest.rest.now c.args.chunk.now more taken.whole)
     (cut_by_lines bounds c.loop-rest.self start _ _ (bytes ++ taken.done) (c.loop-rest.rest.now ++ more) (taken.after bounds start bytes after) c.if-self-eq0.true
     (c.stop_reading.ensures.read fault))
+
+pub returns-then-self-eq0-clause-beyond : goal.returns-then-self-eq0-clause-beyond
+returns-then-self-eq0-clause-beyond g c is bounds start bytes more after =
+    let taken = c.loop-rest.invariant.taken in
+    let present : 0 < length c.loop-rest.rest.now = grind (arith, nat_tests) in
+    let some = length-append c.loop-rest.rest.now more in
+    subst (IsBeyond bounds) (regroup bytes taken.done c.loop-rest.rest.now c.args.chunk.now more taken.whole)
+    (beyond_lines bounds c.loop-rest.self start _ (bytes ++ taken.done) (c.loop-rest.rest.now ++ more) (taken.after bounds start bytes after) c.if-self-eq0.true
+    (omega (arith, some, present)))
 
 pub returns-then-self-eq0-clause-write : goal.returns-then-self-eq0-clause-write
 returns-then-self-eq0-clause-write g c is bounds start bytes more after =
