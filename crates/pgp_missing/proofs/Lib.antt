@@ -1,3 +1,4 @@
 pub mod MissingLemmas
 pub mod NumberLemmas
 pub mod ObjectLemmas
+pub mod OrderLemmas

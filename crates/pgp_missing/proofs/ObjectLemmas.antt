@@ -19,20 +19,20 @@ use Rattle.pgp_missing.specs.Missing.{is_modify, is_newest_of_object, modified_o
 Contains-here : {X : Type 0} (x : X) (xs : List X) → Contains (x ∷ xs) x
 Contains-here x xs = (0, omega arith, refl)
 
-Contains-later : {X : Type 0} (x : X) (xs : List X) (y : X) → Contains xs y → Contains (x ∷ xs) y
+pub Contains-later : {X : Type 0} (x : X) (xs : List X) (y : X) → Contains xs y → Contains (x ∷ xs) y
 Contains-later x xs y in' = (suc in'.0, omega arith, in'.2)
 
 Contains-at : {X : Type 0} (x : X) (xs : List X) (y : X) (k : ℕ) → k < suc (length xs) → slice_index_or (x ∷ xs) k y ≡ y → (x ≡ y) ⊎ Contains xs y
 Contains-at x xs y zero below is = inl is
 Contains-at x xs y (suc k) below is = inr (k, omega arith, is)
 
-Contains-cases : {X : Type 0} (x : X) (xs : List X) (y : X) → Contains (x ∷ xs) y → (x ≡ y) ⊎ Contains xs y
+pub Contains-cases : {X : Type 0} (x : X) (xs : List X) (y : X) → Contains (x ∷ xs) y → (x ≡ y) ⊎ Contains xs y
 Contains-cases x xs y in' = Contains-at x xs y in'.0 in'.1 in'.2
 
 Contains-nil : {X : Type 0} (y : X) → Contains [] y → ⊥
 Contains-nil y in' = let below : in'.0 < 0 = in'.1 in omega arith
 
-Contains-first : {X : Type 0} (x : X) (xs : List X) (y : X) → x ≡ y → Contains (x ∷ xs) y
+pub Contains-first : {X : Type 0} (x : X) (xs : List X) (y : X) → x ≡ y → Contains (x ∷ xs) y
 Contains-first x xs y same = subst (Contains (x ∷ xs)) same (Contains-here x xs)
 
 -- an element of a filtered list is one of the list that passes
@@ -41,7 +41,7 @@ kept_at test x xs y true passes in' =
     elim (Contains-cases x (filter test xs) y in') [ inl here ↦ inl (here, passes) | inr later ↦ inr later ]
 kept_at test x xs y false passes in' = inr in'
 
-filter-contains : {X : Type 0} (test : X → Bool) (xs : List X) (y : X) → Contains (filter test xs) y → Contains xs y × (test y ≡ true)
+pub filter-contains : {X : Type 0} (test : X → Bool) (xs : List X) (y : X) → Contains (filter test xs) y → Contains xs y × (test y ≡ true)
 filter-contains test [] y in' = absurd (Contains-nil y in')
 filter-contains test (x ∷ xs) y in' =
     elim (kept_at test x xs y (test x) refl in') [
@@ -104,11 +104,11 @@ got_at new object objects y false rest in' =
       | inr later ↦ elim (rest later) [ inl here ↦ inl here | inr further ↦ inr (Contains-later object objects y further) ]
     ]
 
-with_object-contains : (new : MissingObject) (objects : List MissingObject) (y : MissingObject) → Contains (with_object new objects) y → (new ≡ y) ⊎ Contains objects y
+pub with_object-contains : (new : MissingObject) (objects : List MissingObject) (y : MissingObject) → Contains (with_object new objects) y → (new ≡ y) ⊎ Contains objects y
 with_object-contains new [] y in' = Contains-cases new [] y in'
 with_object-contains new (object ∷ objects) y in' = got_at new object objects y (is_lt (slice_cmp nat_cmp new.object object.object)) (with_object-contains new objects y) in'
 
-by_name-contains : (objects : List MissingObject) (y : MissingObject) → Contains (by_name objects) y → Contains objects y
+pub by_name-contains : (objects : List MissingObject) (y : MissingObject) → Contains (by_name objects) y → Contains objects y
 by_name-contains [] y in' = in'
 by_name-contains (object ∷ objects) y in' =
     elim (with_object-contains object (by_name objects) y in') [
@@ -130,11 +130,11 @@ modify_is : (change : Change) → is_modify change ≡ true → change ≡ Modif
 modify_is Modify is = refl
 modify_is Delete is = cc
 
-both_left : (a b : Bool) → (a && b) ≡ true → a ≡ true
+pub both_left : (a b : Bool) → (a && b) ≡ true → a ≡ true
 both_left true b both = refl
 both_left false b both = both
 
-both_right : (a b : Bool) → (a && b) ≡ true → b ≡ true
+pub both_right : (a b : Bool) → (a && b) ≡ true → b ≡ true
 both_right true b both = both
 both_right false b both = cc
 
@@ -147,7 +147,7 @@ or_not : (same low : Bool) → (same ≡ true → low ≡ true) → (not same ||
 or_not true low holds = holds refl
 or_not false low holds = refl
 
-is_newest : (entries : List LogEntry) (entry : LogEntry) → is_newest_of_object entries entry ≡ true → (other : LogEntry) → Contains entries other → other.object ≡ entry.object → other.version.v ≤ entry.version.v
+pub is_newest : (entries : List LogEntry) (entry : LogEntry) → is_newest_of_object entries entry ≡ true → (other : LogEntry) → Contains entries other → other.object ≡ entry.object → other.version.v ≤ entry.version.v
 is_newest entries entry newest other in' same =
     let test : LogEntry → Bool = λ o. not (pointwise ◌==◌ o.object entry.object) || nat_le o.version.v entry.version.v in
     let here : (not (pointwise ◌==◌ other.object entry.object) || nat_le other.version.v entry.version.v) ≡ true = All-contains (λ o. test o ≡ true) entries other (AllPass-from_list_all test entries newest) in' in

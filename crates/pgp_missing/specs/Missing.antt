@@ -1,5 +1,5 @@
 -- What a member's copy lacks, by the log of the best one (Ceph's developer documentation on peering).
-use Rattle.std.specs.Prelude.{◌≡◌, ℕ, ◌<◌, ◌≤◌, List, [], ◌∷◌, Bool, true, false, not, ◌&&◌, ◌||◌, ◌==◌, nat_lt, nat_le, map, filter, Contains, if◌then◌else◌}
+use Rattle.std.specs.Prelude.{◌≡◌, ℕ, ◌<◌, ◌≤◌, List, [], ◌∷◌, Bool, true, false, not, ◌&&◌, ◌||◌, ◌==◌, nat_lt, nat_le, map, filter, Contains, AllPairs, if◌then◌else◌}
 use Rattle.std.specs.List.{list_all}
 use Rattle.std.specs.Cmp.Lexicographic.{pointwise, slice_cmp}
 use Rattle.std.specs.Ordering.{nat_cmp, is_lt}
@@ -38,6 +38,10 @@ with_object new (object ∷ objects) =
 abbrev pub by_name : List MissingObject → List MissingObject
 by_name [] = []
 by_name (object ∷ objects) = with_object object (by_name objects)
+
+-- the objects are in ascending order of their names, each once
+abbrev pub IsByName : List MissingObject → Type 0
+IsByName objects = AllPairs (λ a b. is_lt (slice_cmp nat_cmp a.object b.object) ≡ true) objects
 
 -- what a copy lacks that has the writes up to this number
 abbrev pub missing_above : ℕ → List LogEntry → List MissingObject

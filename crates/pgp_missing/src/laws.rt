@@ -6,7 +6,7 @@ ghost use Rattle.pgp_ids.specs.declared.peer.MissingObject.{MissingObject};
 ghost use Rattle.pgp_ids.specs.declared.peer.PeerState.TheVariants.{Missing, Backfill, Diverged};
 ghost use Rattle.pgp_ids.specs.declared.report.Info.{Info};
 ghost use Rattle.pgp_missing.specs.Log.{log_of, has_each_number, HasEachNumber, is_whole};
-ghost use Rattle.pgp_missing.specs.Missing.{missing_above, IsMissing, peer_state};
+ghost use Rattle.pgp_missing.specs.Missing.{IsByName, missing_above, IsMissing, peer_state};
 ghost use Rattle.pgp_missing.specs.Examples.{at, modify, delete, lacks, copy, copy_at, two_writes};
 
 /// A complete peer that has the best copy's last write misses nothing.
@@ -28,6 +28,12 @@ pub fn missing_objects_are_those_modified_last()
     ensures { (v : ℕ) (entries : List LogEntry) (missing : MissingObject)
         → Contains (missing_above v entries) missing
         ↔ ((entry : LogEntry) × IsMissing v entries missing entry) }
+{}
+
+/// What a copy lacks by a log comes in ascending order of the objects' names, each once.
+pub fn missing_objects_come_by_name()
+    ensures { (best : Info) (reported : List LogEntry) (v : ℕ)
+        → IsByName (missing_above v (log_of best reported)) }
 {}
 
 /// With both entries the log from [1,1] to [2,3] is whole, and says what a peer lacks that stands at one of its versions.
