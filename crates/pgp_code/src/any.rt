@@ -1,13 +1,28 @@
+ghost use Rattle.std.specs.Prelude.{◌≡◌};
+ghost use Rattle.pgp_code.specs.Pool.{code_of};
+
 use super::erasure::Erasure;
 use super::recoverable::Recoverable;
 use super::replicated::Replicated;
-use pgp_ids::SlotSet;
+use pgp_ids::{PoolKind, SlotSet};
 
 /// The code of any pool.
 #[derive(Clone, Copy, Debug, PartialEq, Eq, Hash)]
 pub enum AnyCode {
     Replicated(Replicated),
     Erasure(Erasure),
+}
+
+impl AnyCode {
+    /// The code of a pool of this kind. An erasure pool without data shards, which no map takes, counts as one with one.
+    pub fn of_pool(kind: PoolKind) -> Self
+        ensures { result ≡ code_of kind }
+    {
+        match kind {
+            PoolKind::Replicated => AnyCode::Replicated(Replicated),
+            PoolKind::Erasure { k } => AnyCode::Erasure(Erasure::with_shards(k)),
+        }
+    }
 }
 
 impl Recoverable for AnyCode {

@@ -1,5 +1,5 @@
 use super::{AnyCode, Erasure, Recoverable, Replicated};
-use pgp_ids::SlotSet;
+use pgp_ids::{PoolKind, SlotSet};
 use std::test::Fail;
 
 /// The set of these slots.
@@ -33,4 +33,14 @@ fn codes_count_slots(rt: HostRuntime) -> Result<(), Fail> {
     assert!(rt; shards.enough(slots(&[0, 2])) && shards.enough(slots(&[0, 1, 2])));
     assert!(rt; !shards.enough(slots(&[2])) && !shards.enough(SlotSet::empty()));
     Ok(())
+}
+
+#[test]
+fn pools_have_their_codes(rt: HostRuntime) {
+    assert_eq!(rt;
+        AnyCode::of_pool(PoolKind::Replicated),
+        AnyCode::Replicated(Replicated)
+    );
+    let three = AnyCode::of_pool(PoolKind::Erasure { k: 3 });
+    assert!(rt; three.enough(slots(&[0, 1, 2])) && !three.enough(slots(&[0, 1])));
 }

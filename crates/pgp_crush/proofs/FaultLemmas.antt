@@ -1,5 +1,5 @@
 -- The tests of a list of buckets.
-use Rattle.std.proofs.Common.{◌≡◌, ◌<◌, ℕ, ◌+◌, zero, suc, ℤ, List, [], ◌∷◌, ◌++◌, length, map, drop, get_or, slice_get, Bool, true, false, cond, not, ◌||◌, nat_lt, nat_eq, refl, arith, ap, sym, ◌∙◌, add-one, Option, Some, None}
+use Rattle.std.proofs.Common.{◌≡◌, ◌<◌, ℕ, ◌+◌, ◌-◌, zero, suc, ℤ, List, [], ◌∷◌, ◌++◌, length, map, drop, get_or, slice_get, Bool, true, false, cond, not, ◌||◌, nat_lt, nat_eq, refl, arith, ap, sym, ◌∙◌, add-one, Option, Some, None}
 use Rattle.std.specs.List.{list_any, find, flat_map, filter, count_by}
 use Rattle.std.specs.Ordering.{int_eq}
 use Rattle.std.proofs.lemmas.List.Folds.{list_any-append}
@@ -9,7 +9,7 @@ use Rattle.pgp_ids.specs.declared.bucket.BucketSpec.{BucketSpec}
 use Rattle.pgp_crush.specs.declared.fault.TreeFault.{TreeFault}
 use Rattle.pgp_crush.specs.declared.fault.TreeFault.TheVariants.{NoRoot}
 use Rattle.pgp_crush.specs.Bucket.{Bucket, bucket_of, is_held, root_of}
-use Rattle.pgp_crush.specs.TreeFault.{items_of, has_no_root, below_levels, fault_below_root, tree_fault}
+use Rattle.pgp_crush.specs.TreeFault.{items_of, has_no_root, below_levels, is_too_deep, fault_below_root, tree_fault}
 
 pub items_of-map : (buckets : List BucketSpec) → flat_map (λ b. b.items) buckets ≡ items_of (map bucket_of buckets)
 items_of-map [] = refl
@@ -56,7 +56,7 @@ pub below_levels-zero : (tree : List Bucket) → below_levels tree 0 ≡ tree
 unfolding below_levels
 below_levels-zero tree = refl
 
-below_levels-suc : (tree : List Bucket) (k : ℕ) → below_levels tree (suc k) ≡ filter (λ b. is_held (below_levels tree k) b.id) tree
+pub below_levels-suc : (tree : List Bucket) (k : ℕ) → below_levels tree (suc k) ≡ filter (λ b. is_held (below_levels tree k) b.id) tree
 unfolding below_levels
 below_levels-suc tree k = refl
 
@@ -71,6 +71,29 @@ pub below_levels-more : (tree : List Bucket) (k : ℕ) (held : ℤ → Bool) →
 below_levels-more tree k held h =
     filter-same (λ b. held b.id) (λ b. is_held (below_levels tree k) b.id) tree (λ b. h b.id)
     ∙ sym (below_levels-suc tree k) ∙ ap (below_levels tree) (sym (add-one k))
+
+-- no bucket stands below what holds nothing
+
+none-held : (above tree : List Bucket) → items_of above ≡ [] → filter (λ b. is_held above b.id) tree ≡ []
+none-held above [] h = refl
+none-held above (b ∷ tree) h =
+    ap (λ (t : Bool). cond t (b ∷ filter (λ b. is_held above b.id) tree) (filter (λ b. is_held above b.id) tree))
+    (is_held_is above b.id ∙ ap (list_any (int_eq b.id)) h)
+    ∙ none-held above tree h
+
+below_levels-none : (tree : List Bucket) (k m : ℕ) → items_of (below_levels tree k) ≡ [] → below_levels tree (suc m + k) ≡ []
+below_levels-none tree k zero h =
+    let level : suc zero + k ≡ suc k = omega arith in
+    ap (below_levels tree) level ∙ below_levels-suc tree k ∙ none-held (below_levels tree k) tree h
+below_levels-none tree k (suc m) h =
+    let level : suc (suc m) + k ≡ suc (suc m + k) = omega arith in
+    ap (below_levels tree) level ∙ below_levels-suc tree (suc m + k)
+    ∙ none-held (below_levels tree (suc m + k)) tree (ap items_of (below_levels-none tree k m h))
+
+pub not_too_deep : (tree : List Bucket) (k : ℕ) → k < 10 → items_of (below_levels tree k) ≡ [] → is_too_deep tree ≡ false
+not_too_deep tree k h none =
+    let level : 10 ≡ suc (9 - k) + k = omega arith in
+    ap (λ (below : List Bucket). nat_lt 0 (length below)) (ap (below_levels tree) level ∙ below_levels-none tree k (9 - k) none)
 
 pub no_root_found : (tree : List Bucket) (at : Option Bucket) → root_of tree ≡ at → at ≡ None → has_no_root tree ≡ true
 no_root_found tree at e none =

@@ -316,3 +316,27 @@ indep_is i n =
     ∙ leaf_at i n q (round_of (table_after i n 51) q)
     ∙ ap (place_at i n (table_after i n 51)) (omega arith))
     ∙ ap (λ (k : ℕ). map (place_at i n (table_after i n 51)) (range_with_len 0 k)) m.cells_size
+
+-- Once no position is open, the rounds that are left change nothing.
+
+pub cells_row-settled : (i : Input) (n round : ℕ) (cells : List Cell) (p : ℕ) → list_any is_open cells ≡ false → p ≤ length cells → cells_row i n round cells p ≡ cells
+cells_row-settled i n round cells zero none h = cells_row-zero i n round cells
+cells_row-settled i n round cells (suc p) none h =
+    cells_row-suc i n round cells p
+    ∙ ap (λ (c : List Cell). cells_with i n round c p) (cells_row-settled i n round cells p none (omega arith))
+    ∙ ap (λ (t : Bool). cond t (slice_set cells p (after_try cells (cell i n round p))) cells) (settled-at cells p none (omega arith))
+  where
+    settled-at : (cells : List Cell) (p : ℕ) → list_any is_open cells ≡ false → p < length cells → is_open (get_or cells p Open) ≡ false
+    settled-at [] p none h = absurd (omega arith)
+    settled-at (c ∷ cells) zero none h = grind arith
+    settled-at (c ∷ cells) (suc p) none h = settled-at cells p (grind arith) (omega arith)
+
+pub cells_after-settled : (i : Input) (n round m : ℕ) → list_any is_open (cells_after i n round) ≡ false →
+    cells_after i n (m + round) ≡ cells_after i n round
+cells_after-settled i n round zero none = let same : zero + round ≡ round = omega arith in ap (cells_after i n) same
+cells_after-settled i n round (suc m) none =
+    let size = (mirrors_after i n round).cells_size in
+    let more : suc m + round ≡ suc (m + round) = omega arith in
+    ap (cells_after i n) more ∙ cells_after-suc i n (m + round)
+    ∙ ap (λ (cells : List Cell). cells_row i n (m + round) cells n) (cells_after-settled i n round m none)
+    ∙ cells_row-settled i n (m + round) (cells_after i n round) n none (omega arith)

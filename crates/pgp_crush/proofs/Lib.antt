@@ -5,3 +5,4 @@ pub mod IndepLemmas
 pub mod RepeatLemmas
 pub mod FaultLemmas
 pub mod TableLemmas
+pub mod ReachLemmas

@@ -3,6 +3,7 @@ use Rattle.std.proofs.Common.{◌≡◌, ℕ, zero, suc, ◌+◌, ◌*◌, ◌/�
 use Rattle.std.proofs.lemmas.Bool.Decides.{nat_tests}
 use Rattle.std.proofs.lemmas.Grind.{common_steps}
 use Rattle.std.specs.Option.{unwrap_or}
+use Rattle.pgp_ids.specs.declared.bucket.BucketAlg.{BucketAlg}
 use Rattle.pgp_ids.specs.declared.bucket.BucketAlg.TheVariants.{Uniform, List as Weighed}
 use Rattle.pgp_hash.specs.Hash.{hash4}
 use Rattle.pgp_crush.specs.Bucket.{Bucket}
@@ -123,7 +124,22 @@ list_chooses_item x r id items weights h =
 
 pub ruleset shuffle_steps = (traced_back-more, traced_back-zero, uniform_place_is)
 
--- The choice of a bucket that isn't empty.
+-- The choice of a bucket that is empty, and of one that isn't.
+
+none_at : (items : List ℤ) (k : ℕ) → length items ≡ 0 → slice_get items k ≡ None
+none_at [] k h = refl
+none_at (item ∷ items) k h = absurd (omega arith)
+
+pub choice-empty : (x r : ℕ) (b : Bucket) → length b.items ≡ 0 → choice x r b ≡ None
+unfolding choice
+choice-empty x r b none =
+    elim b.alg as (λ (a : BucketAlg). elim a [
+      | Uniform ↦ slice_get b.items (uniform_place x r (word_of b.id) (length b.items))
+      | Weighed ↦ slice_get b.items (list_place x r (word_of b.id) b.items b.weights)
+    ] ≡ None) [
+      | Uniform ↦ none_at b.items _ none
+      | Weighed ↦ none_at b.items _ none
+    ]
 
 at_within : (items : List ℤ) (k : ℕ) → k < length items → slice_get items k ≡ Some (slice_index_or items k (pos 0))
 at_within [] k h = absurd (omega arith)

@@ -1,5 +1,5 @@
 -- The way down from a bucket: the item chosen in it, the item chosen in that bucket, and so on.
-use Rattle.std.specs.Prelude.{ℕ, zero, suc, ◌+◌, ◌*◌, ◌%◌, List, [], ◌∷◌, length, Bool, false, ◌||◌, Option, Some, None, nat_eq, if◌then◌else◌}
+use Rattle.std.specs.Prelude.{ℕ, ℤ, zero, suc, ◌+◌, ◌*◌, ◌%◌, List, [], ◌∷◌, length, Bool, false, ◌||◌, Option, Some, None, nat_eq, if◌then◌else◌}
 use Rattle.std.specs.List.{find}
 use Rattle.pgp_ids.specs.declared.bucket.BucketAlg.{BucketAlg}
 use Rattle.pgp_ids.specs.declared.bucket.BucketAlg.TheVariants.{Uniform, List as Weighed}
@@ -34,6 +34,14 @@ path tree x rank (suc levels) (Some b) = elim (choice x (rank_at rank b) b) [
   | None ↦ []
   | Some item ↦ record { item = item; r = rank_at rank b } ∷ path tree x rank levels (bucket_at tree item)
 ]
+
+-- a step to the item, chosen with this number
+abbrev pub step_of : ℤ → ℕ → Step
+step_of item r = record { item = item; r = r }
+
+-- the first steps of a way down that begins with this one
+abbrev pub path_by : List Bucket → ℕ → Rank → ℕ → Step → List Step
+path_by tree x rank levels s = s ∷ path tree x rank levels (bucket_at tree s.item)
 
 -- what a step is at which a way down stops, if there is one: an item of the type sought, or a device before it
 abbrev pub stop_at : List Bucket → ℕ → Option Step → Descent

@@ -25,6 +25,9 @@ pub(crate) fn is_too_deep(
     let mut below = held;
     for _level in 1..LEVELS {
         let items = items_within(alloc, buckets, &below)?;
+        if items.is_empty() {
+            return Ok(false);
+        }
         below = set_of(alloc, &items)?;
     }
     Ok(any_within(buckets, &below))

@@ -6,7 +6,7 @@ ghost use Rattle.pgp_crush.specs.declared.descent.Descent.TheVariants.{Found};
 ghost use Rattle.pgp_crush.specs.Bucket.{bucket_of};
 ghost use Rattle.pgp_crush.specs.Descent.{rank_at, rank_limit, is_multiple, descent};
 
-use super::choice::choice;
+use super::level::{Level, level_at};
 use super::tree::Tree;
 use pgp_ids::{BucketAlg, BucketSpec};
 
@@ -80,25 +80,10 @@ pub(crate) fn descend(tree: &Tree, x: u32, rank: Rank, kind: u8, from: &BucketSp
 {
     let mut bucket = from;
     for _level in 0..LEVELS {
-        let r = rank.number_at(bucket);
-        let Some(item) = choice(bucket, x, r) else {
-            return Descent::Empty;
-        };
-        let step = Step { item, r };
-        if item >= 0 {
-            return if kind == 0 {
-                Descent::Found(step)
-            } else {
-                Descent::Early
-            };
+        match level_at(tree, x, rank, kind, bucket) {
+            Level::End(descent) => return descent,
+            Level::On(next) => bucket = next,
         }
-        let Some(next) = tree.bucket(item) else {
-            return Descent::Empty;
-        };
-        if next.kind == kind {
-            return Descent::Found(step);
-        }
-        bucket = next;
     }
     Descent::Empty
 }

@@ -42,6 +42,9 @@ impl Input<'_> {
         let mut room = [Cell::Open; MAX_OSDS];
         let cells = &mut room[..usize::from(n)];
         for round in 0..TRIES {
+            if !any_open(cells) {
+                return leaves_held(cells);
+            }
             self.try_row(cells, round, n);
         }
         leaves_held(cells)
@@ -77,6 +80,18 @@ impl Input<'_> {
             }
         }
     }
+}
+
+/// Some position is still tried.
+fn any_open(cells: &[Cell]) -> bool
+    ensures { result ≡ list_any is_open cells.now }
+{
+    for cell in cells {
+        if cell.is_open() {
+            return true;
+        }
+    }
+    false
 }
 
 /// Some position holds this item.

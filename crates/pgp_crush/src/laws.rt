@@ -1,19 +1,21 @@
 //! Worked examples that the definitions compute, and that the table of an erasure pool's placement is one and the only one.
 #![tactic(auto, unfolding(crate::specs::Worked::placements_computed))]
 
-ghost use Rattle.std.specs.Prelude.{◌≡◌, ℕ, pos, negsuc, [], ◌∷◌, Some, None, List, Option, map};
+ghost use Rattle.std.specs.Prelude.{◌≡◌, ℕ, ◌+◌, pos, negsuc, [], ◌∷◌, Some, None, true, List, Option, Contains, map};
 ghost use Rattle.pgp_ids.specs.Osds.{first_osd, osd_count};
 ghost use Rattle.pgp_crush.specs.declared.fault.TreeFault.TheVariants.{NoRoot, TwiceHeld, WrongType, Unknown, TooDeep, TooMany, WeightSum};
+ghost use Rattle.pgp_crush.specs.declared.descent.Rank.{Rank};
 ghost use Rattle.pgp_crush.specs.declared.descent.Rank.TheVariants.{Same};
+ghost use Rattle.pgp_crush.specs.declared.descent.Step.{Step};
 ghost use Rattle.pgp_crush.specs.declared.descent.Descent.TheVariants.{Early, Empty};
 ghost use Rattle.pgp_crush.specs.Candidate.{Input, input_of};
 ghost use Rattle.pgp_crush.specs.Choice.{choice};
-ghost use Rattle.pgp_crush.specs.Descent.{descent};
+ghost use Rattle.pgp_crush.specs.Descent.{path, descent};
 ghost use Rattle.pgp_crush.specs.FirstN.{first_n};
 ghost use Rattle.std.specs.List.{range_with_len};
 ghost use Rattle.pgp_crush.specs.Indep.{indep, IsTable, place_at, table_after};
-ghost use Rattle.pgp_crush.specs.Bucket.{root_of};
-ghost use Rattle.pgp_crush.specs.TreeFault.{tree_fault};
+ghost use Rattle.pgp_crush.specs.Bucket.{Bucket, root_of};
+ghost use Rattle.pgp_crush.specs.TreeFault.{is_known, tree_fault};
 ghost use Rattle.pgp_crush.specs.Examples.{uniform, weighed, three_devices, one_in, device_in_a_row, empty_root, two_hosts, chain, wide};
 
 /// Of three devices device 0 alone is in: a replicated pool lists it, and in an erasure pool one place of three has it.
@@ -76,4 +78,11 @@ pub fn table_is_there()
 pub fn table_is_the_only_one()
     ensures only { (i : Input) (n : ℕ) (table : List (Option ℕ)) → IsTable i n table → table ≡ table_after i n 51 }
     ensures placement { (i : Input) (n : ℕ) (table : List (Option ℕ)) → IsTable i n table → indep i n ≡ map (place_at i n table) (range_with_len 0 n) }
+{}
+
+/// In a tree without fault, a way down from any of its buckets comes only to buckets and devices that are there, and more
+/// levels than a way has would lead it no further.
+pub fn ways_down_end_in_the_tree()
+    ensures there { (tree : List Bucket) (x : ℕ) (rank : Rank) (levels : ℕ) (b : Bucket) (s : Step) → tree_fault tree ≡ None → Contains tree b → Contains (path tree x rank levels (Some b)) s → is_known tree s.item ≡ true }
+    ensures end { (tree : List Bucket) (x : ℕ) (rank : Rank) (more : ℕ) (b : Bucket) → tree_fault tree ≡ None → Contains tree b → path tree x rank (10 + more) (Some b) ≡ path tree x rank 10 (Some b) }
 {}

@@ -8,7 +8,6 @@
 #![tactic(auto)]
 
 mod candidate;
-mod choice;
 mod chooser;
 mod depth;
 mod descent;
@@ -18,6 +17,7 @@ mod first_n;
 mod indep;
 mod index;
 pub mod laws;
+mod level;
 mod list;
 mod out;
 mod placement;

@@ -1,30 +1,34 @@
 -- By any preference a list of infos of distinct members has one info to which no other is preferred, and the search
 -- finds it.
-use Rattle.std.proofs.Common.{◌≡◌, ◌≢◌, ◌⊎◌, ℕ, zero, suc, ◌<◌, List, [], ◌∷◌, Option, Some, None, Bool, true, false, not, cond, length, refl, ap, sym, ◌∙◌, subst, inl, inr, arith}
-use Rattle.std.specs.List.{All, AllPairs, Contains, find, slice_index_or}
-use Rattle.std.proofs.lemmas.List.Elements.{All-contains, All-contains_itself, All-weaker}
-use Rattle.std.proofs.lemmas.List.Kept.{AllPairs-filter}
+use Rattle.std.proofs.Common.{◌≡◌, ◌≢◌, ℕ, zero, suc, ◌+◌, ◌<◌, ◌⊎◌, List, [], ◌∷◌, ◌++◌, Option, Some, None, Bool, true, false, not, cond, length, take, get_or, filter, unwrap_or, option_map, append-nil, refl, ap, sym, ◌∙◌, subst, inl, inr, arith}
+use Rattle.std.specs.List.{All, AllPairs, Contains, find}
+use Rattle.std.proofs.lemmas.Bool.Decides.{nat_tests}
+use Rattle.std.proofs.lemmas.List.Elements.{All-contains, All-contains_itself, All-weaker, All-take, All-push, filter_more, filter_passes}
+use Rattle.std.proofs.lemmas.List.Kept.{AllPairs-filter, AllPairs-cons}
 use Rattle.std.proofs.lemmas.List.Sums.{AllPass-from_list_all, list_all-from_AllPass}
+use Rattle.pgp_ids.specs.Member.{is_same_member}
+use Rattle.pgp_ids.specs.declared.group_member.Member.{Member}
 use Rattle.pgp_ids.specs.declared.report.Info.{Info}
 use Rattle.pgp_info.specs.Preference.{IsPreference}
 use Rattle.pgp_info.specs.Best.{HasDistinctMembers, candidates, is_unbeaten, best_info, IsBest}
+use Rattle.pgp_info.specs.Heard.{Heard, without, with_info}
 
 -- ---- lists
 
-Contains-here : {X : Type 0} (x : X) (xs : List X) → Contains (x ∷ xs) x
+pub Contains-here : {X : Type 0} (x : X) (xs : List X) → Contains (x ∷ xs) x
 Contains-here x xs = (0, omega arith, refl)
 
-Contains-later : {X : Type 0} (x : X) (xs : List X) (y : X) → Contains xs y → Contains (x ∷ xs) y
+pub Contains-later : {X : Type 0} (x : X) (xs : List X) (y : X) → Contains xs y → Contains (x ∷ xs) y
 Contains-later x xs y in' = (suc in'.0, omega arith, in'.2)
 
-Contains-at : {X : Type 0} (x : X) (xs : List X) (y : X) (k : ℕ) → k < suc (length xs) → slice_index_or (x ∷ xs) k y ≡ y → (x ≡ y) ⊎ Contains xs y
+Contains-at : {X : Type 0} (x : X) (xs : List X) (y : X) (k : ℕ) → k < suc (length xs) → get_or (x ∷ xs) k y ≡ y → (x ≡ y) ⊎ Contains xs y
 Contains-at x xs y zero below is = inl is
 Contains-at x xs y (suc k) below is = inr (k, omega arith, is)
 
-Contains-cases : {X : Type 0} (x : X) (xs : List X) (y : X) → Contains (x ∷ xs) y → (x ≡ y) ⊎ Contains xs y
+pub Contains-cases : {X : Type 0} (x : X) (xs : List X) (y : X) → Contains (x ∷ xs) y → (x ≡ y) ⊎ Contains xs y
 Contains-cases x xs y in' = Contains-at x xs y in'.0 in'.1 in'.2
 
-Contains-nil : {X : Type 0} (y : X) → Contains [] y → ⊥
+pub Contains-nil : {X : Type 0} (y : X) → Contains [] y → ⊥
 Contains-nil y in' = let below : in'.0 < 0 = in'.1 in omega arith
 
 AllPairs-first : {X : Type 0} (R : X → X → Type 0) (x : X) (xs : List X) → AllPairs R (x ∷ xs) → All (R x) xs
@@ -32,6 +36,9 @@ AllPairs-first R x xs pairs = λ k d below. pairs 0 (suc k) d (omega arith) (ome
 
 AllPairs-rest : {X : Type 0} (R : X → X → Type 0) (x : X) (xs : List X) → AllPairs R (x ∷ xs) → AllPairs R xs
 AllPairs-rest R x xs pairs = λ i j d before below. pairs (suc i) (suc j) d (omega arith) (omega arith)
+
+AllPairs-nil : {X : Type 0} (R : X → X → Type 0) → AllPairs R []
+AllPairs-nil R = λ i j d before below. absurd (omega arith)
 
 -- the search stopped at the first element, or went on
 found_at : {X : Type 0} (test : X → Bool) (x : X) (rest : Option X) (y : X) (b : Bool) → test x ≡ b → cond b (Some x) rest ≡ Some y → ((x ≡ y) × (test x ≡ true)) ⊎ (rest ≡ Some y)
@@ -104,26 +111,28 @@ unbeaten_more better x infos m unbeaten less other in' =
       | inr later ↦ unbeaten other later
     ]
 
--- an info that is preferred to the unbeaten one of the others is unbeaten
-unbeaten_above : (better : Info → Info → Bool) → IsPreference better → (x : Info) (infos : List Info) → HasDistinctMembers (x ∷ infos) → (m : Info) → Contains infos m → Unbeaten better infos m → better x m ≡ true → Unbeaten better (x ∷ infos) x
-unbeaten_above better laws x infos distinct m in_m unbeaten above other in' =
-    let first : All (λ y. x.member ≢ y.member) infos = AllPairs-first (λ y z. y.member ≢ z.member) x infos distinct in
-    let differ : (y : Info) → Contains infos y → x.member ≢ y.member = λ y later. All-contains (λ z. x.member ≢ z.member) infos y first later in
-    let rest : HasDistinctMembers infos = AllPairs-rest (λ y z. y.member ≢ z.member) x infos distinct in
-    elim (Contains-cases x infos other in') [
-      | inl here ↦ ap (λ y. better y x) (sym here) ∙ laws.irreflexive x
-      | inr later ↦ elim (same_or_distinct infos rest other m later in_m) [
-        | inl same ↦ ap (λ y. better y x) same ∙ false_unless (better m x) (λ back. not_both (better x m) (better m x) (laws.one_of_two x m (differ m in_m)) above back)
-        | inr apart ↦ false_unless (better other x) (λ back.
-            let still : better other m ≡ true = laws.transitive other x m (λ same. differ other later (sym same)) (differ m in_m) apart back above in
-            let none : better other m ≡ false = unbeaten other later in
-            cc)
-      ]
+-- an info that is preferred to the unbeaten one of others is unbeaten among them
+unbeaten_above : (better : Info → Info → Bool) → IsPreference better → (x : Info) (infos : List Info) → HasDistinctMembers infos → ((y : Info) → Contains infos y → x.member ≢ y.member) → (m : Info) → Contains infos m → Unbeaten better infos m → better x m ≡ true → Unbeaten better infos x
+unbeaten_above better laws x infos distinct differ m in_m unbeaten above other in' =
+    elim (same_or_distinct infos distinct other m in' in_m) [
+      | inl same ↦ ap (λ y. better y x) same ∙ false_unless (better m x) (λ back. not_both (better x m) (better m x) (laws.one_of_two x m (differ m in_m)) above back)
+      | inr apart ↦ false_unless (better other x) (λ back.
+          let still : better other m ≡ true = laws.transitive other x m (λ same. differ other in' (sym same)) (differ m in_m) apart back above in
+          let none : better other m ≡ false = unbeaten other in' in
+          cc)
     ]
+
+-- the first of infos of distinct members is of another member than the others
+differ_first : (x : Info) (infos : List Info) → HasDistinctMembers (x ∷ infos) → (y : Info) → Contains infos y → x.member ≢ y.member
+differ_first x infos distinct y in' =
+    All-contains (λ z. x.member ≢ z.member) infos y (AllPairs-first (λ y z. y.member ≢ z.member) x infos distinct) in'
 
 -- of the unbeaten one of the others and one more info, one is unbeaten
 unbeaten_step : (better : Info → Info → Bool) → IsPreference better → (x : Info) (infos : List Info) → HasDistinctMembers (x ∷ infos) → (m : Info) → Contains infos m → Unbeaten better infos m → (b : Bool) → better x m ≡ b → (n : Info) × (Contains (x ∷ infos) n × Unbeaten better (x ∷ infos) n)
-unbeaten_step better laws x infos distinct m in_m unbeaten true above = (x, (Contains-here x infos, unbeaten_above better laws x infos distinct m in_m unbeaten above))
+unbeaten_step better laws x infos distinct m in_m unbeaten true above =
+    let rest : HasDistinctMembers infos = AllPairs-rest (λ y z. y.member ≢ z.member) x infos distinct in
+    let among : Unbeaten better infos x = unbeaten_above better laws x infos rest (differ_first x infos distinct) m in_m unbeaten above in
+    (x, (Contains-here x infos, unbeaten_more better x infos x among (laws.irreflexive x)))
 unbeaten_step better laws x infos distinct m in_m unbeaten false below = (m, (Contains-later x infos m in_m, unbeaten_more better x infos m unbeaten below))
 
 -- some info is unbeaten
@@ -170,17 +179,25 @@ one_unbeaten better laws infos distinct a b in_a in_b best_a best_b =
       | inr apart ↦ absurd (not_neither (better a b) (better b a) (laws.one_of_two a b apart) (best_b a in_a) (best_a b in_b))
     ]
 
-found_as : (better : Info → Info → Bool) → IsPreference better → (infos : List Info) → HasDistinctMembers infos → (m : Info) → IsBest better infos m → (found : Option Info) → best_info better infos ≡ found → found ≡ Some m
-found_as better laws infos distinct m best None found =
-    let passes : is_unbeaten better (candidates infos) m ≡ true = Unbeaten-is_unbeaten better (candidates infos) m best.unbeaten in
-    let fails : is_unbeaten better (candidates infos) m ≡ false = find-none (is_unbeaten better (candidates infos)) (candidates infos) m found best.candidate in
+-- the search in a whole list
+abbrev pub unbeaten_of_all : (Info → Info → Bool) → List Info → Option Info
+unbeaten_of_all better infos = find (is_unbeaten better infos) infos
+
+found_as : (better : Info → Info → Bool) → IsPreference better → (infos : List Info) → HasDistinctMembers infos → (m : Info) → Contains infos m → Unbeaten better infos m → (found : Option Info) → unbeaten_of_all better infos ≡ found → found ≡ Some m
+found_as better laws infos distinct m in_m unbeaten None found =
+    let passes : is_unbeaten better infos m ≡ true = Unbeaten-is_unbeaten better infos m unbeaten in
+    let fails : is_unbeaten better infos m ≡ false = find-none (is_unbeaten better infos) infos m found in_m in
     cc
-found_as better laws infos distinct m best (Some n) found =
-    let other : IsBest better infos n = best_info-IsBest better infos n found in
-    ap Some (one_unbeaten better laws (candidates infos) (distinct_candidates infos distinct) n m other.candidate best.candidate other.unbeaten best.unbeaten)
+found_as better laws infos distinct m in_m unbeaten (Some n) found =
+    let other = find-some (is_unbeaten better infos) infos n found in
+    ap Some (one_unbeaten better laws infos distinct n m other.0 in_m (is_unbeaten-Unbeaten better infos n other.1) unbeaten)
+
+-- the search finds the unbeaten info
+unbeaten_of_all-is : (better : Info → Info → Bool) → IsPreference better → (infos : List Info) → HasDistinctMembers infos → (m : Info) → Contains infos m → Unbeaten better infos m → unbeaten_of_all better infos ≡ Some m
+unbeaten_of_all-is better laws infos distinct m in_m unbeaten = found_as better laws infos distinct m in_m unbeaten (unbeaten_of_all better infos) refl
 
 pub IsBest-best_info : (better : Info → Info → Bool) → IsPreference better → (infos : List Info) → HasDistinctMembers infos → (m : Info) → IsBest better infos m → best_info better infos ≡ Some m
-IsBest-best_info better laws infos distinct m best = found_as better laws infos distinct m best (best_info better infos) refl
+IsBest-best_info better laws infos distinct m best = unbeaten_of_all-is better laws (candidates infos) (distinct_candidates infos distinct) m best.candidate best.unbeaten
 
 none_of : (better : Info → Info → Bool) → IsPreference better → (infos : List Info) → HasDistinctMembers infos → find (is_unbeaten better infos) infos ≡ None → infos ≡ []
 none_of better laws [] distinct missed = refl
@@ -195,3 +212,152 @@ best_info-none better laws infos distinct missed = none_of better laws (candidat
 
 pub none-best_info : (better : Info → Info → Bool) (infos : List Info) → candidates infos ≡ [] → best_info better infos ≡ None
 none-best_info better infos empty = ap (λ (kept : List Info). find (is_unbeaten better kept) kept) empty
+
+-- ---- one info more, at the end
+
+Contains-push : {X : Type 0} (xs : List X) (x : X) → Contains (xs ++ x ∷ []) x
+Contains-push [] x = Contains-here x []
+Contains-push (y ∷ xs) x = Contains-later y (xs ++ x ∷ []) x (Contains-push xs x)
+
+Contains-pushed : {X : Type 0} (xs : List X) (x y : X) → Contains xs y → Contains (xs ++ x ∷ []) y
+Contains-pushed [] x y in' = absurd (Contains-nil y in')
+Contains-pushed (z ∷ xs) x y in' =
+    elim (Contains-cases z xs y in') [
+      | inl here ↦ subst (Contains (z ∷ (xs ++ x ∷ []))) here (Contains-here z (xs ++ x ∷ []))
+      | inr later ↦ Contains-later z (xs ++ x ∷ []) y (Contains-pushed xs x y later)
+    ]
+
+Contains-push_cases : {X : Type 0} (xs : List X) (x y : X) → Contains (xs ++ x ∷ []) y → (x ≡ y) ⊎ Contains xs y
+Contains-push_cases [] x y in' = Contains-cases x [] y in'
+Contains-push_cases (z ∷ xs) x y in' =
+    elim (Contains-cases z (xs ++ x ∷ []) y in') [
+      | inl here ↦ inr (subst (Contains (z ∷ xs)) here (Contains-here z xs))
+      | inr later ↦ elim (Contains-push_cases xs x y later) [
+        | inl last ↦ inl last
+        | inr before ↦ inr (Contains-later z xs y before)
+      ]
+    ]
+
+-- the last of infos of distinct members is of another member than the others
+differ_last : (infos : List Info) (x : Info) → HasDistinctMembers (infos ++ x ∷ []) → (y : Info) → Contains infos y → x.member ≢ y.member
+differ_last [] x distinct y in' = absurd (Contains-nil y in')
+differ_last (z ∷ infos) x distinct y in' =
+    let differ : z.member ≢ x.member = differ_first z (infos ++ x ∷ []) distinct x (Contains-push infos x) in
+    let rest : HasDistinctMembers (infos ++ x ∷ []) = AllPairs-rest (λ a b. a.member ≢ b.member) z (infos ++ x ∷ []) distinct in
+    elim (Contains-cases z infos y in') [
+      | inl here ↦ λ same. differ (ap (λ (i : Info). i.member) here ∙ sym same)
+      | inr later ↦ differ_last infos x rest y later
+    ]
+
+distinct_before : (infos : List Info) (x : Info) → HasDistinctMembers (infos ++ x ∷ []) → HasDistinctMembers infos
+distinct_before [] x distinct = AllPairs-nil (λ a b. a.member ≢ b.member)
+distinct_before (z ∷ infos) x distinct =
+    let rest : HasDistinctMembers (infos ++ x ∷ []) = AllPairs-rest (λ a b. a.member ≢ b.member) z (infos ++ x ∷ []) distinct in
+    AllPairs-cons (λ a b. a.member ≢ b.member) z infos
+    (All-weaker (Contains infos) (λ y. z.member ≢ y.member) (λ y in'. differ_first z (infos ++ x ∷ []) distinct y (Contains-pushed infos x y in')) infos (All-contains_itself infos))
+    (distinct_before infos x rest)
+
+unbeaten_push : (better : Info → Info → Bool) (infos : List Info) (x m : Info) → Unbeaten better infos m → better x m ≡ false → Unbeaten better (infos ++ x ∷ []) m
+unbeaten_push better infos x m unbeaten less other in' =
+    elim (Contains-push_cases infos x other in') [
+      | inl last ↦ ap (λ y. better y m) (sym last) ∙ less
+      | inr before ↦ unbeaten other before
+    ]
+
+-- the info is preferred to the best one so far, or the first
+abbrev pub is_ahead : (Info → Info → Bool) → Info → Option Info → Bool
+is_ahead better x best = unwrap_or (option_map (better x) best) true
+
+ahead : (better : Info → Info → Bool) → IsPreference better → (infos : List Info) (x : Info) → HasDistinctMembers (infos ++ x ∷ []) → (best : Option Info) → unbeaten_of_all better infos ≡ best → is_ahead better x best ≡ true → unbeaten_of_all better (infos ++ x ∷ []) ≡ Some x
+ahead better laws infos x distinct None found is =
+    let empty : infos ≡ [] = none_of better laws infos (distinct_before infos x distinct) found in
+    let among : Unbeaten better infos x = λ other in'. absurd (Contains-nil other (subst (λ (l : List Info). Contains l other) empty in')) in
+    unbeaten_of_all-is better laws (infos ++ x ∷ []) distinct x (Contains-push infos x) (unbeaten_push better infos x x among (laws.irreflexive x))
+ahead better laws infos x distinct (Some m) found is =
+    let so_far = find-some (is_unbeaten better infos) infos m found in
+    let among : Unbeaten better infos x = unbeaten_above better laws x infos (distinct_before infos x distinct) (differ_last infos x distinct) m so_far.0 (is_unbeaten-Unbeaten better infos m so_far.1) is in
+    unbeaten_of_all-is better laws (infos ++ x ∷ []) distinct x (Contains-push infos x) (unbeaten_push better infos x x among (laws.irreflexive x))
+
+behind : (better : Info → Info → Bool) → IsPreference better → (infos : List Info) (x : Info) → HasDistinctMembers (infos ++ x ∷ []) → (best : Option Info) → unbeaten_of_all better infos ≡ best → is_ahead better x best ≡ false → unbeaten_of_all better (infos ++ x ∷ []) ≡ best
+behind better laws infos x distinct None found is = cc
+behind better laws infos x distinct (Some m) found is =
+    let so_far = find-some (is_unbeaten better infos) infos m found in
+    unbeaten_of_all-is better laws (infos ++ x ∷ []) distinct m (Contains-pushed infos x m so_far.0) (unbeaten_push better infos x m (is_unbeaten-Unbeaten better infos m so_far.1) is)
+
+-- ---- one step of the search
+
+distinct_take : (infos : List Info) (n : ℕ) → HasDistinctMembers infos → HasDistinctMembers (take n infos)
+distinct_take [] zero distinct = distinct
+distinct_take [] (suc n) distinct = distinct
+distinct_take (x ∷ infos) zero distinct = AllPairs-nil (λ a b. a.member ≢ b.member)
+distinct_take (x ∷ infos) (suc n) distinct =
+    AllPairs-cons (λ a b. a.member ≢ b.member) x (take n infos)
+    (All-weaker (Contains infos) (λ y. x.member ≢ y.member) (λ y in'. differ_first x infos distinct y in') (take n infos) (All-take (Contains infos) n infos (All-contains_itself infos)))
+    (distinct_take infos n (AllPairs-rest (λ a b. a.member ≢ b.member) x infos distinct))
+
+-- the ones that pass among the first infos, with one more
+more_passes : (test : Info → Bool) (infos : List Info) (i : ℕ) (x : Info) → i < length infos → x ≡ get_or infos i x → test x ≡ true → filter test (take (i + 1) infos) ≡ filter test (take i infos) ++ x ∷ []
+more_passes test infos i x below at passes =
+    filter_more test infos i x below ∙ ap (λ y. filter test (take i infos) ++ cond (test y) (y ∷ []) []) (sym at)
+    ∙ ap (λ b. filter test (take i infos) ++ cond b (x ∷ []) []) passes
+
+more_fails : (test : Info → Bool) (infos : List Info) (i : ℕ) (x : Info) → i < length infos → x ≡ get_or infos i x → test x ≡ false → filter test (take (i + 1) infos) ≡ filter test (take i infos)
+more_fails test infos i x below at fails =
+    filter_more test infos i x below ∙ ap (λ y. filter test (take i infos) ++ cond (test y) (y ∷ []) []) (sym at)
+    ∙ ap (λ b. filter test (take i infos) ++ cond b (x ∷ []) []) fails ∙ append-nil _
+
+distinct_passing : (test : Info → Bool) (infos : List Info) (i : ℕ) → HasDistinctMembers infos → HasDistinctMembers (filter test (take i infos))
+distinct_passing test infos i distinct = AllPairs-filter (λ a b. a.member ≢ b.member) test (take i infos) (distinct_take infos i distinct)
+
+-- a passing info that is ahead is the best one so far
+pub step-ahead : (better : Info → Info → Bool) → IsPreference better → (test : Info → Bool) (infos : List Info) (i : ℕ) (x : Info) (best : Option Info) → HasDistinctMembers infos → i < length infos → x ≡ get_or infos i x → best ≡ unbeaten_of_all better (filter test (take i infos)) → test x ≡ true → is_ahead better x best ≡ true → Some x ≡ unbeaten_of_all better (filter test (take (i + 1) infos))
+step-ahead better laws test infos i x best distinct below at so_far passes is =
+    let more : filter test (take (i + 1) infos) ≡ filter test (take i infos) ++ x ∷ [] = more_passes test infos i x below at passes in
+    let all : HasDistinctMembers (filter test (take i infos) ++ x ∷ []) = subst HasDistinctMembers more (distinct_passing test infos (i + 1) distinct) in
+    sym (ap (unbeaten_of_all better) more ∙ ahead better laws (filter test (take i infos)) x all best (sym so_far) is)
+
+-- a passing info that is behind leaves the best one so far
+pub step-behind : (better : Info → Info → Bool) → IsPreference better → (test : Info → Bool) (infos : List Info) (i : ℕ) (x : Info) (best : Option Info) → HasDistinctMembers infos → i < length infos → x ≡ get_or infos i x → best ≡ unbeaten_of_all better (filter test (take i infos)) → test x ≡ true → is_ahead better x best ≡ false → best ≡ unbeaten_of_all better (filter test (take (i + 1) infos))
+step-behind better laws test infos i x best distinct below at so_far passes is =
+    let more : filter test (take (i + 1) infos) ≡ filter test (take i infos) ++ x ∷ [] = more_passes test infos i x below at passes in
+    let all : HasDistinctMembers (filter test (take i infos) ++ x ∷ []) = subst HasDistinctMembers more (distinct_passing test infos (i + 1) distinct) in
+    sym (ap (unbeaten_of_all better) more ∙ behind better laws (filter test (take i infos)) x all best (sym so_far) is)
+
+-- so does one that doesn't pass
+pub step-fails : (better : Info → Info → Bool) (test : Info → Bool) (infos : List Info) (i : ℕ) (x : Info) (best : Option Info) → i < length infos → x ≡ get_or infos i x → best ≡ unbeaten_of_all better (filter test (take i infos)) → test x ≡ false → best ≡ unbeaten_of_all better (filter test (take (i + 1) infos))
+step-fails better test infos i x best below at so_far fails = so_far ∙ ap (unbeaten_of_all better) (sym (more_fails test infos i x below at fails))
+
+-- ---- infos that are put and dropped
+
+pub distinct_nobody : HasDistinctMembers []
+distinct_nobody = AllPairs-nil (λ a b. a.member ≢ b.member)
+
+pub distinct_without : (member : Member) (infos : List Info) → HasDistinctMembers infos → HasDistinctMembers (without member infos)
+distinct_without member infos distinct = AllPairs-filter (λ a b. a.member ≢ b.member) _ infos distinct
+
+same_itself : (member : Member) → is_same_member member member ≡ true
+same_itself member = grind (arith, nat_tests)
+
+differ_kept : (member : Member) (infos : List Info) → All (λ y. y.member ≢ member) (without member infos)
+differ_kept member infos =
+    All-weaker (λ y. not (is_same_member y.member member) ≡ true) (λ y. y.member ≢ member)
+    (λ y passes same. let fails : not (is_same_member y.member member) ≡ false = ap (λ m. not (is_same_member m member)) same ∙ ap not (same_itself member) in cc)
+    (without member infos) (filter_passes (λ info. not (is_same_member info.member member)) infos)
+
+distinct_push : (infos : List Info) (x : Info) → HasDistinctMembers infos → All (λ y. y.member ≢ x.member) infos → HasDistinctMembers (infos ++ x ∷ [])
+distinct_push [] x distinct differ = AllPairs-cons (λ a b. a.member ≢ b.member) x [] (λ k d below. absurd (omega arith)) (AllPairs-nil (λ a b. a.member ≢ b.member))
+distinct_push (y ∷ infos) x distinct differ =
+    AllPairs-cons (λ a b. a.member ≢ b.member) y (infos ++ x ∷ [])
+    (All-push (λ z. y.member ≢ z.member) infos x (AllPairs-first (λ a b. a.member ≢ b.member) y infos distinct) (differ 0 y (omega arith)))
+    (distinct_push infos x (AllPairs-rest (λ a b. a.member ≢ b.member) y infos distinct) (λ k d below. differ (suc k) d (omega arith)))
+
+pub distinct_with : (info : Info) (infos : List Info) → HasDistinctMembers infos → HasDistinctMembers (with_info info infos)
+distinct_with info infos distinct = distinct_push (without info.member infos) info (distinct_without info.member infos distinct) (differ_kept info.member infos)
+
+-- the infos after an old one was left out and the new one pushed
+pub replaced : (info : Info) (old reserved kept pushed : List Info) → reserved ≡ old → kept ≡ without info.member reserved → pushed ≡ kept ++ info ∷ [] → pushed ≡ with_info info old
+replaced info old reserved kept pushed same left_out new = new ∙ ap (λ infos. infos ++ info ∷ []) (left_out ∙ ap (without info.member) same)
+
+-- other infos, made of those that were there
+pub put_in : {P : Type 0} (heard : Heard P) (prefer : P) (infos after : List Info) (change : List Info → List Info) → ◌≡◌ {A = Heard P} (record { prefer = prefer; infos = infos }) heard → after ≡ change infos → ◌≡◌ {A = Heard P} (record { prefer = prefer; infos = after }) (record heard { infos = change heard.infos })
+put_in {P = P} heard prefer infos after change is made = subst (λ h. ◌≡◌ {A = Heard P} (record { prefer = prefer; infos = after }) (record h { infos = change h.infos })) is (ap (λ (i : List Info). record { prefer = prefer; infos = i }) made)

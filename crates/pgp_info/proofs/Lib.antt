@@ -1,2 +1,2 @@
-pub mod PreferenceLemmas
 pub mod BestLemmas
+pub mod SameInfos

@@ -1,3 +1,5 @@
 pub mod Preference
+pub mod PreferenceLaws
 pub mod Best
+pub mod Heard
 pub mod Examples

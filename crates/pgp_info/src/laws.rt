@@ -1,9 +1,10 @@
 //! What the best info is for any preference, and what the definitions say of small groups.
-ghost use Rattle.std.specs.Prelude.{◌≡◌, ◌↔◌, List, [], ◌∷◌, Option, Some, None, Bool, true, false};
+ghost use Rattle.std.specs.Prelude.{◌≡◌, ◌↔◌, List, [], ◌∷◌, Option, Some, None, Bool, true, false, Contains};
 ghost use Rattle.pgp_ids.specs.declared.group_member.Member.{Member};
 ghost use Rattle.pgp_ids.specs.declared.report.Info.{Info};
 ghost use Rattle.pgp_info.specs.Preference.{newest_first, oldest_first, IsPreference};
 ghost use Rattle.pgp_info.specs.Best.{HasDistinctMembers, candidates, best_info, IsBest};
+ghost use Rattle.pgp_info.specs.Heard.{without, with_info};
 ghost use Rattle.pgp_info.specs.Examples.{in_slot, at, copy_up_to, fresh, device_0};
 
 /// Both preferences are strict total orders over infos of distinct members, whoever leads.
@@ -21,6 +22,23 @@ pub fn best_info_is_the_unbeaten_candidate()
     ensures none { (better : Info → Info → Bool) (infos : List Info)
         → IsPreference better → HasDistinctMembers infos
         → (best_info better infos ≡ None) ↔ (candidates infos ≡ []) }
+{}
+
+/// The best info depends on which infos there are, and not on their order.
+pub fn order_of_infos_is_free()
+    ensures { (better : Info → Info → Bool) (a b : List Info)
+        → IsPreference better → HasDistinctMembers a → HasDistinctMembers b
+        → ((info : Info) → Contains a info ↔ Contains b info)
+        → best_info better a ≡ best_info better b }
+{}
+
+/// Infos of distinct members stay so, whichever info is put and whoever is dropped.
+pub fn members_stay_distinct()
+    ensures nobody { HasDistinctMembers [] }
+    ensures put { (info : Info) (infos : List Info)
+        → HasDistinctMembers infos → HasDistinctMembers (with_info info infos) }
+    ensures drop { (member : Member) (infos : List Info)
+        → HasDistinctMembers infos → HasDistinctMembers (without member infos) }
 {}
 
 /// Of equal copies that of the acting primary is the best, and without it that of the least device.

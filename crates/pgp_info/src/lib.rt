@@ -2,7 +2,21 @@
 //!
 //! Of the complete copies that served last, a replicated pool goes by the one with the newest last write, and an
 //! erasure pool by the one with the oldest, since only a write that enough shards have can be given back (Ceph's
-//! developer documentation on peering, and on erasure coding).
+//! developer documentation on peering, and on erasure coding). [`Best`] keeps the last info of each member and finds
+//! the best one by any [`Prefer`], of whose laws alone it makes use; [`NewestFirst`] and [`OldestFirst`] are those of
+//! the two kinds of pool. What is heard and what counts is decided above.
 #![tactic(auto)]
 
+mod best;
 pub mod laws;
+mod newest_first;
+mod oldest_first;
+mod prefer;
+#[cfg(test)]
+mod tests;
+mod tie;
+
+pub use best::Best;
+pub use newest_first::NewestFirst;
+pub use oldest_first::OldestFirst;
+pub use prefer::Prefer;

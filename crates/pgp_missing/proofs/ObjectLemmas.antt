@@ -16,7 +16,7 @@ use Rattle.pgp_missing.specs.Missing.{is_modify, is_newest_of_object, modified_o
 
 -- ---- lists
 
-Contains-here : {X : Type 0} (x : X) (xs : List X) → Contains (x ∷ xs) x
+pub Contains-here : {X : Type 0} (x : X) (xs : List X) → Contains (x ∷ xs) x
 Contains-here x xs = (0, omega arith, refl)
 
 pub Contains-later : {X : Type 0} (x : X) (xs : List X) (y : X) → Contains xs y → Contains (x ∷ xs) y
@@ -29,7 +29,7 @@ Contains-at x xs y (suc k) below is = inr (k, omega arith, is)
 pub Contains-cases : {X : Type 0} (x : X) (xs : List X) (y : X) → Contains (x ∷ xs) y → (x ≡ y) ⊎ Contains xs y
 Contains-cases x xs y in' = Contains-at x xs y in'.0 in'.1 in'.2
 
-Contains-nil : {X : Type 0} (y : X) → Contains [] y → ⊥
+pub Contains-nil : {X : Type 0} (y : X) → Contains [] y → ⊥
 Contains-nil y in' = let below : in'.0 < 0 = in'.1 in omega arith
 
 pub Contains-first : {X : Type 0} (x : X) (xs : List X) (y : X) → x ≡ y → Contains (x ∷ xs) y
@@ -55,7 +55,7 @@ keep_at test x xs y true passes (inr later) = Contains-later x (filter test xs) 
 keep_at test x xs y false passes (inl here) = let out : test y ≡ false = ap test (sym here.0) ∙ passes in let in' : test y ≡ true = here.1 in cc
 keep_at test x xs y false passes (inr later) = later
 
-contains-filter : {X : Type 0} (test : X → Bool) (xs : List X) (y : X) → Contains xs y → test y ≡ true → Contains (filter test xs) y
+pub contains-filter : {X : Type 0} (test : X → Bool) (xs : List X) (y : X) → Contains xs y → test y ≡ true → Contains (filter test xs) y
 contains-filter test [] y in' passes = absurd (Contains-nil y in')
 contains-filter test (x ∷ xs) y in' passes =
     elim (Contains-cases x xs y in') [
@@ -63,7 +63,7 @@ contains-filter test (x ∷ xs) y in' passes =
       | inr later ↦ keep_at test x xs y (test x) refl (inr (contains-filter test xs y later passes))
     ]
 
-map-contains : {X Y : Type 0} (f : X → Y) (xs : List X) (y : Y) → Contains (map f xs) y → (x : X) × (Contains xs x × (f x ≡ y))
+pub map-contains : {X Y : Type 0} (f : X → Y) (xs : List X) (y : Y) → Contains (map f xs) y → (x : X) × (Contains xs x × (f x ≡ y))
 map-contains f [] y in' = absurd (Contains-nil y in')
 map-contains f (x ∷ xs) y in' =
     elim (Contains-cases (f x) (map f xs) y in') [
@@ -71,7 +71,7 @@ map-contains f (x ∷ xs) y in' =
       | inr later ↦ let rest = map-contains f xs y later in (rest.0, (Contains-later x xs rest.0 rest.1.0, rest.1.1))
     ]
 
-contains-map : {X Y : Type 0} (f : X → Y) (xs : List X) (x : X) → Contains xs x → Contains (map f xs) (f x)
+pub contains-map : {X Y : Type 0} (f : X → Y) (xs : List X) (x : X) → Contains xs x → Contains (map f xs) (f x)
 contains-map f [] x in' = absurd (Contains-nil x in')
 contains-map f (z ∷ xs) x in' =
     elim (Contains-cases z xs x in') [
@@ -201,7 +201,7 @@ missing_above-contains v entries missing in' =
       },
     )
 
-both : (a b : Bool) → a ≡ true → b ≡ true → (a && b) ≡ true
+pub both : (a b : Bool) → a ≡ true → b ≡ true → (a && b) ≡ true
 both a b left right = rw (left, right) refl
 
 same_object : (entry : LogEntry) (missing : MissingObject) → entry.object ≡ missing.object → entry.version ≡ missing.version → lacking entry ≡ missing

@@ -1,9 +1,9 @@
 -- The objects that a copy lacks come in ascending order of their names, each once.
-use Rattle.std.proofs.Common.{◌≡◌, ◌≢◌, ℕ, suc, ◌≤◌, List, [], ◌∷◌, Bool, true, false, ◌&&◌, ◌||◌, nat_eq, nat_lt, map, refl, sym, ap, ◌∙◌, subst, inl, inr, arith, if◌then◌else◌}
+use Rattle.std.proofs.Common.{◌≡◌, ◌≢◌, ℕ, suc, ◌≤◌, List, [], ◌∷◌, Bool, true, false, ◌&&◌, ◌||◌, nat_eq, nat_lt, map, ◌⊎◌, refl, sym, ap, ap₂, ◌∙◌, subst, inl, inr, arith, if◌then◌else◌}
 use Rattle.std.specs.List.{All, AllPairs, Contains, filter, slice_index_or}
 use Rattle.std.specs.Ordering.{nat_cmp, is_lt}
 use Rattle.std.specs.Cmp.Lexicographic.{slice_cmp}
-use Rattle.std.proofs.lemmas.Cmp.{nat_list_cmp_total}
+use Rattle.std.proofs.lemmas.Cmp.{nat_list_cmp_total, tied_itself}
 use Rattle.std.proofs.lemmas.Map.Lookups.{exact_bytes}
 use Rattle.std.proofs.lemmas.Bool.Decides.{eqb_tells}
 use Rattle.std.proofs.lemmas.List.Elements.{All-nil, All-cons, All-contains, All-contains_itself, All-filter, All-map, All-weaker, filter_passes}
@@ -15,17 +15,17 @@ use Rattle.pgp_ids.specs.declared.peer.MissingObject.{MissingObject}
 use Rattle.pgp_ids.specs.declared.report.Info.{Info}
 use Rattle.pgp_missing.specs.Log.{has_number, last_of_each_number, is_in_log, log_of}
 use Rattle.pgp_missing.specs.Missing.{is_modify, is_newest_of_object, modified_objects, with_object, by_name, missing_above, IsByName}
-use Rattle.pgp_missing.proofs.ObjectLemmas.{Contains-cases, Contains-first, Contains-later, with_object-contains, by_name-contains, is_newest, both_right}
+use Rattle.pgp_missing.proofs.ObjectLemmas.{Contains-cases, Contains-first, Contains-here, Contains-later, Contains-nil, with_object-contains, by_name-contains, is_newest, both_right}
 
 -- ---- pairs
 
-AllPairs-nil : {X : Type 0} (R : X → X → Type 0) → AllPairs R []
+pub AllPairs-nil : {X : Type 0} (R : X → X → Type 0) → AllPairs R []
 AllPairs-nil R i j d before below = absurd (omega arith)
 
-AllPairs-head : {X : Type 0} (R : X → X → Type 0) (x : X) (xs : List X) → AllPairs R (x ∷ xs) → All (R x) xs
+pub AllPairs-head : {X : Type 0} (R : X → X → Type 0) (x : X) (xs : List X) → AllPairs R (x ∷ xs) → All (R x) xs
 AllPairs-head R x xs pairs k d below = pairs 0 (suc k) d (omega arith) (omega arith)
 
-AllPairs-tail : {X : Type 0} (R : X → X → Type 0) (x : X) (xs : List X) → AllPairs R (x ∷ xs) → AllPairs R xs
+pub AllPairs-tail : {X : Type 0} (R : X → X → Type 0) (x : X) (xs : List X) → AllPairs R (x ∷ xs) → AllPairs R xs
 AllPairs-tail R x xs pairs i j d before below = pairs (suc i) (suc j) d (omega arith) (omega arith)
 
 AllPairs-map : {X Y : Type 0} (R : Y → Y → Type 0) (f : X → Y) (xs : List X) → AllPairs (λ a b. R (f a) (f b)) xs → AllPairs R (map f xs)
@@ -36,10 +36,10 @@ AllPairs-map R f (x ∷ xs) pairs =
 
 -- ---- the order of names
 
-abbrev cmp : List ℕ → List ℕ → Ordering
+abbrev pub cmp : List ℕ → List ℕ → Ordering
 cmp = slice_cmp nat_cmp
 
-abbrev Before : MissingObject → MissingObject → Type 0
+abbrev pub Before : MissingObject → MissingObject → Type 0
 Before a b = is_lt (cmp a.object b.object) ≡ true
 
 less_is : (o : Ordering) → is_lt o ≡ true → o ≡ Less
@@ -103,7 +103,7 @@ sorted-by_name (object ∷ objects) apart =
 
 -- ---- the numbers of a log
 
-abbrev HaveOtherNumbers : LogEntry → LogEntry → Type 0
+abbrev pub HaveOtherNumbers : LogEntry → LogEntry → Type 0
 HaveOtherNumbers a b = a.version.v ≢ b.version.v
 
 last_at : (first : LogEntry) (later : List LogEntry) (entry : LogEntry) (b : Bool) → (Contains (last_of_each_number later) entry → Contains later entry)
@@ -172,9 +172,57 @@ other_names entries apart =
     let more : a.version.v ≤ b.version.v = newest_b a (there i d (omega arith)) same in
     numbers i j d before below (omega arith))
 
-pub missing-sorted : (best : Info) (reported : List LogEntry) (v : ℕ) → IsByName (missing_above v (log_of best reported))
-missing-sorted best reported v =
-    let log : AllPairs HaveOtherNumbers (log_of best reported) = AllPairs-filter HaveOtherNumbers (λ entry. is_in_log best entry.version.v) (last_of_each_number reported) (other_numbers reported) in
-    let above = filter (λ (entry : LogEntry). nat_lt v entry.version.v) (log_of best reported) in
+pub missing_above-sorted : (entries : List LogEntry) (v : ℕ) → AllPairs HaveOtherNumbers entries → IsByName (missing_above v entries)
+missing_above-sorted entries v apart =
+    let above = filter (λ (entry : LogEntry). nat_lt v entry.version.v) entries in
     sorted-by_name (modified_objects above)
-    (other_names above (AllPairs-filter HaveOtherNumbers (λ entry. nat_lt v entry.version.v) (log_of best reported) log))
+    (other_names above (AllPairs-filter HaveOtherNumbers (λ entry. nat_lt v entry.version.v) entries apart))
+
+pub log_of-other_numbers : (best : Info) (reported : List LogEntry) → AllPairs HaveOtherNumbers (log_of best reported)
+log_of-other_numbers best reported = AllPairs-filter HaveOtherNumbers (λ entry. is_in_log best entry.version.v) (last_of_each_number reported) (other_numbers reported)
+
+pub missing-sorted : (best : Info) (reported : List LogEntry) (v : ℕ) → IsByName (missing_above v (log_of best reported))
+missing-sorted best reported v = missing_above-sorted (log_of best reported) v (log_of-other_numbers best reported)
+
+-- ---- two lists in ascending order with the same objects
+
+before_none : (a b : MissingObject) → Before a b → Before b a → ⊥
+before_none a b forth back =
+    let round : Before a a = before_goes_on a b a forth back in
+    let same : cmp a.object a.object ≡ Equal = tied_itself nat_list_cmp_total a.object in
+    let less : cmp a.object a.object ≡ Less = less_is (cmp a.object a.object) round in
+    cc
+
+one_first : (x y : MissingObject) → (x ≡ y) ⊎ Before y x → (y ≡ x) ⊎ Before x y → x ≡ y
+one_first x y (inl same) other = same
+one_first x y (inr after) (inl same) = sym same
+one_first x y (inr after) (inr before) = absurd (before_none x y before after)
+
+is_or_after : (x : MissingObject) (xs : List MissingObject) → AllPairs Before (x ∷ xs) → (m : MissingObject) → Contains (x ∷ xs) m → (m ≡ x) ⊎ Before x m
+is_or_after x xs sorted m in' =
+    elim (Contains-cases x xs m in') [
+      | inl here ↦ inl (sym here)
+      | inr there ↦ inr (All-contains (Before x) xs m (AllPairs-head Before x xs sorted) there)
+    ]
+
+-- what stands after the first is among what stands after an equal first
+later_in : (x y : MissingObject) (xs ys : List MissingObject) → x ≡ y → AllPairs Before (x ∷ xs) → ((m : MissingObject) → Contains (x ∷ xs) m → Contains (y ∷ ys) m)
+    → (m : MissingObject) → Contains xs m → Contains ys m
+later_in x y xs ys same sorted within m in' =
+    elim (Contains-cases y ys m (within m (Contains-later x xs m in'))) [
+      | inl here ↦
+          let after : Before x m = All-contains (Before x) xs m (AllPairs-head Before x xs sorted) in' in
+          absurd (before_none x m after (subst (λ (o : MissingObject). Before m o) (sym (same ∙ here)) (subst (λ (o : MissingObject). Before o m) (same ∙ here) after)))
+      | inr there ↦ there
+    ]
+
+pub sorted-same : (xs ys : List MissingObject) → AllPairs Before xs → AllPairs Before ys → ((m : MissingObject) → Contains xs m → Contains ys m)
+    → ((m : MissingObject) → Contains ys m → Contains xs m) → xs ≡ ys
+sorted-same [] [] up_x up_y forth back = refl
+sorted-same [] (y ∷ ys) up_x up_y forth back = absurd (Contains-nil y (back y (Contains-here y ys)))
+sorted-same (x ∷ xs) [] up_x up_y forth back = absurd (Contains-nil x (forth x (Contains-here x xs)))
+sorted-same (x ∷ xs) (y ∷ ys) up_x up_y forth back =
+    let same : x ≡ y = one_first x y (is_or_after y ys up_y x (forth x (Contains-here x xs))) (is_or_after x xs up_x y (back y (Contains-here y ys))) in
+    let rest : xs ≡ ys = sorted-same xs ys (AllPairs-tail Before x xs up_x) (AllPairs-tail Before y ys up_y)
+    (later_in x y xs ys same up_x forth) (later_in y x ys xs (sym same) up_y back) in
+    ap₂ (λ (o : MissingObject) (os : List MissingObject). o ∷ os) same rest

@@ -1,3 +1,4 @@
 pub mod Log
 pub mod Missing
+pub mod Kept
 pub mod Examples

@@ -4,4 +4,10 @@
 //! it lacks (Ceph's developer documentation on peering and on the log-based recovery of placement groups).
 #![tactic(auto)]
 
+mod entries;
 pub mod laws;
+mod member_log;
+#[cfg(test)]
+mod tests;
+
+pub use member_log::MemberLog;

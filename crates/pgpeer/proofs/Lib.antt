@@ -1,13 +1,9 @@
-pub mod Values
-pub mod Walks
-pub mod Keys
-pub mod Codes
-pub mod Floats
 pub mod OutputLemmas
 pub mod LineLemmas
 pub mod FeedLemmas
 pub mod CutLemmas
+pub mod LogLemmas
+pub mod ScriptLemmas
 pub mod RunLemmas
 pub mod TurnLemmas
 pub mod HistoryLemmas
-pub mod AnswerLemmas

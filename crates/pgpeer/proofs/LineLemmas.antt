@@ -1,32 +1,61 @@
 -- The answer to a line from what its buffer holds.
-use Rattle.std.proofs.Common.{◌≡◌, ℕ, ◌<◌, ◌≤◌, List, true, false, length, nat_lt, refl, sym, ◌∙◌, subst, arith}
+use Rattle.std.proofs.Common.{Vec, Global, ◌≡◌, ◌≢◌, ℕ, ◌<◌, ◌≤◌, List, [], ◌∷◌, ◌++◌, Some, None, true, false, length, nat_lt, refl, sym, ap, ◌∙◌, subst, arith}
 use Rattle.std.proofs.lemmas.Bool.Decides.{nat_tests}
-use Rattle.pgpeer.specs.Answer.{line_text, long_text}
+use Rattle.pgp_ids.specs.declared.entry.Entry.{Entry}
+use Rattle.pgpeer.specs.Answer.{line_text, line_log, long_text}
 use Rattle.pgpeer.specs.Lines.{is_blank}
-use Rattle.pgpeer.specs.Script.{longest_line, reply_text}
-use Rattle.pgpeer.specs.Line.{KeptBy, Holds, IsReply, IsAnswerTo}
-use Rattle.pgpeer.specs.declared.line.Fate.TheVariants.{Kept, TooLong}
+use Rattle.pgpeer.specs.Script.{longest_line, MayMeet, answer, log_past}
+use Rattle.pgpeer.specs.Line.{KeptBy, Holds, IsAnswerTo}
+use Rattle.pgpeer.specs.declared.line.Fate.TheVariants.{Kept, TooLong, NoMemory}
 use Rattle.pgpeer.specs.declared.line.LineBuffer.{LineBuffer}
-use Rattle.pgpeer.specs.declared.line.LineAnswer.{LineAnswer}
-use Rattle.pgpeer.specs.declared.line.LineAnswer.TheVariants.{Nothing, Memory, Text}
+use Rattle.pgpeer.specs.declared.line.LineAnswer.TheVariants.{Nothing, Wants, Text}
+use Rattle.pgpeer.specs.declared.want.Want.{Want}
+use Rattle.pgpeer.specs.declared.want.Want.TheVariants as want
 
-answer-reply : (found : LineAnswer) (line : List ℕ) → IsReply found (reply_text line) → is_blank line ≡ false → IsAnswerTo found line
-answer-reply Nothing line reply some = absurd reply
-answer-reply Memory line reply some = record { met = true; text = refl }
-answer-reply (Text text) line reply some = record { met = false; text = rw some reply }
+is_long : (line : List ℕ) → longest_line < length line → nat_lt longest_line (length line) ≡ true
+is_long line long = grind (arith, nat_tests)
 
-long_reply : (line : List ℕ) → longest_line < length line → reply_text line ≡ long_text
-long_reply line long = let test : nat_lt longest_line (length line) ≡ true = grind (arith, nat_tests) in rw test refl
+is_short : (line : List ℕ) → length line ≤ longest_line → nat_lt longest_line (length line) ≡ false
+is_short line short = grind (arith, nat_tests)
 
-short_reply : (line : List ℕ) → length line ≤ longest_line → reply_text line ≡ line_text line
-short_reply line short = let test : nat_lt longest_line (length line) ≡ false = grind (arith, nat_tests) in rw test refl
+pub kept-whole : (buffer : LineBuffer) (line : List ℕ) → Holds buffer line → buffer.fate ≡ Kept → (buffer.bytes.items ≡ line) × (length line ≤ longest_line)
+kept-whole buffer line holds fate = subst (λ f. KeptBy f buffer.bytes.items line) fate holds.kept
 
-pub answer-long : (found : LineAnswer) (buffer : LineBuffer) (line : List ℕ) → Holds buffer line → buffer.fate ≡ TooLong → buffer.blank ≡ false → IsReply found long_text → IsAnswerTo found line
-answer-long found buffer line holds fate some reply =
-    let kept = subst (λ f. KeptBy f buffer.bytes.items line) fate holds.kept in
-    answer-reply found line (rw (long_reply line kept) reply) (sym holds.blank ∙ some)
+too-long : (buffer : LineBuffer) (line : List ℕ) → Holds buffer line → buffer.fate ≡ TooLong → longest_line < length line
+too-long buffer line holds fate = subst (λ f. KeptBy f buffer.bytes.items line) fate holds.kept
 
-pub answer-kept : (found : LineAnswer) (buffer : LineBuffer) (line : List ℕ) → Holds buffer line → buffer.fate ≡ Kept → buffer.blank ≡ false → IsReply found (line_text buffer.bytes.items) → IsAnswerTo found line
-answer-kept found buffer line holds fate some reply =
-    let kept = subst (λ f. KeptBy f buffer.bytes.items line) fate holds.kept in
-    answer-reply found line (rw (short_reply line kept.1, ← kept.0) reply) (sym holds.blank ∙ some)
+-- want of memory changes nothing
+pub answer-wants : (log : List Entry) (line : List ℕ) (want : Want) → MayMeet (Some want) line → IsAnswerTo (Wants want) log log line
+answer-wants log line want may = record { met = Some want; may = may; text = refl; log = refl }
+
+pub answer-blank : (log : List Entry) (buffer : LineBuffer) (line : List ℕ) → Holds buffer line → buffer.blank ≡ true → IsAnswerTo Nothing log log line
+answer-blank log buffer line holds blank =
+    let is : is_blank line ≡ true = sym holds.blank ∙ blank in
+    record { met = None; may = tt; text = rw is refl; log = rw is refl }
+
+pub answer-long : (log : List Entry) (buffer : LineBuffer) (line : List ℕ) (text : Vec ℕ Global) → Holds buffer line → buffer.fate ≡ TooLong → buffer.blank ≡ false
+    → text.items ≡ long_text ++ 10 ∷ [] → IsAnswerTo (Text text) log log line
+answer-long log buffer line text holds fate some is =
+    let blank : is_blank line ≡ false = sym holds.blank ∙ some in
+    let long = is_long line (too-long buffer line holds fate) in
+    record { met = None; may = tt; text = rw (blank, long) is; log = rw (blank, long) refl }
+
+pub answer-kept : (before after : List Entry) (buffer : LineBuffer) (line : List ℕ) (text : Vec ℕ Global) → Holds buffer line → buffer.fate ≡ Kept → buffer.blank ≡ false
+    → text.items ≡ line_text before buffer.bytes.items ++ 10 ∷ [] → after ≡ line_log before buffer.bytes.items → IsAnswerTo (Text text) before after line
+answer-kept before after buffer line text holds fate some is goes =
+    let blank : is_blank line ≡ false = sym holds.blank ∙ some in
+    let kept = kept-whole buffer line holds fate in
+    let short = is_short line kept.1 in
+    record {
+      met = None;
+      may = tt;
+      text = rw (blank, short) (rw kept.0 at is);
+      log = rw (blank, short) (rw kept.0 at goes);
+    }
+
+pub answer-kept-wants : (before after : List Entry) (buffer : LineBuffer) (line : List ℕ) (want : Want) → Holds buffer line → buffer.fate ≡ Kept
+    → (length buffer.bytes.items ≤ longest_line → MayMeet (Some want) buffer.bytes.items) → after ≡ before → IsAnswerTo (Wants want) before after line
+answer-kept-wants before after buffer line want holds fate may same =
+    let kept = kept-whole buffer line holds fate in
+    let meets : length line ≤ longest_line → MayMeet (Some want) line = rw kept.0 at may in
+    record { met = Some want; may = meets kept.1; text = refl; log = same }

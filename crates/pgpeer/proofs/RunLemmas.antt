@@ -8,7 +8,9 @@ use Rattle.std.proofs.lemmas.List.{length-append}
 use Rattle.pgpeer.specs.Lines.{Cut, is_line_feed, cut, last_line, lines_of}
 use Rattle.pgpeer.specs.Line.{Holds}
 use Rattle.pgpeer.specs.Output.{FrontWent}
+use Rattle.pgp_ids.specs.declared.entry.Entry.{Entry}
 use Rattle.pgpeer.specs.Script.{answer, answers, Within, lines_before_cut}
+use Rattle.pgpeer.proofs.ScriptLemmas.{answers-push, logs-push, may-push, answers-front, may-front}
 use Rattle.pgpeer.specs.Run.{Puts, PutsFront, IsAfter, Answered, CutOff, BrokenOff, BrokenAtEnd, IsDone, IsBeyond, Taken}
 use Rattle.pgpeer.specs.declared.line.LineBuffer.{LineBuffer}
 use Rattle.pgpeer.specs.declared.output.Output.{Output}
@@ -16,25 +18,6 @@ use Rattle.pgpeer.specs.declared.script.Script.{Script}
 use Rattle.pgpeer.specs.declared.script.Bounds.{Bounds}
 use Rattle.pgpeer.proofs.OutputLemmas.{Went-then, FrontWent-then, FrontWent-pending, Went-flushed}
 use Rattle.pgpeer.proofs.CutLemmas.{cut-piece, cut-feed, cut-goes, lines-closed, some-line}
-
--- ---- answers to more lines
-
-pub answers-push : (met : List Bool) (lines : List (List ℕ)) (m : Bool) (line : List ℕ) → length met ≡ length lines
-    → answers (met ++ m ∷ []) (lines ++ line ∷ []) ≡ answers met lines ++ answer m line
-answers-push [] [] m line same = append-nil (answer m line)
-answers-push [] (l ∷ lines) m line same = absurd (omega arith)
-answers-push (n ∷ met) [] m line same = absurd (omega arith)
-answers-push (n ∷ met) (l ∷ lines) m line same =
-    let tails : length met ≡ length lines = omega arith in
-    ap (λ rest. answer n l ++ rest) (answers-push met lines m line tails) ∙ sym (append_assoc (answer n l) (answers met lines) (answer m line))
-
-pub answers-front : (met : List Bool) (lines others : List (List ℕ)) → length met ≡ length lines → answers met (lines ++ others) ≡ answers met lines
-answers-front [] [] others same = refl
-answers-front [] (l ∷ lines) others same = refl
-answers-front (m ∷ met) [] others same = absurd (omega arith)
-answers-front (m ∷ met) (l ∷ lines) others same =
-    let tails : length met ≡ length lines = omega arith in
-    ap (λ rest. answer m l ++ rest) (answers-front met lines others tails)
 
 -- ---- the lines that have ended are the first ones, whatever follows
 
@@ -69,15 +52,17 @@ after-add bounds script line start now bytes piece none room fits added after =
       closed = λ none_left. absurd (omega arith);
       met = after.met;
       each = rw whole after.each;
+      may = rw whole after.may;
       text = rw whole after.text;
+      log = rw whole after.log;
     }
 
-pub after-end : (bounds : Bounds) (script : Script) (line : LineBuffer) (output : Output) (start now new : Option (List ℕ)) (bytes : List ℕ)
+pub after-end : (bounds : Bounds) (script : Script) (line : LineBuffer) (output : Output) (log : List Entry) (start now new : Option (List ℕ)) (bytes : List ℕ)
     → 0 < script.left.lines → 0 < script.left.bytes → Holds line []
-    → Puts now new script.output.pending.items output.pending.items (cut bytes).rest
+    → Puts now new script.output.pending.items output.pending.items script.log log (cut bytes).rest
     → IsAfter bounds script start now bytes
-    → IsAfter bounds (record { line = line; output = output; left = record { lines = script.left.lines - 1; bytes = script.left.bytes - 1 } }) start new (bytes ++ 10 ∷ [])
-after-end bounds script line output start now new bytes room fits begun puts after =
+    → IsAfter bounds (record { line = line; output = output; log = log; left = record { lines = script.left.lines - 1; bytes = script.left.bytes - 1 } }) start new (bytes ++ 10 ∷ [])
+after-end bounds script line output log start now new bytes room fits begun puts after =
     let whole : (cut (bytes ++ 10 ∷ [])).whole ≡ (cut bytes).whole ++ (cut bytes).rest ∷ [] = ap (λ (c : Cut). c.whole) (cut-feed bytes) in
     let rest : (cut (bytes ++ 10 ∷ [])).rest ≡ [] = ap (λ (c : Cut). c.rest) (cut-feed bytes) in
     record {
@@ -87,12 +72,14 @@ after-end bounds script line output start now new bytes room fits begun puts aft
       closed = λ _. rest;
       met = after.met ++ puts.met ∷ [];
       each = rw whole (omega (arith, after.each, length-append after.met (puts.met ∷ []), length-append (cut bytes).whole ((cut bytes).rest ∷ [])));
-      text = rw (whole, answers-push after.met (cut bytes).whole puts.met (cut bytes).rest after.each)
+      may = rw whole (may-push after.met (cut bytes).whole puts.met (cut bytes).rest after.each after.may puts.may);
+      text = rw (whole, answers-push [] after.met (cut bytes).whole puts.met (cut bytes).rest after.each, ← after.log)
           (Went-then start now new _ _ _ _ after.text puts.went);
+      log = rw (whole, logs-push [] after.met (cut bytes).whole puts.met (cut bytes).rest after.each, ← after.log) puts.log;
     }
 
 pub broken_by : (bounds : Bounds) (script : Script) (start now new : Option (List ℕ)) (bytes more : List ℕ) → 0 < script.left.lines → 0 < script.left.bytes
-    → PutsFront now new script.output.pending.items (cut bytes).rest
+    → PutsFront now new script.output.pending.items script.log (cut bytes).rest
     → IsAfter bounds script start now bytes
     → BrokenOff bounds start new (bytes ++ 10 ∷ more)
 broken_by bounds script start now new bytes more room fits front after =
@@ -102,15 +89,19 @@ broken_by bounds script start now new bytes more room fits front after =
     let few_lines : length (cut (bytes ++ 10 ∷ [])).whole ≤ bounds.lines = omega (arith, many, after.lines_left) in
     let goes = front_of_cut bounds (bytes ++ 10 ∷ []) more few_bytes few_lines in
     let met = after.met ++ front.met ∷ [] in
-    let same : answers met (lines_before_cut bounds.lines bounds.bytes (bytes ++ 10 ∷ more)) ≡ answers after.met (cut bytes).whole ++ answer front.met (cut bytes).rest =
-    ap (λ b. answers met (lines_before_cut bounds.lines bounds.bytes b)) (sym (append_assoc bytes (10 ∷ []) more)) ∙ ap (answers met) (goes.1 ∙ ap (λ w. w ++ goes.0) whole)
-    ∙ answers-front met ((cut bytes).whole ++ (cut bytes).rest ∷ []) goes.0
+    let lines : lines_before_cut bounds.lines bounds.bytes (bytes ++ 10 ∷ more) ≡ ((cut bytes).whole ++ (cut bytes).rest ∷ []) ++ goes.0 =
+    ap (λ b. lines_before_cut bounds.lines bounds.bytes b) (sym (append_assoc bytes (10 ∷ []) more)) ∙ goes.1 ∙ ap (λ w. w ++ goes.0) whole in
+    let same : answers [] met (lines_before_cut bounds.lines bounds.bytes (bytes ++ 10 ∷ more)) ≡ answers [] after.met (cut bytes).whole ++ answer script.log front.met (cut bytes).rest =
+    ap (answers [] met) lines
+    ∙ answers-front [] met ((cut bytes).whole ++ (cut bytes).rest ∷ []) goes.0
     (length-append after.met (front.met ∷ []) ∙ ap (λ n. n + 1) after.each ∙ sym (length-append (cut bytes).whole ((cut bytes).rest ∷ [])))
-    ∙ answers-push after.met (cut bytes).whole front.met (cut bytes).rest after.each in
-    record { met = met; front = rw same (FrontWent-then start now new _ _ _ after.text front.front) }
+    ∙ answers-push [] after.met (cut bytes).whole front.met (cut bytes).rest after.each
+    ∙ ap (λ log. answers [] after.met (cut bytes).whole ++ answer log front.met (cut bytes).rest) (sym after.log) in
+    let may = may-front met ((cut bytes).whole ++ (cut bytes).rest ∷ []) goes.0 (may-push after.met (cut bytes).whole front.met (cut bytes).rest after.each after.may front.may) in
+    record { met = met; may = rw lines may; front = rw same (FrontWent-then start now new _ _ _ after.text front.front) }
 
 pub broken_at_feed : (script : Script) (now new : Option (List ℕ)) → 0 < script.left.lines → 0 < script.left.bytes
-    → ((line : List ℕ) → Holds script.line line → PutsFront now new script.output.pending.items line)
+    → ((line : List ℕ) → Holds script.line line → PutsFront now new script.output.pending.items script.log line)
     → (bounds : Bounds) (start : Option (List ℕ)) (bytes more : List ℕ) → IsAfter bounds script start now bytes → BrokenOff bounds start new (bytes ++ 10 ∷ more)
 broken_at_feed script now new room fits puts bounds start bytes more after =
     broken_by bounds script start now new bytes more room fits (puts (cut bytes).rest after.line) after
@@ -139,9 +130,9 @@ broken_flush bounds script start now new bytes more after front =
     let few_bytes : length bytes ≤ bounds.bytes = omega (arith, after.bytes_left) in
     let few_lines : length (cut bytes).whole ≤ bounds.lines = omega (arith, after.lines_left) in
     let goes = front_of_cut bounds bytes more few_bytes few_lines in
-    let same : answers after.met (lines_before_cut bounds.lines bounds.bytes (bytes ++ more)) ≡ answers after.met (cut bytes).whole =
-    ap (answers after.met) goes.1 ∙ answers-front after.met (cut bytes).whole goes.0 after.each in
-    record { met = after.met; front = rw same (FrontWent-pending start now new _ _ after.text front) }
+    let same : answers [] after.met (lines_before_cut bounds.lines bounds.bytes (bytes ++ more)) ≡ answers [] after.met (cut bytes).whole =
+    ap (answers [] after.met) goes.1 ∙ answers-front [] after.met (cut bytes).whole goes.0 after.each in
+    record { met = after.met; may = rw goes.1 (may-front after.met (cut bytes).whole goes.0 after.may); front = rw same (FrontWent-pending start now new _ _ after.text front) }
 
 -- all the lines that the bounds allow have ended
 pub cut_by_lines : (bounds : Bounds) (script : Script) (start now new : Option (List ℕ)) (bytes more : List ℕ)
@@ -154,8 +145,8 @@ cut_by_lines bounds script start now new bytes more after none flushed =
     ap (λ b. take bounds.lines (cut b).whole) (take_within bounds.bytes bytes more within)
     ∙ ap (take bounds.lines) goes.whole ∙ ap (λ n. take n ((cut bytes).whole ++ goes.others)) many ∙ take-append_seam (cut bytes).whole goes.others in
     record {
-      out = answers after.met (cut bytes).whole;
-      all = record { met = after.met; each = rw same after.each; text = rw same refl };
+      out = answers [] after.met (cut bytes).whole;
+      all = record { met = after.met; each = rw same after.each; may = rw same after.may; text = rw same refl };
       went = Went-flushed start now new _ _ after.text flushed;
     }
 
@@ -169,8 +160,8 @@ cut_by_bytes bounds script start now new bytes more after none flushed =
     ap (λ n. take bounds.lines (cut (take n (bytes ++ more))).whole) all_bytes ∙ ap (λ b. take bounds.lines (cut b).whole) (take-append_seam bytes more)
     ∙ take_all bounds.lines (cut bytes).whole few in
     record {
-      out = answers after.met (cut bytes).whole;
-      all = record { met = after.met; each = rw same after.each; text = rw same refl };
+      out = answers [] after.met (cut bytes).whole;
+      all = record { met = after.met; each = rw same after.each; may = rw same after.may; text = rw same refl };
       went = Went-flushed start now new _ _ after.text flushed;
     }
 
@@ -183,8 +174,8 @@ cut_by_reader bounds script start now new bytes after flushed =
     let same : lines_before_cut bounds.lines bounds.bytes bytes ≡ (cut bytes).whole =
     ap (λ b. take bounds.lines (cut b).whole) (take_all bounds.bytes bytes within) ∙ take_all bounds.lines (cut bytes).whole few in
     record {
-      out = answers after.met (cut bytes).whole;
-      all = record { met = after.met; each = rw same after.each; text = rw same refl };
+      out = answers [] after.met (cut bytes).whole;
+      all = record { met = after.met; each = rw same after.each; may = rw same after.may; text = rw same refl };
       went = Went-flushed start now new _ _ after.text flushed;
     }
 
@@ -254,10 +245,10 @@ within_started bounds script start now bytes started after =
       few_bytes = omega (arith, after.bytes_left);
     }
 
-pub done_started : (script : Script) (now new : Option (List ℕ)) (still : List ℕ) → script.line.started ≡ true
-    → ((line : List ℕ) → Holds script.line line → Puts now new script.output.pending.items still line)
+pub done_started : (script : Script) (log : List Entry) (now new : Option (List ℕ)) (still : List ℕ) → script.line.started ≡ true
+    → ((line : List ℕ) → Holds script.line line → Puts now new script.output.pending.items still script.log log line)
     → (bounds : Bounds) (start : Option (List ℕ)) (bytes : List ℕ) → IsAfter bounds script start now bytes → IsDone bounds start new still bytes
-done_started script now new still started puts bounds start bytes after =
+done_started script log now new still started puts bounds start bytes after =
     let lines = started_line bytes (sym after.line.started ∙ started) in
     let put = puts (cut bytes).rest after.line in
     let many = length-append (cut bytes).whole ((cut bytes).rest ∷ []) in
@@ -265,7 +256,8 @@ done_started script now new still started puts bounds start bytes after =
       within = within_started bounds script start now bytes started after;
       met = after.met ++ put.met ∷ [];
       each = rw lines (length-append after.met (put.met ∷ []) ∙ ap (λ n. n + 1) after.each ∙ sym many);
-      text = rw (lines, answers-push after.met (cut bytes).whole put.met (cut bytes).rest after.each) (Went-then start now new _ _ _ _ after.text put.went);
+      may = rw lines (may-push after.met (cut bytes).whole put.met (cut bytes).rest after.each after.may put.may);
+      text = rw (lines, answers-push [] after.met (cut bytes).whole put.met (cut bytes).rest after.each, ← after.log) (Went-then start now new _ _ _ _ after.text put.went);
     }
 
 pub done_ended : (script : Script) (now : Option (List ℕ)) → script.line.started ≡ false
@@ -279,11 +271,12 @@ done_ended script now none bounds start bytes after =
       };
       met = after.met;
       each = rw lines after.each;
+      may = rw lines after.may;
       text = rw lines after.text;
     }
 
 pub broken_last : (script : Script) (now new : Option (List ℕ)) → script.line.started ≡ true
-    → ((line : List ℕ) → Holds script.line line → PutsFront now new script.output.pending.items line)
+    → ((line : List ℕ) → Holds script.line line → PutsFront now new script.output.pending.items script.log line)
     → (bounds : Bounds) (start : Option (List ℕ)) (bytes : List ℕ) → IsAfter bounds script start now bytes → BrokenAtEnd bounds start new bytes
 broken_last script now new started puts bounds start bytes after =
     let lines = started_line bytes (sym after.line.started ∙ started) in
@@ -291,15 +284,16 @@ broken_last script now new started puts bounds start bytes after =
     record {
       within = within_started bounds script start now bytes started after;
       met = after.met ++ put.met ∷ [];
-      front = rw (lines, answers-push after.met (cut bytes).whole put.met (cut bytes).rest after.each) (FrontWent-then start now new _ _ _ after.text put.front);
+      may = rw lines (may-push after.met (cut bytes).whole put.met (cut bytes).rest after.each after.may put.may);
+      front = rw (lines, answers-push [] after.met (cut bytes).whole put.met (cut bytes).rest after.each, ← after.log) (FrontWent-then start now new _ _ _ after.text put.front);
     }
 
 pub answered_of : (now new : Option (List ℕ)) (pending : List ℕ) → Appends now new pending
     → (bounds : Bounds) (start : Option (List ℕ)) (bytes : List ℕ) → IsDone bounds start now pending bytes → Answered bounds start new bytes
 answered_of now new pending flushed bounds start bytes done = record {
   within = done.within;
-  out = answers done.met (lines_of bytes);
-  all = record { met = done.met; each = done.each; text = refl };
+  out = answers [] done.met (lines_of bytes);
+  all = record { met = done.met; each = done.each; may = done.may; text = refl };
   went = Went-flushed start now new _ _ done.text flushed;
 }
 
@@ -308,6 +302,7 @@ pub broken_close : (now new : Option (List ℕ)) (pending : List ℕ) → FrontW
 broken_close now new pending front bounds start bytes done = record {
   within = done.within;
   met = done.met;
+  may = done.may;
   front = FrontWent-pending start now new _ _ done.text front;
 }
 

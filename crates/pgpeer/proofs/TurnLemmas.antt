@@ -30,6 +30,8 @@ after_flush bounds script output start now new bytes flushed none after = record
   closed = after.closed;
   met = after.met;
   each = after.each;
+  may = after.may;
+  log = after.log;
   text = rw none (Went-none start new _ (Went-flushed start now new _ _ after.text flushed));
 }
 

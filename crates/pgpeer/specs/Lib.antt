@@ -1,9 +1,3 @@
-pub mod LineFault
-pub mod Shapes
-pub mod Trace
-pub mod Command
-pub mod Reply
-pub mod Worked
 pub mod History
 pub mod Answer
 pub mod Lines

@@ -1,13 +1,14 @@
 -- What the buffer of a line keeps of the line, and what is written for it.
-use Rattle.std.specs.Prelude.{◌≡◌, ℕ, ◌<◌, ◌≤◌, List, [], ◌∷◌, ◌++◌, Bool, nat_lt, length}
-use Rattle.pgpeer.specs.Answer.{memory_text}
+use Rattle.std.specs.Prelude.{◌≡◌, ℕ, ◌<◌, ◌≤◌, List, [], ◌∷◌, ◌++◌, Option, Some, None, Bool, nat_lt, length}
+use Rattle.pgp_ids.specs.declared.entry.Entry.{Entry}
 use Rattle.pgpeer.specs.Lines.{is_blank}
-use Rattle.pgpeer.specs.Script.{longest_line, answer}
+use Rattle.pgpeer.specs.Script.{longest_line, want_text, MayMeet, answer, log_past}
 use Rattle.pgpeer.specs.declared.line.Fate.{Fate}
 use Rattle.pgpeer.specs.declared.line.Fate.TheVariants.{Kept, TooLong, NoMemory}
 use Rattle.pgpeer.specs.declared.line.LineBuffer.{LineBuffer}
 use Rattle.pgpeer.specs.declared.line.LineAnswer.{LineAnswer}
-use Rattle.pgpeer.specs.declared.line.LineAnswer.TheVariants.{Nothing, Memory, Text}
+use Rattle.pgpeer.specs.declared.line.LineAnswer.TheVariants.{Nothing, Wants, Text}
+use Rattle.pgpeer.specs.declared.want.Want.{Want}
 
 -- what is kept of a line, by its fate
 abbrev pub KeptBy : Fate → List ℕ → List ℕ → Type 0
@@ -23,16 +24,12 @@ pub record Holds (buffer : LineBuffer) (line : List ℕ) : Type 0 where
 
 abbrev pub answer_bytes : LineAnswer → List ℕ
 answer_bytes Nothing = []
-answer_bytes Memory = memory_text ++ 10 ∷ []
+answer_bytes (Wants want) = want_text want ++ 10 ∷ []
 answer_bytes (Text text) = text.items
 
--- this is the reply with a line feed, or the answer to want of memory
-abbrev pub IsReply : LineAnswer → List ℕ → Type 0
-IsReply Nothing reply = ⊥
-IsReply Memory reply = Unit {0}
-IsReply (Text text) reply = text.items ≡ reply ++ 10 ∷ []
-
--- this is written for the line, met want of memory or not
-pub record IsAnswerTo (found : LineAnswer) (line : List ℕ) : Type 0 where
-  pub met : Bool
-  pub text : answer_bytes found ≡ answer met line
+-- this is written for the line, and the log goes from `before` to `after`
+pub record IsAnswerTo (found : LineAnswer) (before after : List Entry) (line : List ℕ) : Type 0 where
+  pub met : Option Want
+  pub may : MayMeet met line
+  pub text : answer_bytes found ≡ answer before met line
+  pub log : after ≡ log_past before met line

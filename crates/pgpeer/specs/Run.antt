@@ -3,20 +3,25 @@ use Rattle.std.specs.Prelude.{◌≡◌, ◌⊎◌, ℕ, ◌+◌, List, [], ◌+
 use Rattle.std.specs.Io.KnownBytes.{Appends, Consumes, IsAtEnd}
 use Rattle.pgpeer.specs.Lines.{cut, lines_of}
 use Rattle.pgpeer.specs.Line.{Holds}
-use Rattle.pgpeer.specs.Script.{answer, answers, Within, Answers, lines_before_cut}
+use Rattle.pgp_ids.specs.declared.entry.Entry.{Entry}
+use Rattle.pgpeer.specs.Script.{MayMeet, MayMeetEach, answer, answers, log_past, logs, Within, Answers, lines_before_cut}
 use Rattle.pgpeer.specs.Output.{Went, FrontWent}
 use Rattle.pgpeer.specs.declared.script.Script.{Script}
 use Rattle.pgpeer.specs.declared.script.Bounds.{Bounds}
+use Rattle.pgpeer.specs.declared.want.Want.{Want}
 
--- the answer to the line was put after what was pending
-pub record Puts (old new : Option (List ℕ)) (pending still line : List ℕ) : Type 0 where
-  pub met : Bool
-  pub went : Went old new (pending ++ answer met line) still
+-- the answer to the line was put after what was pending, and the log goes from `before` to `after`
+pub record Puts (old new : Option (List ℕ)) (pending still : List ℕ) (before after : List Entry) (line : List ℕ) : Type 0 where
+  pub met : Option Want
+  pub may : MayMeet met line
+  pub went : Went old new (pending ++ answer before met line) still
+  pub log : after ≡ log_past before met line
 
 -- a front of what was pending and the answer to the line went out
-pub record PutsFront (old new : Option (List ℕ)) (pending line : List ℕ) : Type 0 where
-  pub met : Bool
-  pub front : FrontWent old new (pending ++ answer met line)
+pub record PutsFront (old new : Option (List ℕ)) (pending : List ℕ) (before : List Entry) (line : List ℕ) : Type 0 where
+  pub met : Option Want
+  pub may : MayMeet met line
+  pub front : FrontWent old new (pending ++ answer before met line)
 
 -- Of a script within these bounds, these bytes were read, and the answers to the lines that have ended are written
 -- or pending.
@@ -26,16 +31,19 @@ pub record IsAfter (bounds : Bounds) (script : Script) (start now : Option (List
   pub bytes_left : script.left.bytes + length bytes ≡ bounds.bytes
   -- no byte stands after the last line that the bounds allow
   pub closed : script.left.lines ≡ 0 → (cut bytes).rest ≡ []
-  pub met : List Bool
+  pub met : List (Option Want)
   pub each : length met ≡ length (cut bytes).whole
-  pub text : Went start now (answers met (cut bytes).whole) script.output.pending.items
+  pub may : MayMeetEach met (cut bytes).whole
+  pub text : Went start now (answers [] met (cut bytes).whole) script.output.pending.items
+  pub log : script.log ≡ logs [] met (cut bytes).whole
 
 -- The whole script was read, and the answers to its lines are written or pending.
 pub record IsDone (bounds : Bounds) (start now : Option (List ℕ)) (pending bytes : List ℕ) : Type 0 where
   pub within : Within bounds.lines bounds.bytes bytes
-  pub met : List Bool
+  pub met : List (Option Want)
   pub each : length met ≡ length (lines_of bytes)
-  pub text : Went start now (answers met (lines_of bytes)) pending
+  pub may : MayMeetEach met (lines_of bytes)
+  pub text : Went start now (answers [] met (lines_of bytes)) pending
 
 -- the writer got the answers to the whole script
 pub record Answered (bounds : Bounds) (start now : Option (List ℕ)) (bytes : List ℕ) : Type 0 where
@@ -52,14 +60,16 @@ pub record CutOff (bounds : Bounds) (start now : Option (List ℕ)) (bytes : Lis
 
 -- the writer got a front of the answers to the lines that were read whole within the bounds
 pub record BrokenOff (bounds : Bounds) (start now : Option (List ℕ)) (bytes : List ℕ) : Type 0 where
-  pub met : List Bool
-  pub front : FrontWent start now (answers met (lines_before_cut bounds.lines bounds.bytes bytes))
+  pub met : List (Option Want)
+  pub may : MayMeetEach met (lines_before_cut bounds.lines bounds.bytes bytes)
+  pub front : FrontWent start now (answers [] met (lines_before_cut bounds.lines bounds.bytes bytes))
 
 -- the writer got a front of the answers to the whole script
 pub record BrokenAtEnd (bounds : Bounds) (start now : Option (List ℕ)) (bytes : List ℕ) : Type 0 where
   pub within : Within bounds.lines bounds.bytes bytes
-  pub met : List Bool
-  pub front : FrontWent start now (answers met (lines_of bytes))
+  pub met : List (Option Want)
+  pub may : MayMeetEach met (lines_of bytes)
+  pub front : FrontWent start now (answers [] met (lines_of bytes))
 
 -- the script is larger than its bounds
 abbrev pub IsBeyond : Bounds → List ℕ → Type 0

@@ -1,33 +1,78 @@
 -- What is written for a script.
-use Rattle.std.specs.Prelude.{◌≡◌, ℕ, ◌≤◌, List, [], ◌∷◌, ◌++◌, Bool, nat_lt, length, take, if◌then◌else◌}
-use Rattle.pgpeer.specs.Answer.{line_text, memory_text, long_text}
+use Rattle.std.specs.Prelude.{◌≡◌, ℕ, ◌≤◌, List, [], ◌∷◌, ◌++◌, Option, Some, None, Ok, nat_lt, length, take, if◌then◌else◌}
+use Rattle.pgp_ids.specs.declared.entry.Entry.{Entry}
+use Rattle.pgp_ids.specs.declared.refusal.Refusal.TheVariants as refusal
+use Rattle.pgp_ids.specs.declared.text_fault.TextFault.TheVariants as fault
+use Rattle.pgp_text.specs.Command.{command_of}
+use Rattle.pgp_text.specs.Reply.{reply_text}
+use Rattle.pgp_text.specs.declared.command.Command.TheVariants.{Submit}
+use Rattle.pgp_text.specs.declared.reply.Reply.TheVariants.{Refused}
+use Rattle.pgp_text.specs.declared.reply.refused.Refused.TheVariants as why
+use Rattle.pgpeer.specs.Answer.{line_text, line_log, long_text}
 use Rattle.pgpeer.specs.Lines.{cut, lines_of, is_blank}
+use Rattle.pgpeer.specs.declared.want.Want.{Want}
+use Rattle.pgpeer.specs.declared.want.Want.TheVariants as want
 
 -- how many bytes a line has at most
 abbrev pub longest_line : ℕ
 longest_line = 1048576
 
+-- the line was read as an entry
+pub record IsEntryLine (line : List ℕ) : Type 0 where
+  pub short : length line ≤ longest_line
+  pub entry : Entry
+  pub reads : command_of line ≡ Ok (Submit entry)
+
+-- a line can meet this want of memory: that of an entry only where it was read as one
+abbrev pub MayMeet : Option Want → List ℕ → Type 0
+MayMeet None line = Unit {0}
+MayMeet (Some want.Line) line = Unit {0}
+MayMeet (Some want.Entry) line = IsEntryLine line
+
+-- the text for a line that met want of memory
+abbrev pub want_text : Want → List ℕ
+want_text want.Line = reply_text (Refused (why.Line fault.Memory))
+want_text want.Entry = reply_text (Refused (why.Entry refusal.Memory))
+
 -- the answer to a line that is not blank
-abbrev pub reply_text : List ℕ → List ℕ
-reply_text line = if nat_lt longest_line (length line) then long_text else line_text line
+abbrev pub reply_text_of : List Entry → List ℕ → List ℕ
+reply_text_of log line = if nat_lt longest_line (length line) then long_text else line_text log line
 
--- What is written for a line, given whether it met want of memory: nothing for a blank one, else one line.
-abbrev pub answer : Bool → List ℕ → List ℕ
-answer met line =
-    if met then memory_text ++ 10 ∷ []
-    else (if is_blank line then [] else reply_text line ++ 10 ∷ [])
+-- What is written for a line, given the log before it and the want of memory that it met, if any: nothing for a blank
+-- one, else one line.
+abbrev pub answer : List Entry → Option Want → List ℕ → List ℕ
+answer log (Some want) line = want_text want ++ 10 ∷ []
+answer log None line = if is_blank line then [] else reply_text_of log line ++ 10 ∷ []
 
--- What is written for lines, given of each whether it met want of memory.
-abbrev pub answers : List Bool → List (List ℕ) → List ℕ
-answers [] lines = []
-answers (met ∷ more) [] = []
-answers (met ∷ more) (line ∷ lines) = answer met line ++ answers more lines
+-- the log after a line
+abbrev pub log_past : List Entry → Option Want → List ℕ → List Entry
+log_past log (Some want) line = log
+log_past log None line = if is_blank line then log else (if nat_lt longest_line (length line) then log else line_log log line)
 
--- out is the answers to these lines, for some of them the answer to want of memory
+-- What is written for lines, given the log before them and of each the want of memory that it met.
+abbrev pub answers : List Entry → List (Option Want) → List (List ℕ) → List ℕ
+answers log [] lines = []
+answers log (met ∷ more) [] = []
+answers log (met ∷ more) (line ∷ lines) = answer log met line ++ answers (log_past log met line) more lines
+
+-- the log after lines
+abbrev pub logs : List Entry → List (Option Want) → List (List ℕ) → List Entry
+logs log [] lines = log
+logs log (met ∷ more) [] = log
+logs log (met ∷ more) (line ∷ lines) = logs (log_past log met line) more lines
+
+-- each of the first lines can meet its want of memory
+abbrev pub MayMeetEach : List (Option Want) → List (List ℕ) → Type 0
+MayMeetEach [] lines = Unit {0}
+MayMeetEach (met ∷ more) [] = ⊥
+MayMeetEach (met ∷ more) (line ∷ lines) = MayMeet met line × MayMeetEach more lines
+
+-- out is the answers to these lines, the log being empty before them, for some wants of memory that they can meet
 pub record Answers (lines : List (List ℕ)) (out : List ℕ) : Type 0 where
-  pub met : List Bool
+  pub met : List (Option Want)
   pub each : length met ≡ length lines
-  pub text : out ≡ answers met lines
+  pub may : MayMeetEach met lines
+  pub text : out ≡ answers [] met lines
 
 -- bytes with at most so many lines, and at most so many of them
 pub record Within (lines bytes : ℕ) (script : List ℕ) : Type 0 where

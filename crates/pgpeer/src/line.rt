@@ -1,16 +1,21 @@
-ghost use Rattle.std.specs.Prelude.{◌≡◌, ℕ, List, [], ◌++◌, Bool, IfOk};
-ghost use Rattle.pgpeer.specs.Line.{Holds, IsAnswerTo, IsReply, answer_bytes};
+ghost use Rattle.std.specs.Prelude.{◌≡◌, ℕ, List, [], ◌∷◌, ◌++◌, Bool};
+ghost use Rattle.pgpeer.specs.Line.{Holds, IsAnswerTo, answer_bytes};
 ghost use Rattle.pgpeer.specs.Lines.{is_blank};
-ghost use Rattle.pgpeer.specs.Script.{answer};
+ghost use Rattle.pgpeer.specs.Script.{want_text};
 
 use super::answer::{answer_line, answer_long};
-use std::alloc::{AllocError, Global};
+use super::log::Log;
+use super::want::Want;
+use std::alloc::Global;
 
 /// How many bytes a line has at most, without its line feed.
 pub const LONGEST_LINE: usize = 1_048_576;
 
-/// The answer to a line that met want of memory. It takes none.
-pub const MEMORY_LINE: &[u8] = b"{\"code\":41,\"refused\":\"Memory\"}\n";
+/// The answer to a line for which there was no memory. It takes none.
+const NO_LINE: &[u8] = b"{\"code\":41,\"refused\":\"Memory\"}\n";
+
+/// The answer to a line that was read as an entry for which there was no memory. It takes none.
+const NO_ENTRY: &[u8] = b"{\"code\":51,\"refused\":\"Memory\"}\n";
 
 /// What became of the bytes of a line.
 #[derive(Clone, Copy, Debug, PartialEq, Eq)]
@@ -39,8 +44,8 @@ pub struct LineBuffer {
 pub enum LineAnswer {
     /// Nothing, for a blank line.
     Nothing,
-    /// [`MEMORY_LINE`].
-    Memory,
+    /// The constant text for this want of memory.
+    Wants(Want),
     /// This text, with its line feed.
     Text(Vec<u8>),
 }
@@ -51,9 +56,19 @@ impl LineAnswer {
     {
         match self {
             LineAnswer::Nothing => &[],
-            LineAnswer::Memory => MEMORY_LINE,
+            LineAnswer::Wants(want) => want_line(*want),
             LineAnswer::Text(text) => text.as_slice(),
         }
+    }
+}
+
+/// The answer to a line that met want of memory.
+pub fn want_line(want: Want) -> &'static [u8]
+    ensures { result.now ≡ want_text want ++ 10 ∷ [] }
+{
+    match want {
+        Want::Line => NO_LINE,
+        Want::Entry => NO_ENTRY,
     }
 }
 
@@ -98,30 +113,23 @@ impl LineBuffer {
         }
     }
 
-    /// What is written for the line.
-    pub fn answer(&self, alloc: Global) -> LineAnswer
-        ensures { (line : List ℕ) → Holds self.now line → IsAnswerTo result line }
+    /// What is written for the line; where it is an entry that the log takes, the log has it from now on.
+    pub fn answer(&self, alloc: Global, log: &mut Log) -> LineAnswer
+        ensures { (line : List ℕ) → Holds self.now line → IsAnswerTo result log.old log.new line }
     {
         match self.fate {
-            Fate::NoMemory => LineAnswer::Memory,
+            Fate::NoMemory => LineAnswer::Wants(Want::Line),
             Fate::TooLong if self.blank => LineAnswer::Nothing,
-            Fate::TooLong => ended(answer_long(alloc)),
+            Fate::TooLong => match answer_long(alloc) {
+                Ok(text) => LineAnswer::Text(text),
+                Err(_) => LineAnswer::Wants(Want::Line),
+            },
             Fate::Kept if self.blank => LineAnswer::Nothing,
-            Fate::Kept => ended(answer_line(alloc, self.bytes.as_slice())),
+            Fate::Kept => match answer_line(alloc, self.bytes.as_slice(), log) {
+                Ok(text) => LineAnswer::Text(text),
+                Err(want) => LineAnswer::Wants(want),
+            },
         }
-    }
-}
-
-/// The text with a line feed.
-fn ended(text: Result<Vec<u8>, AllocError>) -> LineAnswer
-    ensures { (reply : List ℕ) → IfOk text (λ t. t.items ≡ reply) → IsReply result reply }
-{
-    match text {
-        Ok(mut text) => match text.push(b'\n') {
-            Ok(()) => LineAnswer::Text(text),
-            Err(_) => LineAnswer::Memory,
-        },
-        Err(AllocError) => LineAnswer::Memory,
     }
 }
 

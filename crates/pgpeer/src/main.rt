@@ -11,18 +11,19 @@ use std::process::ExitCode;
 use streams::Watched;
 
 mod answer;
-mod command;
 mod history;
 mod laws;
 mod line;
+mod log;
 mod options;
 mod output;
-mod reply;
+mod report;
 mod script;
 mod status;
 mod streams;
 #[cfg(test)]
 mod tests;
+mod want;
 
 fn main(rt: HostRuntime) -> ExitCode {
     let alloc = rt.alloc();

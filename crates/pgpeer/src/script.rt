@@ -9,6 +9,7 @@ ghost use Rattle.pgpeer.specs.Output.{FrontWent};
 ghost use Rattle.pgpeer.specs.Run.{IsAfter, Answered, CutOff, BrokenOff, BrokenAtEnd, IsDone, IsBeyond, Puts, PutsFront, AllAnswered, ReadStopped, WriteStopped};
 
 use super::line::LineBuffer;
+use super::log::Log;
 use super::output::{Output, WriteFault};
 use super::streams::{Sink, Source};
 use memchr::memchr;
@@ -52,6 +53,8 @@ impl From<WriteFault> for ScriptFault {
 pub struct Script {
     pub line: LineBuffer,
     pub output: Output,
+    /// The entries that were taken so far.
+    pub log: Log,
     /// How many more lines may end, and how many more bytes may be read.
     pub left: Bounds,
 }
@@ -64,6 +67,7 @@ impl Script {
         Script {
             line: LineBuffer::new(alloc),
             output: Output::new(alloc),
+            log: Log::new(alloc),
             left: bounds,
         }
     }
@@ -81,17 +85,17 @@ impl Script {
         self.left.bytes -= piece.len() as u64;
     }
 
-    /// Answers the line that is being read.
+    /// Answers the line that is being read, and has the log take the entry that it may be.
     fn put_answer<W: Sink>(&mut self, alloc: Global, writer: &mut W) -> Result<(), WriteFault>
         ensures ok { OnOk result ((line : List ℕ) → Holds self.old.line line
             → Puts (W.contents writer.old) (W.contents writer.new) self.old.output.pending.items
-            self.new.output.pending.items line) }
+            self.new.output.pending.items self.old.log self.new.log line) }
         ensures err { OnErr result ((line : List ℕ) → Holds self.old.line line
-            → PutsFront (W.contents writer.old) (W.contents writer.new) self.old.output.pending.items line) }
+            → PutsFront (W.contents writer.old) (W.contents writer.new) self.old.output.pending.items self.old.log line) }
         ensures told { OnErr result (W.failed writer.new ≡ true) }
-        ensures kept { self.new ≡ record self.old { output = self.new.output } }
+        ensures kept { self.new ≡ record self.old { output = self.new.output; log = self.new.log } }
     {
-        let answer = self.line.answer(alloc);
+        let answer = self.line.answer(alloc, &mut self.log);
         self.output.put(answer.as_slice(), writer)
     }
 

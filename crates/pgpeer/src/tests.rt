@@ -1,3 +1,3 @@
 mod fakes;
-mod lines;
+mod incrementals;
 mod program;

@@ -18,7 +18,11 @@ const ANSWERS: &[u8] =
 const NEVER: usize = usize::MAX;
 
 /// What a run with these words and this script answers: its status, output and errors.
-fn run_with(alloc: Global, words: &[&str], script: &[u8]) -> Result<(u8, Vec<u8>, Vec<u8>), Fail> {
+pub fn run_with(
+    alloc: Global,
+    words: &[&str],
+    script: &[u8],
+) -> Result<(u8, Vec<u8>, Vec<u8>), Fail> {
     let mut given = Vec::new(alloc);
     for word in words {
         given.push(String::from_str(alloc, word)?)?;

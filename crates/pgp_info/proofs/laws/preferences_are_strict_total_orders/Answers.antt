@@ -1,4 +1,4 @@
-use Rattle.pgp_info.proofs.PreferenceLemmas.{newest_is_preference, oldest_is_preference}
+use Rattle.pgp_info.specs.PreferenceLaws.{newest_is_preference, oldest_is_preference}
 use Rattle.pgp_info.proofs.laws.preferences_are_strict_total_orders.Goals as goal
 
 pub returns-clause-newest : goal.returns-clause-newest

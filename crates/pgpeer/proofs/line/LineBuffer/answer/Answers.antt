@@ -1,12 +1,22 @@
-use Rattle.pgpeer.specs.Answer.{line_text, long_text}
-use Rattle.pgpeer.proofs.LineLemmas.{answer-long, answer-kept}
+use Rattle.std.proofs.Common.{refl}
+use Rattle.pgpeer.specs.declared.want.Want.TheVariants.{Line}
+use Rattle.pgpeer.proofs.LineLemmas.{answer-wants, answer-long, answer-kept, answer-kept-wants}
 use Rattle.pgpeer.proofs.line.LineBuffer.answer.Goals as goal
 
-pub returns-in-TooLong-2 : goal.returns-in-TooLong-2
-returns-in-TooLong-2 c line holds =
-    answer-long _ _ line holds c.in-TooLong-2.is c.if-self.false (c.ended.ensures long_text c.answer_long.ensures)
+pub returns-in-NoMemory : goal.returns-in-NoMemory
+returns-in-NoMemory c line holds = answer-wants _ line Line tt
 
-pub returns-in-Kept-2 : goal.returns-in-Kept-2
-returns-in-Kept-2 c line holds =
-    answer-kept _ _ line holds c.in-Kept-2.is c.if-self-2.false
-    (c.ended-in-Kept-2.ensures (line_text c.args.self.now.bytes.items) (rw c.as_slice.ensures.value at c.answer_line.ensures))
+pub returns-in-Err : goal.returns-in-Err
+returns-in-Err c line holds = answer-wants _ line Line tt
+
+pub returns-in-Ok : goal.returns-in-Ok
+returns-in-Ok c line holds = answer-long _ _ line _ holds c.in-TooLong-2.is c.if-self.false c.in-Ok.ensures
+
+pub returns-in-Ok-answer_line : goal.returns-in-Ok-answer_line
+returns-in-Ok-answer_line c line holds =
+    answer-kept _ _ _ line _ holds c.in-Kept-2.is c.if-self-2.false (rw c.as_slice.ensures.value at c.in-Ok-answer_line.ensures.text)
+    (rw c.as_slice.ensures.value at (c.in-Ok-answer_line.ensures.log refl))
+
+pub returns-in-Err-answer_line : goal.returns-in-Err-answer_line
+returns-in-Err-answer_line c line holds =
+    answer-kept-wants _ _ _ line _ holds c.in-Kept-2.is (rw c.as_slice.ensures.value at c.in-Err-answer_line.ensures.wants) c.in-Err-answer_line.ensures.kept

@@ -1,0 +1,4 @@
+pub mod FitsLemmas
+pub mod LogLemmas
+pub mod EpochLemmas
+pub mod WorldLemmas

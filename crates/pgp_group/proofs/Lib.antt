@@ -1,0 +1,5 @@
+pub mod VerdictLemmas
+pub mod HeardLemmas
+pub mod ViewLemmas
+pub mod HistoryLemmas
+pub mod PeerLemmas

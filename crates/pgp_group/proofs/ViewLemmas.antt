@@ -1,0 +1,41 @@
+-- What is known of any view.
+use Rattle.std.proofs.Common.{◌≡◌, List, Option, Some, None, Bool, true, false, is_some, nat_lt, refl, ◌∙◌, if◌then◌else◌}
+use Rattle.std.specs.Option.{option_map, option_map_or}
+use Rattle.pgp_code.specs.declared.any.AnyCode.{AnyCode}
+use Rattle.pgp_code.specs.declared.any.AnyCode.TheVariants as code
+use Rattle.pgp_ids.specs.declared.entry.Entry.{Entry}
+use Rattle.pgp_ids.specs.declared.group_member.Member.{Member}
+use Rattle.pgp_ids.specs.declared.incremental.Incremental.{Incremental}
+use Rattle.pgp_ids.specs.declared.pg_id.PgId.{PgId}
+use Rattle.pgp_info.specs.Preference.{IsPreference}
+use Rattle.pgp_info.specs.PreferenceLaws.{newest_is_preference, oldest_is_preference}
+use Rattle.pgp_map.specs.Pools.{pool, has_group}
+use Rattle.pgp_group.specs.Entries.{incs_of}
+use Rattle.pgp_group.specs.GroupLog.{group_in, group_with}
+use Rattle.pgp_group.specs.GroupHistory.{group_history, history_of}
+use Rattle.pgp_group.specs.Prefers.{prefers}
+use Rattle.pgp_group.specs.View.{view_of, scratch}
+
+pub prefers_is_preference : (c : AnyCode) (leader : Option Member) → IsPreference (prefers c leader)
+prefers_is_preference (code.Replicated c) leader = newest_is_preference leader
+prefers_is_preference (code.Erasure c) leader = oldest_is_preference leader
+
+-- ---- a view is there exactly where its group is
+
+there_if : {X : Type 0} (b : Bool) (x : X) → is_some (if b then Some x else None) ≡ b
+there_if true x = refl
+there_if false x = refl
+
+some_mapped : {X Y : Type 0} (f : X → Y) (found : Option X) → is_some (option_map f found) ≡ is_some found
+some_mapped f None = refl
+some_mapped f (Some x) = refl
+
+there_with : {X Y : Type 0} (found : Option X) (test : X → Bool) (make : X → Y) → is_some (if option_map_or test found false then option_map make found else None) ≡ option_map_or test found false
+there_with None test make = refl
+there_with (Some x) test make = there_if (test x) (make x)
+
+history_there : (incs : List Incremental) (pg : PgId) → is_some (group_history incs pg) ≡ has_group incs pg
+history_there incs pg = there_with (pool incs pg.pool) (λ made. nat_lt pg.pg made.pg_num) (history_of incs pg)
+
+pub scratch_there : (log : List Entry) (pg : PgId) → is_some (scratch log pg) ≡ has_group (incs_of log) pg
+scratch_there log pg = some_mapped view_of (group_in log pg) ∙ some_mapped (group_with log pg) (group_history (incs_of log) pg) ∙ history_there (incs_of log) pg

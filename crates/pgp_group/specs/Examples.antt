@@ -1,0 +1,136 @@
+-- Small logs of a group of three copies and of a group of three shards.
+use Rattle.std.specs.Prelude.{ℕ, List, [], ◌∷◌, ◌++◌, Some, None, Bool, true, map, codes}
+use Rattle.pgp_ids.specs.declared.entry.Entry.{Entry}
+use Rattle.pgp_ids.specs.declared.entry.Entry.TheVariants as entry
+use Rattle.pgp_ids.specs.declared.group_member.Member.{Member}
+use Rattle.pgp_ids.specs.declared.incremental.Incremental.{Incremental}
+use Rattle.pgp_ids.specs.declared.log_entry.Change.TheVariants.{Modify, Delete}
+use Rattle.pgp_ids.specs.declared.log_entry.LogEntry.{LogEntry}
+use Rattle.pgp_ids.specs.declared.member.Membership.{Membership}
+use Rattle.pgp_ids.specs.declared.past.Past.{Past}
+use Rattle.pgp_ids.specs.declared.pg_id.PgId.{PgId}
+use Rattle.pgp_ids.specs.declared.peer.MissingObject.{MissingObject}
+use Rattle.pgp_ids.specs.declared.peer.PeerMissing.{PeerMissing}
+use Rattle.pgp_ids.specs.declared.peer.PeerState.{PeerState}
+use Rattle.pgp_ids.specs.declared.report.Info.{Info}
+use Rattle.pgp_ids.specs.declared.version.Version.{Version}
+use Rattle.pgp_map.specs.Examples.{empty_step}
+use Rattle.pgp_sets.specs.Examples.{of_device, copies_group, shards_group, stands_on, copies_on_three, shards_on_three, take_down, lies_on}
+
+abbrev pub in_slot : ℕ → ℕ → Member
+in_slot osd slot = record { osd = osd; slot = slot }
+
+-- the version of this epoch and number
+abbrev pub at : ℕ → ℕ → Version
+at epoch v = record { epoch = epoch; v = v }
+
+-- ---- maps
+
+-- the membership of the group of three copies, with pg_temp on three devices
+abbrev pub on_three : ℕ → Membership
+on_three min_size = lies_on 3 min_size (Some 0 ∷ []) (Some 0 ∷ Some 1 ∷ Some 2 ∷ [])
+
+-- the membership of the group of three shards, with pg_temp on these devices
+abbrev pub shards_on : ℕ → ℕ → ℕ → Membership
+shards_on a b c = lies_on 3 2 (None ∷ None ∷ None ∷ []) (Some a ∷ Some b ∷ Some c ∷ [])
+
+-- an incremental that tells through which epoch a device was up
+abbrev pub known_up : ℕ → ℕ → ℕ → Incremental
+known_up epoch osd thru = record (empty_step epoch) { up_thru = of_device osd thru ∷ [] }
+
+-- an incremental that gives these devices up for lost, each at an epoch
+abbrev pub give_up : ℕ → ℕ → ℕ → Incremental
+give_up epoch osd lost_at = record (empty_step epoch) { lost = of_device osd lost_at ∷ [] }
+
+-- a past interval
+abbrev pub was : ℕ → ℕ → Membership → Bool → Past
+was first last members rw = record { first = first; last = last; members = members; rw = rw }
+
+-- a log of these incrementals alone
+abbrev pub maps : List Incremental → List Entry
+maps incs = map entry.Inc incs
+
+-- The group of three shards served on the devices 0, 1 and 2, where it may have gone read-write. Two of them went down,
+-- and pg_temp put the group on 0, 3 and 4.
+abbrev pub two_shards_down : List Incremental
+two_shards_down =
+    shards_on_three
+    ∷ known_up 2 0 1
+    ∷ record (take_down 3 (1 ∷ 2 ∷ [])) { temp = stands_on shards_group (Some 0 ∷ Some 3 ∷ Some 4 ∷ []) }
+    ∷ []
+
+-- ---- reports
+
+-- the info of a complete copy with no write, of a device in slot 0 of the group of three copies, sent at this epoch
+abbrev pub copy : ℕ → ℕ → Info
+copy osd stamp =
+    record {
+      pg = copies_group;
+      member = in_slot osd 0;
+      stamp = stamp;
+      les = 0;
+      history_les = 0;
+      last_update = at 0 0;
+      log_tail = at 0 0;
+      complete = true;
+    }
+
+-- the same with the writes up to this one, sent at epoch 1
+abbrev pub copy_up_to : ℕ → Version → Info
+copy_up_to osd last = record (copy osd 1) { last_update = last }
+
+-- the same of a shard
+abbrev pub shard_up_to : ℕ → ℕ → Version → Info
+shard_up_to osd slot last = record (copy_up_to osd last) { pg = shards_group; member = in_slot osd slot }
+
+-- a shard with no write, sent at this epoch
+abbrev pub shard : ℕ → ℕ → ℕ → Info
+shard osd slot stamp = record (copy osd stamp) { pg = shards_group; member = in_slot osd slot }
+
+-- a log of these infos alone
+abbrev pub infos_sent : List Info → List Entry
+infos_sent infos = map entry.Info infos
+
+abbrev pub modify : ℕ → List ℕ → LogEntry
+modify v object = record { version = at 1 v; change = Modify; object = object }
+
+abbrev pub delete : ℕ → List ℕ → LogEntry
+delete v object = record { version = at 1 v; change = Delete; object = object }
+
+-- entries of the log of a member, sent at epoch 1
+abbrev pub entries_of : PgId → Member → List LogEntry → Entry
+entries_of pg member log = entry.Entries (record { pg = pg; member = member; stamp = 1; log = log })
+
+-- entries of the log of the first copy
+abbrev pub entries_of_first : List LogEntry → Entry
+entries_of_first log = entries_of copies_group (in_slot 0 0) log
+
+abbrev pub lacks : List ℕ → ℕ → MissingObject
+lacks object v = record { object = object; version = at 1 v }
+
+abbrev pub peer : Member → PeerState → PeerMissing
+peer member state = record { member = member; state = state }
+
+-- one write each of "a", "b" and "c"
+abbrev pub three_writes : List LogEntry
+three_writes = modify 1 (codes "a") ∷ modify 2 (codes "b") ∷ modify 3 (codes "c") ∷ []
+
+-- three copies, of which the first has the writes up to [1,3] and tells these entries of its log, and the others none
+abbrev pub with_entries : List LogEntry → List Entry
+with_entries entries =
+    maps (copies_on_three ∷ [])
+    ++ infos_sent (copy_up_to 0 (at 1 3) ∷ copy 1 1 ∷ copy 2 1 ∷ [])
+    ++ entries_of_first entries ∷ []
+
+-- ---- a group that comes to serve
+
+-- Three copies; the first has two writes, the second one, the third none, and the first tells of its log.
+abbrev pub before_serving : List Entry
+before_serving =
+    maps (copies_on_three ∷ [])
+    ++ infos_sent (copy_up_to 0 (at 1 2) ∷ copy_up_to 1 (at 1 1) ∷ copy 2 1 ∷ [])
+    ++ entries_of_first (modify 1 (codes "a") ∷ modify 2 (codes "b") ∷ []) ∷ []
+
+-- then the map says that the first was up in epoch 1
+abbrev pub until_serving : List Entry
+until_serving = before_serving ++ entry.Inc (known_up 2 0 1) ∷ []

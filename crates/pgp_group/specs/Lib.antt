@@ -1,0 +1,10 @@
+pub mod Entries
+pub mod Prefers
+pub mod GroupHistory
+pub mod GroupLog
+pub mod Heard
+pub mod Peering
+pub mod Verdict
+pub mod View
+pub mod Examples
+pub mod Worked

@@ -1,0 +1,8 @@
+//! A placement group as the log of all that monitor and devices told says of it: its history, whom it has heard, whose
+//! copy is the one to go by, and whether it may serve.
+//!
+//! The layers below each say one thing of a group: where it lies, in which intervals, whom it has to hear, which info is
+//! the best, what the others lack. This crate joins them into one view (Ceph's developer documentation on peering).
+#![tactic(auto)]
+
+pub mod laws;

@@ -1,0 +1,9 @@
+use Rattle.std.proofs.Common.{◌∙◌, nat_eq}
+use Rattle.std.specs.HashSet as bag
+use Rattle.pgp_map.specs.MapFault.{told_devices}
+use Rattle.pgp_map.proofs.CheckLemmas.{has_unknown-is}
+use Rattle.pgp_map.proofs.map.OsdMap.has_unknown_device.Goals as goal
+
+pub returns : goal.returns
+returns c = λ incs is. simp c.requires.told at c.has_unknown.ensures
+    ∙ has_unknown-is incs c.args.self.now is c.args.inc.now (bag.contains nat_eq c.args.boots.now) (told_devices c.args.inc.now) c.requires.boots

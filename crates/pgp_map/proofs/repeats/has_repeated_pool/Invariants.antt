@@ -1,0 +1,11 @@
+use Rattle.std.proofs.Common.{◌≡◌, ℕ, take, false, nat_eq}
+use Rattle.std.specs.List.{list_any}
+use Rattle.std.specs.HashSet as bag
+use Rattle.pgp_map.specs.MapFault.{has_repeat}
+use Rattle.pgp_map.proofs.repeats.has_repeated_pool.Given as goal
+
+abbrev pub invariant-loop-pool : goal.invariant-loop-pool
+invariant-loop-pool l = record {
+  seen_is : (q : ℕ) → bag.contains nat_eq l.seen q ≡ list_any (nat_eq q) (take l.pool-index l.pools);
+  fresh : has_repeat nat_eq (take l.pool-index l.pools) ≡ false;
+}

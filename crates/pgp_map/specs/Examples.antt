@@ -1,0 +1,71 @@
+-- Small map incrementals.
+use Rattle.std.specs.Prelude.{ℕ, List, [], ◌∷◌, Option, None}
+use Rattle.pgp_ids.specs.declared.incremental.DeviceEpoch.{DeviceEpoch}
+use Rattle.pgp_ids.specs.declared.incremental.DeviceWeight.{DeviceWeight}
+use Rattle.pgp_ids.specs.declared.incremental.Incremental.{Incremental}
+use Rattle.pgp_ids.specs.declared.incremental.TempList.{TempList}
+use Rattle.pgp_ids.specs.declared.pool.PoolKind.TheVariants.{Replicated, Erasure}
+use Rattle.pgp_ids.specs.declared.pool.PoolSizes.{PoolSizes}
+use Rattle.pgp_ids.specs.declared.pool.PoolSpec.{PoolSpec}
+
+-- an incremental that changes nothing but the epoch
+abbrev pub empty_step : ℕ → Incremental
+empty_step epoch =
+    record {
+      epoch = epoch;
+      up = [];
+      down = [];
+      gone = [];
+      weight = [];
+      up_thru = [];
+      lost = [];
+      pools = [];
+      sizes = [];
+      temp = [];
+      crush = None;
+    }
+
+-- an incremental that boots these devices
+abbrev pub boot : ℕ → List ℕ → Incremental
+boot epoch osds = record (empty_step epoch) { up = osds }
+
+-- the device has this weight, or this epoch is told of it
+abbrev pub weighs : ℕ → ℕ → List DeviceWeight
+weighs osd weight = record { osd = osd; weight = weight } ∷ []
+
+abbrev pub told : ℕ → ℕ → List DeviceEpoch
+told osd epoch = record { osd = osd; epoch = epoch } ∷ []
+
+-- device 0 is up since epoch 1
+abbrev pub one_up : List Incremental
+one_up = boot 1 (0 ∷ []) ∷ []
+
+-- a replicated pool of one group
+abbrev pub copies : ℕ → ℕ → PoolSpec
+copies id size = record { id = id; pg_num = 1; kind = Replicated; size = size; min_size = 1; leaf = 0 }
+
+-- an erasure pool of one group and size 3, of which two shards give an object back
+abbrev pub shards : ℕ → PoolSpec
+shards id = record { id = id; pg_num = 1; kind = Erasure 2; size = 3; min_size = 2; leaf = 0 }
+
+abbrev pub sized : ℕ → ℕ → ℕ → List PoolSizes
+sized pool size min_size = record { pool = pool; size = size; min_size = min_size } ∷ []
+
+-- group 0 of the pool lies on these devices
+abbrev pub placed : ℕ → List (Option ℕ) → List TempList
+placed pool osds = record { pg = record { pool = pool; pg = 0 }; osds = osds } ∷ []
+
+-- devices 0, 1 and 2 boot, and pool 1 of three copies and pool 2 of three shards are made
+abbrev pub two_pools : List Incremental
+two_pools = record (boot 1 (0 ∷ 1 ∷ 2 ∷ [])) { pools = copies 1 3 ∷ shards 2 ∷ [] } ∷ []
+
+-- device 0 boots and gets a weight; it is said to be up through epoch 1 and goes down; it is given up for lost; it is
+-- destroyed; it boots again
+abbrev pub made_again : List Incremental
+made_again =
+    record (boot 1 (0 ∷ [])) { weight = weighs 0 5 }
+    ∷ record (empty_step 2) { down = 0 ∷ []; up_thru = told 0 1 }
+    ∷ record (empty_step 3) { lost = told 0 3 }
+    ∷ record (empty_step 4) { gone = 0 ∷ [] }
+    ∷ boot 5 (0 ∷ [])
+    ∷ []

@@ -1,0 +1,14 @@
+pub mod Last
+pub mod Devices
+pub mod Pools
+pub mod Map
+pub mod MapFault
+pub mod FaultNumber
+pub mod DeviceTable
+pub mod PoolTable
+pub mod WeightTable
+pub mod TempTable
+pub mod MapOf
+pub mod Room
+pub mod Examples
+pub mod Findings

@@ -1,0 +1,129 @@
+//! What the definitions say of small lists of incrementals.
+
+ghost use Rattle.std.specs.Prelude.{◌≡◌, ◌≤◌, ℕ, List, [], ◌∷◌, Some, None, true, false, map, option_map};
+ghost use Rattle.pgp_crush.specs.Bucket.{bucket_of};
+ghost use Rattle.pgp_crush.specs.TreeFault.{tree_fault};
+ghost use Rattle.pgp_crush.specs.declared.fault.TreeFault.{TreeFault as Fault};
+ghost use Rattle.pgp_ids.specs.declared.bucket.BucketSpec.{BucketSpec as Spec};
+ghost use Rattle.pgp_map.specs.declared.fault.MapFault.TheVariants.{EpochGap, Twice, UnknownDevice, AlreadyUp, AlreadyDown, StillUp, UpThruBack, Ahead, BadPool, PoolKnown, BadTemp, TreeFault};
+ghost use Rattle.pgp_map.specs.Devices.{exists, is_up, up_from, down_at, up_thru, lost_at, weight};
+ghost use Rattle.pgp_map.specs.Map.{epoch, up_to, tree};
+ghost use Rattle.pgp_map.specs.MapFault.{map_fault};
+ghost use Rattle.pgp_map.specs.Pools.{pool, temp};
+ghost use Rattle.pgp_map.specs.Examples.{empty_step, boot, weighs, told, one_up, copies, shards, sized, placed, two_pools, made_again};
+
+/// The first incremental leads to epoch 1.
+#[tactic(auto, unfolding(crate::specs::MapFault::map_fault))]
+pub fn epochs_follow_each_other()
+    ensures gap { map_fault [] (empty_step 2) ≡ Some EpochGap }
+    ensures first { map_fault [] (empty_step 1) ≡ None }
+    ensures again { map_fault one_up (empty_step 1) ≡ Some EpochGap }
+    ensures first_of_all { map_fault one_up (boot 3 (0 ∷ 0 ∷ [])) ≡ Some EpochGap }
+{}
+
+/// One incremental may boot a device and weigh it; a device that neither is there nor boots can't be weighed.
+#[tactic(auto, unfolding(crate::specs::MapFault::map_fault))]
+pub fn devices_are_known()
+    ensures absent { map_fault [] (record (empty_step 1) { weight = weighs 0 0 }) ≡ Some UnknownDevice }
+    ensures booting { map_fault [] (record (boot 1 (0 ∷ [])) { weight = weighs 0 0 }) ≡ None }
+    ensures destroyed { map_fault [] (record (empty_step 1) { gone = 0 ∷ [] }) ≡ Some UnknownDevice }
+    ensures lost { map_fault [] (record (empty_step 1) { lost = told 0 0 }) ≡ Some UnknownDevice }
+    ensures before_up { map_fault one_up (record (boot 2 (0 ∷ [])) { down = 1 ∷ [] }) ≡ Some UnknownDevice }
+{}
+
+/// A device may stand once in up, down and gone together, and once in each other list.
+#[tactic(auto, unfolding(crate::specs::MapFault::map_fault))]
+pub fn nothing_is_named_twice()
+    ensures down_and_gone { map_fault one_up (record (empty_step 2) { down = 0 ∷ []; gone = 0 ∷ [] }) ≡ Some Twice }
+    ensures up_and_down { map_fault one_up (record (boot 2 (0 ∷ [])) { down = 0 ∷ [] }) ≡ Some Twice }
+    ensures before_unknown { map_fault [] (record (empty_step 1) { down = 7 ∷ 7 ∷ [] }) ≡ Some Twice }
+    ensures made_and_sized { map_fault [] (record (empty_step 1) { pools = copies 1 3 ∷ []; sizes = sized 1 2 1 }) ≡ Some Twice }
+{}
+
+/// Which devices can boot, go down, be destroyed and be given up for lost.
+#[tactic(auto, unfolding(crate::specs::MapFault::map_fault))]
+pub fn devices_that_stand()
+    ensures up { map_fault one_up (boot 2 (0 ∷ [])) ≡ Some AlreadyUp }
+    ensures down { map_fault (boot 1 (0 ∷ []) ∷ record (empty_step 2) { down = 0 ∷ [] } ∷ []) (record (empty_step 3) { down = 0 ∷ [] }) ≡ Some AlreadyDown }
+    ensures destroyed_up { map_fault one_up (record (empty_step 2) { gone = 0 ∷ [] }) ≡ Some StillUp }
+    ensures lost_as_it_boots { map_fault [] (record (boot 1 (0 ∷ [])) { lost = told 0 1 }) ≡ Some StillUp }
+    ensures lost_as_it_goes_down { map_fault one_up (record (empty_step 2) { down = 0 ∷ []; lost = told 0 2 }) ≡ None }
+    ensures lost_ahead { map_fault one_up (record (empty_step 2) { down = 0 ∷ []; lost = told 0 3 }) ≡ Some Ahead }
+{}
+
+/// up_thru never falls, and is never above the incremental's epoch.
+#[tactic(auto, unfolding(crate::specs::MapFault::map_fault))]
+pub fn up_thru_rises()
+    ensures ahead { map_fault one_up (record (empty_step 2) { up_thru = told 0 3 }) ≡ Some Ahead }
+    ensures at_its_epoch { map_fault one_up (record (empty_step 2) { up_thru = told 0 2 }) ≡ None }
+    ensures back { map_fault (boot 1 (0 ∷ []) ∷ record (empty_step 2) { up_thru = told 0 2 } ∷ []) (record (empty_step 3) { up_thru = told 0 1 }) ≡ Some UpThruBack }
+    ensures again { map_fault (boot 1 (0 ∷ []) ∷ record (empty_step 2) { up_thru = told 0 2 } ∷ []) (record (empty_step 3) { up_thru = told 0 2 }) ≡ None }
+{}
+
+/// A pool's sizes are 1 to 16 and 1 to the size, those of an erasure pool stay, and a pool is made once.
+#[tactic(auto, unfolding(crate::specs::MapFault::map_fault))]
+pub fn pools_in_range()
+    ensures absent { map_fault one_up (record (empty_step 2) { sizes = sized 1 1 1 }) ≡ Some BadPool }
+    ensures too_small { map_fault [] (record (empty_step 1) { pools = copies 1 0 ∷ [] }) ≡ Some BadPool }
+    ensures too_large { map_fault [] (record (empty_step 1) { pools = copies 1 17 ∷ [] }) ≡ Some BadPool }
+    ensures largest { map_fault [] (record (empty_step 1) { pools = copies 1 16 ∷ [] }) ≡ None }
+    ensures erasure { map_fault two_pools (record (empty_step 2) { sizes = sized 2 4 2 }) ≡ Some BadPool }
+    ensures min_size_of_erasure { map_fault two_pools (record (empty_step 2) { sizes = sized 2 3 3 }) ≡ None }
+    ensures groups { let pool = record (copies 1 1) { pg_num = 1024 } in
+        map_fault [] (record (empty_step 1) { pools = record pool { pg_num = 1025 } ∷ [] }) ≡ Some BadPool }
+    ensures known { map_fault two_pools (record (empty_step 2) { pools = copies 1 3 ∷ [] }) ≡ Some PoolKnown }
+    ensures bad_before_known { map_fault two_pools (record (empty_step 2) { pools = copies 1 17 ∷ [] }) ≡ Some BadPool }
+    ensures known_before_temp { map_fault two_pools (record (empty_step 2) { pools = copies 1 3 ∷ []; temp = placed 9 [] }) ≡ Some PoolKnown }
+{}
+
+/// A pg_temp list is judged by the pools of the new map.
+#[tactic(auto, unfolding(crate::specs::MapFault::map_fault))]
+pub fn temp_lists_fit()
+    ensures absent { map_fault one_up (record (empty_step 2) { temp = placed 1 (Some 0 ∷ []) }) ≡ Some BadTemp }
+    ensures made_with_it { map_fault one_up (record (empty_step 2) { pools = copies 1 3 ∷ []; temp = placed 1 (Some 0 ∷ []) }) ≡ None }
+    ensures empty_place { map_fault two_pools (record (empty_step 2) { temp = placed 1 (None ∷ []) }) ≡ Some BadTemp }
+    ensures shards { map_fault two_pools (record (empty_step 2) { temp = placed 2 (None ∷ Some 1 ∷ None ∷ []) }) ≡ None }
+    ensures too_few_shards { map_fault two_pools (record (empty_step 2) { temp = placed 2 (Some 0 ∷ Some 1 ∷ []) }) ≡ Some BadTemp }
+    ensures taken_away { map_fault two_pools (record (empty_step 2) { temp = placed 2 [] }) ≡ None }
+    ensures repeated { map_fault two_pools (record (empty_step 2) { temp = placed 1 (Some 0 ∷ Some 0 ∷ []) }) ≡ Some BadTemp }
+    ensures before_tree { map_fault one_up (record (empty_step 2) { temp = placed 1 []; crush = Some [] }) ≡ Some BadTemp }
+{}
+
+/// A tree's fault is that of an incremental that gives it and nothing else.
+#[tactic(auto, unfolding(crate::specs::MapFault::map_fault, pgp_crush::specs::Worked::placements_computed))]
+pub fn trees_are_judged_last()
+    ensures no_buckets { map_fault [] (record (empty_step 1) { crush = Some [] }) ≡ Some (TreeFault Fault.NoRoot) }
+    ensures any { (buckets : List Spec) → map_fault [] (record (empty_step 1) { crush = Some buckets }) ≡ option_map TreeFault (tree_fault (map bucket_of buckets)) }
+{}
+
+/// Weight, up_thru and the epoch of its loss outlive a device that is destroyed and boots again.
+pub fn facts_outlive_a_device()
+    ensures exists { exists made_again 0 ≡ true }
+    ensures up { is_up made_again 0 ≡ true }
+    ensures booted { up_from made_again 0 ≡ 5 }
+    ensures downed { down_at made_again 0 ≡ 2 }
+    ensures weight { weight made_again 0 ≡ 5 }
+    ensures up_thru { up_thru made_again 0 ≡ 1 }
+    ensures lost { lost_at made_again 0 ≡ 3 }
+    ensures other_weight { weight made_again 1 ≡ 65536 }
+    ensures epoch { epoch made_again ≡ 5 }
+{}
+
+/// The map of an earlier epoch is that of the incrementals up to it.
+pub fn earlier_maps()
+    ensures destroyed { exists (up_to 4 made_again) 0 ≡ false }
+    ensures down { is_up (up_to 2 made_again) 0 ≡ false }
+    ensures there { exists (up_to 2 made_again) 0 ≡ true }
+    ensures booted { up_from (up_to 4 made_again) 0 ≡ 1 }
+    ensures epoch { epoch (up_to 3 made_again) ≡ 3 }
+{}
+
+/// A pool has the sizes that it was given last, and a group the list that it was given last.
+pub fn pools_and_lists()
+    ensures made { pool two_pools 1 ≡ Some (copies 1 3) }
+    ensures sized { pool (record (boot 1 []) { pools = copies 1 3 ∷ [] } ∷ record (empty_step 2) { sizes = sized 1 4 2 } ∷ []) 1 ≡ Some (record (copies 1 4) { min_size = 2 }) }
+    ensures absent { pool two_pools 3 ≡ None }
+    ensures list { temp (record (empty_step 1) { temp = placed 1 (Some 2 ∷ []) } ∷ []) (record { pool = 1; pg = 0 }) ≡ Some 2 ∷ [] }
+    ensures taken_away { temp (record (empty_step 1) { temp = placed 1 (Some 2 ∷ []) } ∷ record (empty_step 2) { temp = placed 1 [] } ∷ []) (record { pool = 1; pg = 0 }) ≡ [] }
+    ensures no_tree { tree two_pools ≡ None }
+{}

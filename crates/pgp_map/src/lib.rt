@@ -1,0 +1,26 @@
+//! The cluster map: which devices and pools there are and what holds of them, as map incrementals tell it.
+//!
+//! This layer decides which incrementals are taken, and what they make of the map. An incremental leads from one epoch to
+//! the next, and all its parts take effect together (Ceph's developer documentation on map epochs). [`OsdMap::check`]
+//! answers the first fault of an incremental, in the order of [`MapFault`]; [`OsdMap::apply`] changes the map in place;
+//! each reader gives a fact of the list of all incrementals that were applied, by the last that tells of the thing.
+//! The map takes memory for what was named and nothing else; no reader takes any. [`laws`] has worked examples.
+#![tactic(auto)]
+
+mod device;
+mod devices;
+mod fault;
+mod findings;
+pub mod laws;
+mod map;
+mod pools;
+mod ranges;
+mod repeats;
+mod standing;
+mod temp_check;
+mod temps;
+mod trees;
+mod weights;
+
+pub use fault::MapFault;
+pub use map::OsdMap;

@@ -1,0 +1,319 @@
+//! The cluster map.
+
+ghost use Rattle.std.specs.Prelude.{◌≡◌, ℕ, List, [], Some, None, OnOk, OnErr, IfOk, IfErr, ◌⊎◌, option_copied, option_map, map, length, nat_eq, ◌++◌};
+ghost use Rattle.pgp_crush.specs.Bucket.{bucket_of};
+ghost use Rattle.pgp_map.specs.Room.{HasRoom};
+ghost use Rattle.pgp_ids.specs.declared.incremental.Incremental.{Incremental as Step};
+ghost use Rattle.pgp_map.specs.MapOf.{IsMapOf};
+ghost use Rattle.pgp_map.specs.Devices.{exists, is_up, up_from, down_at, up_thru, lost_at, weight, weights};
+ghost use Rattle.pgp_map.specs.Pools.{pool, temp};
+ghost use Rattle.pgp_map.specs.Map.{epoch, tree};
+ghost use Rattle.pgp_map.specs.MapFault.{map_fault, then_with, has_epoch_gap, has_unknown_device, has_already_up, has_already_down, has_still_up, has_up_thru_back, has_ahead, has_bad_pool, has_pool_known, told_devices};
+ghost use Rattle.std.specs.HashSet as bag;
+ghost use Rattle.std.specs.List.{list_any};
+ghost use Rattle.pgp_map.specs.Findings.{AreFindings};
+
+use super::device::Device;
+use super::fault::MapFault;
+use super::findings::Findings;
+use super::trees::{check_tree, given_tree};
+use super::weights::Weights;
+use super::{devices, pools, ranges, repeats, standing, temp_check, temps};
+use pgp_crush::Tree;
+use pgp_ids::{Epoch, Incremental, OsdId, Osds, PgId, PoolId, PoolSpec};
+use std::alloc::{AllocError, Global};
+use std::collections::{HashMap, HashSet};
+
+/// How many groups the pools have at most, in all.
+const MAX_GROUPS: u32 = 16384;
+
+/// The cluster map: the devices, pools and placement groups of one epoch, and what holds of them.
+#[derive(Debug, Drop)]
+pub struct OsdMap {
+    alloc: Global,
+    epoch: Epoch,
+    devices: HashMap<OsdId, Device>,
+    weights: Weights,
+    pools: HashMap<PoolId, PoolSpec>,
+    /// How many groups the pools have in all.
+    group_count: u32,
+    temps: HashMap<PgId, Osds>,
+    tree: Option<Tree>,
+}
+
+impl OsdMap {
+    /// The map of epoch 0, which has nothing. It takes no memory.
+    pub fn empty(alloc: Global) -> Self
+        ensures { IsMapOf [] result }
+    {
+        OsdMap {
+            alloc,
+            epoch: Epoch::new(0),
+            devices: HashMap::new(alloc),
+            weights: Weights::new(alloc),
+            pools: HashMap::new(alloc),
+            group_count: 0,
+            temps: HashMap::new(alloc),
+            tree: None,
+        }
+    }
+
+    /// Whether the incremental can be applied. It can't if it has a fault, of which the first in the order of [`MapFault`] is
+    /// answered; or there was no memory to look at it. The map stays as it is.
+    pub fn check(&self, inc: &Incremental) -> Result<(), MapFault>
+        ensures ok { OnOk result ((incs : List Step) → IsMapOf incs self.now → map_fault incs inc.now ≡ None) }
+        ensures fault { IfErr result (λ fault. (fault ≡ MapFault.Memory) ⊎ ((incs : List Step) → IsMapOf incs self.now → map_fault incs inc.now ≡ Some fault)) }
+    {
+        let findings = self.findings(inc)?;
+        if let Some(fault) = findings.first() {
+            return Err(fault);
+        }
+        check_tree(self.alloc, &inc.crush)
+    }
+
+    /// The tests that the incremental fails, its tree aside.
+    fn findings(&self, inc: &Incremental) -> Result<Findings, AllocError>
+        ensures { IfOk result (λ findings. (incs : List Step) → IsMapOf incs self.now → AreFindings incs inc.now findings) }
+    {
+        let boots = repeats::set_of(self.alloc, inc.up.as_slice())?;
+        let falls = repeats::falling_devices(self.alloc, inc)?;
+        let told = repeats::told_devices(self.alloc, inc)?;
+        let made = temp_check::made_by_id(self.alloc, inc.pools.as_slice())?;
+        let sizes = temp_check::sizes_by_pool(self.alloc, inc.sizes.as_slice())?;
+        let twice = repeats::has_twice(self.alloc, inc)?;
+        let bad_temp = temp_check::has_bad_temp(
+            self.alloc,
+            &self.pools,
+            &made,
+            &sizes,
+            inc.temp.as_slice(),
+        )?;
+        Ok(Findings {
+            epoch_gap: self.has_epoch_gap(inc),
+            twice,
+            unknown_device: self.has_unknown_device(inc, &boots, &told),
+            already_up: self.has_already_up(inc),
+            already_down: self.has_already_down(inc),
+            still_up: self.has_still_up(inc, &boots, &falls),
+            up_thru_back: self.has_up_thru_back(inc),
+            ahead: has_ahead(inc),
+            bad_pool: self.has_bad_pool(inc),
+            pool_known: self.has_pool_known(inc),
+            bad_temp,
+        })
+    }
+
+    /// The incremental's epoch isn't the one after the map's.
+    fn has_epoch_gap(&self, inc: &Incremental) -> bool
+        ensures { (incs : List Step) → IsMapOf incs self.now → result ≡ has_epoch_gap incs inc.now }
+    {
+        u64::from(inc.epoch.number()) != u64::from(self.epoch.number()) + 1
+    }
+
+    /// A device of `told`, which down, gone, weight, up_thru and lost name, is absent and isn't one of those that boot.
+    fn has_unknown_device(&self, inc: &Incremental, boots: &HashSet<OsdId>, told: &[OsdId]) -> bool
+        requires boots { (q : ℕ) → bag.contains nat_eq boots.now q ≡ list_any (nat_eq q) inc.now.up }
+        requires told { told.now ≡ told_devices inc.now }
+        ensures { (incs : List Step) → IsMapOf incs self.now → result ≡ has_unknown_device incs inc.now }
+    {
+        standing::has_unknown(&self.devices, boots, told)
+    }
+
+    /// A device boots that is up.
+    fn has_already_up(&self, inc: &Incremental) -> bool
+        ensures { (incs : List Step) → IsMapOf incs self.now → result ≡ has_already_up incs inc.now }
+    {
+        standing::has_up(&self.devices, inc.up.as_slice())
+    }
+
+    /// A device is taken down that is there and down.
+    fn has_already_down(&self, inc: &Incremental) -> bool
+        ensures { (incs : List Step) → IsMapOf incs self.now → result ≡ has_already_down incs inc.now }
+    {
+        standing::has_down(&self.devices, inc.down.as_slice())
+    }
+
+    /// A device is destroyed that is up, or given up for lost that is up in the new map.
+    fn has_still_up(
+        &self,
+        inc: &Incremental,
+        boots: &HashSet<OsdId>,
+        falls: &HashSet<OsdId>,
+    ) -> bool
+        requires boots { (q : ℕ) → bag.contains nat_eq boots.now q ≡ list_any (nat_eq q) inc.now.up }
+        requires falls { (q : ℕ) → bag.contains nat_eq falls.now q ≡ list_any (nat_eq q) (inc.now.down ++ inc.now.gone) }
+        ensures { (incs : List Step) → IsMapOf incs self.now → result ≡ has_still_up incs inc.now }
+    {
+        if standing::has_up(&self.devices, inc.gone.as_slice()) {
+            return true;
+        }
+        standing::has_lost_up(&self.devices, boots, falls, inc.lost.as_slice())
+    }
+
+    /// An up_thru is below that of its device.
+    fn has_up_thru_back(&self, inc: &Incremental) -> bool
+        ensures { (incs : List Step) → IsMapOf incs self.now → result ≡ has_up_thru_back incs inc.now }
+    {
+        standing::has_up_thru_back(&self.devices, inc.up_thru.as_slice())
+    }
+
+    /// A pool is made that is there.
+    fn has_pool_known(&self, inc: &Incremental) -> bool
+        ensures { (incs : List Step) → IsMapOf incs self.now → result ≡ has_pool_known incs inc.now }
+    {
+        ranges::has_known(&self.pools, inc.pools.as_slice())
+    }
+
+    /// A pool is made of numbers out of range or given sizes to which it can't change, or there are too many groups.
+    fn has_bad_pool(&self, inc: &Incremental) -> bool
+        ensures { (incs : List Step) → IsMapOf incs self.now → result ≡ has_bad_pool incs inc.now }
+    {
+        if ranges::has_bad_spec(inc.pools.as_slice()) {
+            return true;
+        }
+        if ranges::has_bad_sizes(&self.pools, inc.sizes.as_slice()) {
+            return true;
+        }
+        let made = pools::group_sum(inc.pools.as_slice());
+        self.group_count.saturating_add(made) > MAX_GROUPS
+    }
+
+    /// Makes this the map after the incremental, which [`OsdMap::check`] doesn't refuse. After an error the map says what
+    /// it said before.
+    pub fn apply(&mut self, inc: &Incremental) -> Result<(), AllocError>
+        ensures ok { OnOk result ((incs : List Step) → IsMapOf incs self.old → map_fault incs inc.now ≡ None → IsMapOf (then_with incs inc.now) self.new) }
+        ensures err { OnErr result ((incs : List Step) → IsMapOf incs self.old → IsMapOf incs self.new) }
+    {
+        let tree = given_tree(self.alloc, &inc.crush)?;
+        self.make_room(inc)?;
+        self.change(inc, tree);
+        Ok(())
+    }
+
+    /// Makes room for all that the incremental names. The map says what it said before.
+    fn make_room(&mut self, inc: &Incremental) -> Result<(), AllocError>
+        ensures same { (incs : List Step) → IsMapOf incs self.old → IsMapOf incs self.new }
+        ensures room { OnOk result (HasRoom inc.now self.new) }
+    {
+        devices::place_named(&mut self.devices, inc)?;
+        self.weights.place(inc.weight.as_slice())?;
+        self.pools.reserve(inc.pools.len())?;
+        temps::place_all(&mut self.temps, inc.temp.as_slice())
+    }
+
+    /// Changes the map as the incremental says, for which it has room. `tree` is the tree that it gives.
+    fn change(&mut self, inc: &Incremental, tree: Option<Tree>)
+        requires room { HasRoom inc.now self.old }
+        requires tree { tree ≡ option_map (map bucket_of) inc.now.crush }
+        ensures { (incs : List Step) → IsMapOf incs self.old → map_fault incs inc.now ≡ None → IsMapOf (then_with incs inc.now) self.new }
+    {
+        self.epoch = inc.epoch;
+        devices::change(&mut self.devices, inc);
+        self.weights.set_all(inc.weight.as_slice());
+        pools::make_all(&mut self.pools, inc.pools.as_slice());
+        pools::resize_all(&mut self.pools, inc.sizes.as_slice());
+        let made = pools::group_sum(inc.pools.as_slice());
+        self.group_count = self.group_count.saturating_add(made);
+        temps::put_all(&mut self.temps, inc.temp.as_slice());
+        if tree.is_some() {
+            self.tree = tree;
+        }
+    }
+
+    pub fn epoch(&self) -> Epoch
+        ensures { (incs : List Step) → IsMapOf incs self.now → result ≡ epoch incs }
+    {
+        self.epoch
+    }
+
+    /// The device was booted, and not destroyed since.
+    pub fn exists(&self, osd: OsdId) -> bool
+        ensures { (incs : List Step) → IsMapOf incs self.now → result ≡ exists incs osd }
+    {
+        devices::device_at(&self.devices, osd).exists
+    }
+
+    /// The device was booted, and neither taken down nor destroyed since.
+    pub fn is_up(&self, osd: OsdId) -> bool
+        ensures { (incs : List Step) → IsMapOf incs self.now → result ≡ is_up incs osd }
+    {
+        devices::device_at(&self.devices, osd).is_up
+    }
+
+    /// The last epoch that booted the device, 0 if none did.
+    pub fn up_from(&self, osd: OsdId) -> Epoch
+        ensures { (incs : List Step) → IsMapOf incs self.now → result ≡ up_from incs osd }
+    {
+        devices::device_at(&self.devices, osd).up_from
+    }
+
+    /// The last epoch that took the device down, 0 if none did.
+    pub fn down_at(&self, osd: OsdId) -> Epoch
+        ensures { (incs : List Step) → IsMapOf incs self.now → result ≡ down_at incs osd }
+    {
+        devices::device_at(&self.devices, osd).down_at
+    }
+
+    /// The epoch through which the device is known to have been up, 0 if none was told.
+    pub fn up_thru(&self, osd: OsdId) -> Epoch
+        ensures { (incs : List Step) → IsMapOf incs self.now → result ≡ up_thru incs osd }
+    {
+        devices::device_at(&self.devices, osd).up_thru
+    }
+
+    /// The epoch at which the device was given up for lost, 0 if it wasn't.
+    pub fn lost_at(&self, osd: OsdId) -> Epoch
+        ensures { (incs : List Step) → IsMapOf incs self.now → result ≡ lost_at incs osd }
+    {
+        devices::device_at(&self.devices, osd).lost_at
+    }
+
+    /// The device's weight, in units of 1/0x10000; 0x10000 if none was given.
+    pub fn weight(&self, osd: OsdId) -> u32
+        ensures { (incs : List Step) → IsMapOf incs self.now → result ≡ weight incs osd }
+    {
+        self.weights.weight(osd)
+    }
+
+    /// The weights of the devices 0 to 4095, in units of 1/0x10000.
+    pub fn weights(&self) -> &[u32]
+        ensures long { length result.now ≡ 4096 }
+        ensures value { (incs : List Step) → IsMapOf incs self.now → result.now ≡ weights incs }
+    {
+        self.weights.as_slice()
+    }
+
+    /// The pool, with its present sizes.
+    pub fn pool(&self, id: PoolId) -> Option<PoolSpec>
+        ensures { (incs : List Step) → IsMapOf incs self.now → result ≡ pool incs id }
+    {
+        match self.pools.get(&id) {
+            Some(pool) => Some(*pool),
+            None => None,
+        }
+    }
+
+    /// The group's pg_temp list; empty if it has none.
+    pub fn temp(&self, pg: PgId) -> &[Option<OsdId>]
+        ensures { (incs : List Step) → IsMapOf incs self.now → result.now ≡ temp incs pg }
+    {
+        temps::temp_at(&self.temps, pg)
+    }
+
+    /// The placement tree, if one was given.
+    pub fn tree(&self) -> Option<&Tree>
+        ensures { (incs : List Step) → IsMapOf incs self.now → option_copied result ≡ tree incs }
+    {
+        self.tree.as_ref()
+    }
+}
+
+/// An up_thru or the epoch of a loss is above the incremental's.
+fn has_ahead(inc: &Incremental) -> bool
+    ensures { result ≡ has_ahead inc.now }
+{
+    if standing::has_ahead(inc.epoch, inc.up_thru.as_slice()) {
+        return true;
+    }
+    standing::has_ahead(inc.epoch, inc.lost.as_slice())
+}

@@ -1,0 +1,103 @@
+//! The tests of an incremental's pools, by the table of pools.
+
+ghost use Rattle.std.specs.Prelude.{◌≡◌, not, ◌||◌, ◌&&◌, true, nat_eq, is_some};
+ghost use Rattle.std.specs.List.{list_any};
+ghost use Rattle.std.specs.Option.{option_map_or};
+ghost use Rattle.std.specs.HashMap as hash;
+ghost use Rattle.pgp_map.specs.MapFault.{is_within, are_sizes, is_kind, is_pool, is_erasure};
+
+use pgp_ids::{PoolId, PoolKind, PoolSizes, PoolSpec};
+use std::collections::HashMap;
+
+/// The size is 1 to 16, and min_size 1 to it.
+fn are_sizes(size: u8, min_size: u8) -> bool
+    ensures { result ≡ are_sizes size min_size }
+{
+    size >= 1 && size <= 16 && (min_size >= 1 && min_size <= size)
+}
+
+/// In an erasure pool k is 1 to the size.
+fn is_kind(kind: PoolKind, size: u8) -> bool
+    ensures { result ≡ is_kind kind size }
+{
+    match kind {
+        PoolKind::Replicated => true,
+        PoolKind::Erasure { k } => k >= 1 && k <= size,
+    }
+}
+
+/// The pool's numbers are in range.
+fn is_pool(made: &PoolSpec) -> bool
+    ensures { result ≡ is_pool made.now }
+{
+    made.pg_num >= 1
+        && made.pg_num <= 1024
+        && are_sizes(made.size, made.min_size)
+        && is_kind(made.kind, made.size)
+}
+
+/// The pool is an erasure pool.
+pub(crate) fn is_erasure(kind: PoolKind) -> bool
+    ensures { result ≡ is_erasure kind }
+{
+    match kind {
+        PoolKind::Replicated => false,
+        PoolKind::Erasure { .. } => true,
+    }
+}
+
+/// The sizes aren't ones to which the pool can change.
+fn are_bad_sizes(table: &HashMap<PoolId, PoolSpec>, given: &PoolSizes) -> bool
+    ensures { result ≡ (not (are_sizes given.now.size given.now.min_size) || option_map_or (λ made. is_erasure made.kind && not (nat_eq made.size given.now.size)) (hash.get nat_eq table.now given.now.pool) true) }
+{
+    if !are_sizes(given.size, given.min_size) {
+        return true;
+    }
+    match table.get(&given.pool) {
+        Some(made) => is_erasure(made.kind) && made.size != given.size,
+        None => true,
+    }
+}
+
+/// A pool is made of numbers out of range.
+pub(crate) fn has_bad_spec(made: &[PoolSpec]) -> bool
+    ensures { result ≡ list_any (λ pool. not (is_pool pool)) made.now }
+{
+    for pool in made {
+        if !is_pool(pool) {
+            return true;
+        }
+    }
+    false
+}
+
+/// A pool is given sizes to which it can't change.
+pub(crate) fn has_bad_sizes(table: &HashMap<PoolId, PoolSpec>, sizes: &[PoolSizes]) -> bool
+    ensures { result ≡ list_any (λ given. not (are_sizes given.size given.min_size) || option_map_or (λ made. is_erasure made.kind && not (nat_eq made.size given.size)) (hash.get nat_eq table.now given.pool) true) sizes.now }
+{
+    for given in sizes {
+        if are_bad_sizes(table, given) {
+            return true;
+        }
+    }
+    false
+}
+
+/// The pool is there.
+fn is_known(table: &HashMap<PoolId, PoolSpec>, made: &PoolSpec) -> bool
+    ensures { result ≡ is_some (hash.get nat_eq table.now made.now.id) }
+{
+    table.contains_key(&made.id)
+}
+
+/// A pool is made that is there.
+pub(crate) fn has_known(table: &HashMap<PoolId, PoolSpec>, made: &[PoolSpec]) -> bool
+    ensures { result ≡ list_any (λ pool. is_some (hash.get nat_eq table.now pool.id)) made.now }
+{
+    for pool in made {
+        if is_known(table, pool) {
+            return true;
+        }
+    }
+    false
+}

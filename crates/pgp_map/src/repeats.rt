@@ -1,0 +1,179 @@
+//! Lists in which an item stands twice.
+
+ghost use Rattle.std.specs.Prelude.{◌≡◌, ℕ, ◌++◌, map, nat_eq, IfOk};
+ghost use Rattle.std.specs.List.{list_any};
+ghost use Rattle.std.specs.HashSet as bag;
+ghost use Rattle.pgp_map.specs.MapFault.{has_repeat, has_twice, told_devices};
+ghost use Rattle.pgp_map.specs.Pools.{is_same_group};
+
+use pgp_ids::{
+    DeviceEpoch, DeviceWeight, Incremental, OsdId, PgId, PoolId, PoolSizes, PoolSpec, TempList,
+};
+use std::alloc::{AllocError, Global};
+use std::collections::HashSet;
+
+/// Something stands twice where it may stand once.
+pub(crate) fn has_twice(alloc: Global, inc: &Incremental) -> Result<bool, AllocError>
+    ensures { IfOk result (λ twice. twice ≡ has_twice inc.now) }
+{
+    let changed = changed_devices(alloc, inc)?;
+    let weighed = weighed_devices(alloc, inc.weight.as_slice())?;
+    let seen = named_devices(alloc, inc.up_thru.as_slice())?;
+    let lost = named_devices(alloc, inc.lost.as_slice())?;
+    let pools = named_pools(alloc, inc.pools.as_slice(), inc.sizes.as_slice())?;
+    let groups = named_groups(alloc, inc.temp.as_slice())?;
+    Ok(
+        has_repeated_device(alloc, &changed)?
+            || has_repeated_device(alloc, &weighed)?
+            || has_repeated_device(alloc, &seen)?
+            || has_repeated_device(alloc, &lost)?
+            || has_repeated_pool(alloc, &pools)?
+            || has_repeated_group(alloc, &groups)?,
+    )
+}
+
+/// The devices that boot, are taken down or are destroyed.
+fn changed_devices(alloc: Global, inc: &Incremental) -> Result<Vec<OsdId>, AllocError>
+    ensures { IfOk result (λ osds. osds.items ≡ inc.now.up ++ inc.now.down ++ inc.now.gone) }
+{
+    let mut osds = Vec::from_slice(alloc, inc.up.as_slice())?;
+    osds.extend_from_slice(inc.down.as_slice())?;
+    osds.extend_from_slice(inc.gone.as_slice())?;
+    Ok(osds)
+}
+
+/// The devices of which something else is told.
+pub(crate) fn told_devices(alloc: Global, inc: &Incremental) -> Result<Vec<OsdId>, AllocError>
+    ensures { IfOk result (λ osds. osds.items ≡ told_devices inc.now) }
+{
+    let weighed = weighed_devices(alloc, inc.weight.as_slice())?;
+    let seen = named_devices(alloc, inc.up_thru.as_slice())?;
+    let lost = named_devices(alloc, inc.lost.as_slice())?;
+    let mut osds = Vec::from_slice(alloc, inc.down.as_slice())?;
+    osds.extend_from_slice(inc.gone.as_slice())?;
+    osds.extend_from_slice(&weighed)?;
+    osds.extend_from_slice(&seen)?;
+    osds.extend_from_slice(&lost)?;
+    Ok(osds)
+}
+
+/// The devices that are given weights.
+fn weighed_devices(alloc: Global, weights: &[DeviceWeight]) -> Result<Vec<OsdId>, AllocError>
+    ensures { IfOk result (λ osds. osds.items ≡ map (λ entry. entry.osd) weights.now) }
+{
+    let mut osds = Vec::new(alloc);
+    for entry in weights {
+        osds.push(entry.osd)?;
+    }
+    Ok(osds)
+}
+
+/// The devices of which epochs are told.
+fn named_devices(alloc: Global, told: &[DeviceEpoch]) -> Result<Vec<OsdId>, AllocError>
+    ensures { IfOk result (λ osds. osds.items ≡ map (λ entry. entry.osd) told.now) }
+{
+    let mut osds = Vec::new(alloc);
+    for entry in told {
+        osds.push(entry.osd)?;
+    }
+    Ok(osds)
+}
+
+/// The pools that are made or given sizes.
+fn named_pools(
+    alloc: Global,
+    made: &[PoolSpec],
+    sizes: &[PoolSizes],
+) -> Result<Vec<PoolId>, AllocError>
+    ensures { IfOk result (λ pools. pools.items ≡ map (λ pool. pool.id) made.now ++ map (λ given. given.pool) sizes.now) }
+{
+    let mut pools = made_pools(alloc, made)?;
+    for given in sizes {
+        pools.push(given.pool)?;
+    }
+    Ok(pools)
+}
+
+/// The pools that are made.
+fn made_pools(alloc: Global, made: &[PoolSpec]) -> Result<Vec<PoolId>, AllocError>
+    ensures { IfOk result (λ pools. pools.items ≡ map (λ pool. pool.id) made.now) }
+{
+    let mut pools = Vec::new(alloc);
+    for pool in made {
+        pools.push(pool.id)?;
+    }
+    Ok(pools)
+}
+
+/// The groups that are given pg_temp lists.
+fn named_groups(alloc: Global, temps: &[TempList]) -> Result<Vec<PgId>, AllocError>
+    ensures { IfOk result (λ groups. groups.items ≡ map (λ given. given.pg) temps.now) }
+{
+    let mut groups = Vec::new(alloc);
+    for given in temps {
+        groups.push(given.pg)?;
+    }
+    Ok(groups)
+}
+
+/// Some device stands twice.
+pub(crate) fn has_repeated_device(alloc: Global, devices: &[OsdId]) -> Result<bool, AllocError>
+    ensures { IfOk result (λ repeated. repeated ≡ has_repeat nat_eq devices.now) }
+{
+    let mut seen = HashSet::new(alloc);
+    for device in devices {
+        if !seen.insert(*device)? {
+            return Ok(true);
+        }
+    }
+    Ok(false)
+}
+
+/// Some pool stands twice.
+fn has_repeated_pool(alloc: Global, pools: &[PoolId]) -> Result<bool, AllocError>
+    ensures { IfOk result (λ repeated. repeated ≡ has_repeat nat_eq pools.now) }
+{
+    let mut seen = HashSet::new(alloc);
+    for pool in pools {
+        if !seen.insert(*pool)? {
+            return Ok(true);
+        }
+    }
+    Ok(false)
+}
+
+/// Some group stands twice.
+fn has_repeated_group(alloc: Global, groups: &[PgId]) -> Result<bool, AllocError>
+    ensures { IfOk result (λ repeated. repeated ≡ has_repeat is_same_group groups.now) }
+{
+    let mut seen = HashSet::new(alloc);
+    for group in groups {
+        if !seen.insert(*group)? {
+            return Ok(true);
+        }
+    }
+    Ok(false)
+}
+
+/// The set of the devices that are taken down or destroyed.
+pub(crate) fn falling_devices(
+    alloc: Global,
+    inc: &Incremental,
+) -> Result<HashSet<OsdId>, AllocError>
+    ensures { IfOk result (λ set. (q : ℕ) → bag.contains nat_eq set q ≡ list_any (nat_eq q) (inc.now.down ++ inc.now.gone)) }
+{
+    let mut osds = Vec::from_slice(alloc, inc.down.as_slice())?;
+    osds.extend_from_slice(inc.gone.as_slice())?;
+    set_of(alloc, &osds)
+}
+
+/// The set of these devices.
+pub(crate) fn set_of(alloc: Global, devices: &[OsdId]) -> Result<HashSet<OsdId>, AllocError>
+    ensures { IfOk result (λ set. (q : ℕ) → bag.contains nat_eq set q ≡ list_any (nat_eq q) devices.now) }
+{
+    let mut set = HashSet::new(alloc);
+    for device in devices {
+        set.insert(*device)?;
+    }
+    Ok(set)
+}

@@ -1,0 +1,80 @@
+//! The table of weights.
+
+ghost use Rattle.std.specs.Prelude.{◌≡◌, ℕ, ◌<◌, true, false, nat_eq, slice_index_or, length, IsOk, OnOk};
+ghost use Rattle.pgp_map.specs.Last.{last_where};
+ghost use Rattle.pgp_map.specs.WeightTable.{is_whole, weight_in, with_weight};
+
+use pgp_ids::{DeviceWeight, OsdId};
+use std::alloc::{AllocError, Global};
+
+/// How many devices there can be.
+const DEVICES: usize = 4096;
+
+/// The weight of a device that is fully in, in units of 1/0x10000.
+const FULL: u32 = 0x10000;
+
+/// The weights of a map that was given none.
+static ALL_FULL: [u32; DEVICES] = [FULL; DEVICES];
+
+/// The weights of all devices. The table takes no memory until the first is given.
+#[derive(Debug, Drop)]
+pub(crate) struct Weights {
+    alloc: Global,
+    table: Vec<u32>,
+    ghost whole: { is_whole (length table.items) ≡ true },
+}
+
+impl Weights {
+    /// All devices are fully in.
+    pub fn new(alloc: Global) -> Self
+        ensures { (q : ℕ) → weight_in result.table.items q ≡ 65536 }
+    {
+        Weights {
+            alloc,
+            table: Vec::new(alloc),
+        }
+    }
+
+    /// The weights of the devices 0 to 4095.
+    pub fn as_slice(&self) -> &[u32]
+        ensures long { length result.now ≡ 4096 }
+        ensures value { (q : ℕ) → q < 4096 → slice_index_or result.now q 65536 ≡ weight_in self.now.table.items q }
+    {
+        if self.table.is_empty() {
+            &ALL_FULL
+        } else {
+            &self.table
+        }
+    }
+
+    /// The weight of the device.
+    pub fn weight(&self, osd: OsdId) -> u32
+        ensures { result ≡ weight_in self.now.table.items osd }
+    {
+        match self.table.get(usize::from(osd.number())) {
+            Some(weight) => *weight,
+            None => FULL,
+        }
+    }
+
+    /// Takes the memory for the table, if it has none and will need it for these weights.
+    pub fn place(&mut self, given: &[DeviceWeight]) -> Result<(), AllocError>
+        ensures same { (q : ℕ) → weight_in self.new.table.items q ≡ weight_in self.old.table.items q }
+        ensures placed { OnOk result (0 < length given.now → length self.new.table.items ≡ 4096) }
+    {
+        if self.table.is_empty() && !given.is_empty() {
+            self.table = vec![in self.alloc; FULL; DEVICES]?;
+        }
+        Ok(())
+    }
+
+    /// Gives these weights. The table is there, if there are any.
+    pub fn set_all(&mut self, given: &[DeviceWeight])
+        requires { 0 < length given.now → length self.old.table.items ≡ 4096 }
+        ensures { (q : ℕ) → weight_in self.new.table.items q ≡ with_weight (last_where (λ entry. nat_eq entry.osd q) given.now) (weight_in self.old.table.items q) }
+    {
+        for entry in given {
+            self.table[usize::from(entry.osd.number())] = entry.weight;
+        }
+    }
+}

@@ -1,0 +1,98 @@
+//! The log of the best member, and what other copies lack by it.
+
+ghost use Rattle.std.specs.Prelude.{◌≡◌, ◌-◌, List, [], ◌∷◌, ◌++◌, true, length, nat_eq, IfOk, OnOk, OnErr};
+ghost use Rattle.pgp_ids.specs.declared.log_entry.LogEntry.{LogEntry};
+ghost use Rattle.pgp_ids.specs.declared.report.Info.{Info};
+ghost use Rattle.pgp_missing.specs.Log.{is_whole};
+ghost use Rattle.pgp_missing.specs.Missing.{peer_state};
+ghost use Rattle.pgp_missing.specs.Kept.{IsLogOf, IsByNumber};
+
+use super::entries::Entries;
+use pgp_ids::{Info, LogEntry, PeerState};
+use std::alloc::{AllocError, Global};
+use std::marker::Model;
+
+/// The log of a member, by its info and the entries that it reported.
+///
+/// It keeps the last entry of each number of the log. A log may span 2^32 numbers: time and memory go by the entries that
+/// were reported, and not by the numbers.
+#[derive(Debug, Drop)]
+pub struct MemberLog {
+    info: Info,
+    /// Those of its entries that were reported, by their numbers.
+    entries: Entries,
+}
+
+impl Model for MemberLog {
+    ghost use Rattle.pgp_missing.specs.Kept.{KeptLog};
+
+    ghost Value = { KeptLog };
+
+    ghost view = { λ l. record { info = l.info; entries = l.entries } };
+}
+
+impl MemberLog {
+    /// The log of the member with this info, of which no entry was reported yet. It takes no memory.
+    pub fn begin(alloc: Global, info: &Info) -> Self
+        ensures { IsLogOf info.now [] result }
+    {
+        MemberLog {
+            info: *info,
+            entries: Entries::new(alloc),
+        }
+    }
+
+    /// Takes an entry that the member reported, after those that were added before. After an error the log is as before.
+    pub fn add(&mut self, entry: &LogEntry) -> Result<(), AllocError>
+        ensures ok { OnOk result ((info : Info) (reported : List LogEntry)
+            → IsLogOf info reported self.old → IsLogOf info (reported ++ entry.now ∷ []) self.new) }
+        ensures err { OnErr result (self.new ≡ self.old) }
+    {
+        let number = entry.version.v;
+        if number <= self.info.log_tail.v || number > self.info.last_update.v {
+            return Ok(());
+        }
+        self.entries.put(entry)
+    }
+
+    /// The log is empty, or each of its numbers has an entry, the last is that of the member's last write, and epochs
+    /// don't fall.
+    pub fn whole(&self) -> bool
+        ensures { (info : Info) (reported : List LogEntry)
+            → IsLogOf info reported self.now → result ≡ is_whole info reported }
+    {
+        self.info.last_update == self.info.log_tail
+            || self.has_each_number()
+                && self.entries.has_version(self.info.last_update)
+                && self.entries.is_rising_from(self.info.log_tail)
+    }
+
+    /// How the copy of the member with this info compares with that of the log's member. The log has to be whole.
+    pub fn missing_of(&self, alloc: Global, peer: &Info) -> Result<PeerState, AllocError>
+        requires { (info : Info) (reported : List LogEntry)
+            → IsLogOf info reported self.now → is_whole info reported ≡ true }
+        ensures { IfOk result (λ state. (info : Info) (reported : List LogEntry)
+            → IsLogOf info reported self.now → state ≡ peer_state info reported peer.now) }
+    {
+        let last = peer.last_update;
+        let tail = self.info.log_tail;
+        if !peer.complete || last.is_older_than(tail) {
+            return Ok(PeerState::Backfill);
+        }
+        if last != tail && !self.entries.has_version(last) {
+            return Ok(PeerState::Diverged);
+        }
+        let objects = self.entries.missing_above(alloc, last.v)?;
+        Ok(PeerState::Missing(objects))
+    }
+
+    /// There are as many entries as numbers.
+    fn has_each_number(&self) -> bool
+        ensures value { let numbers = self.now.info.last_update.v - self.now.info.log_tail.v in
+            result ≡ nat_eq (length self.now.entries) numbers }
+        ensures ascending { IsByNumber self.now.entries }
+    {
+        let numbers = self.info.last_update.v.saturating_sub(self.info.log_tail.v);
+        self.entries.len() as u64 == u64::from(numbers)
+    }
+}

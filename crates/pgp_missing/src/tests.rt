@@ -1,0 +1,191 @@
+//! The calls with memory enough, on the logs of small groups, and with each allocation refused in turn.
+
+use super::MemberLog;
+use pgp_ids::{
+    Change, Epoch, Info, LogEntry, Member, ObjectName, OsdId, PeerState, PgId, PoolId, Version,
+};
+use std::alloc::{AllocError, Global};
+use std::process::Abort;
+use std::test::Fail;
+
+/// Made or changed, and deleted.
+const MADE: Change = Change::Modify;
+
+const GONE: Change = Change::Delete;
+
+fn at(epoch: u32, v: u32) -> Version {
+    Version {
+        epoch: Epoch::new(epoch),
+        v,
+    }
+}
+
+/// The info of a complete copy whose log goes from the first version to the second.
+fn copy(rt: &impl Abort, tail: Version, last: Version) -> Info {
+    Info {
+        pg: PgId {
+            pool: PoolId::new(1).expect(rt, "a pool"),
+            pg: 0,
+        },
+        member: Member {
+            osd: OsdId::new(0).expect(rt, "a device"),
+            slot: 0,
+        },
+        stamp: Epoch::new(2),
+        les: Epoch::new(0),
+        history_les: Epoch::new(0),
+        last_update: last,
+        log_tail: tail,
+        complete: true,
+    }
+}
+
+/// The log of the member with this info, after these entries.
+fn log_of(
+    alloc: Global,
+    info: &Info,
+    entries: &[(Version, Change, &str)],
+) -> Result<MemberLog, AllocError> {
+    let mut log = MemberLog::begin(alloc, info);
+    for (version, change, name) in entries {
+        if let Some(object) = ObjectName::new(String::from_str(alloc, name)?) {
+            let entry = LogEntry {
+                version: *version,
+                change: *change,
+                object,
+            };
+            log.add(&entry)?;
+        }
+    }
+    Ok(log)
+}
+
+/// The state of the peer in words, or that the log isn't whole.
+fn told(alloc: Global, log: &MemberLog, peer: &Info) -> Result<String, AllocError> {
+    let mut text = String::new(alloc);
+    if !log.whole() {
+        text.push_str("not whole")?;
+        return Ok(text);
+    }
+    let state = log.missing_of(alloc, peer)?;
+    text.push_str(state.name())?;
+    if let PeerState::Missing(objects) = &state {
+        for missing in objects.as_slice() {
+            let name = missing.object.as_str();
+            let epoch = missing.version.epoch;
+            let v = missing.version.v;
+            write!(text, " {name} [{epoch},{v}]")?;
+        }
+    }
+    Ok(text)
+}
+
+#[test]
+fn whole_log_of_two_entries(rt: HostRuntime) -> Result<(), Fail> {
+    let a = rt.alloc();
+    let best = copy(&rt, at(1, 1), at(2, 3));
+    let entries = [(at(1, 2), MADE, "a"), (at(2, 3), MADE, "b")];
+    let log = log_of(a, &best, &entries)?;
+    let first = copy(&rt, at(1, 2), at(1, 2));
+    assert_eq!(rt; told(a, &log, &first)?.as_str(), "missing b [2,3]");
+    let tail = copy(&rt, at(1, 1), at(1, 1));
+    assert_eq!(rt; told(a, &log, &tail)?.as_str(), "missing a [1,2] b [2,3]");
+    let other = copy(&rt, at(2, 2), at(2, 2));
+    assert_eq!(rt; told(a, &log, &other)?.as_str(), "diverged");
+    let none = copy(&rt, at(0, 0), at(0, 0));
+    assert_eq!(rt; told(a, &log, &none)?.as_str(), "backfill");
+    let mut partial = copy(&rt, at(1, 1), at(2, 3));
+    partial.complete = false;
+    assert_eq!(rt; told(a, &log, &partial)?.as_str(), "backfill");
+    assert_eq!(rt; told(a, &log, &best)?.as_str(), "missing");
+    Ok(())
+}
+
+#[test]
+fn logs_that_are_not_whole(rt: HostRuntime) -> Result<(), Fail> {
+    let a = rt.alloc();
+    let entries = [(at(1, 2), MADE, "a"), (at(2, 3), MADE, "b")];
+    let falling = copy(&rt, at(2, 1), at(2, 3));
+    assert!(rt; !log_of(a, &falling, &entries)?.whole());
+    let longer = copy(&rt, at(1, 0), at(2, 3));
+    assert!(rt; !log_of(a, &longer, &entries)?.whole());
+    let other_last = copy(&rt, at(1, 1), at(3, 3));
+    assert!(rt; !log_of(a, &other_last, &entries)?.whole());
+    let best = copy(&rt, at(1, 1), at(2, 3));
+    assert!(rt; !log_of(a, &best, &[])?.whole());
+    let empty = copy(&rt, at(2, 3), at(2, 3));
+    assert!(rt; log_of(a, &empty, &[])?.whole());
+    Ok(())
+}
+
+#[test]
+fn entries_in_mixed_order(rt: HostRuntime) -> Result<(), Fail> {
+    let a = rt.alloc();
+    let mut best = copy(&rt, at(0, 0), at(1, 3));
+    let entries = [
+        (at(1, 3), MADE, "c"),
+        (at(1, 1), MADE, "a"),
+        (at(1, 2), MADE, "x"),
+        (at(1, 2), MADE, "b"),
+    ];
+    let none = copy(&rt, at(0, 0), at(0, 0));
+    let log = log_of(a, &best, &entries)?;
+    let all = "missing a [1,1] b [1,2] c [1,3]";
+    assert_eq!(rt; told(a, &log, &none)?.as_str(), all);
+    let beyond = copy(&rt, at(0, 0), at(1, 4));
+    assert_eq!(rt; told(a, &log, &beyond)?.as_str(), "diverged");
+    let gap = log_of(a, &best, &[(at(1, 3), MADE, "c"), (at(1, 1), MADE, "a")])?;
+    assert_eq!(rt; told(a, &gap, &none)?.as_str(), "not whole");
+    best.log_tail = at(1, 1);
+    let short = log_of(a, &best, &entries)?;
+    assert_eq!(rt; told(a, &short, &none)?.as_str(), "backfill");
+    Ok(())
+}
+
+#[test]
+fn deleted_and_made_again(rt: HostRuntime) -> Result<(), Fail> {
+    let a = rt.alloc();
+    let best = copy(&rt, at(0, 0), at(1, 3));
+    let none = copy(&rt, at(0, 0), at(0, 0));
+    let deleted = [
+        (at(1, 1), MADE, "a"),
+        (at(1, 2), MADE, "b"),
+        (at(1, 3), GONE, "a"),
+    ];
+    let log = log_of(a, &best, &deleted)?;
+    assert_eq!(rt; told(a, &log, &none)?.as_str(), "missing b [1,2]");
+    let changed = [
+        (at(1, 1), MADE, "a"),
+        (at(1, 2), MADE, "b"),
+        (at(1, 3), MADE, "a"),
+    ];
+    let both = "missing a [1,3] b [1,2]";
+    let log = log_of(a, &best, &changed)?;
+    assert_eq!(rt; told(a, &log, &none)?.as_str(), both);
+    let again = [
+        (at(1, 1), MADE, "a"),
+        (at(1, 2), GONE, "a"),
+        (at(1, 3), MADE, "a"),
+    ];
+    let log = log_of(a, &best, &again)?;
+    assert_eq!(rt; told(a, &log, &none)?.as_str(), "missing a [1,3]");
+    Ok(())
+}
+
+#[test]
+fn log_of_all_numbers(rt: HostRuntime) -> Result<(), Fail> {
+    let a = rt.alloc();
+    let best = copy(&rt, at(0, 0), at(2, u32::MAX));
+    let entries = [
+        (at(1, 1), MADE, "a"),
+        (at(1, 2), MADE, "b"),
+        (at(2, u32::MAX), MADE, "c"),
+    ];
+    assert!(rt; !log_of(a, &best, &entries)?.whole());
+    let end = copy(&rt, at(2, u32::MAX - 1), at(2, u32::MAX));
+    let log = log_of(a, &end, &entries)?;
+    let before = copy(&rt, at(2, 1), at(2, u32::MAX - 1));
+    let last = "missing c [2,4294967295]";
+    assert_eq!(rt; told(a, &log, &before)?.as_str(), last);
+    Ok(())
+}

@@ -1,0 +1,83 @@
+-- A group that isn't down stays so where no status gets worse.
+use Rattle.std.proofs.Common.{◌≡◌, ℕ, List, Bool, true, false, nat_eq, refl, sym, ◌∙◌, inl, inr}
+use Rattle.std.specs.List.{Contains}
+use Rattle.std.proofs.lemmas.Bool.{cases_Bool, true≢false}
+use Rattle.pgp_ids.specs.SlotSet.{IsSlotSet, is_within}
+use Rattle.pgp_ids.specs.declared.group_member.Member.{Member}
+use Rattle.pgp_ids.specs.declared.past.Past.{Past}
+use Rattle.pgp_sets.specs.declared.status.Status.{Status}
+use Rattle.pgp_sets.specs.declared.status.Status.TheVariants.{Up, Gone, Lost, Down}
+use Rattle.pgp_prior.specs.Members.{members_of, slots_of}
+use Rattle.pgp_prior.specs.Blocks.{is_settled, acting_where, settled_slots}
+use Rattle.pgp_prior.specs.Better.{is_no_worse, IsNoWorse}
+use Rattle.pgp_prior.specs.Prior.{is_group_down, IsBlocking}
+use Rattle.pgp_prior.proofs.ListLemmas.{any-contains, contains-any, filter-contains, contains-filter}
+use Rattle.pgp_prior.proofs.SlotLemmas.{IsSlotSet-slots_of, has-slots_of, is_within-each, contains-has_slot}
+use Rattle.pgp_prior.proofs.PriorLemmas.{down-IsBlocking, IsBlocking-down}
+
+settled_still : (old new : Status) → is_no_worse old new ≡ true → is_settled old ≡ true → is_settled new ≡ true
+settled_still Up Up better settled = refl
+settled_still Up Gone better settled = cc
+settled_still Up Lost better settled = refl
+settled_still Up Down better settled = cc
+settled_still Gone new better settled = cc
+settled_still Lost Up better settled = refl
+settled_still Lost Gone better settled = cc
+settled_still Lost Lost better settled = refl
+settled_still Lost Down better settled = cc
+settled_still Down new better settled = cc
+
+down_before : (old new : Status) → is_no_worse old new ≡ true → new ≡ Down → old ≡ Down
+down_before old Up better down = cc
+down_before old Gone better down = cc
+down_before old Lost better down = cc
+down_before Up Down better down = cc
+down_before Gone Down better down = cc
+down_before Lost Down better down = cc
+down_before Down Down better down = refl
+
+-- the slots that were settled still are
+settled_within : (by_place : Bool) (old new : ℕ → ℕ → Status) → IsNoWorse old new → (p : Past) → is_within (settled_slots by_place old p) (settled_slots by_place new p) ≡ true
+settled_within by_place old new better p =
+    let members : List Member = members_of by_place p.members.acting in
+    let was : List Member = acting_where is_settled by_place old p in
+    let is : List Member = acting_where is_settled by_place new p in
+    is_within-each (slots_of was) (slots_of is) (λ k in'.
+    let found = any-contains (λ (m : Member). nat_eq k m.slot) was (sym (has-slots_of k was) ∙ contains-has_slot k (slots_of was) in') in
+    let member : Member = found.0 in
+    let kept = filter-contains (λ m. is_settled (old m.osd p.first)) members member found.1.0 in
+    let still : Contains is member =
+    contains-filter (λ m. is_settled (new m.osd p.first)) members member kept.0 (settled_still _ _ (better member.osd p.first) kept.1) in
+    has-slots_of k is ∙ contains-any (λ (m : Member). nat_eq k m.slot) is member still found.1.1)
+
+short_before : (enough : List ℕ → Bool) → ((a b : List ℕ) → IsSlotSet a → IsSlotSet b → is_within a b ≡ true → enough a ≡ true → enough b ≡ true) → (a b : List ℕ) → IsSlotSet a → IsSlotSet b → is_within a b ≡ true → enough b ≡ false → enough a ≡ false
+short_before enough monotone a b sets_a sets_b within short = elim (cases_Bool (enough a)) [
+  | inl suffices ↦ absurd (true≢false (sym (monotone a b sets_a sets_b within suffices) ∙ short))
+  | inr lacks ↦ lacks
+]
+
+blocking_before : (enough : List ℕ → Bool) → ((a b : List ℕ) → IsSlotSet a → IsSlotSet b → is_within a b ≡ true → enough a ≡ true → enough b ≡ true) → (by_place : Bool) (old new : ℕ → ℕ → Status) → IsNoWorse old new → (les : ℕ) (past : List Past) (p : Past) (member : Member) → IsBlocking enough by_place new les past p member → IsBlocking enough by_place old les past p member
+blocking_before enough monotone by_place old new better les past p member is =
+    record {
+      there = is.there;
+      matters = is.matters;
+      short =
+          short_before enough monotone (settled_slots by_place old p) (settled_slots by_place new p)
+          (IsSlotSet-slots_of (acting_where is_settled by_place old p))
+          (IsSlotSet-slots_of (acting_where is_settled by_place new p))
+          (settled_within by_place old new better p) is.short;
+      acting = is.acting;
+      down = down_before _ _ (better member.osd p.first) is.down;
+    }
+
+pub not_down-better : (enough : List ℕ → Bool) → ((a b : List ℕ) → IsSlotSet a → IsSlotSet b → is_within a b ≡ true → enough a ≡ true → enough b ≡ true) → (by_place : Bool) (old new : ℕ → ℕ → Status) → IsNoWorse old new → (les : ℕ) (past : List Past) → is_group_down enough by_place old les past ≡ false → is_group_down enough by_place new les past ≡ false
+not_down-better enough monotone by_place old new better les past up =
+    elim (cases_Bool (is_group_down enough by_place new les past)) [
+      | inl down ↦
+          let found = down-IsBlocking enough by_place new les past down in
+          let p : Past = found.0 in
+          let member : Member = found.1.0 in
+          let was = blocking_before enough monotone by_place old new better les past p member found.1.1 in
+          absurd (true≢false (sym (IsBlocking-down enough by_place old les past p member was) ∙ up))
+      | inr fine ↦ fine
+    ]

@@ -1,0 +1,5 @@
+pub mod ListLemmas
+pub mod AscendingLemmas
+pub mod PriorLemmas
+pub mod SlotLemmas
+pub mod BetterLemmas

@@ -1,0 +1,19 @@
+-- The members of a list of devices. In an erasure pool a member's slot is its place in the list, in a replicated pool it
+-- is 0.
+use Rattle.std.specs.Prelude.{ℕ, List, [], length, fold, filter_map, Option, None, option_map, Bool, if◌then◌else◌, slice_index_or}
+use Rattle.std.specs.List.{range_with_len}
+use Rattle.pgp_ids.specs.SlotSet.{with_slot}
+use Rattle.pgp_ids.specs.declared.group_member.Member.{Member}
+
+-- the member at this place, if a device stands there
+abbrev pub member_at : Bool → List (Option ℕ) → ℕ → Option Member
+member_at by_place places place =
+    option_map (λ osd. record { osd = osd; slot = if by_place then place else 0 }) (slice_index_or places place None)
+
+-- the members of the list, in the order of their places
+abbrev pub members_of : Bool → List (Option ℕ) → List Member
+members_of by_place places = filter_map (member_at by_place places) (range_with_len 0 (length places))
+
+-- the slots in which members are, in ascending order, each once
+abbrev pub slots_of : List Member → List ℕ
+slots_of members = fold (λ slots member. with_slot member.slot slots) [] members

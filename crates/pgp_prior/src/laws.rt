@@ -1,0 +1,95 @@
+//! What the prior set is by any code, and what the definitions say of a small group.
+ghost use Rattle.std.specs.Prelude.{◌≡◌, ℕ, [], ◌∷◌, List, Bool, true, false, Contains, nat_lt};
+ghost use Rattle.pgp_ids.specs.Member.{is_before};
+ghost use Rattle.pgp_ids.specs.declared.group_member.Member.{Member};
+ghost use Rattle.pgp_ids.specs.declared.member.Membership.{Membership};
+ghost use Rattle.pgp_ids.specs.declared.past.Past.{Past};
+ghost use Rattle.pgp_sets.specs.declared.status.Status.{Status};
+ghost use Rattle.pgp_sets.specs.declared.status.Status.TheVariants.{Up, Gone, Lost, Down};
+ghost use Rattle.pgp_prior.specs.Ascending.{IsAscending};
+ghost use Rattle.pgp_prior.specs.Prior.{probe, blocked_by, is_group_down, IsBlocking, IsProbed};
+ghost use Rattle.pgp_prior.specs.Better.{IsNoWorse};
+ghost use Rattle.pgp_prior.specs.Examples.{prior_with, in_slot};
+
+use pgp_code::Recoverable;
+
+/// A group is down exactly where a past interval blocks it, and then for each device of such an interval that is down.
+pub fn a_group_is_down_where_an_interval_blocks()
+    ensures blocked { (enough : List ℕ → Bool) (by_place : Bool) (status : ℕ → ℕ → Status) (les : ℕ) (past : List Past)
+        → is_group_down enough by_place status les past ≡ true
+        → (interval : Past) × ((member : Member) × IsBlocking enough by_place status les past interval member) }
+    ensures blocking { (enough : List ℕ → Bool) (by_place : Bool) (status : ℕ → ℕ → Status) (les : ℕ) (past : List Past)
+        (interval : Past) (member : Member) → IsBlocking enough by_place status les past interval member
+        → is_group_down enough by_place status les past ≡ true }
+    ensures waited_for { (enough : List ℕ → Bool) (by_place : Bool) (status : ℕ → ℕ → Status) (les : ℕ)
+        (past : List Past) (osd : ℕ) → Contains (blocked_by enough by_place status les past) osd
+        → (interval : Past) × ((member : Member)
+        × (IsBlocking enough by_place status les past interval member × (member.osd ≡ osd))) }
+    ensures each_waited_for { (enough : List ℕ → Bool) (by_place : Bool) (status : ℕ → ℕ → Status) (les : ℕ)
+        (past : List Past) (interval : Past) (member : Member)
+        → IsBlocking enough by_place status les past interval member
+        → Contains (blocked_by enough by_place status les past) member.osd }
+{}
+
+/// Just the members of up and acting have to be heard, and those of intervals that matter that are up.
+pub fn whom_a_group_has_to_hear()
+    ensures heard { (by_place : Bool) (status : ℕ → ℕ → Status) (les : ℕ) (past : List Past) (current : Membership)
+        (member : Member) → Contains (probe by_place status les past current) member
+        → IsProbed by_place status les past current member }
+    ensures each { (by_place : Bool) (status : ℕ → ℕ → Status) (les : ℕ) (past : List Past) (current : Membership)
+        (member : Member) → IsProbed by_place status les past current member
+        → Contains (probe by_place status les past current) member }
+{}
+
+/// The members to hear and the devices to wait for are in ascending order, each once.
+pub fn prior_sets_ascend()
+    ensures probe { (by_place : Bool) (status : ℕ → ℕ → Status) (les : ℕ) (past : List Past) (current : Membership)
+        → IsAscending is_before (probe by_place status les past current) }
+    ensures blocked_by { (enough : List ℕ → Bool) (by_place : Bool) (status : ℕ → ℕ → Status) (les : ℕ)
+        (past : List Past) → IsAscending nat_lt (blocked_by enough by_place status les past) }
+{}
+
+/// A group that isn't down stays so where devices that were down come up or are given up for lost, whatever its code.
+pub fn better_statuses_never_block<R: Recoverable>()
+    ensures { (code : R) (old new : ℕ → ℕ → Status) (les : ℕ) (past : List Past) → IsNoWorse old new
+        → is_group_down (R.enough code) (R.by_place code) old les past ≡ false
+        → is_group_down (R.enough code) (R.by_place code) new les past ≡ false }
+{}
+
+/// One shard of three is at hand, the two others may come back: the group waits for both.
+pub fn two_shards_down()
+    ensures down { (prior_with Down Down 2).down ≡ true }
+    ensures blocked_by { (prior_with Down Down 2).blocked_by ≡ 1 ∷ 2 ∷ [] }
+    ensures probe { (prior_with Down Down 2).probe ≡ in_slot 0 0 ∷ in_slot 3 1 ∷ in_slot 4 2 ∷ [] }
+{}
+
+/// An interval that ended before the group last began to serve holds nobody up.
+pub fn served_since()
+    ensures down { (prior_with Down Down 3).down ≡ false }
+    ensures blocked_by { (prior_with Down Down 3).blocked_by ≡ [] }
+{}
+
+/// A shard that was given up for lost is not waited for, and counts as if it were there.
+pub fn one_shard_lost()
+    ensures down { (prior_with Lost Down 0).down ≡ false }
+    ensures blocked_by { (prior_with Lost Down 0).blocked_by ≡ [] }
+{}
+
+/// A shard that was destroyed doesn't count, so the other one is waited for.
+pub fn one_shard_gone()
+    ensures down { (prior_with Gone Down 0).down ≡ true }
+    ensures blocked_by { (prior_with Gone Down 0).blocked_by ≡ 2 ∷ [] }
+{}
+
+/// Where nobody can come back, nobody is waited for.
+pub fn both_shards_gone()
+    ensures down { (prior_with Gone Gone 0).down ≡ false }
+    ensures blocked_by { (prior_with Gone Gone 0).blocked_by ≡ [] }
+{}
+
+/// A device of an interval that matters has to be heard, once it is up.
+pub fn shard_back_up()
+    ensures down { (prior_with Up Down 0).down ≡ false }
+    ensures probe { (prior_with Up Down 0).probe
+        ≡ in_slot 0 0 ∷ in_slot 1 1 ∷ in_slot 3 1 ∷ in_slot 4 2 ∷ [] }
+{}

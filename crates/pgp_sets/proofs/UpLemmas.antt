@@ -1,0 +1,72 @@
+-- Each device of a group's up set and acting set is up.
+use Rattle.std.proofs.Common.{◌≡◌, ℕ, List, [], ◌∷◌, Option, Some, None, Bool, true, false, refl, ap, sym, ◌∙◌, inl, inr, if◌then◌else◌}
+use Rattle.std.specs.List.{filter}
+use Rattle.std.specs.Prelude.{map}
+use Rattle.std.specs.Option.{option_map, option_map_or, unwrap_or}
+use Rattle.std.proofs.lemmas.Bool.{cases_Bool}
+use Rattle.pgp_ids.specs.declared.incremental.Incremental.{Incremental}
+use Rattle.pgp_ids.specs.declared.member.Membership.{Membership}
+use Rattle.pgp_ids.specs.declared.pg_id.PgId.{PgId}
+use Rattle.pgp_ids.specs.declared.pool.PoolSpec.{PoolSpec}
+use Rattle.pgp_map.specs.Devices.{is_up}
+use Rattle.pgp_map.specs.MapFault.{is_erasure}
+use Rattle.pgp_map.specs.Pools.{pool, temp}
+use Rattle.pgp_sets.specs.Sets.{if_up, without_down, raw_set, up_set, pool_membership, membership, are_up}
+
+up_or_empty : (incs : List Incremental) (place : Option ℕ) (b : Bool) → option_map_or (is_up incs) place false ≡ b → option_map_or (is_up incs) (if b then place else None) true ≡ true
+up_or_empty incs None true is = refl
+up_or_empty incs (Some osd) true is = is
+up_or_empty incs place false is = refl
+
+emptied : (incs : List Incremental) (places : List (Option ℕ)) → are_up incs (map (if_up incs) places) ≡ true
+emptied incs [] = refl
+emptied incs (place ∷ places) = rw (up_or_empty incs place _ refl, emptied incs places) refl
+
+kept : (incs : List Incremental) (place : Option ℕ) (places : List (Option ℕ)) → option_map_or (is_up incs) place false ≡ true → are_up incs places ≡ true → are_up incs (place ∷ places) ≡ true
+kept incs None places is rest = rest
+kept incs (Some osd) places is rest = rw (is, rest) refl
+
+left_out : (incs : List Incremental) (places : List (Option ℕ)) → are_up incs (filter (λ place. option_map_or (is_up incs) place false) places) ≡ true
+left_out incs [] = refl
+left_out incs (place ∷ places) = elim (cases_Bool (option_map_or (is_up incs) place false)) [
+  | inl up ↦ rw up (kept incs place (filter (λ place. option_map_or (is_up incs) place false) places) up (left_out incs places))
+  | inr down ↦ rw down (left_out incs places)
+]
+
+up_by_kind : (incs : List Incremental) (places : List (Option ℕ)) (b : Bool) → are_up incs (if b then map (if_up incs) places else filter (λ place. option_map_or (is_up incs) place false) places) ≡ true
+up_by_kind incs places true = emptied incs places
+up_by_kind incs places false = left_out incs places
+
+pub are_up-without_down : (incs : List Incremental) (pool : PoolSpec) (places : List (Option ℕ)) → are_up incs (without_down incs pool places) ≡ true
+are_up-without_down incs pool places = up_by_kind incs places (is_erasure pool.kind)
+
+one_of_both : (incs : List Incremental) (up given : List (Option ℕ)) (b : Bool) → are_up incs up ≡ true → are_up incs given ≡ true → are_up incs (if b then up else given) ≡ true
+one_of_both incs up given true is also = is
+one_of_both incs up given false is also = also
+
+are_up-up : (incs : List Incremental) (pg : PgId) (pool : PoolSpec) → are_up incs (pool_membership incs pg pool).up ≡ true
+are_up-up incs pg pool = are_up-without_down incs pool (raw_set incs pool pg)
+
+are_up-acting : (incs : List Incremental) (pg : PgId) (pool : PoolSpec) → are_up incs (pool_membership incs pg pool).acting ≡ true
+are_up-acting incs pg pool =
+    one_of_both incs (up_set incs pool pg) (without_down incs pool (temp incs pg)) _ (are_up-up incs pg pool) (are_up-without_down incs pool (temp incs pg))
+
+nothing : {X : Type 0} (x : X) → None ≡ Some x → ⊥
+nothing x same = cc
+
+some_same : (x y : Membership) → Some x ≡ Some y → x ≡ y
+some_same x y same = ap (λ o. unwrap_or o x) same
+
+of_pool : (incs : List Incremental) (pg : PgId) (found : Option PoolSpec) (members : Membership) → option_map (pool_membership incs pg) found ≡ Some members → (made : PoolSpec) × (pool_membership incs pg made ≡ members)
+of_pool incs pg None members is = absurd (nothing members is)
+of_pool incs pg (Some made) members is = (made, some_same _ _ is)
+
+pub up-are_up : (incs : List Incremental) (pg : PgId) (members : Membership) → membership incs pg ≡ Some members → are_up incs members.up ≡ true
+up-are_up incs pg members is =
+    let from = of_pool incs pg (pool incs pg.pool) members is in
+    ap (λ (m : Membership). are_up incs m.up) (sym from.1) ∙ are_up-up incs pg from.0
+
+pub acting-are_up : (incs : List Incremental) (pg : PgId) (members : Membership) → membership incs pg ≡ Some members → are_up incs members.acting ≡ true
+acting-are_up incs pg members is =
+    let from = of_pool incs pg (pool incs pg.pool) members is in
+    ap (λ (m : Membership). are_up incs m.acting) (sym from.1) ∙ are_up-acting incs pg from.0

@@ -1,0 +1,4 @@
+pub mod Status
+pub mod Sets
+pub mod Examples
+pub mod Worked

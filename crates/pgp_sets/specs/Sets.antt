@@ -1,0 +1,81 @@
+-- Where a placement group lies, by the map that a list of incrementals makes (Ceph's developer documentation on peering:
+-- up set, acting set, primary).
+use Rattle.std.specs.Prelude.{ℕ, List, Bool, true, false, Option, None, option_map, filter, map, length, nat_eq, if◌then◌else◌}
+use Rattle.std.specs.List.{list_all}
+use Rattle.std.specs.Option.{option_map_or}
+use Rattle.pgp_hash.specs.Hash.{hash2}
+use Rattle.pgp_hash.specs.StableMod.{stable_mod}
+use Rattle.pgp_crush.specs.declared.rule.Rule.{Rule}
+use Rattle.pgp_crush.specs.Placement.{placement}
+use Rattle.pgp_ids.specs.Osds.{first_osd}
+use Rattle.pgp_ids.specs.declared.incremental.Incremental.{Incremental}
+use Rattle.pgp_ids.specs.declared.member.Membership.{Membership}
+use Rattle.pgp_ids.specs.declared.pg_id.PgId.{PgId}
+use Rattle.pgp_ids.specs.declared.pool.PoolSpec.{PoolSpec}
+use Rattle.pgp_map.specs.Devices.{is_up, weights}
+use Rattle.pgp_map.specs.Map.{tree, up_to}
+use Rattle.pgp_map.specs.MapFault.{is_erasure}
+use Rattle.pgp_map.specs.Pools.{pool, temp}
+
+-- how a pool places its groups: in an erasure pool each position keeps its place
+abbrev pub rule_of : PoolSpec → Rule
+rule_of pool = record { indep = is_erasure pool.kind; leaf = pool.leaf }
+
+-- what a group's placement hashes: its number among those of the pool, and the pool
+abbrev pub placement_input : PoolSpec → PgId → ℕ
+placement_input pool pg = hash2 (stable_mod pg.pg pool.pg_num) pg.pool
+
+-- where the tree puts the group, whatever became of the devices
+abbrev pub raw_set : List Incremental → PoolSpec → PgId → List (Option ℕ)
+raw_set incs pool pg = placement (tree incs) (rule_of pool) (weights incs) (placement_input pool pg) pool.size
+
+-- the place, emptied if its device isn't up
+abbrev pub if_up : List Incremental → Option ℕ → Option ℕ
+if_up incs place = if option_map_or (is_up incs) place false then place else None
+
+-- the list without devices that aren't up: their places are empty in an erasure pool, and left out in a replicated one
+abbrev pub without_down : List Incremental → PoolSpec → List (Option ℕ) → List (Option ℕ)
+without_down incs pool places =
+    if is_erasure pool.kind then map (if_up incs) places else filter (λ place. option_map_or (is_up incs) place false) places
+
+-- the group's placement, without devices that aren't up
+abbrev pub up_set : List Incremental → PoolSpec → PgId → List (Option ℕ)
+up_set incs pool pg = without_down incs pool (raw_set incs pool pg)
+
+-- who serves: the devices of pg_temp that are up, or the up set where that leaves no place
+abbrev pub acting_set : List Incremental → PoolSpec → PgId → List (Option ℕ) → List (Option ℕ)
+acting_set incs pool pg up =
+    let given = without_down incs pool (temp incs pg) in
+    if nat_eq (length given) 0 then up else given
+
+-- the membership of a group of this pool, where these are the sets
+abbrev pub members_with : PoolSpec → List (Option ℕ) → List (Option ℕ) → Membership
+members_with pool up acting =
+    record {
+      up = up;
+      up_primary = first_osd up;
+      acting = acting;
+      acting_primary = first_osd acting;
+      size = pool.size;
+      min_size = pool.min_size;
+    }
+
+-- the membership of a group of this pool, where this is its up set
+abbrev pub members_from_up : List Incremental → PoolSpec → PgId → List (Option ℕ) → Membership
+members_from_up incs pool pg up = members_with pool up (acting_set incs pool pg up)
+
+-- the membership of a group of this pool
+abbrev pub pool_membership : List Incremental → PgId → PoolSpec → Membership
+pool_membership incs pg pool = members_from_up incs pool pg (up_set incs pool pg)
+
+-- the membership of a group, where its pool is there
+abbrev pub membership : List Incremental → PgId → Option Membership
+membership incs pg = option_map (pool_membership incs pg) (pool incs pg.pool)
+
+-- the membership at this epoch
+abbrev pub membership_at : ℕ → List Incremental → PgId → Option Membership
+membership_at epoch incs pg = membership (up_to epoch incs) pg
+
+-- each device of the list is up
+abbrev pub are_up : List Incremental → List (Option ℕ) → Bool
+are_up incs places = list_all (λ place. option_map_or (is_up incs) place true) places

@@ -1,0 +1,96 @@
+//! What the definitions say of small maps.
+#![tactic(auto, unfolding(crate::specs::Worked::sets_computed))]
+
+ghost use Rattle.std.specs.Prelude.{◌≡◌, List, true, [], ◌∷◌, Some, None};
+ghost use Rattle.pgp_sets.specs.declared.status.Status.TheVariants.{Up, Gone, Lost, Down};
+ghost use Rattle.pgp_ids.specs.declared.incremental.Incremental.{Incremental};
+ghost use Rattle.pgp_ids.specs.declared.member.Membership.{Membership};
+ghost use Rattle.pgp_ids.specs.declared.pg_id.PgId.{PgId};
+ghost use Rattle.pgp_map.specs.Examples.{boot, empty_step};
+ghost use Rattle.pgp_sets.specs.Status.{status};
+ghost use Rattle.pgp_sets.specs.Sets.{membership, membership_at, are_up};
+ghost use Rattle.pgp_sets.specs.Examples.{of_device, of_weight, copies_group, shards_group, stands_on, lies_on, copies_placed, copies_on_three, shards_on_three, take_down, resize};
+
+/// Each device of up and of acting is up.
+pub fn who_lies_there_is_up()
+    ensures up { (incs : List Incremental) (pg : PgId) (members : Membership)
+        → membership incs pg ≡ Some members → are_up incs members.up ≡ true }
+    ensures acting { (incs : List Incremental) (pg : PgId) (members : Membership)
+        → membership incs pg ≡ Some members → are_up incs members.acting ≡ true }
+{}
+
+/// A device that is down may come back, until it is given up for lost; what was lost before an interval plays no part in it.
+pub fn device_that_went_down()
+    ensures up { status (boot 1 (0 ∷ []) ∷ []) 0 1 ≡ Up }
+    ensures down { status (boot 1 (0 ∷ []) ∷ take_down 2 (0 ∷ []) ∷ []) 0 1 ≡ Down }
+    ensures lost { let given_up = record (take_down 2 (0 ∷ [])) { lost = of_device 0 2 ∷ [] } in
+        status (boot 1 (0 ∷ []) ∷ given_up ∷ []) 0 1 ≡ Lost }
+    ensures lost_at_its_start { let given_up = record (take_down 2 (0 ∷ [])) { lost = of_device 0 1 ∷ [] } in
+        status (boot 1 (0 ∷ []) ∷ given_up ∷ []) 0 1 ≡ Down }
+{}
+
+/// A device that was given up for lost and comes back is up, and one that is destroyed is gone.
+pub fn device_that_was_lost()
+    ensures back { let given_up = record (take_down 2 (0 ∷ [])) { lost = of_device 0 2 ∷ [] } in
+        status (boot 1 (0 ∷ []) ∷ given_up ∷ boot 3 (0 ∷ []) ∷ []) 0 1 ≡ Up }
+    ensures destroyed { let given_up = record (take_down 2 (0 ∷ [])) { lost = of_device 0 2 ∷ [] } in
+        let destroyed = record (empty_step 3) { gone = 0 ∷ [] } in
+        status (boot 1 (0 ∷ []) ∷ given_up ∷ destroyed ∷ []) 0 1 ≡ Gone }
+    ensures never_there { status [] 0 1 ≡ Gone }
+{}
+
+/// A replicated pool places its group on the devices that have weight, in order, and pg_temp stands in for that.
+pub fn copies()
+    ensures placed { membership (copies_placed ∷ []) copies_group ≡ Some (lies_on 3 2 (Some 0 ∷ []) (Some 0 ∷ [])) }
+    ensures on_three { membership (copies_on_three ∷ []) copies_group
+        ≡ Some (lies_on 3 2 (Some 0 ∷ []) (Some 0 ∷ Some 1 ∷ Some 2 ∷ [])) }
+    ensures one_down { membership (copies_on_three ∷ take_down 2 (1 ∷ []) ∷ []) copies_group
+        ≡ Some (lies_on 3 2 (Some 0 ∷ []) (Some 0 ∷ Some 2 ∷ [])) }
+{}
+
+/// Where no device of pg_temp is up, the group is served by the devices on which it lies, as before.
+pub fn pg_temp_without_devices()
+    ensures falls_back { let others = record (take_down 2 (1 ∷ 2 ∷ [])) {
+      temp = stands_on copies_group (Some 1 ∷ Some 2 ∷ []);
+    } in
+        membership (copies_placed ∷ others ∷ []) copies_group ≡ Some (lies_on 3 2 (Some 0 ∷ []) (Some 0 ∷ [])) }
+    ensures taken_away { let none = record (empty_step 2) { temp = stands_on copies_group [] } in
+        membership (copies_on_three ∷ none ∷ []) copies_group ≡ Some (lies_on 3 2 (Some 0 ∷ []) (Some 0 ∷ [])) }
+{}
+
+/// New weights move the group's placement, and new sizes are part of its membership.
+pub fn weights_and_sizes()
+    ensures weights { let others = record (empty_step 2) {
+      weight = of_weight 0 0 ∷ of_weight 1 0x10000 ∷ [];
+    } in
+        membership (copies_on_three ∷ others ∷ []) copies_group
+        ≡ Some (lies_on 3 2 (Some 1 ∷ []) (Some 0 ∷ Some 1 ∷ Some 2 ∷ [])) }
+    ensures sizes { membership (copies_on_three ∷ resize 2 3 1 ∷ []) copies_group
+        ≡ Some (lies_on 3 1 (Some 0 ∷ []) (Some 0 ∷ Some 1 ∷ Some 2 ∷ [])) }
+{}
+
+/// An erasure pool keeps the places of devices that aren't up empty, and a list of empty places isn't empty.
+pub fn shards()
+    ensures on_three { membership (shards_on_three ∷ []) shards_group
+        ≡ Some (lies_on 3 2 (None ∷ None ∷ None ∷ []) (Some 0 ∷ Some 1 ∷ Some 2 ∷ [])) }
+    ensures one_down { membership (shards_on_three ∷ take_down 2 (1 ∷ []) ∷ []) shards_group
+        ≡ Some (lies_on 3 2 (None ∷ None ∷ None ∷ []) (Some 0 ∷ None ∷ Some 2 ∷ [])) }
+    ensures all_down { membership (shards_on_three ∷ take_down 2 (0 ∷ 1 ∷ 2 ∷ []) ∷ []) shards_group
+        ≡ Some (lies_on 3 2 (None ∷ None ∷ None ∷ []) (None ∷ None ∷ None ∷ [])) }
+{}
+
+/// Without a tree no device is placed, and without its pool a group has no membership.
+pub fn nothing_to_place_on()
+    ensures copies { membership (record copies_placed { crush = None } ∷ []) copies_group ≡ Some (lies_on 3 2 [] []) }
+    ensures shards { let placed = record shards_on_three { crush = None; temp = [] } in
+        membership (placed ∷ []) shards_group
+        ≡ Some (lies_on 3 2 (None ∷ None ∷ None ∷ []) (None ∷ None ∷ None ∷ [])) }
+    ensures no_pool { membership (copies_placed ∷ []) shards_group ≡ None }
+{}
+
+/// The membership of an epoch is that of the map which the incrementals up to it make.
+pub fn earlier_epoch()
+    ensures before { membership_at 1 (copies_on_three ∷ take_down 2 (1 ∷ []) ∷ []) copies_group
+        ≡ Some (lies_on 3 2 (Some 0 ∷ []) (Some 0 ∷ Some 1 ∷ Some 2 ∷ [])) }
+    ensures before_its_pool { membership_at 0 (copies_on_three ∷ []) copies_group ≡ None }
+{}

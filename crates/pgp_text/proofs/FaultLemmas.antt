@@ -1,0 +1,15 @@
+-- What is written of a line's fault.
+use Rattle.std.proofs.Common.{◌≡◌, refl, IfSome}
+use Rattle.pgp_ids.specs.declared.text_fault.TextFault.{TextFault}
+use Rattle.pgp_ids.specs.declared.text_fault.TextFault.TheVariants.{LineTooLong, NotJson, NoOp, UnknownKey, BadField, Memory}
+use Rattle.pgp_text.specs.LineFault.{told}
+use Rattle.pgp_text.specs.Refused.{refused_data, line_fault_data}
+use Rattle.pgp_text.specs.declared.reply.refused.Refused.TheVariants.{Line}
+
+pub written_as_told : (fault : TextFault) → IfSome (told fault) (λ f. line_fault_data f ≡ refused_data (Line fault))
+written_as_told LineTooLong = refl
+written_as_told NotJson = refl
+written_as_told NoOp = refl
+written_as_told (UnknownKey key) = refl
+written_as_told (BadField key) = refl
+written_as_told Memory = tt

@@ -1,0 +1,87 @@
+-- The command that a line is, in this project's own format over JSON (RFC 8259).
+use Rattle.std.specs.Prelude.{◌≤◌, ℕ, List, [], ◌∷◌, length, codes, if◌then◌else◌, Option, Some, None, Result, Ok, Err, option_and_then}
+use Rattle.std.specs.Option.{ok_or}
+use Rattle.std.specs.Str.{bytes_eq, is_utf8}
+use Rattle.serde_json.specs.Data.{Data}
+use Rattle.serde_json.specs.Find.{as_str}
+use Rattle.serde_json.specs.Read.{read}
+use Rattle.pgp_ids.specs.declared.entry.Entry.TheVariants.{Inc, Close}
+use Rattle.pgp_ids.specs.declared.pool.PoolKind.{PoolKind}
+use Rattle.pgp_ids.specs.declared.pool.PoolKind.TheVariants.{Replicated, Erasure}
+use Rattle.pgp_text.specs.LineFault.{LineFault, not_json, no_op, unknown_key, ◌>>=◌}
+use Rattle.pgp_text.specs.Shapes.{unknown_key_in, field, required}
+use Rattle.pgp_text.specs.Incremental.{inc_keys, inc_of}
+use Rattle.pgp_text.specs.Trace.{trace_keys, code_in, epochs_in, has_empty_places}
+use Rattle.pgp_text.specs.declared.command.Command.{Command}
+use Rattle.pgp_text.specs.declared.command.Command.TheVariants.{Submit, Trace}
+use Rattle.pgp_text.specs.declared.command.Op.{Op}
+use Rattle.pgp_text.specs.declared.command.Op.TheVariants as op
+
+-- the operation of this name
+abbrev pub op_named : List ℕ → Option Op
+op_named name =
+    if bytes_eq name (codes "close") then Some op.Close
+    else (if bytes_eq name (codes "inc") then Some op.Inc
+    else (if bytes_eq name (codes "trace") then Some op.Trace else None))
+
+-- the operation that a line names
+abbrev pub op_in : Data → Option Op
+op_in d = option_and_then op_named (field (codes "op") as_str d)
+
+-- the keys that its line may have
+abbrev pub op_keys : Op → List (List ℕ)
+op_keys op.Close = codes "op" ∷ []
+op_keys op.Inc = inc_keys
+op_keys op.Trace = trace_keys
+
+-- the line of a trace: its keys are judged in ascending byte order, so the least bad one is named
+abbrev pub trace_of : Data → Result Command LineFault
+trace_of d = do
+  code ← required (codes "code") code_in d
+  epochs ← required (codes "epochs") (epochs_in (has_empty_places code)) d
+  Ok (Trace code epochs)
+
+-- the line of this operation, past the judgement of its keys
+abbrev pub command_with : Op → Data → Result Command LineFault
+command_with op.Close d = Ok (Submit Close)
+command_with op.Inc d = do
+  inc ← inc_of d
+  Ok (Submit (Inc inc))
+command_with op.Trace d = trace_of d
+
+-- an unknown key is told before a bad value
+abbrev pub known : {A : Type 0} → Option (List ℕ) → Result A LineFault → Result A LineFault
+known (Some key) read = Err (unknown_key key)
+known None read = read
+
+-- the command that a value is: an object whose `op` names an operation
+abbrev pub command_in : Data → Result Command LineFault
+command_in d = do
+  named ← ok_or (op_in d) no_op
+  known (unknown_key_in (op_keys named) d) (command_with named d)
+
+-- the value of a text, where the bytes are one
+abbrev pub data_of : List ℕ → Option Data
+data_of bytes = if is_utf8 bytes then read bytes else None
+
+-- the command that a line is, by its bytes without the line feed
+abbrev pub command_of : List ℕ → Result Command LineFault
+command_of bytes = do
+  d ← ok_or (data_of bytes) not_json
+  command_in d
+
+-- what a line with these keys says, by the judgement of its values
+abbrev pub line_with : {A : Type 0} → List (List ℕ) → (Data → Result A LineFault) → List ℕ → Result A LineFault
+line_with keys values bytes = do
+  d ← ok_or (data_of bytes) not_json
+  known (unknown_key_in keys d) (values d)
+
+-- a pool's kind as a trace can give it
+abbrev pub IsTraceCode : PoolKind → Type 0
+IsTraceCode Replicated = Unit {0}
+IsTraceCode (Erasure k) = (1 ≤ k) × (k ≤ 16)
+
+-- what a line can give: a trace has 1 to 4,096 epochs, and an erasure code 1 to 16 data shards
+abbrev pub IsInRange : Command → Type 0
+IsInRange (Submit entry) = Unit {0}
+IsInRange (Trace code epochs) = IsTraceCode code × (1 ≤ length epochs) × (length epochs ≤ 4096)

@@ -1,8 +1,0 @@
-use Rattle.std.proofs.Common.{refl}
-use Rattle.std.specs.Str.{is_utf8, chars}
-use Rattle.serde_json.proofs.OnLiterals.{serde_json_on_literals}
-use Rattle.pgpeer.proofs.laws.least_unknown_key.Goals as goal
-
-pub returns : goal.returns
-unfolding is_utf8 chars serde_json_on_literals
-returns c = refl

@@ -1,0 +1,188 @@
+//! Scripts of map incrementals.
+
+use super::program::run_with;
+use crate::status::DONE;
+use std::alloc::Global;
+use std::process::Abort;
+use std::test::Fail;
+
+/// Runs the script and compares its answers, line by line.
+fn expect(rt: &impl Abort, alloc: Global, script: &str, answers: &str) -> Result<(), Fail> {
+    let (status, out, _) = run_with(alloc, &["pgpeer", "run"], script.as_bytes())?;
+    assert_eq!(rt; status, DONE);
+    assert_eq!(rt; out.as_slice(), answers.as_bytes(), "{script}");
+    Ok(())
+}
+
+/// The answer to an incremental that is taken as the first entries.
+fn taken(alloc: Global, count: u32) -> Result<String, Fail> {
+    Ok(format!(in alloc; "{{\"count\":{count},\"epoch\":{count},\"ok\":\"inc\"}}\n")?)
+}
+
+#[test]
+fn judges_incrementals(rt: HostRuntime) -> Result<(), Fail> {
+    let alloc = rt.alloc();
+    for (second, keys, refusal) in [
+        (
+            false,
+            r#""weight":[[0,0]]"#,
+            Some(r#"{"code":12,"refused":"UnknownDevice"}"#),
+        ),
+        (false, r#""up":[0],"weight":[[0,0]]"#, None),
+        (
+            false,
+            r#""up":[0],"lost":[[0,1]]"#,
+            Some(r#"{"code":15,"refused":"StillUp"}"#),
+        ),
+        (
+            true,
+            r#""gone":[0]"#,
+            Some(r#"{"code":15,"refused":"StillUp"}"#),
+        ),
+        (
+            true,
+            r#""down":[0],"gone":[0]"#,
+            Some(r#"{"code":11,"refused":"Twice"}"#),
+        ),
+        (true, r#""down":[0],"lost":[[0,2]]"#, None),
+        (
+            true,
+            r#""down":[0],"lost":[[0,3]]"#,
+            Some(r#"{"code":17,"refused":"Ahead"}"#),
+        ),
+        (
+            true,
+            r#""sizes":[[1,1,1]]"#,
+            Some(r#"{"code":18,"refused":"BadPool"}"#),
+        ),
+        (
+            true,
+            r#""temp":[[1,0,[0]]]"#,
+            Some(r#"{"code":20,"refused":"BadTemp"}"#),
+        ),
+    ] {
+        let epoch = if second { 2u32 } else { 1 };
+        let first = if second {
+            "{\"op\":\"inc\",\"epoch\":1,\"up\":[0]}\n"
+        } else {
+            ""
+        };
+        let before = if second {
+            taken(alloc, 1)?
+        } else {
+            String::new(alloc)
+        };
+        let script = format!(in alloc; "{first}{{\"op\":\"inc\",\"epoch\":{epoch},{keys}}}\n")?;
+        let answer = match refusal {
+            Some(refusal) => format!(in alloc; "{before}{refusal}\n")?,
+            None => {
+                let now = taken(alloc, epoch)?;
+                format!(in alloc; "{before}{now}")?
+            }
+        };
+        expect(&rt, alloc, script.as_str(), answer.as_str())?;
+    }
+    Ok(())
+}
+
+#[test]
+fn follows_epochs(rt: HostRuntime) -> Result<(), Fail> {
+    expect(
+        &rt,
+        rt.alloc(),
+        concat!(
+            "{\"op\":\"inc\",\"epoch\":2}\n",
+            "{\"op\":\"inc\",\"epoch\":1,\"up\":[0]}\n",
+            "{\"op\":\"inc\",\"epoch\":2,\"up_thru\":[[0,3]]}\n",
+            "{\"op\":\"inc\",\"epoch\":2,\"up_thru\":[[0,2]]}\n",
+            "{\"op\":\"inc\",\"epoch\":3,\"up_thru\":[[0,1]]}\n",
+            "{\"op\":\"inc\",\"epoch\":3,\"up\":[0]}\n",
+            "{\"op\":\"inc\",\"epoch\":3,\"up\":[0],\"down\":[0]}\n",
+            "{\"op\":\"inc\",\"epoch\":3,\"down\":[0]}\n",
+            "{\"op\":\"inc\",\"epoch\":4,\"down\":[0]}\n",
+        ),
+        concat!(
+            "{\"code\":10,\"refused\":\"EpochGap\"}\n",
+            "{\"count\":1,\"epoch\":1,\"ok\":\"inc\"}\n",
+            "{\"code\":17,\"refused\":\"Ahead\"}\n",
+            "{\"count\":2,\"epoch\":2,\"ok\":\"inc\"}\n",
+            "{\"code\":16,\"refused\":\"UpThruBack\"}\n",
+            "{\"code\":13,\"refused\":\"AlreadyUp\"}\n",
+            "{\"code\":11,\"refused\":\"Twice\"}\n",
+            "{\"count\":3,\"epoch\":3,\"ok\":\"inc\"}\n",
+            "{\"code\":14,\"refused\":\"AlreadyDown\"}\n",
+        ),
+    )
+}
+
+#[test]
+fn closes(rt: HostRuntime) -> Result<(), Fail> {
+    expect(
+        &rt,
+        rt.alloc(),
+        "{\"op\":\"close\"}\n{\"op\":\"inc\",\"epoch\":7}\n{\"op\":\"close\"}\n",
+        concat!(
+            "{\"count\":1,\"epoch\":0,\"ok\":\"close\"}\n",
+            "{\"code\":64,\"refused\":\"Closed\"}\n",
+            "{\"code\":64,\"refused\":\"Closed\"}\n",
+        ),
+    )
+}
+
+#[test]
+fn refuses_trees(rt: HostRuntime) -> Result<(), Fail> {
+    let alloc = rt.alloc();
+    for (buckets, tree) in [
+        ("", 1u8),
+        (
+            r#"{"id":-1,"type":1,"alg":"uniform","items":[0]},{"id":-2,"type":1,"alg":"uniform","items":[1]}"#,
+            1,
+        ),
+        (
+            r#"{"id":-1,"type":2,"alg":"uniform","items":[-2,0]},{"id":-2,"type":1,"alg":"uniform","items":[0]}"#,
+            2,
+        ),
+        (
+            r#"{"id":-1,"type":1,"alg":"uniform","items":[-2]},{"id":-2,"type":1,"alg":"uniform","items":[0]}"#,
+            3,
+        ),
+        (r#"{"id":-1,"type":2,"alg":"uniform","items":[-7]}"#, 4),
+        (r#"{"id":-1,"type":1,"alg":"uniform","items":[4096]}"#, 4),
+        (
+            r#"{"id":-1,"type":1,"alg":"list","items":[0,1],"weights":[4294967295,1]}"#,
+            7,
+        ),
+    ] {
+        let script = format!(in alloc; "{{\"op\":\"inc\",\"epoch\":1,\"crush\":[{buckets}]}}\n")?;
+        let answer = format!(in alloc;
+            "{{\"code\":21,\"refused\":\"TreeFault\",\"tree\":{tree}}}\n"
+        )?;
+        expect(&rt, alloc, script.as_str(), answer.as_str())?;
+    }
+    expect(
+        &rt,
+        rt.alloc(),
+        "{\"op\":\"inc\",\"epoch\":1,\"crush\":[{\"id\":-1,\"type\":1,\"alg\":\"uniform\",\"items\":[]}]}\n",
+        "{\"count\":1,\"epoch\":1,\"ok\":\"inc\"}\n",
+    )
+}
+
+#[test]
+fn fills_the_log(rt: HostRuntime) -> Result<(), Fail> {
+    let alloc = rt.alloc();
+    let mut script = String::new(alloc);
+    for epoch in 1..=65_536u32 {
+        write!(script, "{{\"op\":\"inc\",\"epoch\":{epoch}}}\n")?;
+    }
+    script.push_str("{\"op\":\"close\"}\n{\"op\":\"inc\",\"epoch\":65536}\n")?;
+    let (status, out, _) = run_with(alloc, &["pgpeer", "run"], script.as_bytes())?;
+    assert_eq!(rt; status, DONE);
+    let last = concat!(
+        "{\"count\":65535,\"epoch\":65535,\"ok\":\"inc\"}\n",
+        "{\"code\":50,\"refused\":\"LogFull\"}\n",
+        "{\"count\":65536,\"epoch\":65535,\"ok\":\"close\"}\n",
+        "{\"code\":64,\"refused\":\"Closed\"}\n",
+    );
+    assert!(rt; out.as_slice().ends_with(last.as_bytes()));
+    Ok(())
+}

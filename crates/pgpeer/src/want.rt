@@ -1,0 +1,8 @@
+/// What there was no memory for.
+#[derive(Clone, Copy, Debug, PartialEq, Eq)]
+pub enum Want {
+    /// A line, or the answer to it.
+    Line,
+    /// An entry that a line was read as.
+    Entry,
+}

@@ -1,0 +1,348 @@
+#!/usr/bin/env python3
+"""Compares the definitions of hashing and placement with what Ceph's own tools answer.
+
+    tools/compare_with_ceph.py [--inputs N] [--trees N]
+
+Needs `osdmaptool` and `crushtool` (Debian: ceph-base and ceph-osd). The definitions of pgp_hash/specs and pgp_crush/specs
+are written out here once more, in Python, and each of their values below is compared with the answer of a tool:
+
+  names      the group of an object's name among many numbers of groups: the lower 30 bits of the name's hash, and
+             the groups of a number that is no power of two
+  two words  from which weight on a device is in: the lower 16 bits of the hash
+  three      the first choice of uniform buckets of 247 to 256 items: all 32 bits of the hash
+  four       from which weight on a list bucket chooses its last item: the lower 16 bits of the hash
+  placements random trees of list and uniform buckets, weights, inputs and numbers of places, both kinds of rule
+
+crushtool runs with `choose_total_tries 50` and the tunables of Ceph's current profile, with which its rules of one take and
+one choose are those of this project. Prints how many values agree, and ends with status 1 at the first that does not.
+"""
+
+import argparse
+import random
+import re
+import subprocess
+import sys
+import tempfile
+
+WORD = 2**32
+NONE = 2147483647  # an empty place, as crushtool prints it
+IN = 0x10000  # the weight from which on a device is always in
+
+
+# Hashing
+
+
+def mix(a, b, c):
+    for left, middle, right in ((13, 8, 13), (12, 16, 5), (3, 10, 15)):
+        a = (a - b - c) % WORD ^ c >> left
+        b = (b - c - a) % WORD ^ a << middle & WORD - 1
+        c = (c - a - b) % WORD ^ b >> right
+    return a, b, c
+
+
+SEED, X, Y = 1315423911, 231232, 1232
+
+
+def hash2(a, b):
+    a, b, h = mix(a, b, SEED ^ a ^ b)
+    x, a, h = mix(X, a, h)
+    b, y, h = mix(b, Y, h)
+    return h
+
+
+def hash3(a, b, c):
+    a, b, h = mix(a, b, SEED ^ a ^ b ^ c)
+    c, x, h = mix(c, X, h)
+    y, a, h = mix(Y, a, h)
+    b, x, h = mix(b, x, h)
+    y, c, h = mix(y, c, h)
+    return h
+
+
+def hash4(a, b, c, d):
+    a, b, h = mix(a, b, SEED ^ a ^ b ^ c ^ d)
+    c, d, h = mix(c, d, h)
+    a, x, h = mix(a, X, h)
+    y, b, h = mix(Y, b, h)
+    c, x, h = mix(c, x, h)
+    y, d, h = mix(y, d, h)
+    return h
+
+
+def name_hash(name):
+    words = (0x9E3779B9, 0x9E3779B9, 0)
+    blocks = len(name) // 12
+
+    def number(at):
+        return int.from_bytes(name[at : at + 4].ljust(4, b"\0"), "little")
+
+    for block in range(blocks):
+        words = mix(*((w + number(12 * block + 4 * i)) % WORD for i, w in enumerate(words)))
+    a, b, c = (number(12 * blocks + 4 * i) for i in range(3))
+    adds = (a, b, 256 * c + len(name))
+    return mix(*((w + add) % WORD for w, add in zip(words, adds)))[2]
+
+
+def stable_mod(x, groups):
+    power = 1
+    while power < groups:
+        power *= 2
+    return x % power if x % power < groups else x % (power // 2)
+
+
+# Placement: a tree is a map from ids to buckets, and a bucket is (type, "uniform" or "list", items, weights).
+
+
+def chosen(tree, bucket, x, r):
+    _, alg, items, weights = tree[bucket]
+    word = bucket % WORD
+    if alg == "list":
+        for i in reversed(range(len(items))):
+            share = (hash4(x, items[i] % WORD, r, word) & 0xFFFF) * sum(weights[: i + 1]) >> 16
+            if share < weights[i]:
+                return items[i]
+        return items[0]
+    order = list(items)
+    for p in range(r % len(items) + 1):
+        if p < len(items) - 1:
+            q = p + hash3(x, word, p) % (len(items) - p)
+            order[p], order[q] = order[q], order[p]
+    return order[r % len(items)]
+
+
+def descent(tree, bucket, x, rank, kind):
+    """The item of the type that comes first, with its number, or "early" or "empty"."""
+    while tree[bucket][2]:
+        r = rank(tree[bucket])
+        item = chosen(tree, bucket, x, r)
+        if (tree[item][0] if item < 0 else 0) == kind:
+            return item, r
+        if item >= 0:
+            return "early"
+        bucket = item
+    return "empty"
+
+
+def candidate(tree, root, weights, x, kind, rank, more):
+    """What one try comes to: "early", None where it is of no use, or an item with its leaf."""
+    found = descent(tree, root, x, rank, kind)
+    if found == "early":
+        return found
+    if found == "empty":
+        return None
+    item, r = found
+    if item < 0:
+        below = descent(tree, item, x, lambda bucket: r + more, 0)
+        if below == "empty":
+            return None
+    leaf = item if item >= 0 else below[0]
+    weight = weights.get(leaf, IN)
+    is_in = weight >= IN or weight > 0 and hash2(x, leaf) & 0xFFFF < weight
+    return (item, leaf) if is_in else None
+
+
+def first_n(tree, root, weights, x, kind, n):
+    taken = []
+    for rep in range(n):
+        for f in range(51):
+            found = candidate(tree, root, weights, x, kind, lambda bucket: rep + f, 0)
+            if found == "early":
+                break
+            if found and all(found[0] != item and found[1] != leaf for item, leaf in taken):
+                taken.append(found)
+                break
+    return [leaf for _, leaf in taken]
+
+
+def indep(tree, root, weights, x, kind, n):
+    cells = [None] * n
+    for f in range(51):
+        for rep in range(n):
+
+            def rank(bucket):
+                multiple = bucket[1] == "uniform" and len(bucket[2]) % n == 0
+                return rep + (n + 1 if multiple else n) * f
+
+            if cells[rep] is None:
+                found = candidate(tree, root, weights, x, kind, rank, rep)
+                if found == "early" or found and all(found[0] != cell[0] for cell in cells if cell):
+                    cells[rep] = (None, NONE) if found == "early" else found
+    return [cell[1] if cell else NONE for cell in cells]
+
+
+# The tools
+
+
+def run(*command):
+    return subprocess.run(command, check=True, capture_output=True, text=True).stdout
+
+
+def text_of(tree, root, rule):
+    """The tree as crushtool reads it, with one rule."""
+    lines = [
+        "tunable choose_local_tries 0",
+        "tunable choose_local_fallback_tries 0",
+        "tunable choose_total_tries 50",
+        "tunable chooseleaf_descend_once 1",
+        "tunable chooseleaf_vary_r 1",
+        "tunable chooseleaf_stable 1",
+        "tunable straw_calc_version 1",
+        "tunable allowed_bucket_algs 62",
+    ]
+    devices = {item for bucket in tree.values() for item in bucket[2] if item >= 0}
+    lines += [f"device {device} osd.{device}" for device in sorted(devices)]
+    lines += [f"type {kind} level{kind}" for kind in range(12)]
+    for bucket, (kind, alg, items, weights) in tree.items():
+        lines += [f"level{kind} bucket{-bucket} {{", f"id {bucket}", f"alg {alg}", "hash 0"]
+        for item, weight in zip(items, weights):
+            name = f"osd.{item}" if item >= 0 else f"bucket{-item}"
+            lines.append(f"item {name} weight {weight / IN:.16f}")
+        lines.append("}")
+    kind, is_indep = rule
+    step = f"step choose{'leaf' if kind else ''} {'indep' if is_indep else 'firstn'} 0 type level{kind}"
+    pool = "erasure" if is_indep else "replicated"
+    lines += ["rule one {", "id 0", f"type {pool}", "min_size 1", "max_size 16"]
+    lines += [f"step take bucket{-root}", step, "step emit", "}"]
+    return "\n".join(lines) + "\n"
+
+
+def mappings(folder, tree, root, rule, n, first, last, weights=None, pool=None):
+    """For each input from first to last, the devices of n places that crushtool prints."""
+    with open(f"{folder}/tree.txt", "w") as file:
+        file.write(text_of(tree, root, rule))
+    run("crushtool", "-c", f"{folder}/tree.txt", "-o", f"{folder}/tree")
+    command = ["crushtool", "-i", f"{folder}/tree", "--test", "--show-mappings", "--rule", "0"]
+    command += ["--num-rep", str(n), "--min-x", str(first), "--max-x", str(last)]
+    command += ["--pool-id", str(pool)] if pool is not None else []
+    for device, weight in (weights or {}).items():
+        command += ["--weight", str(device), f"{weight / IN:.16f}"]
+    rows = re.findall(r"CRUSH rule 0 x (\d+) \[([\d,]*)\]", run(*command))
+    return {int(x): [int(osd) for osd in osds.split(",") if osd] for x, osds in rows}
+
+
+def same(what, ours, tools):
+    if ours != tools:
+        sys.exit(f"{what}: the definition gives {ours}, the tool {tools}")
+    return 1
+
+
+# What is compared
+
+
+def names():
+    yield from ("x" * length for length in range(1, 41))
+    yield from ("rbd_data.1234567890abc.0000000000000007", "10000000000.00000000", "gr\u00fc\u00dfe", "\u540d\u524d")
+    yield from ("".join(chr(33 + (7 * length + 5 * i) % 94) for i in range(length)) for length in range(2, 37, 3))
+    yield from ("\u00ff" * length for length in range(1, 14))
+
+
+def compare_names(folder):
+    count = 0
+    for devices, bits in ((1, 0), (2, 0), (3, 0), (12, 0), (100, 0), (1000, 0), (1, 10), (257, 3), (1, 30)):
+        groups = devices << bits
+        command = ["osdmaptool", f"{folder}/map", "--createsimple", str(devices), "--with-default-pool", "--clobber"]
+        run(*command, "--pg-bits", str(bits), "--pgp-bits", str(bits))
+        for name in names():
+            answer = run("osdmaptool", f"{folder}/map", "--test-map-object", name, "--pool", "1")
+            group = int(re.search(r"-> 1\.([0-9a-f]+) ->", answer)[1], 16)
+            ours = stable_mod(name_hash(name.encode()), groups)
+            count += same(f"the group of {name!r} among {groups}", ours, group)
+    return count
+
+
+def compare_two_words(folder, inputs):
+    count = 0
+    for x, osd in inputs:
+        tree = {-1: (1, "uniform", [osd], [IN])}
+        least = (hash2(x, osd) & 0xFFFF) + 1
+        for weight in (least - 1, least):
+            if 0 < weight < IN:
+                found = mappings(folder, tree, -1, (0, False), 1, x, x, {osd: weight})[x]
+                ours = [osd] if weight == least else []
+                count += same(f"{x} on device {osd} of weight {weight}", ours, found)
+    return count
+
+
+def compare_three_words(folder, inputs):
+    count = 0
+    for x, number in inputs:
+        bucket = -1 - number
+        for size in (247, 251, 253, 255, 256):
+            tree = {bucket: (1, "uniform", list(range(size)), [IN] * size)}
+            found = mappings(folder, tree, bucket, (0, False), 1, x, x)[x]
+            count += same(f"{x} in a bucket {bucket} of {size}", [hash3(x, bucket % WORD, 0) % size], found)
+    return count
+
+
+def compare_four_words(folder, inputs):
+    count = 0
+    for x, number in inputs:
+        bucket, other, last = -1 - number, number % 7, 7 + number % 5
+        least = (hash4(x, last, 0, bucket % WORD) & 0xFFFF) + 1
+        for weight in (least - 1, least):
+            if weight < IN:
+                tree = {bucket: (1, "list", [other, last], [IN - weight, weight])}
+                found = mappings(folder, tree, bucket, (0, False), 1, x, x)[x]
+                ours = [last if weight == least else other]
+                count += same(f"{x} in a list {bucket} with weight {weight}", ours, found)
+    return count
+
+
+def random_tree(rng):
+    """A tree of up to four levels, whose devices may stand at different ones, and its root."""
+    tree, devices, ids = {}, iter(range(4096)), iter(range(-1, -1000, -1))
+
+    def make(kind):
+        bucket, items = next(ids), []
+        for _ in range(rng.randint(0 if rng.random() < 0.1 else 1, 6)):
+            deeper = kind > 1 and rng.random() < 0.93
+            items.append(make(rng.randint(max(1, kind - 2), kind - 1)) if deeper else next(devices))
+        alg = rng.choice(("uniform", "list"))
+        weights = [IN if alg == "uniform" else rng.choice((0, 1, 99, IN // 2, IN, 5 * IN)) for _ in items]
+        tree[bucket] = (kind, alg, items, weights)
+        return bucket
+
+    root = make(rng.randint(1, 4))
+    return tree, root
+
+
+def compare_placements(folder, trees):
+    rng, count = random.Random(7), 0
+    for _ in range(trees):
+        tree, root = random_tree(rng)
+        devices = [item for bucket in tree.values() for item in bucket[2] if item >= 0]
+        if not devices:
+            continue
+        weights = {osd: rng.choice((0, 1000, 30000, IN - 1, IN)) for osd in devices if rng.random() < 0.4}
+        n = rng.randint(1, 8)
+        rule = (rng.choice((0, 0, 1, 1, 2)), rng.random() < 0.5)
+        first = rng.choice((0, 0, rng.randrange(2**31 - 100)))
+        pool = rng.choice((None, 1, 255))
+        found = mappings(folder, tree, root, rule, n, first, first + 63, weights, pool)
+        place = indep if rule[1] else first_n
+        for x, osds in found.items():
+            real = x if pool is None else hash2(x, pool)
+            ours = place(tree, root, weights, real, rule[0], n)
+            count += same(f"{x} of pool {pool}, rule {rule}, {n} places, weights {weights}, tree {tree}", ours, osds)
+    return count
+
+
+def main():
+    parser = argparse.ArgumentParser(description="Compares hashing and placement with Ceph's tools.")
+    parser.add_argument("--inputs", type=int, default=100, help="inputs of each hash of words")
+    parser.add_argument("--trees", type=int, default=300, help="random trees, of 64 placements each")
+    options = parser.parse_args()
+    rng = random.Random(1)
+    inputs = [(0, 0), (1, 1), (2**31 - 2, 40)]
+    inputs += [(rng.randrange(2**31), rng.randrange(400)) for _ in range(options.inputs)]
+    print(run("osdmaptool", "--version").strip())
+    with tempfile.TemporaryDirectory() as folder:
+        print(f"{compare_names(folder)} groups of names agree")
+        print(f"{compare_two_words(folder, inputs)} devices in or out agree")
+        print(f"{compare_three_words(folder, inputs)} choices of uniform buckets agree")
+        print(f"{compare_four_words(folder, inputs)} choices of list buckets agree")
+        print(f"{compare_placements(folder, options.trees)} placements agree")
+
+
+if __name__ == "__main__":
+    main()
