@@ -2,7 +2,7 @@
 
 use super::program::run_with;
 use crate::status::DONE;
-use std::alloc::Global;
+use std::alloc::{AllocError, Global};
 use std::process::Abort;
 use std::test::Fail;
 
@@ -165,6 +165,56 @@ fn refuses_trees(rt: HostRuntime) -> Result<(), Fail> {
         "{\"op\":\"inc\",\"epoch\":1,\"crush\":[{\"id\":-1,\"type\":1,\"alg\":\"uniform\",\"items\":[]}]}\n",
         "{\"count\":1,\"epoch\":1,\"ok\":\"inc\"}\n",
     )
+}
+
+/// The incremental whose tree is a way down of so many buckets.
+fn way_down(alloc: Global, buckets: i32) -> Result<String, AllocError> {
+    let mut line = format!(in alloc; "{{\"op\":\"inc\",\"epoch\":1,\"crush\":[")?;
+    for bucket in 1..buckets {
+        let (kind, held) = (buckets - bucket + 1, bucket + 1);
+        write!(
+            line,
+            "{{\"id\":-{bucket},\"type\":{kind},\"alg\":\"uniform\",\"items\":[-{held}]}},"
+        )?;
+    }
+    write!(
+        line,
+        "{{\"id\":-{buckets},\"type\":1,\"alg\":\"uniform\",\"items\":[0]}}]}}\n"
+    )?;
+    Ok(line)
+}
+
+/// The incremental whose tree is a bucket of so many devices.
+fn wide_bucket(alloc: Global, devices: u16) -> Result<String, AllocError> {
+    let mut line = format!(in alloc;
+        "{{\"op\":\"inc\",\"epoch\":1,\"crush\":[{{\"id\":-1,\"type\":1,\"alg\":\"uniform\",\"items\":[0"
+    )?;
+    for device in 1..devices {
+        write!(line, ",{device}")?;
+    }
+    line.push_str("]}]}\n")?;
+    Ok(line)
+}
+
+#[test]
+fn refuses_deep_and_wide_trees(rt: HostRuntime) -> Result<(), Fail> {
+    let alloc = rt.alloc();
+    let taken = "{\"count\":1,\"epoch\":1,\"ok\":\"inc\"}\n";
+    for (script, answer) in [
+        (way_down(alloc, 10)?, taken),
+        (
+            way_down(alloc, 11)?,
+            "{\"code\":21,\"refused\":\"TreeFault\",\"tree\":5}\n",
+        ),
+        (wide_bucket(alloc, 256)?, taken),
+        (
+            wide_bucket(alloc, 257)?,
+            "{\"code\":21,\"refused\":\"TreeFault\",\"tree\":6}\n",
+        ),
+    ] {
+        expect(&rt, alloc, script.as_str(), answer)?;
+    }
+    Ok(())
 }
 
 #[test]
