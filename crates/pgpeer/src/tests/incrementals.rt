@@ -168,10 +168,11 @@ fn refuses_trees(rt: HostRuntime) -> Result<(), Fail> {
 }
 
 /// The incremental whose tree is a way down of so many buckets.
-fn way_down(alloc: Global, buckets: i32) -> Result<String, AllocError> {
+fn way_down(alloc: Global, buckets: u8) -> Result<String, AllocError> {
     let mut line = format!(in alloc; "{{\"op\":\"inc\",\"epoch\":1,\"crush\":[")?;
     for bucket in 1..buckets {
-        let (kind, held) = (buckets - bucket + 1, bucket + 1);
+        let kind = buckets.saturating_sub(bucket).saturating_add(1);
+        let held = bucket.saturating_add(1);
         write!(
             line,
             "{{\"id\":-{bucket},\"type\":{kind},\"alg\":\"uniform\",\"items\":[-{held}]}},"
