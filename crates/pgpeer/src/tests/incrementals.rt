@@ -86,6 +86,51 @@ fn judges_incrementals(rt: HostRuntime) -> Result<(), Fail> {
 }
 
 #[test]
+fn judges_lines(rt: HostRuntime) -> Result<(), Fail> {
+    let alloc = rt.alloc();
+    for (line, key) in [
+        (r#"{"op":"inc","up":[4096]}"#, "epoch"),
+        (r#"{"op":"inc","epoch":1.0}"#, "epoch"),
+        (r#"{"op":"inc","epoch":-0}"#, "epoch"),
+        (r#"{"op":"inc","epoch":4294967296}"#, "epoch"),
+        (r#"{"op":"inc","epoch":1,"up":[4096]}"#, "up"),
+        (r#"{"op":"inc","epoch":1,"weight":[[0,1],[1]]}"#, "weight"),
+        (r#"{"op":"inc","epoch":1,"temp":[[0,0,[]]]}"#, "temp"),
+        (
+            r#"{"op":"inc","epoch":1,"pools":[{"id":1,"pg_num":1,"kind":"replicated","size":1,"min_size":1,"leaf":0,"k":1}]}"#,
+            "pools",
+        ),
+        (
+            r#"{"op":"inc","epoch":1,"crush":[{"id":-1,"type":1,"alg":"uniform","items":[],"z":0}]}"#,
+            "crush",
+        ),
+    ] {
+        let answer = format!(in alloc;
+            "{{\"code\":34,\"key\":\"{key}\",\"refused\":\"BadField\"}}\n"
+        )?;
+        expect(&rt, alloc, line, answer.as_str())?;
+    }
+    for (line, answer) in [
+        (
+            r#"{"op":"inc","epoch":1,"z":1,"x":1}"#,
+            "{\"code\":33,\"key\":\"x\",\"refused\":\"UnknownKey\"}\n",
+        ),
+        (
+            r#"{"op":"close","epoch":1}"#,
+            "{\"code\":33,\"key\":\"epoch\",\"refused\":\"UnknownKey\"}\n",
+        ),
+        (
+            r#"{"op":"inc","epoch":9,"epoch":1}"#,
+            "{\"count\":1,\"epoch\":1,\"ok\":\"inc\"}\n",
+        ),
+        (r#"{"op":"info"}"#, "{\"code\":32,\"refused\":\"NoOp\"}\n"),
+    ] {
+        expect(&rt, alloc, line, answer)?;
+    }
+    Ok(())
+}
+
+#[test]
 fn follows_epochs(rt: HostRuntime) -> Result<(), Fail> {
     expect(
         &rt,
