@@ -4,5 +4,9 @@ pub mod Log
 pub mod World
 pub mod Touched
 pub mod Locate
+pub mod ToldHistory
+pub mod Answer
+pub mod Lines
+pub mod Script
 pub mod Examples
 pub mod Worked

@@ -7,10 +7,10 @@ use Rattle.pgp_ids.specs.declared.pg_id.PgId.{PgId}
 use Rattle.pgp_ids.specs.declared.pool.PoolSpec.{PoolSpec}
 use Rattle.pgp_map.specs.Pools.{pool}
 
--- the group of an object of this pool
-abbrev pub group_in_pool : List ℕ → PoolSpec → PgId
-group_in_pool name pool = record { pool = pool.id; pg = stable_mod (name_hash name) pool.pg_num }
+-- the group of an object in the pool of this number
+abbrev pub group_in_pool : ℕ → List ℕ → PoolSpec → PgId
+group_in_pool id name pool = record { pool = id; pg = stable_mod (name_hash name) pool.pg_num }
 
 -- the group of an object, where the map has the pool
 abbrev pub group_of_object : List Incremental → ℕ → List ℕ → Option PgId
-group_of_object incs id name = option_map (group_in_pool name) (pool incs id)
+group_of_object incs id name = option_map (group_in_pool id name) (pool incs id)

@@ -6,3 +6,6 @@
 #![tactic(auto)]
 
 pub mod laws;
+mod want;
+
+pub use want::Want;

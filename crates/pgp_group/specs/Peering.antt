@@ -16,7 +16,7 @@ use Rattle.pgp_missing.specs.Missing.{peer_state}
 use Rattle.pgp_prior.specs.Ascending.{ascending}
 use Rattle.pgp_prior.specs.Members.{members_of}
 use Rattle.pgp_prior.specs.Prior.{prior_set}
-use Rattle.pgp_prior.specs.declared.prior.Prior.{Prior}
+use Rattle.pgp_prior.specs.declared.prior_set.Prior.{Prior}
 use Rattle.pgp_sets.specs.Status.{status}
 use Rattle.pgp_group.specs.GroupLog.{GroupLog, incs}
 use Rattle.pgp_group.specs.Heard.{les, heard, reported}

@@ -7,4 +7,5 @@ pub mod Version
 pub mod Names
 pub mod Refusal
 pub mod AskRefusal
+pub mod LocateRefusal
 pub mod Member

@@ -1,5 +1,5 @@
--- What is known of the copies of a placement group: the last info of each member, and which of two copies its pool would
--- rather go by.
+-- What is known of the copies of a placement group (Ceph's developer documentation on peering): the last info of each
+-- member, and which of two copies its pool would rather go by.
 use Rattle.std.specs.Prelude.{List, [], ◌∷◌, ◌++◌, not, filter}
 use Rattle.pgp_ids.specs.Member.{is_same_member}
 use Rattle.pgp_ids.specs.declared.group_member.Member.{Member}

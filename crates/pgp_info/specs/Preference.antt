@@ -1,4 +1,5 @@
--- Which of two infos a pool prefers.
+-- Which of two infos a pool prefers (Ceph's developer documentation on peering, and on erasure coding; that the lesser
+-- member comes first where all else is alike is this project's own choice).
 use Rattle.std.specs.Prelude.{◌≡◌, ◌≢◌, Option, Some, None, Bool, true, false, not}
 use Rattle.std.specs.declared.cmp.Ordering.{Ordering}
 use Rattle.std.specs.Ordering.{on, flip_args, then_cmp, bool_cmp, is_lt}

@@ -94,3 +94,26 @@ fn copies_that_differ_in_one_write(rt: HostRuntime) -> Result<(), Fail> {
     assert_eq!(rt; leader(&copies), primary);
     Ok(())
 }
+
+#[test]
+fn copy_that_served_later(rt: HostRuntime) -> Result<(), Fail> {
+    let served = Info {
+        les: Epoch::new(1),
+        ..copy_up_to(version(1, 3), 0, 0)?
+    };
+    let newer = copy_up_to(version(1, 4), 1, 0)?;
+    let prefer = NewestFirst {
+        primary: Some(newer.member),
+    };
+    let mut heard = heard(rt.alloc(), prefer, &[newer, served])?;
+    assert_eq!(rt; heard.best(), Some(&served));
+    heard.put(copy_up_to(version(1, 3), 0, 0)?)?;
+    assert_eq!(rt; heard.best(), Some(&newer));
+    let told = Info {
+        history_les: Epoch::new(1),
+        ..newer
+    };
+    heard.put(told)?;
+    assert!(rt; heard.best().is_none());
+    Ok(())
+}

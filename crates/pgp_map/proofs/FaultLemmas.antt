@@ -3,7 +3,7 @@ use Rattle.std.proofs.Common.{◌≡◌, List, [], ◌∷◌, Bool, true, false,
 use Rattle.std.specs.Prelude.{Option, Some, None}
 use Rattle.std.specs.List.{list_any, last_or}
 use Rattle.pgp_ids.specs.declared.incremental.Incremental.{Incremental}
-use Rattle.pgp_map.specs.MapFault.{map_fault, has_epoch_gap, has_twice, has_unknown_device, has_already_up, has_already_down, has_still_up, has_up_thru_back, has_ahead, has_bad_pool, has_pool_known, has_bad_temp}
+use Rattle.pgp_map.specs.MapFault.{map_fault, given_fault, has_epoch_gap, has_twice, has_unknown_device, has_already_up, has_already_down, has_still_up, has_up_thru_back, has_ahead, has_bad_pool, has_pool_known, has_bad_temp}
 use Rattle.pgp_map.specs.Last.{last_where}
 
 if_none : {X : Type 0} (b : Bool) (x : X) (rest : Option X) → cond b (Some x) rest ≡ None → (b ≡ false) × (rest ≡ None)
@@ -14,6 +14,7 @@ pub record NoFault (incs : List Incremental) (inc : Incremental) : Type 0 where
   pub pools : has_bad_pool incs inc ≡ false
   pub known : has_pool_known incs inc ≡ false
   pub temps : has_bad_temp incs inc ≡ false
+  pub tree : given_fault inc.crush ≡ None
 
 pub no_fault : (incs : List Incremental) (inc : Incremental) → map_fault incs inc ≡ None → NoFault incs inc
 unfolding map_fault
@@ -29,7 +30,7 @@ no_fault incs inc e =
     let j = if_none (has_bad_pool incs inc) _ _ i.1 in
     let k = if_none (has_pool_known incs inc) _ _ j.1 in
     let l = if_none (has_bad_temp incs inc) _ _ k.1 in
-    record { pools = j.0; known = k.0; temps = l.0 }
+    record { pools = j.0; known = k.0; temps = l.0; tree = l.1 }
 
 pub or_false : (a b : Bool) → (a || b) ≡ false → (a ≡ false) × (b ≡ false)
 or_false true b e = cc

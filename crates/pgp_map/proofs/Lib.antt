@@ -7,3 +7,4 @@ pub mod FaultLemmas
 pub mod MapLemmas
 pub mod RepeatLemmas
 pub mod CheckLemmas
+pub mod CheckedLemmas

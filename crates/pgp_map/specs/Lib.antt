@@ -9,6 +9,9 @@ pub mod PoolTable
 pub mod WeightTable
 pub mod TempTable
 pub mod MapOf
+pub mod Checked
+pub mod Held
+pub mod HeldLaws
 pub mod Room
 pub mod Examples
 pub mod Findings

@@ -1,6 +1,6 @@
 //! What the definitions say of small lists of incrementals.
 
-ghost use Rattle.std.specs.Prelude.{◌≡◌, ◌≤◌, ℕ, List, [], ◌∷◌, Some, None, true, false, map, option_map};
+ghost use Rattle.std.specs.Prelude.{◌≡◌, ◌≤◌, ℕ, List, [], ◌∷◌, ◌++◌, Some, None, true, false, map, option_map};
 ghost use Rattle.pgp_crush.specs.Bucket.{bucket_of};
 ghost use Rattle.pgp_crush.specs.TreeFault.{tree_fault};
 ghost use Rattle.pgp_crush.specs.declared.fault.TreeFault.{TreeFault as Fault};
@@ -8,8 +8,15 @@ ghost use Rattle.pgp_ids.specs.declared.bucket.BucketSpec.{BucketSpec as Spec};
 ghost use Rattle.pgp_map.specs.declared.fault.MapFault.TheVariants.{EpochGap, Twice, UnknownDevice, AlreadyUp, AlreadyDown, StillUp, UpThruBack, Ahead, BadPool, PoolKnown, BadTemp, TreeFault};
 ghost use Rattle.pgp_map.specs.Devices.{exists, is_up, up_from, down_at, up_thru, lost_at, weight};
 ghost use Rattle.pgp_map.specs.Map.{epoch, up_to, tree};
-ghost use Rattle.pgp_map.specs.MapFault.{map_fault};
-ghost use Rattle.pgp_map.specs.Pools.{pool, temp};
+ghost use Rattle.pgp_ids.specs.declared.incremental.Incremental.{Incremental};
+ghost use Rattle.pgp_ids.specs.declared.pg_id.PgId.{PgId};
+ghost use Rattle.pgp_ids.specs.declared.pool.PoolSpec.{PoolSpec};
+ghost use Rattle.pgp_map.specs.declared.map.OsdMap.{OsdMap};
+ghost use Rattle.pgp_map.specs.Checked.{are_checked};
+ghost use Rattle.pgp_map.specs.Held.{held_exists, held_up, held_lost_at, held_pool, HasGroup};
+ghost use Rattle.pgp_map.specs.MapFault.{map_fault, then_with, is_pool};
+ghost use Rattle.pgp_map.specs.MapOf.{IsMapOf};
+ghost use Rattle.pgp_map.specs.Pools.{pool, temp, has_group};
 ghost use Rattle.pgp_map.specs.Examples.{empty_step, boot, weighs, told, one_up, copies, shards, sized, placed, two_pools, made_again};
 
 /// The first incremental leads to epoch 1.
@@ -126,4 +133,34 @@ pub fn pools_and_lists()
     ensures list { temp (record (empty_step 1) { temp = placed 1 (Some 2 ∷ []) } ∷ []) (record { pool = 1; pg = 0 }) ≡ Some 2 ∷ [] }
     ensures taken_away { temp (record (empty_step 1) { temp = placed 1 (Some 2 ∷ []) } ∷ record (empty_step 2) { temp = placed 1 [] } ∷ []) (record { pool = 1; pg = 0 }) ≡ [] }
     ensures no_tree { tree two_pools ≡ None }
+{}
+
+/// A list of incrementals that were checked one by one grows by one that has no fault, and by no other.
+pub fn checked_lists_grow_by_incrementals_without_fault()
+    ensures none { are_checked [] ≡ true }
+    ensures front { (incs later : List Incremental) → are_checked (incs ++ later) ≡ true → are_checked incs ≡ true }
+    ensures last { (incs : List Incremental) (inc : Incremental) → are_checked (then_with incs inc) ≡ true
+        → map_fault incs inc ≡ None }
+    ensures longer { (incs : List Incremental) (inc : Incremental) → are_checked incs ≡ true → map_fault incs inc ≡ None
+        → are_checked (then_with incs inc) ≡ true }
+{}
+
+/// Each pool of a checked list is in range, and its map has each group that the list gives it.
+pub fn pools_of_checked_lists()
+    ensures range { (incs : List Incremental) (id : ℕ) (made : PoolSpec) → are_checked incs ≡ true
+        → pool incs id ≡ Some made → is_pool made ≡ true }
+    ensures group { (incs : List Incremental) (map : OsdMap) (pg : PgId) → IsMapOf incs map → are_checked incs ≡ true
+        → has_group incs pg ≡ true → HasGroup map pg }
+{}
+
+/// What a map itself says of a device or a pool is what its incrementals say.
+pub fn maps_say_what_their_incrementals_say()
+    ensures exists { (incs : List Incremental) (map : OsdMap) (osd : ℕ) → IsMapOf incs map
+        → held_exists map osd ≡ exists incs osd }
+    ensures up { (incs : List Incremental) (map : OsdMap) (osd : ℕ) → IsMapOf incs map
+        → held_up map osd ≡ is_up incs osd }
+    ensures lost_at { (incs : List Incremental) (map : OsdMap) (osd : ℕ) → IsMapOf incs map
+        → held_lost_at map osd ≡ lost_at incs osd }
+    ensures pool { (incs : List Incremental) (map : OsdMap) (id : ℕ) → IsMapOf incs map
+        → held_pool map id ≡ pool incs id }
 {}

@@ -1,14 +1,15 @@
 //! The cluster map.
 
-ghost use Rattle.std.specs.Prelude.{◌≡◌, ℕ, List, [], Some, None, OnOk, OnErr, IfOk, IfErr, ◌⊎◌, option_copied, option_map, map, length, nat_eq, ◌++◌};
+ghost use Rattle.std.specs.Prelude.{◌≡◌, ◌≤◌, ℕ, List, [], Some, None, OnOk, OnErr, IfOk, IfErr, ◌⊎◌, option_copied, option_map, map, length, nat_eq, ◌++◌};
 ghost use Rattle.pgp_crush.specs.Bucket.{bucket_of};
 ghost use Rattle.pgp_map.specs.Room.{HasRoom};
 ghost use Rattle.pgp_ids.specs.declared.incremental.Incremental.{Incremental as Step};
 ghost use Rattle.pgp_map.specs.MapOf.{IsMapOf};
+ghost use Rattle.pgp_map.specs.Held.{held_exists, held_up, held_lost_at, held_pool};
 ghost use Rattle.pgp_map.specs.Devices.{exists, is_up, up_from, down_at, up_thru, lost_at, weight, weights};
 ghost use Rattle.pgp_map.specs.Pools.{pool, temp};
 ghost use Rattle.pgp_map.specs.Map.{epoch, tree};
-ghost use Rattle.pgp_map.specs.MapFault.{map_fault, then_with, has_epoch_gap, has_unknown_device, has_already_up, has_already_down, has_still_up, has_up_thru_back, has_ahead, has_bad_pool, has_pool_known, told_devices};
+ghost use Rattle.pgp_map.specs.MapFault.{map_fault, given_fault, then_with, has_epoch_gap, has_unknown_device, has_already_up, has_already_down, has_still_up, has_up_thru_back, has_ahead, has_bad_pool, has_pool_known, told_devices};
 ghost use Rattle.std.specs.HashSet as bag;
 ghost use Rattle.std.specs.List.{list_any};
 ghost use Rattle.pgp_map.specs.Findings.{AreFindings};
@@ -62,6 +63,7 @@ impl OsdMap {
     /// answered; or there was no memory to look at it. The map stays as it is.
     pub fn check(&self, inc: &Incremental) -> Result<(), MapFault>
         ensures ok { OnOk result ((incs : List Step) → IsMapOf incs self.now → map_fault incs inc.now ≡ None) }
+        ensures tree { OnOk result (given_fault inc.now.crush ≡ None) }
         ensures fault { IfErr result (λ fault. (fault ≡ MapFault.Memory) ⊎ ((incs : List Step) → IsMapOf incs self.now → map_fault incs inc.now ≡ Some fault)) }
     {
         let findings = self.findings(inc)?;
@@ -181,6 +183,7 @@ impl OsdMap {
     /// Makes this the map after the incremental, which [`OsdMap::check`] doesn't refuse. After an error the map says what
     /// it said before.
     pub fn apply(&mut self, inc: &Incremental) -> Result<(), AllocError>
+        requires { given_fault inc.now.crush ≡ None }
         ensures ok { OnOk result ((incs : List Step) → IsMapOf incs self.old → map_fault incs inc.now ≡ None → IsMapOf (then_with incs inc.now) self.new) }
         ensures err { OnErr result ((incs : List Step) → IsMapOf incs self.old → IsMapOf incs self.new) }
     {
@@ -227,15 +230,19 @@ impl OsdMap {
     }
 
     /// The device was booted, and not destroyed since.
+    #[tactic(auto, unfolding(crate::specs::Held::held_exists))]
     pub fn exists(&self, osd: OsdId) -> bool
-        ensures { (incs : List Step) → IsMapOf incs self.now → result ≡ exists incs osd }
+        ensures held { result ≡ held_exists self.now osd }
+        ensures value { (incs : List Step) → IsMapOf incs self.now → result ≡ exists incs osd }
     {
         devices::device_at(&self.devices, osd).exists
     }
 
     /// The device was booted, and neither taken down nor destroyed since.
+    #[tactic(auto, unfolding(crate::specs::Held::held_up))]
     pub fn is_up(&self, osd: OsdId) -> bool
-        ensures { (incs : List Step) → IsMapOf incs self.now → result ≡ is_up incs osd }
+        ensures held { result ≡ held_up self.now osd }
+        ensures value { (incs : List Step) → IsMapOf incs self.now → result ≡ is_up incs osd }
     {
         devices::device_at(&self.devices, osd).is_up
     }
@@ -262,8 +269,10 @@ impl OsdMap {
     }
 
     /// The epoch at which the device was given up for lost, 0 if it wasn't.
+    #[tactic(auto, unfolding(crate::specs::Held::held_lost_at))]
     pub fn lost_at(&self, osd: OsdId) -> Epoch
-        ensures { (incs : List Step) → IsMapOf incs self.now → result ≡ lost_at incs osd }
+        ensures held { result ≡ held_lost_at self.now osd }
+        ensures value { (incs : List Step) → IsMapOf incs self.now → result ≡ lost_at incs osd }
     {
         devices::device_at(&self.devices, osd).lost_at
     }
@@ -284,8 +293,10 @@ impl OsdMap {
     }
 
     /// The pool, with its present sizes.
+    #[tactic(auto, unfolding(crate::specs::Held::held_pool))]
     pub fn pool(&self, id: PoolId) -> Option<PoolSpec>
-        ensures { (incs : List Step) → IsMapOf incs self.now → result ≡ pool incs id }
+        ensures held { result ≡ held_pool self.now id }
+        ensures value { (incs : List Step) → IsMapOf incs self.now → result ≡ pool incs id }
     {
         match self.pools.get(&id) {
             Some(pool) => Some(*pool),
@@ -295,7 +306,8 @@ impl OsdMap {
 
     /// The group's pg_temp list; empty if it has none.
     pub fn temp(&self, pg: PgId) -> &[Option<OsdId>]
-        ensures { (incs : List Step) → IsMapOf incs self.now → result.now ≡ temp incs pg }
+        ensures within { length result.now ≤ 16 }
+        ensures value { (incs : List Step) → IsMapOf incs self.now → result.now ≡ temp incs pg }
     {
         temps::temp_at(&self.temps, pg)
     }

@@ -1,6 +1,6 @@
 //! The table of pg_temp lists.
 
-ghost use Rattle.std.specs.Prelude.{◌≡◌, ℕ, List, Option, true, OnOk, take, if◌then◌else◌};
+ghost use Rattle.std.specs.Prelude.{◌≡◌, ◌≤◌, ℕ, List, Option, true, OnOk, length, take, if◌then◌else◌};
 ghost use Rattle.std.specs.List.{list_any};
 ghost use Rattle.pgp_ids.specs.declared.pg_id.PgId.{PgId as Group};
 ghost use Rattle.pgp_map.specs.Last.{last_where};
@@ -13,7 +13,8 @@ use std::collections::HashMap;
 
 /// The pg_temp list of the group, empty where it has none.
 pub(crate) fn temp_at(table: &HashMap<PgId, Osds>, pg: PgId) -> &[Option<OsdId>]
-    ensures { result.now ≡ temp_at table.now pg }
+    ensures within { length result.now ≤ 16 }
+    ensures value { result.now ≡ temp_at table.now pg }
 {
     match table.get(&pg) {
         Some(osds) => osds.as_slice(),

@@ -35,18 +35,20 @@ pub(crate) fn check_tree(alloc: Global, crush: &Option<Seq<BucketSpec>>) -> Resu
     }
 }
 
-/// The tree that an incremental gives, if it gives one. A list that is no tree is answered as want of memory.
+/// The tree that an incremental gives, if it gives one. It is one without fault.
 pub(crate) fn given_tree(
     alloc: Global,
     crush: &Option<Seq<BucketSpec>>,
 ) -> Result<Option<Tree>, AllocError>
+    requires { given_fault crush.now ≡ None }
     ensures { IfOk result (λ tree. tree ≡ option_map (map bucket_of) crush.now) }
 {
     match crush {
         None => Ok(None),
         Some(buckets) => match tree_of(alloc, buckets.as_slice()) {
             Ok(tree) => Ok(Some(tree)),
-            Err(_fault) => Err(AllocError),
+            Err(TreeFault::Memory) => Err(AllocError),
+            Err(_fault) => unreachable!(),
         },
     }
 }

@@ -8,10 +8,7 @@ use Rattle.pgp_ids.specs.declared.peer.PeerState.TheVariants.{Missing}
 use Rattle.pgp_ids.specs.declared.report.Info.{Info}
 use Rattle.pgp_missing.specs.Log.{last_of_each_number, log_of, has_version, has_each_number, is_rising_from, is_whole}
 use Rattle.pgp_missing.specs.Missing.{modified_objects, by_name, missing_above, peer_state}
-
--- the entries above this number
-abbrev above : ℕ → List LogEntry → List LogEntry
-above v entries = filter (λ entry. nat_lt v entry.version.v) entries
+use Rattle.pgp_missing.proofs.ObjectLemmas.{above}
 
 not_above : (low high v : ℕ) → (nat_lt low v && nat_le v high) ≡ true → nat_lt high v ≡ false
 not_above low high v within = grind (arith, nat_tests)

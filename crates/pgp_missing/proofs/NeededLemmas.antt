@@ -20,7 +20,7 @@ use Rattle.pgp_ids.specs.declared.peer.MissingObject.{MissingObject}
 use Rattle.pgp_ids.specs.declared.version.Version.{Version}
 use Rattle.pgp_missing.specs.Missing.{IsMissing, IsByName, missing_above}
 use Rattle.pgp_missing.specs.Kept.{IsByNumber}
-use Rattle.pgp_missing.proofs.ObjectLemmas.{Contains-cases, Contains-here, Contains-later, Contains-nil, map-contains, contains-map, missing_above-contains, contains-missing_above}
+use Rattle.pgp_missing.proofs.ObjectLemmas.{equal_is, Contains-cases, Contains-here, Contains-later, Contains-nil, map-contains, contains-map, missing_above-contains, contains-missing_above}
 use Rattle.pgp_missing.proofs.OrderLemmas.{AllPairs-head, AllPairs-tail, missing_above-sorted, sorted-same}
 use Rattle.pgp_missing.proofs.KeptLemmas.{by_number-apart}
 
@@ -40,11 +40,6 @@ needed_after v object entry before = if is_about v object entry then written ent
 abbrev pub needed_by : ℕ → List ℕ → List LogEntry → Option Version → Option Version
 needed_by v object [] before = before
 needed_by v object (entry ∷ entries) before = needed_by v object entries (needed_after v object entry before)
-
-equal_is : (o : Ordering) → is_eq o ≡ true → o ≡ Equal
-equal_is Less is = cc
-equal_is Equal is = refl
-equal_is Greater is = cc
 
 written_is : (change : Change) (made version : Version) → written change made ≡ Some version → (change ≡ Modify) × (made ≡ version)
 written_is Modify made version is = (refl, cc)

@@ -17,7 +17,7 @@ use Rattle.pgp_ids.specs.declared.log_entry.LogEntry.{LogEntry}
 use Rattle.pgp_ids.specs.declared.version.Version.{Version}
 use Rattle.pgp_missing.specs.Log.{has_version}
 use Rattle.pgp_missing.specs.Kept.{IsByNumber, without_number, TakesPlace}
-use Rattle.pgp_missing.proofs.ObjectLemmas.{Contains-cases, Contains-first, Contains-here, Contains-later, Contains-nil, filter-contains, contains-filter}
+use Rattle.pgp_missing.proofs.ObjectLemmas.{equal_is, Contains-cases, Contains-first, Contains-here, Contains-later, Contains-nil, filter-contains, contains-filter}
 use Rattle.pgp_missing.proofs.RisingLemmas.{same_tests}
 
 abbrev number_of : LogEntry → ℕ
@@ -65,13 +65,10 @@ at_value (e ∷ es) entry keyed in' =
 
 -- ---- an entry put in
 
-equal_is : (k l : ℕ) → nat_cmp k l ≡ Equal → k ≡ l
-equal_is k l same = exact_unsigned k l same
-
 put_at : (new : LogEntry) (e : ℕ × LogEntry) (es : List (ℕ × LogEntry)) (o : Ordering) → nat_cmp new.version.v e.0 ≡ o → AreKeyed (e ∷ es) → AreKeyed (insert_entry nat_cmp es new.version.v new)
     → AreKeyed (match_ordering o ((new.version.v, new) ∷ e ∷ es) ((e.0, new) ∷ es) (e ∷ insert_entry nat_cmp es new.version.v new))
 put_at new e es Less is keyed rest = cons_keyed new.version.v new (e ∷ es) refl keyed
-put_at new e es Equal is keyed rest = cons_keyed e.0 new es (sym (equal_is new.version.v e.0 is)) (tail_keyed e es keyed)
+put_at new e es Equal is keyed rest = cons_keyed e.0 new es (sym (exact_unsigned new.version.v e.0 is)) (tail_keyed e es keyed)
 put_at new e es Greater is keyed rest = cons_keyed e.0 e.1 (insert_entry nat_cmp es new.version.v new) (head_key e es keyed) rest
 
 pub keyed-insert : (new : LogEntry) (es : List (ℕ × LogEntry)) → AreKeyed es → AreKeyed (insert_entry nat_cmp es new.version.v new)
@@ -116,11 +113,6 @@ any_from_member test (x ∷ xs) e in' passes =
       | inr there ↦ or_right (test x) (list_any test xs) (any_from_member test xs e there passes)
     ]
 
-eq_is : (o : Ordering) → is_eq o ≡ true → o ≡ Equal
-eq_is Less is = cc
-eq_is Equal is = refl
-eq_is Greater is = cc
-
 apart : (k l : ℕ) → is_eq (nat_cmp k l) ≡ false → nat_eq l k ≡ false
 apart k l other = ne_eqb l k (λ same. let equal : is_eq (nat_cmp k k) ≡ true = grind arith in let differs : is_eq (nat_cmp k k) ≡ false = subst (λ n. is_eq (nat_cmp k n) ≡ false) same other in cc)
 
@@ -138,7 +130,7 @@ module _ (m n : BTreeMap ℕ LogEntry) (new : LogEntry) (before : IsOrdered nat_
 
   taking_at : (entry : LogEntry) (b : Bool) → is_eq (nat_cmp new.version.v entry.version.v) ≡ b → not (nat_eq entry.version.v new.version.v) ≡ true → get nat_cmp m entry.version.v ≡ Some entry → cond b (Some new) (get nat_cmp m entry.version.v) ≡ Some entry
   taking_at entry true is other there =
-      let same : new.version.v ≡ entry.version.v = equal_is new.version.v entry.version.v (eq_is (nat_cmp new.version.v entry.version.v) is) in
+      let same : new.version.v ≡ entry.version.v = exact_unsigned new.version.v entry.version.v (equal_is (nat_cmp new.version.v entry.version.v) is) in
       let equal : nat_eq entry.version.v new.version.v ≡ true = eq-eqb entry.version.v new.version.v (sym same) in
       cc
   taking_at entry false is other there = there

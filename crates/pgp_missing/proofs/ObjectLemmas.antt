@@ -3,7 +3,10 @@ use Rattle.std.proofs.Common.{◌≡◌, ◌⊎◌, ℕ, zero, suc, ◌<◌, ◌
 use Rattle.std.specs.List.{Contains, filter, slice_index_or}
 use Rattle.std.specs.Cmp.{unsigned_Decides}
 use Rattle.std.specs.Cmp.Lexicographic.{pointwise, pointwise_decides, slice_cmp}
-use Rattle.std.specs.Ordering.{nat_cmp, is_lt}
+use Rattle.std.specs.Ordering.{nat_cmp, is_eq, is_lt}
+use Rattle.std.specs.declared.cmp.Ordering.{Ordering}
+use Rattle.std.specs.declared.cmp.Ordering.TheVariants.{Less, Equal, Greater}
+use Rattle.std.proofs.lemmas.Bool.{and_parts, and_from}
 use Rattle.std.proofs.lemmas.List.Elements.{All-contains, All-contains_itself, All-weaker}
 use Rattle.std.proofs.lemmas.List.Sums.{AllPass-from_list_all, list_all-from_AllPass}
 use Rattle.std.proofs.lemmas.Bool.Decides.{nat_tests, leb_tells}
@@ -81,6 +84,11 @@ contains-map f (z ∷ xs) x in' =
 
 -- ---- the order of names
 
+pub equal_is : (o : Ordering) → is_eq o ≡ true → o ≡ Equal
+equal_is Less is = cc
+equal_is Equal is = refl
+equal_is Greater is = cc
+
 put_at : (new object : MissingObject) (objects : List MissingObject) (y : MissingObject) (b : Bool) → ((new ≡ y) ⊎ Contains objects y → Contains (with_object new objects) y) → (new ≡ y) ⊎ Contains (object ∷ objects) y → Contains (if b then new ∷ object ∷ objects else object ∷ with_object new objects) y
 put_at new object objects y true rest (inl here) = Contains-first new (object ∷ objects) y here
 put_at new object objects y true rest (inr later) = Contains-later new (object ∷ objects) y later
@@ -130,14 +138,6 @@ modify_is : (change : Change) → is_modify change ≡ true → change ≡ Modif
 modify_is Modify is = refl
 modify_is Delete is = cc
 
-pub both_left : (a b : Bool) → (a && b) ≡ true → a ≡ true
-both_left true b both = refl
-both_left false b both = both
-
-pub both_right : (a b : Bool) → (a && b) ≡ true → b ≡ true
-both_right true b both = both
-both_right false b both = cc
-
 -- the test of one other entry: it is of another object, or not above
 not_or : (same low : Bool) → (not same || low) ≡ true → same ≡ true → low ≡ true
 not_or true low holds is = holds
@@ -164,7 +164,7 @@ newest_is entries entry newest =
 
 -- ---- what a copy lacks
 
-abbrev above : ℕ → List LogEntry → List LogEntry
+abbrev pub above : ℕ → List LogEntry → List LogEntry
 above v entries = filter (λ entry. nat_lt v entry.version.v) entries
 
 abbrev modified : List LogEntry → LogEntry → Bool
@@ -194,15 +194,12 @@ missing_above-contains v entries missing in' =
       record {
         there = there.0;
         above = over;
-        modify = modify_is entry.change (both_left _ _ kept.1);
+        modify = modify_is entry.change ((and_parts _ _ kept.1).0);
         object = ap (λ (m : MissingObject). m.object) made.1.1;
         version = ap (λ (m : MissingObject). m.version) made.1.1;
-        newest = newest_of_all v entries entry over (both_right (is_modify entry.change) _ kept.1);
+        newest = newest_of_all v entries entry over ((and_parts (is_modify entry.change) _ kept.1).1);
       },
     )
-
-pub both : (a b : Bool) → a ≡ true → b ≡ true → (a && b) ≡ true
-both a b left right = rw (left, right) refl
 
 same_object : (entry : LogEntry) (missing : MissingObject) → entry.object ≡ missing.object → entry.version ≡ missing.version → lacking entry ≡ missing
 same_object entry missing object version =
@@ -215,7 +212,7 @@ contains-missing_above v entries missing lacked =
     let is : IsMissing v entries missing entry = lacked.1 in
     let in_above : Contains (above v entries) entry = contains-filter (λ o. nat_lt v o.version.v) entries entry is.there (lt-ltb v entry.version.v is.above) in
     let newest : is_newest_of_object (above v entries) entry ≡ true = newest_is (above v entries) entry (λ other in' same. is.newest other ((filter-contains (λ o. nat_lt v o.version.v) entries other in').0) same) in
-    let passes : modified (above v entries) entry ≡ true = both _ _ (ap is_modify is.modify) newest in
+    let passes : modified (above v entries) entry ≡ true = and_from _ _ (ap is_modify is.modify) newest in
     let in_kept = contains-filter (modified (above v entries)) (above v entries) entry in_above passes in
     let in_map = contains-map lacking (filter (modified (above v entries)) (above v entries)) entry in_kept in
     contains-by_name (modified_objects (above v entries)) missing (subst (Contains (modified_objects (above v entries))) (same_object entry missing is.object is.version) in_map)

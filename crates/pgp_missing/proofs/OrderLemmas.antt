@@ -3,6 +3,7 @@ use Rattle.std.proofs.Common.{◌≡◌, ◌≢◌, ℕ, suc, ◌≤◌, List, [
 use Rattle.std.specs.List.{All, AllPairs, Contains, filter, slice_index_or}
 use Rattle.std.specs.Ordering.{nat_cmp, is_lt}
 use Rattle.std.specs.Cmp.Lexicographic.{slice_cmp}
+use Rattle.std.proofs.lemmas.Bool.{and_parts}
 use Rattle.std.proofs.lemmas.Cmp.{nat_list_cmp_total, tied_itself}
 use Rattle.std.proofs.lemmas.Map.Lookups.{exact_bytes}
 use Rattle.std.proofs.lemmas.Bool.Decides.{eqb_tells}
@@ -15,7 +16,7 @@ use Rattle.pgp_ids.specs.declared.peer.MissingObject.{MissingObject}
 use Rattle.pgp_ids.specs.declared.report.Info.{Info}
 use Rattle.pgp_missing.specs.Log.{has_number, last_of_each_number, is_in_log, log_of}
 use Rattle.pgp_missing.specs.Missing.{is_modify, is_newest_of_object, modified_objects, with_object, by_name, missing_above, IsByName}
-use Rattle.pgp_missing.proofs.ObjectLemmas.{Contains-cases, Contains-first, Contains-here, Contains-later, Contains-nil, with_object-contains, by_name-contains, is_newest, both_right}
+use Rattle.pgp_missing.proofs.ObjectLemmas.{Contains-cases, Contains-first, Contains-here, Contains-later, Contains-nil, with_object-contains, by_name-contains, is_newest}
 
 -- ---- pairs
 
@@ -166,8 +167,8 @@ other_names entries apart =
     (λ i j d before below same.
     let a = slice_index_or kept i d in
     let b = slice_index_or kept j d in
-    let newest_a = is_newest entries a (both_right (is_modify a.change) (is_newest_of_object entries a) (passes i d (omega arith))) in
-    let newest_b = is_newest entries b (both_right (is_modify b.change) (is_newest_of_object entries b) (passes j d below)) in
+    let newest_a = is_newest entries a ((and_parts (is_modify a.change) (is_newest_of_object entries a) (passes i d (omega arith))).1) in
+    let newest_b = is_newest entries b ((and_parts (is_modify b.change) (is_newest_of_object entries b) (passes j d below)).1) in
     let less : b.version.v ≤ a.version.v = newest_a b (there j d below) (sym same) in
     let more : a.version.v ≤ b.version.v = newest_b a (there i d (omega arith)) same in
     numbers i j d before below (omega arith))

@@ -1,4 +1,4 @@
-//! The calls with memory enough, on the logs of small groups, and with each allocation refused in turn.
+//! The states of peers by small logs, told in words, and by a log whose numbers go up to the last one.
 
 use super::MemberLog;
 use pgp_ids::{
@@ -8,9 +8,10 @@ use std::alloc::{AllocError, Global};
 use std::process::Abort;
 use std::test::Fail;
 
-/// Made or changed, and deleted.
+/// The entry made the object or changed it.
 const MADE: Change = Change::Modify;
 
+/// The entry deleted it.
 const GONE: Change = Change::Delete;
 
 fn at(epoch: u32, v: u32) -> Version {
@@ -112,7 +113,10 @@ fn logs_that_are_not_whole(rt: HostRuntime) -> Result<(), Fail> {
     let other_last = copy(&rt, at(1, 1), at(3, 3));
     assert!(rt; !log_of(a, &other_last, &entries)?.whole());
     let best = copy(&rt, at(1, 1), at(2, 3));
+    let older_last = [(at(1, 2), MADE, "a"), (at(1, 3), MADE, "b")];
+    assert!(rt; !log_of(a, &best, &older_last)?.whole());
     assert!(rt; !log_of(a, &best, &[])?.whole());
+    assert!(rt; log_of(a, &best, &entries)?.whole());
     let empty = copy(&rt, at(2, 3), at(2, 3));
     assert!(rt; log_of(a, &empty, &[])?.whole());
     Ok(())
@@ -122,6 +126,7 @@ fn logs_that_are_not_whole(rt: HostRuntime) -> Result<(), Fail> {
 fn entries_in_mixed_order(rt: HostRuntime) -> Result<(), Fail> {
     let a = rt.alloc();
     let mut best = copy(&rt, at(0, 0), at(1, 3));
+    best.les = Epoch::new(1);
     let entries = [
         (at(1, 3), MADE, "c"),
         (at(1, 1), MADE, "a"),
@@ -139,6 +144,9 @@ fn entries_in_mixed_order(rt: HostRuntime) -> Result<(), Fail> {
     best.log_tail = at(1, 1);
     let short = log_of(a, &best, &entries)?;
     assert_eq!(rt; told(a, &short, &none)?.as_str(), "backfill");
+    let tail = copy(&rt, at(0, 0), at(1, 1));
+    let later = "missing b [1,2] c [1,3]";
+    assert_eq!(rt; told(a, &short, &tail)?.as_str(), later);
     Ok(())
 }
 

@@ -91,7 +91,7 @@ All-with_item before P x (y ∷ ys) here all =
       ]
     ]
 
-IsAscending-with_item : {X : Type 0} (before : X → X → Bool) → ((x y z : X) → before x y ≡ true → before y z ≡ true → before x z ≡ true) → (x : X) (ys : List X) → IsAscending before ys → IsAscending before (with_item before x ys)
+pub IsAscending-with_item : {X : Type 0} (before : X → X → Bool) → ((x y z : X) → before x y ≡ true → before y z ≡ true → before x z ≡ true) → (x : X) (ys : List X) → IsAscending before ys → IsAscending before (with_item before x ys)
 IsAscending-with_item before transitive x [] ordered = AllPairs-cons (λ x y. before x y ≡ true) x [] (All-nil (λ y. before x y ≡ true)) ordered
 IsAscending-with_item {X} before transitive x (y ∷ ys) ordered =
     let R : X → X → Type 0 = λ a b. before a b ≡ true in

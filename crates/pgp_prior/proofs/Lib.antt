@@ -3,3 +3,9 @@ pub mod AscendingLemmas
 pub mod PriorLemmas
 pub mod SlotLemmas
 pub mod BetterLemmas
+pub mod PutLemmas
+pub mod MemberLemmas
+pub mod WithLemmas
+pub mod WalkLemmas
+pub mod IntervalLemmas
+pub mod DownLemmas

@@ -8,7 +8,7 @@ use Rattle.pgp_ids.specs.declared.past.Past.{Past}
 use Rattle.pgp_code.specs.Enough.{enough_shards}
 use Rattle.pgp_sets.specs.declared.status.Status.{Status}
 use Rattle.pgp_sets.specs.declared.status.Status.TheVariants.{Up}
-use Rattle.pgp_prior.specs.declared.prior.Prior.{Prior}
+use Rattle.pgp_prior.specs.declared.prior_set.Prior.{Prior}
 use Rattle.pgp_prior.specs.Prior.{prior_set}
 
 -- acting is this list, and no tree places the group

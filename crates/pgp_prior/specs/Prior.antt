@@ -7,7 +7,7 @@ use Rattle.pgp_ids.specs.declared.member.Membership.{Membership}
 use Rattle.pgp_ids.specs.declared.past.Past.{Past}
 use Rattle.pgp_sets.specs.declared.status.Status.{Status}
 use Rattle.pgp_sets.specs.declared.status.Status.TheVariants.{Up, Down}
-use Rattle.pgp_prior.specs.declared.prior.Prior.{Prior}
+use Rattle.pgp_prior.specs.declared.prior_set.Prior.{Prior}
 use Rattle.pgp_prior.specs.Ascending.{ascending}
 use Rattle.pgp_prior.specs.Members.{members_of}
 use Rattle.pgp_prior.specs.Blocks.{is_up, is_down, matters, acting_where, settled_slots, blocks}

@@ -5,7 +5,16 @@
 //! more come back or are given up for lost (Ceph's developer documentation on peering: the prior set).
 #![tactic(auto)]
 
+mod ascending;
+mod blocked_by;
+mod blocks;
 pub mod laws;
-mod prior;
+mod members;
+mod prior_set;
+mod probe;
+#[cfg(test)]
+mod tests;
+mod walk;
 
-pub use prior::Prior;
+pub use prior_set::Prior;
+pub use walk::prior;

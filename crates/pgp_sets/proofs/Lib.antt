@@ -1,1 +1,2 @@
 pub mod UpLemmas
+pub mod PlaceLemmas

@@ -1,4 +1,5 @@
 pub mod Status
+pub mod StatusLaws
 pub mod Sets
 pub mod Examples
 pub mod Worked

@@ -1,13 +1,15 @@
 //! What the definitions say of small maps.
 #![tactic(auto, unfolding(crate::specs::Worked::sets_computed))]
 
-ghost use Rattle.std.specs.Prelude.{◌≡◌, List, true, [], ◌∷◌, Some, None};
+ghost use Rattle.std.specs.Prelude.{◌≡◌, ℕ, List, true, [], ◌∷◌, Some, None};
 ghost use Rattle.pgp_sets.specs.declared.status.Status.TheVariants.{Up, Gone, Lost, Down};
 ghost use Rattle.pgp_ids.specs.declared.incremental.Incremental.{Incremental};
 ghost use Rattle.pgp_ids.specs.declared.member.Membership.{Membership};
 ghost use Rattle.pgp_ids.specs.declared.pg_id.PgId.{PgId};
+ghost use Rattle.pgp_map.specs.declared.map.OsdMap.{OsdMap};
 ghost use Rattle.pgp_map.specs.Examples.{boot, empty_step};
-ghost use Rattle.pgp_sets.specs.Status.{status};
+ghost use Rattle.pgp_map.specs.MapOf.{IsMapOf};
+ghost use Rattle.pgp_sets.specs.Status.{status, held_status};
 ghost use Rattle.pgp_sets.specs.Sets.{membership, membership_at, are_up};
 ghost use Rattle.pgp_sets.specs.Examples.{of_device, of_weight, copies_group, shards_group, stands_on, lies_on, copies_placed, copies_on_three, shards_on_three, take_down, resize};
 
@@ -17,6 +19,12 @@ pub fn who_lies_there_is_up()
         → membership incs pg ≡ Some members → are_up incs members.up ≡ true }
     ensures acting { (incs : List Incremental) (pg : PgId) (members : Membership)
         → membership incs pg ≡ Some members → are_up incs members.acting ≡ true }
+{}
+
+/// The status that a map gives by [`StatusOf`](crate::StatusOf) is the one that the incrementals give that made it.
+pub fn statuses_are_those_of_the_incrementals()
+    ensures { (incs : List Incremental) (map : OsdMap) (osd first : ℕ) → IsMapOf incs map
+        → held_status map osd first ≡ status incs osd first }
 {}
 
 /// A device that is down may come back, until it is given up for lost; what was lost before an interval plays no part in it.

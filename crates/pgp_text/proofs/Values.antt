@@ -11,6 +11,7 @@ use Rattle.serde_json.specs.Find.{as_array}
 use Rattle.serde_json.specs.View.{view, items_of, items_view}
 use Rattle.serde_json.specs.declared.value.Value.{Value}
 use Rattle.pgp_text.specs.Shapes.{is_between, items_list, items_in, two_of, pair_in, three_of, triple_in, each, list_in, list_of}
+use Rattle.pgp_text.specs.ReportParts.{log_entry_of, log_entry_in}
 use Rattle.pgp_text.specs.Command.{data_of}
 
 refused_at : (b : Bool) (bytes : List ℕ) → is_utf8 bytes ≡ b → (IsUtf8 bytes → read bytes ≡ None) → (if b then read bytes else None) ≡ None
@@ -73,3 +74,17 @@ pub triple_in-other : (d : Data) (values : List Value) → as_array d ≡ Some (
 triple_in-other d values e other =
     let same : length (map view values) ≡ length values = rw length-map in
     rw (items_in-array d values e) (three_of-other (map view values) (λ three. other (sym same ∙ three)))
+
+log_entry_of-other : (ds : List Data) → length ds ≢ 4 → log_entry_of ds ≡ None
+log_entry_of-other [] other = refl
+log_entry_of-other (a ∷ []) other = refl
+log_entry_of-other (a ∷ b ∷ []) other = refl
+log_entry_of-other (a ∷ b ∷ c ∷ []) other = refl
+log_entry_of-other (a ∷ b ∷ c ∷ d ∷ []) other = absurd (other refl)
+log_entry_of-other (a ∷ b ∷ c ∷ d ∷ e ∷ ds) other = refl
+
+-- an array of another length is no log entry
+pub log_entry_in-other : (d : Data) (values : List Value) → as_array d ≡ Some (items_view values) → length values ≢ 4 → log_entry_in d ≡ None
+log_entry_in-other d values e other =
+    let same : length (map view values) ≡ length values = rw length-map in
+    rw (items_in-array d values e) (log_entry_of-other (map view values) (λ four. other (sym same ∙ four)))

@@ -2,6 +2,7 @@
 use Rattle.std.specs.Prelude.{ℕ, List, [], ◌∷◌, ◌++◌, codes, Option, Some, None, string_bytes}
 use Rattle.serde_json.specs.Data.{Data, string}
 use Rattle.pgp_ids.specs.AskRefusal.{ask_refusal_number, ask_refusal_name}
+use Rattle.pgp_ids.specs.LocateRefusal.{locate_refusal_number, locate_refusal_name}
 use Rattle.pgp_ids.specs.Refusal.{refusal_number, refusal_name, refusal_tree}
 use Rattle.pgp_ids.specs.TextFault.{fault_number}
 use Rattle.pgp_ids.specs.declared.text_fault.TextFault.{TextFault}
@@ -9,7 +10,7 @@ use Rattle.pgp_ids.specs.declared.text_fault.TextFault.TheVariants.{LineTooLong,
 use Rattle.pgp_text.specs.LineFault.{LineFault, line_too_long, not_json, no_op, unknown_key, bad_field}
 use Rattle.pgp_text.specs.Json.{Field, object_with, number_data}
 use Rattle.pgp_text.specs.declared.reply.refused.Refused.{Refused}
-use Rattle.pgp_text.specs.declared.reply.refused.Refused.TheVariants.{Line, Entry, Ask}
+use Rattle.pgp_text.specs.declared.reply.refused.Refused.TheVariants.{Line, Entry, Ask, Locate}
 
 -- the name of a line's fault
 abbrev pub fault_name : TextFault → List ℕ
@@ -34,24 +35,28 @@ abbrev pub refused_number : Refused → ℕ
 refused_number (Line fault) = fault_number fault
 refused_number (Entry refusal) = refusal_number refusal
 refused_number (Ask refusal) = ask_refusal_number refusal
+refused_number (Locate refusal) = locate_refusal_number refusal
 
 -- its name
 abbrev pub refused_name : Refused → List ℕ
 refused_name (Line fault) = fault_name fault
 refused_name (Entry refusal) = refusal_name refusal
 refused_name (Ask refusal) = ask_refusal_name refusal
+refused_name (Locate refusal) = locate_refusal_name refusal
 
 -- the key of the line that it names
 abbrev pub refused_key : Refused → Option (List ℕ)
 refused_key (Line fault) = fault_key fault
 refused_key (Entry refusal) = None
 refused_key (Ask refusal) = None
+refused_key (Locate refusal) = None
 
 -- the number of the tree's fault
 abbrev pub refused_tree : Refused → Option ℕ
 refused_tree (Line fault) = None
 refused_tree (Entry refusal) = refusal_tree refusal
 refused_tree (Ask refusal) = None
+refused_tree (Locate refusal) = None
 
 -- a field that may be absent
 abbrev pub field_if : {A : Type 0} → List ℕ → (A → Data) → Option A → List Field

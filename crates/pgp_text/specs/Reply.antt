@@ -9,7 +9,8 @@ use Rattle.pgp_text.specs.Json.{object_with, number_data}
 use Rattle.pgp_text.specs.Answered.{group_data, place_data, osds_data, intervals_data}
 use Rattle.pgp_text.specs.Asked.{asked_data}
 use Rattle.pgp_text.specs.EntryOp.{entry_op_name}
-use Rattle.pgp_text.specs.Refused.{refused_data}
+use Rattle.pgp_text.specs.LineFault.{LineFault}
+use Rattle.pgp_text.specs.Refused.{refused_data, line_fault_data}
 use Rattle.pgp_text.specs.declared.reply.Reply.{Reply}
 use Rattle.pgp_text.specs.declared.reply.Reply.TheVariants.{Accepted, Asked, Located, Traced, Refused}
 use Rattle.pgp_text.specs.declared.reply.entry_op.EntryOp.{EntryOp}
@@ -53,3 +54,7 @@ reply_data (Refused refused) = refused_data refused
 -- the bytes of a reply, without a line feed
 abbrev pub reply_text : Reply → List ℕ
 reply_text reply = compact_text (reply_data reply)
+
+-- the bytes of the answer to a line that has this fault, without a line feed
+abbrev pub fault_text : LineFault → List ℕ
+fault_text fault = compact_text (line_fault_data fault)

@@ -1,4 +1,4 @@
--- The lines of reports and of questions, in this project's own format over JSON. No line is read as one of them yet.
+-- The lines of reports and of questions, in this project's own format over JSON.
 use Rattle.std.specs.Prelude.{ℕ, List, [], ◌∷◌, codes, Result, Ok}
 use Rattle.serde_json.specs.Data.{Data}
 use Rattle.serde_json.specs.Find.{as_bool}

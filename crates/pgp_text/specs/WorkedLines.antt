@@ -1,5 +1,5 @@
 -- The lines of the worked laws, and what they say.
-use Rattle.std.specs.Prelude.{ℕ, pos, negsuc, List, [], ◌∷◌, ◌++◌, codes, true, Some, None, ⊤, refl}
+use Rattle.std.specs.Prelude.{ℕ, pos, negsuc, List, [], ◌∷◌, ◌++◌, codes, true, false, Some, None, ⊤, refl}
 use Rattle.std.specs.Fmt.{digits}
 use Rattle.std.specs.Str.{is_utf8, chars}
 use Rattle.serde_json.proofs.OnLiterals.{serde_json_on_literals}
@@ -154,6 +154,26 @@ first_info = record {
   last_update = record { epoch = 0; v = 0 };
   log_tail = record { epoch = 0; v = 0 };
   complete = true;
+}
+
+-- an info with each number at the end of its range, and no two of one kind alike
+abbrev pub edges_of_info_line : List ℕ
+edges_of_info_line =
+    codes "{\"op\":\"info\",\"pg\":[255,1023],\"from\":[4095,15],\"stamp\":4294967295,\"les\":4294967294,\"his"
+    ++ codes "tory_les\":4294967293,\"last_update\":[4294967292,4294967295],\"log_tail\":[0,1],\"complete\":"
+    ++ codes "false}"
+
+-- what that line says
+abbrev pub edges_of_info : Info
+edges_of_info = record {
+  pg = record { pool = 255; pg = 1023 };
+  member = record { osd = 4095; slot = 15 };
+  stamp = 4294967295;
+  les = 4294967294;
+  history_les = 4294967293;
+  last_update = record { epoch = 4294967292; v = 4294967295 };
+  log_tail = record { epoch = 0; v = 1 };
+  complete = false;
 }
 
 -- two entries of the log of device 0

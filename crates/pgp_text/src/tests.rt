@@ -1,6 +1,8 @@
 //! Each call with memory enough, and what no law computes: deep nesting, bytes that are no text, keys that have to be
 //! escaped, long lists.
 
+mod reports;
+
 use super::{Command, EntryOp, Refused, Reply, read_line, write_reply};
 use pgp_ids::{
     AskRefusal, Entry, Epoch, Incremental, Member, Membership, MissingObject, ObjectName, OsdId,

@@ -1,7 +1,7 @@
 -- What a piece of a line, and a line feed, do to the cut of the bytes before them.
 use Rattle.std.proofs.Common.{◌≡◌, ℕ, ◌<◌, List, [], ◌∷◌, ◌++◌, Bool, true, false, ◌||◌, cond, length, refl, ap, ◌∙◌, append_assoc, arith}
 use Rattle.std.specs.List.{list_any}
-use Rattle.pgpeer.specs.Lines.{Cut, onto_first, is_line_feed, cut, last_line, lines_of}
+use Rattle.pgp_core.specs.Lines.{Cut, onto_first, is_line_feed, cut, last_line, lines_of}
 
 abbrev make : List (List ℕ) → List ℕ → Cut
 make lines rest = record { whole = lines; rest = rest }

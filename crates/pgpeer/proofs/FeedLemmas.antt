@@ -3,7 +3,7 @@ use Rattle.std.proofs.Common.{◌≡◌, ℕ, zero, suc, ◌≤◌, List, [], �
 use Rattle.std.specs.List.{list_any}
 use Rattle.std.proofs.lemmas.Bool.Decides.{eqb_tells}
 use Rattle.memchr.specs.Find.{Nowhere, Passes, is_byte}
-use Rattle.pgpeer.specs.Lines.{is_line_feed}
+use Rattle.pgp_core.specs.Lines.{is_line_feed}
 
 -- no line feed in the first n bytes
 pub none_in_front : (n : ℕ) (bytes : List ℕ) → n ≤ length bytes → Nowhere (Passes (is_byte 10) bytes) 0 n → list_any is_line_feed (take n bytes) ≡ false

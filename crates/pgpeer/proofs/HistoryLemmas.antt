@@ -4,7 +4,7 @@ use Rattle.std.proofs.lemmas.List.{length-append}
 use Rattle.pgp_code.specs.declared.any.AnyCode.{AnyCode}
 use Rattle.pgp_ids.specs.declared.history.EpochState.{EpochState}
 use Rattle.pgp_interval.specs.History.{History, stepped}
-use Rattle.pgpeer.specs.History.{last_state, told_history}
+use Rattle.pgp_core.specs.ToldHistory.{last_state, told_history}
 
 pub last-push : (opening : EpochState) (others : List EpochState) (state : EpochState) → last_state opening (others ++ state ∷ []) ≡ state
 last-push opening [] state = refl

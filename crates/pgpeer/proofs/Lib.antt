@@ -3,6 +3,8 @@ pub mod LineLemmas
 pub mod FeedLemmas
 pub mod CutLemmas
 pub mod LogLemmas
+pub mod LocateLemmas
+pub mod RawSetLemmas
 pub mod ScriptLemmas
 pub mod RunLemmas
 pub mod TurnLemmas

@@ -2,15 +2,19 @@
 use Rattle.std.proofs.Common.{Vec, Global, ◌≡◌, ◌≢◌, ℕ, ◌<◌, ◌≤◌, List, [], ◌∷◌, ◌++◌, Some, None, true, false, length, nat_lt, refl, sym, ap, ◌∙◌, subst, arith}
 use Rattle.std.proofs.lemmas.Bool.Decides.{nat_tests}
 use Rattle.pgp_ids.specs.declared.entry.Entry.{Entry}
-use Rattle.pgpeer.specs.Answer.{line_text, line_log, long_text}
-use Rattle.pgpeer.specs.Lines.{is_blank}
-use Rattle.pgpeer.specs.Script.{longest_line, MayMeet, answer, log_past}
+use Rattle.std.specs.Prelude.{Result, Ok, Err, IfErr}
+use Rattle.pgp_text.specs.Command.{command_of}
+use Rattle.pgp_text.specs.declared.command.Command.{Command}
+use Rattle.pgpeer.specs.Wants.{CanMeet}
+use Rattle.pgp_core.specs.Answer.{line_text, line_log, long_text}
+use Rattle.pgp_core.specs.Lines.{is_blank}
+use Rattle.pgp_core.specs.Script.{longest_line, MayMeet, answer, log_past}
 use Rattle.pgpeer.specs.Line.{KeptBy, Holds, IsAnswerTo}
 use Rattle.pgpeer.specs.declared.line.Fate.TheVariants.{Kept, TooLong, NoMemory}
 use Rattle.pgpeer.specs.declared.line.LineBuffer.{LineBuffer}
 use Rattle.pgpeer.specs.declared.line.LineAnswer.TheVariants.{Nothing, Wants, Text}
-use Rattle.pgpeer.specs.declared.want.Want.{Want}
-use Rattle.pgpeer.specs.declared.want.Want.TheVariants as want
+use Rattle.pgp_core.specs.declared.want.Want.{Want}
+use Rattle.pgp_core.specs.declared.want.Want.TheVariants as want
 
 is_long : (line : List ℕ) → longest_line < length line → nat_lt longest_line (length line) ≡ true
 is_long line long = grind (arith, nat_tests)
@@ -59,3 +63,14 @@ answer-kept-wants before after buffer line want holds fate may same =
     let kept = kept-whole buffer line holds fate in
     let meets : length line ≤ longest_line → MayMeet (Some want) line = rw kept.0 at may in
     record { met = Some want; may = meets kept.1; text = refl; log = same }
+
+-- a line can meet what its command can
+pub line-meets : (want : Want) (line : List ℕ) (command : Command) → length line ≤ longest_line → command_of line ≡ Ok command → CanMeet want command → MayMeet (Some want) line
+line-meets want.Line line command short reads can = tt
+line-meets want.Entry line command short reads can = record { short = short; entry = can.0; reads = reads ∙ ap (λ (c : Command). Ok c) can.1 }
+
+-- what a line met, from what its command met
+pub wants-of : {T : Type 0} (r : Result T Want) (line : List ℕ) (command : Command) → command_of line ≡ Ok command → IfErr r (λ want. CanMeet want command)
+    → IfErr r (λ want. length line ≤ longest_line → MayMeet (Some want) line)
+wants-of (Ok x) line command reads can = tt
+wants-of (Err want) line command reads can = λ short. line-meets want line command short reads can

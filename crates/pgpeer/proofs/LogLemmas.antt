@@ -8,9 +8,12 @@ use Rattle.pgp_ids.specs.declared.entry.Entry.TheVariants as entry
 use Rattle.pgp_ids.specs.declared.incremental.Incremental.{Incremental}
 use Rattle.pgp_ids.specs.declared.refusal.Refusal.{Refusal}
 use Rattle.pgp_ids.specs.declared.refusal.Refusal.TheVariants as refusal
+use Rattle.pgp_map.proofs.CheckedLemmas.{checked-more}
+use Rattle.pgp_map.specs.Checked.{are_checked}
 use Rattle.pgp_map.specs.FaultNumber.{refusal_of}
 use Rattle.pgp_map.specs.Map.{epoch}
-use Rattle.pgp_map.specs.MapFault.{map_fault}
+use Rattle.pgp_map.proofs.FaultLemmas.{no_fault}
+use Rattle.pgp_map.specs.MapFault.{map_fault, given_fault}
 use Rattle.pgp_map.specs.declared.fault.MapFault.{MapFault}
 use Rattle.pgp_group.specs.Entries.{inc_of, incs_of}
 use Rattle.pgp_core.specs.Fits.{is_close, is_closed, entry_fault, full_fault, fits}
@@ -113,3 +116,19 @@ room-push log new fit other =
     let few = not_full log new (none_right (entry_fault log new) (full_fault log new) (open_fits log new fit)) other in
     let long = length-append log (new ∷ []) in
     elim (leb_tells 65535 (length log)) [ inl full ↦ let is : nat_le 65535 (length log) ≡ true = full.0 in cc | inr less ↦ let other : length log < 65535 = omega (arith, less.1) in omega (arith, long, other) ]
+
+-- its incrementals were checked one by one
+pub checked-push : (log : List Entry) (new : Entry) → are_checked (incs_of log) ≡ true → entry_fault log new ≡ None
+    → are_checked (incs_of (log ++ new ∷ [])) ≡ true
+checked-push log (entry.Inc inc) checked none =
+    ap are_checked (incs-inc log (entry.Inc inc) inc refl) ∙ checked-more (incs_of log) inc checked (faultless-inc log (entry.Inc inc) inc refl none)
+checked-push log (entry.Info info) checked none = ap are_checked (incs-other log (entry.Info info) refl) ∙ checked
+checked-push log (entry.Entries report) checked none = ap are_checked (incs-other log (entry.Entries report) refl) ∙ checked
+checked-push log entry.Close checked none = ap are_checked (incs-other log entry.Close refl) ∙ checked
+
+-- the tree that the entry gives, if it is an incremental that gives one, has no fault
+pub faultless-tree : (log : List Entry) (new : Entry) → entry_fault log new ≡ None → IfSome (inc_of new) (λ inc. given_fault inc.crush ≡ None)
+faultless-tree log (entry.Inc inc) none = (no_fault (incs_of log) inc (faultless-inc log (entry.Inc inc) inc refl none)).tree
+faultless-tree log (entry.Info info) none = tt
+faultless-tree log (entry.Entries report) none = tt
+faultless-tree log entry.Close none = tt

@@ -5,11 +5,11 @@ use Rattle.std.proofs.Math.Seq.{take-append_seam, take-append-add}
 use Rattle.std.specs.List.{list_any}
 use Rattle.std.specs.Io.KnownBytes.{Appends}
 use Rattle.std.proofs.lemmas.List.{length-append}
-use Rattle.pgpeer.specs.Lines.{Cut, is_line_feed, cut, last_line, lines_of}
+use Rattle.pgp_core.specs.Lines.{Cut, is_line_feed, cut, last_line, lines_of}
 use Rattle.pgpeer.specs.Line.{Holds}
 use Rattle.pgpeer.specs.Output.{FrontWent}
 use Rattle.pgp_ids.specs.declared.entry.Entry.{Entry}
-use Rattle.pgpeer.specs.Script.{answer, answers, Within, lines_before_cut}
+use Rattle.pgp_core.specs.Script.{answer, answers, Within, lines_before_cut}
 use Rattle.pgpeer.proofs.ScriptLemmas.{answers-push, logs-push, may-push, answers-front, may-front}
 use Rattle.pgpeer.specs.Run.{Puts, PutsFront, IsAfter, Answered, CutOff, BrokenOff, BrokenAtEnd, IsDone, IsBeyond, Taken}
 use Rattle.pgpeer.specs.declared.line.LineBuffer.{LineBuffer}

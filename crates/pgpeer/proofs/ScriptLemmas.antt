@@ -1,8 +1,8 @@
 -- The answers to one line more.
 use Rattle.std.proofs.Common.{◌≡◌, ℕ, suc, List, [], ◌∷◌, ◌++◌, Option, length, refl, sym, ap, ◌∙◌, append_assoc, append-nil, arith}
 use Rattle.pgp_ids.specs.declared.entry.Entry.{Entry}
-use Rattle.pgpeer.specs.Script.{MayMeet, MayMeetEach, answer, answers, log_past, logs}
-use Rattle.pgpeer.specs.declared.want.Want.{Want}
+use Rattle.pgp_core.specs.Script.{MayMeet, MayMeetEach, answer, answers, log_past, logs}
+use Rattle.pgp_core.specs.declared.want.Want.{Want}
 
 pub answers-push : (log : List Entry) (met : List (Option Want)) (lines : List (List ℕ)) (m : Option Want) (line : List ℕ) → length met ≡ length lines
     → answers log (met ++ m ∷ []) (lines ++ line ∷ []) ≡ answers log met lines ++ answer (logs log met lines) m line

@@ -1,9 +1,7 @@
-pub mod History
-pub mod Answer
-pub mod Lines
-pub mod Script
 pub mod Line
 pub mod Options
 pub mod Output
 pub mod Run
 pub mod Status
+pub mod RawSets
+pub mod Wants

@@ -1,14 +1,14 @@
 -- What the buffer of a line keeps of the line, and what is written for it.
 use Rattle.std.specs.Prelude.{◌≡◌, ℕ, ◌<◌, ◌≤◌, List, [], ◌∷◌, ◌++◌, Option, Some, None, Bool, nat_lt, length}
 use Rattle.pgp_ids.specs.declared.entry.Entry.{Entry}
-use Rattle.pgpeer.specs.Lines.{is_blank}
-use Rattle.pgpeer.specs.Script.{longest_line, want_text, MayMeet, answer, log_past}
+use Rattle.pgp_core.specs.Lines.{is_blank}
+use Rattle.pgp_core.specs.Script.{longest_line, want_text, MayMeet, answer, log_past}
 use Rattle.pgpeer.specs.declared.line.Fate.{Fate}
 use Rattle.pgpeer.specs.declared.line.Fate.TheVariants.{Kept, TooLong, NoMemory}
 use Rattle.pgpeer.specs.declared.line.LineBuffer.{LineBuffer}
 use Rattle.pgpeer.specs.declared.line.LineAnswer.{LineAnswer}
 use Rattle.pgpeer.specs.declared.line.LineAnswer.TheVariants.{Nothing, Wants, Text}
-use Rattle.pgpeer.specs.declared.want.Want.{Want}
+use Rattle.pgp_core.specs.declared.want.Want.{Want}
 
 -- what is kept of a line, by its fate
 abbrev pub KeptBy : Fate → List ℕ → List ℕ → Type 0

@@ -1,14 +1,14 @@
 -- What has been read and written of a script, as its answering goes on and as it stops.
 use Rattle.std.specs.Prelude.{◌≡◌, ◌⊎◌, ℕ, ◌+◌, List, [], ◌++◌, Bool, true, length, Option}
 use Rattle.std.specs.Io.KnownBytes.{Appends, Consumes, IsAtEnd}
-use Rattle.pgpeer.specs.Lines.{cut, lines_of}
+use Rattle.pgp_core.specs.Lines.{cut, lines_of}
 use Rattle.pgpeer.specs.Line.{Holds}
 use Rattle.pgp_ids.specs.declared.entry.Entry.{Entry}
-use Rattle.pgpeer.specs.Script.{MayMeet, MayMeetEach, answer, answers, log_past, logs, Within, Answers, lines_before_cut}
+use Rattle.pgp_core.specs.Script.{MayMeet, MayMeetEach, answer, answers, log_past, logs, Within, Answers, lines_before_cut}
 use Rattle.pgpeer.specs.Output.{Went, FrontWent}
 use Rattle.pgpeer.specs.declared.script.Script.{Script}
 use Rattle.pgpeer.specs.declared.script.Bounds.{Bounds}
-use Rattle.pgpeer.specs.declared.want.Want.{Want}
+use Rattle.pgp_core.specs.declared.want.Want.{Want}
 
 -- the answer to the line was put after what was pending, and the log goes from `before` to `after`
 pub record Puts (old new : Option (List ℕ)) (pending still : List ℕ) (before after : List Entry) (line : List ℕ) : Type 0 where

@@ -2,13 +2,14 @@
 ghost use Rattle.std.specs.Prelude.{◌≡◌, ◌≤◌, ◌++◌, ◌∷◌, [], length, IfOk, IsOk, IfErr, OnErr, Some};
 ghost use Rattle.pgp_text.specs.Command.{command_of, IsInRange};
 ghost use Rattle.pgp_text.specs.Reply.{reply_text};
-ghost use Rattle.pgpeer.specs.Answer.{traced_reply, submitted_reply, log_with, line_text, line_log, long_text};
+ghost use Rattle.pgp_core.specs.Answer.{reply_of, log_after, traced_reply, submitted_reply, log_with, line_text, line_log, long_text};
 ghost use Rattle.pgp_core.specs.Fits.{fits};
-ghost use Rattle.pgpeer.specs.Script.{MayMeet};
+ghost use Rattle.pgp_core.specs.Script.{MayMeet};
+ghost use Rattle.pgpeer.specs.Wants.{CanMeet};
 
 use super::history::history;
 use super::log::Log;
-use super::want::Want;
+use pgp_core::Want;
 use pgp_code::AnyCode;
 use pgp_ids::{Entry, Epoch, EpochState, PoolKind, Refusal, Seq, TextFault};
 use pgp_text::{Command, EntryOp, Refused, Reply, read_line, write_reply};
@@ -25,16 +26,35 @@ pub fn answer_line(alloc: Global, line: &[u8], log: &mut Log) -> Result<Vec<u8>,
     ensures kept { OnErr result (log.new ≡ log.old) }
 {
     match read_line(alloc, line) {
-        Ok(Command::Submit(entry)) => match submit(alloc, entry, log) {
-            Ok(text) => Ok(text),
-            Err(_) => Err(Want::Entry),
-        },
-        Ok(Command::Trace { code, epochs }) => match trace(alloc, code, epochs) {
+        Ok(command) => answer_command(alloc, command, log),
+        Err(TextFault::Memory) => Err(Want::Line),
+        Err(fault) => match write_line(alloc, &Reply::Refused(Refused::Line(fault))) {
             Ok(text) => Ok(text),
             Err(_) => Err(Want::Line),
         },
-        Err(TextFault::Memory) => Err(Want::Line),
-        Err(fault) => match write_line(alloc, &Reply::Refused(Refused::Line(fault))) {
+    }
+}
+
+/// The text of the answer to a command that was read, with a line feed. Where it is an entry that the log takes, the log
+/// has it from now on.
+fn answer_command(alloc: Global, command: Command, log: &mut Log) -> Result<Vec<u8>, Want>
+    requires { IsInRange command }
+    ensures text { IfOk result (λ text. text.items ≡ reply_text (reply_of log.old command) ++ 10 ∷ []) }
+    ensures log { IsOk result → log.new ≡ log_after log.old command }
+    ensures wants { IfErr result (λ want. CanMeet want command) }
+    ensures kept { OnErr result (log.new ≡ log.old) }
+{
+    match command {
+        Command::Submit(entry) => match submit(alloc, entry, log) {
+            Ok(text) => Ok(text),
+            Err(_) => Err(Want::Entry),
+        },
+        Command::Ask(_pg) => unreachable!(),
+        Command::Locate { pool, name } => match write_line(alloc, &log.locate(pool, &name)) {
+            Ok(text) => Ok(text),
+            Err(_) => Err(Want::Line),
+        },
+        Command::Trace { code, epochs } => match trace(alloc, code, epochs) {
             Ok(text) => Ok(text),
             Err(_) => Err(Want::Line),
         },

@@ -1,6 +1,6 @@
 ghost use Rattle.std.specs.Prelude.{◌≡◌, ◌<◌, IfOk, length};
 ghost use Rattle.std.specs.Vec.Iter.{into_iter_items};
-ghost use Rattle.pgpeer.specs.History.{told_history};
+ghost use Rattle.pgp_core.specs.ToldHistory.{told_history};
 
 use pgp_code::AnyCode;
 use pgp_ids::{Epoch, EpochState};

@@ -1,11 +1,11 @@
 ghost use Rattle.std.specs.Prelude.{◌≡◌, ℕ, List, [], ◌∷◌, ◌++◌, Bool};
 ghost use Rattle.pgpeer.specs.Line.{Holds, IsAnswerTo, answer_bytes};
-ghost use Rattle.pgpeer.specs.Lines.{is_blank};
-ghost use Rattle.pgpeer.specs.Script.{want_text};
+ghost use Rattle.pgp_core.specs.Lines.{is_blank};
+ghost use Rattle.pgp_core.specs.Script.{want_text};
 
 use super::answer::{answer_line, answer_long};
 use super::log::Log;
-use super::want::Want;
+use pgp_core::Want;
 use std::alloc::Global;
 
 /// How many bytes a line has at most, without its line feed.

@@ -1,16 +1,26 @@
 //! The log of a script, and what it takes next.
-ghost use Rattle.std.specs.Prelude.{◌≡◌, ◌≢◌, ◌≤◌, ℕ, List, [], ◌∷◌, ◌++◌, length, false, None, Some, IsOk, OnOk, OnErr, IfErr, IfSome, IfNone, option_map};
+ghost use Rattle.std.specs.Prelude.{◌≡◌, ◌≢◌, ◌≤◌, ℕ, List, [], ◌∷◌, ◌++◌, length, false, true, None, Some, IsOk, OnOk, OnErr, IfErr, IfSome, IfNone, option_map};
 ghost use Rattle.pgp_ids.specs.declared.entry.Entry.{Entry as AnyEntry};
 ghost use Rattle.pgp_ids.specs.declared.incremental.Incremental.{Incremental as Step};
 ghost use Rattle.pgp_ids.specs.declared.refusal.Refusal.TheVariants.{Memory};
+ghost use Rattle.pgp_map.specs.Checked.{are_checked};
+ghost use Rattle.pgp_map.specs.MapFault.{given_fault};
 ghost use Rattle.pgp_map.specs.MapOf.{IsMapOf};
+ghost use Rattle.pgp_map.specs.Pools.{pool};
+ghost use Rattle.pgp_core.specs.Answer.{located_reply};
+ghost use Rattle.pgpeer.specs.RawSets.{AreRawSets};
 ghost use Rattle.pgp_group.specs.Entries.{inc_of, incs_of};
 ghost use Rattle.pgp_core.specs.Fits.{is_close, is_closed, entry_fault, fits};
 ghost use Rattle.pgp_core.specs.Log.{epoch_of};
 
+use super::locate::group_of;
+use super::raw_sets::RawSets;
 use super::report::{entries_fault, info_fault};
-use pgp_ids::{Entry, Epoch, Incremental, Refusal};
+use pgp_ids::{
+    Entry, Epoch, Incremental, LocateRefusal, ObjectName, PgId, PoolId, Refusal,
+};
 use pgp_map::OsdMap;
+use pgp_text::{Refused, Reply};
 use std::alloc::{AllocError, Global};
 use std::marker::Model;
 
@@ -22,6 +32,7 @@ const LONGEST_LOG: usize = 65535;
 pub struct Log {
     entries: Vec<Entry>,
     map: OsdMap,
+    raw_sets: RawSets,
     closed: bool,
 }
 
@@ -32,6 +43,8 @@ impl Model for Log {
 
     ghost invariant = { λ log. record {
       map : IsMapOf (incs_of log.entries.items) log.map;
+      raw_sets : AreRawSets (incs_of log.entries.items) log.raw_sets;
+      checked : are_checked (incs_of log.entries.items) ≡ true;
       closed : log.closed ≡ is_closed log.entries.items;
       few : length log.entries.items ≤ 65536;
       room : log.closed ≡ false → length log.entries.items ≤ 65535;
@@ -45,6 +58,7 @@ impl Log {
         Log {
             entries: Vec::new(alloc),
             map: OsdMap::empty(alloc),
+            raw_sets: RawSets::new(alloc),
             closed: false,
         }
     }
@@ -55,6 +69,26 @@ impl Log {
         ensures few { result ≤ 65536 }
     {
         self.entries.len()
+    }
+
+    /// Where the object of this name lies by the map that the entries make: the reply to a question that changes nothing.
+    pub fn locate(&mut self, id: PoolId, name: &ObjectName) -> Reply
+        ensures reply { result ≡ located_reply self.old id name.now (pool (incs_of self.old) id) }
+        ensures same { self.new ≡ self.old }
+    {
+        let Some(pool) = self.map.pool(id) else {
+            return Reply::Refused(Refused::Locate(LocateRefusal::UnknownPool));
+        };
+        let pg = PgId {
+            pool: id,
+            pg: group_of(name, &pool),
+        };
+        let members = self.raw_sets.members(&self.map, &pg);
+        Reply::Located {
+            pg,
+            members,
+            epoch: self.map.epoch(),
+        }
     }
 
     /// Why the log doesn't take the entry, if it doesn't. `Memory` may come in place of any answer.
@@ -108,6 +142,7 @@ impl Log {
     {
         self.entries.reserve(1)?;
         extend_map(&mut self.map, &entry)?;
+        self.raw_sets.clear();
         self.closed = is_close(&entry);
         self.entries.push(entry)?;
         Ok(())
@@ -116,6 +151,7 @@ impl Log {
 
 /// Makes this the map after an entry in which the map finds no fault.
 fn extend_map(map: &mut OsdMap, entry: &Entry) -> Result<(), AllocError>
+    requires { IfSome (inc_of entry.now) (λ inc. given_fault inc.crush ≡ None) }
     ensures ok { OnOk result ((log : List AnyEntry) → IsMapOf (incs_of log) map.old → entry_fault log entry.now ≡ None
         → IsMapOf (incs_of (log ++ entry.now ∷ [])) map.new) }
     ensures err { OnErr result ((incs : List Step) → IsMapOf incs map.old → IsMapOf incs map.new) }

@@ -14,16 +14,17 @@ mod answer;
 mod history;
 mod laws;
 mod line;
+mod locate;
 mod log;
 mod options;
 mod output;
+mod raw_sets;
 mod report;
 mod script;
 mod status;
 mod streams;
 #[cfg(test)]
 mod tests;
-mod want;
 
 fn main(rt: HostRuntime) -> ExitCode {
     let alloc = rt.alloc();

@@ -2,7 +2,7 @@
 
 ghost use Rattle.std.specs.Prelude.{◌≡◌, ℕ, ◌+◌, ◌-◌, ◌<◌, ◌≤◌, List, [], ◌∷◌, ◌++◌, Bool, true, false, Option, OnOk, OnErr, IfSome, IfNone, length};
 ghost use Rattle.std.specs.List.{list_any};
-ghost use Rattle.pgpeer.specs.Lines.{is_line_feed};
+ghost use Rattle.pgp_core.specs.Lines.{is_line_feed};
 ghost use Rattle.pgpeer.specs.Line.{Holds};
 ghost use Rattle.std.specs.Io.KnownBytes.{Appends};
 ghost use Rattle.pgpeer.specs.Output.{FrontWent};

@@ -1,3 +1,7 @@
 mod fakes;
 mod incrementals;
+mod peering;
 mod program;
+mod questions;
+mod reports;
+mod runs;

@@ -2,15 +2,14 @@
 ghost use Rattle.std.specs.Prelude.{◌≡◌, [], Ok, Err, None, IfOk, IfErr, IfSome, codes};
 ghost use Rattle.serde_json.specs.View.{view};
 ghost use Rattle.pgp_text.specs.LineFault.{told};
-ghost use Rattle.pgp_text.specs.Shapes.{required, optional};
-ghost use Rattle.pgp_text.specs.Ids.{word_in};
+ghost use Rattle.pgp_text.specs.Shapes.{optional};
 ghost use Rattle.pgp_text.specs.Buckets.{tree_in};
 ghost use Rattle.pgp_text.specs.Incremental.{list_at, inc_of};
 
 use super::faults::bad_field_fault;
+use super::fields::read_required;
 use super::lists::{Shape, read_list};
-use super::numbers::read_epoch;
-use pgp_ids::{BucketSpec, Epoch, Incremental, Seq, TextFault};
+use pgp_ids::{BucketSpec, Incremental, Seq, TextFault};
 use serde_json::Value;
 use std::alloc::Global;
 
@@ -23,7 +22,7 @@ pub(super) fn read_inc(alloc: Global, value: &Value) -> Result<Incremental, Text
 {
     let crush = tree_at(alloc, value)?;
     let down = list_at(alloc, value, "down")?;
-    let epoch = epoch_at(alloc, value)?;
+    let epoch = read_required(alloc, value, "epoch")?;
     let gone = list_at(alloc, value, "gone")?;
     let lost = list_at(alloc, value, "lost")?;
     let pools = list_at(alloc, value, "pools")?;
@@ -75,18 +74,5 @@ fn tree_at(alloc: Global, value: &Value) -> Result<Option<Seq<BucketSpec>>, Text
     match read_list(alloc, list)? {
         Some(buckets) => Ok(Some(buckets)),
         None => Err(bad_field_fault(alloc, "crush")),
-    }
-}
-
-/// The epoch, which the line must have.
-fn epoch_at(alloc: Global, value: &Value) -> Result<Epoch, TextFault>
-    ensures ok { IfOk result
-        (λ epoch. required (codes "epoch") word_in (view value.now) ≡ Ok epoch) }
-    ensures err { IfErr result (λ fault. IfSome (told fault)
-        (λ f. required (codes "epoch") word_in (view value.now) ≡ Err f)) }
-{
-    match value.get("epoch").and_then(read_epoch) {
-        Some(epoch) => Ok(epoch),
-        None => Err(bad_field_fault(alloc, "epoch")),
     }
 }

@@ -45,7 +45,10 @@ pub(super) fn read_list_at<T: Shape + Drop>(
     }
 }
 
-fn read_each<T: Shape + Drop>(alloc: Global, values: &[Value]) -> Result<Option<Seq<T>>, AllocError>
+pub(super) fn read_each<T: Shape + Drop>(
+    alloc: Global,
+    values: &[Value],
+) -> Result<Option<Seq<T>>, AllocError>
     ensures { IfOk result (λ found. found ≡ each T.shape (map view values.now)) }
 {
     let mut items = Seq::new(alloc);

@@ -3,9 +3,11 @@
 
 ghost use Rattle.std.specs.Prelude.{◌≡◌, ℕ, List, codes, Ok, Err};
 ghost use Rattle.pgp_text.specs.LineFault.{not_json, no_op, unknown_key, bad_field};
-ghost use Rattle.pgp_text.specs.Command.{command_of, line_with, IsInRange};
-ghost use Rattle.pgp_text.specs.Reports.{info_keys, info_of, entries_keys, entries_of, ask_keys, ask_of, locate_keys, locate_of};
-ghost use Rattle.pgp_text.specs.WorkedLines.{trace_line, trace_command, erasure_line, erasure_command, info_line, first_info, entries_line, two_entries};
+ghost use Rattle.pgp_ids.specs.declared.entry.Entry.TheVariants.{Info, Entries};
+ghost use Rattle.pgp_text.specs.Command.{command_of, line_with};
+ghost use Rattle.pgp_text.specs.Reports.{ask_keys, ask_of};
+ghost use Rattle.pgp_text.specs.WorkedLines.{trace_line, trace_command, erasure_line, erasure_command, info_line, first_info, edges_of_info_line, edges_of_info, entries_line, two_entries};
+ghost use Rattle.pgp_text.specs.declared.command.Command.TheVariants.{Submit, Locate};
 
 /// What is no JSON text: one that is cut short, one with bytes behind it, a number that overflows, and no text at all.
 pub fn no_json()
@@ -23,12 +25,9 @@ pub fn no_operation()
     ensures number { command_of (codes "{\"op\":1}") ≡ Err no_op }
 {}
 
-/// Operations that no line is read as yet.
-pub fn operations_to_come()
-    ensures info { command_of (codes "{\"op\":\"info\"}") ≡ Err no_op }
-    ensures entries { command_of (codes "{\"op\":\"entries\"}") ≡ Err no_op }
-    ensures ask { command_of (codes "{\"op\":\"ask\"}") ≡ Err no_op }
-    ensures locate { command_of (codes "{\"op\":\"locate\"}") ≡ Err no_op }
+/// An operation that no line is read as yet.
+pub fn operation_to_come()
+    ensures { command_of (codes "{\"op\":\"ask\",\"pg\":[1,0]}") ≡ Err no_op }
 {}
 
 /// Of unknown keys the least is named, and before a key that is absent.
@@ -52,18 +51,31 @@ pub fn traces()
     ensures erasure { command_of erasure_line ≡ Ok erasure_command }
 {}
 
-/// The lines of reports and questions, by the judgement of their own keys and values.
-pub fn reports_and_questions()
-    ensures info { line_with info_keys info_of info_line ≡ Ok first_info }
-    ensures entries { line_with entries_keys entries_of entries_line ≡ Ok two_entries }
-    ensures ask { line_with ask_keys ask_of (codes "{\"op\":\"ask\",\"pg\":[1,0]}")
+/// The lines of reports.
+pub fn reports()
+    ensures info { command_of info_line ≡ Ok (Submit (Info first_info)) }
+    ensures last_info { command_of edges_of_info_line ≡ Ok (Submit (Info edges_of_info)) }
+    ensures entries { command_of entries_line ≡ Ok (Submit (Entries two_entries)) }
+{}
+
+/// Where an object lies.
+pub fn locates()
+    ensures object { command_of (codes "{\"op\":\"locate\",\"pool\":1,\"name\":\"a\"}") ≡ Ok (Locate 1 (codes "a")) }
+    ensures last_pool { command_of (codes "{\"name\":\"bc\",\"op\":\"locate\",\"pool\":255}") ≡ Ok (Locate 255 (codes "bc")) }
+    ensures pool_0 { command_of (codes "{\"op\":\"locate\",\"pool\":0,\"name\":\"a\"}") ≡ Err (bad_field (codes "pool")) }
+    ensures pool_256 { command_of (codes "{\"op\":\"locate\",\"pool\":256,\"name\":\"a\"}") ≡ Err (bad_field (codes "pool")) }
+    ensures empty_name { command_of (codes "{\"op\":\"locate\",\"pool\":0,\"name\":\"\"}") ≡ Err (bad_field (codes "name")) }
+    ensures no_text { command_of (codes "{\"op\":\"locate\",\"pool\":1,\"name\":1}") ≡ Err (bad_field (codes "name")) }
+    ensures absent { command_of (codes "{\"op\":\"locate\"}") ≡ Err (bad_field (codes "name")) }
+    ensures unknown_key { command_of (codes "{\"op\":\"locate\",\"pg\":[1,0]}") ≡ Err (unknown_key (codes "pg")) }
+{}
+
+/// The lines of questions, by the judgement of their own keys and values.
+pub fn questions()
+    ensures group { line_with ask_keys ask_of (codes "{\"op\":\"ask\",\"pg\":[1,0]}")
         ≡ Ok (record { pool = 1; pg = 0 }) }
-    ensures ask_unknown_key { line_with ask_keys ask_of
+    ensures unknown_key { line_with ask_keys ask_of
         (codes "{\"op\":\"ask\",\"pg\":[1,0],\"z\":1,\"x\":1}") ≡ Err (unknown_key (codes "x")) }
-    ensures ask_bad_pool { line_with ask_keys ask_of (codes "{\"op\":\"ask\",\"pg\":[0,0]}")
+    ensures pool_0 { line_with ask_keys ask_of (codes "{\"op\":\"ask\",\"pg\":[0,0]}")
         ≡ Err (bad_field (codes "pg")) }
-    ensures locate { line_with locate_keys locate_of
-        (codes "{\"op\":\"locate\",\"pool\":1,\"name\":\"a\"}") ≡ Ok (1, codes "a") }
-    ensures empty_name { line_with locate_keys locate_of
-        (codes "{\"op\":\"locate\",\"pool\":0,\"name\":\"\"}") ≡ Err (bad_field (codes "name")) }
 {}

@@ -5,6 +5,7 @@ ghost use Rattle.std.specs.Prelude.{◌≡◌, [], ◌∷◌, codes, IfSome, Str
 ghost use Rattle.std.specs.Global.{Global};
 ghost use Rattle.serde_json.specs.Written.{compact_text};
 ghost use Rattle.pgp_ids.specs.declared.ask_refusal.AskRefusal.TheVariants as ask;
+ghost use Rattle.pgp_ids.specs.declared.locate_refusal.LocateRefusal.TheVariants as locate;
 ghost use Rattle.pgp_ids.specs.declared.refusal.Refusal.TheVariants as entry;
 ghost use Rattle.pgp_ids.specs.declared.text_fault.TextFault.{TextFault};
 ghost use Rattle.pgp_ids.specs.declared.text_fault.TextFault.TheVariants as line;
@@ -14,7 +15,7 @@ ghost use Rattle.pgp_text.specs.Reply.{reply_text};
 ghost use Rattle.pgp_text.specs.WorkedReplies.{members_with_holes, interval_with_holes, traced_answer, located_answer, known_view, asked_answer};
 ghost use Rattle.pgp_text.specs.declared.reply.Reply.TheVariants.{Accepted, Asked, Located, Traced, Refused};
 ghost use Rattle.pgp_text.specs.declared.reply.entry_op.EntryOp.TheVariants as op;
-ghost use Rattle.pgp_text.specs.declared.reply.refused.Refused.TheVariants.{Line, Entry, Ask};
+ghost use Rattle.pgp_text.specs.declared.reply.refused.Refused.TheVariants.{Line, Entry, Ask, Locate};
 
 /// Entries that the log took.
 pub fn accepted()
@@ -54,6 +55,8 @@ pub fn refused_commands()
         ≡ codes "{\"code\":40,\"refused\":\"UnknownGroup\"}" }
     ensures ask_memory { reply_text (Refused (Ask ask.Memory))
         ≡ codes "{\"code\":41,\"refused\":\"Memory\"}" }
+    ensures unknown_pool { reply_text (Refused (Locate locate.UnknownPool))
+        ≡ codes "{\"code\":42,\"refused\":\"UnknownPool\"}" }
 {}
 
 /// What is written of a line's fault by what the line has for one.

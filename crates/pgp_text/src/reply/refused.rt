@@ -3,7 +3,7 @@ ghost use Rattle.std.specs.Prelude.{◌≡◌, option_map, IfOk};
 ghost use Rattle.serde_json.specs.View.{view};
 ghost use Rattle.pgp_text.specs.Refused.{fault_name, fault_key, refused_number, refused_name, refused_key, refused_tree, refused_data};
 
-use pgp_ids::{AskRefusal, Refusal, TextFault};
+use pgp_ids::{AskRefusal, LocateRefusal, Refusal, TextFault};
 use serde_json::{Value, json};
 use std::alloc::{AllocError, Global};
 
@@ -14,8 +14,10 @@ pub enum Refused {
     Line(TextFault),
     /// The log doesn't take the entry.
     Entry(Refusal),
-    /// The question has no answer.
+    /// The question about a group has no answer.
     Ask(AskRefusal),
+    /// The question where an object lies has no answer.
+    Locate(LocateRefusal),
 }
 
 impl Refused {
@@ -27,6 +29,7 @@ impl Refused {
             Refused::Line(fault) => fault.number(),
             Refused::Entry(refusal) => refusal.number(),
             Refused::Ask(refusal) => refusal.number(),
+            Refused::Locate(refusal) => refusal.number(),
         }
     }
 
@@ -38,6 +41,7 @@ impl Refused {
             Refused::Line(fault) => fault_name(fault),
             Refused::Entry(refusal) => refusal.name(),
             Refused::Ask(refusal) => refusal.name(),
+            Refused::Locate(refusal) => refusal.name(),
         }
     }
 

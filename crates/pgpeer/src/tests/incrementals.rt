@@ -1,88 +1,85 @@
 //! Scripts of map incrementals.
 
-use super::program::run_with;
+use super::runs::{expect, run_with};
 use crate::status::DONE;
 use std::alloc::{AllocError, Global};
 use std::process::Abort;
 use std::test::Fail;
-
-/// Runs the script and compares its answers, line by line.
-fn expect(rt: &impl Abort, alloc: Global, script: &str, answers: &str) -> Result<(), Fail> {
-    let (status, out, _) = run_with(alloc, &["pgpeer", "run"], script.as_bytes())?;
-    assert_eq!(rt; status, DONE);
-    assert_eq!(rt; out.as_slice(), answers.as_bytes(), "{script}");
-    Ok(())
-}
 
 /// The answer to an incremental that is taken as the first entries.
 fn taken(alloc: Global, count: u32) -> Result<String, Fail> {
     Ok(format!(in alloc; "{{\"count\":{count},\"epoch\":{count},\"ok\":\"inc\"}}\n")?)
 }
 
+/// Judges an incremental of this epoch with these keys, after these lines and their answers.
+fn judge(
+    rt: &impl Abort,
+    alloc: Global,
+    lines: &str,
+    answers: &str,
+    epoch: u32,
+    rows: &[(&str, Option<&str>)],
+) -> Result<(), Fail> {
+    for (keys, refusal) in rows {
+        let script = format!(in alloc; "{lines}{{\"op\":\"inc\",\"epoch\":{epoch},{keys}}}\n")?;
+        let answer = match refusal {
+            Some(refusal) => format!(in alloc; "{answers}{refusal}\n")?,
+            None => {
+                let now = taken(alloc, epoch)?;
+                format!(in alloc; "{answers}{now}")?
+            }
+        };
+        expect(rt, alloc, script.as_str(), answer.as_str())?;
+    }
+    Ok(())
+}
+
 #[test]
-fn judges_incrementals(rt: HostRuntime) -> Result<(), Fail> {
-    let alloc = rt.alloc();
-    for (second, keys, refusal) in [
+fn judges_first_incrementals(rt: HostRuntime) -> Result<(), Fail> {
+    let rows = [
         (
-            false,
             r#""weight":[[0,0]]"#,
             Some(r#"{"code":12,"refused":"UnknownDevice"}"#),
         ),
-        (false, r#""up":[0],"weight":[[0,0]]"#, None),
+        (r#""up":[0],"weight":[[0,0]]"#, None),
         (
-            false,
             r#""up":[0],"lost":[[0,1]]"#,
             Some(r#"{"code":15,"refused":"StillUp"}"#),
         ),
+    ];
+    judge(&rt, rt.alloc(), "", "", 1, &rows)
+}
+
+#[test]
+fn judges_second_incrementals(rt: HostRuntime) -> Result<(), Fail> {
+    let rows = [
+        (r#""gone":[0]"#, Some(r#"{"code":15,"refused":"StillUp"}"#)),
         (
-            true,
-            r#""gone":[0]"#,
-            Some(r#"{"code":15,"refused":"StillUp"}"#),
-        ),
-        (
-            true,
             r#""down":[0],"gone":[0]"#,
             Some(r#"{"code":11,"refused":"Twice"}"#),
         ),
-        (true, r#""down":[0],"lost":[[0,2]]"#, None),
+        (r#""down":[0],"lost":[[0,2]]"#, None),
         (
-            true,
             r#""down":[0],"lost":[[0,3]]"#,
             Some(r#"{"code":17,"refused":"Ahead"}"#),
         ),
         (
-            true,
             r#""sizes":[[1,1,1]]"#,
             Some(r#"{"code":18,"refused":"BadPool"}"#),
         ),
         (
-            true,
             r#""temp":[[1,0,[0]]]"#,
             Some(r#"{"code":20,"refused":"BadTemp"}"#),
         ),
-    ] {
-        let epoch = if second { 2u32 } else { 1 };
-        let first = if second {
-            "{\"op\":\"inc\",\"epoch\":1,\"up\":[0]}\n"
-        } else {
-            ""
-        };
-        let before = if second {
-            taken(alloc, 1)?
-        } else {
-            String::new(alloc)
-        };
-        let script = format!(in alloc; "{first}{{\"op\":\"inc\",\"epoch\":{epoch},{keys}}}\n")?;
-        let answer = match refusal {
-            Some(refusal) => format!(in alloc; "{before}{refusal}\n")?,
-            None => {
-                let now = taken(alloc, epoch)?;
-                format!(in alloc; "{before}{now}")?
-            }
-        };
-        expect(&rt, alloc, script.as_str(), answer.as_str())?;
-    }
-    Ok(())
+    ];
+    judge(
+        &rt,
+        rt.alloc(),
+        "{\"op\":\"inc\",\"epoch\":1,\"up\":[0]}\n",
+        "{\"count\":1,\"epoch\":1,\"ok\":\"inc\"}\n",
+        2,
+        &rows,
+    )
 }
 
 #[test]
@@ -123,7 +120,7 @@ fn judges_lines(rt: HostRuntime) -> Result<(), Fail> {
             r#"{"op":"inc","epoch":9,"epoch":1}"#,
             "{\"count\":1,\"epoch\":1,\"ok\":\"inc\"}\n",
         ),
-        (r#"{"op":"info"}"#, "{\"code\":32,\"refused\":\"NoOp\"}\n"),
+        (r#"{"op":"peer"}"#, "{\"code\":32,\"refused\":\"NoOp\"}\n"),
     ] {
         expect(&rt, alloc, line, answer)?;
     }

@@ -1,10 +1,11 @@
 //! The program over readers and writers of every kind.
 
 use super::fakes::{Endless, Giver, Taker};
+use super::runs::{expect, run_with};
 use crate::script::{Bounds, ScriptFault, run_within};
 use crate::status::{DONE, FAULT, USAGE, status_of};
 use crate::streams::Watched;
-use std::alloc::Global;
+use std::alloc::{AllocError, Global};
 use std::io::{Read, Write};
 use std::test::Fail;
 
@@ -16,28 +17,6 @@ const ANSWERS: &[u8] =
     b"{\"code\":34,\"key\":\"epochs\",\"refused\":\"BadField\"}\n{\"code\":31,\"refused\":\"NotJson\"}\n{\"code\":32,\"refused\":\"NoOp\"}\n";
 
 const NEVER: usize = usize::MAX;
-
-/// What a run with these words and this script answers: its status, output and errors.
-pub fn run_with(
-    alloc: Global,
-    words: &[&str],
-    script: &[u8],
-) -> Result<(u8, Vec<u8>, Vec<u8>), Fail> {
-    let mut given = Vec::new(alloc);
-    for word in words {
-        given.push(String::from_str(alloc, word)?)?;
-    }
-    let mut out = Watched::new(Vec::new(alloc));
-    let mut errors = Vec::new(alloc);
-    let status = status_of(
-        alloc,
-        given.as_slice(),
-        &mut Watched::new(script),
-        &mut out,
-        &mut errors,
-    );
-    Ok((status, out.into_inner(), errors))
-}
 
 /// How a run over these streams ended, and the writer after it.
 fn run_over<R: Read + Drop, W: Write + Drop>(
@@ -59,55 +38,55 @@ fn wide() -> Bounds {
     }
 }
 
+/// The beginning of a trace in whose first epoch the primary is known to have been up through this one.
+fn opening(alloc: Global, up_thru: u8) -> Result<String, AllocError> {
+    format!(in alloc;
+        "{{\"op\":\"trace\",\"code\":{{\"kind\":\"replicated\"}},\"epochs\":[{{\"up\":[0,1],\"acting\":[0,1],\"size\":2,\"min_size\":1,\"up_from\":1,\"up_thru\":{up_thru}}}"
+    )
+}
+
+/// The answer to a trace whose third epoch begins a new interval.
+fn past(alloc: Global, rw: bool) -> Result<String, AllocError> {
+    format!(in alloc;
+        "{{\"first\":3,\"intervals\":[{{\"acting\":[0,1],\"acting_primary\":0,\"first\":1,\"last\":2,\"min_size\":1,\"rw\":{rw},\"size\":2,\"up\":[0,1],\"up_primary\":0}}],\"ok\":\"trace\"}}\n"
+    )
+}
+
 #[test]
-fn answers_scripts(rt: HostRuntime) -> Result<(), Fail> {
-    let traced =
-        "{\"op\":\"trace\",\"code\":{\"kind\":\"replicated\"},\"epochs\":[{\"up\":[0,1],\"acting\":[0,1],\"size\":2,\"min_size\":1,\"up_from\":1,\"up_thru\":0}";
+fn answers_traces(rt: HostRuntime) -> Result<(), Fail> {
+    let alloc = rt.alloc();
     let same =
         ",{\"up\":[0,1],\"acting\":[0,1],\"size\":2,\"min_size\":1,\"up_from\":1,\"up_thru\":1}";
+    let lost =
+        ",{\"up\":[0,1],\"acting\":[0,1],\"size\":2,\"min_size\":1,\"up_from\":1,\"up_thru\":0}";
     let alone =
         ",{\"up\":[0],\"acting\":[0],\"size\":2,\"min_size\":1,\"up_from\":1,\"up_thru\":1}";
     let careful =
         ",{\"up\":[0,1],\"acting\":[0,1],\"size\":2,\"min_size\":2,\"up_from\":1,\"up_thru\":1}";
-    let recorded =
-        "{\"op\":\"trace\",\"code\":{\"kind\":\"replicated\"},\"epochs\":[{\"up\":[0,1],\"acting\":[0,1],\"size\":2,\"min_size\":1,\"up_from\":1,\"up_thru\":1}";
-    let lost =
-        ",{\"up\":[0,1],\"acting\":[0,1],\"size\":2,\"min_size\":1,\"up_from\":1,\"up_thru\":0}";
-    let past = |rw: &str| {
-        format!(in rt.alloc();
-            "{{\"first\":3,\"intervals\":[{{\"acting\":[0,1],\"acting_primary\":0,\"first\":1,\"last\":2,\"min_size\":1,\"rw\":{rw},\"size\":2,\"up\":[0,1],\"up_primary\":0}}],\"ok\":\"trace\"}}\n"
-        )
-    };
-    let alloc = rt.alloc();
-    let cases = [
-        (format!(in alloc; "")?, format!(in alloc; "")?),
-        (
-            format!(in alloc; "{traced}]}}\n")?,
-            format!(in alloc; "{{\"first\":1,\"intervals\":[],\"ok\":\"trace\"}}\n")?,
-        ),
-        (
-            format!(in alloc; "{traced}{same}{alone}]}}")?,
-            past("true")?,
-        ),
-        (
-            format!(in alloc; "{recorded}{lost}{alone}]}}\r\n")?,
-            past("false")?,
-        ),
-        (
-            format!(in alloc; "{traced}{same}{careful}]}}\n")?,
-            past("true")?,
-        ),
-        (format!(in alloc; "   \n")?, format!(in alloc; "")?),
-    ];
-    for (script, answers) in &cases {
-        let (status, out, errors) = run_with(alloc, &["pgpeer", "run"], script.as_bytes())?;
+    let one = String::from_str(alloc, "{\"first\":1,\"intervals\":[],\"ok\":\"trace\"}\n")?;
+    for (up_thru, epochs, end, answer) in [
+        (0, ["", ""], "\n", one),
+        (0, [same, alone], "", past(alloc, true)?),
+        (1, [lost, alone], "\r\n", past(alloc, false)?),
+        (0, [same, careful], "\n", past(alloc, true)?),
+    ] {
+        let traced = opening(alloc, up_thru)?;
+        let [second, third] = epochs;
+        let script = format!(in alloc; "{traced}{second}{third}]}}{end}")?;
+        expect(&rt, alloc, script.as_str(), answer.as_str())?;
+    }
+    Ok(())
+}
+
+/// An empty script and a blank line have no answer, and faults have theirs.
+#[test]
+fn answers_scripts(rt: HostRuntime) -> Result<(), Fail> {
+    for (script, answers) in [(&b""[..], &b""[..]), (b"   \n", b""), (SCRIPT, ANSWERS)] {
+        let (status, out, errors) = run_with(rt.alloc(), &["pgpeer", "run"], script)?;
         assert_eq!(rt; status, DONE);
-        assert_eq!(rt; out.as_slice(), answers.as_bytes());
+        assert_eq!(rt; out.as_slice(), answers);
         assert!(rt; errors.is_empty());
     }
-    let (status, out, _) = run_with(alloc, &["pgpeer", "run"], SCRIPT)?;
-    assert_eq!(rt; status, DONE);
-    assert_eq!(rt; out.as_slice(), ANSWERS);
     Ok(())
 }
 

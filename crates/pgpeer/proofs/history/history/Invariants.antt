@@ -1,6 +1,6 @@
 use Rattle.std.proofs.Common.{◌≡◌, ◌++◌}
 use Rattle.std.specs.Vec.Iter.{into_iter_items}
-use Rattle.pgpeer.specs.History.{last_state, told_history}
+use Rattle.pgp_core.specs.ToldHistory.{last_state, told_history}
 use Rattle.pgpeer.proofs.history.history.Given as goal
 
 abbrev pub invariant-loop-state : goal.invariant-loop-state

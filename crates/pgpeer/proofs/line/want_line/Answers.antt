@@ -1,8 +1,8 @@
 use Rattle.std.proofs.Common.{◌≡◌, [], ◌∷◌, ◌++◌, codes, refl, sym, ap, ◌∙◌}
 use Rattle.std.specs.Fmt.{digits}
 use Rattle.serde_json.proofs.OnLiterals.{serde_json_on_literals}
-use Rattle.pgpeer.specs.Script.{want_text}
-use Rattle.pgpeer.specs.declared.want.Want.TheVariants.{Line, Entry}
+use Rattle.pgp_core.specs.Script.{want_text}
+use Rattle.pgp_core.specs.declared.want.Want.TheVariants.{Line, Entry}
 use Rattle.pgpeer.proofs.line.want_line.Goals as goal
 
 pub returns-in-Line : goal.returns-in-Line

@@ -7,9 +7,7 @@ use Rattle.pgp_missing.proofs.entries.Entries.put.Goals as goal
 
 pub invariant_of-self-2 : goal.invariant_of-self-2
 invariant_of-self-2 c =
-    let e = c.args.entry.now in
-    let copy : LogEntry = record { version = e.version; change = e.change; object = c.in_ok-clone.field-0 } in
-    (c.in_ok-insert.ensures.ordered, rw c.in_ok-insert.ensures.entries (keyed-insert copy c.self.inside.by_number.entries c.self.invariant.1))
+    (c.in_ok-insert.ensures.ordered, rw c.in_ok-insert.ensures.entries (keyed-insert _ c.self.inside.by_number.entries c.self.invariant.1))
 
 pub returns-clause-ok : goal.returns-clause-ok
 returns-clause-ok c =

@@ -1,4 +1,4 @@
--- The history that a trace tells.
+-- The history that a trace tells of one group.
 use Rattle.std.specs.Prelude.{List, [], ◌∷◌, length, take}
 use Rattle.pgp_code.specs.declared.any.AnyCode.{AnyCode}
 use Rattle.pgp_ids.specs.declared.history.EpochState.{EpochState}

@@ -1,4 +1,4 @@
--- What is written for a script.
+-- The text of a script: what is written for its lines, where some of them may have met want of memory.
 use Rattle.std.specs.Prelude.{◌≡◌, ℕ, ◌≤◌, List, [], ◌∷◌, ◌++◌, Option, Some, None, Ok, nat_lt, length, take, if◌then◌else◌}
 use Rattle.pgp_ids.specs.declared.entry.Entry.{Entry}
 use Rattle.pgp_ids.specs.declared.refusal.Refusal.TheVariants as refusal
@@ -8,10 +8,10 @@ use Rattle.pgp_text.specs.Reply.{reply_text}
 use Rattle.pgp_text.specs.declared.command.Command.TheVariants.{Submit}
 use Rattle.pgp_text.specs.declared.reply.Reply.TheVariants.{Refused}
 use Rattle.pgp_text.specs.declared.reply.refused.Refused.TheVariants as why
-use Rattle.pgpeer.specs.Answer.{line_text, line_log, long_text}
-use Rattle.pgpeer.specs.Lines.{cut, lines_of, is_blank}
-use Rattle.pgpeer.specs.declared.want.Want.{Want}
-use Rattle.pgpeer.specs.declared.want.Want.TheVariants as want
+use Rattle.pgp_core.specs.Answer.{line_text, line_log, long_text}
+use Rattle.pgp_core.specs.Lines.{cut, lines_of, is_blank}
+use Rattle.pgp_core.specs.declared.want.Want.{Want}
+use Rattle.pgp_core.specs.declared.want.Want.TheVariants as want
 
 -- how many bytes a line has at most
 abbrev pub longest_line : ℕ
@@ -82,3 +82,7 @@ pub record Within (lines bytes : ℕ) (script : List ℕ) : Type 0 where
 -- the lines that a line feed ends, of a script that is cut off at these bounds
 abbrev pub lines_before_cut : ℕ → ℕ → List ℕ → List (List ℕ)
 lines_before_cut lines bytes script = take lines (cut (take bytes script)).whole
+
+-- the bytes that are written for a script, where its lines met these wants of memory
+abbrev pub script_text : List (Option Want) → List ℕ → List ℕ
+script_text met script = answers [] met (lines_of script)

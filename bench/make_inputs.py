@@ -1,0 +1,149 @@
+#!/usr/bin/env python3
+"""Makes the large scripts that measure.py runs.
+
+    bench/make_inputs.py [FOLDER]
+
+Writes into FOLDER (by default bench/out) these files, which are the same at every call:
+
+  locate.jsonl    one incremental, and then 200,000 look-ups of objects in its map: 256 devices in 32 hosts in 8 racks,
+                  a replicated and an erasure pool of 512 groups each, some devices out, some groups with a pg_temp list
+  incs.jsonl      2,000 incrementals: the first makes 64 devices, their tree and a pool, each later one takes devices
+                  down, boots others and tells of up_thru
+  traces.jsonl    500 traces, each as long as a line of at most 1,048,576 bytes may be, with lists of 16 places
+  empty.jsonl     nothing, for what a start takes
+
+and beside each NAME.jsonl a NAME.tenth.jsonl with the first tenth of its lines.
+"""
+
+import json
+import os
+import random
+import sys
+
+LONGEST_LINE = 1048576  # bytes, without the line feed
+MOST_EPOCHS = 4096  # of one trace
+IN = 0x10000  # the weight of a device that takes its whole share
+
+DEVICE, HOST, RACK, ROOT = range(4)  # the types of the tree
+
+
+def compact(value):
+    return json.dumps(value, separators=(",", ":"))
+
+
+def tree(racks, hosts, devices):
+    """Gives the buckets of a tree of so many racks, hosts in each and devices in each of these, all of one weight."""
+    rack_ids = [-2 - rack for rack in range(racks)]
+    buckets = [bucket(-1, ROOT, rack_ids, hosts * devices)]
+    host_ids = [-2 - racks - host for host in range(racks * hosts)]
+    for rack, name in enumerate(rack_ids):
+        buckets.append(bucket(name, RACK, host_ids[rack * hosts : (rack + 1) * hosts], devices))
+    for host, name in enumerate(host_ids):
+        items = list(range(host * devices, (host + 1) * devices))
+        buckets.append({"id": name, "type": HOST, "alg": "uniform", "items": items})
+    return buckets
+
+
+def bucket(name, kind, items, devices):
+    """Gives a list bucket whose items hold so many devices each."""
+    return {"id": name, "type": kind, "alg": "list", "items": items, "weights": [devices * IN] * len(items)}
+
+
+def locate(rng, count):
+    """Gives a map of 256 devices and 1,024 groups, and then look-ups in it."""
+    devices = range(256)
+    shuffled = rng.sample(devices, 24)
+    replicated = {"id": 1, "pg_num": 512, "kind": "replicated", "size": 3, "min_size": 2, "leaf": RACK}
+    erasure = {"id": 2, "pg_num": 512, "kind": "erasure", "k": 4, "size": 6, "min_size": 5, "leaf": HOST}
+    temps = [[1, pg, rng.sample(devices, 3)] for pg in rng.sample(range(512), 16)]
+    temps += [[2, pg, rng.sample(devices, 6)] for pg in rng.sample(range(512), 16)]
+    yield compact({
+        "op": "inc",
+        "epoch": 1,
+        "up": list(devices),
+        "weight": [[osd, 0] for osd in shuffled[:8]] + [[osd, IN // 2] for osd in shuffled[8:]],
+        "pools": [replicated, erasure],
+        "temp": temps,
+        "crush": tree(8, 4, 8),
+    })
+    images = [f"{rng.getrandbits(48):012x}" for _ in range(100)]
+    for _ in range(count):
+        name = f"rbd_data.{rng.choice(images)}.{rng.randrange(1 << 20):016x}"
+        yield compact({"op": "locate", "pool": rng.choice([1, 2]), "name": name})
+
+
+def incs(rng, count):
+    """Gives incrementals: the first makes 64 devices, the others take some down and boot others."""
+    up, down = list(range(64)), []
+    pool = {"id": 1, "pg_num": 256, "kind": "replicated", "size": 3, "min_size": 2, "leaf": HOST}
+    yield compact({"op": "inc", "epoch": 1, "up": up, "pools": [pool], "crush": tree(4, 4, 4)})
+    for epoch in range(2, count + 1):
+        falls = rng.sample(up, rng.randint(1, 3))
+        boots = rng.sample(down, len(down) - 8) if len(down) > 8 else []
+        up = [osd for osd in up if osd not in falls] + boots
+        down = [osd for osd in down if osd not in boots] + falls
+        told = [[osd, epoch] for osd in rng.sample(up, 4)]
+        yield compact({"op": "inc", "epoch": epoch, "up": boots, "down": falls, "up_thru": told})
+
+
+def traces(rng, count):
+    """Gives traces, by turns of a replicated and of an erasure pool."""
+    for number in range(count):
+        code = {"kind": "erasure", "k": 11} if number % 2 else {"kind": "replicated"}
+        head, tail = f'{{"op": "trace", "code": {json.dumps(code)}, "epochs": [', "]}"
+        left = LONGEST_LINE - len(head) - len(tail)
+        epochs = []
+        for epoch in history(rng, code["kind"]):
+            text = json.dumps(epoch)
+            left -= len(text) + len(", ")
+            if left < 0 or len(epochs) == MOST_EPOCHS:
+                break
+            epochs.append(text)
+        yield head + ", ".join(epochs) + tail
+
+
+def history(rng, kind):
+    """Gives the epochs of a group of 16 places. About every eighth begins an interval."""
+    up = rng.sample(range(1000, 4096), 16)
+    acting, up_from, up_thru, epoch = up, 1, 0, 0
+    while True:
+        epoch += 1
+        if rng.randrange(8) == 0:
+            before, up = up, replaced(rng, up, kind)
+            acting = before if rng.randrange(4) == 0 else up
+            up_from = rng.randint(1, epoch)
+        elif rng.randrange(2) == 0:
+            up_thru = epoch
+        yield {"up": up, "acting": acting, "size": 16, "min_size": 12, "up_from": up_from, "up_thru": up_thru}
+
+
+def replaced(rng, devices, kind):
+    """Gives the list with another device at one place, or in an erasure pool sometimes with none."""
+    place, osd = rng.randrange(16), rng.randrange(1000, 4096)
+    if kind == "erasure" and rng.randrange(4) == 0:
+        osd = None
+    return devices[:place] + [osd] + devices[place + 1 :]
+
+
+def empty(_rng, _count):
+    """Gives no line."""
+    return ()
+
+
+INPUTS = {"locate": (locate, 200_000), "incs": (incs, 2_000), "traces": (traces, 500), "empty": (empty, 0)}
+
+
+def main(folder):
+    os.makedirs(folder, exist_ok=True)
+    for name, (make, count) in INPUTS.items():
+        with open(f"{folder}/{name}.jsonl", "w") as whole, open(f"{folder}/{name}.tenth.jsonl", "w") as tenth:
+            for number, line in enumerate(make(random.Random(name), count)):
+                whole.write(line + "\n")
+                if number < count // 10:
+                    tenth.write(line + "\n")
+
+
+if __name__ == "__main__":
+    if len(sys.argv) > 2 or sys.argv[1:2] in (["-h"], ["--help"]):
+        sys.exit(__doc__)
+    main(sys.argv[1] if sys.argv[1:] else os.path.join(os.path.dirname(os.path.abspath(__file__)), "out"))

@@ -1,0 +1,148 @@
+#!/usr/bin/env python3
+"""Measures pgpeer on large scripts, beside jq on the same ones.
+
+    bench/measure.py [--program PATH] [--inputs FOLDER] [--runs N] [NAME...]
+
+PATH is the built program (by default crates/pgpeer/out/pgpeer) and FOLDER what make_inputs.py wrote (by default
+bench/out). NAME is one of locate, incs, traces and empty; without one all are run. The yardstick is `jq -c .`, which
+reads and prints the same lines. The two run N times each (by default 5), by turns, one at a time, and print to nowhere.
+Prints two tables in Markdown, of time and of memory. Needs jq and GNU time (Debian: jq and time).
+
+Seconds are of the processor, in the program and in the system on its behalf, since those change least with what else
+the machine does. A script to whose lines the program doesn't answer `ok`, each in turn, is told of and not measured.
+"""
+
+import argparse
+import os
+import shutil
+import statistics
+import subprocess
+import sys
+import tempfile
+import time
+from typing import NamedTuple
+
+HERE = os.path.dirname(os.path.abspath(__file__))
+NAMES = ("locate", "incs", "traces", "empty")
+
+
+class Run(NamedTuple):
+    """What one run took: seconds of the processor, seconds that went by, and MiB of memory at its peak."""
+
+    cpu: float
+    elapsed: float
+    peak: float
+
+
+def measure(command, script):
+    """Runs the command on the script."""
+    with open(script, "rb") as lines, tempfile.NamedTemporaryFile("r") as peak:
+        before = time.perf_counter()
+        timed = ["/usr/bin/time", "-f", "%M", "-o", peak.name, *command]
+        child = subprocess.Popen(timed, stdin=lines, stdout=subprocess.DEVNULL)
+        _, status, usage = os.wait4(child.pid, 0)
+        elapsed = time.perf_counter() - before
+        child.returncode = os.waitstatus_to_exitcode(status)
+        if child.returncode != 0:
+            sys.exit(f"{command[0]} ended with status {child.returncode} on {script}")
+        return Run(usage.ru_utime + usage.ru_stime, elapsed, int(peak.read()) / 1024)
+
+
+def line_count(script):
+    with open(script, "rb") as lines:
+        return sum(1 for _ in lines)
+
+
+def fault_of(command, script):
+    """Says what is wrong with the program's answers to the script, or gives None where each line is answered `ok`."""
+    with open(script, "rb") as lines:
+        answers = subprocess.run(command, stdin=lines, stdout=subprocess.PIPE).stdout.splitlines()
+    for answer in answers:
+        if b'"ok":' not in answer:
+            return answer.decode()
+    expected = line_count(script)
+    return None if len(answers) == expected else f"{len(answers)} answers to {expected} lines"
+
+
+def alternate(commands, script, runs):
+    """Runs the commands by turns, and gives for each the list of its runs."""
+    found = [[] for _ in commands]
+    for _ in range(runs):
+        for command, list_of in zip(commands, found):
+            list_of.append(measure(command, script))
+    return found
+
+
+def seconds(runs):
+    """Gives the least seconds of the processor, and the median."""
+    values = [it.cpu for it in runs]
+    return f"{min(values):.3f} / {statistics.median(values):.3f}"
+
+
+def ratio(ours, theirs, part):
+    """Gives the ratio of the least values, and the median of the ratios of the runs that stood side by side."""
+    ours, theirs = [getattr(it, part) for it in ours], [getattr(it, part) for it in theirs]
+    pairs = statistics.median(left / right for left, right in zip(ours, theirs))
+    return f"{min(ours) / min(theirs):.2f} / {pairs:.2f}"
+
+
+def time_row(name, script, ours, theirs):
+    """Gives the row of the first table."""
+    return [
+        name,
+        f"{line_count(script):,}",
+        f"{os.path.getsize(script):,}",
+        seconds(ours),
+        seconds(theirs),
+        ratio(ours, theirs, "cpu"),
+        ratio(ours, theirs, "elapsed"),
+        f"{line_count(script) / min(it.cpu for it in ours):,.0f}",
+    ]
+
+
+def memory_row(name, ours, theirs, tenth):
+    """Gives the row of the second table: the greatest peaks."""
+    return [name] + [f"{max(it.peak for it in runs):.1f}" for runs in (ours, *tenth, theirs)]
+
+
+def table(head, rows):
+    """Gives a table in Markdown, its first column to the left."""
+    rules = ["---"] + ["---:"] * (len(head) - 1)
+    return "\n".join("| " + " | ".join(row) + " |" for row in [head, rules, *rows])
+
+
+def lacking(options):
+    """Says what has to be there before a run and isn't."""
+    for command, how in ((options.program, "`rt run` in crates/pgpeer builds it"), ("jq", ""), ("/usr/bin/time", "")):
+        if not shutil.which(command):
+            return f"{command} isn't there. {how}"
+    return None if os.path.isdir(options.inputs) else f"{options.inputs} isn't there. bench/make_inputs.py makes it"
+
+
+def main(options):
+    if lacking(options):
+        sys.exit(lacking(options))
+    ours, yardstick = [os.path.abspath(options.program), "run"], ["jq", "-c", "."]
+    times, memory = [], []
+    for name in options.names or NAMES:
+        script, tenth = f"{options.inputs}/{name}.jsonl", f"{options.inputs}/{name}.tenth.jsonl"
+        fault = fault_of(ours, script)
+        if fault:
+            print(f"{name} isn't measured: {fault}\n")
+            continue
+        runs = alternate([ours, yardstick], script, options.runs)
+        times.append(time_row(name, script, *runs))
+        memory.append(memory_row(name, *runs, alternate([ours], tenth, 1)))
+    pair = "least / median"
+    head = ["script", "lines", "bytes", f"pgpeer, s ({pair})", f"jq, s ({pair})", f"ratio ({pair})"]
+    print(table([*head, f"ratio of elapsed time ({pair})", "lines a second"], times), end="\n\n")
+    print(table(["script", "pgpeer, MiB", "pgpeer on a tenth, MiB", "jq, MiB"], memory))
+
+
+if __name__ == "__main__":
+    parser = argparse.ArgumentParser(description=__doc__, formatter_class=argparse.RawDescriptionHelpFormatter)
+    parser.add_argument("--program", default=f"{HERE}/../crates/pgpeer/out/pgpeer")
+    parser.add_argument("--inputs", default=f"{HERE}/out")
+    parser.add_argument("--runs", type=int, default=5)
+    parser.add_argument("names", nargs="*", metavar="NAME")
+    main(parser.parse_args())

@@ -1,0 +1,44 @@
+//! The text of small scripts.
+#![tactic(auto, unfolding(crate::specs::Worked::scripts_computed))]
+
+ghost use Rattle.std.specs.Prelude.{◌≡◌, List, ℕ, [], ◌∷◌, ◌++◌, Option, Some, None, codes, replicate};
+ghost use Rattle.pgp_core.specs.declared.want.Want.{Want};
+ghost use Rattle.pgp_core.specs.declared.want.Want.TheVariants.{Line, Entry};
+ghost use Rattle.pgp_core.specs.Script.{script_text};
+ghost use Rattle.pgp_core.specs.Examples.{without_want, copies_line, copies_located};
+
+/// An empty script has no answer, nor has a line of blanks.
+pub fn scripts_without_answers()
+    ensures empty { script_text [] [] ≡ [] }
+    ensures blank { script_text (without_want 2) (codes "   \n\r\n") ≡ [] }
+{}
+
+/// Each line is judged by the lines before it. A last line without a line feed counts, and a line feed ends its answer too.
+pub fn scripts_of_incrementals()
+    ensures gap { script_text (without_want 2) (codes "{\"op\":\"inc\",\"epoch\":2}\n{\"op\":\"inc\",\"epoch\":1}")
+        ≡ codes "{\"code\":10,\"refused\":\"EpochGap\"}\n{\"count\":1,\"epoch\":1,\"ok\":\"inc\"}\n" }
+    ensures closed { script_text (without_want 2) (codes "{\"op\":\"close\"}\n{\"op\":\"inc\",\"epoch\":1}\n")
+        ≡ codes "{\"count\":1,\"epoch\":0,\"ok\":\"close\"}\n{\"code\":64,\"refused\":\"Closed\"}\n" }
+    ensures tree { script_text (without_want 1) (codes "{\"op\":\"inc\",\"epoch\":1,\"crush\":[]}\n")
+        ≡ codes "{\"code\":21,\"refused\":\"TreeFault\",\"tree\":1}\n" }
+{}
+
+/// A line that is no command has no effect.
+pub fn scripts_with_faults()
+    ensures { script_text (without_want 3) (codes "{\"op\":\"close\"\n[]\n{\"op\":\"close\"}\n")
+        ≡ codes "{\"code\":31,\"refused\":\"NotJson\"}\n{\"code\":32,\"refused\":\"NoOp\"}\n{\"count\":1,\"epoch\":0,\"ok\":\"close\"}\n" }
+{}
+
+/// A line that met want of memory has one of the two constant texts, and no effect.
+pub fn scripts_that_want_memory()
+    ensures entry { script_text (Some Entry ∷ None ∷ []) (codes "{\"op\":\"close\"}\n{\"op\":\"close\"}\n")
+        ≡ codes "{\"code\":51,\"refused\":\"Memory\"}\n{\"count\":1,\"epoch\":0,\"ok\":\"close\"}\n" }
+    ensures line { script_text (Some Line ∷ None ∷ []) (codes "{\"op\":\"close\"}\n{\"op\":\"close\"}\n")
+        ≡ codes "{\"code\":41,\"refused\":\"Memory\"}\n{\"count\":1,\"epoch\":0,\"ok\":\"close\"}\n" }
+{}
+
+/// An object is looked for in the map of the lines before.
+pub fn scripts_that_locate()
+    ensures { script_text (without_want 3) (codes "{\"op\":\"locate\",\"pool\":1,\"name\":\"a\"}\n" ++ (copies_line ++ codes "\n{\"op\":\"locate\",\"pool\":1,\"name\":\"a\"}\n"))
+        ≡ codes "{\"code\":42,\"refused\":\"UnknownPool\"}\n{\"count\":1,\"epoch\":1,\"ok\":\"inc\"}\n" ++ copies_located }
+{}

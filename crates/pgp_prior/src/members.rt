@@ -1,0 +1,60 @@
+ghost use Rattle.std.specs.Prelude.{◌≡◌, ◌<◌, All};
+ghost use Rattle.std.specs.Iterator.{YieldsFirst, item_count};
+ghost use Rattle.pgp_prior.specs.Members.{members_of};
+
+use pgp_ids::{Member, OsdId, Osds};
+use std::marker::Model;
+
+/// The members of a list of devices, in the order of their places. Contracts see it as the list of those that are left.
+#[derive(Drop)]
+pub struct Members<'a> {
+    by_place: bool,
+    /// The place of the first of `places`.
+    place: u8,
+    places: &'a [Option<OsdId>],
+}
+
+impl<'a> Model for Members<'a> {
+    ghost use Rattle.std.specs.Prelude.{List, ◌+◌, ◌≤◌, length};
+    ghost use Rattle.pgp_ids.specs.declared.group_member.Member.{Member};
+    ghost use Rattle.pgp_prior.specs.MembersLeft.{members_from};
+
+    ghost Value = { List Member };
+
+    ghost view = { λ m. members_from m.by_place m.place m.places.now };
+
+    ghost invariant = { λ m. m.place + length m.places.now ≤ 16 };
+}
+
+impl<'a> Iterator for Members<'a> {
+    type Item = Member;
+
+    ghost next_gives = { YieldsFirst (λ rest. rest) };
+
+    ghost remaining = { item_count (λ rest. rest) };
+
+    fn next(&mut self) -> Option<Member> {
+        while let Some((osd, rest)) = self.places.split_first() {
+            let place = self.place;
+            self.places = rest;
+            self.place += 1;
+            if let Some(osd) = osd {
+                let slot = if self.by_place { place } else { 0 };
+                return Some(Member { osd: *osd, slot });
+            }
+        }
+        None
+    }
+}
+
+/// The members of a list of devices. By place each has its place for its slot, otherwise it has slot 0.
+pub fn members_of(by_place: bool, osds: &Osds) -> Members<'_>
+    ensures members { result ≡ members_of by_place osds.now }
+    ensures slots { All (λ member. member.slot < 16) result }
+{
+    Members {
+        by_place,
+        place: 0,
+        places: osds.as_slice(),
+    }
+}

@@ -1,0 +1,36 @@
+ghost use Rattle.std.specs.Prelude.{◌≡◌, IfOk};
+ghost use Rattle.pgp_prior.specs.Prior.{prior_set};
+
+use super::blocked_by::blocked_by;
+use super::prior_set::Prior;
+use super::probe::probe;
+use pgp_code::Recoverable;
+use pgp_ids::{Epoch, Membership, Past};
+use pgp_sets::StatusOf;
+use std::alloc::{AllocError, Global};
+
+/// The prior set of a placement group (Ceph's developer documentation on peering): of its past intervals,
+/// its current membership, the epoch `les` in which it last began to serve, and what has become of its devices.
+///
+/// It walks all past intervals at each call, and takes memory for the two lists of the answer alone. The error is that
+/// there was none for them.
+pub fn prior<R: Recoverable, S: StatusOf>(
+    alloc: Global,
+    code: &R,
+    past: &[Past],
+    current: &Membership,
+    les: Epoch,
+    statuses: &S,
+) -> Result<Prior, AllocError>
+    ensures { IfOk result (λ found. found
+        ≡ prior_set (R.enough code.now) (R.by_place code.now) (S.status_of statuses.now) les past.now current.now) }
+{
+    let probe = probe(alloc, code.by_place(), statuses, les, past, current)?;
+    let blocked_by = blocked_by(alloc, code, statuses, les, past)?;
+    let down = !blocked_by.is_empty();
+    Ok(Prior {
+        probe,
+        blocked_by,
+        down,
+    })
+}

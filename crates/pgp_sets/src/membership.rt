@@ -1,0 +1,111 @@
+//! Where a placement group lies.
+
+ghost use Rattle.std.specs.Prelude.{◌≡◌, ◌≤◌, List, Some, length, option_map};
+ghost use Rattle.pgp_ids.specs.declared.incremental.Incremental.{Incremental};
+ghost use Rattle.pgp_map.specs.Held.{HasGroup};
+ghost use Rattle.pgp_map.specs.MapOf.{IsMapOf};
+ghost use Rattle.pgp_map.specs.Pools.{pool};
+ghost use Rattle.pgp_sets.specs.Sets.{membership, raw_set, without_down, acting_set, members_from_up, placement_input, rule_of};
+
+use super::places::without_down;
+use pgp_crush::{Rule, place};
+use pgp_hash::{hash2, mask_of, stable_mod};
+use pgp_ids::{Membership, Osds, PgId, PoolKind, PoolSpec};
+use pgp_map::OsdMap;
+
+/// Where the group lies by this map: its up set, its acting set and their primaries, with the sizes of its pool.
+///
+/// The up set is where placement by the map's tree puts the group, without devices that aren't up. The acting set is the
+/// group's pg_temp list without such devices, or the up set where that leaves no place; a list of empty places isn't empty.
+/// This follows Ceph's developer documentation on peering. The map has to have the group, in a pool of size 16 at most, as
+/// each pool is whose map came by checked incrementals. No memory is taken.
+pub fn up_acting(map: &OsdMap, pg: PgId) -> Membership
+    requires { HasGroup map.now pg }
+    ensures { (incs : List Incremental) → IsMapOf incs map.now → membership incs pg ≡ Some result }
+{
+    filter(map, &pg, &raw(map, &pg))
+}
+
+/// Where the tree puts the group, whatever became of the devices. It stays so while the tree, the weights and the pool's
+/// size do. No memory is taken.
+pub fn raw(map: &OsdMap, pg: &PgId) -> Osds
+    requires { HasGroup map.now pg.now }
+    ensures { (incs : List Incremental) → IsMapOf incs map.now
+        → option_map (λ made. raw_set incs made pg.now) (pool incs pg.now.pool) ≡ Some result }
+{
+    let pool = pool_of(map, pg);
+    place(
+        map.tree(),
+        rule_of(&pool),
+        map.weights(),
+        placement_input(&pool, pg),
+        pool.size,
+    )
+}
+
+/// The membership of the group, where the tree puts it on these places: [`up_acting`] is this of [`raw`]. No memory is taken.
+pub fn filter(map: &OsdMap, pg: &PgId, raw: &Osds) -> Membership
+    requires { HasGroup map.now pg.now }
+    ensures { (incs : List Incremental) → IsMapOf incs map.now
+        → option_map (λ made. members_from_up incs made pg.now (without_down incs made raw.now)) (pool incs pg.now.pool) ≡ Some result }
+{
+    let pool = pool_of(map, pg);
+    let up = without_down(map, &pool, raw.as_slice());
+    let acting = acting_set(map, &pool, pg, &up);
+    let up_primary = up.first();
+    let acting_primary = acting.first();
+    Membership {
+        up,
+        up_primary,
+        acting,
+        acting_primary,
+        size: pool.size,
+        min_size: pool.min_size,
+    }
+}
+
+/// The group's pool.
+fn pool_of(map: &OsdMap, pg: &PgId) -> PoolSpec
+    requires { HasGroup map.now pg.now }
+    ensures told { (incs : List Incremental) → IsMapOf incs map.now → pool incs pg.now.pool ≡ Some result }
+    ensures size { result.size ≤ 16 }
+{
+    map.pool(pg.pool).unwrap()
+}
+
+/// How the pool places its groups: in an erasure pool each position keeps its place.
+fn rule_of(pool: &PoolSpec) -> Rule
+    ensures { result ≡ rule_of pool.now }
+{
+    Rule {
+        indep: matches!(pool.kind, PoolKind::Erasure { .. }),
+        leaf: pool.leaf,
+    }
+}
+
+/// What the group's placement hashes: its number among those of the pool, and the pool.
+fn placement_input(pool: &PoolSpec, pg: &PgId) -> u32
+    ensures { result ≡ placement_input pool.now pg.now }
+{
+    let groups = u32::from(pool.pg_num);
+    let group = stable_mod(u32::from(pg.pg), groups, mask_of(groups));
+    hash2(group, u32::from(pg.pool.number()))
+}
+
+/// Who serves the group, where this is its up set.
+fn acting_set(map: &OsdMap, pool: &PoolSpec, pg: &PgId, up: &Osds) -> Osds
+    ensures { (incs : List Incremental) → IsMapOf incs map.now → result ≡ acting_set incs pool.now pg.now up.now }
+{
+    let given = without_down(map, pool, map.temp(*pg));
+    if given.is_empty() { copy_of(up) } else { given }
+}
+
+fn copy_of(osds: &Osds) -> Osds
+    ensures { result ≡ osds.now }
+{
+    let mut copy = Osds::new();
+    for place in osds.as_slice() {
+        copy.push(*place);
+    }
+    copy
+}

@@ -1,0 +1,60 @@
+//! Lists of devices, without those that aren't up.
+
+ghost use Rattle.std.specs.Prelude.{◌≡◌, ◌≤◌, List, None, false, length, filter, map as map_list, if◌then◌else◌};
+ghost use Rattle.std.specs.Option.{option_map_or};
+ghost use Rattle.pgp_ids.specs.declared.incremental.Incremental.{Incremental};
+ghost use Rattle.pgp_map.specs.Held.{held_up};
+ghost use Rattle.pgp_map.specs.MapOf.{IsMapOf};
+ghost use Rattle.pgp_sets.specs.Sets.{without_down};
+
+use pgp_ids::{OsdId, Osds, PoolKind, PoolSpec};
+use pgp_map::OsdMap;
+
+/// The list without devices that aren't up. In an erasure pool their places are empty, in a replicated one they are left
+/// out.
+pub(crate) fn without_down(map: &OsdMap, pool: &PoolSpec, places: &[Option<OsdId>]) -> Osds
+    requires { length places.now ≤ 16 }
+    ensures { (incs : List Incremental) → IsMapOf incs map.now
+        → result ≡ without_down incs pool.now places.now }
+{
+    match pool.kind {
+        PoolKind::Replicated => left_out(map, places),
+        PoolKind::Erasure { .. } => emptied(map, places),
+    }
+}
+
+/// The places whose devices are up.
+fn left_out(map: &OsdMap, places: &[Option<OsdId>]) -> Osds
+    requires { length places.now ≤ 16 }
+    ensures { result ≡ filter (λ place. option_map_or (held_up map.now) place false) places.now }
+{
+    let mut osds = Osds::new();
+    for place in places {
+        if holds_up(map, *place) {
+            osds.push(*place);
+        }
+    }
+    osds
+}
+
+/// Each place, emptied if its device isn't up.
+fn emptied(map: &OsdMap, places: &[Option<OsdId>]) -> Osds
+    requires { length places.now ≤ 16 }
+    ensures { result ≡ map_list (λ place. if option_map_or (held_up map.now) place false then place else None) places.now }
+{
+    let mut osds = Osds::new();
+    for place in places {
+        osds.push(if holds_up(map, *place) { *place } else { None });
+    }
+    osds
+}
+
+/// Whether the place holds a device that is up.
+fn holds_up(map: &OsdMap, place: Option<OsdId>) -> bool
+    ensures { result ≡ option_map_or (held_up map.now) place false }
+{
+    match place {
+        Some(osd) => map.is_up(osd),
+        None => false,
+    }
+}
