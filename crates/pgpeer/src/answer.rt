@@ -9,8 +9,8 @@ ghost use Rattle.pgpeer.specs.Wants.{CanMeet};
 
 use super::history::history;
 use super::log::Log;
-use pgp_core::Want;
 use pgp_code::AnyCode;
+use pgp_core::Want;
 use pgp_ids::{Entry, Epoch, EpochState, PoolKind, Refusal, Seq, TextFault};
 use pgp_text::{Command, EntryOp, Refused, Reply, read_line, write_reply};
 use std::alloc::{AllocError, Global};

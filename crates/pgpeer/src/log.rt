@@ -16,9 +16,7 @@ ghost use Rattle.pgp_core.specs.Log.{epoch_of};
 use super::locate::group_of;
 use super::raw_sets::RawSets;
 use super::report::{entries_fault, info_fault};
-use pgp_ids::{
-    Entry, Epoch, Incremental, LocateRefusal, ObjectName, PgId, PoolId, Refusal,
-};
+use pgp_ids::{Entry, Epoch, Incremental, LocateRefusal, ObjectName, PgId, PoolId, Refusal};
 use pgp_map::OsdMap;
 use pgp_text::{Refused, Reply};
 use std::alloc::{AllocError, Global};

@@ -28,12 +28,21 @@ fn judge_info(
 }
 
 const OWN: &str = r#""pg":[1,0],"from":[0,0]"#;
+
 const NOW: &str = r#""stamp":1,"les":0,"history_les":0"#;
+
+const SENDER: &str = r#""pg":[1,0],"from":[0,0],"stamp":1"#;
+
 const EMPTY: &str = r#""last_update":[0,0],"log_tail":[0,0]"#;
+
 const TAKEN: &str = r#"{"count":2,"epoch":1,"ok":"info"}"#;
+
 const UNKNOWN_GROUP: &str = r#"{"code":60,"refused":"UnknownGroup"}"#;
+
 const UNKNOWN_MEMBER: &str = r#"{"code":61,"refused":"UnknownMember"}"#;
+
 const FUTURE_STAMP: &str = r#"{"code":62,"refused":"FutureStamp"}"#;
+
 const BAD_VERSION: &str = r#"{"code":63,"refused":"BadVersion"}"#;
 
 #[test]
@@ -44,11 +53,7 @@ fn judges_infos(rt: HostRuntime) -> Result<(), Fail> {
         (r#""pg":[2,0],"from":[0,0]"#, NOW, UNKNOWN_GROUP),
         (r#""pg":[1,0],"from":[3,0]"#, NOW, UNKNOWN_MEMBER),
         (r#""pg":[1,0],"from":[0,1]"#, NOW, UNKNOWN_MEMBER),
-        (
-            OWN,
-            r#""stamp":2,"les":0,"history_les":0"#,
-            FUTURE_STAMP,
-        ),
+        (OWN, r#""stamp":2,"les":0,"history_les":0"#, FUTURE_STAMP),
         (OWN, r#""stamp":1,"les":1,"history_les":1"#, TAKEN),
         (OWN, r#""stamp":1,"les":2,"history_les":0"#, BAD_VERSION),
         (OWN, r#""stamp":1,"les":0,"history_les":2"#, BAD_VERSION),
@@ -62,11 +67,7 @@ fn judges_infos(rt: HostRuntime) -> Result<(), Fail> {
             r#""stamp":2,"les":3,"history_les":0"#,
             UNKNOWN_MEMBER,
         ),
-        (
-            OWN,
-            r#""stamp":2,"les":3,"history_les":0"#,
-            FUTURE_STAMP,
-        ),
+        (OWN, r#""stamp":2,"les":3,"history_les":0"#, FUTURE_STAMP),
     ] {
         judge_info(&rt, rt.alloc(), pg_and_member, epochs, EMPTY, answer)?;
     }
@@ -93,47 +94,24 @@ fn judges_versions(rt: HostRuntime) -> Result<(), Fail> {
 #[test]
 fn judges_entries(rt: HostRuntime) -> Result<(), Fail> {
     let taken = r#"{"count":2,"epoch":1,"ok":"entries"}"#;
+    let early = r#"[[1,1,"modify","a"]]"#;
+    let zero = r#"[[0,0,"modify","a"]]"#;
+    let later = r#"[[1,1,"modify","a"],[2,2,"modify","a"]]"#;
+    let any_order = r#"[[1,2,"delete","b"],[1,1,"modify","a"]]"#;
+    let one_number = r#"[[1,1,"modify","a"],[1,1,"modify","b"]]"#;
+    let no_entry = r#"{"code":34,"key":"log","refused":"BadField"}"#;
+    let ahead = r#""pg":[1,0],"from":[0,0],"stamp":2"#;
+    let stranger = r#""pg":[1,0],"from":[3,0],"stamp":2"#;
+    let nowhere = r#""pg":[1,1],"from":[3,0],"stamp":2"#;
     for (sender, log, answer) in [
-        (
-            r#""pg":[1,0],"from":[0,0],"stamp":1"#,
-            r#"[[1,2,"delete","b"],[1,1,"modify","a"]]"#,
-            taken,
-        ),
-        (
-            r#""pg":[1,0],"from":[0,0],"stamp":1"#,
-            r#"[[1,1,"modify","a"],[1,1,"modify","b"]]"#,
-            taken,
-        ),
-        (
-            r#""pg":[1,0],"from":[0,0],"stamp":1"#,
-            r#"[[0,0,"modify","a"]]"#,
-            BAD_VERSION,
-        ),
-        (
-            r#""pg":[1,0],"from":[0,0],"stamp":1"#,
-            r#"[[1,1,"modify","a"],[2,2,"modify","a"]]"#,
-            BAD_VERSION,
-        ),
-        (
-            r#""pg":[1,0],"from":[0,0],"stamp":2"#,
-            r#"[[0,0,"modify","a"]]"#,
-            FUTURE_STAMP,
-        ),
-        (
-            r#""pg":[1,0],"from":[3,0],"stamp":2"#,
-            r#"[[1,1,"modify","a"]]"#,
-            UNKNOWN_MEMBER,
-        ),
-        (
-            r#""pg":[1,1],"from":[3,0],"stamp":2"#,
-            r#"[[1,1,"modify","a"]]"#,
-            UNKNOWN_GROUP,
-        ),
-        (
-            r#""pg":[1,0],"from":[0,0],"stamp":1"#,
-            "[]",
-            r#"{"code":34,"key":"log","refused":"BadField"}"#,
-        ),
+        (SENDER, any_order, taken),
+        (SENDER, one_number, taken),
+        (SENDER, zero, BAD_VERSION),
+        (SENDER, later, BAD_VERSION),
+        (ahead, zero, FUTURE_STAMP),
+        (stranger, early, UNKNOWN_MEMBER),
+        (nowhere, early, UNKNOWN_GROUP),
+        (SENDER, "[]", no_entry),
     ] {
         let line = format!(in rt.alloc(); "{{\"op\":\"entries\",{sender},\"log\":{log}}}")?;
         judge(&rt, rt.alloc(), line.as_str(), answer)?;

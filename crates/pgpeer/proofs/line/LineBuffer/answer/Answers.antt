@@ -1,5 +1,5 @@
 use Rattle.std.proofs.Common.{refl}
-use Rattle.pgpeer.specs.declared.want.Want.TheVariants.{Line}
+use Rattle.pgp_core.specs.declared.want.Want.TheVariants.{Line}
 use Rattle.pgpeer.proofs.LineLemmas.{answer-wants, answer-long, answer-kept, answer-kept-wants}
 use Rattle.pgpeer.proofs.line.LineBuffer.answer.Goals as goal
 

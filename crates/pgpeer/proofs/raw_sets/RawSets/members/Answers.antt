@@ -18,6 +18,6 @@ returns-clause-kept c incs is are =
     let new = hash.get is_same_group c.insert-kept.new.self in
     record {
       each = either-way c.insert-kept.result _ _ ((q : PgId) → IfSome (new q) (IsRawSet incs q)) c.insert-kept.ensures.updates c.insert-kept.ensures.err
-      (λ up. with-raw_set incs old new c.args.pg.now c.raw-found.result are.each (c.raw-found.ensures incs is) up.0)
-      (λ same q. rw same (are.each q));
+          (λ up. with-raw_set incs old new c.args.pg.now c.raw-found.result are.each (c.raw-found.ensures incs is) up.0)
+          (λ same q. rw same (are.each q));
     }
