@@ -2,7 +2,7 @@
 
 use super::{Prior, prior};
 use pgp_code::{Erasure, Recoverable, Replicated};
-use pgp_ids::{Epoch, Member, Membership, OsdId, Osds, Past};
+use pgp_ids::{Epoch, MAX_OSDS, Member, Membership, OsdId, Osds, Past};
 use pgp_sets::{Status, StatusOf};
 use std::alloc::{AllocError, Global};
 use std::test::Fail;
@@ -40,7 +40,7 @@ fn member(number: u16, slot: u8) -> Result<Member, Fail> {
 fn places(numbers: &[u16]) -> Osds {
     let mut places = Osds::new();
     for number in numbers {
-        if !places.is_full() {
+        if places.len() < MAX_OSDS {
             places.push(OsdId::new(*number));
         }
     }
