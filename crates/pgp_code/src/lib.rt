@@ -9,8 +9,6 @@ mod erasure;
 pub mod laws;
 mod recoverable;
 mod replicated;
-#[cfg(test)]
-mod tests;
 
 pub use any::AnyCode;
 pub use erasure::Erasure;

@@ -33,6 +33,3 @@ pub use placement::place;
 pub use rule::Rule;
 pub use tree::Tree;
 pub use uniform::Uniform;
-
-#[cfg(test)]
-mod tests;

@@ -17,6 +17,3 @@ pub use groups::{mask_of, stable_mod};
 pub use mixing::{Triple, mix};
 pub use name::name_hash;
 pub use words::{hash2, hash3, hash4};
-
-#[cfg(test)]
-mod tests;

@@ -12,8 +12,6 @@ pub mod laws;
 mod newest_first;
 mod oldest_first;
 mod prefer;
-#[cfg(test)]
-mod tests;
 mod tie;
 
 pub use best::Best;

@@ -177,6 +177,3 @@ impl<R: Recoverable> Intervals<R> {
         Epoch::new(last - since as u32)
     }
 }
-
-#[cfg(test)]
-mod tests;

@@ -7,7 +7,5 @@
 mod entries;
 pub mod laws;
 mod member_log;
-#[cfg(test)]
-mod tests;
 
 pub use member_log::MemberLog;

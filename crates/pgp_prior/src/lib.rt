@@ -12,8 +12,6 @@ pub mod laws;
 mod members;
 mod prior_set;
 mod probe;
-#[cfg(test)]
-mod tests;
 mod walk;
 
 pub use prior_set::Prior;

@@ -33,7 +33,7 @@ use std::alloc::Global;
 use trace::{has_empty_places, read_code, read_epochs};
 
 /// What a line asks for.
-#[derive(Drop)]
+#[derive(Debug, Drop)]
 pub enum Command {
     /// The next entry of the log.
     Submit(Entry),

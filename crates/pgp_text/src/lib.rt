@@ -9,8 +9,6 @@
 mod command;
 pub mod laws;
 mod reply;
-#[cfg(test)]
-mod tests;
 
 pub use command::{Command, read_line};
 pub use reply::{EntryOp, Refused, Reply, write_reply};

@@ -20,7 +20,7 @@ use serde_json::{Value, json};
 use std::alloc::{AllocError, Global};
 
 /// What a line is answered.
-#[derive(Drop)]
+#[derive(Debug, Drop)]
 pub enum Reply {
     /// The log took an entry, and has `count` entries now; the epoch is that of the map now.
     Accepted {

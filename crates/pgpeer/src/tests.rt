@@ -1,6 +1,5 @@
 mod fakes;
 mod incrementals;
-mod peering;
 mod program;
 mod questions;
 mod reports;

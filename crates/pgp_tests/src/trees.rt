@@ -2,12 +2,11 @@
 
 ghost use Rattle.std.specs.Prelude.{◌≤ℤ◌, ◌<ℤ◌, pos, negsuc};
 
-use super::*;
 use pgp_ids::{BucketAlg, BucketSpec, Seq};
 use std::alloc::{AllocError, Global};
 
+mod faults;
 mod placements;
-mod trees;
 
 /// A uniform bucket.
 fn uniform_bucket(alloc: Global, id: i32, kind: u8, items: &[i32]) -> Result<BucketSpec, AllocError>

@@ -1,4 +1,6 @@
-use super::{AnyCode, Erasure, Recoverable, Replicated};
+//! Which slots are enough, by each code.
+
+use pgp_code::{AnyCode, Erasure, Recoverable, Replicated};
 use pgp_ids::{PoolKind, SlotSet};
 use std::test::Fail;
 

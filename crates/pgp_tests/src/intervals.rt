@@ -1,6 +1,8 @@
-use super::Intervals;
+//! The intervals of small histories, step by step.
+
 use pgp_code::{Erasure, Recoverable, Replicated};
 use pgp_ids::{Epoch, MAX_OSDS, Membership, OsdId, Osds, Past, PrimaryFacts};
+use pgp_interval::Intervals;
 use std::alloc::{AllocError, Global};
 use std::test::Fail;
 

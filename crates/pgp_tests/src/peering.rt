@@ -1,6 +1,5 @@
 //! What the maps of a list of incrementals say of a placement group: its memberships, its intervals and its prior sets.
 
-use super::runs::{COPIES, SHARDS};
 use pgp_code::AnyCode;
 use pgp_ids::{Entry, Epoch, Incremental, Membership, OsdId, PgId, PoolId, PrimaryFacts, Seq};
 use pgp_interval::Intervals;
@@ -11,6 +10,15 @@ use pgp_text::{Command, Reply, read_line, write_reply};
 use std::alloc::Global;
 use std::process::Abort;
 use std::test::Fail;
+
+/// Pool 1 of three copies over the devices 0, 1 and 2, of which device 0 alone has weight; pg_temp puts its one group on
+/// all three.
+const COPIES: &str =
+    r#"{"op":"inc","epoch":1,"up":[0,1,2],"weight":[[1,0],[2,0]],"crush":[{"id":-1,"type":1,"alg":"uniform","items":[0,1,2]}],"pools":[{"id":1,"pg_num":1,"kind":"replicated","size":3,"min_size":2,"leaf":0}],"temp":[[1,0,[0,1,2]]]}"#;
+
+/// Pool 2 of two data shards and one more over six devices without weight; pg_temp puts its one group on the first three.
+const SHARDS: &str =
+    r#"{"op":"inc","epoch":1,"up":[0,1,2,3,4,5],"weight":[[0,0],[1,0],[2,0],[3,0],[4,0],[5,0]],"crush":[{"id":-1,"type":1,"alg":"uniform","items":[0,1,2,3,4,5]}],"pools":[{"id":2,"pg_num":1,"kind":"erasure","k":2,"size":3,"min_size":2,"leaf":0}],"temp":[[2,0,[0,1,2]]]}"#;
 
 /// A group that is followed from map to map.
 #[derive(Drop)]

@@ -1,9 +1,9 @@
 //! The states of peers by small logs, told in words, and by a log whose numbers go up to the last one.
 
-use super::MemberLog;
 use pgp_ids::{
     Change, Epoch, Info, LogEntry, Member, ObjectName, OsdId, PeerState, PgId, PoolId, Version,
 };
+use pgp_missing::MemberLog;
 use std::alloc::{AllocError, Global};
 use std::process::Abort;
 use std::test::Fail;
@@ -81,24 +81,38 @@ fn told(alloc: Global, log: &MemberLog, peer: &Info) -> Result<String, AllocErro
     Ok(text)
 }
 
+/// By the log of this info and these entries, the peer's state is told in these words.
+fn expect(
+    rt: &impl Abort,
+    alloc: Global,
+    best: &Info,
+    entries: &[(Version, Change, &str)],
+    peer: &Info,
+    words: &str,
+) -> Result<(), AllocError> {
+    let log = log_of(alloc, best, entries)?;
+    let told = told(alloc, &log, peer)?;
+    assert_eq!(rt; told.as_str(), words);
+    Ok(())
+}
+
 #[test]
 fn whole_log_of_two_entries(rt: HostRuntime) -> Result<(), Fail> {
     let a = rt.alloc();
     let best = copy(&rt, at(1, 1), at(2, 3));
     let entries = [(at(1, 2), MADE, "a"), (at(2, 3), MADE, "b")];
-    let log = log_of(a, &best, &entries)?;
     let first = copy(&rt, at(1, 2), at(1, 2));
-    assert_eq!(rt; told(a, &log, &first)?.as_str(), "missing b [2,3]");
+    expect(&rt, a, &best, &entries, &first, "missing b [2,3]")?;
     let tail = copy(&rt, at(1, 1), at(1, 1));
-    assert_eq!(rt; told(a, &log, &tail)?.as_str(), "missing a [1,2] b [2,3]");
+    expect(&rt, a, &best, &entries, &tail, "missing a [1,2] b [2,3]")?;
     let other = copy(&rt, at(2, 2), at(2, 2));
-    assert_eq!(rt; told(a, &log, &other)?.as_str(), "diverged");
+    expect(&rt, a, &best, &entries, &other, "diverged")?;
     let none = copy(&rt, at(0, 0), at(0, 0));
-    assert_eq!(rt; told(a, &log, &none)?.as_str(), "backfill");
+    expect(&rt, a, &best, &entries, &none, "backfill")?;
     let mut partial = copy(&rt, at(1, 1), at(2, 3));
     partial.complete = false;
-    assert_eq!(rt; told(a, &log, &partial)?.as_str(), "backfill");
-    assert_eq!(rt; told(a, &log, &best)?.as_str(), "missing");
+    expect(&rt, a, &best, &entries, &partial, "backfill")?;
+    expect(&rt, a, &best, &entries, &best, "missing")?;
     Ok(())
 }
 
@@ -107,18 +121,17 @@ fn logs_that_are_not_whole(rt: HostRuntime) -> Result<(), Fail> {
     let a = rt.alloc();
     let entries = [(at(1, 2), MADE, "a"), (at(2, 3), MADE, "b")];
     let falling = copy(&rt, at(2, 1), at(2, 3));
-    assert!(rt; !log_of(a, &falling, &entries)?.whole());
+    expect(&rt, a, &falling, &entries, &falling, "not whole")?;
     let longer = copy(&rt, at(1, 0), at(2, 3));
-    assert!(rt; !log_of(a, &longer, &entries)?.whole());
+    expect(&rt, a, &longer, &entries, &longer, "not whole")?;
     let other_last = copy(&rt, at(1, 1), at(3, 3));
-    assert!(rt; !log_of(a, &other_last, &entries)?.whole());
+    expect(&rt, a, &other_last, &entries, &other_last, "not whole")?;
     let best = copy(&rt, at(1, 1), at(2, 3));
     let older_last = [(at(1, 2), MADE, "a"), (at(1, 3), MADE, "b")];
-    assert!(rt; !log_of(a, &best, &older_last)?.whole());
-    assert!(rt; !log_of(a, &best, &[])?.whole());
-    assert!(rt; log_of(a, &best, &entries)?.whole());
+    expect(&rt, a, &best, &older_last, &best, "not whole")?;
+    expect(&rt, a, &best, &[], &best, "not whole")?;
     let empty = copy(&rt, at(2, 3), at(2, 3));
-    assert!(rt; log_of(a, &empty, &[])?.whole());
+    expect(&rt, a, &empty, &[], &empty, "missing")?;
     Ok(())
 }
 
@@ -134,19 +147,16 @@ fn entries_in_mixed_order(rt: HostRuntime) -> Result<(), Fail> {
         (at(1, 2), MADE, "b"),
     ];
     let none = copy(&rt, at(0, 0), at(0, 0));
-    let log = log_of(a, &best, &entries)?;
     let all = "missing a [1,1] b [1,2] c [1,3]";
-    assert_eq!(rt; told(a, &log, &none)?.as_str(), all);
+    expect(&rt, a, &best, &entries, &none, all)?;
     let beyond = copy(&rt, at(0, 0), at(1, 4));
-    assert_eq!(rt; told(a, &log, &beyond)?.as_str(), "diverged");
-    let gap = log_of(a, &best, &[(at(1, 3), MADE, "c"), (at(1, 1), MADE, "a")])?;
-    assert_eq!(rt; told(a, &gap, &none)?.as_str(), "not whole");
+    expect(&rt, a, &best, &entries, &beyond, "diverged")?;
+    let gap = [(at(1, 3), MADE, "c"), (at(1, 1), MADE, "a")];
+    expect(&rt, a, &best, &gap, &none, "not whole")?;
     best.log_tail = at(1, 1);
-    let short = log_of(a, &best, &entries)?;
-    assert_eq!(rt; told(a, &short, &none)?.as_str(), "backfill");
+    expect(&rt, a, &best, &entries, &none, "backfill")?;
     let tail = copy(&rt, at(0, 0), at(1, 1));
-    let later = "missing b [1,2] c [1,3]";
-    assert_eq!(rt; told(a, &short, &tail)?.as_str(), later);
+    expect(&rt, a, &best, &entries, &tail, "missing b [1,2] c [1,3]")?;
     Ok(())
 }
 
@@ -160,23 +170,19 @@ fn deleted_and_made_again(rt: HostRuntime) -> Result<(), Fail> {
         (at(1, 2), MADE, "b"),
         (at(1, 3), GONE, "a"),
     ];
-    let log = log_of(a, &best, &deleted)?;
-    assert_eq!(rt; told(a, &log, &none)?.as_str(), "missing b [1,2]");
+    expect(&rt, a, &best, &deleted, &none, "missing b [1,2]")?;
     let changed = [
         (at(1, 1), MADE, "a"),
         (at(1, 2), MADE, "b"),
         (at(1, 3), MADE, "a"),
     ];
-    let both = "missing a [1,3] b [1,2]";
-    let log = log_of(a, &best, &changed)?;
-    assert_eq!(rt; told(a, &log, &none)?.as_str(), both);
+    expect(&rt, a, &best, &changed, &none, "missing a [1,3] b [1,2]")?;
     let again = [
         (at(1, 1), MADE, "a"),
         (at(1, 2), GONE, "a"),
         (at(1, 3), MADE, "a"),
     ];
-    let log = log_of(a, &best, &again)?;
-    assert_eq!(rt; told(a, &log, &none)?.as_str(), "missing a [1,3]");
+    expect(&rt, a, &best, &again, &none, "missing a [1,3]")?;
     Ok(())
 }
 
@@ -189,11 +195,9 @@ fn log_of_all_numbers(rt: HostRuntime) -> Result<(), Fail> {
         (at(1, 2), MADE, "b"),
         (at(2, u32::MAX), MADE, "c"),
     ];
-    assert!(rt; !log_of(a, &best, &entries)?.whole());
+    expect(&rt, a, &best, &entries, &best, "not whole")?;
     let end = copy(&rt, at(2, u32::MAX - 1), at(2, u32::MAX));
-    let log = log_of(a, &end, &entries)?;
     let before = copy(&rt, at(2, 1), at(2, u32::MAX - 1));
-    let last = "missing c [2,4294967295]";
-    assert_eq!(rt; told(a, &log, &before)?.as_str(), last);
+    expect(&rt, a, &end, &entries, &before, "missing c [2,4294967295]")?;
     Ok(())
 }

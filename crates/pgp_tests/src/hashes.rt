@@ -1,6 +1,6 @@
 //! The calls against values of the published C code, compiled and run apart from this project.
 
-use super::*;
+use pgp_hash::{Triple, hash2, hash3, hash4, mask_of, mix, name_hash, stable_mod};
 use std::test::Fail;
 
 #[test]

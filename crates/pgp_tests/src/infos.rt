@@ -1,8 +1,9 @@
 //! The best of infos as they come, by both preferences.
 
-use super::{Best, NewestFirst, OldestFirst, Prefer};
 use pgp_ids::{Epoch, Info, Member, OsdId, PgId, PoolId, Version};
+use pgp_info::{Best, NewestFirst, OldestFirst, Prefer};
 use std::alloc::{AllocError, Global};
+use std::process::Abort;
 use std::test::Fail;
 
 fn version(epoch: u32, v: u32) -> Version {
@@ -50,6 +51,11 @@ fn leader<P: Prefer>(heard: &Best<P>) -> Option<Member> {
     heard.best().map(|info| info.member)
 }
 
+/// This member's copy is the one to go by.
+fn expect<P: Prefer>(rt: &impl Abort, heard: &Best<P>, member: Option<Member>) {
+    assert_eq!(rt; leader(heard), member);
+}
+
 #[test]
 fn equal_copies(rt: HostRuntime) -> Result<(), Fail> {
     let none = version(0, 0);
@@ -65,17 +71,17 @@ fn equal_copies(rt: HostRuntime) -> Result<(), Fail> {
     };
     let primary = Some(first.member);
     let mut heard = heard(rt.alloc(), NewestFirst { primary }, &infos)?;
-    assert_eq!(rt; leader(&heard), primary);
+    expect(&rt, &heard, primary);
     heard.put(partial)?;
-    assert_eq!(rt; leader(&heard), Some(second.member));
+    expect(&rt, &heard, Some(second.member));
     heard.put(first)?;
-    assert_eq!(rt; leader(&heard), primary);
+    expect(&rt, &heard, primary);
     heard.drop_member(&first.member);
-    assert_eq!(rt; leader(&heard), Some(second.member));
+    expect(&rt, &heard, Some(second.member));
     heard.drop_member(&second.member);
-    assert_eq!(rt; heard.best(), Some(&third));
+    expect(&rt, &heard, Some(third.member));
     heard.drop_member(&third.member);
-    assert!(rt; heard.best().is_none());
+    expect(&rt, &heard, None);
     Ok(())
 }
 
@@ -89,9 +95,9 @@ fn copies_that_differ_in_one_write(rt: HostRuntime) -> Result<(), Fail> {
     let [first, second, _] = infos;
     let primary = Some(first.member);
     let shards = heard(rt.alloc(), OldestFirst { primary }, &infos)?;
-    assert_eq!(rt; leader(&shards), Some(second.member));
+    expect(&rt, &shards, Some(second.member));
     let copies = heard(rt.alloc(), NewestFirst { primary }, &infos)?;
-    assert_eq!(rt; leader(&copies), primary);
+    expect(&rt, &copies, primary);
     Ok(())
 }
 
@@ -114,6 +120,6 @@ fn copy_that_served_later(rt: HostRuntime) -> Result<(), Fail> {
         ..newer
     };
     heard.put(told)?;
-    assert!(rt; heard.best().is_none());
+    expect(&rt, &heard, None);
     Ok(())
 }

@@ -1,7 +1,7 @@
 //! Which lists of buckets are trees.
 
-use super::super::*;
 use super::{alone, list_bucket, pair, uniform_bucket};
+use pgp_crush::{Tree, TreeFault};
 use pgp_ids::BucketSpec;
 use std::alloc::{AllocError, Global};
 use std::test::Fail;

@@ -1,7 +1,7 @@
 //! Where groups are placed.
 
-use super::super::*;
 use super::{alone, list_bucket, pair, uniform_bucket};
+use pgp_crush::{Rule, Tree, place};
 use pgp_ids::{BucketSpec, Osds};
 use std::alloc::{AllocError, Global};
 use std::test::Fail;

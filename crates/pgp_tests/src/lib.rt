@@ -1,0 +1,24 @@
+//! Tests of the library crates, of what their contracts leave open.
+//!
+//! They stand together, above all that they call: a crate with tests is proved a second time with them, and so the
+//! libraries are proved once. Nothing else is here, and nothing stands on this crate.
+#![tactic(auto)]
+
+#[cfg(test)]
+mod codes;
+#[cfg(test)]
+mod hashes;
+#[cfg(test)]
+mod infos;
+#[cfg(test)]
+mod intervals;
+#[cfg(test)]
+mod missing;
+#[cfg(test)]
+mod peering;
+#[cfg(test)]
+mod prior_sets;
+#[cfg(test)]
+mod texts;
+#[cfg(test)]
+mod trees;
