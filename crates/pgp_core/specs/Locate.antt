@@ -1,4 +1,5 @@
--- Where an object lies: in which placement group of its pool, by the hash of its name.
+-- Where an object lies: in which placement group of its pool, by the hash of its name (Ceph: an object's placement group,
+-- `ceph_stable_mod`).
 use Rattle.std.specs.Prelude.{ℕ, List, Option, option_map}
 use Rattle.pgp_hash.specs.NameHash.{name_hash}
 use Rattle.pgp_hash.specs.StableMod.{stable_mod}

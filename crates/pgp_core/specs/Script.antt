@@ -1,5 +1,6 @@
 -- The text of a script: what is written for its lines, where some of them may have met want of memory.
-use Rattle.std.specs.Prelude.{◌≡◌, ℕ, ◌≤◌, List, [], ◌∷◌, ◌++◌, Option, Some, None, Ok, nat_lt, length, take, if◌then◌else◌}
+use Rattle.std.specs.Prelude.{◌≡◌, ℕ, ◌≤◌, List, [], ◌∷◌, ◌++◌, Option, Some, None, Ok, nat_lt, length, take, flat_map, slice_index_or, if◌then◌else◌}
+use Rattle.std.specs.List.{range_with_len}
 use Rattle.pgp_ids.specs.declared.entry.Entry.{Entry}
 use Rattle.pgp_ids.specs.declared.refusal.Refusal.TheVariants as refusal
 use Rattle.pgp_ids.specs.declared.text_fault.TextFault.TheVariants as fault
@@ -38,8 +39,8 @@ want_text want.Entry = reply_text (Refused (why.Entry refusal.Memory))
 abbrev pub reply_text_of : List Entry → List ℕ → List ℕ
 reply_text_of log line = if nat_lt longest_line (length line) then long_text else line_text log line
 
--- What is written for a line, given the log before it and the want of memory that it met, if any: nothing for a blank
--- one, else one line.
+-- What is written for a line, given the log before it and the want of memory that it met, if any. A line that met one has
+-- its constant text, blank or not; of the others a blank one has nothing, and each other one line.
 abbrev pub answer : List Entry → Option Want → List ℕ → List ℕ
 answer log (Some want) line = want_text want ++ 10 ∷ []
 answer log None line = if is_blank line then [] else reply_text_of log line ++ 10 ∷ []
@@ -49,17 +50,21 @@ abbrev pub log_past : List Entry → Option Want → List ℕ → List Entry
 log_past log (Some want) line = log
 log_past log None line = if is_blank line then log else (if nat_lt longest_line (length line) then log else line_log log line)
 
--- What is written for lines, given the log before them and of each the want of memory that it met.
-abbrev pub answers : List Entry → List (Option Want) → List (List ℕ) → List ℕ
-answers log [] lines = []
-answers log (met ∷ more) [] = []
-answers log (met ∷ more) (line ∷ lines) = answer log met line ++ answers (log_past log met line) more lines
-
--- the log after lines
+-- the log after lines, given the log before them and of each the want of memory that it met
 abbrev pub logs : List Entry → List (Option Want) → List (List ℕ) → List Entry
 logs log [] lines = log
 logs log (met ∷ more) [] = log
 logs log (met ∷ more) (line ∷ lines) = logs (log_past log met line) more lines
+
+-- what is written for the line at this place: the answer to it, given the log after the lines before it
+abbrev pub answer_at : List Entry → List (Option Want) → List (List ℕ) → ℕ → List ℕ
+answer_at log met lines place =
+    answer (logs log (take place met) (take place lines)) (slice_index_or met place None) (slice_index_or lines place [])
+
+-- What is written for lines, given the log before them and of each the want of memory that it met: one after the other
+-- what is written for each.
+abbrev pub answers : List Entry → List (Option Want) → List (List ℕ) → List ℕ
+answers log met lines = flat_map (answer_at log met lines) (range_with_len 0 (length met))
 
 -- each of the first lines can meet its want of memory
 abbrev pub MayMeetEach : List (Option Want) → List (List ℕ) → Type 0

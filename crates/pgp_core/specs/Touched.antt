@@ -1,4 +1,4 @@
--- The placement groups whose view an entry may change (this project's own choice).
+-- The placement groups whose view an entry may change in more than count and epoch (this project's own choice).
 use Rattle.std.specs.Prelude.{ℕ, List, length, ◌++◌, map, Bool, false, ◌||◌, nat_eq, nat_lt, Option, Some, is_some}
 use Rattle.std.specs.List.{list_any}
 use Rattle.std.specs.Option.{option_eq, option_map_or}

@@ -10,7 +10,8 @@ use Rattle.pgp_interval.specs.Runs.{current_first}
 use Rattle.pgp_map.specs.Devices.{is_up, up_from}
 use Rattle.pgp_group.specs.GroupLog.{GroupLog, incs, infos, reports}
 
--- the last epoch in which the group is known to have begun to serve: the greatest that any info tells, 0 without one
+-- the last epoch in which the group is known to have begun to serve: the greatest history_les of all its infos, those too
+-- that don't count, and 0 without one
 abbrev pub les : GroupLog → ℕ
 les g = fold max 0 (map (λ info. info.history_les) (infos g))
 

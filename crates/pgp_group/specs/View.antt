@@ -1,4 +1,5 @@
--- All that a log says of a placement group, worked out from nothing.
+-- All that a log says of a placement group, worked out from nothing (Ceph's developer documentation on peering: what the
+-- acting primary learns and decides).
 use Rattle.std.specs.Prelude.{List, length, Option, option_map}
 use Rattle.pgp_ids.specs.declared.entry.Entry.{Entry}
 use Rattle.pgp_ids.specs.declared.pg_id.PgId.{PgId}

@@ -1,5 +1,6 @@
 -- What a list of map incrementals, oldest first, says of a device (Ceph's developer documentation on map epochs: the map
--- of an epoch is what all incrementals up to it say). Each fact is given by the last incremental that tells of it.
+-- of an epoch is what all incrementals up to it say). Each fact is given by the last incremental that tells of it, but for
+-- two, which are greatest epochs.
 use Rattle.std.specs.Prelude.{ℕ, List, Bool, false, ◌||◌, nat_eq, map, max, fold, filter, flat_map}
 use Rattle.std.specs.List.{list_any, range_with_len}
 use Rattle.std.specs.Option.{option_map_or}
@@ -48,7 +49,7 @@ told_epoch told osd = option_map_or (λ entry. entry.epoch) (last_where (λ entr
 abbrev pub up_thru : List Incremental → ℕ → ℕ
 up_thru incs osd = told_epoch (flat_map (λ inc. inc.up_thru) incs) osd
 
--- the epoch at which the device was last given up for lost
+-- the epoch that was told when the device was last given up for lost, 0 if it never was
 abbrev pub lost_at : List Incremental → ℕ → ℕ
 lost_at incs osd = told_epoch (flat_map (λ inc. inc.lost) incs) osd
 

@@ -15,7 +15,7 @@ held_exists map osd = (device_at map.devices osd).exists
 unfoldable pub held_up : OsdMap → ℕ → Bool
 held_up map osd = (device_at map.devices osd).is_up
 
--- the epoch at which the device was given up for lost, by the map
+-- the epoch that was told when the device was last given up for lost, by the map
 unfoldable pub held_lost_at : OsdMap → ℕ → ℕ
 held_lost_at map osd = (device_at map.devices osd).lost_at
 
@@ -23,7 +23,7 @@ held_lost_at map osd = (device_at map.devices osd).lost_at
 unfoldable pub held_pool : OsdMap → ℕ → Option PoolSpec
 held_pool map id = hash.get nat_eq map.pools id
 
--- a pool has this group, on at most 16 places
+-- the pool has this group, and its size is at most 16
 abbrev pub is_group_of : PgId → PoolSpec → Bool
 is_group_of pg pool = nat_lt pg.pg pool.pg_num && nat_le pool.size 16
 

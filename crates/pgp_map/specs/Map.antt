@@ -1,5 +1,5 @@
 -- What a list of map incrementals, oldest first, says of the map as a whole: its epoch, its tree, and the map of an
--- earlier epoch.
+-- earlier epoch (Ceph's developer documentation on map epochs; the RADOS paper, 2007).
 use Rattle.std.specs.Prelude.{ℕ, List, Option, None, map, filter, filter_map, nat_le, option_map}
 use Rattle.std.specs.List.{last_or}
 use Rattle.std.specs.Option.{option_map_or}

@@ -1,4 +1,5 @@
--- What a list of map incrementals, oldest first, says of pools and placement groups.
+-- What a list of map incrementals, oldest first, says of pools and placement groups (Ceph's developer documentation on map
+-- epochs; on pg_temp).
 use Rattle.std.specs.Prelude.{ℕ, List, [], Bool, false, ◌&&◌, nat_eq, nat_lt, Option, Some, None, flat_map, sum_by, option_map}
 use Rattle.std.specs.Option.{option_map_or}
 use Rattle.pgp_ids.specs.declared.pg_id.PgId.{PgId}

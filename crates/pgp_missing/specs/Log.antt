@@ -1,5 +1,5 @@
 -- The log of a member, by its info and the entries that it reported (Ceph's developer documentation on the log of a
--- placement group). `reported` are the entries of all its reports, in the order in which they came.
+-- placement group). `reported` are the entries of its reports that count, in the order in which they came.
 use Rattle.std.specs.Prelude.{◌≡◌, ℕ, ◌-◌, ◌<◌, ◌≤◌, List, [], ◌∷◌, Bool, true, ◌&&◌, ◌||◌, nat_eq, nat_lt, nat_le, length, filter, if◌then◌else◌}
 use Rattle.std.specs.List.{list_all, list_any}
 use Rattle.pgp_ids.specs.Version.{is_same_version}

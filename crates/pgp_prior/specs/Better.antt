@@ -1,4 +1,4 @@
--- Changes of a device's status after which less has to be waited for.
+-- Changes of a device's status after which no more has to be waited for.
 use Rattle.std.specs.Prelude.{◌≡◌, ℕ, Bool, true, false}
 use Rattle.pgp_sets.specs.declared.status.Status.{Status}
 use Rattle.pgp_sets.specs.declared.status.Status.TheVariants.{Up, Gone, Lost, Down}

@@ -21,7 +21,7 @@ is_down Gone = false
 is_down Lost = false
 is_down Down = true
 
--- what the device held is at hand, or was given up: nobody waits for it
+-- the device counts towards enough: what it held is at hand, or was given up for lost
 abbrev pub is_settled : Status → Bool
 is_settled Up = true
 is_settled Gone = false

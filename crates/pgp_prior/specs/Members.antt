@@ -1,5 +1,5 @@
--- The members of a list of devices. In an erasure pool a member's slot is its place in the list, in a replicated pool it
--- is 0.
+-- The members of a list of devices (Ceph's documentation of erasure-coded pools: a shard is a device and its place). In an
+-- erasure pool a member's slot is its place in the list, in a replicated pool it is 0.
 use Rattle.std.specs.Prelude.{ℕ, List, [], length, fold, filter_map, Option, None, option_map, Bool, if◌then◌else◌, slice_index_or}
 use Rattle.std.specs.List.{range_with_len}
 use Rattle.pgp_ids.specs.SlotSet.{with_slot}

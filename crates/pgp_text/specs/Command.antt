@@ -127,14 +127,14 @@ IsGroup pg = (1 ≤ pg.pool) × (pg.pool ≤ 255) × (pg.pg ≤ 1023)
 abbrev pub IsMember : Member → Type 0
 IsMember member = (member.osd ≤ 4095) × (member.slot ≤ 15)
 
--- an entry as a line can give it: one line of entries has 1 to 256
+-- of each entry what its line has to meet: a report has 1 to 256 log entries
 abbrev pub IsEntry : Entry → Type 0
 IsEntry (Inc inc) = Unit {0}
 IsEntry (Info info) = IsGroup info.pg × IsMember info.member
 IsEntry (Entries report) = IsGroup report.pg × IsMember report.member × (1 ≤ length report.log) × (length report.log ≤ 256)
 IsEntry Close = Unit {0}
 
--- What a line can give: a trace has 1 to 4,096 epochs, and an erasure code 1 to 16 data shards; the name of an object
+-- Of each command what its line has to meet: a trace has 1 to 4,096 epochs, and an erasure code 1 to 16 data shards; the name of an object
 -- has 1 to 255 bytes. No line is a question about a group yet.
 abbrev pub IsInRange : Command → Type 0
 IsInRange (Submit entry) = IsEntry entry

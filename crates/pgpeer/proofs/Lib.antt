@@ -5,7 +5,6 @@ pub mod CutLemmas
 pub mod LogLemmas
 pub mod LocateLemmas
 pub mod RawSetLemmas
-pub mod ScriptLemmas
 pub mod RunLemmas
 pub mod TurnLemmas
 pub mod HistoryLemmas

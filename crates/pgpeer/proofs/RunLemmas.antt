@@ -10,7 +10,7 @@ use Rattle.pgpeer.specs.Line.{Holds}
 use Rattle.pgpeer.specs.Output.{FrontWent}
 use Rattle.pgp_ids.specs.declared.entry.Entry.{Entry}
 use Rattle.pgp_core.specs.Script.{answer, answers, Within, lines_before_cut}
-use Rattle.pgpeer.proofs.ScriptLemmas.{answers-push, logs-push, may-push, answers-front, may-front}
+use Rattle.pgp_core.proofs.ScriptLemmas.{answers-push, logs-push, may-push, answers-front, may-front}
 use Rattle.pgpeer.specs.Run.{Puts, PutsFront, IsAfter, Answered, CutOff, BrokenOff, BrokenAtEnd, IsDone, IsBeyond, Taken}
 use Rattle.pgpeer.specs.declared.line.LineBuffer.{LineBuffer}
 use Rattle.pgpeer.specs.declared.output.Output.{Output}

@@ -1,11 +1,22 @@
 //! The text of small scripts.
 #![tactic(auto, unfolding(crate::specs::Worked::scripts_computed))]
 
-ghost use Rattle.std.specs.Prelude.{◌≡◌, List, ℕ, [], ◌∷◌, ◌++◌, Option, Some, None, codes, replicate};
+ghost use Rattle.std.specs.Prelude.{◌≡◌, List, ℕ, [], ◌∷◌, ◌++◌, Option, Some, None, codes, replicate, length};
 ghost use Rattle.pgp_core.specs.declared.want.Want.{Want};
 ghost use Rattle.pgp_core.specs.declared.want.Want.TheVariants.{Line, Entry};
-ghost use Rattle.pgp_core.specs.Script.{script_text};
+ghost use Rattle.pgp_core.specs.Script.{script_text, answer, answers, log_past, logs};
 ghost use Rattle.pgp_core.specs.Examples.{without_want, copies_line, copies_located};
+
+/// What is written for one line more goes by the log after the lines before it, and so does the log after that line.
+pub fn answers_go_by_the_lines_before()
+    ensures text { (met : List (Option Want)) (lines : List (List ℕ)) (last : Option Want) (line : List ℕ)
+        → length met ≡ length lines
+        → answers [] (met ++ last ∷ []) (lines ++ line ∷ [])
+        ≡ answers [] met lines ++ answer (logs [] met lines) last line }
+    ensures log { (met : List (Option Want)) (lines : List (List ℕ)) (last : Option Want) (line : List ℕ)
+        → length met ≡ length lines
+        → logs [] (met ++ last ∷ []) (lines ++ line ∷ []) ≡ log_past (logs [] met lines) last line }
+{}
 
 /// An empty script has no answer, nor has a line of blanks.
 pub fn scripts_without_answers()

@@ -1,0 +1,9 @@
+use Rattle.std.proofs.Common.{[]}
+use Rattle.pgp_core.proofs.ScriptLemmas.{answers-push, logs-push}
+use Rattle.pgp_core.proofs.laws.scripts.answers_go_by_the_lines_before.Goals as goal
+
+pub returns-clause-text : goal.returns-clause-text
+returns-clause-text c = answers-push []
+
+pub returns-clause-log : goal.returns-clause-log
+returns-clause-log c = logs-push []
