@@ -24,7 +24,8 @@ ghost use Rattle.pgp_core.specs.Locate.{group_of_object};
 ghost use Rattle.pgp_core.specs.Examples.{submits};
 
 /// An entry is refused since the log is closed, or else for what is wrong with it, or else since the log is full, which
-/// it never is for a Close.
+/// it never is for a Close. A full log is too large for a worked row: this is of any log of that length, and a test of the
+/// program fills one.
 pub fn refusals_in_order()
     ensures closed { (log : List Entry) (new : Entry) → is_closed log ≡ true
         → fits log new ≡ Some refusal.Closed }

@@ -125,7 +125,8 @@ pub fn new_weights_open_an_interval()
 
 /// A group of which nobody was heard waits for the members of acting.
 pub fn nobody_was_heard()
-    ensures { scratch (maps (copies_on_three ∷ [])) copies_group ≡ Some (record {
+    ensures without_temp { option_map (λ view. view.verdict) (scratch (maps (copies_placed ∷ [])) copies_group) ≡ Some the.Waiting }
+    ensures view { scratch (maps (copies_on_three ∷ [])) copies_group ≡ Some (record {
       count = 1;
       epoch = 1;
       up = Some 0 ∷ [];

@@ -1,5 +1,6 @@
 -- Small map incrementals.
-use Rattle.std.specs.Prelude.{ℕ, List, [], ◌∷◌, Option, None}
+use Rattle.std.specs.Prelude.{ℕ, List, [], ◌∷◌, Option, None, map}
+use Rattle.std.specs.List.{range_with_len}
 use Rattle.pgp_ids.specs.declared.incremental.DeviceEpoch.{DeviceEpoch}
 use Rattle.pgp_ids.specs.declared.incremental.DeviceWeight.{DeviceWeight}
 use Rattle.pgp_ids.specs.declared.incremental.Incremental.{Incremental}
@@ -47,6 +48,15 @@ copies id size = record { id = id; pg_num = 1; kind = Replicated; size = size; m
 -- an erasure pool of one group and size 3, of which two shards give an object back
 abbrev pub shards : ℕ → PoolSpec
 shards id = record { id = id; pg_num = 1; kind = Erasure 2; size = 3; min_size = 2; leaf = 0 }
+
+-- an erasure pool of one group and size 3, of which this many shards give an object back
+abbrev pub shards_of : ℕ → PoolSpec
+shards_of k = record { id = 1; pg_num = 1; kind = Erasure k; size = 3; min_size = 3; leaf = 0 }
+
+-- so many pools of 1,024 groups and one copy
+abbrev pub large_pools : ℕ → List PoolSpec
+large_pools count =
+    map (λ id. record { id = id; pg_num = 1024; kind = Replicated; size = 1; min_size = 1; leaf = 0 }) (range_with_len 1 count)
 
 abbrev pub sized : ℕ → ℕ → ℕ → List PoolSizes
 sized pool size min_size = record { pool = pool; size = size; min_size = min_size } ∷ []

@@ -17,7 +17,8 @@ ghost use Rattle.pgp_map.specs.Held.{held_exists, held_up, held_lost_at, held_po
 ghost use Rattle.pgp_map.specs.MapFault.{map_fault, then_with, is_pool};
 ghost use Rattle.pgp_map.specs.MapOf.{IsMapOf};
 ghost use Rattle.pgp_map.specs.Pools.{pool, temp, has_group};
-ghost use Rattle.pgp_map.specs.Examples.{empty_step, boot, weighs, told, one_up, copies, shards, sized, placed, two_pools, made_again};
+ghost use Rattle.pgp_map.specs.Examples.{empty_step, boot, weighs, told, one_up, copies, shards, shards_of, large_pools, sized, placed, two_pools, made_again};
+ghost use Rattle.std.specs.List.{range_with_len};
 
 /// The first incremental leads to epoch 1.
 #[tactic(auto, unfolding(crate::specs::MapFault::map_fault))]
@@ -76,6 +77,13 @@ pub fn pools_in_range()
     ensures largest { map_fault [] (record (empty_step 1) { pools = copies 1 16 ∷ [] }) ≡ None }
     ensures erasure { map_fault two_pools (record (empty_step 2) { sizes = sized 2 4 2 }) ≡ Some BadPool }
     ensures min_size_of_erasure { map_fault two_pools (record (empty_step 2) { sizes = sized 2 3 3 }) ≡ None }
+    ensures min_size { let pool = copies 1 1 in
+        map_fault [] (record (empty_step 1) { pools = record pool { min_size = 2 } ∷ [] }) ≡ Some BadPool }
+    ensures all_shards { map_fault [] (record (empty_step 1) { pools = shards_of 3 ∷ [] }) ≡ None }
+    ensures too_many_shards { map_fault [] (record (empty_step 1) { pools = shards_of 4 ∷ [] }) ≡ Some BadPool }
+    ensures no_shards { map_fault [] (record (empty_step 1) { pools = shards_of 0 ∷ [] }) ≡ Some BadPool }
+    ensures all_groups { map_fault [] (record (empty_step 1) { pools = large_pools 16 }) ≡ None }
+    ensures too_many_groups { map_fault [] (record (empty_step 1) { pools = large_pools 17 }) ≡ Some BadPool }
     ensures groups { let pool = record (copies 1 1) { pg_num = 1024 } in
         map_fault [] (record (empty_step 1) { pools = record pool { pg_num = 1025 } ∷ [] }) ≡ Some BadPool }
     ensures known { map_fault two_pools (record (empty_step 2) { pools = copies 1 3 ∷ [] }) ≡ Some PoolKnown }
@@ -93,6 +101,8 @@ pub fn temp_lists_fit()
     ensures too_few_shards { map_fault two_pools (record (empty_step 2) { temp = placed 2 (Some 0 ∷ Some 1 ∷ []) }) ≡ Some BadTemp }
     ensures taken_away { map_fault two_pools (record (empty_step 2) { temp = placed 2 [] }) ≡ None }
     ensures repeated { map_fault two_pools (record (empty_step 2) { temp = placed 1 (Some 0 ∷ Some 0 ∷ []) }) ≡ Some BadTemp }
+    ensures all_places { map_fault two_pools (record (empty_step 2) { temp = placed 1 (map Some (range_with_len 0 16)) }) ≡ None }
+    ensures too_many_places { map_fault two_pools (record (empty_step 2) { temp = placed 1 (map Some (range_with_len 0 17)) }) ≡ Some BadTemp }
     ensures before_tree { map_fault one_up (record (empty_step 2) { temp = placed 1 []; crush = Some [] }) ≡ Some BadTemp }
 {}
 

@@ -183,21 +183,32 @@ fn expect_intervals(
     Ok(())
 }
 
+/// The group's acting set is these devices, the first of which is its primary.
+fn expect_acting(rt: &impl Abort, followed: &Followed, acting: &[Option<u16>]) {
+    let members = members_of(&followed.map, followed.pg).expect(rt, "the pool was made");
+    let places = members.acting.as_slice();
+    assert_eq!(rt; places.len(), acting.len());
+    for (osd, expected) in places.iter().zip(acting.iter()) {
+        assert_eq!(rt; osd.map(|osd| osd.number()), *expected);
+    }
+    assert_eq!(rt; members.acting_primary, members.acting.first());
+}
+
 /// Where pg_temp puts the group on devices that aren't up, the up set serves, and no interval ends by that.
 #[test]
 fn pg_temp_falls_back(rt: HostRuntime) -> Result<(), Fail> {
     let without_temp =
         r#"{"op":"inc","epoch":1,"up":[0,1,2],"weight":[[1,0],[2,0]],"crush":[{"id":-1,"type":1,"alg":"uniform","items":[0,1,2]}],"pools":[{"id":1,"pg_num":1,"kind":"replicated","size":3,"min_size":2,"leaf":0}]}"#;
-    expect_intervals(
-        &rt,
-        rt.alloc(),
-        1,
-        &[
-            without_temp,
-            r#"{"op":"inc","epoch":2,"down":[1,2],"temp":[[1,0,[1,2]]]}"#,
-        ],
-        r#"{"first":1,"intervals":[],"ok":"trace"}"#,
-    )
+    let lines = [
+        without_temp,
+        r#"{"op":"inc","epoch":2,"down":[1,2],"temp":[[1,0,[1,2]]]}"#,
+    ];
+    let followed = Followed::new(&rt, rt.alloc(), 1, &lines)?;
+    expect_acting(&rt, &followed, &[Some(0)]);
+    let text = followed.intervals(&rt)?;
+    let none = br#"{"first":1,"intervals":[],"ok":"trace"}"#;
+    assert_eq!(rt; text.as_slice(), none.as_slice());
+    Ok(())
 }
 
 /// Copies that are down are left out, and places of shards that are down are empty.
@@ -209,13 +220,7 @@ fn devices_go_down(rt: HostRuntime) -> Result<(), Fail> {
     for (pool, made, acting) in [(1, COPIES, copies), (2, SHARDS, shards)] {
         let lines = [made, r#"{"op":"inc","epoch":2,"down":[1]}"#];
         let followed = Followed::new(rt, alloc, pool, &lines)?;
-        let members = members_of(&followed.map, followed.pg).expect(rt, "the pool was made");
-        let places = members.acting.as_slice();
-        assert_eq!(rt; places.len(), acting.len());
-        for (osd, expected) in places.iter().zip(acting.iter()) {
-            assert_eq!(rt; osd.map(|osd| osd.number()), *expected);
-        }
-        assert_eq!(rt; members.acting_primary.map(|osd| osd.number()), Some(0));
+        expect_acting(rt, &followed, acting);
     }
     Ok(())
 }
@@ -274,6 +279,7 @@ fn sizes_end_an_interval(rt: HostRuntime) -> Result<(), Fail> {
 fn shards_all_go_down(rt: HostRuntime) -> Result<(), Fail> {
     let lines = [SHARDS, r#"{"op":"inc","epoch":2,"down":[0,1,2]}"#];
     let followed = Followed::new(&rt, rt.alloc(), 2, &lines)?;
+    expect_acting(&rt, &followed, &[None, None, None]);
     let text = followed.intervals(&rt)?;
     assert_eq!(rt;
         text.as_slice(),
