@@ -9,6 +9,9 @@ Writes into FOLDER (by default bench/out) these files, which are the same at eve
                   a replicated and an erasure pool of 512 groups each, some devices out, some groups with a pg_temp list
   incs.jsonl      2,000 incrementals: the first makes 64 devices, their tree and a pool, each later one takes devices
                   down, boots others and tells of up_thru
+  map.jsonl       256 incrementals that make the largest map: 4,096 devices in 256 hosts in 8 racks, and 255 pools of
+                  16,384 groups in all, each with a pg_temp list
+  steps.jsonl     the same, and then 2,000 incrementals as the later ones of incs.jsonl
   traces.jsonl    500 traces, each as long as a line of at most 1,048,576 bytes may be, with lists of 16 places
   empty.jsonl     nothing, for what a start takes
 
@@ -74,16 +77,42 @@ def locate(rng, count):
 
 def incs(rng, count):
     """Gives incrementals: the first makes 64 devices, the others take some down and boot others."""
-    up, down = list(range(64)), []
-    pool = {"id": 1, "pg_num": 256, "kind": "replicated", "size": 3, "min_size": 2, "leaf": HOST}
-    yield compact({"op": "inc", "epoch": 1, "up": up, "pools": [pool], "crush": tree(4, 4, 4)})
-    for epoch in range(2, count + 1):
+    up = list(range(64))
+    yield compact({"op": "inc", "epoch": 1, "up": up, "pools": [copies(1, 256)], "crush": tree(4, 4, 4)})
+    yield from falls_and_boots(rng, up, range(2, count + 1))
+
+
+def copies(pool, groups):
+    """Gives a pool of so many groups, with three copies on different hosts."""
+    return {"id": pool, "pg_num": groups, "kind": "replicated", "size": 3, "min_size": 2, "leaf": HOST}
+
+
+def falls_and_boots(rng, up, epochs):
+    """Gives the incrementals to these epochs, each of which takes some of the devices down and boots others."""
+    down = []
+    for epoch in epochs:
         falls = rng.sample(up, rng.randint(1, 3))
         boots = rng.sample(down, len(down) - 8) if len(down) > 8 else []
         up = [osd for osd in up if osd not in falls] + boots
         down = [osd for osd in down if osd not in boots] + falls
         told = [[osd, epoch] for osd in rng.sample(up, 4)]
         yield compact({"op": "inc", "epoch": epoch, "up": boots, "down": falls, "up_thru": told})
+
+
+def largest_map(rng, _count):
+    """Gives the incrementals that make the largest map: one for all but the pg_temp lists, and one for those of a pool."""
+    devices = range(4096)
+    pools = [copies(pool, 64) for pool in range(1, 255)] + [copies(255, 128)]
+    yield compact({"op": "inc", "epoch": 1, "up": list(devices), "pools": pools, "crush": tree(8, 32, 16)})
+    for pool in pools:
+        temps = [[pool["id"], pg, rng.sample(devices, 3)] for pg in range(pool["pg_num"])]
+        yield compact({"op": "inc", "epoch": pool["id"] + 1, "temp": temps})
+
+
+def steps(rng, count):
+    """Gives the largest map, and then small incrementals."""
+    yield from largest_map(rng, count)
+    yield from falls_and_boots(rng, list(range(4096)), range(257, count + 1))
 
 
 def traces(rng, count):
@@ -130,7 +159,14 @@ def empty(_rng, _count):
     return ()
 
 
-INPUTS = {"locate": (locate, 200_000), "incs": (incs, 2_000), "traces": (traces, 500), "empty": (empty, 0)}
+INPUTS = {
+    "locate": (locate, 200_000),
+    "incs": (incs, 2_000),
+    "map": (largest_map, 256),
+    "steps": (steps, 2_256),
+    "traces": (traces, 500),
+    "empty": (empty, 0),
+}
 
 
 def main(folder):

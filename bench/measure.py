@@ -4,7 +4,7 @@
     bench/measure.py [--program PATH] [--inputs FOLDER] [--runs N] [NAME...]
 
 PATH is the built program (by default crates/pgpeer/out/pgpeer) and FOLDER what make_inputs.py wrote (by default
-bench/out). NAME is one of locate, incs, traces and empty; without one all are run. The yardstick is `jq -c .`, which
+bench/out). NAME is one of locate, incs, map, steps, traces and empty; without one all are run. The yardstick is `jq -c .`, which
 reads and prints the same lines. The two run N times each (by default 5), by turns, one at a time, and print to nowhere.
 Prints two tables in Markdown, of time and of memory. Needs jq and GNU time (Debian: jq and time).
 
@@ -23,7 +23,7 @@ import time
 from typing import NamedTuple
 
 HERE = os.path.dirname(os.path.abspath(__file__))
-NAMES = ("locate", "incs", "traces", "empty")
+NAMES = ("locate", "incs", "map", "steps", "traces", "empty")
 
 
 class Run(NamedTuple):
