@@ -1,2 +1,3 @@
 pub mod UpLemmas
 pub mod PlaceLemmas
+pub mod RawSetLemmas

@@ -1,7 +1,7 @@
 -- Where a placement group lies, by the map that a list of incrementals makes (Ceph's developer documentation on peering:
 -- up set, acting set, primary).
-use Rattle.std.specs.Prelude.{ℕ, List, Bool, true, false, Option, None, option_map, filter, map, length, nat_eq, if◌then◌else◌}
-use Rattle.std.specs.List.{list_all}
+use Rattle.std.specs.Prelude.{ℕ, List, Bool, true, false, ◌||◌, Option, None, is_some, option_map, filter, map, length, nat_eq, nat_lt, if◌then◌else◌}
+use Rattle.std.specs.List.{list_any, list_all}
 use Rattle.std.specs.Option.{option_map_or}
 use Rattle.pgp_hash.specs.Hash.{hash2}
 use Rattle.pgp_hash.specs.StableMod.{stable_mod}
@@ -28,6 +28,14 @@ placement_input pool pg = hash2 (stable_mod pg.pg pool.pg_num) pg.pool
 -- where the tree puts the group, whatever became of the devices
 abbrev pub raw_set : List Incremental → PoolSpec → PgId → List (Option ℕ)
 raw_set incs pool pg = placement (tree incs) (rule_of pool) (weights incs) (placement_input pool pg) pool.size
+
+-- the raw set of a group, where its pool is there
+abbrev pub raw_set_of : List Incremental → PgId → Option (List (Option ℕ))
+raw_set_of incs pg = option_map (λ made. raw_set incs made pg) (pool incs pg.pool)
+
+-- the incremental may move groups of this pool: it gives a tree, weights, or sizes of the pool
+abbrev pub moves : Incremental → ℕ → Bool
+moves inc id = is_some inc.crush || nat_lt 0 (length inc.weight) || list_any (λ sizes. nat_eq sizes.pool id) inc.sizes
 
 -- the place, emptied if its device isn't up
 abbrev pub if_up : List Incremental → Option ℕ → Option ℕ

@@ -1,16 +1,17 @@
 //! What the definitions say of small maps.
 #![tactic(auto, unfolding(crate::specs::Worked::sets_computed))]
 
-ghost use Rattle.std.specs.Prelude.{◌≡◌, ℕ, List, true, [], ◌∷◌, Some, None};
+ghost use Rattle.std.specs.Prelude.{◌≡◌, ℕ, List, Option, true, false, [], ◌∷◌, Some, None};
 ghost use Rattle.pgp_sets.specs.declared.status.Status.TheVariants.{Up, Gone, Lost, Down};
 ghost use Rattle.pgp_ids.specs.declared.incremental.Incremental.{Incremental};
 ghost use Rattle.pgp_ids.specs.declared.member.Membership.{Membership};
 ghost use Rattle.pgp_ids.specs.declared.pg_id.PgId.{PgId};
 ghost use Rattle.pgp_map.specs.declared.map.OsdMap.{OsdMap};
 ghost use Rattle.pgp_map.specs.Examples.{boot, empty_step};
+ghost use Rattle.pgp_map.specs.MapFault.{map_fault, then_with};
 ghost use Rattle.pgp_map.specs.MapOf.{IsMapOf};
 ghost use Rattle.pgp_sets.specs.Status.{status, held_status};
-ghost use Rattle.pgp_sets.specs.Sets.{membership, membership_at, are_up};
+ghost use Rattle.pgp_sets.specs.Sets.{membership, membership_at, raw_set_of, moves, are_up};
 ghost use Rattle.pgp_sets.specs.Examples.{of_device, of_weight, copies_group, shards_group, stands_on, lies_on, copies_placed, copies_on_three, shards_on_three, take_down, resize};
 
 /// Each device of up and of acting is up.
@@ -19,6 +20,12 @@ pub fn who_lies_there_is_up()
         → membership incs pg ≡ Some members → are_up incs members.up ≡ true }
     ensures acting { (incs : List Incremental) (pg : PgId) (members : Membership)
         → membership incs pg ≡ Some members → are_up incs members.acting ≡ true }
+{}
+
+/// Where the tree puts a group stays, unless an incremental gives a tree, weights, or sizes of the group's pool.
+pub fn raw_sets_stay()
+    ensures { (incs : List Incremental) (inc : Incremental) (pg : PgId) (places : List (Option ℕ)) → map_fault incs inc ≡ None
+        → moves inc pg.pool ≡ false → raw_set_of incs pg ≡ Some places → raw_set_of (then_with incs inc) pg ≡ Some places }
 {}
 
 /// The status that a map gives by [`StatusOf`](crate::StatusOf) is the one that the incrementals give that made it.
