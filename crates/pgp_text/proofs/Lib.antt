@@ -1,7 +1,1 @@
-pub mod Values
-pub mod Walks
-pub mod Keys
-pub mod BucketLemmas
-pub mod Sized
 pub mod FaultLemmas
-pub mod Floats

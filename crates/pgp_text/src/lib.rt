@@ -1,14 +1,8 @@
-//! The text of lines and of answers, in this project's own format over JSON (RFC 8259).
-//!
-//! The layer decides what a line says: one command, or the first of its faults in a fixed order. A line that is no JSON
-//! text comes before one that names no operation, that before an unknown key, and that before a bad or absent value; of
-//! several keys the least in byte order is named. It decides too how each reply is written: compact JSON, the keys of
-//! each object in ascending byte order. Whether a command makes sense to the map or to the log is decided elsewhere.
+//! The text of lines and of answers, in this project's own format over JSON (RFC 8259): what `pgp_lines` reads and what
+//! `pgp_replies` writes, and that the fault of a line is written as it was told.
 #![tactic(auto)]
 
-mod command;
 pub mod laws;
-mod reply;
 
-pub use command::{Command, read_line};
-pub use reply::{EntryOp, Refused, Reply, write_reply};
+pub use pgp_lines::{Command, read_line};
+pub use pgp_replies::{EntryOp, Refused, Reply, write_reply};

@@ -1,0 +1,5 @@
+pub mod Values
+pub mod Walks
+pub mod Keys
+pub mod BucketLemmas
+pub mod Sized

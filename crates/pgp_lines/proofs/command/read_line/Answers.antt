@@ -1,0 +1,8 @@
+use Rattle.std.proofs.lemmas.Result.{IfOk-weaker}
+use Rattle.serde_json.specs.View.{view}
+use Rattle.pgp_lines.proofs.Sized.{in_range}
+use Rattle.pgp_lines.proofs.command.read_line.Goals as goal
+
+pub returns-clause-in_range : goal.returns-clause-in_range
+returns-clause-in_range c =
+    IfOk-weaker c.read_command.result _ _ (λ command is. in_range (view c.in_ok-value.value) command is) c.read_command.ensures.ok

@@ -1,0 +1,57 @@
+-- The buckets of a placement tree in a line.
+use Rattle.std.specs.Prelude.{ℕ, ℤ, pos, negsuc, List, [], ◌∷◌, codes, Option, Some, None, option_map, option_and_then, if◌then◌else◌}
+use Rattle.std.specs.Str.{bytes_eq}
+use Rattle.serde_json.specs.Data.{Data}
+use Rattle.serde_json.specs.Find.{as_str}
+use Rattle.pgp_ids.specs.declared.bucket.BucketAlg.{BucketAlg}
+use Rattle.pgp_ids.specs.declared.bucket.BucketAlg.TheVariants.{Uniform, List as Weighed}
+use Rattle.pgp_ids.specs.declared.bucket.BucketSpec.{BucketSpec}
+use Rattle.pgp_lines.specs.Shapes.{integer_in, list_of, has_only, field, ◌>>=◌}
+use Rattle.pgp_lines.specs.Ids.{byte_in, word_in}
+use Rattle.pgp_lines.specs.MadeBucket.{bucket_of}
+
+-- the bucket's id, from -65536 to -1
+abbrev pub bucket_id_in : Data → Option ℤ
+bucket_id_in d = integer_in (negsuc 65535) (negsuc 0) d
+
+-- a bucket by its id, or a device by its number
+abbrev pub bucket_item_in : Data → Option ℤ
+bucket_item_in d = integer_in (negsuc 65535) (pos 65535) d
+
+-- how a bucket of this name chooses
+abbrev pub alg_named : List ℕ → Option BucketAlg
+alg_named name =
+    if bytes_eq name (codes "uniform") then Some Uniform else (if bytes_eq name (codes "list") then Some Weighed else None)
+
+abbrev pub alg_in : Data → Option BucketAlg
+alg_in d = option_and_then alg_named (as_str d)
+
+-- the keys of a bucket's object
+abbrev pub bucket_keys : BucketAlg → List (List ℕ)
+bucket_keys Uniform = codes "alg" ∷ codes "id" ∷ codes "items" ∷ codes "type" ∷ []
+bucket_keys Weighed = codes "alg" ∷ codes "id" ∷ codes "items" ∷ codes "type" ∷ codes "weights" ∷ []
+
+-- the weights, which a list bucket alone has
+abbrev pub weights_in : BucketAlg → Data → Option (List ℕ)
+weights_in Uniform d = Some []
+weights_in Weighed d = field (codes "weights") (list_of word_in) d
+
+-- the fields of a bucket that chooses so
+abbrev pub bucket_fields_in : BucketAlg → Data → Option BucketSpec
+bucket_fields_in alg d = do
+  id ← field (codes "id") bucket_id_in d
+  kind ← field (codes "type") byte_in d
+  items ← field (codes "items") (list_of bucket_item_in) d
+  weights ← weights_in alg d
+  bucket_of id kind alg items weights
+
+abbrev pub bucket_with : Data → BucketAlg → Option BucketSpec
+bucket_with d alg = if has_only (bucket_keys alg) d then bucket_fields_in alg d else None
+
+-- a bucket's object: the fields of its kind, and no other; a list bucket has as many weights as items
+abbrev pub bucket_in : Data → Option BucketSpec
+bucket_in d = option_and_then (bucket_with d) (field (codes "alg") alg_in d)
+
+-- the buckets of a tree; an empty list is a tree without buckets
+abbrev pub tree_in : Data → Option (Option (List BucketSpec))
+tree_in d = option_map Some (list_of bucket_in d)

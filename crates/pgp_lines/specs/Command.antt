@@ -1,0 +1,143 @@
+-- The command that a line is, in this project's own format over JSON (RFC 8259).
+use Rattle.std.specs.Prelude.{◌≤◌, ℕ, List, [], ◌∷◌, length, Bool, true, false, codes, if◌then◌else◌, Option, Some, None, Result, Ok, Err, option_and_then}
+use Rattle.std.specs.Option.{ok_or}
+use Rattle.std.specs.Str.{bytes_eq, is_utf8}
+use Rattle.serde_json.specs.Data.{Data}
+use Rattle.serde_json.specs.Find.{as_str}
+use Rattle.serde_json.specs.Read.{read}
+use Rattle.pgp_ids.specs.declared.entry.Entry.{Entry}
+use Rattle.pgp_ids.specs.declared.entry.Entry.TheVariants.{Inc, Info, Entries, Close}
+use Rattle.pgp_ids.specs.declared.group_member.Member.{Member}
+use Rattle.pgp_ids.specs.declared.pg_id.PgId.{PgId}
+use Rattle.pgp_ids.specs.declared.pool.PoolKind.{PoolKind}
+use Rattle.pgp_ids.specs.declared.pool.PoolKind.TheVariants.{Replicated, Erasure}
+use Rattle.pgp_lines.specs.LineFault.{LineFault, not_json, no_op, unknown_key, ◌>>=◌}
+use Rattle.pgp_lines.specs.Shapes.{unknown_key_in, field, required}
+use Rattle.pgp_lines.specs.Incremental.{inc_keys, inc_of}
+use Rattle.pgp_lines.specs.Reports.{info_keys, info_of, entries_keys, entries_of, ask_keys, ask_of, locate_keys, locate_of}
+use Rattle.pgp_lines.specs.Trace.{trace_keys, code_in, epochs_in, has_empty_places}
+use Rattle.pgp_lines.specs.declared.command.Command.{Command}
+use Rattle.pgp_lines.specs.declared.command.Command.TheVariants.{Submit, Ask, Locate, Trace}
+use Rattle.pgp_lines.specs.declared.command.Op.{Op}
+use Rattle.pgp_lines.specs.declared.command.Op.TheVariants as op
+
+-- the operation of this name
+abbrev pub op_named : List ℕ → Option Op
+op_named name =
+    if bytes_eq name (codes "ask") then Some op.Ask
+    else (if bytes_eq name (codes "close") then Some op.Close
+    else (if bytes_eq name (codes "entries") then Some op.Entries
+    else (if bytes_eq name (codes "inc") then Some op.Inc
+    else (if bytes_eq name (codes "info") then Some op.Info
+    else (if bytes_eq name (codes "locate") then Some op.Locate
+    else (if bytes_eq name (codes "trace") then Some op.Trace else None))))))
+
+-- The operations that a line can name today: `ask` isn't answered yet, so a line that names it names no operation.
+abbrev pub has_come : Op → Bool
+has_come op.Ask = false
+has_come op.Close = true
+has_come op.Entries = true
+has_come op.Inc = true
+has_come op.Info = true
+has_come op.Locate = true
+has_come op.Trace = true
+
+-- the operation, where it has come
+abbrev pub if_come : Op → Option Op
+if_come named = if has_come named then Some named else None
+
+-- the operation that a line names
+abbrev pub op_in : Data → Option Op
+op_in d = option_and_then if_come (option_and_then op_named (field (codes "op") as_str d))
+
+-- the keys that its line may have
+abbrev pub op_keys : Op → List (List ℕ)
+op_keys op.Ask = ask_keys
+op_keys op.Close = codes "op" ∷ []
+op_keys op.Entries = entries_keys
+op_keys op.Inc = inc_keys
+op_keys op.Info = info_keys
+op_keys op.Locate = locate_keys
+op_keys op.Trace = trace_keys
+
+-- the line of a trace: its keys are judged in ascending byte order, so the least bad one is named
+abbrev pub trace_of : Data → Result Command LineFault
+trace_of d = do
+  code ← required (codes "code") code_in d
+  epochs ← required (codes "epochs") (epochs_in (has_empty_places code)) d
+  Ok (Trace code epochs)
+
+-- the line of this operation, past the judgement of its keys
+abbrev pub command_with : Op → Data → Result Command LineFault
+command_with op.Ask d = do
+  pg ← ask_of d
+  Ok (Ask pg)
+command_with op.Close d = Ok (Submit Close)
+command_with op.Entries d = do
+  report ← entries_of d
+  Ok (Submit (Entries report))
+command_with op.Inc d = do
+  inc ← inc_of d
+  Ok (Submit (Inc inc))
+command_with op.Info d = do
+  info ← info_of d
+  Ok (Submit (Info info))
+command_with op.Locate d = do
+  object ← locate_of d
+  Ok (Locate object.0 object.1)
+command_with op.Trace d = trace_of d
+
+-- an unknown key is told before a bad value
+abbrev pub known : {A : Type 0} → Option (List ℕ) → Result A LineFault → Result A LineFault
+known (Some key) read = Err (unknown_key key)
+known None read = read
+
+-- the command that a value is: an object whose `op` names an operation
+abbrev pub command_in : Data → Result Command LineFault
+command_in d = do
+  named ← ok_or (op_in d) no_op
+  known (unknown_key_in (op_keys named) d) (command_with named d)
+
+-- the value of a text, where the bytes are one
+abbrev pub data_of : List ℕ → Option Data
+data_of bytes = if is_utf8 bytes then read bytes else None
+
+-- the command that a line is, by its bytes without the line feed
+abbrev pub command_of : List ℕ → Result Command LineFault
+command_of bytes = do
+  d ← ok_or (data_of bytes) not_json
+  command_in d
+
+-- what a line with these keys says, by the judgement of its values
+abbrev pub line_with : {A : Type 0} → List (List ℕ) → (Data → Result A LineFault) → List ℕ → Result A LineFault
+line_with keys values bytes = do
+  d ← ok_or (data_of bytes) not_json
+  known (unknown_key_in keys d) (values d)
+
+-- a pool's kind as a trace can give it
+abbrev pub IsTraceCode : PoolKind → Type 0
+IsTraceCode Replicated = Unit {0}
+IsTraceCode (Erasure k) = (1 ≤ k) × (k ≤ 16)
+
+-- a group as a line can name it
+abbrev pub IsGroup : PgId → Type 0
+IsGroup pg = (1 ≤ pg.pool) × (pg.pool ≤ 255) × (pg.pg ≤ 1023)
+
+-- a member as a line can name it
+abbrev pub IsMember : Member → Type 0
+IsMember member = (member.osd ≤ 4095) × (member.slot ≤ 15)
+
+-- of each entry what its line has to meet: a report has 1 to 256 log entries
+abbrev pub IsEntry : Entry → Type 0
+IsEntry (Inc inc) = Unit {0}
+IsEntry (Info info) = IsGroup info.pg × IsMember info.member
+IsEntry (Entries report) = IsGroup report.pg × IsMember report.member × (1 ≤ length report.log) × (length report.log ≤ 256)
+IsEntry Close = Unit {0}
+
+-- Of each command what its line has to meet: a trace has 1 to 4,096 epochs, and an erasure code 1 to 16 data shards; the name of an object
+-- has 1 to 255 bytes. No line is a question about a group yet.
+abbrev pub IsInRange : Command → Type 0
+IsInRange (Submit entry) = IsEntry entry
+IsInRange (Ask pg) = ⊥
+IsInRange (Locate pool name) = (1 ≤ pool) × (pool ≤ 255) × (1 ≤ length name) × (length name ≤ 255)
+IsInRange (Trace code epochs) = IsTraceCode code × (1 ≤ length epochs) × (length epochs ≤ 4096)

@@ -1,0 +1,13 @@
+pub mod LineFault
+pub mod Shapes
+pub mod Ids
+pub mod Devices
+pub mod Pools
+pub mod MadeBucket
+pub mod Buckets
+pub mod Incremental
+pub mod Trace
+pub mod ReportParts
+pub mod Reports
+pub mod Command
+pub mod WorkedLines

@@ -1,0 +1,79 @@
+-- The lines of reports and of questions, in this project's own format over JSON.
+use Rattle.std.specs.Prelude.{ℕ, List, [], ◌∷◌, codes, Result, Ok}
+use Rattle.serde_json.specs.Data.{Data}
+use Rattle.serde_json.specs.Find.{as_bool}
+use Rattle.pgp_ids.specs.declared.pg_id.PgId.{PgId}
+use Rattle.pgp_ids.specs.declared.report.Info.{Info}
+use Rattle.pgp_ids.specs.declared.report.Report.{Report}
+use Rattle.pgp_lines.specs.LineFault.{LineFault, ◌>>=◌}
+use Rattle.pgp_lines.specs.Shapes.{list_in, required}
+use Rattle.pgp_lines.specs.Ids.{pool_id_in, word_in}
+use Rattle.pgp_lines.specs.ReportParts.{pg_in, member_in, version_in, name_in, log_entry_in}
+
+-- the keys that the line of an info must have
+abbrev pub info_keys : List (List ℕ)
+info_keys =
+    codes "complete"
+    ∷ codes "from"
+    ∷ codes "history_les"
+    ∷ codes "last_update"
+    ∷ codes "les"
+    ∷ codes "log_tail"
+    ∷ codes "op"
+    ∷ codes "pg"
+    ∷ codes "stamp"
+    ∷ []
+
+-- the line of an info: its keys are judged in ascending byte order, so the least bad one is named
+abbrev pub info_of : Data → Result Info LineFault
+info_of d = do
+  complete ← required (codes "complete") as_bool d
+  member ← required (codes "from") member_in d
+  history_les ← required (codes "history_les") word_in d
+  last_update ← required (codes "last_update") version_in d
+  les ← required (codes "les") word_in d
+  log_tail ← required (codes "log_tail") version_in d
+  pg ← required (codes "pg") pg_in d
+  stamp ← required (codes "stamp") word_in d
+  Ok (record {
+    pg = pg;
+    member = member;
+    stamp = stamp;
+    les = les;
+    history_les = history_les;
+    last_update = last_update;
+    log_tail = log_tail;
+    complete = complete;
+  })
+
+-- the keys that the line of log entries must have
+abbrev pub entries_keys : List (List ℕ)
+entries_keys = codes "from" ∷ codes "log" ∷ codes "op" ∷ codes "pg" ∷ codes "stamp" ∷ []
+
+-- the line of 1 to 256 log entries
+abbrev pub entries_of : Data → Result Report LineFault
+entries_of d = do
+  member ← required (codes "from") member_in d
+  log ← required (codes "log") (list_in 1 256 log_entry_in) d
+  pg ← required (codes "pg") pg_in d
+  stamp ← required (codes "stamp") word_in d
+  Ok (record { pg = pg; member = member; stamp = stamp; log = log })
+
+-- the keys that the line of a question must have
+abbrev pub ask_keys : List (List ℕ)
+ask_keys = codes "op" ∷ codes "pg" ∷ []
+
+-- the group that a line asks about
+abbrev pub ask_of : Data → Result PgId LineFault
+ask_of d = required (codes "pg") pg_in d
+
+-- the keys that a line must have which asks where an object lies
+abbrev pub locate_keys : List (List ℕ)
+locate_keys = codes "name" ∷ codes "op" ∷ codes "pool" ∷ []
+
+-- the pool and the name of the object that a line asks for
+abbrev pub locate_of : Data → Result (ℕ × List ℕ) LineFault
+locate_of d = do
+  name ← required (codes "name") name_in d
+  pool ← required (codes "pool") pool_id_in d
+  Ok (pool, name)

@@ -1,0 +1,78 @@
+-- The values of a trace line, in this project's own format: a code, and a group's epochs from epoch 1 on.
+use Rattle.std.specs.Prelude.{ℕ, List, [], ◌∷◌, Bool, true, false, codes, if◌then◌else◌, Option, Some, None, option_map, option_and_then}
+use Rattle.std.specs.Str.{bytes_eq}
+use Rattle.pgp_ids.specs.declared.pool.PoolKind.{PoolKind}
+use Rattle.pgp_ids.specs.declared.pool.PoolKind.TheVariants.{Replicated, Erasure}
+use Rattle.serde_json.specs.Data.{Data}
+use Rattle.serde_json.specs.Find.{as_str}
+use Rattle.pgp_ids.specs.Osds.{first_osd}
+use Rattle.pgp_ids.specs.declared.history.EpochState.{EpochState}
+use Rattle.pgp_lines.specs.Ids.{place_in, word_in}
+use Rattle.pgp_lines.specs.Shapes.{number_in, list_in, has_only, field, ◌>>=◌}
+
+-- {"kind":"replicated"}
+abbrev pub replicated_in : Data → Option PoolKind
+replicated_in d = if has_only (codes "kind" ∷ []) d then Some Replicated else None
+
+-- {"k":1..=16,"kind":"erasure"}
+abbrev pub erasure_in : Data → Option PoolKind
+erasure_in d = if has_only (codes "k" ∷ codes "kind" ∷ []) d then option_map Erasure (field (codes "k") (number_in 1 16) d) else None
+
+-- the code of this kind
+abbrev pub code_of_kind : Data → List ℕ → Option PoolKind
+code_of_kind d kind =
+    if bytes_eq kind (codes "replicated") then replicated_in d else (if bytes_eq kind (codes "erasure") then erasure_in d else None)
+
+-- how the group's pool keeps its objects
+abbrev pub code_in : Data → Option PoolKind
+code_in d = option_and_then (code_of_kind d) (field (codes "kind") as_str d)
+
+-- a list of devices may have empty places
+abbrev pub has_empty_places : PoolKind → Bool
+has_empty_places Replicated = false
+has_empty_places (Erasure k) = true
+
+-- the places of a list of devices, at most 16
+abbrev pub osds_in : Bool → Data → Option (List (Option ℕ))
+osds_in nulls d = list_in 0 16 (place_in nulls) d
+
+-- an epoch's state: each primary is the first device of its list
+abbrev pub epoch_state : List (Option ℕ) → List (Option ℕ) → ℕ → ℕ → ℕ → ℕ → EpochState
+epoch_state up acting size min_size up_from up_thru = record {
+  members = record {
+    up = up;
+    up_primary = first_osd up;
+    acting = acting;
+    acting_primary = first_osd acting;
+    size = size;
+    min_size = min_size;
+  };
+  facts = record { up_from = up_from; up_thru = up_thru };
+}
+
+-- the keys that an epoch's object must have
+abbrev pub epoch_keys : List (List ℕ)
+epoch_keys = codes "acting" ∷ codes "min_size" ∷ codes "size" ∷ codes "up" ∷ codes "up_from" ∷ codes "up_thru" ∷ []
+
+-- the fields of an epoch's object
+abbrev pub epoch_fields_in : Bool → Data → Option EpochState
+epoch_fields_in nulls d = do
+  up ← field (codes "up") (osds_in nulls) d
+  acting ← field (codes "acting") (osds_in nulls) d
+  size ← field (codes "size") (number_in 1 16) d
+  min_size ← field (codes "min_size") (number_in 1 size) d
+  up_from ← field (codes "up_from") word_in d
+  up_thru ← field (codes "up_thru") word_in d
+  Some (epoch_state up acting size min_size up_from up_thru)
+
+-- an object with these fields and no other
+abbrev pub epoch_state_in : Bool → Data → Option EpochState
+epoch_state_in nulls d = if has_only epoch_keys d then epoch_fields_in nulls d else None
+
+-- 1 to 4,096 epochs
+abbrev pub epochs_in : Bool → Data → Option (List EpochState)
+epochs_in nulls d = list_in 1 4096 (epoch_state_in nulls) d
+
+-- the keys that the line of a trace must have
+abbrev pub trace_keys : List (List ℕ)
+trace_keys = codes "code" ∷ codes "epochs" ∷ codes "op" ∷ []

@@ -1,0 +1,194 @@
+-- The lines of the worked laws, and what they say.
+use Rattle.std.specs.Prelude.{ℕ, pos, negsuc, List, [], ◌∷◌, ◌++◌, codes, true, false, Some, None, ⊤, refl}
+use Rattle.std.specs.Fmt.{digits}
+use Rattle.std.specs.Str.{is_utf8, chars}
+use Rattle.serde_json.proofs.OnLiterals.{serde_json_on_literals}
+use Rattle.pgp_ids.specs.declared.bucket.BucketAlg.TheVariants.{Uniform, List as Weighed}
+use Rattle.pgp_ids.specs.declared.bucket.BucketSpec.{BucketSpec}
+use Rattle.pgp_ids.specs.declared.entry.Entry.TheVariants.{Inc}
+use Rattle.pgp_ids.specs.declared.incremental.DeviceWeight.{DeviceWeight}
+use Rattle.pgp_ids.specs.declared.incremental.Incremental.{Incremental}
+use Rattle.pgp_ids.specs.declared.incremental.TempList.{TempList}
+use Rattle.pgp_ids.specs.declared.log_entry.Change.TheVariants.{Modify, Delete}
+use Rattle.pgp_ids.specs.declared.pool.PoolKind.{PoolKind}
+use Rattle.pgp_ids.specs.declared.pool.PoolKind.TheVariants.{Replicated, Erasure}
+use Rattle.pgp_ids.specs.declared.report.Info.{Info}
+use Rattle.pgp_ids.specs.declared.report.Report.{Report}
+use Rattle.pgp_lines.specs.MadeBucket.{sound_bucket}
+use Rattle.pgp_lines.specs.Trace.{epoch_state}
+use Rattle.pgp_lines.specs.declared.command.Command.{Command}
+use Rattle.pgp_lines.specs.declared.command.Command.TheVariants.{Submit, Trace}
+
+-- nothing but a name for the list below: a proof that unfolds it sees lines and answers computed
+unfoldable pub text_computed : ⊤
+unfolding is_utf8 chars digits serde_json_on_literals
+text_computed = tt
+
+-- a trace of one epoch in a replicated pool
+abbrev pub trace_line : List ℕ
+trace_line =
+    codes "{\"op\":\"trace\",\"code\":{\"kind\":\"replicated\"},\"epochs\":[{\"up\":[3],\"acting\":[1,3],\"size\":2"
+    ++ codes ",\"min_size\":1,\"up_from\":7,\"up_thru\":0}]}"
+
+-- what that line says
+abbrev pub trace_command : Command
+trace_command = Trace Replicated (epoch_state (Some 3 ∷ []) (Some 1 ∷ Some 3 ∷ []) 2 1 7 0 ∷ [])
+
+-- a trace of one epoch in an erasure pool, each number at the end of its range
+abbrev pub erasure_line : List ℕ
+erasure_line =
+    codes "{\"op\":\"trace\",\"code\":{\"kind\":\"erasure\",\"k\":16},\"epochs\":[{\"up\":[null,3],\"acting\":[null"
+    ++ codes "],\"size\":16,\"min_size\":16,\"up_from\":0,\"up_thru\":4294967295}]}"
+
+-- what that line says
+abbrev pub erasure_command : Command
+erasure_command = Trace (Erasure 16) (epoch_state (None ∷ Some 3 ∷ []) (None ∷ []) 16 16 0 4294967295 ∷ [])
+
+-- an incremental of epoch 1, with more keys
+abbrev pub inc_with : List ℕ → List ℕ
+inc_with keys = codes "{\"op\":\"inc\",\"epoch\":1," ++ keys ++ codes "}"
+
+-- an incremental that does nothing
+abbrev pub empty_inc : ℕ → Incremental
+empty_inc epoch = record {
+  epoch = epoch;
+  up = [];
+  down = [];
+  gone = [];
+  weight = [];
+  up_thru = [];
+  lost = [];
+  pools = [];
+  sizes = [];
+  temp = [];
+  crush = None;
+}
+
+-- devices whose weight becomes 0
+abbrev pub out_of : List ℕ → List DeviceWeight
+out_of [] = []
+out_of (osd ∷ osds) = record { osd = osd; weight = 0 } ∷ out_of osds
+
+-- the first incremental of a small cluster: a root over all devices, some of which are out, and one pool of one group
+abbrev pub opening : List ℕ → List ℕ → BucketSpec → ℕ → PoolKind → List TempList → Command
+opening up out root pool kind temp = Submit (Inc (record (empty_inc 1) {
+  up = up;
+  weight = out_of out;
+  pools = record { id = pool; pg_num = 1; kind = kind; size = 3; min_size = 2; leaf = 0 } ∷ [];
+  temp = temp;
+  crush = Some (root ∷ []);
+}))
+
+-- a replicated pool whose one group is placed by pg_temp
+abbrev pub replicated_line : List ℕ
+replicated_line =
+    codes "{\"op\":\"inc\",\"epoch\":1,\"up\":[0,1,2],\"weight\":[[1,0],[2,0]],\"crush\":[{\"id\":-1,\"type\":1,\""
+    ++ codes "alg\":\"uniform\",\"items\":[0,1,2]}],\"pools\":[{\"id\":1,\"pg_num\":1,\"kind\":\"replicated\",\"size"
+    ++ codes "\":3,\"min_size\":2,\"leaf\":0}],\"temp\":[[1,0,[0,1,2]]]}"
+
+-- what that line says
+abbrev pub replicated_command : List TempList → Command
+replicated_command temp =
+    opening (0 ∷ 1 ∷ 2 ∷ []) (1 ∷ 2 ∷ []) (sound_bucket (negsuc 0) 1 Uniform (pos 0 ∷ pos 1 ∷ pos 2 ∷ []) [] refl) 1 Replicated temp
+
+-- the list of devices 0, 1 and 2 for the first group of a pool
+abbrev pub first_three : ℕ → TempList
+first_three pool = record { pg = record { pool = pool; pg = 0 }; osds = Some 0 ∷ Some 1 ∷ Some 2 ∷ [] }
+
+-- the same pool without pg_temp
+abbrev pub replicated_line_without_temp : List ℕ
+replicated_line_without_temp =
+    codes "{\"op\":\"inc\",\"epoch\":1,\"up\":[0,1,2],\"weight\":[[1,0],[2,0]],\"crush\":[{\"id\":-1,\"type\":1,\""
+    ++ codes "alg\":\"uniform\",\"items\":[0,1,2]}],\"pools\":[{\"id\":1,\"pg_num\":1,\"kind\":\"replicated\",\"size"
+    ++ codes "\":3,\"min_size\":2,\"leaf\":0}]}"
+
+-- an erasure pool whose one group is placed by pg_temp, since all devices are out
+abbrev pub erasure_pool_line : List ℕ
+erasure_pool_line =
+    codes "{\"op\":\"inc\",\"epoch\":1,\"up\":[0,1,2,3,4,5],\"weight\":[[0,0],[1,0],[2,0],[3,0],[4,0],[5,0]"
+    ++ codes "],\"crush\":[{\"id\":-1,\"type\":1,\"alg\":\"uniform\",\"items\":[0,1,2,3,4,5]}],\"pools\":[{\"id\":2,"
+    ++ codes "\"pg_num\":1,\"kind\":\"erasure\",\"k\":2,\"size\":3,\"min_size\":2,\"leaf\":0}],\"temp\":[[2,0,[0,1,2"
+    ++ codes "]]]}"
+
+-- what that line says
+abbrev pub erasure_pool_command : Command
+erasure_pool_command =
+    opening (0 ∷ 1 ∷ 2 ∷ 3 ∷ 4 ∷ 5 ∷ []) (0 ∷ 1 ∷ 2 ∷ 3 ∷ 4 ∷ 5 ∷ []) (sound_bucket (negsuc 0) 1 Uniform (pos 0 ∷ pos 1 ∷ pos 2 ∷ pos 3 ∷ pos 4 ∷ pos 5 ∷ []) [] refl) 2 (Erasure 2) (first_three 2 ∷ [])
+
+-- an incremental with each of the other keys, and numbers at the ends of their ranges
+abbrev pub edges_line : List ℕ
+edges_line =
+    codes "{\"op\":\"inc\",\"epoch\":4294967295,\"down\":[4095],\"gone\":[0],\"lost\":[[7,3]],\"up_thru\":[[7,4"
+    ++ codes "294967295]],\"sizes\":[[255,0,255]],\"temp\":[[255,1023,[null,4095,null]],[1,0,[]]],\"crush"
+    ++ codes "\":[{\"id\":-65536,\"type\":0,\"alg\":\"list\",\"items\":[-65536,65535],\"weights\":[0,4294967295]}"
+    ++ codes "],\"pools\":[{\"id\":255,\"pg_num\":65535,\"kind\":\"erasure\",\"k\":0,\"size\":255,\"min_size\":0,\"le"
+    ++ codes "af\":255}]}"
+
+-- what that line says
+abbrev pub edges_command : Command
+edges_command = Submit (Inc (record (empty_inc 4294967295) {
+  down = 4095 ∷ [];
+  gone = 0 ∷ [];
+  lost = record { osd = 7; epoch = 3 } ∷ [];
+  up_thru = record { osd = 7; epoch = 4294967295 } ∷ [];
+  sizes = record { pool = 255; size = 0; min_size = 255 } ∷ [];
+  temp = record { pg = record { pool = 255; pg = 1023 }; osds = None ∷ Some 4095 ∷ None ∷ [] } ∷ record { pg = record { pool = 1; pg = 0 }; osds = [] } ∷ [];
+  pools = record { id = 255; pg_num = 65535; kind = Erasure 0; size = 255; min_size = 0; leaf = 255 } ∷ [];
+  crush = Some (sound_bucket (negsuc 65535) 0 Weighed (negsuc 65535 ∷ pos 65535 ∷ []) (0 ∷ 4294967295 ∷ []) refl ∷ []);
+}))
+
+-- the info of device 2 with nothing written yet
+abbrev pub info_line : List ℕ
+info_line =
+    codes "{\"op\":\"info\",\"pg\":[1,0],\"from\":[2,0],\"stamp\":1,\"les\":0,\"history_les\":0,\"last_update\":["
+    ++ codes "0,0],\"log_tail\":[0,0],\"complete\":true}"
+
+-- what that line says
+abbrev pub first_info : Info
+first_info = record {
+  pg = record { pool = 1; pg = 0 };
+  member = record { osd = 2; slot = 0 };
+  stamp = 1;
+  les = 0;
+  history_les = 0;
+  last_update = record { epoch = 0; v = 0 };
+  log_tail = record { epoch = 0; v = 0 };
+  complete = true;
+}
+
+-- an info with each number at the end of its range, and no two of one kind alike
+abbrev pub edges_of_info_line : List ℕ
+edges_of_info_line =
+    codes "{\"op\":\"info\",\"pg\":[255,1023],\"from\":[4095,15],\"stamp\":4294967295,\"les\":4294967294,\"his"
+    ++ codes "tory_les\":4294967293,\"last_update\":[4294967292,4294967295],\"log_tail\":[0,1],\"complete\":"
+    ++ codes "false}"
+
+-- what that line says
+abbrev pub edges_of_info : Info
+edges_of_info = record {
+  pg = record { pool = 255; pg = 1023 };
+  member = record { osd = 4095; slot = 15 };
+  stamp = 4294967295;
+  les = 4294967294;
+  history_les = 4294967293;
+  last_update = record { epoch = 4294967292; v = 4294967295 };
+  log_tail = record { epoch = 0; v = 1 };
+  complete = false;
+}
+
+-- two entries of the log of device 0
+abbrev pub entries_line : List ℕ
+entries_line =
+    codes "{\"op\":\"entries\",\"pg\":[1,0],\"from\":[0,0],\"stamp\":1,\"log\":[[1,1,\"modify\",\"a\"],[1,2,\"dele"
+    ++ codes "te\",\"b\"]]}"
+
+-- what that line says
+abbrev pub two_entries : Report
+two_entries = record {
+  pg = record { pool = 1; pg = 0 };
+  member = record { osd = 0; slot = 0 };
+  stamp = 1;
+  log = record { version = record { epoch = 1; v = 1 }; change = Modify; object = codes "a" }
+      ∷ record { version = record { epoch = 1; v = 2 }; change = Delete; object = codes "b" }
+      ∷ [];
+}

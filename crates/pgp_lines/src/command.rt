@@ -1,0 +1,206 @@
+//! What a line says: the command that it is, or its first fault.
+ghost use Rattle.std.specs.Prelude.{◌≡◌, map, IfOk, IfErr, IfSome};
+ghost use Rattle.serde_json.specs.View.{view};
+ghost use Rattle.pgp_lines.specs.LineFault.{told, not_json};
+ghost use Rattle.pgp_lines.specs.Command.{op_in, op_keys, trace_of, command_with, command_in, data_of, command_of, IsInRange};
+
+mod ask;
+mod buckets;
+mod devices;
+mod entries;
+mod faults;
+mod fields;
+mod incremental;
+mod info;
+mod lists;
+mod locate;
+mod members;
+mod numbers;
+mod objects;
+mod pools;
+mod trace;
+
+use ask::read_ask;
+use entries::read_entries;
+use faults::{bad_field_fault, unknown_key_fault};
+use incremental::read_inc;
+use info::read_info;
+use locate::read_locate;
+use objects::unknown_key;
+use pgp_ids::{Entry, EpochState, ObjectName, PgId, PoolId, PoolKind, Seq, TextFault};
+use serde_json::{Category, Value};
+use std::alloc::Global;
+use trace::{has_empty_places, read_code, read_epochs};
+
+/// What a line asks for.
+#[derive(Debug, Drop)]
+pub enum Command {
+    /// The next entry of the log.
+    Submit(Entry),
+    /// The view of one group. No line is read as one yet.
+    Ask(PgId),
+    /// Where an object lies.
+    Locate {
+        pool: PoolId,
+        name: ObjectName,
+    },
+    /// The intervals of one group, whose epochs are given from epoch 1 on.
+    Trace {
+        /// How the group's pool keeps its objects: in an erasure code 1 to 16 shards give an object back.
+        code: PoolKind,
+        /// 1 to 4,096 epochs, the first of which is epoch 1.
+        epochs: Seq<EpochState>,
+    },
+}
+
+/// The operations, each with its own keys.
+#[derive(Clone, Copy)]
+enum Op {
+    Ask,
+    Close,
+    Entries,
+    Inc,
+    Info,
+    Locate,
+    Trace,
+}
+
+/// Reads a line, without its line feed, as one JSON text.
+///
+/// Of several faults the first in the order of [`TextFault`] is told. The length is not judged here. `Memory` may come
+/// in place of any answer.
+pub fn read_line(alloc: Global, line: &[u8]) -> Result<Command, TextFault>
+    ensures ok { IfOk result (λ command. command_of line.now ≡ Ok command) }
+    ensures err { IfErr result (λ fault. IfSome (told fault) (λ f. command_of line.now ≡ Err f)) }
+    ensures in_range { IfOk result IsInRange }
+{
+    let value = read_json(alloc, line)?;
+    read_command(alloc, &value)
+}
+
+/// The value of a JSON text (RFC 8259, nested at most 127 deep), or `NotJson`.
+fn read_json(alloc: Global, line: &[u8]) -> Result<Value, TextFault>
+    ensures ok { IfOk result (λ v. data_of line.now ≡ Some (view v)) }
+    ensures err { IfErr result
+        (λ fault. IfSome (told fault) (λ f. (data_of line.now ≡ None) × (f ≡ not_json))) }
+{
+    match Value::from_slice(alloc, line) {
+        Ok(value) => Ok(value),
+        Err(error) => match error.classify() {
+            Category::Memory => Err(TextFault::Memory),
+            _ => Err(TextFault::NotJson),
+        },
+    }
+}
+
+/// The command of an object. The operation is judged first, then the keys, then their values.
+fn read_command(alloc: Global, value: &Value) -> Result<Command, TextFault>
+    ensures ok { IfOk result (λ command. command_in (view value.now) ≡ Ok command) }
+    ensures err { IfErr result
+        (λ fault. IfSome (told fault) (λ f. command_in (view value.now) ≡ Err f)) }
+{
+    let Some(op) = read_op(value) else {
+        return Err(TextFault::NoOp);
+    };
+    if let Some(key) = unknown_key(value, op.keys()) {
+        return Err(unknown_key_fault(alloc, key));
+    }
+    read_values(alloc, op, value)
+}
+
+/// The command of a line of this operation, past the judgement of its keys.
+fn read_values(alloc: Global, op: Op, value: &Value) -> Result<Command, TextFault>
+    ensures ok { IfOk result (λ command. command_with op (view value.now) ≡ Ok command) }
+    ensures err { IfErr result
+        (λ fault. IfSome (told fault) (λ f. command_with op (view value.now) ≡ Err f)) }
+{
+    match op {
+        Op::Ask => {
+            let pg = read_ask(alloc, value)?;
+            Ok(Command::Ask(pg))
+        }
+        Op::Close => Ok(Command::Submit(Entry::Close)),
+        Op::Entries => {
+            let report = read_entries(alloc, value)?;
+            Ok(Command::Submit(Entry::Entries(report)))
+        }
+        Op::Inc => {
+            let inc = read_inc(alloc, value)?;
+            Ok(Command::Submit(Entry::Inc(inc)))
+        }
+        Op::Info => {
+            let info = read_info(alloc, value)?;
+            Ok(Command::Submit(Entry::Info(info)))
+        }
+        Op::Locate => {
+            let (pool, name) = read_locate(alloc, value)?;
+            Ok(Command::Locate { pool, name })
+        }
+        Op::Trace => read_trace(alloc, value),
+    }
+}
+
+/// The operation that the text at `op` names, where it has come: `ask` isn't answered yet.
+fn read_op(value: &Value) -> Option<Op>
+    ensures { result ≡ op_in (view value.now) }
+{
+    match value.get("op")?.as_str()? {
+        "ask" => None,
+        "close" => Some(Op::Close),
+        "entries" => Some(Op::Entries),
+        "inc" => Some(Op::Inc),
+        "info" => Some(Op::Info),
+        "locate" => Some(Op::Locate),
+        "trace" => Some(Op::Trace),
+        _ => None,
+    }
+}
+
+impl Op {
+    /// The keys that its line may have, in ascending byte order.
+    fn keys(self) -> &'static [&'static str]
+        ensures { map (λ k. k.now) result.now ≡ op_keys self }
+    {
+        match self {
+            Op::Ask => &["op", "pg"],
+            Op::Close => &["op"],
+            Op::Entries => &["from", "log", "op", "pg", "stamp"],
+            Op::Inc => &[
+                "crush", "down", "epoch", "gone", "lost", "op", "pools", "sizes", "temp", "up",
+                "up_thru", "weight",
+            ],
+            Op::Info => &[
+                "complete",
+                "from",
+                "history_les",
+                "last_update",
+                "les",
+                "log_tail",
+                "op",
+                "pg",
+                "stamp",
+            ],
+            Op::Locate => &["name", "op", "pool"],
+            Op::Trace => &["code", "epochs", "op"],
+        }
+    }
+}
+
+/// The values of a trace, `code` first: whether a place may be empty depends on it.
+fn read_trace(alloc: Global, value: &Value) -> Result<Command, TextFault>
+    ensures ok { IfOk result (λ command. trace_of (view value.now) ≡ Ok command) }
+    ensures err { IfErr result
+        (λ fault. IfSome (told fault) (λ f. trace_of (view value.now) ≡ Err f)) }
+{
+    let Some(code) = value.get("code").and_then(read_code) else {
+        return Err(bad_field_fault(alloc, "code"));
+    };
+    let found = match value.get("epochs") {
+        Some(epochs) => read_epochs(alloc, epochs, has_empty_places(code))?,
+        None => None,
+    };
+    match found {
+        Some(epochs) => Ok(Command::Trace { code, epochs }),
+        None => Err(bad_field_fault(alloc, "epochs")),
+    }
+}

@@ -1,0 +1,150 @@
+//! The buckets of a placement tree.
+ghost use Rattle.std.specs.Prelude.{◌≡◌, map, IfOk, length};
+ghost use Rattle.serde_json.specs.View.{view};
+ghost use Rattle.pgp_ids.specs.Bucket.{weight_count};
+ghost use Rattle.pgp_lines.specs.Ids.{word_in};
+ghost use Rattle.pgp_lines.specs.MadeBucket.{bucket_of};
+ghost use Rattle.pgp_lines.specs.Buckets.{bucket_id_in, bucket_item_in, alg_in, bucket_keys, weights_in, bucket_in};
+
+use super::lists::{Shape, read_list_at};
+use super::numbers::{read_byte, read_integer, read_word};
+use super::objects::has_only;
+use pgp_ids::{BucketAlg, BucketSpec, Seq};
+use serde_json::Value;
+use std::alloc::{AllocError, Global};
+
+const LEAST_ID: i32 = -65536;
+
+const GREATEST_ITEM: i64 = 65535;
+
+impl Shape for BucketSpec {
+    ghost shape = { bucket_in };
+
+    fn read(alloc: Global, value: &Value) -> Result<Option<BucketSpec>, AllocError> {
+        read_bucket(alloc, value)
+    }
+}
+
+/// An item of a bucket: a bucket by its id, or a device by its number, -65536 to 65535.
+impl Shape for i32 {
+    ghost shape = { bucket_item_in };
+
+    fn read(_alloc: Global, value: &Value) -> Result<Option<i32>, AllocError> {
+        Ok(read_item(value))
+    }
+}
+
+/// A weight of an item, 0 to 4294967295.
+impl Shape for u32 {
+    ghost shape = { word_in };
+
+    fn read(_alloc: Global, value: &Value) -> Result<Option<u32>, AllocError> {
+        Ok(read_word(value))
+    }
+}
+
+fn read_item(value: &Value) -> Option<i32>
+    ensures { result ≡ bucket_item_in (view value.now) }
+{
+    let item = read_integer(value, i64::from(LEAST_ID), GREATEST_ITEM)?;
+    Some(item as i32)
+}
+
+/// The id of a bucket, -65536 to -1.
+fn read_id(value: &Value) -> Option<i32>
+    ensures { result ≡ bucket_id_in (view value.now) }
+{
+    let id = read_integer(value, i64::from(LEAST_ID), -1)?;
+    Some(id as i32)
+}
+
+fn read_alg(value: &Value) -> Option<BucketAlg>
+    ensures { result ≡ alg_in (view value.now) }
+{
+    match value.as_str()? {
+        "uniform" => Some(BucketAlg::Uniform),
+        "list" => Some(BucketAlg::List),
+        _ => None,
+    }
+}
+
+/// The keys of a bucket's object, in ascending byte order.
+fn bucket_keys(alg: BucketAlg) -> &'static [&'static str]
+    ensures { map (λ k. k.now) result.now ≡ bucket_keys alg }
+{
+    match alg {
+        BucketAlg::Uniform => &["alg", "id", "items", "type"],
+        BucketAlg::List => &["alg", "id", "items", "type", "weights"],
+    }
+}
+
+/// A bucket: an object with all keys of its kind and no other. A list bucket has as many weights as items.
+fn read_bucket(alloc: Global, value: &Value) -> Result<Option<BucketSpec>, AllocError>
+    ensures { IfOk result (λ found. found ≡ bucket_in (view value.now)) }
+{
+    let Some(alg) = value.get("alg").and_then(read_alg) else {
+        return Ok(None);
+    };
+    if !has_only(value, bucket_keys(alg)) {
+        return Ok(None);
+    }
+    let Some(id) = value.get("id").and_then(read_id) else {
+        return Ok(None);
+    };
+    let Some(kind) = value.get("type").and_then(read_byte) else {
+        return Ok(None);
+    };
+    let Some(items) = read_list_at(alloc, value, "items")? else {
+        return Ok(None);
+    };
+    match read_weights(alloc, value, alg)? {
+        Some(weights) => Ok(bucket_of(id, kind, alg, items, weights)),
+        None => Ok(None),
+    }
+}
+
+/// The weights of a list bucket; any other has none.
+fn read_weights(
+    alloc: Global,
+    value: &Value,
+    alg: BucketAlg,
+) -> Result<Option<Seq<u32>>, AllocError>
+    ensures { IfOk result (λ found. found ≡ weights_in alg (view value.now)) }
+{
+    match alg {
+        BucketAlg::Uniform => Ok(Some(Seq::new(alloc))),
+        BucketAlg::List => read_list_at(alloc, value, "weights"),
+    }
+}
+
+/// The bucket of these parts, where its id is one of a bucket and it has as many weights as it needs.
+fn bucket_of(
+    id: i32,
+    kind: u8,
+    alg: BucketAlg,
+    items: Seq<i32>,
+    weights: Seq<u32>,
+) -> Option<BucketSpec>
+    ensures { result ≡ bucket_of id kind alg items weights }
+{
+    if id < LEAST_ID || id >= 0 || weights.len() != weight_count(alg, items.len()) {
+        return None;
+    }
+    Some(BucketSpec {
+        id,
+        kind,
+        alg,
+        items,
+        weights,
+    })
+}
+
+/// How many weights a bucket of so many items has.
+fn weight_count(alg: BucketAlg, items: usize) -> usize
+    ensures { result ≡ weight_count alg items }
+{
+    match alg {
+        BucketAlg::Uniform => 0,
+        BucketAlg::List => items,
+    }
+}

@@ -1,0 +1,65 @@
+//! What a map incremental says of devices.
+ghost use Rattle.std.specs.Prelude.{◌≡◌, true};
+ghost use Rattle.serde_json.specs.View.{view};
+ghost use Rattle.pgp_lines.specs.Ids.{osd_in, place_in};
+ghost use Rattle.pgp_lines.specs.Devices.{device_weight_in, device_epoch_in};
+
+use super::lists::{Shape, read_pair};
+use super::numbers::{read_epoch, read_osd, read_place, read_word};
+use pgp_ids::{DeviceEpoch, DeviceWeight, OsdId};
+use serde_json::Value;
+use std::alloc::{AllocError, Global};
+
+impl Shape for OsdId {
+    ghost shape = { osd_in };
+
+    fn read(_alloc: Global, value: &Value) -> Result<Option<OsdId>, AllocError> {
+        Ok(read_osd(value))
+    }
+}
+
+impl Shape for Option<OsdId> {
+    ghost shape = { place_in true };
+
+    fn read(_alloc: Global, value: &Value) -> Result<Option<Option<OsdId>>, AllocError> {
+        Ok(read_place(value, true))
+    }
+}
+
+impl Shape for DeviceWeight {
+    ghost shape = { device_weight_in };
+
+    fn read(_alloc: Global, value: &Value) -> Result<Option<DeviceWeight>, AllocError> {
+        Ok(read_device_weight(value))
+    }
+}
+
+impl Shape for DeviceEpoch {
+    ghost shape = { device_epoch_in };
+
+    fn read(_alloc: Global, value: &Value) -> Result<Option<DeviceEpoch>, AllocError> {
+        Ok(read_device_epoch(value))
+    }
+}
+
+/// `[device, weight]`.
+fn read_device_weight(value: &Value) -> Option<DeviceWeight>
+    ensures { result ≡ device_weight_in (view value.now) }
+{
+    let (osd, weight) = read_pair(value)?;
+    Some(DeviceWeight {
+        osd: read_osd(osd)?,
+        weight: read_word(weight)?,
+    })
+}
+
+/// `[device, epoch]`.
+fn read_device_epoch(value: &Value) -> Option<DeviceEpoch>
+    ensures { result ≡ device_epoch_in (view value.now) }
+{
+    let (osd, epoch) = read_pair(value)?;
+    Some(DeviceEpoch {
+        osd: read_osd(osd)?,
+        epoch: read_epoch(epoch)?,
+    })
+}

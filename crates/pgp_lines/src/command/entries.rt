@@ -1,0 +1,116 @@
+//! The line of a part of a member's log.
+ghost use Rattle.std.specs.Prelude.{◌≡◌, [], ◌∷◌, Ok, Err, IfOk, IfErr, IfSome};
+ghost use Rattle.serde_json.specs.View.{view};
+ghost use Rattle.pgp_lines.specs.LineFault.{told};
+ghost use Rattle.pgp_lines.specs.Shapes.{list_in};
+ghost use Rattle.pgp_lines.specs.ReportParts.{change_in, log_entry_of, log_entry_in};
+ghost use Rattle.pgp_lines.specs.Reports.{entries_of};
+
+use super::fields::read_required;
+use super::lists::{Shape, read_each};
+use super::locate::read_name;
+use super::members::version_of;
+use pgp_ids::{Change, LogEntry, Report, Seq, TextFault};
+use serde_json::Value;
+use std::alloc::{AllocError, Global};
+
+/// How many log entries a line has at most.
+const MAX_LOG_ENTRIES: usize = 256;
+
+impl Shape for Seq<LogEntry> {
+    ghost shape = { list_in 1 256 log_entry_in };
+
+    fn read(alloc: Global, value: &Value) -> Result<Option<Seq<LogEntry>>, AllocError> {
+        read_log(alloc, value)
+    }
+}
+
+impl Shape for LogEntry {
+    ghost shape = { log_entry_in };
+
+    fn read(alloc: Global, value: &Value) -> Result<Option<LogEntry>, AllocError> {
+        read_log_entry(alloc, value)
+    }
+}
+
+/// The log entries of a line whose keys are known. They are read in ascending byte order, so that the least bad one is
+/// told.
+pub(super) fn read_entries(alloc: Global, value: &Value) -> Result<Report, TextFault>
+    ensures ok { IfOk result (λ report. entries_of (view value.now) ≡ Ok report) }
+    ensures err { IfErr result
+        (λ fault. IfSome (told fault) (λ f. entries_of (view value.now) ≡ Err f)) }
+{
+    let member = read_required(alloc, value, "from")?;
+    let log = read_required(alloc, value, "log")?;
+    let pg = read_required(alloc, value, "pg")?;
+    let stamp = read_required(alloc, value, "stamp")?;
+    Ok(Report {
+        pg,
+        member,
+        stamp,
+        log,
+    })
+}
+
+/// 1 to 256 log entries.
+fn read_log(alloc: Global, value: &Value) -> Result<Option<Seq<LogEntry>>, AllocError>
+    ensures { IfOk result (λ found. found ≡ list_in 1 256 log_entry_in (view value.now)) }
+{
+    let Some(entries) = value.as_array() else {
+        return Ok(None);
+    };
+    if entries.is_empty() || entries.len() > MAX_LOG_ENTRIES {
+        return Ok(None);
+    }
+    read_each(alloc, entries)
+}
+
+/// `[epoch, v, "modify" or "delete", name]`.
+fn read_log_entry(alloc: Global, value: &Value) -> Result<Option<LogEntry>, AllocError>
+    ensures { IfOk result (λ found. found ≡ log_entry_in (view value.now)) }
+{
+    let Some(parts) = value.as_array() else {
+        return Ok(None);
+    };
+    match parts.as_slice() {
+        [epoch, v, change, name] => log_entry_of(alloc, epoch, v, change, name),
+        _ => Ok(None),
+    }
+}
+
+/// The log entry of these parts.
+fn log_entry_of(
+    alloc: Global,
+    epoch: &Value,
+    v: &Value,
+    change: &Value,
+    name: &Value,
+) -> Result<Option<LogEntry>, AllocError>
+    ensures { IfOk result (λ found. found
+        ≡ log_entry_of (view epoch.now ∷ view v.now ∷ view change.now ∷ view name.now ∷ [])) }
+{
+    let Some(version) = version_of(epoch, v) else {
+        return Ok(None);
+    };
+    let Some(change) = read_change(change) else {
+        return Ok(None);
+    };
+    match read_name(alloc, name)? {
+        Some(object) => Ok(Some(LogEntry {
+            version,
+            change,
+            object,
+        })),
+        None => Ok(None),
+    }
+}
+
+fn read_change(value: &Value) -> Option<Change>
+    ensures { result ≡ change_in (view value.now) }
+{
+    match value.as_str()? {
+        "modify" => Some(Change::Modify),
+        "delete" => Some(Change::Delete),
+        _ => None,
+    }
+}

@@ -1,0 +1,31 @@
+//! The values that a line must have.
+ghost use Rattle.std.specs.Prelude.{◌≡◌, Ok, Err, IfOk, IfErr, IfSome};
+ghost use Rattle.serde_json.specs.View.{view};
+ghost use Rattle.pgp_lines.specs.LineFault.{told};
+ghost use Rattle.pgp_lines.specs.Shapes.{required};
+
+use super::faults::bad_field_fault;
+use super::lists::Shape;
+use pgp_ids::TextFault;
+use serde_json::Value;
+use std::alloc::Global;
+
+/// The value that a line must have at a key, or `BadField` of the key.
+pub(super) fn read_required<T: Shape + Drop>(
+    alloc: Global,
+    value: &Value,
+    key: &str,
+) -> Result<T, TextFault>
+    ensures ok { IfOk result (λ found. required key.now T.shape (view value.now) ≡ Ok found) }
+    ensures err { IfErr result
+        (λ fault. IfSome (told fault) (λ f. required key.now T.shape (view value.now) ≡ Err f)) }
+{
+    let found = match value.get(key) {
+        Some(field) => T::read(alloc, field)?,
+        None => None,
+    };
+    match found {
+        Some(found) => Ok(found),
+        None => Err(bad_field_fault(alloc, key)),
+    }
+}

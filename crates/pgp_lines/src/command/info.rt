@@ -1,0 +1,36 @@
+//! The line of a member's info.
+ghost use Rattle.std.specs.Prelude.{◌≡◌, Ok, Err, IfOk, IfErr, IfSome};
+ghost use Rattle.serde_json.specs.View.{view};
+ghost use Rattle.pgp_lines.specs.LineFault.{told};
+ghost use Rattle.pgp_lines.specs.Reports.{info_of};
+
+use super::fields::read_required;
+use pgp_ids::{Info, TextFault};
+use serde_json::Value;
+use std::alloc::Global;
+
+/// The info of a line whose keys are known. They are read in ascending byte order, so that the least bad one is told.
+pub(super) fn read_info(alloc: Global, value: &Value) -> Result<Info, TextFault>
+    ensures ok { IfOk result (λ info. info_of (view value.now) ≡ Ok info) }
+    ensures err { IfErr result
+        (λ fault. IfSome (told fault) (λ f. info_of (view value.now) ≡ Err f)) }
+{
+    let complete = read_required(alloc, value, "complete")?;
+    let member = read_required(alloc, value, "from")?;
+    let history_les = read_required(alloc, value, "history_les")?;
+    let last_update = read_required(alloc, value, "last_update")?;
+    let les = read_required(alloc, value, "les")?;
+    let log_tail = read_required(alloc, value, "log_tail")?;
+    let pg = read_required(alloc, value, "pg")?;
+    let stamp = read_required(alloc, value, "stamp")?;
+    Ok(Info {
+        pg,
+        member,
+        stamp,
+        les,
+        history_les,
+        last_update,
+        log_tail,
+        complete,
+    })
+}

@@ -1,0 +1,55 @@
+//! The line that asks where an object lies.
+ghost use Rattle.std.specs.Prelude.{◌≡◌, Ok, Err, IfOk, IfErr, IfSome};
+ghost use Rattle.serde_json.specs.View.{view};
+ghost use Rattle.pgp_lines.specs.LineFault.{told};
+ghost use Rattle.pgp_lines.specs.Ids.{pool_id_in};
+ghost use Rattle.pgp_lines.specs.ReportParts.{name_in};
+ghost use Rattle.pgp_lines.specs.Reports.{locate_of};
+
+use super::fields::read_required;
+use super::lists::Shape;
+use super::numbers::read_pool_id;
+use pgp_ids::{ObjectName, PoolId, TextFault};
+use serde_json::Value;
+use std::alloc::{AllocError, Global};
+
+impl Shape for PoolId {
+    ghost shape = { pool_id_in };
+
+    fn read(_alloc: Global, value: &Value) -> Result<Option<PoolId>, AllocError> {
+        Ok(read_pool_id(value))
+    }
+}
+
+impl Shape for ObjectName {
+    ghost shape = { name_in };
+
+    fn read(alloc: Global, value: &Value) -> Result<Option<ObjectName>, AllocError> {
+        read_name(alloc, value)
+    }
+}
+
+/// The name of an object: 1 to 255 bytes of UTF-8.
+pub(super) fn read_name(alloc: Global, value: &Value) -> Result<Option<ObjectName>, AllocError>
+    ensures { IfOk result (λ found. found ≡ name_in (view value.now)) }
+{
+    let Some(name) = value.as_str() else {
+        return Ok(None);
+    };
+    if name.is_empty() || name.len() > ObjectName::MAX_LEN {
+        return Ok(None);
+    }
+    let text = String::from_str(alloc, name)?;
+    Ok(ObjectName::new(text))
+}
+
+/// The pool and the name of an object. The keys are read in ascending byte order, so that the least bad one is told.
+pub(super) fn read_locate(alloc: Global, value: &Value) -> Result<(PoolId, ObjectName), TextFault>
+    ensures ok { IfOk result (λ object. locate_of (view value.now) ≡ Ok object) }
+    ensures err { IfErr result
+        (λ fault. IfSome (told fault) (λ f. locate_of (view value.now) ≡ Err f)) }
+{
+    let name = read_required(alloc, value, "name")?;
+    let pool = read_required(alloc, value, "pool")?;
+    Ok((pool, name))
+}

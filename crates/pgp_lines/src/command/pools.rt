@@ -1,0 +1,110 @@
+//! What a map incremental says of pools and of groups.
+ghost use Rattle.std.specs.Prelude.{◌≡◌, map, IfOk};
+ghost use Rattle.serde_json.specs.View.{view};
+ghost use Rattle.pgp_lines.specs.Pools.{pool_keys, pool_kind_in, pool_in, pool_sizes_in, temp_in};
+
+use super::lists::{Shape, read_list, read_triple};
+use super::numbers::{read_byte, read_group, read_number, read_pool_id};
+use super::objects::has_only;
+use pgp_ids::{PoolKind, PoolSizes, PoolSpec, TempList};
+use serde_json::Value;
+use std::alloc::{AllocError, Global};
+
+impl Shape for PoolSpec {
+    ghost shape = { pool_in };
+
+    fn read(_alloc: Global, value: &Value) -> Result<Option<PoolSpec>, AllocError> {
+        Ok(read_pool(value))
+    }
+}
+
+impl Shape for PoolSizes {
+    ghost shape = { pool_sizes_in };
+
+    fn read(_alloc: Global, value: &Value) -> Result<Option<PoolSizes>, AllocError> {
+        Ok(read_sizes(value))
+    }
+}
+
+impl Shape for TempList {
+    ghost shape = { temp_in };
+
+    fn read(alloc: Global, value: &Value) -> Result<Option<TempList>, AllocError> {
+        read_temp(alloc, value)
+    }
+}
+
+/// A pool: an object with all keys of its kind and no other.
+fn read_pool(value: &Value) -> Option<PoolSpec>
+    ensures { result ≡ pool_in (view value.now) }
+{
+    let kind = read_kind(value)?;
+    if !has_only(value, pool_keys(kind)) {
+        return None;
+    }
+    let id = read_pool_id(value.get("id")?)?;
+    let pg_num = read_number(value.get("pg_num")?, 0, u64::from(u16::MAX))?;
+    let size = read_byte(value.get("size")?)?;
+    let min_size = read_byte(value.get("min_size")?)?;
+    let leaf = read_byte(value.get("leaf")?)?;
+    Some(PoolSpec {
+        id,
+        pg_num: pg_num as u16,
+        kind,
+        size,
+        min_size,
+        leaf,
+    })
+}
+
+/// The kind of a pool; an erasure pool has a number of data shards.
+fn read_kind(value: &Value) -> Option<PoolKind>
+    ensures { result ≡ pool_kind_in (view value.now) }
+{
+    match value.get("kind")?.as_str()? {
+        "replicated" => Some(PoolKind::Replicated),
+        "erasure" => {
+            let k = read_byte(value.get("k")?)?;
+            Some(PoolKind::Erasure { k })
+        }
+        _ => None,
+    }
+}
+
+/// The keys of a pool's object, in ascending byte order.
+fn pool_keys(kind: PoolKind) -> &'static [&'static str]
+    ensures { map (λ k. k.now) result.now ≡ pool_keys kind }
+{
+    match kind {
+        PoolKind::Replicated => &["id", "kind", "leaf", "min_size", "pg_num", "size"],
+        PoolKind::Erasure { .. } => &["id", "k", "kind", "leaf", "min_size", "pg_num", "size"],
+    }
+}
+
+/// `[pool, size, min_size]`.
+fn read_sizes(value: &Value) -> Option<PoolSizes>
+    ensures { result ≡ pool_sizes_in (view value.now) }
+{
+    let (pool, size, min_size) = read_triple(value)?;
+    Some(PoolSizes {
+        pool: read_pool_id(pool)?,
+        size: read_byte(size)?,
+        min_size: read_byte(min_size)?,
+    })
+}
+
+/// `[pool, pg, list of devices or null]`, of any length.
+fn read_temp(alloc: Global, value: &Value) -> Result<Option<TempList>, AllocError>
+    ensures { IfOk result (λ found. found ≡ temp_in (view value.now)) }
+{
+    let Some((pool, pg, places)) = read_triple(value) else {
+        return Ok(None);
+    };
+    let Some(pg) = read_group(pool, pg) else {
+        return Ok(None);
+    };
+    match read_list(alloc, places)? {
+        Some(osds) => Ok(Some(TempList { pg, osds })),
+        None => Ok(None),
+    }
+}

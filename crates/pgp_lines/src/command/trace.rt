@@ -1,0 +1,130 @@
+//! The values of a trace line: a code, and the epochs of one group.
+ghost use Rattle.std.specs.Prelude.{◌≡◌, ◌≤◌, length, map, IfOk, IfErr, IfSome};
+ghost use Rattle.serde_json.specs.View.{view};
+ghost use Rattle.pgp_lines.specs.Ids.{place_in};
+ghost use Rattle.pgp_lines.specs.Shapes.{each};
+ghost use Rattle.pgp_lines.specs.Trace.{code_in, erasure_in, has_empty_places, osds_in, epoch_state_in, epochs_in};
+
+use super::numbers::{read_epoch, read_number, read_place};
+use super::objects::has_only;
+use pgp_ids::{EpochState, MAX_OSDS, Membership, Osds, PoolKind, PrimaryFacts, Seq};
+use serde_json::Value;
+use std::alloc::{AllocError, Global};
+
+const EPOCH_KEYS: [&str; 6] = ["acting", "min_size", "size", "up", "up_from", "up_thru"];
+
+const MAX_EPOCHS: usize = 4096;
+
+const MAX_SHARDS: u64 = 16;
+
+const MAX_SIZE: u64 = 16;
+
+/// A pool's code: `{"kind":"replicated"}`, or `{"k":1,"kind":"erasure"}` with 1 to 16 data shards.
+pub(super) fn read_code(value: &Value) -> Option<PoolKind>
+    ensures { result ≡ code_in (view value.now) }
+{
+    match value.get("kind")?.as_str()? {
+        "replicated" => has_only(value, &["kind"]).then_some(PoolKind::Replicated),
+        "erasure" => read_erasure(value),
+        _ => None,
+    }
+}
+
+/// An erasure code with 1 to 16 data shards.
+fn read_erasure(value: &Value) -> Option<PoolKind>
+    ensures { result ≡ erasure_in (view value.now) }
+{
+    if !has_only(value, &["k", "kind"]) {
+        return None;
+    }
+    let k = read_number(value.get("k")?, 1, MAX_SHARDS)?;
+    Some(PoolKind::Erasure { k: k as u8 })
+}
+
+/// Whether the places of a list count, so that some may be empty.
+pub(super) fn has_empty_places(code: PoolKind) -> bool
+    ensures { result ≡ has_empty_places code }
+{
+    matches!(code, PoolKind::Erasure { .. })
+}
+
+/// At most 16 places.
+fn read_osds(value: &Value, nulls: bool) -> Option<Osds>
+    ensures { result ≡ osds_in nulls (view value.now) }
+{
+    let places = value.as_array()?;
+    if places.len() > MAX_OSDS {
+        return None;
+    }
+    read_places(places, nulls)
+}
+
+fn read_places(places: &[Value], nulls: bool) -> Option<Osds>
+    requires { length places.now ≤ 16 }
+    ensures { result ≡ each (place_in nulls) (map view places.now) }
+{
+    let mut osds = Osds::new();
+    for place in places {
+        osds.push(read_place(place, nulls)?);
+    }
+    Some(osds)
+}
+
+/// One epoch: an object with all of [`EPOCH_KEYS`] and no other key. Each primary is the first device of its list.
+fn read_epoch_state(value: &Value, nulls: bool) -> Option<EpochState>
+    ensures { result ≡ epoch_state_in nulls (view value.now) }
+{
+    if !has_only(value, &EPOCH_KEYS) {
+        return None;
+    }
+    let up = read_osds(value.get("up")?, nulls)?;
+    let acting = read_osds(value.get("acting")?, nulls)?;
+    let size = read_number(value.get("size")?, 1, MAX_SIZE)?;
+    let min_size = read_number(value.get("min_size")?, 1, size)?;
+    let up_from = read_epoch(value.get("up_from")?)?;
+    let up_thru = read_epoch(value.get("up_thru")?)?;
+    let members = Membership {
+        up_primary: up.first(),
+        up,
+        acting_primary: acting.first(),
+        acting,
+        size: size as u8,
+        min_size: min_size as u8,
+    };
+    let facts = PrimaryFacts { up_from, up_thru };
+    Some(EpochState { members, facts })
+}
+
+/// The 1 to 4,096 epochs of a trace, the first of which is epoch 1. An `Err` is want of memory.
+pub(super) fn read_epochs(
+    alloc: Global,
+    value: &Value,
+    nulls: bool,
+) -> Result<Option<Seq<EpochState>>, AllocError>
+    ensures { IfOk result (λ found. found ≡ epochs_in nulls (view value.now)) }
+{
+    let Some(states) = value.as_array() else {
+        return Ok(None);
+    };
+    if states.is_empty() || states.len() > MAX_EPOCHS {
+        return Ok(None);
+    }
+    read_states(alloc, states, nulls)
+}
+
+fn read_states(
+    alloc: Global,
+    values: &[Value],
+    nulls: bool,
+) -> Result<Option<Seq<EpochState>>, AllocError>
+    ensures { IfOk result (λ found. found ≡ each (epoch_state_in nulls) (map view values.now)) }
+{
+    let mut states = Seq::new(alloc);
+    for value in values {
+        match read_epoch_state(value, nulls) {
+            Some(state) => states.push(state)?,
+            None => return Ok(None),
+        }
+    }
+    Ok(Some(states))
+}

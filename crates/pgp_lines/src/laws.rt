@@ -1,0 +1,4 @@
+//! Worked lines, which the definitions compute.
+
+pub mod incrementals;
+pub mod lines;

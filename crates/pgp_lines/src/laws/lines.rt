@@ -1,0 +1,81 @@
+//! Worked lines: faults, and traces.
+#![tactic(auto, unfolding(crate::specs::WorkedLines::text_computed))]
+
+ghost use Rattle.std.specs.Prelude.{◌≡◌, ℕ, List, codes, Ok, Err};
+ghost use Rattle.pgp_lines.specs.LineFault.{not_json, no_op, unknown_key, bad_field};
+ghost use Rattle.pgp_ids.specs.declared.entry.Entry.TheVariants.{Info, Entries};
+ghost use Rattle.pgp_lines.specs.Command.{command_of, line_with};
+ghost use Rattle.pgp_lines.specs.Reports.{ask_keys, ask_of};
+ghost use Rattle.pgp_lines.specs.WorkedLines.{trace_line, trace_command, erasure_line, erasure_command, info_line, first_info, edges_of_info_line, edges_of_info, entries_line, two_entries};
+ghost use Rattle.pgp_lines.specs.declared.command.Command.TheVariants.{Submit, Locate};
+
+/// What is no JSON text: one that is cut short, one with bytes behind it, a number that overflows, and no text at all.
+pub fn no_json()
+    ensures cut { command_of (codes "{\"op\":\"ask\"") ≡ Err not_json }
+    ensures more { command_of (codes "{\"op\":\"close\"}}") ≡ Err not_json }
+    ensures overflow { command_of (codes "{\"op\":\"inc\",\"epoch\":1e400}") ≡ Err not_json }
+    ensures nothing { command_of (codes "") ≡ Err not_json }
+{}
+
+/// What names no operation: a list, another name, none, and one that isn't a text. No other key is looked at before.
+pub fn no_operation()
+    ensures list { command_of (codes "[]") ≡ Err no_op }
+    ensures other { command_of (codes "{\"op\":\"peer\"}") ≡ Err no_op }
+    ensures absent { command_of (codes "{\"x\":1}") ≡ Err no_op }
+    ensures number { command_of (codes "{\"op\":1}") ≡ Err no_op }
+{}
+
+/// An operation that no line is read as yet.
+pub fn operation_to_come()
+    ensures { command_of (codes "{\"op\":\"ask\",\"pg\":[1,0]}") ≡ Err no_op }
+{}
+
+/// Of unknown keys the least is named, and before a key that is absent.
+pub fn least_unknown_key()
+    ensures of_a_trace { command_of (codes "{\"op\":\"trace\",\"z\":1,\"x\":1}") ≡ Err (unknown_key (codes "x")) }
+    ensures of_an_incremental { command_of (codes "{\"op\":\"inc\",\"z\":1,\"code\":1}") ≡ Err (unknown_key (codes "code")) }
+    ensures of_a_close { command_of (codes "{\"op\":\"close\",\"epoch\":1}") ≡ Err (unknown_key (codes "epoch")) }
+{}
+
+/// Of absent keys and bad values the least key is named.
+pub fn least_bad_key()
+    ensures both_absent { command_of (codes "{\"op\":\"trace\"}") ≡ Err (bad_field (codes "code")) }
+    ensures one_absent { command_of (codes "{\"op\":\"trace\",\"code\":{\"kind\":\"replicated\"}}") ≡ Err (bad_field (codes "epochs")) }
+    ensures absent_before_bad { command_of (codes "{\"op\":\"inc\",\"up\":[4096]}") ≡ Err (bad_field (codes "epoch")) }
+    ensures bad_before_absent { command_of (codes "{\"op\":\"inc\",\"down\":[4096]}") ≡ Err (bad_field (codes "down")) }
+{}
+
+/// Traces of one epoch.
+pub fn traces()
+    ensures replicated { command_of trace_line ≡ Ok trace_command }
+    ensures erasure { command_of erasure_line ≡ Ok erasure_command }
+{}
+
+/// The lines of reports.
+pub fn reports()
+    ensures info { command_of info_line ≡ Ok (Submit (Info first_info)) }
+    ensures last_info { command_of edges_of_info_line ≡ Ok (Submit (Info edges_of_info)) }
+    ensures entries { command_of entries_line ≡ Ok (Submit (Entries two_entries)) }
+{}
+
+/// Where an object lies.
+pub fn locates()
+    ensures object { command_of (codes "{\"op\":\"locate\",\"pool\":1,\"name\":\"a\"}") ≡ Ok (Locate 1 (codes "a")) }
+    ensures last_pool { command_of (codes "{\"name\":\"bc\",\"op\":\"locate\",\"pool\":255}") ≡ Ok (Locate 255 (codes "bc")) }
+    ensures pool_0 { command_of (codes "{\"op\":\"locate\",\"pool\":0,\"name\":\"a\"}") ≡ Err (bad_field (codes "pool")) }
+    ensures pool_256 { command_of (codes "{\"op\":\"locate\",\"pool\":256,\"name\":\"a\"}") ≡ Err (bad_field (codes "pool")) }
+    ensures empty_name { command_of (codes "{\"op\":\"locate\",\"pool\":0,\"name\":\"\"}") ≡ Err (bad_field (codes "name")) }
+    ensures no_text { command_of (codes "{\"op\":\"locate\",\"pool\":1,\"name\":1}") ≡ Err (bad_field (codes "name")) }
+    ensures absent { command_of (codes "{\"op\":\"locate\"}") ≡ Err (bad_field (codes "name")) }
+    ensures unknown_key { command_of (codes "{\"op\":\"locate\",\"pg\":[1,0]}") ≡ Err (unknown_key (codes "pg")) }
+{}
+
+/// The lines of questions, by the judgement of their own keys and values.
+pub fn questions()
+    ensures group { line_with ask_keys ask_of (codes "{\"op\":\"ask\",\"pg\":[1,0]}")
+        ≡ Ok (record { pool = 1; pg = 0 }) }
+    ensures unknown_key { line_with ask_keys ask_of
+        (codes "{\"op\":\"ask\",\"pg\":[1,0],\"z\":1,\"x\":1}") ≡ Err (unknown_key (codes "x")) }
+    ensures pool_0 { line_with ask_keys ask_of (codes "{\"op\":\"ask\",\"pg\":[0,0]}")
+        ≡ Err (bad_field (codes "pg")) }
+{}

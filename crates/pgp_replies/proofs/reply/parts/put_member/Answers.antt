@@ -1,0 +1,13 @@
+use Rattle.std.proofs.Common.{◌≡◌, string_bytes, ap, ◌∙◌, rules}
+use Rattle.serde_json.specs.Data.{put}
+use Rattle.serde_json.specs.View.{view, members_view}
+use Rattle.serde_json.proofs.Views.{members_view-insert_entry}
+use Rattle.pgp_replies.proofs.reply.parts.put_member.Goals as goal
+
+pub returns : goal.returns
+returns c =
+    let old = c.args.members.now.entries in
+    let copied : string_bytes c.in_ok-name.name ≡ c.args.key.now = search rules in
+    ap members_view c.in_ok-insert.ensures.entries
+    ∙ members_view-insert_entry old c.in_ok-name.name c.args.value
+    ∙ ap (λ k. put k (view c.args.value) (members_view old)) copied

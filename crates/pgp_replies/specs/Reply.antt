@@ -1,0 +1,55 @@
+-- The text of an answer, in this project's own format: compact JSON, the keys of an object in ascending byte order.
+use Rattle.std.specs.Prelude.{ℕ, List, [], ◌∷◌, codes}
+use Rattle.serde_json.specs.Data.{Data, string}
+use Rattle.serde_json.specs.Written.{compact_text}
+use Rattle.pgp_ids.specs.declared.member.Membership.{Membership}
+use Rattle.pgp_ids.specs.declared.past.Past.{Past}
+use Rattle.pgp_ids.specs.declared.pg_id.PgId.{PgId}
+use Rattle.pgp_replies.specs.Json.{object_with, number_data}
+use Rattle.pgp_replies.specs.Answered.{group_data, place_data, osds_data, intervals_data}
+use Rattle.pgp_replies.specs.Asked.{asked_data}
+use Rattle.pgp_replies.specs.EntryOp.{entry_op_name}
+use Rattle.pgp_replies.specs.Refused.{refused_data}
+use Rattle.pgp_replies.specs.declared.reply.Reply.{Reply}
+use Rattle.pgp_replies.specs.declared.reply.Reply.TheVariants.{Accepted, Asked, Located, Traced, Refused}
+use Rattle.pgp_replies.specs.declared.reply.entry_op.EntryOp.{EntryOp}
+
+-- the log took an entry
+abbrev pub accepted_data : EntryOp → ℕ → ℕ → Data
+accepted_data op count epoch = object_with (
+    (codes "count", number_data count)
+    ∷ (codes "epoch", number_data epoch)
+    ∷ (codes "ok", string (entry_op_name op))
+    ∷ [])
+
+-- where a group lies
+abbrev pub located_data : PgId → Membership → ℕ → Data
+located_data pg members epoch = object_with (
+    (codes "acting", osds_data members.acting)
+    ∷ (codes "acting_primary", place_data members.acting_primary)
+    ∷ (codes "epoch", number_data epoch)
+    ∷ (codes "ok", string (codes "locate"))
+    ∷ (codes "pg", group_data pg)
+    ∷ (codes "up", osds_data members.up)
+    ∷ (codes "up_primary", place_data members.up_primary)
+    ∷ [])
+
+-- the intervals of a trace
+abbrev pub traced_data : ℕ → List Past → Data
+traced_data first past = object_with (
+    (codes "first", number_data first)
+    ∷ (codes "intervals", intervals_data past)
+    ∷ (codes "ok", string (codes "trace"))
+    ∷ [])
+
+-- the object that a reply is written as
+abbrev pub reply_data : Reply → Data
+reply_data (Accepted op count epoch) = accepted_data op count epoch
+reply_data (Asked pg v) = asked_data pg v
+reply_data (Located pg members epoch) = located_data pg members epoch
+reply_data (Traced first past) = traced_data first past
+reply_data (Refused refused) = refused_data refused
+
+-- the bytes of a reply, without a line feed
+abbrev pub reply_text : Reply → List ℕ
+reply_text reply = compact_text (reply_data reply)
