@@ -1,20 +1,20 @@
 -- What the set of a word's slots has, how many they are, and what one bit more does to it.
-use Rattle.std.proofs.Common.{◌≡◌, ◌≢◌, ℕ, zero, suc, ◌+◌, ◌-◌, ◌*◌, ◌/◌, ◌%◌, ◌<◌, ◌≤◌, ◌^◌, List, [], ◌∷◌, ◌++◌, Bool, true, false, ◌||◌, nat_eq, nat_lt, length, refl, ap, sym, ◌∙◌, arith, cond, subst, append-nil, inl, inr, bit_and, ◌&&◌, min}
-use Rattle.std.specs.List.{list_any, list_all, filter}
+use Rattle.std.proofs.Common.{◌≡◌, ◌≢◌, ℕ, zero, suc, ◌+◌, ◌-◌, ◌/◌, ◌%◌, ◌<◌, ◌≤◌, ◌^◌, List, [], ◌∷◌, ◌++◌, Bool, true, false, ◌||◌, nat_eq, nat_lt, length, refl, ap, sym, ◌∙◌, arith, cond, subst, inl, inr, bit_and, min}
+use Rattle.std.specs.List.{list_all}
 use Rattle.std.specs.Int.{bit_at}
 use Rattle.std.specs.Int.RustNames.{count_ones}
 use Rattle.std.specs.Int.Count.{ones_step}
 use Rattle.std.proofs.lemmas.Nat.{ones-le, and_le_l}
-use Rattle.std.proofs.lemmas.Bool.{eqb-true}
+use Rattle.std.proofs.Math.Bool.{or-false}
+use Rattle.std.proofs.lemmas.Bool.{and_parts, eqb-true, false_from_ne_true}
 use Rattle.std.proofs.Math.Nat.{eq-or-lt_of_le, pow-suc}
 use Rattle.std.proofs.lemmas.List.Elements.{filter-append}
 use Rattle.std.proofs.lemmas.List.{length-append}
 use Rattle.std.proofs.lemmas.List.Folds.{list_any-append, list_all-append}
 use Rattle.std.proofs.lemmas.Bool.Decides.{nat_tests, eqb_tells}
 use Rattle.std.proofs.lemmas.Nat.Bits.{bit_at-lt, bit_at-suc, bit_at_lowest, bit_at_and, bit_at-zero, same_from_bits_below}
-use Rattle.std.proofs.lemmas.Grind.{common_steps}
 use Rattle.pgp_ids.specs.SlotSet.{has_slot, with_slot, is_within}
-use Rattle.pgp_ids.specs.SlotBits.{slots_below, is_set, set_below, slots_of}
+use Rattle.pgp_ids.specs.SlotBits.{slots_below, is_set, set_below}
 
 -- the slots below n + 1 are those below n, and n where its bit is set
 set_below-suc : (n bits : ℕ) → set_below (suc n) bits ≡ set_below n bits ++ cond (is_set bits n) (n ∷ []) []
@@ -30,22 +30,6 @@ has-suc n bits slot =
     ∙ ap (λ b. has_slot slot (set_below n bits) || b) (has_one slot n (is_set bits n))
 
 -- ---- members
-
-and_left : (a b : Bool) → (a && b) ≡ true → a ≡ true
-and_left true b both = refl
-and_left false b both = both
-
-and_right : (a b : Bool) → (a && b) ≡ true → b ≡ true
-and_right true b both = both
-and_right false b both = cc
-
-not_true : (b : Bool) → (b ≡ true → ⊥) → b ≡ false
-not_true true never = absurd (never refl)
-not_true false never = refl
-
-or_false : (b : Bool) → (b || false) ≡ b
-or_false true = refl
-or_false false = refl
 
 has-set_below_none : (n bits slot : ℕ) → n ≤ slot → has_slot slot (set_below n bits) ≡ false
 has-set_below_none zero bits slot above = refl
@@ -65,7 +49,7 @@ has-set_below (suc n) bits slot below =
           rw (none, same, e) (elim (is_set bits n) as (λ b. cond b true false ≡ b) [ true ↦ refl | false ↦ refl ])
       | inr lt ↦
           let other : nat_eq slot n ≡ false = grind (arith, nat_tests) in
-          rw (has-set_below n bits slot lt, other) (elim (is_set bits n) as (λ b. (is_set bits slot || cond b false false) ≡ is_set bits slot) [ true ↦ or_false _ | false ↦ or_false _ ])
+          rw (has-set_below n bits slot lt, other) (elim (is_set bits n) as (λ b. (is_set bits slot || cond b false false) ≡ is_set bits slot) [ true ↦ or-false _ | false ↦ or-false _ ])
     ]
 
 -- ---- how many
@@ -168,8 +152,8 @@ each_of_all : (q : ℕ → Bool) (i : ℕ) (slots : List ℕ) → list_all q slo
 each_of_all q i [] all member = cc
 each_of_all q i (s ∷ slots) all member =
     elim (eqb_tells i s) [
-      | inl same ↦ rw same.1 (and_left (q s) _ all)
-      | inr other ↦ each_of_all q i slots (and_right (q s) _ all) (rw other.0 at member)
+      | inl same ↦ rw same.1 (and_parts (q s) _ all).0
+      | inr other ↦ each_of_all q i slots (and_parts (q s) _ all).1 (rw other.0 at member)
     ]
 
 pub all-set_below : (n bits : ℕ) (q : ℕ → Bool) → ((i : ℕ) → i < n → bit_at bits i ≡ 1 → q i ≡ true) → list_all q (set_below n bits) ≡ true
@@ -223,7 +207,7 @@ within-set_below n a b off fits lacks =
           let there : bit_at b i ≡ 1 = omega (arith, apart i below set, lacks i below) in
           has-set_below n b i below ∙ rw there refl) in
           none.0 ∙ sym all
-      | inr some ↦ some.0 ∙ sym (not_true _ (λ all. some.1 (zero_of_apart n a off fits (λ i below set.
+      | inr some ↦ some.0 ∙ sym (false_from_ne_true _ (λ all. some.1 (zero_of_apart n a off fits (λ i below set.
           let member : has_slot i (set_below n b) ≡ true = each-set_below n a (λ i. has_slot i (set_below n b)) all i below set in
           let there : bit_at b i ≡ 1 = eqb-true (bit_at b i) 1 (sym (has-set_below n b i below) ∙ member) in
           omega (arith, lacks i below)))))

@@ -2,7 +2,7 @@
 use Rattle.std.specs.Prelude.{Bool, nat_eq, ◌&&◌}
 use Rattle.std.specs.declared.cmp.Ordering.{Ordering}
 use Rattle.std.specs.Ordering.{nat_cmp, on, then_cmp, is_lt}
-use Rattle.pgp_ids.specs.declared.group_member.Member.{Member}
+use Rattle.pgp_ids.specs.declared.member.Member.{Member}
 
 -- how two members compare
 abbrev pub member_cmp : Member → Member → Ordering

@@ -4,7 +4,7 @@ ghost use Rattle.pgp_ids.specs.Bucket.{weight_count};
 use super::seq::Seq;
 
 /// How a bucket chooses one of its items (CRUSH's bucket types).
-#[derive(Clone, Copy, Debug, PartialEq, Eq, Hash)]
+#[derive(Clone, Copy, Debug)]
 pub enum BucketAlg {
     /// All items are equally likely.
     Uniform,

@@ -4,7 +4,7 @@ use std::fmt;
 use std::marker::Model;
 
 /// The number of a cluster map. The empty map before the first incremental is epoch 0.
-#[derive(Clone, Copy, Debug, PartialEq, Eq, Hash, PartialOrd, Ord)]
+#[derive(Clone, Copy, Debug, PartialEq, Eq, PartialOrd, Ord)]
 pub struct Epoch {
     number: u32,
 }

@@ -1,8 +1,8 @@
 use super::epoch::Epoch;
-use super::member::Membership;
+use super::membership::Membership;
 
 /// What a map says of a group's acting primary. Where the group has none, both play no part.
-#[derive(Clone, Copy, Debug, PartialEq, Eq, Hash)]
+#[derive(Clone, Copy, Debug)]
 pub struct PrimaryFacts {
     /// The epoch that booted the device last.
     pub up_from: Epoch,
@@ -11,7 +11,7 @@ pub struct PrimaryFacts {
 }
 
 /// One epoch of a group's history.
-#[derive(Debug, PartialEq, Eq, Drop)]
+#[derive(Debug, Drop)]
 pub struct EpochState {
     pub members: Membership,
     /// The facts of the acting primary in the map of this epoch.

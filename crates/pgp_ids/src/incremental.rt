@@ -6,14 +6,14 @@ use super::pool::{PoolSizes, PoolSpec};
 use super::seq::Seq;
 
 /// A device's weight, in units of 1/0x10000: 0 is out, 0x10000 is fully in.
-#[derive(Clone, Copy, Debug, PartialEq, Eq, Hash)]
+#[derive(Clone, Copy, Debug)]
 pub struct DeviceWeight {
     pub osd: OsdId,
     pub weight: u32,
 }
 
 /// An epoch that is told of a device.
-#[derive(Clone, Copy, Debug, PartialEq, Eq, Hash)]
+#[derive(Clone, Copy, Debug)]
 pub struct DeviceEpoch {
     pub osd: OsdId,
     pub epoch: Epoch,

@@ -5,7 +5,7 @@ use super::object_name::ObjectName;
 use super::version::Version;
 
 /// What a write did to an object.
-#[derive(Clone, Copy, Debug, PartialEq, Eq, Hash)]
+#[derive(Clone, Copy, Debug)]
 pub enum Change {
     /// It made the object or changed it.
     Modify,
@@ -25,7 +25,7 @@ impl Change {
 }
 
 /// One entry of a group's log.
-#[derive(Debug, PartialEq, Eq, Drop)]
+#[derive(Debug, Drop)]
 pub struct LogEntry {
     pub version: Version,
     pub change: Change,

@@ -1,21 +1,24 @@
-use super::osd::OsdId;
-use super::osds::Osds;
+ghost use Rattle.std.specs.Prelude.{◌≡◌};
+ghost use Rattle.pgp_ids.specs.Member.{is_before};
 
-/// Where a placement group lies at one epoch, with the sizes of its pool.
+use super::osd::OsdId;
+
+/// A member of a placement group: a device in a slot. Ordered by device and then by slot.
 ///
-/// Two epochs with equal memberships belong to one interval if every epoch between them has it too.
-#[derive(Debug, PartialEq, Eq, Drop)]
-pub struct Membership {
-    /// Where placement by the map's tree puts the group.
-    pub up: Osds,
-    /// The first device of `up`.
-    pub up_primary: Option<OsdId>,
-    /// Who serves the group: `up`, or the list that pg_temp gives.
-    pub acting: Osds,
-    /// The first device of `acting`.
-    pub acting_primary: Option<OsdId>,
-    /// How many copies or shards the pool keeps, 1 to 16.
-    pub size: u8,
-    /// With how many members the group may serve, 1 to `size`.
-    pub min_size: u8,
+/// In a replicated pool the slot is 0. In an erasure pool it is the place in the group's list, whose shard the device
+/// holds.
+#[derive(Clone, Copy, Debug, PartialEq, Eq, PartialOrd, Ord)]
+pub struct Member {
+    pub osd: OsdId,
+    /// 0 to 15.
+    pub slot: u8,
+}
+
+impl Member {
+    /// Whether the member stands before the other in lists of members.
+    pub fn is_before(self, other: Member) -> bool
+        ensures { result ≡ is_before self other }
+    {
+        self < other
+    }
 }

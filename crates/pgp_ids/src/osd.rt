@@ -1,6 +1,5 @@
 ghost use Rattle.std.specs.Prelude.{◌≡◌, ℕ, ◌<◌, ◌≤◌, ◌↔◌, IsSome, IfSome};
 
-use std::fmt;
 use std::marker::Model;
 
 /// The number of a storage device (an OSD): 0 to [`OsdId::MAX`].
@@ -40,11 +39,5 @@ impl OsdId {
         ensures in_range { result ≤ 4095 }
     {
         self.number
-    }
-}
-
-impl fmt::Display for OsdId {
-    fn fmt<W: fmt::Write>(&self, f: &mut fmt::Formatter<W>) -> fmt::Result {
-        write!(f, "osd.{}", self.number)
     }
 }

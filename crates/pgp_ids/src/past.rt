@@ -1,5 +1,5 @@
 use super::epoch::Epoch;
-use super::member::Membership;
+use super::membership::Membership;
 
 /// A past interval of a placement group: a maximal run of epochs of equal membership that has ended.
 #[derive(Debug, PartialEq, Eq, Drop)]

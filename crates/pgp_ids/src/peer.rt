@@ -1,13 +1,13 @@
 ghost use Rattle.std.specs.Prelude.{◌≡◌};
 ghost use Rattle.pgp_ids.specs.Names.{peer_state_name};
 
-use super::group_member::Member;
+use super::member::Member;
 use super::object_name::ObjectName;
 use super::seq::Seq;
 use super::version::Version;
 
 /// An object that a peer lacks.
-#[derive(Debug, PartialEq, Eq, Drop)]
+#[derive(Debug, Drop)]
 pub struct MissingObject {
     pub object: ObjectName,
     /// The write that the peer needs.

@@ -1,7 +1,7 @@
 use super::pool_id::PoolId;
 
 /// How a pool keeps its objects.
-#[derive(Clone, Copy, Debug, PartialEq, Eq, Hash)]
+#[derive(Clone, Copy, Debug)]
 pub enum PoolKind {
     /// Each member of a group has a whole copy.
     Replicated,
@@ -13,7 +13,7 @@ pub enum PoolKind {
 }
 
 /// A pool, as the map incremental that makes it tells of it. The ranges are those of a pool that a map takes.
-#[derive(Clone, Copy, Debug, PartialEq, Eq, Hash)]
+#[derive(Clone, Copy, Debug)]
 pub struct PoolSpec {
     pub id: PoolId,
     /// How many placement groups it has, 1 to 1,024.
@@ -28,7 +28,7 @@ pub struct PoolSpec {
 }
 
 /// New sizes of a pool.
-#[derive(Clone, Copy, Debug, PartialEq, Eq, Hash)]
+#[derive(Clone, Copy, Debug)]
 pub struct PoolSizes {
     pub pool: PoolId,
     /// How many copies or shards it keeps, 1 to 16. That of an erasure pool can't change.

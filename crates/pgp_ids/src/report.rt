@@ -1,12 +1,12 @@
 use super::epoch::Epoch;
-use super::group_member::Member;
 use super::log_entry::LogEntry;
+use super::member::Member;
 use super::pg_id::PgId;
 use super::seq::Seq;
 use super::version::Version;
 
 /// What a member tells of its copy of a group (Ceph's pg_info_t).
-#[derive(Clone, Copy, Debug, PartialEq, Eq, Hash)]
+#[derive(Clone, Copy, Debug, PartialEq, Eq)]
 pub struct Info {
     pub pg: PgId,
     /// Who sent it.

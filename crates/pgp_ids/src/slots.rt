@@ -7,7 +7,7 @@ use std::marker::Model;
 pub const SLOT_LIMIT: u8 = 32;
 
 /// A set of slots, each below [`SLOT_LIMIT`]. Contracts see it as the list of its slots in ascending order.
-#[derive(Clone, Copy, Debug)]
+#[derive(Clone, Copy)]
 pub struct SlotSet {
     bits: u32,
 }

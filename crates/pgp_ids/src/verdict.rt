@@ -2,7 +2,7 @@ ghost use Rattle.std.specs.Prelude.{◌≡◌};
 ghost use Rattle.pgp_ids.specs.Names.{verdict_name};
 
 /// Whether a placement group may serve, and if not, what it waits for. The first that holds, in this order.
-#[derive(Clone, Copy, Debug, PartialEq, Eq, Hash)]
+#[derive(Clone, Copy, Debug, PartialEq, Eq)]
 pub enum Verdict {
     /// No device of the acting set is there to lead.
     NoPrimary,

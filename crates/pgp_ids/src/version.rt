@@ -6,7 +6,7 @@ use super::epoch::Epoch;
 /// The version of a write in a group's log (Ceph's eversion). Ordered by epoch and then by number.
 ///
 /// Both parts are 0 before the first write.
-#[derive(Clone, Copy, Debug, PartialEq, Eq, Hash, PartialOrd, Ord)]
+#[derive(Clone, Copy, Debug, PartialEq, Eq, PartialOrd, Ord)]
 pub struct Version {
     /// The epoch in which the write was taken.
     pub epoch: Epoch,

@@ -1,5 +1,5 @@
 use super::epoch::Epoch;
-use super::group_member::Member;
+use super::member::Member;
 use super::osd::OsdId;
 use super::osds::Osds;
 use super::past::Past;
