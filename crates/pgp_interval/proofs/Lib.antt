@@ -4,3 +4,4 @@ pub mod Openings
 pub mod Places
 pub mod IntervalLemmas
 pub mod StepLemmas
+pub mod RunningLemmas
