@@ -1,5 +1,4 @@
 pub mod Same
-pub mod Ranges
 pub mod Openings
 pub mod Places
 pub mod IntervalLemmas

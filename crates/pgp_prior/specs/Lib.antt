@@ -1,6 +1,5 @@
 pub mod Ascending
 pub mod Members
-pub mod MembersLeft
 pub mod Blocks
 pub mod Prior
 pub mod Better
