@@ -124,8 +124,9 @@ fn traced(alloc: Global, kind: PoolKind, epochs: Seq<EpochState>) -> Result<Repl
         });
     };
     let history = history(alloc, AnyCode::of_pool(kind), opening, states)?;
+    let (first, _) = history.current();
     Ok(Reply::Traced {
-        first: history.current().first,
+        first,
         past: Seq::from_vec(history.past(alloc)?),
     })
 }

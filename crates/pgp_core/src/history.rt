@@ -1,5 +1,7 @@
-ghost use Rattle.std.specs.Prelude.{◌≡◌, ◌<◌, IfOk, length};
+ghost use Rattle.std.specs.Prelude.{◌<◌, IfOk, length};
 ghost use Rattle.std.specs.Vec.Iter.{into_iter_items};
+ghost use Rattle.pgp_code.specs.AnyCode.{enough_of, is_by_place};
+ghost use Rattle.pgp_interval.specs.IntervalsOf.{IsIntervalsOf};
 ghost use Rattle.pgp_core.specs.ToldHistory.{told_history};
 
 use pgp_code::AnyCode;
@@ -8,7 +10,7 @@ use pgp_interval::Intervals;
 use std::alloc::{AllocError, Global};
 use std::vec::IntoIter;
 
-/// The history of a group whose pool has this code: the opening state is that of epoch 1, and each other one is that of
+/// The intervals of a group whose pool has this code: the opening state is that of epoch 1, and each other one is that of
 /// the next epoch.
 pub fn history(
     alloc: Global,
@@ -17,7 +19,7 @@ pub fn history(
     others: IntoIter<EpochState>,
 ) -> Result<Intervals<AnyCode>, AllocError>
     requires { length (into_iter_items others) < 4096 }
-    ensures { IfOk result (λ history. history ≡ told_history code opening (into_iter_items others)) }
+    ensures { IfOk result (IsIntervalsOf enough_of is_by_place (told_history code opening (into_iter_items others))) }
 {
     let mut history = Intervals::begin(alloc, code, Epoch::new(1), opening.members);
     let mut facts = opening.facts;

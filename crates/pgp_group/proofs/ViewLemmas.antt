@@ -4,7 +4,7 @@ use Rattle.std.specs.Option.{option_map, option_map_or}
 use Rattle.pgp_code.specs.declared.any.AnyCode.{AnyCode}
 use Rattle.pgp_code.specs.declared.any.AnyCode.TheVariants as code
 use Rattle.pgp_ids.specs.declared.entry.Entry.{Entry}
-use Rattle.pgp_ids.specs.declared.group_member.Member.{Member}
+use Rattle.pgp_ids.specs.declared.member.Member.{Member}
 use Rattle.pgp_ids.specs.declared.incremental.Incremental.{Incremental}
 use Rattle.pgp_ids.specs.declared.pg_id.PgId.{PgId}
 use Rattle.pgp_info.specs.Preference.{IsPreference}

@@ -3,7 +3,7 @@
 use Rattle.std.specs.Prelude.{◌≡◌, ℕ, List, [], ◌∷◌, ◌++◌, Bool, false, ◌&&◌, nat_le, map, filter, fold, max, flat_map, if◌then◌else◌}
 use Rattle.std.specs.List.{list_any}
 use Rattle.pgp_ids.specs.Member.{is_same_member}
-use Rattle.pgp_ids.specs.declared.group_member.Member.{Member}
+use Rattle.pgp_ids.specs.declared.member.Member.{Member}
 use Rattle.pgp_ids.specs.declared.log_entry.LogEntry.{LogEntry}
 use Rattle.pgp_ids.specs.declared.report.Info.{Info}
 use Rattle.pgp_interval.specs.Runs.{current_first}

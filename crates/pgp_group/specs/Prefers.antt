@@ -2,7 +2,7 @@
 use Rattle.std.specs.Prelude.{Option, Bool}
 use Rattle.pgp_code.specs.declared.any.AnyCode.{AnyCode}
 use Rattle.pgp_code.specs.declared.any.AnyCode.TheVariants.{Replicated, Erasure}
-use Rattle.pgp_ids.specs.declared.group_member.Member.{Member}
+use Rattle.pgp_ids.specs.declared.member.Member.{Member}
 use Rattle.pgp_ids.specs.declared.report.Info.{Info}
 use Rattle.pgp_info.specs.Preference.{newest_first, oldest_first}
 

@@ -7,7 +7,7 @@ use Rattle.std.proofs.lemmas.List.Elements.{All-contains, All-contains_itself, A
 use Rattle.std.proofs.lemmas.List.Kept.{AllPairs-filter, AllPairs-cons}
 use Rattle.std.proofs.lemmas.List.Sums.{AllPass-from_list_all, list_all-from_AllPass}
 use Rattle.pgp_ids.specs.Member.{is_same_member}
-use Rattle.pgp_ids.specs.declared.group_member.Member.{Member}
+use Rattle.pgp_ids.specs.declared.member.Member.{Member}
 use Rattle.pgp_ids.specs.declared.report.Info.{Info}
 use Rattle.pgp_info.specs.Preference.{IsPreference}
 use Rattle.pgp_info.specs.Best.{HasDistinctMembers, candidates, is_unbeaten, best_info, IsBest}

@@ -1,6 +1,6 @@
 -- Infos of small groups.
 use Rattle.std.specs.Prelude.{ℕ, Option, Some, true}
-use Rattle.pgp_ids.specs.declared.group_member.Member.{Member}
+use Rattle.pgp_ids.specs.declared.member.Member.{Member}
 use Rattle.pgp_ids.specs.declared.version.Version.{Version}
 use Rattle.pgp_ids.specs.declared.report.Info.{Info}
 

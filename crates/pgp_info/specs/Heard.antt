@@ -2,7 +2,7 @@
 -- member, and which of two copies its pool would rather go by.
 use Rattle.std.specs.Prelude.{List, [], ◌∷◌, ◌++◌, not, filter}
 use Rattle.pgp_ids.specs.Member.{is_same_member}
-use Rattle.pgp_ids.specs.declared.group_member.Member.{Member}
+use Rattle.pgp_ids.specs.declared.member.Member.{Member}
 use Rattle.pgp_ids.specs.declared.report.Info.{Info}
 
 -- no two infos are of one member

@@ -5,7 +5,7 @@ use Rattle.std.specs.declared.cmp.Ordering.{Ordering}
 use Rattle.std.specs.Ordering.{on, flip_args, then_cmp, bool_cmp, is_lt}
 use Rattle.pgp_ids.specs.Version.{version_cmp}
 use Rattle.pgp_ids.specs.Member.{member_cmp, is_same_member}
-use Rattle.pgp_ids.specs.declared.group_member.Member.{Member}
+use Rattle.pgp_ids.specs.declared.member.Member.{Member}
 use Rattle.pgp_ids.specs.declared.report.Info.{Info}
 
 -- the info is that of the acting primary in its place

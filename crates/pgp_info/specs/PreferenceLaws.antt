@@ -7,7 +7,7 @@ use Rattle.std.specs.Ordering.{is_lt, ordering_reverse, nat_cmp, bool_cmp, order
 use Rattle.std.proofs.lemmas.Bool.Decides.{nat_tests}
 use Rattle.pgp_ids.specs.Version.{version_cmp}
 use Rattle.pgp_ids.specs.Member.{member_cmp}
-use Rattle.pgp_ids.specs.declared.group_member.Member.{Member}
+use Rattle.pgp_ids.specs.declared.member.Member.{Member}
 use Rattle.pgp_ids.specs.declared.report.Info.{Info}
 use Rattle.pgp_info.specs.Preference.{is_primary, tie_cmp, newest_first_cmp, oldest_first_cmp, IsPreference}
 

@@ -1,6 +1,6 @@
 //! What the best info is for any preference, and what the definitions say of small groups.
 ghost use Rattle.std.specs.Prelude.{◌≡◌, ◌↔◌, List, [], ◌∷◌, Option, Some, None, Bool, true, false, Contains};
-ghost use Rattle.pgp_ids.specs.declared.group_member.Member.{Member};
+ghost use Rattle.pgp_ids.specs.declared.member.Member.{Member};
 ghost use Rattle.pgp_ids.specs.declared.report.Info.{Info};
 ghost use Rattle.pgp_info.specs.Preference.{newest_first, oldest_first, IsPreference};
 ghost use Rattle.pgp_info.specs.Best.{HasDistinctMembers, candidates, best_info, IsBest};

@@ -9,7 +9,7 @@ use pgp_ids::{Info, Member};
 ///
 /// Of copies with the same last write, the one with the longer log comes first (the lesser log_tail), then that of the
 /// acting primary, then that of the lesser member, by its device and then its slot. The last is this project's own choice.
-#[derive(Clone, Copy, Debug, PartialEq, Eq, Hash)]
+#[derive(Clone, Copy, Debug, PartialEq, Eq)]
 pub struct OldestFirst {
     /// The acting primary in its place, where there is one.
     pub primary: Option<Member>,

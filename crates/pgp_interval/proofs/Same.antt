@@ -3,7 +3,7 @@ use Rattle.std.proofs.Common.{◌≡◌, ℕ, List, Option, Some, None, true, na
 use Rattle.std.specs.Option.{option_eq}
 use Rattle.std.proofs.lemmas.Bool.{false≢true, eqb-true, eq-eqb, and_parts, and_from}
 use Rattle.std.proofs.lemmas.Slice.Eq.{slice_eq-Decides}
-use Rattle.pgp_ids.specs.declared.member.Membership.{Membership}
+use Rattle.pgp_ids.specs.declared.membership.Membership.{Membership}
 use Rattle.pgp_interval.specs.SameMembers.{has_same_places, is_same}
 
 option_eq-Decides : (a b : Option ℕ) → Decides (option_eq nat_eq a b) (a ≡ b)

@@ -1,7 +1,7 @@
 -- Small histories that begin at epoch 1.
 use Rattle.std.specs.Prelude.{ℕ, List, [], ◌∷◌, Option, Some, Bool}
 use Rattle.pgp_ids.specs.Osds.{first_osd}
-use Rattle.pgp_ids.specs.declared.member.Membership.{Membership}
+use Rattle.pgp_ids.specs.declared.membership.Membership.{Membership}
 use Rattle.pgp_ids.specs.declared.history.PrimaryFacts.{PrimaryFacts}
 use Rattle.pgp_ids.specs.declared.past.Past.{Past}
 use Rattle.pgp_interval.specs.History.{History, begun, stepped}

@@ -1,6 +1,6 @@
 -- What an interval is, and what the intervals of a history are together.
 use Rattle.std.specs.Prelude.{◌≡◌, ◌≢◌, ℕ, ◌+◌, ◌<◌, ◌≤◌, List, [], ◌∷◌, Bool, All, Contains}
-use Rattle.pgp_ids.specs.declared.member.Membership.{Membership}
+use Rattle.pgp_ids.specs.declared.membership.Membership.{Membership}
 use Rattle.pgp_ids.specs.declared.past.Past.{Past}
 use Rattle.pgp_interval.specs.History.{History, last_place, state_at, members_at}
 use Rattle.pgp_interval.specs.ReadWrite.{may_have_gone_rw}

@@ -1,6 +1,6 @@
 -- What is kept of a history as it grows, and whose history that is.
 use Rattle.std.specs.Prelude.{◌≡◌, ℕ, ◌+◌, List, Bool}
-use Rattle.pgp_ids.specs.declared.member.Membership.{Membership}
+use Rattle.pgp_ids.specs.declared.membership.Membership.{Membership}
 use Rattle.pgp_ids.specs.declared.past.Past.{Past}
 use Rattle.pgp_interval.specs.History.{History, last_place}
 use Rattle.pgp_interval.specs.Runs.{past_intervals, current_first}

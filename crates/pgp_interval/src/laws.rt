@@ -1,7 +1,7 @@
 //! What the intervals of any history are, and what the definitions say of small ones.
 ghost use Rattle.std.specs.Prelude.{◌≡◌, ◌≢◌, ℕ, ◌+◌, ◌↔◌, [], ◌∷◌, ◌++◌, true, false, IsTrue};
 ghost use Rattle.pgp_ids.specs.declared.history.PrimaryFacts.{PrimaryFacts};
-ghost use Rattle.pgp_ids.specs.declared.member.Membership.{Membership};
+ghost use Rattle.pgp_ids.specs.declared.membership.Membership.{Membership};
 ghost use Rattle.pgp_interval.specs.SameMembers.{is_same};
 ghost use Rattle.pgp_interval.specs.History.{History, begun, stepped, last_place};
 ghost use Rattle.pgp_interval.specs.Runs.{past_intervals, current_first, current_ending};

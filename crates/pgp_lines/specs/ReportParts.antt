@@ -3,7 +3,7 @@ use Rattle.std.specs.Prelude.{ℕ, List, [], ◌∷◌, length, codes, Option, S
 use Rattle.std.specs.Str.{bytes_eq}
 use Rattle.serde_json.specs.Data.{Data}
 use Rattle.serde_json.specs.Find.{as_str}
-use Rattle.pgp_ids.specs.declared.group_member.Member.{Member}
+use Rattle.pgp_ids.specs.declared.member.Member.{Member}
 use Rattle.pgp_ids.specs.declared.log_entry.Change.{Change}
 use Rattle.pgp_ids.specs.declared.log_entry.Change.TheVariants.{Modify, Delete}
 use Rattle.pgp_ids.specs.declared.log_entry.LogEntry.{LogEntry}

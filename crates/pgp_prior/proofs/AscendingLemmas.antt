@@ -5,7 +5,7 @@ use Rattle.std.proofs.lemmas.Bool.{cases_Bool}
 use Rattle.std.proofs.lemmas.Bool.Decides.{nat_tests}
 use Rattle.std.proofs.lemmas.List.Elements.{All-nil, All-cons}
 use Rattle.pgp_ids.specs.Member.{is_before}
-use Rattle.pgp_ids.specs.declared.group_member.Member.{Member}
+use Rattle.pgp_ids.specs.declared.member.Member.{Member}
 use Rattle.pgp_prior.specs.Ascending.{IsAscending, with_item, ascending}
 use Rattle.pgp_prior.proofs.ListLemmas.{Contains-here, Contains-cases, Contains-nil, Contains-first, Contains-later, AllPairs-cons, AllPairs-first, AllPairs-rest, AllPairs-nil}
 

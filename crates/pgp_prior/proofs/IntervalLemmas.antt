@@ -2,8 +2,8 @@
 use Rattle.std.proofs.Common.{◌≡◌, ℕ, ◌+◌, ◌<◌, List, [], ◌++◌, Bool, true, false, length, get_or, take, map, nat_lt, ap, sym, ◌∙◌}
 use Rattle.std.specs.List.{filter, flat_map}
 use Rattle.pgp_ids.specs.Member.{is_before}
-use Rattle.pgp_ids.specs.declared.group_member.Member.{Member}
-use Rattle.pgp_ids.specs.declared.member.Membership.{Membership}
+use Rattle.pgp_ids.specs.declared.member.Member.{Member}
+use Rattle.pgp_ids.specs.declared.membership.Membership.{Membership}
 use Rattle.pgp_ids.specs.declared.past.Past.{Past}
 use Rattle.pgp_sets.specs.declared.status.Status.{Status}
 use Rattle.pgp_prior.specs.Ascending.{IsAscending, with_items, ascending}

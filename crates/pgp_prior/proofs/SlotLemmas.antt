@@ -4,7 +4,7 @@ use Rattle.std.specs.List.{Contains, fold, list_any}
 use Rattle.std.proofs.lemmas.Bool.{cases_Bool}
 use Rattle.std.proofs.lemmas.Bool.Decides.{nat_tests}
 use Rattle.pgp_ids.specs.SlotSet.{IsSlotSet, has_slot, with_slot, is_within}
-use Rattle.pgp_ids.specs.declared.group_member.Member.{Member}
+use Rattle.pgp_ids.specs.declared.member.Member.{Member}
 use Rattle.pgp_prior.specs.Members.{slots_of}
 use Rattle.pgp_prior.proofs.ListLemmas.{Contains-here, Contains-later, Contains-cases, Contains-nil}
 

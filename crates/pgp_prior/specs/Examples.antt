@@ -2,8 +2,8 @@
 -- the devices 0, 1 and 2, and now it lies on 0, 3 and 4.
 use Rattle.std.specs.Prelude.{ℕ, zero, suc, List, [], ◌∷◌, Option, Some, true}
 use Rattle.pgp_ids.specs.Osds.{first_osd}
-use Rattle.pgp_ids.specs.declared.group_member.Member.{Member}
-use Rattle.pgp_ids.specs.declared.member.Membership.{Membership}
+use Rattle.pgp_ids.specs.declared.member.Member.{Member}
+use Rattle.pgp_ids.specs.declared.membership.Membership.{Membership}
 use Rattle.pgp_ids.specs.declared.past.Past.{Past}
 use Rattle.pgp_code.specs.Enough.{enough_shards}
 use Rattle.pgp_sets.specs.declared.status.Status.{Status}

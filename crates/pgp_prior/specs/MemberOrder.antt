@@ -2,7 +2,7 @@
 use Rattle.std.proofs.Common.{◌≡◌, Bool, true, false, arith}
 use Rattle.std.proofs.lemmas.Bool.Decides.{nat_tests}
 use Rattle.pgp_ids.specs.Member.{is_before}
-use Rattle.pgp_ids.specs.declared.group_member.Member.{Member}
+use Rattle.pgp_ids.specs.declared.member.Member.{Member}
 use Rattle.pgp_lists.proofs.Ordered.{IsOrder}
 
 members_chain : (a b c : Member) → is_before a b ≡ true → is_before b c ≡ true → is_before a c ≡ true

@@ -3,7 +3,7 @@
 use Rattle.std.specs.Prelude.{ℕ, List, [], length, fold, filter_map, Option, None, option_map, Bool, if◌then◌else◌, slice_index_or}
 use Rattle.std.specs.List.{range_with_len}
 use Rattle.pgp_ids.specs.SlotSet.{with_slot}
-use Rattle.pgp_ids.specs.declared.group_member.Member.{Member}
+use Rattle.pgp_ids.specs.declared.member.Member.{Member}
 
 -- the member at this place, if a device stands there
 abbrev pub member_at : Bool → List (Option ℕ) → ℕ → Option Member

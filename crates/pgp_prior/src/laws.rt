@@ -1,8 +1,8 @@
 //! What the prior set is by any code, and what the definitions say of a small group.
 ghost use Rattle.std.specs.Prelude.{◌≡◌, ℕ, [], ◌∷◌, List, Bool, true, false, Contains, nat_lt};
 ghost use Rattle.pgp_ids.specs.Member.{is_before};
-ghost use Rattle.pgp_ids.specs.declared.group_member.Member.{Member};
-ghost use Rattle.pgp_ids.specs.declared.member.Membership.{Membership};
+ghost use Rattle.pgp_ids.specs.declared.member.Member.{Member};
+ghost use Rattle.pgp_ids.specs.declared.membership.Membership.{Membership};
 ghost use Rattle.pgp_ids.specs.declared.past.Past.{Past};
 ghost use Rattle.pgp_sets.specs.declared.status.Status.{Status};
 ghost use Rattle.pgp_sets.specs.declared.status.Status.TheVariants.{Up, Gone, Lost, Down};

@@ -17,7 +17,7 @@ pub struct Members<'a> {
 impl<'a> Model for Members<'a> {
     ghost use Rattle.std.specs.Prelude.{List, ◌-◌, ◌≤◌, length, filter_map};
     ghost use Rattle.std.specs.List.{range_with_len};
-    ghost use Rattle.pgp_ids.specs.declared.group_member.Member.{Member};
+    ghost use Rattle.pgp_ids.specs.declared.member.Member.{Member};
     ghost use Rattle.pgp_prior.specs.Members.{member_at};
 
     ghost Value = { List Member };

@@ -5,7 +5,7 @@ use Rattle.std.specs.Cmp.Lexicographic.{slice_cmp}
 use Rattle.std.specs.Ordering.{nat_cmp, match_ordering}
 use Rattle.serde_json.specs.Data.{Data, Members, no_members, member, put}
 use Rattle.serde_json.specs.Written.{has_float, members_have_float}
-use Rattle.pgp_ids.specs.declared.group_member.Member.{Member}
+use Rattle.pgp_ids.specs.declared.member.Member.{Member}
 use Rattle.pgp_ids.specs.declared.past.Past.{Past}
 use Rattle.pgp_ids.specs.declared.peer.MissingObject.{MissingObject}
 use Rattle.pgp_ids.specs.declared.peer.PeerState.{PeerState}

@@ -1,5 +1,5 @@
 use Rattle.std.proofs.Common.{◌≡◌, ℕ, List, Bool, nat_lt, subst, ap, sym, ◌∙◌}
-use Rattle.pgp_ids.specs.declared.group_member.Member.{Member}
+use Rattle.pgp_ids.specs.declared.member.Member.{Member}
 use Rattle.pgp_prior.specs.Ascending.{IsAscending, with_item}
 use Rattle.pgp_prior.specs.Blocks.{is_down}
 use Rattle.pgp_prior.proofs.AscendingLemmas.{nat_order, IsAscending-with_item}

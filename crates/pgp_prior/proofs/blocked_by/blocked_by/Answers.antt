@@ -1,5 +1,5 @@
 use Rattle.std.proofs.Common.{ℕ, List, Bool, nat_lt, map, take, subst, ap, sym, ◌∙◌, vec_items}
-use Rattle.pgp_ids.specs.declared.group_member.Member.{Member}
+use Rattle.pgp_ids.specs.declared.member.Member.{Member}
 use Rattle.pgp_prior.specs.Ascending.{IsAscending, with_items}
 use Rattle.pgp_prior.specs.Blocks.{is_down, acting_where}
 use Rattle.pgp_prior.proofs.PriorLemmas.{IsAscending-blocked_by}

@@ -1,7 +1,7 @@
 use Rattle.std.proofs.Common.{◌<◌, refl, ap, sym, ◌∙◌}
 use Rattle.std.proofs.lemmas.List.Elements.{All-tail}
 use Rattle.pgp_ids.specs.SlotSet.{with_slot}
-use Rattle.pgp_ids.specs.declared.group_member.Member.{Member}
+use Rattle.pgp_ids.specs.declared.member.Member.{Member}
 use Rattle.pgp_prior.specs.Blocks.{is_settled}
 use Rattle.pgp_prior.proofs.WalkLemmas.{fold-passes, fold-fails}
 use Rattle.pgp_prior.proofs.blocks.settled_slots.Goals as goal

@@ -1,7 +1,7 @@
 use Rattle.std.proofs.Common.{◌≡◌, ◌<◌}
 use Rattle.std.specs.List.{All, filter, fold}
 use Rattle.pgp_ids.specs.SlotSet.{with_slot}
-use Rattle.pgp_ids.specs.declared.group_member.Member.{Member}
+use Rattle.pgp_ids.specs.declared.member.Member.{Member}
 use Rattle.pgp_prior.specs.Blocks.{is_settled, settled_slots}
 use Rattle.pgp_prior.proofs.blocks.settled_slots.Given as goal
 

@@ -1,6 +1,6 @@
 use Rattle.std.proofs.Common.{◌≡◌, List, subst, ap, sym, ◌∙◌}
 use Rattle.pgp_ids.specs.Member.{is_before}
-use Rattle.pgp_ids.specs.declared.group_member.Member.{Member}
+use Rattle.pgp_ids.specs.declared.member.Member.{Member}
 use Rattle.pgp_prior.specs.Ascending.{IsAscending, with_item}
 use Rattle.pgp_prior.specs.Blocks.{is_up}
 use Rattle.pgp_prior.proofs.AscendingLemmas.{member_order, IsAscending-with_item}

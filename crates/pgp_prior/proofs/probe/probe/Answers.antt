@@ -1,6 +1,6 @@
 use Rattle.std.proofs.Common.{List, take, subst, ap, sym, ◌∙◌, vec_items}
 use Rattle.pgp_ids.specs.Member.{is_before}
-use Rattle.pgp_ids.specs.declared.group_member.Member.{Member}
+use Rattle.pgp_ids.specs.declared.member.Member.{Member}
 use Rattle.pgp_prior.specs.Ascending.{IsAscending, with_items}
 use Rattle.pgp_prior.specs.Members.{members_of}
 use Rattle.pgp_prior.proofs.PriorLemmas.{IsAscending-probe}
