@@ -4,7 +4,7 @@ use Rattle.std.proofs.lemmas.Bool.Decides.{nat_tests}
 use Rattle.pgp_ids.specs.declared.entry.Entry.{Entry}
 use Rattle.std.specs.Prelude.{Result, Ok, Err, IfErr}
 use Rattle.pgp_text.specs.Command.{command_of}
-use Rattle.pgp_text.specs.declared.command.Command.{Command}
+use Rattle.pgp_lines.specs.declared.command.Command.{Command}
 use Rattle.pgpeer.specs.Wants.{CanMeet}
 use Rattle.pgp_core.specs.Answer.{line_text, line_log, long_text}
 use Rattle.pgp_core.specs.Lines.{is_blank}

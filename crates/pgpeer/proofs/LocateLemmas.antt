@@ -19,8 +19,8 @@ use Rattle.pgp_sets.specs.Sets.{membership, pool_membership}
 use Rattle.pgp_group.specs.Entries.{incs_of}
 use Rattle.pgp_core.specs.Answer.{located_reply}
 use Rattle.pgp_core.specs.Log.{epoch_of}
-use Rattle.pgp_text.specs.declared.reply.Reply.{Reply}
-use Rattle.pgp_text.specs.declared.reply.Reply.TheVariants.{Located}
+use Rattle.pgp_replies.specs.declared.reply.Reply.{Reply}
+use Rattle.pgp_replies.specs.declared.reply.Reply.TheVariants.{Located}
 use Rattle.pgp_map.proofs.CheckedLemmas.{pools-in_range, checked-has_group}
 
 and_left : (a b : Bool) → (a && b) ≡ true → a ≡ true

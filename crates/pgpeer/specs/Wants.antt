@@ -1,8 +1,8 @@
 -- Which want of memory a command can meet.
 use Rattle.std.specs.Prelude.{◌≡◌}
 use Rattle.pgp_ids.specs.declared.entry.Entry.{Entry}
-use Rattle.pgp_text.specs.declared.command.Command.{Command}
-use Rattle.pgp_text.specs.declared.command.Command.TheVariants.{Submit}
+use Rattle.pgp_lines.specs.declared.command.Command.{Command}
+use Rattle.pgp_lines.specs.declared.command.Command.TheVariants.{Submit}
 use Rattle.pgp_core.specs.declared.want.Want.{Want}
 use Rattle.pgp_core.specs.declared.want.Want.TheVariants as want
 

@@ -3,7 +3,7 @@ use Rattle.std.specs.Vec.Iter.{into_iter_items}
 use Rattle.pgp_code.specs.AnyCode.{enough_of, is_by_place}
 use Rattle.pgp_code.specs.declared.any.AnyCode.{AnyCode}
 use Rattle.pgp_interval.specs.Runs.{past_intervals, current_first}
-use Rattle.pgp_text.specs.declared.reply.Reply.TheVariants.{Traced}
+use Rattle.pgp_replies.specs.declared.reply.Reply.TheVariants.{Traced}
 use Rattle.pgp_core.specs.Answer.{traced_reply}
 use Rattle.pgp_core.specs.ToldHistory.{told_history}
 use Rattle.pgpeer.proofs.answer.traced.Goals as goal
