@@ -1,8 +1,10 @@
 -- What the numbers of a command are that a line gives.
-use Rattle.std.proofs.Common.{◌≡◌, ℕ, suc, ◌≤◌, List, codes, [], ◌∷◌, Bool, true, false, Option, Some, None, Result, Ok, Err, cond, length, option_map, option_and_then, refl, sym, ap, ◌∙◌, subst, arith, nat_le, ◌&&◌, inl, inr}
+use Rattle.std.proofs.Common.{◌≡◌, ℕ, suc, ◌≤◌, List, codes, [], ◌∷◌, Bool, true, false, Option, Some, None, Result, Ok, Err, cond, length, option_map, option_and_then, refl, sym, ap, ◌∙◌, subst, arith, nat_le, inl, inr}
 use Rattle.std.specs.Option.{ok_or}
 use Rattle.std.specs.Str.{bytes_eq}
+use Rattle.std.proofs.lemmas.Bool.{and_parts}
 use Rattle.std.proofs.lemmas.Bool.Decides.{leb_tells}
+use Rattle.std.proofs.lemmas.Option.{same_Some}
 use Rattle.serde_json.specs.Data.{Data}
 use Rattle.serde_json.specs.Find.{get, as_array, as_bool, as_number, as_u64, as_str}
 use Rattle.pgp_ids.specs.declared.history.EpochState.{EpochState}
@@ -26,6 +28,7 @@ use Rattle.pgp_lines.specs.declared.command.Command.{Command}
 use Rattle.pgp_lines.specs.declared.command.Command.TheVariants.{Submit, Locate, Trace}
 use Rattle.pgp_lines.specs.declared.command.Op.{Op}
 use Rattle.pgp_lines.specs.declared.command.Op.TheVariants as op
+use Rattle.pgp_lists.proofs.Options.{and_then_some, map_some, if_some}
 
 -- a value from two steps came through both
 bind_ok : {A B : Type 0} (r : Result A LineFault) (f : A → Result B LineFault) (y : B) → (r >>= f) ≡ Ok y → (x : A) × (r ≡ Ok x) × (f x ≡ Ok y)
@@ -36,18 +39,6 @@ some_of_ok : {A : Type 0} (o : Option A) (fault : LineFault) (x : A) → ok_or o
 some_of_ok None fault x is = cc
 some_of_ok (Some y) fault x is = cc
 
-and_then_some : {A B : Type 0} (o : Option A) (f : A → Option B) (y : B) → option_and_then f o ≡ Some y → (x : A) × (o ≡ Some x) × (f x ≡ Some y)
-and_then_some None f y is = cc
-and_then_some (Some x) f y is = (x, refl, is)
-
-map_some : {A B : Type 0} (f : A → B) (o : Option A) (y : B) → option_map f o ≡ Some y → (x : A) × (o ≡ Some x) × (f x ≡ y)
-map_some f None y is = cc
-map_some f (Some x) y is = (x, refl, cc)
-
-cond_some : {A : Type 0} (b : Bool) (o : Option A) (x : A) → cond b o None ≡ Some x → (b ≡ true) × (o ≡ Some x)
-cond_some true o x is = (refl, is)
-cond_some false o x is = cc
-
 length-each : {A : Type 0} (shape : Data → Option A) (ds : List Data) (xs : List A) → each shape ds ≡ Some xs → length xs ≡ length ds
 length-each shape [] [] is = refl
 length-each shape [] (x ∷ xs) is = cc
@@ -56,25 +47,19 @@ length-each shape (d ∷ ds) xs is =
     let rest = map_some (λ ys. first.0 ∷ ys) (each shape ds) xs first.2 in
     sym (ap length rest.2) ∙ ap suc (length-each shape ds rest.0 rest.1)
 
-and_left : (a b : Bool) → (a && b) ≡ true → a ≡ true
-and_left true b both = refl
-and_left false b both = both
-
-and_right : (a b : Bool) → (a && b) ≡ true → b ≡ true
-and_right true b both = both
-and_right false b both = cc
-
 at_most : (n limit : ℕ) → nat_le n limit ≡ true → n ≤ limit
 at_most n limit test = elim (leb_tells n limit) [ inl within ↦ within.1 | inr above ↦ let no : nat_le n limit ≡ false = above.0 in cc ]
 
 within : (low high n : ℕ) → is_between low high n ≡ true → (low ≤ n) × (n ≤ high)
-within low high n is = (at_most low n (and_left (nat_le low n) _ is), at_most n high (and_right (nat_le low n) _ is))
+within low high n is =
+    let both = and_parts (nat_le low n) (nat_le n high) is in
+    (at_most low n both.0, at_most n high both.1)
 
 list_sized : {A : Type 0} (low high : ℕ) (shape : Data → Option A) (d : Data) (xs : List A) → list_in low high shape d ≡ Some xs
     → (low ≤ length xs) × (length xs ≤ high)
 list_sized low high shape d xs is =
     let items = and_then_some (as_array d) _ xs is in
-    let chosen = cond_some (is_between low high (length (items_list items.0))) (each shape (items_list items.0)) xs items.2 in
+    let chosen = if_some (is_between low high (length (items_list items.0))) (each shape (items_list items.0)) xs items.2 in
     let sized = within low high (length (items_list items.0)) chosen.0 in
     let same = length-each shape (items_list items.0) xs chosen.1 in
     (omega (arith, sized.0, same), omega (arith, sized.1, same))
@@ -82,25 +67,22 @@ list_sized low high shape d xs is =
 number_within : (low high : ℕ) (d : Data) (n : ℕ) → number_in low high d ≡ Some n → (low ≤ n) × (n ≤ high)
 number_within low high d n is =
     let found = and_then_some (option_and_then as_u64 (as_number d)) _ n is in
-    let chosen = cond_some (is_between low high found.0) (Some found.0) n found.2 in
+    let chosen = if_some (is_between low high found.0) (Some found.0) n found.2 in
     let sized = within low high found.0 chosen.0 in
     let same : found.0 ≡ n = let made = chosen.1 in cc in
     (omega (arith, sized.0, same), omega (arith, sized.1, same))
 
-some_same : {A : Type 0} {x y : A} → Some x ≡ Some y → x ≡ y
-some_same same = cc
-
 erasure_ok : (d : Data) (code : PoolKind) → erasure_in d ≡ Some code → IsTraceCode code
 erasure_ok d code is =
-    let chosen = cond_some (has_only (codes "k" ∷ codes "kind" ∷ []) d) (option_map Erasure (field (codes "k") (number_in 1 16) d)) code is in
+    let chosen = if_some (has_only (codes "k" ∷ codes "kind" ∷ []) d) (option_map Erasure (field (codes "k") (number_in 1 16) d)) code is in
     let made = map_some Erasure (field (codes "k") (number_in 1 16) d) code chosen.1 in
     let found = and_then_some (get (codes "k") d) (number_in 1 16) made.0 made.1 in
     subst IsTraceCode made.2 (number_within 1 16 found.0 made.0 found.2)
 
 replicated_ok : (d : Data) (code : PoolKind) → replicated_in d ≡ Some code → IsTraceCode code
 replicated_ok d code is =
-    let chosen = cond_some (has_only (codes "kind" ∷ []) d) (Some Replicated) code is in
-    subst IsTraceCode (some_same chosen.1) tt
+    let chosen = if_some (has_only (codes "kind" ∷ []) d) (Some Replicated) code is in
+    subst IsTraceCode (same_Some _ _ chosen.1) tt
 
 either_kind : (a b : Bool) (d : Data) (code : PoolKind) → cond a (replicated_in d) (cond b (erasure_in d) None) ≡ Some code → IsTraceCode code
 either_kind true b d code is = replicated_ok d code is
@@ -147,7 +129,7 @@ group_ok d pg is =
     let pool = and_then_some (pool_id_in parts.0.0) of_pool pg parts.2 in
     let number = and_then_some (number_in 0 1023 parts.0.1) _ pg pool.2 in
     let of_pools = number_within 1 255 parts.0.0 pool.0 pool.1 in
-    subst IsGroup (some_same number.2) (of_pools.0, of_pools.1, (number_within 0 1023 parts.0.1 number.0 number.1).1)
+    subst IsGroup (same_Some _ _ number.2) (of_pools.0, of_pools.1, (number_within 0 1023 parts.0.1 number.0 number.1).1)
 
 member_ok : (d : Data) (member : Member) → member_in d ≡ Some member → IsMember member
 member_ok d member is =
@@ -155,13 +137,13 @@ member_ok d member is =
     let of_osd : ℕ → Option Member = λ osd. option_and_then (λ slot. Some (record { osd = osd; slot = slot })) (number_in 0 15 parts.0.1) in
     let osd = and_then_some (osd_in parts.0.0) of_osd member parts.2 in
     let slot = and_then_some (number_in 0 15 parts.0.1) _ member osd.2 in
-    subst IsMember (some_same slot.2) ((number_within 0 4095 parts.0.0 osd.0 osd.1).1, (number_within 0 15 parts.0.1 slot.0 slot.1).1)
+    subst IsMember (same_Some _ _ slot.2) ((number_within 0 4095 parts.0.0 osd.0 osd.1).1, (number_within 0 15 parts.0.1 slot.0 slot.1).1)
 
 name_ok : (d : Data) (name : List ℕ) → name_in d ≡ Some name → (1 ≤ length name) × (length name ≤ 255)
 name_ok d name is =
     let found = and_then_some (as_str d) _ name is in
-    let chosen = cond_some (is_between 1 255 (length found.0)) (Some found.0) name found.2 in
-    subst (λ n. (1 ≤ length n) × (length n ≤ 255)) (some_same chosen.1) (within 1 255 (length found.0) chosen.0)
+    let chosen = if_some (is_between 1 255 (length found.0)) (Some found.0) name found.2 in
+    subst (λ n. (1 ≤ length n) × (length n ≤ 255)) (same_Some _ _ chosen.1) (within 1 255 (length found.0) chosen.0)
 
 info_ok : (d : Data) (info : Info) → info_of d ≡ Ok info → IsGroup info.pg × IsMember info.member
 info_ok d info is =
@@ -228,8 +210,8 @@ known_ok None named d command come is = with_ok named d command come is
 named_ok : (d : Data) (named : Op) → op_in d ≡ Some named → has_come named ≡ true
 named_ok d named is =
     let of_name = and_then_some (option_and_then op_named (field (codes "op") as_str d)) if_come named is in
-    let chosen = cond_some (has_come of_name.0) (Some of_name.0) named of_name.2 in
-    subst (λ o. has_come o ≡ true) (some_same chosen.1) chosen.0
+    let chosen = if_some (has_come of_name.0) (Some of_name.0) named of_name.2 in
+    subst (λ o. has_come o ≡ true) (same_Some _ _ chosen.1) chosen.0
 
 -- a command of a line is in range
 pub in_range : (d : Data) (command : Command) → command_in d ≡ Ok command → IsInRange command

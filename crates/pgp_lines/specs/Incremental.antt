@@ -8,6 +8,9 @@ use Rattle.pgp_lines.specs.Ids.{osd_in, word_in}
 use Rattle.pgp_lines.specs.Devices.{device_weight_in, device_epoch_in}
 use Rattle.pgp_lines.specs.Pools.{pool_in, pool_sizes_in, temp_in}
 use Rattle.pgp_lines.specs.Buckets.{tree_in}
+use Rattle.pgp_lines.specs.declared.command.incremental.Coming.{Coming}
+use Rattle.pgp_lines.specs.declared.command.incremental.Going.{Going}
+use Rattle.pgp_lines.specs.declared.command.incremental.Pools.{Pools}
 
 -- the keys that the line of an incremental may have
 abbrev pub inc_keys : List (List ℕ)
@@ -30,30 +33,48 @@ inc_keys =
 abbrev pub list_at : {A : Type 0} → List ℕ → (Data → Option A) → Data → Result (List A) LineFault
 list_at key shape d = optional key (list_of shape) [] d
 
--- the line of an incremental: its keys are judged in ascending byte order, so the least bad one is named
-abbrev pub inc_of : Data → Result Incremental LineFault
-inc_of d = do
-  crush ← optional (codes "crush") tree_in None d
+-- the devices that go, and the epoch, whose key stands among theirs
+abbrev pub going_of : Data → Result Going LineFault
+going_of d = do
   down ← list_at (codes "down") osd_in d
   epoch ← required (codes "epoch") word_in d
   gone ← list_at (codes "gone") osd_in d
   lost ← list_at (codes "lost") device_epoch_in d
+  Ok (record { down = down; epoch = epoch; gone = gone; lost = lost })
+
+-- pools and groups
+abbrev pub pools_of : Data → Result Pools LineFault
+pools_of d = do
   pools ← list_at (codes "pools") pool_in d
   sizes ← list_at (codes "sizes") pool_sizes_in d
   temp ← list_at (codes "temp") temp_in d
+  Ok (record { pools = pools; sizes = sizes; temp = temp })
+
+-- the devices that come, or go on
+abbrev pub coming_of : Data → Result Coming LineFault
+coming_of d = do
   up ← list_at (codes "up") osd_in d
   up_thru ← list_at (codes "up_thru") device_epoch_in d
   weight ← list_at (codes "weight") device_weight_in d
+  Ok (record { up = up; up_thru = up_thru; weight = weight })
+
+-- the line of an incremental: its keys are judged in ascending byte order, so the least bad one is named
+abbrev pub inc_of : Data → Result Incremental LineFault
+inc_of d = do
+  crush ← optional (codes "crush") tree_in None d
+  going ← going_of d
+  pools ← pools_of d
+  coming ← coming_of d
   Ok (record {
-    epoch = epoch;
-    up = up;
-    down = down;
-    gone = gone;
-    weight = weight;
-    up_thru = up_thru;
-    lost = lost;
-    pools = pools;
-    sizes = sizes;
-    temp = temp;
+    epoch = going.epoch;
+    up = coming.up;
+    down = going.down;
+    gone = going.gone;
+    weight = coming.weight;
+    up_thru = coming.up_thru;
+    lost = going.lost;
+    pools = pools.pools;
+    sizes = pools.sizes;
+    temp = pools.temp;
     crush = crush;
   })

@@ -7,6 +7,7 @@ use Rattle.serde_json.specs.Data.{Data}
 use Rattle.serde_json.specs.Find.{as_str}
 use Rattle.pgp_ids.specs.Osds.{first_osd}
 use Rattle.pgp_ids.specs.declared.history.EpochState.{EpochState}
+use Rattle.pgp_ids.specs.declared.history.PrimaryFacts.{PrimaryFacts}
 use Rattle.pgp_lines.specs.Ids.{place_in, word_in}
 use Rattle.pgp_lines.specs.Shapes.{number_in, list_in, has_only, field, ◌>>=◌}
 
@@ -36,6 +37,20 @@ has_empty_places (Erasure k) = true
 abbrev pub osds_in : Bool → Data → Option (List (Option ℕ))
 osds_in nulls d = list_in 0 16 (place_in nulls) d
 
+-- how many members a group has, and with how many of them it may serve
+abbrev pub sizes_in : Data → Option (ℕ × ℕ)
+sizes_in d = do
+  size ← field (codes "size") (number_in 1 16) d
+  min_size ← field (codes "min_size") (number_in 1 size) d
+  Some (size, min_size)
+
+-- what the map says of the primary
+abbrev pub facts_in : Data → Option PrimaryFacts
+facts_in d = do
+  up_from ← field (codes "up_from") word_in d
+  up_thru ← field (codes "up_thru") word_in d
+  Some (record { up_from = up_from; up_thru = up_thru })
+
 -- an epoch's state: each primary is the first device of its list
 abbrev pub epoch_state : List (Option ℕ) → List (Option ℕ) → ℕ → ℕ → ℕ → ℕ → EpochState
 epoch_state up acting size min_size up_from up_thru = record {
@@ -57,13 +72,11 @@ epoch_keys = codes "acting" ∷ codes "min_size" ∷ codes "size" ∷ codes "up"
 -- the fields of an epoch's object
 abbrev pub epoch_fields_in : Bool → Data → Option EpochState
 epoch_fields_in nulls d = do
+  sizes ← sizes_in d
+  facts ← facts_in d
   up ← field (codes "up") (osds_in nulls) d
   acting ← field (codes "acting") (osds_in nulls) d
-  size ← field (codes "size") (number_in 1 16) d
-  min_size ← field (codes "min_size") (number_in 1 size) d
-  up_from ← field (codes "up_from") word_in d
-  up_thru ← field (codes "up_thru") word_in d
-  Some (epoch_state up acting size min_size up_from up_thru)
+  Some (epoch_state up acting sizes.0 sizes.1 facts.up_from facts.up_thru)
 
 -- an object with these fields and no other
 abbrev pub epoch_state_in : Bool → Data → Option EpochState

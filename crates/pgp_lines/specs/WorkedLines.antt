@@ -1,5 +1,6 @@
 -- The lines of the worked laws, and what they say.
 use Rattle.std.specs.Prelude.{ℕ, pos, negsuc, List, [], ◌∷◌, ◌++◌, codes, true, false, Some, None, ⊤, refl}
+use Rattle.std.proofs.Math.ListN.{replicate}
 use Rattle.std.specs.Fmt.{digits}
 use Rattle.std.specs.Str.{is_utf8, chars}
 use Rattle.serde_json.proofs.OnLiterals.{serde_json_on_literals}
@@ -23,6 +24,14 @@ use Rattle.pgp_lines.specs.declared.command.Command.TheVariants.{Submit, Trace}
 unfoldable pub text_computed : ⊤
 unfolding is_utf8 chars digits serde_json_on_literals
 text_computed = tt
+
+-- so many lists, each in the one before it, all of them closed
+abbrev pub nested : ℕ → List ℕ
+nested n = replicate n 91 ++ replicate n 93
+
+-- the end of the log, with one more key
+abbrev pub close_with : List ℕ → List ℕ
+close_with key = codes "{\"op\":\"close\",\"" ++ key ++ codes "\":0}"
 
 -- a trace of one epoch in a replicated pool
 abbrev pub trace_line : List ℕ

@@ -1,5 +1,6 @@
 -- No reply has a number that isn't whole, so each has one text.
 use Rattle.std.proofs.Common.{◌≡◌, ℕ, List, [], ◌∷◌, fold, Bool, true, false, Option, Some, None, Ordering, Less, Equal, Greater, refl, ap₂}
+use Rattle.std.proofs.lemmas.Bool.{or_parts}
 use Rattle.std.specs.Prelude.{◌||◌}
 use Rattle.std.specs.Cmp.Lexicographic.{slice_cmp}
 use Rattle.std.specs.Ordering.{nat_cmp, match_ordering}
@@ -58,20 +59,11 @@ one_of Greater a b c ea eb ec = ec
 both : (d : Data) (ms : Members) (key : List ℕ) → has_float d ≡ false → members_have_float ms ≡ false → members_have_float (member key d ms) ≡ false
 both d ms key one rest = ap₂ (λ a b. a || b) one rest
 
-or_left : (a b : Bool) → (a || b) ≡ false → a ≡ false
-or_left false b none = refl
-or_left true b none = none
-
-or_right : (a b : Bool) → (a || b) ≡ false → b ≡ false
-or_right false b none = none
-or_right true b none = cc
-
 put_has_none : (key : List ℕ) (d : Data) (ms : Members) → has_float d ≡ false → members_have_float ms ≡ false → members_have_float (put key d ms) ≡ false
 put_has_none key d no_members one none = both d no_members key one none
 put_has_none key d (member other e ms) one none =
-    let here = or_left (has_float e) (members_have_float ms) none in
-    let rest = or_right (has_float e) (members_have_float ms) none in
-    one_of (slice_cmp nat_cmp key other) _ _ _ (both d (member other e ms) key one none) (both d ms other one rest) (both e (put key d ms) other here (put_has_none key d ms one rest))
+    let parts = or_parts (has_float e) (members_have_float ms) none in
+    one_of (slice_cmp nat_cmp key other) _ _ _ (both d (member other e ms) key one none) (both d ms other one parts.1) (both e (put key d ms) other parts.0 (put_has_none key d ms one parts.1))
 
 objects_have_none : (objects : List MissingObject) (ms : Members) → members_have_float ms ≡ false → members_have_float (fold with_object ms objects) ≡ false
 objects_have_none [] ms none = none

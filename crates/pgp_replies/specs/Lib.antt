@@ -3,6 +3,7 @@ pub mod Answered
 pub mod Refused
 pub mod EntryOp
 pub mod Asked
-pub mod AskedParts
 pub mod Reply
+pub mod Sent
+pub mod Parts
 pub mod WorkedReplies

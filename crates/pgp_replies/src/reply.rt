@@ -1,22 +1,24 @@
 //! The answers to lines, and their text.
-ghost use Rattle.std.specs.Prelude.{◌≡◌, IfOk};
-ghost use Rattle.serde_json.specs.View.{view};
+ghost use Rattle.std.specs.Prelude.{◌≡◌, IfOk, OnOk};
+ghost use Rattle.serde_json.specs.Events.{SendsValue};
 ghost use Rattle.pgp_replies.specs.Reply.{accepted_data, located_data, traced_data, reply_data, reply_text};
 
 mod asked;
+mod devices;
 mod entry_op;
 mod intervals;
-mod parts;
+mod json;
+mod members;
+mod peers;
 mod refused;
 
-use asked::asked_value;
+use asked::send_asked;
+use devices::{send_acting, send_up};
 pub use entry_op::EntryOp;
-use intervals::intervals_value;
-use parts::{group_value, osds_value, place_value};
+use json::{Json, field};
 use pgp_ids::{Epoch, Membership, Past, PgId, Seq, View};
 pub use refused::Refused;
-use refused::refused_value;
-use serde_json::{Value, json};
+use serde::{Described, Serialize, Serializer};
 use std::alloc::{AllocError, Global};
 
 /// What a line is answered.
@@ -49,58 +51,92 @@ pub enum Reply {
 pub fn write_reply(alloc: Global, reply: &Reply) -> Result<Vec<u8>, AllocError>
     ensures { IfOk result (λ text. text.items ≡ reply_text reply.now) }
 {
-    let value = reply_value(alloc, reply)?;
-    value.to_vec(alloc)
-}
-
-fn reply_value(alloc: Global, reply: &Reply) -> Result<Value, AllocError>
-    ensures { IfOk result (λ v. view v ≡ reply_data reply.now) }
-{
-    match reply {
-        Reply::Accepted { op, count, epoch } => accepted_value(alloc, *op, *count, *epoch),
-        Reply::Asked(pg, view) => asked_value(alloc, *pg, view),
-        Reply::Located { pg, members, epoch } => located_value(alloc, *pg, members, *epoch),
-        Reply::Traced { first, past } => traced_value(alloc, *first, past.as_slice()),
-        Reply::Refused(refused) => refused_value(alloc, refused),
+    // A writer has no other error at numbers, texts, lists and objects whose keys are texts.
+    match serde_json::to_vec(alloc, &Sent { alloc, reply }) {
+        Ok(text) => Ok(text),
+        Err(_) => Err(AllocError),
     }
 }
 
-fn accepted_value(
+/// A reply with the memory to send it.
+#[derive(Drop)]
+struct Sent<'a> {
     alloc: Global,
+    reply: &'a Reply,
+}
+
+impl Described for Sent<'_> {
+    ghost writes = { λ sent. SendsValue (reply_data sent.reply.now) };
+}
+
+impl Serialize for Sent<'_> {
+    fn serialize<S: Serializer>(&self, out: &mut S) -> Result<(), S::Error> {
+        self.reply.send(self.alloc, out)
+    }
+}
+
+impl Json for Reply {
+    ghost value = { reply_data };
+
+    fn send<S: Serializer>(&self, alloc: Global, out: &mut S) -> Result<(), S::Error> {
+        match self {
+            Reply::Accepted { op, count, epoch } => send_accepted(alloc, out, *op, *count, *epoch),
+            Reply::Asked(pg, view) => send_asked(alloc, out, *pg, view),
+            Reply::Located { pg, members, epoch } => send_located(alloc, out, *pg, members, *epoch),
+            Reply::Traced { first, past } => send_traced(alloc, out, *first, past),
+            Reply::Refused(refused) => refused.send(alloc, out),
+        }
+    }
+}
+
+fn send_accepted<S: Serializer>(
+    alloc: Global,
+    out: &mut S,
     op: EntryOp,
     count: usize,
     epoch: Epoch,
-) -> Result<Value, AllocError>
-    ensures { IfOk result (λ v. view v ≡ accepted_data op count epoch) }
+) -> Result<(), S::Error>
+    ensures { OnOk result
+        (SendsValue (accepted_data op count epoch) (S.written out.old) (S.written out.new)) }
 {
-    json!(in alloc; {"count": count, "epoch": epoch.number(), "ok": op.name()})
+    out.begin_map(Some(3))?;
+    field(alloc, out, "count", &(count as u64))?;
+    field(alloc, out, "epoch", &epoch)?;
+    field(alloc, out, "ok", &op.name())?;
+    out.end_map()
 }
 
-fn located_value(
+fn send_located<S: Serializer>(
     alloc: Global,
+    out: &mut S,
     pg: PgId,
     members: &Membership,
     epoch: Epoch,
-) -> Result<Value, AllocError>
-    ensures { IfOk result (λ v. view v ≡ located_data pg members.now epoch) }
+) -> Result<(), S::Error>
+    ensures { OnOk result
+        (SendsValue (located_data pg members.now epoch) (S.written out.old) (S.written out.new)) }
 {
-    let acting = osds_value(alloc, &members.acting)?;
-    let group = group_value(alloc, pg)?;
-    let up = osds_value(alloc, &members.up)?;
-    json!(in alloc; {
-        "acting": acting,
-        "acting_primary": place_value(members.acting_primary),
-        "epoch": epoch.number(),
-        "ok": "locate",
-        "pg": group,
-        "up": up,
-        "up_primary": place_value(members.up_primary),
-    })
+    out.begin_map(Some(7))?;
+    send_acting(alloc, out, &members.acting, members.acting_primary)?;
+    field(alloc, out, "epoch", &epoch)?;
+    field(alloc, out, "ok", &"locate")?;
+    field(alloc, out, "pg", &pg)?;
+    send_up(alloc, out, &members.up, members.up_primary)?;
+    out.end_map()
 }
 
-fn traced_value(alloc: Global, first: Epoch, past: &[Past]) -> Result<Value, AllocError>
-    ensures { IfOk result (λ v. view v ≡ traced_data first past.now) }
+fn send_traced<S: Serializer>(
+    alloc: Global,
+    out: &mut S,
+    first: Epoch,
+    past: &Seq<Past>,
+) -> Result<(), S::Error>
+    ensures { OnOk result
+        (SendsValue (traced_data first past.now) (S.written out.old) (S.written out.new)) }
 {
-    let intervals = intervals_value(alloc, past)?;
-    json!(in alloc; {"first": first.number(), "intervals": intervals, "ok": "trace"})
+    out.begin_map(Some(3))?;
+    field(alloc, out, "first", &first)?;
+    field(alloc, out, "intervals", past)?;
+    field(alloc, out, "ok", &"trace")?;
+    out.end_map()
 }

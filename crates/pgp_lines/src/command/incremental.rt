@@ -4,12 +4,15 @@ ghost use Rattle.serde_json.specs.View.{view};
 ghost use Rattle.pgp_lines.specs.LineFault.{told};
 ghost use Rattle.pgp_lines.specs.Shapes.{optional};
 ghost use Rattle.pgp_lines.specs.Buckets.{tree_in};
-ghost use Rattle.pgp_lines.specs.Incremental.{list_at, inc_of};
+ghost use Rattle.pgp_lines.specs.Incremental.{list_at, going_of, pools_of, coming_of, inc_of};
 
 use super::faults::bad_field_fault;
 use super::fields::read_required;
 use super::lists::{Shape, read_list};
-use pgp_ids::{BucketSpec, Incremental, Seq, TextFault};
+use pgp_ids::{
+    BucketSpec, DeviceEpoch, DeviceWeight, Epoch, Incremental, OsdId, PoolSizes, PoolSpec, Seq,
+    TempList, TextFault,
+};
 use serde_json::Value;
 use std::alloc::Global;
 
@@ -21,28 +24,89 @@ pub(super) fn read_inc(alloc: Global, value: &Value) -> Result<Incremental, Text
         (λ fault. IfSome (told fault) (λ f. inc_of (view value.now) ≡ Err f)) }
 {
     let crush = tree_at(alloc, value)?;
+    let going = read_going(alloc, value)?;
+    let pools = read_pools(alloc, value)?;
+    let coming = read_coming(alloc, value)?;
+    Ok(Incremental {
+        epoch: going.epoch,
+        up: coming.up,
+        down: going.down,
+        gone: going.gone,
+        weight: coming.weight,
+        up_thru: coming.up_thru,
+        lost: going.lost,
+        pools: pools.pools,
+        sizes: pools.sizes,
+        temp: pools.temp,
+        crush,
+    })
+}
+
+/// The devices that go, and the epoch, whose key stands among theirs.
+#[derive(Drop)]
+struct Going {
+    down: Seq<OsdId>,
+    epoch: Epoch,
+    gone: Seq<OsdId>,
+    lost: Seq<DeviceEpoch>,
+}
+
+fn read_going(alloc: Global, value: &Value) -> Result<Going, TextFault>
+    ensures ok { IfOk result (λ going. going_of (view value.now) ≡ Ok going) }
+    ensures err { IfErr result
+        (λ fault. IfSome (told fault) (λ f. going_of (view value.now) ≡ Err f)) }
+{
     let down = list_at(alloc, value, "down")?;
     let epoch = read_required(alloc, value, "epoch")?;
     let gone = list_at(alloc, value, "gone")?;
     let lost = list_at(alloc, value, "lost")?;
+    Ok(Going {
+        down,
+        epoch,
+        gone,
+        lost,
+    })
+}
+
+/// Pools and groups.
+#[derive(Drop)]
+struct Pools {
+    pools: Seq<PoolSpec>,
+    sizes: Seq<PoolSizes>,
+    temp: Seq<TempList>,
+}
+
+fn read_pools(alloc: Global, value: &Value) -> Result<Pools, TextFault>
+    ensures ok { IfOk result (λ pools. pools_of (view value.now) ≡ Ok pools) }
+    ensures err { IfErr result
+        (λ fault. IfSome (told fault) (λ f. pools_of (view value.now) ≡ Err f)) }
+{
     let pools = list_at(alloc, value, "pools")?;
     let sizes = list_at(alloc, value, "sizes")?;
     let temp = list_at(alloc, value, "temp")?;
+    Ok(Pools { pools, sizes, temp })
+}
+
+/// The devices that come, or go on.
+#[derive(Drop)]
+struct Coming {
+    up: Seq<OsdId>,
+    up_thru: Seq<DeviceEpoch>,
+    weight: Seq<DeviceWeight>,
+}
+
+fn read_coming(alloc: Global, value: &Value) -> Result<Coming, TextFault>
+    ensures ok { IfOk result (λ coming. coming_of (view value.now) ≡ Ok coming) }
+    ensures err { IfErr result
+        (λ fault. IfSome (told fault) (λ f. coming_of (view value.now) ≡ Err f)) }
+{
     let up = list_at(alloc, value, "up")?;
     let up_thru = list_at(alloc, value, "up_thru")?;
     let weight = list_at(alloc, value, "weight")?;
-    Ok(Incremental {
-        epoch,
+    Ok(Coming {
         up,
-        down,
-        gone,
-        weight,
         up_thru,
-        lost,
-        pools,
-        sizes,
-        temp,
-        crush,
+        weight,
     })
 }
 

@@ -1,6 +1,8 @@
 //! What a map incremental says of pools and of groups.
-ghost use Rattle.std.specs.Prelude.{◌≡◌, map, IfOk};
+ghost use Rattle.std.specs.Prelude.{◌≡◌, map, codes, IfOk};
 ghost use Rattle.serde_json.specs.View.{view};
+ghost use Rattle.pgp_lines.specs.Shapes.{number_in, field};
+ghost use Rattle.pgp_lines.specs.Ids.{byte_in};
 ghost use Rattle.pgp_lines.specs.Pools.{pool_keys, pool_kind_in, pool_in, pool_sizes_in, temp_in};
 
 use super::lists::{Shape, read_list, read_triple};
@@ -43,18 +45,29 @@ fn read_pool(value: &Value) -> Option<PoolSpec>
         return None;
     }
     let id = read_pool_id(value.get("id")?)?;
-    let pg_num = read_number(value.get("pg_num")?, 0, u64::from(u16::MAX))?;
-    let size = read_byte(value.get("size")?)?;
-    let min_size = read_byte(value.get("min_size")?)?;
-    let leaf = read_byte(value.get("leaf")?)?;
     Some(PoolSpec {
         id,
-        pg_num: pg_num as u16,
+        pg_num: pg_num_at(value)?,
         kind,
-        size,
-        min_size,
-        leaf,
+        size: byte_at(value, "size")?,
+        min_size: byte_at(value, "min_size")?,
+        leaf: byte_at(value, "leaf")?,
     })
+}
+
+/// How many groups a pool is to have, 0 to 65535.
+fn pg_num_at(value: &Value) -> Option<u16>
+    ensures { result ≡ field (codes "pg_num") (number_in 0 65535) (view value.now) }
+{
+    let number = read_number(value.get("pg_num")?, 0, u64::from(u16::MAX))?;
+    Some(number as u16)
+}
+
+/// The number of one byte at a key.
+fn byte_at(value: &Value, key: &str) -> Option<u8>
+    ensures { result ≡ field key.now byte_in (view value.now) }
+{
+    read_byte(value.get(key)?)
 }
 
 /// The kind of a pool; an erasure pool has a number of data shards.
@@ -64,7 +77,7 @@ fn read_kind(value: &Value) -> Option<PoolKind>
     match value.get("kind")?.as_str()? {
         "replicated" => Some(PoolKind::Replicated),
         "erasure" => {
-            let k = read_byte(value.get("k")?)?;
+            let k = byte_at(value, "k")?;
             Some(PoolKind::Erasure { k })
         }
         _ => None,

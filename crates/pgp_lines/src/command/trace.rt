@@ -3,7 +3,7 @@ ghost use Rattle.std.specs.Prelude.{◌≡◌, ◌≤◌, length, map, IfOk, IfE
 ghost use Rattle.serde_json.specs.View.{view};
 ghost use Rattle.pgp_lines.specs.Ids.{place_in};
 ghost use Rattle.pgp_lines.specs.Shapes.{each};
-ghost use Rattle.pgp_lines.specs.Trace.{code_in, erasure_in, has_empty_places, osds_in, epoch_state_in, epochs_in};
+ghost use Rattle.pgp_lines.specs.Trace.{code_in, erasure_in, has_empty_places, osds_in, sizes_in, facts_in, epoch_state_in, epochs_in};
 
 use super::numbers::{read_epoch, read_number, read_place};
 use super::objects::has_only;
@@ -77,22 +77,37 @@ fn read_epoch_state(value: &Value, nulls: bool) -> Option<EpochState>
     if !has_only(value, &EPOCH_KEYS) {
         return None;
     }
+    let (size, min_size) = read_sizes(value)?;
+    let facts = read_facts(value)?;
     let up = read_osds(value.get("up")?, nulls)?;
     let acting = read_osds(value.get("acting")?, nulls)?;
-    let size = read_number(value.get("size")?, 1, MAX_SIZE)?;
-    let min_size = read_number(value.get("min_size")?, 1, size)?;
-    let up_from = read_epoch(value.get("up_from")?)?;
-    let up_thru = read_epoch(value.get("up_thru")?)?;
     let members = Membership {
         up_primary: up.first(),
         up,
         acting_primary: acting.first(),
         acting,
-        size: size as u8,
-        min_size: min_size as u8,
+        size,
+        min_size,
     };
-    let facts = PrimaryFacts { up_from, up_thru };
     Some(EpochState { members, facts })
+}
+
+/// How many members a group has, 1 to 16, and with how many of them it may serve.
+fn read_sizes(value: &Value) -> Option<(u8, u8)>
+    ensures { result ≡ sizes_in (view value.now) }
+{
+    let size = read_number(value.get("size")?, 1, MAX_SIZE)?;
+    let min_size = read_number(value.get("min_size")?, 1, size)?;
+    Some((size as u8, min_size as u8))
+}
+
+/// What the map says of the primary.
+fn read_facts(value: &Value) -> Option<PrimaryFacts>
+    ensures { result ≡ facts_in (view value.now) }
+{
+    let up_from = read_epoch(value.get("up_from")?)?;
+    let up_thru = read_epoch(value.get("up_thru")?)?;
+    Some(PrimaryFacts { up_from, up_thru })
 }
 
 /// The 1 to 4,096 epochs of a trace, the first of which is epoch 1. An `Err` is want of memory.

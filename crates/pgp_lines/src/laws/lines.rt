@@ -2,11 +2,12 @@
 #![tactic(auto, unfolding(crate::specs::WorkedLines::text_computed))]
 
 ghost use Rattle.std.specs.Prelude.{◌≡◌, ℕ, List, codes, Ok, Err};
+ghost use Rattle.std.proofs.Math.ListN.{replicate};
 ghost use Rattle.pgp_lines.specs.LineFault.{not_json, no_op, unknown_key, bad_field};
 ghost use Rattle.pgp_ids.specs.declared.entry.Entry.TheVariants.{Info, Entries};
 ghost use Rattle.pgp_lines.specs.Command.{command_of, line_with};
 ghost use Rattle.pgp_lines.specs.Reports.{ask_keys, ask_of};
-ghost use Rattle.pgp_lines.specs.WorkedLines.{trace_line, trace_command, erasure_line, erasure_command, info_line, first_info, edges_of_info_line, edges_of_info, entries_line, two_entries};
+ghost use Rattle.pgp_lines.specs.WorkedLines.{nested, close_with, trace_line, trace_command, erasure_line, erasure_command, info_line, first_info, edges_of_info_line, edges_of_info, entries_line, two_entries};
 ghost use Rattle.pgp_lines.specs.declared.command.Command.TheVariants.{Submit, Locate};
 
 /// What is no JSON text: one that is cut short, one with bytes behind it, a number that overflows, and no text at all.
@@ -15,6 +16,12 @@ pub fn no_json()
     ensures more { command_of (codes "{\"op\":\"close\"}}") ≡ Err not_json }
     ensures overflow { command_of (codes "{\"op\":\"inc\",\"epoch\":1e400}") ≡ Err not_json }
     ensures nothing { command_of (codes "") ≡ Err not_json }
+{}
+
+/// Lists within lists, all of them closed: 127 are read, and name no operation, and 128 are no JSON text.
+pub fn nesting()
+    ensures deepest { command_of (nested 127) ≡ Err no_op }
+    ensures too_deep { command_of (nested 128) ≡ Err not_json }
 {}
 
 /// What names no operation: a list, another name, none, and one that isn't a text. No other key is looked at before.
@@ -35,6 +42,11 @@ pub fn least_unknown_key()
     ensures of_a_trace { command_of (codes "{\"op\":\"trace\",\"z\":1,\"x\":1}") ≡ Err (unknown_key (codes "x")) }
     ensures of_an_incremental { command_of (codes "{\"op\":\"inc\",\"z\":1,\"code\":1}") ≡ Err (unknown_key (codes "code")) }
     ensures of_a_close { command_of (codes "{\"op\":\"close\",\"epoch\":1}") ≡ Err (unknown_key (codes "epoch")) }
+{}
+
+/// An unknown key is named whole, here one of 256 bytes.
+pub fn long_unknown_key()
+    ensures { command_of (close_with (replicate 256 120)) ≡ Err (unknown_key (replicate 256 120)) }
 {}
 
 /// Of absent keys and bad values the least key is named.

@@ -1,38 +1,36 @@
 //! Past intervals as JSON.
-ghost use Rattle.std.specs.Prelude.{◌≡◌, IfOk};
-ghost use Rattle.serde_json.specs.View.{view};
-ghost use Rattle.pgp_replies.specs.Answered.{interval_data, intervals_data};
+ghost use Rattle.std.specs.Prelude.{OnOk};
+ghost use Rattle.pgp_replies.specs.Answered.{interval_data};
+ghost use Rattle.pgp_replies.specs.Parts.{past_fields};
+ghost use Rattle.pgp_replies.specs.Sent.{SendsFields};
 
-use super::parts::{osds_value, place_value};
+use super::devices::{send_acting, send_up};
+use super::json::{Json, field};
 use pgp_ids::Past;
-use serde_json::{Value, json};
-use std::alloc::{AllocError, Global};
+use serde::Serializer;
+use std::alloc::Global;
 
-pub(super) fn intervals_value(alloc: Global, past: &[Past]) -> Result<Value, AllocError>
-    ensures { IfOk result (λ v. view v ≡ intervals_data past.now) }
-{
-    let mut values = Vec::new(alloc);
-    for interval in past {
-        values.push(interval_value(alloc, interval)?)?;
+impl Json for Past {
+    ghost value = { interval_data };
+
+    fn send<S: Serializer>(&self, alloc: Global, out: &mut S) -> Result<(), S::Error> {
+        let members = &self.members;
+        out.begin_map(Some(9))?;
+        send_acting(alloc, out, &members.acting, members.acting_primary)?;
+        send_past(alloc, out, self)?;
+        send_up(alloc, out, &members.up, members.up_primary)?;
+        out.end_map()
     }
-    Ok(Value::Array(values))
 }
 
-fn interval_value(alloc: Global, past: &Past) -> Result<Value, AllocError>
-    ensures { IfOk result (λ v. view v ≡ interval_data past.now) }
+/// When it was, and with what sizes.
+fn send_past<S: Serializer>(alloc: Global, out: &mut S, past: &Past) -> Result<(), S::Error>
+    ensures { OnOk result
+        (SendsFields (past_fields past.now) (S.written out.old) (S.written out.new)) }
 {
-    let members = &past.members;
-    let acting = osds_value(alloc, &members.acting)?;
-    let up = osds_value(alloc, &members.up)?;
-    json!(in alloc; {
-        "acting": acting,
-        "acting_primary": place_value(members.acting_primary),
-        "first": past.first.number(),
-        "last": past.last.number(),
-        "min_size": members.min_size,
-        "rw": past.rw,
-        "size": members.size,
-        "up": up,
-        "up_primary": place_value(members.up_primary),
-    })
+    field(alloc, out, "first", &past.first)?;
+    field(alloc, out, "last", &past.last)?;
+    field(alloc, out, "min_size", &u64::from(past.members.min_size))?;
+    field(alloc, out, "rw", &past.rw)?;
+    field(alloc, out, "size", &u64::from(past.members.size))
 }

@@ -1,11 +1,14 @@
 //! Refusals, and how they are written.
-ghost use Rattle.std.specs.Prelude.{◌≡◌, option_map, IfOk};
-ghost use Rattle.serde_json.specs.View.{view};
-ghost use Rattle.pgp_replies.specs.Refused.{fault_name, fault_key, refused_number, refused_name, refused_key, refused_tree, refused_data};
+ghost use Rattle.std.specs.Prelude.{◌≡◌, ◌+◌, length, codes, option_map, OnOk};
+ghost use Rattle.serde_json.specs.Data.{string};
+ghost use Rattle.pgp_replies.specs.Json.{number_data};
+ghost use Rattle.pgp_replies.specs.Refused.{fault_name, fault_key, field_if, refused_number, refused_name, refused_key, refused_tree, refused_data};
+ghost use Rattle.pgp_replies.specs.Sent.{SendsFields};
 
+use super::json::{Json, field};
 use pgp_ids::{AskRefusal, LocateRefusal, Refusal, TextFault};
-use serde_json::{Value, json};
-use std::alloc::{AllocError, Global};
+use serde::Serializer;
+use std::alloc::Global;
 
 /// Why a line had no effect.
 #[derive(Debug, Drop)]
@@ -90,16 +93,53 @@ fn fault_key(fault: &TextFault) -> Option<&str>
     }
 }
 
-pub(super) fn refused_value(alloc: Global, refused: &Refused) -> Result<Value, AllocError>
-    ensures { IfOk result (λ v. view v ≡ refused_data refused.now) }
-{
-    let code = refused.number();
-    let name = refused.name();
-    if let Some(key) = refused.key() {
-        return json!(in alloc; {"code": code, "key": key, "refused": name});
+impl Json for Refused {
+    ghost value = { refused_data };
+
+    fn send<S: Serializer>(&self, alloc: Global, out: &mut S) -> Result<(), S::Error> {
+        let key = self.key();
+        let tree = self.tree();
+        out.begin_map(Some(refusal_len(key, tree)))?;
+        field(alloc, out, "code", &u64::from(self.number()))?;
+        send_key(alloc, out, key)?;
+        field(alloc, out, "refused", &self.name())?;
+        send_tree(alloc, out, tree)?;
+        out.end_map()
     }
-    match refused.tree() {
-        Some(tree) => json!(in alloc; {"code": code, "refused": name, "tree": tree}),
-        None => json!(in alloc; {"code": code, "refused": name}),
+}
+
+/// How many fields a refusal has.
+fn refusal_len(key: Option<&str>, tree: Option<u8>) -> usize
+    ensures { result ≡ 2
+        + length (field_if (codes "key") string (option_map (λ key. key.now) key.entry))
+        + length (field_if (codes "tree") number_data tree) }
+{
+    match (key, tree) {
+        (Some(_), Some(_)) => 4,
+        (None, None) => 2,
+        _ => 3,
+    }
+}
+
+/// Sends the key, where one is named.
+fn send_key<S: Serializer>(alloc: Global, out: &mut S, key: Option<&str>) -> Result<(), S::Error>
+    ensures { OnOk result
+        (SendsFields (field_if (codes "key") string (option_map (λ key. key.now) key.entry))
+        (S.written out.old) (S.written out.new)) }
+{
+    match key {
+        Some(key) => field(alloc, out, "key", &key),
+        None => Ok(()),
+    }
+}
+
+/// Sends the tree's fault, where that is the refusal.
+fn send_tree<S: Serializer>(alloc: Global, out: &mut S, tree: Option<u8>) -> Result<(), S::Error>
+    ensures { OnOk result (SendsFields (field_if (codes "tree") number_data tree)
+        (S.written out.old) (S.written out.new)) }
+{
+    match tree {
+        Some(tree) => field(alloc, out, "tree", &u64::from(tree)),
+        None => Ok(()),
     }
 }
