@@ -7,11 +7,11 @@ use Rattle.std.specs.Ordering.{match_ordering, ordering_reverse}
 use Rattle.std.specs.declared.cmp.Ordering.{Ordering}
 use Rattle.std.specs.declared.cmp.Ordering.TheVariants.{Less, Equal, Greater}
 use Rattle.std.proofs.lemmas.Cmp.{tied_itself}
-use Rattle.std.proofs.lemmas.List.Elements.{All-nil, All-cons, All-head, All-tail, All-contains, All-weaker}
+use Rattle.std.proofs.lemmas.List.Elements.{All-nil, All-cons, All-contains, All-weaker}
 use Rattle.std.proofs.lemmas.List.Kept.{AllPairs-cons}
 use Rattle.std.proofs.lemmas.List.Sums.{fold-append}
 use Rattle.pgp_missing.specs.Last.{put_in, last_of_each, IsLast}
-use Rattle.pgp_lists.proofs.Members.{Contains-here, Contains-later, Contains-cases, Contains-nil}
+use Rattle.pgp_lists.proofs.Members.{Contains-here, Contains-first, Contains-later, Contains-cases, Contains-nil, All-members}
 use Rattle.pgp_lists.proofs.Pairs.{AllPairs-nil, AllPairs-first, AllPairs-rest}
 
 module _ {X K : Type 0} (key : X → K) (cmp : K → K → Ordering) (total : IsTotalOrder cmp) (exact : (a b : K) → cmp a b ≡ Equal → a ≡ b) where
@@ -29,15 +29,6 @@ module _ {X K : Type 0} (key : X → K) (cmp : K → K → Ordering) (total : Is
   turned : (x y : X) → cmp (key x) (key y) ≡ Greater → Before y x
   turned x y greater = total.antisymm (key y) (key x) ∙ ap ordering_reverse greater
 
-  All-put_in : (P : X → Type 0) (xs : List X) (new : X) → All P xs → P new → All P (put_in key cmp xs new)
-  All-put_in P [] new all is = All-cons P new [] is all
-  All-put_in P (x ∷ xs) new all is = by (cmp (key new) (key x)) (All-put_in P xs new (All-tail P x xs all) is)
-    where
-      by : (r : Ordering) → All P (put_in key cmp xs new) → All P (match_ordering r (new ∷ x ∷ xs) (new ∷ xs) (x ∷ put_in key cmp xs new))
-      by Less rest = All-cons P new (x ∷ xs) is all
-      by Equal rest = All-cons P new xs is (All-tail P x xs all)
-      by Greater rest = All-cons P x (put_in key cmp xs new) (All-head P x xs all) rest
-
   ahead : (new x : X) (xs : List X) → Before new x → Ordered (x ∷ xs) → All (Before new) (x ∷ xs)
   ahead new x xs before ordered =
       All-cons (Before new) x xs before
@@ -45,16 +36,6 @@ module _ {X K : Type 0} (key : X → K) (cmp : K → K → Ordering) (total : Is
 
   in_place : (new x : X) (xs : List X) → cmp (key new) (key x) ≡ Equal → Ordered (x ∷ xs) → All (Before new) xs
   in_place new x xs tied ordered = subst (λ k. All (λ y. cmp k (key y) ≡ Less) xs) (sym (exact (key new) (key x) tied)) (AllPairs-first Before x xs ordered)
-
-  Ordered-put_in : (xs : List X) (new : X) → Ordered xs → Ordered (put_in key cmp xs new)
-  Ordered-put_in [] new ordered = AllPairs-cons Before new [] (All-nil (Before new)) ordered
-  Ordered-put_in (x ∷ xs) new ordered = by (cmp (key new) (key x)) refl (Ordered-put_in xs new (AllPairs-rest Before x xs ordered))
-    where
-      by : (r : Ordering) → cmp (key new) (key x) ≡ r → Ordered (put_in key cmp xs new) → Ordered (match_ordering r (new ∷ x ∷ xs) (new ∷ xs) (x ∷ put_in key cmp xs new))
-      by Less is rest = AllPairs-cons Before new (x ∷ xs) (ahead new x xs is ordered) ordered
-      by Equal is rest = AllPairs-cons Before new xs (in_place new x xs is ordered) (AllPairs-rest Before x xs ordered)
-      by Greater is rest =
-          AllPairs-cons Before x (put_in key cmp xs new) (All-put_in (Before x) xs new (AllPairs-first Before x xs ordered) (turned new x is)) rest
 
   -- ---- what is in the list after one more was put in
 
@@ -80,30 +61,40 @@ module _ {X K : Type 0} (key : X → K) (cmp : K → K → Ordering) (total : Is
         ]
       ]
 
-  Contains-put_in : (xs : List X) (new : X) → Contains (put_in key cmp xs new) new
-  Contains-put_in [] new = Contains-here new []
-  Contains-put_in (x ∷ xs) new = by (cmp (key new) (key x)) (Contains-put_in xs new)
+  contains-put_in : (xs : List X) (new y : X) → (new ≡ y) ⊎ (Contains xs y × (key new ≢ key y)) → Contains (put_in key cmp xs new) y
+  contains-put_in [] new y (inl here) = Contains-first new [] y here
+  contains-put_in [] new y (inr old) = absurd (Contains-nil y old.0)
+  contains-put_in (x ∷ xs) new y made = by (cmp (key new) (key x)) refl made (contains-put_in xs new y)
     where
-      by : (r : Ordering) → Contains (put_in key cmp xs new) new → Contains (match_ordering r (new ∷ x ∷ xs) (new ∷ xs) (x ∷ put_in key cmp xs new)) new
-      by Less rest = Contains-here new (x ∷ xs)
-      by Equal rest = Contains-here new xs
-      by Greater rest = Contains-later x (put_in key cmp xs new) new rest
-
-  Contains-stays : (xs : List X) (new y : X) → Contains xs y → key new ≢ key y → Contains (put_in key cmp xs new) y
-  Contains-stays [] new y in' apart = absurd (Contains-nil y in')
-  Contains-stays (x ∷ xs) new y in' apart = by (cmp (key new) (key x)) refl (λ there. Contains-stays xs new y there apart)
-    where
-      by : (r : Ordering) → cmp (key new) (key x) ≡ r → (Contains xs y → Contains (put_in key cmp xs new) y)
+      by : (r : Ordering) → cmp (key new) (key x) ≡ r → (new ≡ y) ⊎ (Contains (x ∷ xs) y × (key new ≢ key y))
+          → ((new ≡ y) ⊎ (Contains xs y × (key new ≢ key y)) → Contains (put_in key cmp xs new) y)
           → Contains (match_ordering r (new ∷ x ∷ xs) (new ∷ xs) (x ∷ put_in key cmp xs new)) y
-      by Less is rest = Contains-later new (x ∷ xs) y in'
-      by Equal is rest = elim (Contains-cases x xs y in') [
-        | inl here ↦ absurd (apart (exact (key new) (key x) is ∙ ap key here))
-        | inr there ↦ Contains-later new xs y there
+      by Less is (inl here) rest = Contains-first new (x ∷ xs) y here
+      by Less is (inr old) rest = Contains-later new (x ∷ xs) y old.0
+      by Equal is (inl here) rest = Contains-first new xs y here
+      by Equal is (inr old) rest = elim (Contains-cases x xs y old.0) [
+        | inl first ↦ absurd (old.1 (exact (key new) (key x) is ∙ ap key first))
+        | inr later ↦ Contains-later new xs y later
       ]
-      by Greater is rest = elim (Contains-cases x xs y in') [
-        | inl here ↦ subst (Contains (x ∷ put_in key cmp xs new)) here (Contains-here x (put_in key cmp xs new))
-        | inr there ↦ Contains-later x (put_in key cmp xs new) y (rest there)
+      by Greater is (inl here) rest = Contains-later x (put_in key cmp xs new) y (rest (inl here))
+      by Greater is (inr old) rest = elim (Contains-cases x xs y old.0) [
+        | inl first ↦ Contains-first x (put_in key cmp xs new) y first
+        | inr later ↦ Contains-later x (put_in key cmp xs new) y (rest (inr (later, old.1)))
       ]
+
+  Ordered-put_in : (xs : List X) (new : X) → Ordered xs → Ordered (put_in key cmp xs new)
+  Ordered-put_in [] new ordered = AllPairs-cons Before new [] (All-nil (Before new)) ordered
+  Ordered-put_in (x ∷ xs) new ordered = by (cmp (key new) (key x)) refl (Ordered-put_in xs new (AllPairs-rest Before x xs ordered))
+    where
+      by : (r : Ordering) → cmp (key new) (key x) ≡ r → Ordered (put_in key cmp xs new) → Ordered (match_ordering r (new ∷ x ∷ xs) (new ∷ xs) (x ∷ put_in key cmp xs new))
+      by Less is rest = AllPairs-cons Before new (x ∷ xs) (ahead new x xs is ordered) ordered
+      by Equal is rest = AllPairs-cons Before new xs (in_place new x xs is ordered) (AllPairs-rest Before x xs ordered)
+      by Greater is rest =
+          AllPairs-cons Before x (put_in key cmp xs new)
+          (All-members (Before x) (put_in key cmp xs new) (λ y in'. elim (put_in-Contains xs new y (AllPairs-rest Before x xs ordered) in') [
+            | inl here ↦ subst (Before x) here (turned new x is)
+            | inr old ↦ All-contains (Before x) xs y (AllPairs-first Before x xs ordered) old.0
+          ])) rest
 
   -- ---- after all were put in
 
@@ -133,7 +124,7 @@ module _ {X K : Type 0} (key : X → K) (cmp : K → K → Ordering) (total : Is
   Contains-fold : (xs acc : List X) (y : X) → Contains acc y → NoneHas xs y → Contains (fold (put_in key cmp) acc xs) y
   Contains-fold [] acc y in' none = in'
   Contains-fold (x ∷ xs) acc y in' none =
-      Contains-fold xs (put_in key cmp acc x) y (Contains-stays acc x y in' (none x (Contains-here x xs))) (λ other there. none other (Contains-later x xs other there))
+      Contains-fold xs (put_in key cmp acc x) y (contains-put_in acc x y (inr (in', none x (Contains-here x xs)))) (λ other there. none other (Contains-later x xs other there))
 
   pub last_of_each-ordered : (xs : List X) → Ordered (last_of_each key cmp xs)
   last_of_each-ordered xs = Ordered-fold xs [] (AllPairs-nil Before)
@@ -146,7 +137,7 @@ module _ {X K : Type 0} (key : X → K) (cmp : K → K → Ordering) (total : Is
       let so_far : List X = fold (put_in key cmp) [] last.before in
       let all : fold (put_in key cmp) [] xs ≡ fold (put_in key cmp) so_far (y ∷ last.after) =
       ap (fold (put_in key cmp) []) last.split ∙ fold-append (put_in key cmp) [] last.before (y ∷ last.after) in
-      subst (λ zs. Contains zs y) (sym all) (Contains-fold last.after (put_in key cmp so_far y) y (Contains-put_in so_far y) last.last)
+      subst (λ zs. Contains zs y) (sym all) (Contains-fold last.after (put_in key cmp so_far y) y (contains-put_in so_far y y (inl refl)) last.last)
 
   -- ---- a map by the keys
 

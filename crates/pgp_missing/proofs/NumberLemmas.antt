@@ -3,13 +3,13 @@ use Rattle.std.proofs.Common.{◌≡◌, ◌≢◌, ℕ, suc, ◌-◌, ◌<◌, 
 use Rattle.std.specs.List.{All, Contains}
 use Rattle.std.proofs.lemmas.Bool.{and_parts, and_from, or_cases, or_left, or_right, cases_Bool, cases_lt, lt-ltb, le-leb}
 use Rattle.std.proofs.lemmas.Bool.Decides.{eqb_tells}
-use Rattle.std.proofs.lemmas.List.Elements.{All-head, All-tail, All-contains, All-weaker, filter_passes, Contains-append_right}
+use Rattle.std.proofs.lemmas.List.Elements.{All-head, All-tail, All-contains, Contains-append_right}
 use Rattle.pgp_ids.specs.declared.log_entry.LogEntry.{LogEntry}
 use Rattle.pgp_ids.specs.declared.report.Info.{Info}
-use Rattle.pgp_lists.proofs.Members.{Contains-here, any-contains, contains-any, none-contains}
+use Rattle.pgp_lists.proofs.Members.{Contains-here, All-members, any-contains, contains-any, none-contains}
 use Rattle.pgp_lists.proofs.Pairs.{AllPairs-first, AllPairs-rest}
 use Rattle.pgp_missing.specs.Last.{IsLast}
-use Rattle.pgp_missing.specs.Log.{number_of, by_number, IsByNumber, is_in_log, log_of, has_number, has_each_number, HasEachNumber}
+use Rattle.pgp_missing.specs.Log.{number_of, IsByNumber, is_in_log, log_of, has_number, has_each_number, HasEachNumber}
 use Rattle.pgp_missing.proofs.MissingLemmas.{log_of-ascends, log_of-last, last-log_of}
 
 abbrev AllAbove : ℕ → List LogEntry → Type 0
@@ -120,18 +120,14 @@ has_reported info reported v has =
     (subst (λ (es : List LogEntry). Contains es entry) (sym last.split) (Contains-append_right last.before (entry ∷ last.after) entry (Contains-here entry last.after))) found.1.1
 
 module _ (info : Info) (reported : List LogEntry) where
-  in_log : All (λ (e : LogEntry). is_in_log info e.version.v ≡ true) (log_of info reported)
-  in_log = filter_passes (λ (e : LogEntry). is_in_log info e.version.v) (by_number reported)
+  bounds : (v : ℕ) → is_in_log info v ≡ true → (info.log_tail.v < v) × (v ≤ info.last_update.v)
+  bounds v is = let parts = and_parts (nat_lt info.log_tail.v v) (nat_le v info.last_update.v) is in (ltb-true info.log_tail.v v parts.0, leb-true v info.last_update.v parts.1)
 
   all_above : AllAbove info.log_tail.v (log_of info reported)
-  all_above =
-      All-weaker (λ (e : LogEntry). is_in_log info e.version.v ≡ true) (λ (e : LogEntry). info.log_tail.v < e.version.v)
-      (λ e is. ltb-true info.log_tail.v e.version.v (and_parts (nat_lt info.log_tail.v e.version.v) (nat_le e.version.v info.last_update.v) is).0) (log_of info reported) in_log
+  all_above = All-members (λ (e : LogEntry). info.log_tail.v < e.version.v) (log_of info reported) (λ e in'. (bounds e.version.v (log_of-last info reported e in').0).0)
 
   all_up_to : AllUpTo info.last_update.v (log_of info reported)
-  all_up_to =
-      All-weaker (λ (e : LogEntry). is_in_log info e.version.v ≡ true) (λ (e : LogEntry). e.version.v ≤ info.last_update.v)
-      (λ e is. leb-true e.version.v info.last_update.v (and_parts (nat_lt info.log_tail.v e.version.v) (nat_le e.version.v info.last_update.v) is).1) (log_of info reported) in_log
+  all_up_to = All-members (λ (e : LogEntry). e.version.v ≤ info.last_update.v) (log_of info reported) (λ e in'. (bounds e.version.v (log_of-last info reported e in').0).1)
 
   pub each_number-counted : has_each_number info reported ≡ true → HasEachNumber info reported
   each_number-counted counted = λ v more less.

@@ -1,12 +1,12 @@
 //! What the definitions say of small logs, and of a peer that has all writes.
-ghost use Rattle.std.specs.Prelude.{◌≡◌, ℕ, Contains, ◌≤◌, ◌↔◌, List, [], ◌∷◌, Some, true, false, codes};
+ghost use Rattle.std.specs.Prelude.{◌≡◌, ℕ, All, AllPairs, Contains, ◌≤◌, ◌↔◌, List, [], ◌∷◌, Some, true, false, codes};
 ghost use Rattle.pgp_ids.specs.Version.{is_older};
 ghost use Rattle.pgp_ids.specs.declared.log_entry.LogEntry.{LogEntry};
 ghost use Rattle.pgp_ids.specs.declared.peer.MissingObject.{MissingObject};
 ghost use Rattle.pgp_ids.specs.declared.peer.PeerState.TheVariants.{Missing, Backfill, Diverged};
 ghost use Rattle.pgp_ids.specs.declared.report.Info.{Info};
 ghost use Rattle.pgp_missing.specs.Last.{IsLast};
-ghost use Rattle.pgp_missing.specs.Log.{number_of, IsByNumber, is_in_log, log_of, has_each_number, HasEachNumber, is_whole};
+ghost use Rattle.pgp_missing.specs.Log.{number_of, IsByNumber, is_in_log, log_of, has_each_number, HasEachNumber, is_rising_from, is_whole};
 ghost use Rattle.pgp_missing.specs.Kept.{KeptLog, IsLogOf};
 ghost use Rattle.pgp_missing.specs.Missing.{object_of, entries_above, made_by, IsByName, missing_above, IsMissing, peer_state};
 ghost use Rattle.pgp_missing.specs.Examples.{at, modify, delete, lacks, copy, copy_at, two_writes};
@@ -21,7 +21,7 @@ pub fn equal_peers_miss_nothing()
 
 /// A log has as many entries as it has numbers exactly where an entry with each of its numbers was reported.
 pub fn counting_shows_that_no_number_is_lacking()
-    ensures { (info : Info) (reported : List LogEntry) → info.log_tail.v ≤ info.last_update.v
+    ensures { (info : Info) (reported : List LogEntry)
         → (has_each_number info reported ≡ true) ↔ HasEachNumber info reported }
 {}
 
@@ -33,6 +33,12 @@ pub fn log_holds_the_last_entry_of_each_number()
         → Contains (log_of info reported) entry
         ↔ ((is_in_log info entry.version.v ≡ true) × IsLast number_of reported entry) }
     ensures ascending { (info : Info) (reported : List LogEntry) → IsByNumber (log_of info reported) }
+{}
+
+/// Epochs that rise from one entry to the next rise from each entry to each later one.
+pub fn rising_epochs_never_fall()
+    ensures { (epoch : ℕ) (entries : List LogEntry) → (is_rising_from epoch entries ≡ true)
+        ↔ (All (λ e. epoch ≤ e.version.epoch) entries × AllPairs (λ a b. a.version.epoch ≤ b.version.epoch) entries) }
 {}
 
 /// A copy with the writes up to a number lacks just the objects whose last entry above that number is a modify; by a
