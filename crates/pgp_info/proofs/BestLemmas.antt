@@ -11,7 +11,7 @@ use Rattle.pgp_ids.specs.Member.{is_same_member}
 use Rattle.pgp_lists.proofs.Lists.{take-front}
 use Rattle.pgp_lists.proofs.Members.{Contains-nil, Contains-here, Contains-later, Contains-cases, find-some, find-none}
 use Rattle.pgp_lists.proofs.Pairs.{AllPairs-nil, AllPairs-first, AllPairs-rest}
-use Rattle.pgp_ids.specs.declared.group_member.Member.{Member}
+use Rattle.pgp_ids.specs.declared.member.Member.{Member}
 use Rattle.pgp_ids.specs.declared.report.Info.{Info}
 use Rattle.pgp_info.specs.Preference.{IsPreference}
 use Rattle.pgp_info.specs.Best.{HasDistinctMembers, candidates, is_unbeaten, best_info, IsBest}
