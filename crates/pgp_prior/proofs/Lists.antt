@@ -57,6 +57,10 @@ module _ {X B : Type 0} (step : B → X → B) (before after all : B) where
   pub fold-next : (left rest : List X) (x : X) → fold step before left ≡ all → left ≡ x ∷ rest → after ≡ step before x → fold step after rest ≡ all
   fold-next left rest x so_far is more = ap (λ b. fold step b rest) more ∙ sym (ap (fold step before) is) ∙ so_far
 
+-- what a test said of a value that was read
+pub tested : {X : Type 0} (test : X → Bool) (x y : X) (r b : Bool) → r ≡ test x → x ≡ y → r ≡ b → test y ≡ b
+tested test x y r b is same found = ap test (sym same) ∙ sym is ∙ found
+
 -- the same of those that pass a test, where h reads something of each
 module _ {X Y B : Type 0} (step : B → Y → B) (read : X → Y) (h : List X → List Y) (each : (x : X) (xs : List X) → h (x ∷ xs) ≡ read x ∷ h xs) (test : X → Bool) (before after all : B) (left rest : List X) (x : X) (so_far : fold step before (h (filter test left)) ≡ all) (is : left ≡ x ∷ rest) where
   now : fold step before (h (filter test (x ∷ rest))) ≡ all

@@ -1,4 +1,3 @@
-pub mod Ascending
 pub mod MemberOrder
 pub mod Members
 pub mod Blocks

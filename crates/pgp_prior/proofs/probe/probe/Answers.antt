@@ -1,4 +1,4 @@
-use Rattle.std.proofs.Common.{◌≡◌, List, [], ◌++◌, true, refl, subst, ap, sym, ◌∙◌, vec_items}
+use Rattle.std.proofs.Common.{◌≡◌, List, [], ◌++◌, true, refl, subst, ap, sym, vec_items}
 use Rattle.std.specs.List.{filter, flat_map}
 use Rattle.pgp_ids.specs.Member.{is_before}
 use Rattle.pgp_ids.specs.declared.group_member.Member.{Member}
@@ -22,9 +22,9 @@ loop-interval-init g c =
     let up : List Member = members_of c.args.by_place c.args.current.now.up in
     let acting : List Member = members_of c.args.by_place c.args.current.now.acting in
     let rest : List Member = flat_map (acting_where is_up c.args.by_place (g.S.StatusOf.status_of c.args.statuses.now)) (filter (matters c.args.les) c.args.past.now) in
-    let first : c.add_members.new.list.items ≡ with_items is_before up [] = c.in_ok-add_members.ensures ∙ ap (with_items is_before up) c.new-list.ensures.items in
-    let both : c.add_members-2.new.list.items ≡ with_items is_before acting (with_items is_before up []) = c.in_ok-add_members-2.ensures ∙ ap (with_items is_before acting) first in (
-      ap (with_items is_before rest) both ∙ all-three is_before up acting rest ∙ sym (members-in_order (up ++ acting ++ rest)),
+    let first : c.add_members.new.list.items ≡ with_items is_before up [] = rw c.in_ok-add_members.ensures (ap (with_items is_before up) c.new-list.ensures.items) in
+    let both : c.add_members-2.new.list.items ≡ with_items is_before acting (with_items is_before up []) = rw c.in_ok-add_members-2.ensures (ap (with_items is_before acting) first) in (
+      rw (both, members-in_order (up ++ acting ++ rest)) (all-three is_before up acting rest),
       ascends-with is_before member_order acting _ _ both (ascends-with is_before member_order up [] _ refl (AllPairs-nil (λ a b. is_before a b ≡ true))),
     )
 
@@ -37,14 +37,14 @@ loop-interval-preserved g c =
     let heard : Past → List Member = acting_where is_up c.args.by_place (g.S.StatusOf.status_of c.args.statuses.now) in
     elim c.if-matters.branch [
       | then-matters+in_ok-add_up w ↦
-          let added = ap vec_items w.list-is ∙ w.in_ok-add_up.ensures in (
+          let added : c.if-matters.list.items ≡ with_items is_before (heard c.interval-item.result) c.loop-interval.list.items = rw w.list-is w.in_ok-add_up.ensures in (
             walk-passes step heard (matters c.args.les) _ _ _ c.args.past.now c.loop-interval.interval-index c.interval-item.result c.loop-interval.invariant.0 c.loop-interval-test.true c.interval-item.is
-                (sym c.matters.ensures ∙ w.if-matters.true) added,
+                (rw c.matters.ensures at w.if-matters.true) added,
             ascends-with is_before member_order (heard c.interval-item.result) _ _ added c.loop-interval.invariant.1,
           )
       | else-matters w ↦ (
         walk-fails step heard (matters c.args.les) _ _ _ c.args.past.now c.loop-interval.interval-index c.interval-item.result c.loop-interval.invariant.0 c.loop-interval-test.true c.interval-item.is
-            (sym c.matters.ensures ∙ w.if-matters.false) (ap vec_items w.list-is),
+            (rw c.matters.ensures at w.if-matters.false) (ap vec_items w.list-is),
         subst (IsAscending is_before) (sym (ap vec_items w.list-is)) c.loop-interval.invariant.1,
       )
     ]
