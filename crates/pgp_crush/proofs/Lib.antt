@@ -4,5 +4,7 @@ pub mod FirstNLemmas
 pub mod IndepLemmas
 pub mod RepeatLemmas
 pub mod FaultLemmas
-pub mod TableLemmas
+pub mod LeastLemmas
 pub mod ReachLemmas
+pub mod ChoiceLemmas
+pub mod PlacementLemmas
