@@ -1,11 +1,12 @@
 -- What the positions hold, cell by cell, is what any table of the placement says, and there is one table.
-use Rattle.std.proofs.Common.{◌≡◌, ◌<◌, ◌≤◌, ℕ, ◌+◌, zero, suc, ℤ, List, [], ◌∷◌, length, map, replicate, take, get_or, set, slice_set, Bool, true, false, not, cond, ◌&&◌, ◌||◌, nat_lt, inl, inr, refl, arith, ap, sym, ◌∙◌, subst, add-one, Option, Some, None}
+use Rattle.std.proofs.Common.{◌≡◌, ◌<◌, ◌≤◌, ℕ, ◌+◌, zero, suc, ℤ, List, [], ◌∷◌, length, map, replicate, take, get_or, set, slice_set, Bool, true, false, not, cond, ◌&&◌, nat_lt, inl, inr, refl, arith, ap, sym, ◌∙◌, subst, add-one, Option, Some, None}
 use Rattle.std.specs.List.{list_any, range_with_len}
 use Rattle.std.specs.Option.{option_map_or, option_and_then}
 use Rattle.std.proofs.lemmas.List.{get_or-set_same, get_or-set_other, length-set, length-map, get_or-map, take-replicate, get_or-replicate, length-replicate, ext_get_or}
 use Rattle.std.proofs.lemmas.List.FromFn.{length-map-range_with_len, get_or-map-range_with_len, fill_by_all}
 use Rattle.std.proofs.lemmas.Bool.{cases_eq}
 use Rattle.std.proofs.lemmas.Bool.Decides.{nat_tests}
+use Rattle.pgp_lists.proofs.Ranges.{list_any-range}
 use Rattle.pgp_crush.specs.declared.candidate.Candidate.{Candidate}
 use Rattle.pgp_crush.specs.declared.candidate.Candidate.TheVariants.{Early, Unfit, Fit}
 use Rattle.pgp_crush.specs.declared.indep.Cell.{Cell}
@@ -108,15 +109,6 @@ looked_at round p q = cond (nat_lt q p) (suc round) round
 
 before-is : (own round p q : ℕ) → stands_before own q round p ≡ nat_lt own (looked_at round p q)
 before-is own round p q = grind (arith, nat_tests)
-
-list_any-range : {X : Type 0} (d : X) (test : ℕ → Bool) (held : X → Bool) (k : ℕ) (xs : List X) →
-    ((q : ℕ) → q < length xs → test (k + q) ≡ held (get_or xs q d)) → list_any test (range_with_len k (length xs)) ≡ list_any held xs
-list_any-range d test held k [] same = refl
-list_any-range d test held k (x ∷ xs) same =
-    let first : test k ≡ held x = ap test (omega arith) ∙ same 0 (omega arith) in
-    let rest : list_any test (range_with_len (k + 1) (length xs)) ≡ list_any held xs =
-    list_any-range d test held (k + 1) xs (λ q h. ap test (omega arith) ∙ same (suc q) (omega arith)) in
-    ap (λ (b : Bool). b || list_any test (range_with_len (k + 1) (length xs))) first ∙ ap (λ (b : Bool). held x || b) rest
 
 module _ (i : Input) (n : ℕ) where
   -- the positions before the cell of position p in a round was looked at

@@ -2,7 +2,6 @@ pub mod TreeLemmas
 pub mod DescentLemmas
 pub mod FirstNLemmas
 pub mod IndepLemmas
-pub mod RepeatLemmas
 pub mod FaultLemmas
 pub mod LeastLemmas
 pub mod ReachLemmas
