@@ -18,24 +18,19 @@ first_stop-nil : (tree : List Bucket) (kind : ℕ) → first_stop tree kind [] �
 unfolding first_stop
 first_stop-nil tree kind = refl
 
-first_stop-found : (tree : List Bucket) (kind : ℕ) (s : Step) (steps : List Step) → has_kind tree kind s.item ≡ true → first_stop tree kind (s ∷ steps) ≡ Found s
+-- a step ends the way down, by what it is
+first_stop-cons : (tree : List Bucket) (kind : ℕ) (s : Step) (steps : List Step) (sought device : Bool) → has_kind tree kind s.item ≡ sought → is_device s.item ≡ device
+    → first_stop tree kind (s ∷ steps) ≡ cond sought (Found s) (cond device Early (first_stop tree kind steps))
 unfolding first_stop
-first_stop-found tree kind s steps h =
-    ap (λ (b : Bool). stop_at tree kind (cond (b || is_device s.item) (Some s) (find (λ s. has_kind tree kind s.item || is_device s.item) steps))) h
-    ∙ ap (λ (b : Bool). cond b (Found s) Early) h
-
-first_stop-early : (tree : List Bucket) (kind : ℕ) (s : Step) (steps : List Step) → has_kind tree kind s.item ≡ false → is_device s.item ≡ true → first_stop tree kind (s ∷ steps) ≡ Early
-unfolding first_stop
-first_stop-early tree kind s steps h d =
-    ap (λ (b : Bool). stop_at tree kind (cond (b || is_device s.item) (Some s) (find (λ s. has_kind tree kind s.item || is_device s.item) steps))) h
-    ∙ ap (λ (b : Bool). stop_at tree kind (cond b (Some s) (find (λ s. has_kind tree kind s.item || is_device s.item) steps))) d
-    ∙ ap (λ (b : Bool). cond b (Found s) Early) h
-
-first_stop-on : (tree : List Bucket) (kind : ℕ) (s : Step) (steps : List Step) → has_kind tree kind s.item ≡ false → is_device s.item ≡ false → first_stop tree kind (s ∷ steps) ≡ first_stop tree kind steps
-unfolding first_stop
-first_stop-on tree kind s steps h d =
-    ap (λ (b : Bool). stop_at tree kind (cond (b || is_device s.item) (Some s) (find (λ s. has_kind tree kind s.item || is_device s.item) steps))) h
-    ∙ ap (λ (b : Bool). stop_at tree kind (cond b (Some s) (find (λ s. has_kind tree kind s.item || is_device s.item) steps))) d
+first_stop-cons tree kind s steps sought device h d =
+    (λ i. stop_at tree kind (cond (h i || d i) (Some s) (find (λ s. has_kind tree kind s.item || is_device s.item) steps))) ∙ by_tests sought device h
+  where
+    by_tests : (sought device : Bool) → has_kind tree kind s.item ≡ sought
+        → stop_at tree kind (cond (sought || device) (Some s) (find (λ s. has_kind tree kind s.item || is_device s.item) steps))
+        ≡ cond sought (Found s) (cond device Early (first_stop tree kind steps))
+    by_tests true device h = ap (λ (b : Bool). cond b (Found s) Early) h
+    by_tests false true h = ap (λ (b : Bool). cond b (Found s) Early) h
+    by_tests false false h = refl
 
 -- The steps.
 
@@ -78,34 +73,28 @@ device-false item h = grind (arith, ints)
 
 -- What the code finds at a step, with m levels left below it.
 
-pub by-device : (tree : List Bucket) (x : ℕ) (rank : Rank) (kind m r : ℕ) (item : ℤ) → pos 0 ≤ℤ item → kind ≡ 0 →
-    first_stop tree kind (path_by tree x rank m (step_of item r)) ≡ Found (step_of item r)
-by-device tree x rank kind m r item device same =
-    first_stop-found tree kind _ _ (has_kind-device tree kind item (device-true item device) ∙ grind (arith, nat_tests))
+module _ (tree : List Bucket) (x : ℕ) (rank : Rank) (kind m r : ℕ) (item : ℤ) where
+  -- a device
+  pub by-device : (sought : Bool) → pos 0 ≤ℤ item → nat_eq kind 0 ≡ sought
+      → first_stop tree kind (path_by tree x rank m (step_of item r)) ≡ cond sought (Found (step_of item r)) Early
+  by-device sought device same =
+      first_stop-cons tree kind (step_of item r) (path tree x rank m (bucket_at tree item)) sought true
+      (has_kind-device tree kind item (device-true item device) ∙ same) (device-true item device)
 
-pub by-early : (tree : List Bucket) (x : ℕ) (rank : Rank) (kind m r : ℕ) (item : ℤ) → pos 0 ≤ℤ item → kind ≢ 0 →
-    first_stop tree kind (path_by tree x rank m (step_of item r)) ≡ Early
-by-early tree x rank kind m r item device other =
-    first_stop-early tree kind _ _ (has_kind-device tree kind item (device-true item device) ∙ grind (arith, nat_tests)) (device-true item device)
+  pub by-lost : item <ℤ pos 0 → bucket_at tree item ≡ None → first_stop tree kind (path_by tree x rank m (step_of item r)) ≡ Empty
+  by-lost bucket lost =
+      first_stop-cons tree kind (step_of item r) (path tree x rank m (bucket_at tree item)) false false
+      (has_kind-bucket tree kind item None (device-false item bucket) lost) (device-false item bucket)
+      ∙ ap (λ (o : Option Bucket). first_stop tree kind (path tree x rank m o)) lost ∙ ap (first_stop tree kind) (path-none tree x rank m)
+      ∙ first_stop-nil tree kind
 
-pub by-lost : (tree : List Bucket) (x : ℕ) (rank : Rank) (kind m r : ℕ) (item : ℤ) → item <ℤ pos 0 → bucket_at tree item ≡ None →
-    first_stop tree kind (path_by tree x rank m (step_of item r)) ≡ Empty
-by-lost tree x rank kind m r item bucket lost =
-    first_stop-on tree kind _ _ (has_kind-bucket tree kind item None (device-false item bucket) lost) (device-false item bucket)
-    ∙ ap (λ (o : Option Bucket). first_stop tree kind (path tree x rank m o)) lost
-    ∙ ap (first_stop tree kind) (path-none tree x rank m)
-    ∙ first_stop-nil tree kind
-
-pub by-found : (tree : List Bucket) (x : ℕ) (rank : Rank) (kind m r : ℕ) (item : ℤ) (next : Bucket) → item <ℤ pos 0 → bucket_at tree item ≡ Some next →
-    next.kind ≡ kind → first_stop tree kind (path_by tree x rank m (step_of item r)) ≡ Found (step_of item r)
-by-found tree x rank kind m r item next bucket at same =
-    first_stop-found tree kind _ _ (has_kind-bucket tree kind item (Some next) (device-false item bucket) at ∙ grind (arith, nat_tests))
-
-pub by-on : (tree : List Bucket) (x : ℕ) (rank : Rank) (kind m r : ℕ) (item : ℤ) (next : Bucket) → item <ℤ pos 0 → bucket_at tree item ≡ Some next →
-    next.kind ≢ kind → first_stop tree kind (path_by tree x rank m (step_of item r)) ≡ first_stop tree kind (path tree x rank m (Some next))
-by-on tree x rank kind m r item next bucket at other =
-    first_stop-on tree kind _ _ (has_kind-bucket tree kind item (Some next) (device-false item bucket) at ∙ grind (arith, nat_tests)) (device-false item bucket)
-    ∙ ap (λ (o : Option Bucket). first_stop tree kind (path tree x rank m o)) at
+  -- a bucket that is there
+  pub by-bucket : (next : Bucket) (sought : Bool) → item <ℤ pos 0 → bucket_at tree item ≡ Some next → nat_eq next.kind kind ≡ sought
+      → first_stop tree kind (path_by tree x rank m (step_of item r)) ≡ cond sought (Found (step_of item r)) (first_stop tree kind (path tree x rank m (Some next)))
+  by-bucket next sought bucket at same =
+      first_stop-cons tree kind (step_of item r) (path tree x rank m (bucket_at tree item)) sought false
+      (has_kind-bucket tree kind item (Some next) (device-false item bucket) at ∙ same) (device-false item bucket)
+      ∙ ap (λ (o : Option Bucket). cond sought (Found (step_of item r)) (first_stop tree kind (path tree x rank m o))) at
 
 -- What it finds at a bucket.
 

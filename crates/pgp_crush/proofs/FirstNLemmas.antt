@@ -1,5 +1,5 @@
 -- First-n, try by try and replica by replica.
-use Rattle.std.proofs.Common.{◌≡◌, ◌≤◌, ℕ, ◌+◌, suc, [], ◌∷◌, length, length-append, Bool, true, false, not, refl, arith, ap, sym, ◌∙◌, add-one, Option, Some, None}
+use Rattle.std.proofs.Common.{◌≡◌, ◌<◌, ◌≤◌, ℕ, ◌+◌, ◌-◌, suc, [], ◌∷◌, cond, length, length-append, Bool, true, false, not, refl, arith, ap, sym, ◌∙◌, add-one, Option, Some, None}
 use Rattle.std.specs.Option.{option_and_then}
 use Rattle.pgp_crush.specs.declared.candidate.Pick.{Pick}
 use Rattle.pgp_crush.specs.declared.candidate.Candidate.{Candidate}
@@ -7,66 +7,44 @@ use Rattle.pgp_crush.specs.Least.{least_from}
 use Rattle.pgp_crush.specs.Picks.{Picks, no_picks, with_pick}
 use Rattle.pgp_crush.specs.Candidate.{Input}
 use Rattle.pgp_crush.specs.FirstN.{is_failure, taken_by, try_of, is_good_try, pick_of, first_picks}
+use Rattle.pgp_crush.proofs.LeastLemmas.{least_from-nil, least_from-cons}
 
--- The least number that passes, as a search up has come.
+-- ---- one replica
 
-pub least_from-suc : (test : ℕ → Bool) (k n : ℕ) → least_from test k (suc n) ≡ elim (test k) [ true ↦ Some k | false ↦ least_from test (suc k) n ]
-unfolding least_from
-least_from-suc test k n = refl
+-- what the tries of a replica from the f-th on give
+abbrev pub from_try : Input → Picks → ℕ → ℕ → ℕ → Option Pick
+from_try i taken rep f left = option_and_then (λ f. taken_by (try_of i rep f)) (least_from (is_good_try i taken rep) f left)
 
-pub least_from-zero : (test : ℕ → Bool) (k n : ℕ) → n ≡ 0 → least_from test k n ≡ None
-unfolding least_from
-least_from-zero test k n e = ap (least_from test k) e
-
-pub least_from-pass : (test : ℕ → Bool) (k n m : ℕ) → n ≡ m + 1 → test k ≡ true → least_from test k n ≡ Some k
-least_from-pass test k n m e h =
-    ap (least_from test k) (e ∙ add-one m) ∙ least_from-suc test k m
-    ∙ ap (λ (b : Bool). elim b as (λ _. Option ℕ) [ true ↦ Some k | false ↦ least_from test (suc k) m ]) h
-
-pub least_from-fail : (test : ℕ → Bool) (k n m : ℕ) → n ≡ m + 1 → test k ≡ false → least_from test k n ≡ least_from test (k + 1) m
-least_from-fail test k n m e h =
-    ap (least_from test k) (e ∙ add-one m) ∙ least_from-suc test k m
-    ∙ ap (λ (b : Bool). elim b as (λ _. Option ℕ) [ true ↦ Some k | false ↦ least_from test (suc k) m ]) h
-    ∙ ap (λ (j : ℕ). least_from test j m) (sym (add-one k))
-
--- One replica.
-
-pick_of_is : (i : Input) (taken : Picks) (rep : ℕ) → pick_of i taken rep ≡ option_and_then (λ f. taken_by (try_of i rep f)) (least_from (is_good_try i taken rep) 0 51)
+pub pick_of-tries : (i : Input) (taken : Picks) (rep : ℕ) → pick_of i taken rep ≡ from_try i taken rep 0 51
 unfolding pick_of
-pick_of_is i taken rep = refl
+pick_of-tries i taken rep = refl
 
-pub pick_of-stop : (i : Input) (taken : Picks) (rep f n m : ℕ) (c : Candidate) →
-    least_from (is_good_try i taken rep) 0 51 ≡ least_from (is_good_try i taken rep) f n → n ≡ m + 1 →
-    c ≡ try_of i rep f → is_failure taken c ≡ false → pick_of i taken rep ≡ taken_by c
-pick_of-stop i taken rep f n m c same e is good =
-    let passes : is_good_try i taken rep f ≡ true =
-    ap (λ (d : Candidate). not (is_failure taken d)) (sym is) ∙ ap not good in
-    pick_of_is i taken rep
-    ∙ ap (option_and_then (λ f. taken_by (try_of i rep f))) (same ∙ least_from-pass (is_good_try i taken rep) f n m e passes)
-    ∙ ap taken_by (sym is)
+-- one try, and those after it if it is a failure
+pub from_try-more : (i : Input) (taken : Picks) (rep f : ℕ) (c : Candidate) (fails : Bool) → f < 51 → c ≡ try_of i rep f → is_failure taken c ≡ fails
+    → from_try i taken rep f (51 - f) ≡ cond fails (from_try i taken rep (f + 1) (51 - (f + 1))) (taken_by c)
+from_try-more i taken rep f c fails within is e =
+    let left : 51 - f ≡ suc (51 - (f + 1)) = omega arith in
+    ap (from_try i taken rep f) left
+    ∙ ap (option_and_then (λ f. taken_by (try_of i rep f))) (least_from-cons (is_good_try i taken rep) f (51 - (f + 1))
+    ∙ ap (λ (b : Bool). cond (not b) (Some f) (least_from (is_good_try i taken rep) (suc f) (51 - (f + 1)))) (ap (is_failure taken) (sym is) ∙ e))
+    ∙ by_test fails
+  where
+    by_test : (b : Bool) → option_and_then (λ f. taken_by (try_of i rep f)) (cond (not b) (Some f) (least_from (is_good_try i taken rep) (suc f) (51 - (f + 1))))
+        ≡ cond b (from_try i taken rep (f + 1) (51 - (f + 1))) (taken_by c)
+    by_test true = ap (λ (j : ℕ). from_try i taken rep j (51 - (f + 1))) (sym (add-one f))
+    by_test false = ap taken_by (sym is)
 
-pub good_try-on : (i : Input) (taken : Picks) (rep f n m : ℕ) (c : Candidate) →
-    least_from (is_good_try i taken rep) 0 51 ≡ least_from (is_good_try i taken rep) f n → n ≡ m + 1 →
-    c ≡ try_of i rep f → is_failure taken c ≡ true →
-    least_from (is_good_try i taken rep) 0 51 ≡ least_from (is_good_try i taken rep) (f + 1) m
-good_try-on i taken rep f n m c same e is bad =
-    let fails : is_good_try i taken rep f ≡ false =
-    ap (λ (d : Candidate). not (is_failure taken d)) (sym is) ∙ ap not bad in
-    same ∙ least_from-fail (is_good_try i taken rep) f n m e fails
+pub from_try-end : (i : Input) (taken : Picks) (rep f left : ℕ) → left ≡ 0 → from_try i taken rep f left ≡ None
+from_try-end i taken rep f left e =
+    ap (option_and_then (λ f. taken_by (try_of i rep f))) (ap (least_from (is_good_try i taken rep) f) e ∙ least_from-nil (is_good_try i taken rep) f)
 
-pub pick_of-end : (i : Input) (taken : Picks) (rep f n : ℕ) →
-    least_from (is_good_try i taken rep) 0 51 ≡ least_from (is_good_try i taken rep) f n → n ≡ 0 → pick_of i taken rep ≡ None
-pick_of-end i taken rep f n same e =
-    pick_of_is i taken rep
-    ∙ ap (option_and_then (λ f. taken_by (try_of i rep f))) (same ∙ least_from-zero (is_good_try i taken rep) f n e)
-
--- The replicas.
+-- ---- the replicas
 
 pub first_picks-zero : (i : Input) → first_picks i 0 ≡ no_picks
 unfolding first_picks
 first_picks-zero i = refl
 
-first_picks-suc : (i : Input) (rep : ℕ) → first_picks i (suc rep) ≡ with_pick (first_picks i rep) (pick_of i (first_picks i rep) rep)
+pub first_picks-suc : (i : Input) (rep : ℕ) → first_picks i (suc rep) ≡ with_pick (first_picks i rep) (pick_of i (first_picks i rep) rep)
 unfolding first_picks
 first_picks-suc i rep = refl
 

@@ -1,40 +1,29 @@
--- The positions that the code keeps mirror the table of the definition.
-use Rattle.std.proofs.Common.{◌≡◌, ◌≢◌, ◌<◌, ◌≤◌, ℕ, ◌+◌, zero, suc, ℤ, List, [], ◌∷◌, length, map, replicate, take, get_or, set, slice_set, Bool, true, false, not, cond, ◌&&◌, ◌||◌, nat_eq, ◌⊎◌, inl, inr, refl, arith, ap, sym, ◌∙◌, subst, add-one, Option, Some, None, is_none}
+-- What the positions hold, cell by cell, is what any table of the placement says, and there is one table.
+use Rattle.std.proofs.Common.{◌≡◌, ◌<◌, ◌≤◌, ℕ, ◌+◌, zero, suc, ℤ, List, [], ◌∷◌, length, map, replicate, take, get_or, set, slice_set, Bool, true, false, not, cond, ◌&&◌, nat_lt, inl, inr, refl, arith, ap, sym, ◌∙◌, subst, add-one, Option, Some, None}
 use Rattle.std.specs.List.{list_any, range_with_len}
 use Rattle.std.specs.Option.{option_map_or, option_and_then}
-use Rattle.std.proofs.lemmas.List.{get_or-set_same, get_or-set_other, length-set, take-replicate, get_or-replicate, length-replicate}
+use Rattle.std.proofs.lemmas.List.{get_or-set_same, get_or-set_other, length-set, length-map, get_or-map, take-replicate, get_or-replicate, length-replicate, ext_get_or}
+use Rattle.std.proofs.lemmas.List.FromFn.{length-map-range_with_len, get_or-map-range_with_len, fill_by_all}
+use Rattle.std.proofs.lemmas.Bool.{cases_eq}
 use Rattle.std.proofs.lemmas.Bool.Decides.{nat_tests}
+use Rattle.pgp_lists.proofs.Ranges.{list_any-range}
 use Rattle.pgp_crush.specs.declared.candidate.Candidate.{Candidate}
 use Rattle.pgp_crush.specs.declared.candidate.Candidate.TheVariants.{Early, Unfit, Fit}
 use Rattle.pgp_crush.specs.declared.indep.Cell.{Cell}
 use Rattle.pgp_crush.specs.declared.indep.Cell.TheVariants.{Open, Gone, Held}
 use Rattle.pgp_crush.specs.Candidate.{Input}
-use Rattle.pgp_crush.specs.Indep.{cell, round_of, stands_before, has_item, has_before, settled_by, settles, with_cell, with_row, table_after, leaf_in, place_at, indep}
-use Rattle.pgp_crush.specs.Cells.{is_open, holds, after_try, cells_with, cells_row, cells_after, leaf_held}
+use Rattle.pgp_crush.specs.Least.{least_from}
+use Rattle.pgp_crush.specs.Indep.{cell, round_of, stands_before, has_item, has_before, settled_by, settles, IsTable, leaf_in, place_at, IsIndep}
+use Rattle.pgp_crush.specs.Cells.{is_open, holds, after_try, cells_with, cells_row, cells_after, leaf_held, indep}
+use Rattle.pgp_crush.proofs.LeastLemmas.{next_least, least_from-nil, least_from-more, least_from-same, least_from-found, least_from-below}
 
--- The recursions, step by step.
-
-pub with_row-zero : (i : Input) (n round : ℕ) (table : List (Option ℕ)) → with_row i n round table 0 ≡ table
-unfolding with_row
-with_row-zero i n round table = refl
-
-pub with_row-suc : (i : Input) (n round : ℕ) (table : List (Option ℕ)) (p : ℕ) → with_row i n round table (suc p) ≡ with_cell i n round (with_row i n round table p) p
-unfolding with_row
-with_row-suc i n round table p = refl
-
-pub table_after-zero : (i : Input) (n : ℕ) → table_after i n 0 ≡ replicate n None
-unfolding table_after
-table_after-zero i n = refl
-
-pub table_after-suc : (i : Input) (n round : ℕ) → table_after i n (suc round) ≡ with_row i n round (table_after i n round) n
-unfolding table_after
-table_after-suc i n round = refl
+-- ---- one cell after the other
 
 pub cells_row-zero : (i : Input) (n round : ℕ) (cells : List Cell) → cells_row i n round cells 0 ≡ cells
 unfolding cells_row
 cells_row-zero i n round cells = refl
 
-pub cells_row-suc : (i : Input) (n round : ℕ) (cells : List Cell) (p : ℕ) → cells_row i n round cells (suc p) ≡ cells_with i n round (cells_row i n round cells p) p
+cells_row-suc : (i : Input) (n round : ℕ) (cells : List Cell) (p : ℕ) → cells_row i n round cells (suc p) ≡ cells_with i n round (cells_row i n round cells p) p
 unfolding cells_row
 cells_row-suc i n round cells p = refl
 
@@ -55,269 +44,263 @@ cells_after-more i n round = ap (cells_after i n) (add-one round) ∙ cells_afte
 pub cells_after-start : (i : Input) (n : ℕ) → n ≤ 16 → take n (replicate 16 Open) ≡ cells_after i n 0
 cells_after-start i n h = take-replicate n 16 Open h ∙ sym (cells_after-zero i n)
 
--- Lists of positions.
+module _ (i : Input) (n round : ℕ) where
+  -- what the positions have after one of them was looked at
+  with-size : (cells : List Cell) (p : ℕ) → length (cells_with i n round cells p) ≡ length cells
+  with-size cells p = by_test (is_open (get_or cells p Open))
+    where
+      by_test : (b : Bool) → length (cond b (set cells p (after_try cells (cell i n round p))) cells) ≡ length cells
+      by_test true = length-set cells p _
+      by_test false = refl
 
-pub list_any-range : {X : Type 0} (d : X) (test : ℕ → Bool) (held : X → Bool) (k : ℕ) (xs : List X) →
-    ((q : ℕ) → q < length xs → test (k + q) ≡ held (get_or xs q d)) → list_any test (range_with_len k (length xs)) ≡ list_any held xs
-list_any-range d test held k [] same = refl
-list_any-range d test held k (x ∷ xs) same =
-    let first : test k ≡ held x = ap test (omega arith) ∙ same 0 (omega arith) in
-    let rest : list_any test (range_with_len (k + 1) (length xs)) ≡ list_any held xs =
-    list_any-range d test held (k + 1) xs (λ q h. ap test (omega arith) ∙ same (suc q) (omega arith)) in
-    ap (λ (b : Bool). b || list_any test (range_with_len (k + 1) (length xs))) first ∙ ap (λ (b : Bool). held x || b) rest
+  with-here : (cells : List Cell) (p : ℕ) → p < length cells
+      → get_or (cells_with i n round cells p) p Open ≡ cond (is_open (get_or cells p Open)) (after_try cells (cell i n round p)) (get_or cells p Open)
+  with-here cells p h = by_test (is_open (get_or cells p Open))
+    where
+      by_test : (b : Bool) → get_or (cond b (set cells p (after_try cells (cell i n round p))) cells) p Open ≡ cond b (after_try cells (cell i n round p)) (get_or cells p Open)
+      by_test true = get_or-set_same cells p _ Open h
+      by_test false = refl
 
-pub map-range : {X Y : Type 0} (d : X) (value : ℕ → Y) (f : X → Y) (k : ℕ) (xs : List X) →
-    ((q : ℕ) → q < length xs → f (get_or xs q d) ≡ value (k + q)) → map f xs ≡ map value (range_with_len k (length xs))
-map-range d value f k [] same = refl
-map-range d value f k (x ∷ xs) same =
-    let first : f x ≡ value k = same 0 (omega arith) ∙ ap value (omega arith) in
-    let rest : map f xs ≡ map value (range_with_len (k + 1) (length xs)) =
-    map-range d value f (k + 1) xs (λ q h. same (suc q) (omega arith) ∙ ap value (omega arith)) in
-    cc
+  with-other : (cells : List Cell) (p q : ℕ) → (q ≡ p → ⊥) → get_or (cells_with i n round cells p) q Open ≡ get_or cells q Open
+  with-other cells p q other = by_test (is_open (get_or cells p Open))
+    where
+      by_test : (b : Bool) → get_or (cond b (set cells p (after_try cells (cell i n round p))) cells) q Open ≡ get_or cells q Open
+      by_test true = get_or-set_other cells p q _ Open other
+      by_test false = refl
 
--- What a position keeps of its own cell.
+  row-size : (cells : List Cell) (p : ℕ) → length (cells_row i n round cells p) ≡ length cells
+  row-size cells zero = ap (λ (c : List Cell). length c) (cells_row-zero i n round cells)
+  row-size cells (suc p) = ap (λ (c : List Cell). length c) (cells_row-suc i n round cells p) ∙ with-size (cells_row i n round cells p) p ∙ row-size cells p
 
-abbrev pub cell_held : Candidate → Cell
+pub after-size : (i : Input) (n round : ℕ) → length (cells_after i n round) ≡ n
+after-size i n zero = ap (λ (c : List Cell). length c) (cells_after-zero i n) ∙ length-replicate n Open
+after-size i n (suc round) = ap (λ (c : List Cell). length c) (cells_after-suc i n round) ∙ row-size i n round (cells_after i n round) n ∙ after-size i n round
+
+-- ---- what a position holds
+
+-- what a position holds by its own cell
+abbrev cell_held : Candidate → Cell
 cell_held Early = Gone
 cell_held Unfit = Open
 cell_held (Fit pick) = Held pick
-
-abbrev pub held_at : Input → ℕ → ℕ → Option ℕ → Cell
-held_at i n q own = option_map_or (λ f. cell_held (cell i n f q)) own Open
-
--- The positions mirror a table of the cells before one of them.
-pub record Mirrors (i : Input) (n round p : ℕ) (table : List (Option ℕ)) (cells : List Cell) : Type 0 where
-  pub table_size : length table ≡ n
-  pub cells_size : length cells ≡ n
-  pub same : (q : ℕ) → q < n → get_or cells q Open ≡ held_at i n q (round_of table q)
-  pub before : (q own : ℕ) → q < n → round_of table q ≡ Some own → stands_before own q round p ≡ true
-  pub closed : (q own : ℕ) → q < n → round_of table q ≡ Some own → is_open (cell_held (cell i n own q)) ≡ false
-
--- The order of cells.
-
-before-next : (own q round p : ℕ) → stands_before own q round p ≡ true → stands_before own q round (p + 1) ≡ true
-before-next own q round p h = grind (arith, nat_tests)
-
-before-row : (own q round n : ℕ) → q < n → stands_before own q round n ≡ true → stands_before own q (round + 1) 0 ≡ true
-before-row own q round n h g = grind (arith, nat_tests)
-
-before-own : (round p : ℕ) → stands_before round p round (p + 1) ≡ true
-before-own round p = grind (arith, nat_tests)
-
-pub same_or_other : (q p : ℕ) → (q ≡ p) ⊎ (q ≢ p)
-same_or_other q p = by_test (nat_eq q p) refl
-  where
-    by_test : (b : Bool) → nat_eq q p ≡ b → (q ≡ p) ⊎ (q ≢ p)
-    by_test true h = inl (grind (arith, nat_tests))
-    by_test false h = inr (grind (arith, nat_tests))
-
--- An item is held before a cell exactly if a position holds it.
 
 holds_is : (item : ℤ) (c : Candidate) → holds item (cell_held c) ≡ has_item item c
 holds_is item Early = refl
 holds_is item Unfit = refl
 holds_is item (Fit pick) = refl
 
-has_before_is : (i : Input) (n : ℕ) (table : List (Option ℕ)) (round p : ℕ) (item : ℤ) (q : ℕ) (own : Option ℕ) →
-    round_of table q ≡ own → ((f : ℕ) → own ≡ Some f → stands_before f q round p ≡ true) →
-    has_before i n table round p item q ≡ holds item (held_at i n q own)
-has_before_is i n table round p item q None e h =
-    ap (λ (o : Option ℕ). option_map_or (λ f. stands_before f q round p && has_item item (cell i n f q)) o false) e
-has_before_is i n table round p item q (Some f) e h =
-    ap (λ (o : Option ℕ). option_map_or (λ f. stands_before f q round p && has_item item (cell i n f q)) o false) e
-    ∙ ap (λ (b : Bool). b && has_item item (cell i n f q)) (h f refl)
-    ∙ sym (holds_is item (cell i n f q))
+open-is : (c : Cell) → is_open c ≡ true → c ≡ Open
+open-is Open h = refl
+open-is Gone h = cc
+open-is (Held pick) h = cc
 
-any_before : (i : Input) (n round p : ℕ) (table : List (Option ℕ)) (cells : List Cell) (item : ℤ) → Mirrors i n round p table cells →
-    list_any (has_before i n table round p item) (range_with_len 0 n) ≡ list_any (holds item) cells
-any_before i n round p table cells item m =
-    ap (λ (k : ℕ). list_any (has_before i n table round p item) (range_with_len 0 k)) (sym m.cells_size)
-    ∙ list_any-range Open (has_before i n table round p item) (holds item) 0 cells (λ q h.
-    let within : q < n = omega (arith, m.cells_size) in
-    ap (has_before i n table round p item) (omega arith)
-    ∙ has_before_is i n table round p item q (round_of table q) refl (λ f e. m.before q f within e)
-    ∙ ap (holds item) (sym (m.same q within)))
+try-held : (cells : List Cell) (c : Candidate) → is_open (after_try cells c) ≡ false → after_try cells c ≡ cell_held c
+try-held cells Early h = refl
+try-held cells Unfit h = refl
+try-held cells (Fit pick) h = by_test (list_any (holds pick.item) cells) h
+  where
+    by_test : (b : Bool) → is_open (cond b Open (Held pick)) ≡ false → cond b Open (Held pick) ≡ Held pick
+    by_test true h = cc
+    by_test false h = refl
 
--- A position that isn't set.
+-- in how many rounds position q was looked at, once the first p positions of a round were
+abbrev looked_at : ℕ → ℕ → ℕ → ℕ
+looked_at round p q = cond (nat_lt q p) (suc round) round
 
-keep_all : (i : Input) (n round p : ℕ) (table : List (Option ℕ)) (cells : List Cell) → Mirrors i n round p table cells → Mirrors i n round (p + 1) table cells
-keep_all i n round p table cells m = record {
-  table_size = m.table_size;
-  cells_size = m.cells_size;
-  same = m.same;
-  before = λ q own h e. before-next own q round p (m.before q own h e);
-  closed = m.closed;
-}
+before-is : (own round p q : ℕ) → stands_before own q round p ≡ nat_lt own (looked_at round p q)
+before-is own round p q = grind (arith, nat_tests)
 
-keep_open : (i : Input) (n round p : ℕ) (table : List (Option ℕ)) (cells : List Cell) → p < n → Mirrors i n round p table cells →
-    round_of table p ≡ None → Mirrors i n round (p + 1) table (slice_set cells p Open)
-keep_open i n round p table cells within m none = record {
-  table_size = m.table_size;
-  cells_size = length-set cells p Open ∙ m.cells_size;
-  same = λ q h. elim (same_or_other q p) [
+module _ (i : Input) (n : ℕ) where
+  -- the positions before the cell of position p in a round was looked at
+  abbrev before_cell : ℕ → ℕ → List Cell
+  before_cell round p = cells_row i n round (cells_after i n round) p
+
+  before_cell-size : (round p : ℕ) → length (before_cell round p) ≡ n
+  before_cell-size round p = row-size i n round (cells_after i n round) p ∙ after-size i n round
+
+  -- the cell of position q in this round ends the search, were it still open
+  abbrev ends : ℕ → ℕ → Bool
+  ends q round = not (is_open (after_try (before_cell round q) (cell i n round q)))
+
+  abbrev held_by : ℕ → Option ℕ → Cell
+  held_by q None = Open
+  held_by q (Some own) = cell_held (cell i n own q)
+
+  -- what an open position takes, and what one that isn't open keeps
+  step : (round p : ℕ) (o : Option ℕ) → ((own : ℕ) → o ≡ Some own → ends p own ≡ true)
+      → cond (is_open (held_by p o)) (after_try (before_cell round p) (cell i n round p)) (held_by p o) ≡ held_by p (next_least o (ends p round) round)
+  step round p None closed = by_open (is_open (after_try (before_cell round p) (cell i n round p))) refl
+    where
+      by_open : (b : Bool) → is_open (after_try (before_cell round p) (cell i n round p)) ≡ b
+          → after_try (before_cell round p) (cell i n round p) ≡ held_by p (cond (not b) (Some round) None)
+      by_open true e = open-is _ e
+      by_open false e = try-held (before_cell round p) (cell i n round p) e
+  step round p (Some own) closed =
+      ap (λ (b : Bool). cond b (after_try (before_cell round p) (cell i n round p)) (cell_held (cell i n own p)))
+      (shut (is_open (after_try (before_cell own p) (cell i n own p))) refl (closed own refl))
+    where
+      shut : (b : Bool) → is_open (after_try (before_cell own p) (cell i n own p)) ≡ b → not b ≡ true → is_open (cell_held (cell i n own p)) ≡ false
+      shut true e h = cc
+      shut false e h = ap is_open (sym (try-held (before_cell own p) (cell i n own p) e)) ∙ e
+
+  -- a position holds what the first of its cells gives that ended its search
+  row : (round : ℕ) → ((q : ℕ) → q < n → get_or (cells_after i n round) q Open ≡ held_by q (least_from (ends q) 0 round))
+      → (p q : ℕ) → p ≤ n → q < n → get_or (before_cell round p) q Open ≡ held_by q (least_from (ends q) 0 (looked_at round p q))
+  row round start zero q h within =
+      let none : round ≡ looked_at round 0 q = grind (arith, nat_tests) in
+      ap (λ (c : List Cell). get_or c q Open) (cells_row-zero i n round (cells_after i n round)) ∙ start q within
+      ∙ ap (λ (k : ℕ). held_by q (least_from (ends q) 0 k)) none
+  row round start (suc p) q h within = ap (λ (c : List Cell). get_or c q Open) (cells_row-suc i n round (cells_after i n round) p) ∙ elim (cases_eq q p) [
     | inl e ↦
-        let at : get_or (set cells p Open) q Open ≡ Open = ap (λ (k : ℕ). get_or (set cells p Open) k Open) e ∙ get_or-set_same cells p Open Open (omega (arith, m.cells_size)) in
-        at ∙ ap (held_at i n q) (sym (ap (round_of table) e ∙ none))
-    | inr other ↦ get_or-set_other cells p q Open Open other ∙ m.same q h
-  ];
-  before = λ q own h e. before-next own q round p (m.before q own h e);
-  closed = m.closed;
-}
-
--- A position that is set.
-put : (i : Input) (n round p : ℕ) (table : List (Option ℕ)) (cells : List Cell) (held : Cell) → p < n → Mirrors i n round p table cells →
-    cell_held (cell i n round p) ≡ held → is_open held ≡ false →
-    Mirrors i n round (p + 1) (slice_set table p (Some round)) (slice_set cells p held)
-put i n round p table cells held within m is closed = record {
-  table_size = length-set table p (Some round) ∙ m.table_size;
-  cells_size = length-set cells p held ∙ m.cells_size;
-  same = λ q h. elim (same_or_other q p) [
-    | inl e ↦
-        ap (λ (k : ℕ). get_or (set cells p held) k Open) e
-        ∙ get_or-set_same cells p held Open (omega (arith, m.cells_size))
-        ∙ sym is
-        ∙ ap (held_at i n p) (sym (get_or-set_same table p (Some round) None (omega (arith, m.table_size))))
-        ∙ ap (λ (k : ℕ). held_at i n k (round_of (set table p (Some round)) k)) (sym e)
+        let one : get_or (cells_with i n round (before_cell round p) p) p Open ≡ held_by p (least_from (ends p) 0 (suc round)) =
+        with-here i n round (before_cell round p) p (omega (arith, before_cell-size round p))
+        ∙ ap (λ (c : Cell). cond (is_open c) (after_try (before_cell round p) (cell i n round p)) c) (row round start p p (omega arith) (omega arith) ∙ ap (λ (k : ℕ). held_by p (least_from (ends p) 0 k)) (here p))
+        ∙ step round p (least_from (ends p) 0 round) (λ own is. (least_from-found (ends p) 0 round own is).0)
+        ∙ ap (held_by p) (sym (least_from-more (ends p) round)) in
+        subst (λ (k : ℕ). get_or (cells_with i n round (before_cell round p) p) k Open ≡ held_by k (least_from (ends k) 0 (suc round))) (sym e) one
+        ∙ ap (λ (k : ℕ). held_by q (least_from (ends q) 0 k)) (done e)
     | inr other ↦
-        get_or-set_other cells p q held Open other ∙ m.same q h
-        ∙ ap (held_at i n q) (sym (get_or-set_other table p q (Some round) None other))
-  ];
-  before = λ q own h e. elim (same_or_other q p) [
-    | inl at ↦
-        let here : Some own ≡ Some round = sym e ∙ ap (round_of (set table p (Some round))) at ∙ get_or-set_same table p (Some round) None (omega (arith, m.table_size)) in
-        let own_is : own ≡ round = cc in
-        ap (λ (f : ℕ). stands_before f q round (p + 1)) own_is ∙ ap (λ (k : ℕ). stands_before round k round (p + 1)) at ∙ before-own round p
-    | inr other ↦ before-next own q round p (m.before q own h (sym (get_or-set_other table p q (Some round) None other) ∙ e))
-  ];
-  closed = λ q own h e. elim (same_or_other q p) [
-    | inl at ↦
-        let here : Some own ≡ Some round = sym e ∙ ap (round_of (set table p (Some round))) at ∙ get_or-set_same table p (Some round) None (omega (arith, m.table_size)) in
-        let own_is : own ≡ round = cc in
-        ap (λ (f : ℕ). is_open (cell_held (cell i n f q))) own_is ∙ ap (λ (k : ℕ). is_open (cell_held (cell i n round k))) at ∙ ap is_open is ∙ closed
-    | inr other ↦ m.closed q own h (sym (get_or-set_other table p q (Some round) None other) ∙ e)
-  ];
-}
+        with-other i n round (before_cell round p) p q other ∙ row round start p q (omega arith) within
+        ∙ ap (λ (k : ℕ). held_by q (least_from (ends q) 0 k)) (apart other)
+  ]
+    where
+      here : (p : ℕ) → looked_at round p p ≡ round
+      here p = grind (arith, nat_tests)
 
--- One position.
+      done : q ≡ p → suc round ≡ looked_at round (suc p) q
+      done e = grind (arith, nat_tests)
 
--- the position is set already
-step-set : (i : Input) (n round p own : ℕ) (table : List (Option ℕ)) (cells : List Cell) → p < n → Mirrors i n round p table cells →
-    round_of table p ≡ Some own → Mirrors i n round (p + 1) (with_cell i n round table p) (cells_with i n round cells p)
-step-set i n round p own table cells within m set_is =
-    let table_is : with_cell i n round table p ≡ table =
-    ap (λ (o : Option ℕ). cond (is_none o && settles i n table p round) (set table p (Some round)) table) set_is in
-    let closed : is_open (get_or cells p Open) ≡ false = ap is_open (m.same p within ∙ ap (held_at i n p) set_is) ∙ m.closed p own within set_is in
-    let cells_is : cells_with i n round cells p ≡ cells =
-    ap (λ (b : Bool). cond b (set cells p (after_try cells (cell i n round p))) cells) closed in
-    subst (λ (t : List (Option ℕ)). Mirrors i n round (p + 1) t (cells_with i n round cells p)) (sym table_is)
-    (subst (λ (c : List Cell). Mirrors i n round (p + 1) table c) (sym cells_is) (keep_all i n round p table cells m))
+      apart : (q ≡ p → ⊥) → looked_at round p q ≡ looked_at round (suc p) q
+      apart other = grind (arith, nat_tests)
 
--- the position is not set, and the cell decides
-step-open : (i : Input) (n round p : ℕ) (table : List (Option ℕ)) (cells : List Cell) → p < n → Mirrors i n round p table cells →
-    round_of table p ≡ None → (c : Candidate) → cell i n round p ≡ c →
-    Mirrors i n round (p + 1) (cond (settles i n table p round) (set table p (Some round)) table) (set cells p (after_try cells c))
-step-open i n round p table cells within m none Early is =
-    subst (λ (b : Bool). Mirrors i n round (p + 1) (cond b (set table p (Some round)) table) (set cells p Gone))
-    (sym (ap (settled_by i n table p round) is))
-    (put i n round p table cells Gone within m (ap cell_held is) refl)
-step-open i n round p table cells within m none Unfit is =
-    subst (λ (b : Bool). Mirrors i n round (p + 1) (cond b (set table p (Some round)) table) (set cells p Open))
-    (sym (ap (settled_by i n table p round) is))
-    (keep_open i n round p table cells within m none)
-step-open i n round p table cells within m none (Fit pick) is =
-    let any = any_before i n round p table cells pick.item m in
-    let settles_is : settles i n table p round ≡ not (list_any (holds pick.item) cells) = ap (settled_by i n table p round) is ∙ ap not any in
-    by_test (list_any (holds pick.item) cells) settles_is
-  where
-    by_test : (b : Bool) → settles i n table p round ≡ not b →
-        Mirrors i n round (p + 1) (cond (settles i n table p round) (set table p (Some round)) table) (set cells p (cond b Open (Held pick)))
-    by_test true e =
-        subst (λ (b : Bool). Mirrors i n round (p + 1) (cond b (set table p (Some round)) table) (set cells p Open)) (sym e)
-        (keep_open i n round p table cells within m none)
-    by_test false e =
-        subst (λ (b : Bool). Mirrors i n round (p + 1) (cond b (set table p (Some round)) table) (set cells p (Held pick))) (sym e)
-        (put i n round p table cells (Held pick) within m (ap cell_held is) refl)
+  after : (round q : ℕ) → q < n → get_or (cells_after i n round) q Open ≡ held_by q (least_from (ends q) 0 round)
+  after zero q h =
+      ap (λ (c : List Cell). get_or c q Open) (cells_after-zero i n) ∙ get_or-replicate n q Open Open h ∙ sym (ap (held_by q) (least_from-nil (ends q) 0))
+  after (suc round) q h =
+      let all : looked_at round n q ≡ suc round = grind (arith, nat_tests) in
+      ap (λ (c : List Cell). get_or c q Open) (cells_after-suc i n round) ∙ row round (after round) n q (omega arith) h
+      ∙ ap (λ (k : ℕ). held_by q (least_from (ends q) 0 k)) all
 
-step : (i : Input) (n round p : ℕ) (table : List (Option ℕ)) (cells : List Cell) → p < n → Mirrors i n round p table cells →
-    Mirrors i n round (p + 1) (with_cell i n round table p) (cells_with i n round cells p)
-step i n round p table cells within m = by_round (round_of table p) refl
-  where
-    by_round : (o : Option ℕ) → round_of table p ≡ o → Mirrors i n round (p + 1) (with_cell i n round table p) (cells_with i n round cells p)
-    by_round (Some own) e = step-set i n round p own table cells within m e
-    by_round None e =
-        let table_is : with_cell i n round table p ≡ cond (settles i n table p round) (set table p (Some round)) table =
-        ap (λ (o : Option ℕ). cond (is_none o && settles i n table p round) (set table p (Some round)) table) e in
-        let open_is : is_open (get_or cells p Open) ≡ true = ap is_open (m.same p within ∙ ap (held_at i n p) e) in
-        let cells_is : cells_with i n round cells p ≡ set cells p (after_try cells (cell i n round p)) =
-        ap (λ (b : Bool). cond b (set cells p (after_try cells (cell i n round p))) cells) open_is in
-        subst (λ (t : List (Option ℕ)). Mirrors i n round (p + 1) t (cells_with i n round cells p)) (sym table_is)
-        (subst (λ (c : List Cell). Mirrors i n round (p + 1) (cond (settles i n table p round) (set table p (Some round)) table) c) (sym cells_is)
-        (step-open i n round p table cells within m e (cell i n round p) refl))
+  -- ---- tables
 
--- The rows.
+  module _ (table : List (Option ℕ)) (test : ℕ → ℕ → Bool) (is : (q : ℕ) → q < n → round_of table q ≡ least_from (test q) 0 51) where
+    -- a cell ends a search by the table exactly if it does by what the positions hold, where that is so of the cells before it
+    settles-is : (round p : ℕ) → round < 51 → p < n
+        → ((q : ℕ) → q < n → least_from (test q) 0 (looked_at round p q) ≡ least_from (ends q) 0 (looked_at round p q)) → settles i n table p round ≡ ends p round
+    settles-is round p early within so_far = by_case (cell i n round p)
+      where
+        of_held : (item : ℤ) (q : ℕ) (o : Option ℕ) → option_map_or (λ own. has_item item (cell i n own q)) o false ≡ holds item (held_by q o)
+        of_held item q None = refl
+        of_held item q (Some own) = sym (holds_is item (cell i n own q))
 
-row : (i : Input) (n round : ℕ) (table : List (Option ℕ)) (cells : List Cell) → Mirrors i n round 0 table cells → (p : ℕ) → p ≤ n →
-    Mirrors i n round p (with_row i n round table p) (cells_row i n round cells p)
-row i n round table cells m zero h =
-    subst (λ (t : List (Option ℕ)). Mirrors i n round 0 t (cells_row i n round cells 0)) (sym (with_row-zero i n round table))
-    (subst (λ (c : List Cell). Mirrors i n round 0 table c) (sym (cells_row-zero i n round cells)) m)
-row i n round table cells m (suc p) h =
-    let next = step i n round p (with_row i n round table p) (cells_row i n round cells p) (omega arith) (row i n round table cells m p (omega arith)) in
-    subst (λ (k : ℕ). Mirrors i n round k (with_row i n round table (suc p)) (cells_row i n round cells (suc p))) (add-one p)
-    (subst (λ (t : List (Option ℕ)). Mirrors i n round (p + 1) t (cells_row i n round cells (suc p))) (sym (with_row-suc i n round table p))
-    (subst (λ (c : List Cell). Mirrors i n round (p + 1) (with_cell i n round (with_row i n round table p) p) c) (sym (cells_row-suc i n round cells p)) next))
+        low : (q : ℕ) → looked_at round p q ≤ 51
+        low q = grind (arith, nat_tests)
 
-next_round : (i : Input) (n round : ℕ) (table : List (Option ℕ)) (cells : List Cell) → Mirrors i n round n table cells → Mirrors i n (suc round) 0 table cells
-next_round i n round table cells m = record {
-  table_size = m.table_size;
-  cells_size = m.cells_size;
-  same = m.same;
-  before = λ q own h e. ap (λ (k : ℕ). stands_before own q k 0) (sym (add-one round)) ∙ before-row own q round n h (m.before q own h e);
-  closed = m.closed;
-}
+        one : (item : ℤ) (q : ℕ) → q < n → has_before i n table round p item q ≡ holds item (get_or (before_cell round p) q Open)
+        one item q h =
+            (λ j. option_map_or (λ own. before-is own round p q j && has_item item (cell i n own q)) (is q h j) false)
+            ∙ least_from-below (test q) (λ own. has_item item (cell i n own q)) 0 51 (looked_at round p q) (looked_at round p q) (low q) (omega arith)
+            ∙ ap (λ (o : Option ℕ). option_map_or (λ own. has_item item (cell i n own q)) o false) (so_far q h)
+            ∙ of_held item q (least_from (ends q) 0 (looked_at round p q))
+            ∙ ap (holds item) (sym (row round (after round) p q (omega arith) h))
 
-mirrors_after : (i : Input) (n round : ℕ) → Mirrors i n round 0 (table_after i n round) (cells_after i n round)
-mirrors_after i n zero =
-    let start : Mirrors i n 0 0 (replicate n None) (replicate n Open) = record {
-      table_size = length-replicate n None;
-      cells_size = length-replicate n Open;
-      same = λ q h. get_or-replicate n q Open Open h ∙ ap (held_at i n q) (sym (get_or-replicate n q None None h));
-      before = λ q own h e. absurd (no_round q own h e);
-      closed = λ q own h e. absurd (no_round q own h e);
-    } in
-    subst (λ (t : List (Option ℕ)). Mirrors i n 0 0 t (cells_after i n 0)) (sym (table_after-zero i n))
-    (subst (λ (c : List Cell). Mirrors i n 0 0 (replicate n None) c) (sym (cells_after-zero i n)) start)
-  where
-    no_round : (q own : ℕ) → q < n → round_of (replicate n None) q ≡ Some own → ⊥
-    no_round q own h e = let none : round_of (replicate n None) q ≡ None = get_or-replicate n q None None h in cc
-mirrors_after i n (suc round) =
-    let done = row i n round (table_after i n round) (cells_after i n round) (mirrors_after i n round) n (omega arith) in
-    subst (λ (t : List (Option ℕ)). Mirrors i n (suc round) 0 t (cells_after i n (suc round))) (sym (table_after-suc i n round))
-    (subst (λ (c : List Cell). Mirrors i n (suc round) 0 (with_row i n round (table_after i n round) n) c) (sym (cells_after-suc i n round))
-    (next_round i n round _ _ done))
+        any : (item : ℤ) → list_any (has_before i n table round p item) (range_with_len 0 n) ≡ list_any (holds item) (before_cell round p)
+        any item =
+            ap (λ (k : ℕ). list_any (has_before i n table round p item) (range_with_len 0 k)) (sym (before_cell-size round p))
+            ∙ list_any-range Open (has_before i n table round p item) (holds item) 0 (before_cell round p)
+            (λ q h. ap (has_before i n table round p item) (omega arith) ∙ one item q (omega (arith, before_cell-size round p)))
 
--- The places.
+        taken : (b : Bool) (c : Cell) → is_open c ≡ false → not b ≡ not (is_open (cond b Open c))
+        taken true c h = refl
+        taken false c h = sym (ap not h)
 
-leaf_held_is : (c : Candidate) → leaf_held (cell_held c) ≡ leaf_in c
-leaf_held_is Early = refl
-leaf_held_is Unfit = refl
-leaf_held_is (Fit pick) = refl
+        by_case : (c : Candidate) → settled_by i n table p round c ≡ not (is_open (after_try (before_cell round p) c))
+        by_case Early = refl
+        by_case Unfit = refl
+        by_case (Fit pick) = ap not (any pick.item) ∙ taken (list_any (holds pick.item) (before_cell round p)) (Held pick) refl
 
-leaf_at : (i : Input) (n q : ℕ) (own : Option ℕ) → leaf_held (held_at i n q own) ≡ option_and_then (λ f. leaf_in (cell i n f q)) own
-leaf_at i n q None = refl
-leaf_at i n q (Some f) = leaf_held_is (cell i n f q)
+    -- the places are read off the table, where its rounds are those of the cells that ended the searches
+    places-read : ((q : ℕ) → q < n → round_of table q ≡ least_from (ends q) 0 51) → indep i n ≡ map (place_at i n table) (range_with_len 0 n)
+    places-read rounds =
+        fill_by_all (place_at i n table) (map leaf_held (cells_after i n 51)) n None (length-map (cells_after i n 51) leaf_held ∙ after-size i n 51)
+        (λ q h. get_or-map leaf_held (cells_after i n 51) q Open None (omega (arith, after-size i n 51))
+        ∙ ap leaf_held (after 51 q h ∙ ap (held_by q) (sym (rounds q h))) ∙ leaf_at q (round_of table q))
+      where
+        leaf_held_is : (c : Candidate) → leaf_held (cell_held c) ≡ leaf_in c
+        leaf_held_is Early = refl
+        leaf_held_is Unfit = refl
+        leaf_held_is (Fit pick) = refl
 
--- what the positions hold after all rounds is the placement
-pub indep_is : (i : Input) (n : ℕ) → map leaf_held (cells_after i n 51) ≡ indep i n
-indep_is i n =
-    let m = mirrors_after i n 51 in
-    map-range Open (place_at i n (table_after i n 51)) leaf_held 0 (cells_after i n 51) (λ q h.
-    ap leaf_held (m.same q (omega (arith, m.cells_size)))
-    ∙ leaf_at i n q (round_of (table_after i n 51) q)
-    ∙ ap (place_at i n (table_after i n 51)) (omega arith))
-    ∙ ap (λ (k : ℕ). map (place_at i n (table_after i n 51)) (range_with_len 0 k)) m.cells_size
+        leaf_at : (q : ℕ) (own : Option ℕ) → leaf_held (held_by q own) ≡ option_and_then (λ f. leaf_in (cell i n f q)) own
+        leaf_at q None = refl
+        leaf_at q (Some f) = leaf_held_is (cell i n f q)
 
--- Once no position is open, the rounds that are left change nothing.
+  -- ---- the table that is there
+
+  found_table : List (Option ℕ)
+  found_table = map (λ q. least_from (ends q) 0 51) (range_with_len 0 n)
+
+  found-at : (q : ℕ) → q < n → round_of found_table q ≡ least_from (ends q) 0 51
+  unfolding found_table
+  found-at q h = get_or-map-range_with_len (λ q. least_from (ends q) 0 51) 0 n q q None h (omega arith)
+
+  found-is : IsTable i n found_table
+  unfolding found_table
+  found-is = record {
+    size = length-map-range_with_len (λ q. least_from (ends q) 0 51) 0 n;
+    least = λ p h. found-at p h ∙ least_from-same (ends p) (settles i n found_table p) 0 51 (λ round early. sym (settles-is found_table ends found-at round p (omega arith) h (λ q within. refl)));
+  }
+
+  -- the places of all positions after all rounds are those of a table
+  pub indep-is : IsIndep i n (indep i n)
+  indep-is = record { table = found_table; is_table = found-is; places_are = places-read found_table ends found-at found-at }
+
+  -- ---- no other table
+
+  module _ (table : List (Option ℕ)) (is : IsTable i n table) where
+    same-row : (round : ℕ) → round < 51 → ((q : ℕ) → q < n → least_from (settles i n table q) 0 round ≡ least_from (ends q) 0 round)
+        → (p q : ℕ) → p ≤ n → q < n → least_from (settles i n table q) 0 (looked_at round p q) ≡ least_from (ends q) 0 (looked_at round p q)
+    same-row round early start zero q h within =
+        let none : looked_at round 0 q ≡ round = grind (arith, nat_tests) in
+        subst (λ (k : ℕ). least_from (settles i n table q) 0 k ≡ least_from (ends q) 0 k) (sym none) (start q within)
+    same-row round early start (suc p) q h within = elim (cases_eq q p) [
+      | inl e ↦
+          let one : least_from (settles i n table p) 0 (suc round) ≡ least_from (ends p) 0 (suc round) =
+          least_from-more (settles i n table p) round
+          ∙ (λ j. next_least (start p (omega arith) j) (settles-is table (settles i n table) is.least round p early (omega arith) (λ q inside. same-row round early start p q (omega arith) inside) j) round)
+          ∙ sym (least_from-more (ends p) round) in
+          subst (λ (k : ℕ). least_from (settles i n table q) 0 k ≡ least_from (ends q) 0 k) (done e)
+          (subst (λ (k : ℕ). least_from (settles i n table k) 0 (suc round) ≡ least_from (ends k) 0 (suc round)) (sym e) one)
+      | inr other ↦
+          subst (λ (k : ℕ). least_from (settles i n table q) 0 k ≡ least_from (ends q) 0 k) (apart other) (same-row round early start p q (omega arith) within)
+    ]
+      where
+        done : q ≡ p → suc round ≡ looked_at round (suc p) q
+        done e = grind (arith, nat_tests)
+
+        apart : (q ≡ p → ⊥) → looked_at round p q ≡ looked_at round (suc p) q
+        apart other = grind (arith, nat_tests)
+
+    same-after : (round : ℕ) → round ≤ 51 → (q : ℕ) → q < n → least_from (settles i n table q) 0 round ≡ least_from (ends q) 0 round
+    same-after zero h q within = least_from-nil (settles i n table q) 0 ∙ sym (least_from-nil (ends q) 0)
+    same-after (suc round) h q within =
+        let all : looked_at round n q ≡ suc round = grind (arith, nat_tests) in
+        subst (λ (k : ℕ). least_from (settles i n table q) 0 k ≡ least_from (ends q) 0 k) all
+        (same-row round (omega arith) (same-after round (omega arith)) n q (omega arith) within)
+
+    rounds-are : (q : ℕ) → q < n → round_of table q ≡ least_from (ends q) 0 51
+    rounds-are q h = is.least q h ∙ same-after 51 (omega arith) q h
+
+    table-is : table ≡ found_table
+    table-is = ext_get_or None table found_table (is.size ∙ sym found-is.size) (λ q h. rounds-are q (omega (arith, is.size)) ∙ sym (found-at q (omega (arith, is.size))))
+
+    pub indep-by_table : indep i n ≡ map (place_at i n table) (range_with_len 0 n)
+    indep-by_table = places-read table (settles i n table) is.least rounds-are
+
+  pub one_table : (table other : List (Option ℕ)) → IsTable i n table → IsTable i n other → table ≡ other
+  one_table table other is also = table-is table is ∙ sym (table-is other also)
+
+-- ---- once no position is open, the rounds that are left change nothing
 
 pub cells_row-settled : (i : Input) (n round : ℕ) (cells : List Cell) (p : ℕ) → list_any is_open cells ≡ false → p ≤ length cells → cells_row i n round cells p ≡ cells
 cells_row-settled i n round cells zero none h = cells_row-zero i n round cells
@@ -335,8 +318,7 @@ pub cells_after-settled : (i : Input) (n round m : ℕ) → list_any is_open (ce
     cells_after i n (m + round) ≡ cells_after i n round
 cells_after-settled i n round zero none = let same : zero + round ≡ round = omega arith in ap (cells_after i n) same
 cells_after-settled i n round (suc m) none =
-    let size = (mirrors_after i n round).cells_size in
     let more : suc m + round ≡ suc (m + round) = omega arith in
     ap (cells_after i n) more ∙ cells_after-suc i n (m + round)
     ∙ ap (λ (cells : List Cell). cells_row i n (m + round) cells n) (cells_after-settled i n round m none)
-    ∙ cells_row-settled i n (m + round) (cells_after i n round) n none (omega arith)
+    ∙ cells_row-settled i n (m + round) (cells_after i n round) n none (omega (arith, after-size i n round))

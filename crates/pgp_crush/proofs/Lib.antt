@@ -2,7 +2,8 @@ pub mod TreeLemmas
 pub mod DescentLemmas
 pub mod FirstNLemmas
 pub mod IndepLemmas
-pub mod RepeatLemmas
 pub mod FaultLemmas
-pub mod TableLemmas
+pub mod LeastLemmas
 pub mod ReachLemmas
+pub mod ChoiceLemmas
+pub mod PlacementLemmas

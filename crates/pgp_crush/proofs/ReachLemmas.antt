@@ -1,188 +1,111 @@
 -- Where the ways down of a tree without fault lead.
-use Rattle.std.proofs.Common.{◌≡◌, ℕ, ◌+◌, ◌<◌, zero, suc, Bool, true, false, not, ◌||◌, ℤ, List, [], ◌∷◌, length, Contains, nat_lt, slice_get, slice_index_or, cond, refl, arith, ap, sym, ◌∙◌, Option, Some, None}
-use Rattle.std.specs.List.{list_any, find, filter}
+use Rattle.std.proofs.Common.{◌≡◌, ℕ, ◌+◌, zero, suc, Bool, true, false, not, ℤ, List, [], ◌∷◌, length, Contains, nat_lt, slice_get, refl, arith, ap, sym, ◌∙◌, subst, inl, inr, Option, Some, None}
+use Rattle.std.specs.List.{list_any}
 use Rattle.std.specs.Ordering.{int_eq}
 use Rattle.std.proofs.lemmas.Int.{ints}
-use Rattle.std.proofs.lemmas.List.Folds.{list_any-append}
 use Rattle.std.proofs.lemmas.Bool.Decides.{nat_tests}
 use Rattle.pgp_ids.specs.declared.bucket.BucketAlg.{BucketAlg}
 use Rattle.pgp_ids.specs.declared.bucket.BucketAlg.TheVariants.{Uniform, List as Weighed}
+use Rattle.pgp_lists.proofs.Members.{Contains-nil, Contains-first, Contains-later, Contains-cases, contains-filter, contains-flat_map, contains-any, none-contains, find-some}
 use Rattle.pgp_crush.specs.declared.descent.Rank.{Rank}
 use Rattle.pgp_crush.specs.declared.descent.Step.{Step}
 use Rattle.pgp_crush.specs.Bucket.{Bucket, bucket_at, is_held}
 use Rattle.pgp_crush.specs.Choice.{word_of, uniform_place, list_place, choice}
-use Rattle.pgp_crush.specs.Descent.{rank_at, path}
+use Rattle.pgp_crush.specs.Descent.{rank_at, path, step_of}
 use Rattle.pgp_crush.specs.TreeFault.{items_of, is_known, has_unknown, is_too_deep, below_levels, tree_fault, fault_below_root}
 use Rattle.pgp_crush.proofs.DescentLemmas.{path-zero, path-none, path-suc, bucket_at-id}
 use Rattle.pgp_crush.proofs.FaultLemmas.{below_levels-zero, below_levels-suc}
-use Rattle.pgp_crush.proofs.TreeLemmas.{list_any_none}
-
--- an element of a list, with a place where it stands
-record In {X : Type 0} (xs : List X) (x : X) : Type 0 where
-  pub place : ℕ
-  pub is : slice_get xs place ≡ Some x
-
-in-none : {X : Type 0} (x : X) → In [] x → zero ≡ suc zero
-in-none x h = let none : None ≡ Some x = h.is in cc
-
-in-later : {X : Type 0} (y : X) (xs : List X) (x : X) → In xs x → In (y ∷ xs) x
-in-later y xs x h = record { place = suc h.place; is = h.is }
-
-in-contains : {X : Type 0} (xs : List X) (x : X) → Contains xs x → In xs x
-in-contains xs x (k, within, is) = record { place = k; is = at xs k x within is }
-  where
-    at : {X : Type 0} (xs : List X) (k : ℕ) (x : X) → k < length xs → slice_index_or xs k x ≡ x → slice_get xs k ≡ Some x
-    at [] k x h e = absurd (omega arith)
-    at (y ∷ xs) zero x h e = ap Some e
-    at (y ∷ xs) (suc k) x h e = at xs k x (omega arith) e
-
-in-any : {X : Type 0} (test : X → Bool) (xs : List X) (k : ℕ) (x : X) → slice_get xs k ≡ Some x → test x ≡ true → list_any test xs ≡ true
-in-any test [] k x at pass = cc
-in-any test (y ∷ xs) zero x at pass = grind arith
-in-any test (y ∷ xs) (suc k) x at pass = let later = in-any test xs k x at pass in grind arith
-
-in-filter : {X : Type 0} (test : X → Bool) (xs : List X) (k : ℕ) (x : X) → slice_get xs k ≡ Some x → test x ≡ true → In (filter test xs) x
-in-filter test [] k x at pass = absurd (omega (arith, in-none x (record { place = k; is = at })))
-in-filter test (y ∷ xs) zero x at pass =
-    let same : y ≡ x = cc in
-    record { place = 0; is = ap (λ (t : Bool). slice_get (cond t (y ∷ filter test xs) (filter test xs)) 0) (ap test same ∙ pass) ∙ at }
-in-filter test (y ∷ xs) (suc k) x at pass = by_test (test y) (in-filter test xs k x at pass)
-  where
-    by_test : (t : Bool) → In (filter test xs) x → In (cond t (y ∷ filter test xs) (filter test xs)) x
-    by_test true h = in-later y (filter test xs) x h
-    by_test false h = h
-
--- the bucket found for an id is a bucket of the tree
-in-find : {X : Type 0} (test : X → Bool) (xs : List X) (x : X) → find test xs ≡ Some x → In xs x
-in-find test [] x h = absurd (omega (arith, in-none x (record { place = 0; is = h })))
-in-find test (y ∷ xs) x h = by_test (test y) h (in-find test xs x)
-  where
-    by_test : (t : Bool) → cond t (Some y) (find test xs) ≡ Some x → (find test xs ≡ Some x → In xs x) → In (y ∷ xs) x
-    by_test true h rest = record { place = 0; is = h }
-    by_test false h rest = in-later y xs x (rest h)
 
 -- what a bucket chooses is one of its items
-in-choice : (x r : ℕ) (b : Bucket) (item : ℤ) → choice x r b ≡ Some item → In b.items item
+got : (items : List ℤ) (k : ℕ) (item : ℤ) → slice_get items k ≡ Some item → Contains items item
+got [] k item is = cc
+got (z ∷ items) zero item is = let same : z ≡ item = cc in Contains-first z items item same
+got (z ∷ items) (suc k) item is = Contains-later z items item (got items k item is)
+
+choice-in : (x r : ℕ) (b : Bucket) (item : ℤ) → choice x r b ≡ Some item → Contains b.items item
 unfolding choice
-in-choice x r b item h =
+choice-in x r b item h =
     (elim b.alg as (λ (a : BucketAlg). elim a [
       | Uniform ↦ slice_get b.items (uniform_place x r (word_of b.id) (length b.items))
       | Weighed ↦ slice_get b.items (list_place x r (word_of b.id) b.items b.weights)
-    ] ≡ Some item → In b.items item) [
-      | Uniform ↦ (λ at. record { place = uniform_place x r (word_of b.id) (length b.items); is = at })
-      | Weighed ↦ (λ at. record { place = list_place x r (word_of b.id) b.items b.weights; is = at })
+    ] ≡ Some item → Contains b.items item) [
+      | Uniform ↦ got b.items (uniform_place x r (word_of b.id) (length b.items)) item
+      | Weighed ↦ got b.items (list_place x r (word_of b.id) b.items b.weights) item
     ]) h
 
--- Every item is known.
+-- ---- every item is known
 
-none-left : (a b : Bool) → (a || b) ≡ false → a ≡ false
-none-left true b h = h
-none-left false b h = refl
+item-known : (tree : List Bucket) (b : Bucket) (item : ℤ) → has_unknown tree ≡ false → Contains tree b → Contains b.items item → is_known tree item ≡ true
+item-known tree b item known here on =
+    by_test (is_known tree item) (none-contains (λ i. not (is_known tree i)) (items_of tree) item known (contains-flat_map (λ b. b.items) tree b item here on))
+  where
+    by_test : (t : Bool) → not t ≡ false → t ≡ true
+    by_test true h = refl
+    by_test false h = cc
 
-none-right : (a b : Bool) → (a || b) ≡ false → b ≡ false
-none-right true b h = absurd cc
-none-right false b h = h
+path-known : (tree : List Bucket) (x : ℕ) (rank : Rank) (levels : ℕ) (b : Bucket) (s : Step) → has_unknown tree ≡ false → Contains tree b →
+    Contains (path tree x rank levels (Some b)) s → is_known tree s.item ≡ true
+path-known tree x rank zero b s known here on = absurd (Contains-nil s (subst (λ (p : List Step). Contains p s) (path-zero tree x rank (Some b)) on))
+path-known tree x rank (suc levels) b s known here on =
+    by_choice (choice x (rank_at rank b) b) refl (λ next there later. path-known tree x rank levels next s known there later)
+  where
+    by_bucket : (item : ℤ) (o : Option Bucket) → bucket_at tree item ≡ o →
+        ((next : Bucket) → Contains tree next → Contains (path tree x rank levels (Some next)) s → is_known tree s.item ≡ true) →
+        Contains (path tree x rank levels o) s → is_known tree s.item ≡ true
+    by_bucket item None e rest later = absurd (Contains-nil s (subst (λ (p : List Step). Contains p s) (path-none tree x rank levels) later))
+    by_bucket item (Some next) e rest later = rest next (find-some (λ b. int_eq b.id item) tree next e).0 later
 
-none-in-items : (test : ℤ → Bool) (tree : List Bucket) (k : ℕ) (b : Bucket) → list_any test (items_of tree) ≡ false → slice_get tree k ≡ Some b → list_any test b.items ≡ false
-none-in-items test [] k b none at = absurd (omega (arith, in-none b (record { place = k; is = at })))
-none-in-items test (c ∷ tree) zero b none at =
-    let same : c ≡ b = cc in
-    ap (λ (d : Bucket). list_any test d.items) (sym same)
-    ∙ none-left (list_any test c.items) (list_any test (items_of tree)) (sym (list_any-append test c.items (items_of tree)) ∙ none)
-none-in-items test (c ∷ tree) (suc k) b none at =
-    none-in-items test tree k b (none-right (list_any test c.items) (list_any test (items_of tree)) (sym (list_any-append test c.items (items_of tree)) ∙ none)) at
+    by_choice : (chosen : Option ℤ) → choice x (rank_at rank b) b ≡ chosen →
+        ((next : Bucket) → Contains tree next → Contains (path tree x rank levels (Some next)) s → is_known tree s.item ≡ true) → is_known tree s.item ≡ true
+    by_choice None e rest = absurd (Contains-nil s (subst (λ (p : List Step). Contains p s) (path-suc tree x rank levels b None e) on))
+    by_choice (Some item) e rest =
+        elim (Contains-cases (step_of item (rank_at rank b)) (path tree x rank levels (bucket_at tree item)) s
+        (subst (λ (p : List Step). Contains p s) (path-suc tree x rank levels b (Some item) e) on)) [
+          | inl first ↦ ap (λ (t : Step). is_known tree t.item) (sym first) ∙ item-known tree b item known here (choice-in x (rank_at rank b) b item e)
+          | inr later ↦ by_bucket item (bucket_at tree item) refl rest later
+        ]
 
-not-false : (t : Bool) → not t ≡ false → t ≡ true
-not-false true h = refl
-not-false false h = cc
-
-item-known : (tree : List Bucket) (b : Bucket) (item : ℤ) → has_unknown tree ≡ false → In tree b → In b.items item → is_known tree item ≡ true
-item-known tree b item known here at =
-    not-false (is_known tree item) (list_any_none (λ i. not (is_known tree i)) b.items at.place item
-    (none-in-items (λ i. not (is_known tree i)) tree here.place b known here.is) at.is)
-
--- a step on a way down, where those on the ways that begin one bucket lower come to known items
-known-below : (tree : List Bucket) (x : ℕ) (rank : Rank) (levels : ℕ) (from : Option Bucket) (k : ℕ) (s : Step) →
-    ((next : Bucket) → from ≡ Some next → slice_get (path tree x rank levels (Some next)) k ≡ Some s → is_known tree s.item ≡ true) →
-    slice_get (path tree x rank levels from) k ≡ Some s → is_known tree s.item ≡ true
-known-below tree x rank levels None k s rest at =
-    let none : slice_get [] k ≡ Some s = ap (λ (p : List Step). slice_get p k) (sym (path-none tree x rank levels)) ∙ at in
-    absurd (omega (arith, in-none s (record { place = k; is = none })))
-known-below tree x rank levels (Some next) k s rest at = rest next refl at
-
-known-here : (tree : List Bucket) (item : ℤ) (r : ℕ) (steps : List Step) (k : ℕ) (s : Step) → is_known tree item ≡ true →
-    ((later : ℕ) → slice_get steps later ≡ Some s → is_known tree s.item ≡ true) →
-    slice_get (record { item = item; r = r } ∷ steps) k ≡ Some s → is_known tree s.item ≡ true
-known-here tree item r steps zero s known rest at =
-    let same : record { item = item; r = r } ≡ s = cc in
-    ap (λ (t : Step). is_known tree t.item) (sym same) ∙ known
-known-here tree item r steps (suc k) s known rest at = rest k at
-
-known-step : (tree : List Bucket) (x : ℕ) (rank : Rank) (levels : ℕ) (b : Bucket) (k : ℕ) (s : Step) (chosen : Option ℤ) →
-    choice x (rank_at rank b) b ≡ chosen → has_unknown tree ≡ false → In tree b →
-    ((next : Bucket) (later : ℕ) → In tree next → slice_get (path tree x rank levels (Some next)) later ≡ Some s → is_known tree s.item ≡ true) →
-    slice_get (path tree x rank (suc levels) (Some b)) k ≡ Some s → is_known tree s.item ≡ true
-known-step tree x rank levels b k s None e known here rest at =
-    let none : slice_get [] k ≡ Some s = ap (λ (p : List Step). slice_get p k) (sym (path-suc tree x rank levels b None e)) ∙ at in
-    absurd (omega (arith, in-none s (record { place = k; is = none })))
-known-step tree x rank levels b k s (Some item) e known here rest at =
-    known-here tree item (rank_at rank b) (path tree x rank levels (bucket_at tree item)) k s
-    (item-known tree b item known here (in-choice x (rank_at rank b) b item e))
-    (λ later. known-below tree x rank levels (bucket_at tree item) later s (λ next there. rest next later (in-find (λ b. int_eq b.id item) tree next there)))
-    (ap (λ (p : List Step). slice_get p k) (sym (path-suc tree x rank levels b (Some item) e)) ∙ at)
-
-path-known : (tree : List Bucket) (x : ℕ) (rank : Rank) (levels : ℕ) (b : Bucket) (k : ℕ) (s : Step) → has_unknown tree ≡ false → In tree b →
-    slice_get (path tree x rank levels (Some b)) k ≡ Some s → is_known tree s.item ≡ true
-path-known tree x rank zero b k s known here at =
-    let none : slice_get [] k ≡ Some s = ap (λ (p : List Step). slice_get p k) (sym (path-zero tree x rank (Some b))) ∙ at in
-    absurd (omega (arith, in-none s (record { place = k; is = none })))
-path-known tree x rank (suc levels) b k s known here at =
-    known-step tree x rank levels b k s (choice x (rank_at rank b) b) refl known here (λ next later there. path-known tree x rank levels next later s known there) at
-
--- Ten levels are enough.
+-- ---- ten levels are enough
 
 -- a bucket that a bucket below some levels holds is below one level more
-in-below : (tree : List Bucket) (k : ℕ) (b next : Bucket) → In (below_levels tree k) b → In b.items next.id → In tree next → In (below_levels tree (suc k)) next
-in-below tree k b next here at there =
+in-below : (tree : List Bucket) (k : ℕ) (b next : Bucket) → Contains (below_levels tree k) b → Contains b.items next.id → Contains tree next →
+    Contains (below_levels tree (suc k)) next
+in-below tree k b next here on there =
     let held : is_held (below_levels tree k) next.id ≡ true =
-    in-any (λ b. list_any (int_eq next.id) b.items) (below_levels tree k) here.place b here.is
-    (in-any (int_eq next.id) b.items at.place next.id at.is (grind (arith, ints))) in
-    rw (below_levels-suc tree k) (in-filter (λ b. is_held (below_levels tree k) b.id) tree there.place next there.is held)
+    contains-any (λ b. list_any (int_eq next.id) b.items) (below_levels tree k) b here (contains-any (int_eq next.id) b.items next.id on (grind (arith, ints))) in
+    subst (λ (l : List Bucket). Contains l next) (sym (below_levels-suc tree k)) (contains-filter (λ b. is_held (below_levels tree k) b.id) tree next there held)
 
-empty-in : {X : Type 0} (xs : List X) (x : X) → nat_lt 0 (length xs) ≡ false → In xs x → zero ≡ suc zero
-empty-in [] x h at = in-none x at
-empty-in (y ∷ xs) x h at = grind (arith, nat_tests)
-
--- a way down that is given more levels, where those that begin one bucket lower lead no further
-ends-below : (tree : List Bucket) (x : ℕ) (rank : Rank) (n m : ℕ) (from : Option Bucket) →
-    ((next : Bucket) → from ≡ Some next → path tree x rank m (Some next) ≡ path tree x rank n (Some next)) → path tree x rank m from ≡ path tree x rank n from
-ends-below tree x rank n m None rest = path-none tree x rank m ∙ sym (path-none tree x rank n)
-ends-below tree x rank n m (Some next) rest = rest next refl
-
-ends-step : (tree : List Bucket) (x : ℕ) (rank : Rank) (n m k : ℕ) (b : Bucket) (chosen : Option ℤ) → choice x (rank_at rank b) b ≡ chosen →
-    In (below_levels tree k) b → ((next : Bucket) → In (below_levels tree (suc k)) next → path tree x rank m (Some next) ≡ path tree x rank n (Some next)) →
-    path tree x rank (suc m) (Some b) ≡ path tree x rank (suc n) (Some b)
-ends-step tree x rank n m k b None at here rest = path-suc tree x rank m b None at ∙ sym (path-suc tree x rank n b None at)
-ends-step tree x rank n m k b (Some item) at here rest =
-    path-suc tree x rank m b (Some item) at
-    ∙ ap (λ (p : List Step). record { item = item; r = rank_at rank b } ∷ p)
-    (ends-below tree x rank n m (bucket_at tree item) (λ next there.
-    rest next (in-below tree k b next here
-    (rw (bucket_at-id tree item next there) (in-choice x (rank_at rank b) b item at)) (in-find (λ b. int_eq b.id item) tree next there))))
-    ∙ sym (path-suc tree x rank n b (Some item) at)
+none-in : (tree : List Bucket) (b : Bucket) → nat_lt 0 (length tree) ≡ false → Contains tree b → ⊥
+none-in [] b none on = Contains-nil b on
+none-in (c ∷ tree) b none on = absurd (grind (arith, nat_tests))
 
 path-ends : (tree : List Bucket) (x : ℕ) (rank : Rank) (n more k all : ℕ) (b : Bucket) → is_too_deep tree ≡ false → n + k ≡ 10 → all ≡ n + more →
-    In (below_levels tree k) b → path tree x rank all (Some b) ≡ path tree x rank n (Some b)
+    Contains (below_levels tree k) b → path tree x rank all (Some b) ≡ path tree x rank n (Some b)
 path-ends tree x rank zero more k all b shallow e sum here =
     let level : k ≡ 10 = omega arith in
-    absurd (omega (arith, empty-in (below_levels tree 10) b shallow (rw (sym level) here)))
+    absurd (none-in (below_levels tree 10) b shallow (subst (λ (l : ℕ). Contains (below_levels tree l) b) level here))
 path-ends tree x rank (suc n) more k all b shallow e sum here =
     let left : all ≡ suc (n + more) = omega arith in
     ap (λ (l : ℕ). path tree x rank l (Some b)) left
-    ∙ ends-step tree x rank n (n + more) k b (choice x (rank_at rank b) b) refl here
-    (λ next there. path-ends tree x rank n more (suc k) (n + more) next shallow (omega arith) refl there)
+    ∙ by_choice (choice x (rank_at rank b) b) refl (λ next there. path-ends tree x rank n more (suc k) (n + more) next shallow (omega arith) refl there)
+  where
+    by_bucket : (item : ℤ) (o : Option Bucket) → bucket_at tree item ≡ o → Contains b.items item →
+        ((next : Bucket) → Contains (below_levels tree (suc k)) next → path tree x rank (n + more) (Some next) ≡ path tree x rank n (Some next)) →
+        path tree x rank (n + more) o ≡ path tree x rank n o
+    by_bucket item None e on rest = path-none tree x rank (n + more) ∙ sym (path-none tree x rank n)
+    by_bucket item (Some next) e on rest =
+        rest next (in-below tree k b next here (subst (Contains b.items) (sym (bucket_at-id tree item next e)) on) (find-some (λ b. int_eq b.id item) tree next e).0)
 
--- Of a tree without fault.
+    by_choice : (chosen : Option ℤ) → choice x (rank_at rank b) b ≡ chosen →
+        ((next : Bucket) → Contains (below_levels tree (suc k)) next → path tree x rank (n + more) (Some next) ≡ path tree x rank n (Some next)) →
+        path tree x rank (suc (n + more)) (Some b) ≡ path tree x rank (suc n) (Some b)
+    by_choice None e rest = path-suc tree x rank (n + more) b None e ∙ sym (path-suc tree x rank n b None e)
+    by_choice (Some item) e rest =
+        path-suc tree x rank (n + more) b (Some item) e
+        ∙ ap (λ (p : List Step). step_of item (rank_at rank b) ∷ p) (by_bucket item (bucket_at tree item) refl (choice-in x (rank_at rank b) b item e) rest)
+        ∙ sym (path-suc tree x rank n b (Some item) e)
+
+-- ---- of a tree without fault
 
 faultless_known : (tree : List Bucket) → tree_fault tree ≡ None → has_unknown tree ≡ false
 unfolding tree_fault fault_below_root
@@ -194,12 +117,10 @@ faultless_shallow tree h = grind arith
 
 pub ways_stay_in : (tree : List Bucket) (x : ℕ) (rank : Rank) (levels : ℕ) (b : Bucket) (s : Step) → tree_fault tree ≡ None → Contains tree b →
     Contains (path tree x rank levels (Some b)) s → is_known tree s.item ≡ true
-ways_stay_in tree x rank levels b s faultless here at =
-    let place = in-contains (path tree x rank levels (Some b)) s at in
-    path-known tree x rank levels b place.place s (faultless_known tree faultless) (in-contains tree b here) place.is
+ways_stay_in tree x rank levels b s faultless here on = path-known tree x rank levels b s (faultless_known tree faultless) here on
 
 pub ways_end : (tree : List Bucket) (x : ℕ) (rank : Rank) (more : ℕ) (b : Bucket) → tree_fault tree ≡ None → Contains tree b →
     path tree x rank (10 + more) (Some b) ≡ path tree x rank 10 (Some b)
 ways_end tree x rank more b faultless here =
     path-ends tree x rank 10 more 0 (10 + more) b (faultless_shallow tree faultless) refl refl
-    (rw (below_levels-zero tree) (in-contains tree b here))
+    (subst (λ (l : List Bucket). Contains l b) (sym (below_levels-zero tree)) here)

@@ -1,18 +1,12 @@
 -- What follows from a tree's being checked.
 use Rattle.std.proofs.Common.{◌≡◌, ℕ, ◌+◌, ◌<◌, ◌≤◌, ◌^◌, ◌-◌, zero, suc, Bool, true, false, ℤ, List, [], ◌∷◌, length, map, sum, slice_get, get_or, cond, refl, arith, ap, sym, ◌∙◌, Option, Some, None, is_some, IfSome, Bor, nat_lt}
-use Rattle.std.specs.List.{list_any}
 use Rattle.std.specs.Option.{option_and_then, option_map, option_copied}
 use Rattle.std.specs.Ordering.{int_eq}
 use Rattle.std.proofs.lemmas.Bool.Decides.{nat_tests}
+use Rattle.pgp_lists.proofs.Lists.{none-at}
 use Rattle.pgp_crush.specs.Bucket.{Bucket, bucket_at}
 use Rattle.pgp_crush.specs.Place.{place_of}
 use Rattle.pgp_crush.specs.TreeFault.{tree_fault, fault_below_root, has_weight_sum}
-
--- a test that no element passes
-pub list_any_none : {X : Type 0} (test : X → Bool) (xs : List X) (k : ℕ) (x : X) → list_any test xs ≡ false → slice_get xs k ≡ Some x → test x ≡ false
-list_any_none test [] k x none at = cc
-list_any_none test (y ∷ ys) zero x none at = grind arith
-list_any_none test (y ∷ ys) (suc k) x none at = list_any_none test ys k x (grind arith) at
 
 faultless_weights : (tree : List Bucket) → tree_fault tree ≡ None → has_weight_sum tree ≡ false
 unfolding tree_fault fault_below_root
@@ -21,7 +15,7 @@ faultless_weights tree h = grind arith
 pub weights_fit : (tree : List Bucket) (k : ℕ) (b : Bucket) → tree_fault tree ≡ None → slice_get tree k ≡ Some b → sum b.weights < 2 ^ 32
 weights_fit tree k b h at =
     let test : nat_lt (2 ^ 32 - 1) (sum b.weights) ≡ false =
-    list_any_none (λ b. nat_lt (2 ^ 32 - 1) (sum b.weights)) tree k b (faultless_weights tree h) at in
+    none-at (λ b. nat_lt (2 ^ 32 - 1) (sum b.weights)) tree k b (faultless_weights tree h) at in
     grind (arith, nat_tests)
 
 -- the element at a place, as an index gives it

@@ -1,5 +1,6 @@
--- What the positions of an erasure pool have so far, as the code keeps it: without the rounds of their tables.
-use Rattle.std.specs.Prelude.{ℕ, zero, suc, ℤ, List, replicate, Bool, true, false, Option, Some, None, slice_index_or, slice_set, if◌then◌else◌}
+-- What computes the places of an erasure pool: round by round, the positions that are still open are tried in order. It is
+-- one function that meets the relation of Indep.
+use Rattle.std.specs.Prelude.{ℕ, zero, suc, ℤ, List, map, replicate, Bool, true, false, Option, Some, None, slice_index_or, slice_set, if◌then◌else◌}
 use Rattle.std.specs.List.{list_any}
 use Rattle.std.specs.Ordering.{int_eq}
 use Rattle.pgp_crush.specs.declared.candidate.Candidate.{Candidate}
@@ -7,6 +8,7 @@ use Rattle.pgp_crush.specs.declared.candidate.Candidate.TheVariants.{Early, Unfi
 use Rattle.pgp_crush.specs.declared.indep.Cell.{Cell}
 use Rattle.pgp_crush.specs.declared.indep.Cell.TheVariants.{Open, Gone, Held}
 use Rattle.pgp_crush.specs.Candidate.{Input}
+use Rattle.pgp_crush.specs.FirstN.{try_limit}
 use Rattle.pgp_crush.specs.Indep.{cell}
 
 abbrev pub is_open : Cell → Bool
@@ -46,3 +48,7 @@ abbrev pub leaf_held : Cell → Option ℕ
 leaf_held Open = None
 leaf_held Gone = None
 leaf_held (Held pick) = Some pick.leaf
+
+-- the places of n positions: what they hold after all rounds
+abbrev pub indep : Input → ℕ → List (Option ℕ)
+indep i n = map leaf_held (cells_after i n try_limit)

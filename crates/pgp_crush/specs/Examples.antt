@@ -37,6 +37,26 @@ two_hosts =
     ∷ uniform (negsuc 2) 1 (pos 2 ∷ pos 3 ∷ [])
     ∷ []
 
+-- the weights of their four devices, of which the first and the last are in
+abbrev pub outer_in : List ℕ
+outer_in = 0x10000 ∷ 0 ∷ 0 ∷ 0x10000 ∷ []
+
+-- a list root over devices 0 to 3, all of one weight
+abbrev pub four_in_a_list : List Bucket
+four_in_a_list =
+    record {
+      id = negsuc 0;
+      kind = 1;
+      alg = Weighed;
+      items = pos 0 ∷ pos 1 ∷ pos 2 ∷ pos 3 ∷ [];
+      weights = 0x10000 ∷ 0x10000 ∷ 0x10000 ∷ 0x10000 ∷ [];
+    }
+    ∷ []
+
+-- the weights of four devices, all of which are in
+abbrev pub four_in : List ℕ
+four_in = 0x10000 ∷ 0x10000 ∷ 0x10000 ∷ 0x10000 ∷ []
+
 -- n buckets, each in the one before it, the last of which holds device 0
 abbrev pub chain : ℕ → ℕ → List Bucket
 chain zero first = []

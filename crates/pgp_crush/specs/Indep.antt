@@ -1,5 +1,5 @@
 -- The placement of an erasure pool: each position keeps its place, whatever becomes of the others.
-use Rattle.std.specs.Prelude.{◌≡◌, ℕ, zero, suc, ℤ, ◌<◌, List, length, map, replicate, Bool, true, false, not, ◌||◌, ◌&&◌, nat_eq, nat_lt, Option, Some, None, is_none, slice_index_or, slice_set, if◌then◌else◌}
+use Rattle.std.specs.Prelude.{◌≡◌, ℕ, ℤ, ◌<◌, List, length, map, Bool, true, false, not, ◌||◌, ◌&&◌, nat_eq, nat_lt, Option, None, Some, slice_index_or}
 use Rattle.std.specs.List.{list_any, range_with_len}
 use Rattle.std.specs.Option.{option_map_or, option_and_then}
 use Rattle.std.specs.Ordering.{int_eq}
@@ -33,7 +33,8 @@ abbrev pub has_before : Input → ℕ → List (Option ℕ) → ℕ → ℕ → 
 has_before i n table round position item q =
     option_map_or (λ own. stands_before own q round position && has_item item (cell i n own q)) (round_of table q) false
 
--- such a cell ends the search of its position: it came to a device too early, or it has an item that no cell before it has
+-- such a cell ends the search of its position: it came to a device too early, or it has an item that no position has by a cell
+-- that stands before it
 abbrev pub settled_by : Input → ℕ → List (Option ℕ) → ℕ → ℕ → Candidate → Bool
 settled_by i n table position round Early = true
 settled_by i n table position round Unfit = false
@@ -48,21 +49,6 @@ pub record IsTable (i : Input) (n : ℕ) (table : List (Option ℕ)) : Type 0 wh
   pub size : length table ≡ n
   pub least : (position : ℕ) → position < n → round_of table position ≡ least_below (settles i n table position) try_limit
 
--- the table with a position's round set to this one, if it has none yet and this one ends its search
-abbrev pub with_cell : Input → ℕ → ℕ → List (Option ℕ) → ℕ → List (Option ℕ)
-with_cell i n round table position =
-    if is_none (round_of table position) && settles i n table position round then slice_set table position (Some round) else table
-
--- a table with a round's first positions looked at
-unfoldable pub with_row : Input → ℕ → ℕ → List (Option ℕ) → ℕ → List (Option ℕ)
-with_row i n round table zero = table
-with_row i n round table (suc position) = with_cell i n round (with_row i n round table position) position
-
--- the table of the first rounds
-unfoldable pub table_after : Input → ℕ → ℕ → List (Option ℕ)
-table_after i n zero = replicate n None
-table_after i n (suc round) = with_row i n round (table_after i n round) n
-
 -- the leaf of a cell
 abbrev pub leaf_in : Candidate → Option ℕ
 leaf_in Early = None
@@ -73,6 +59,8 @@ leaf_in (Fit pick) = Some pick.leaf
 abbrev pub place_at : Input → ℕ → List (Option ℕ) → ℕ → Option ℕ
 place_at i n table position = option_and_then (λ round. leaf_in (cell i n round position)) (round_of table position)
 
--- the places of n positions
-abbrev pub indep : Input → ℕ → List (Option ℕ)
-indep i n = map (place_at i n (table_after i n try_limit)) (range_with_len 0 n)
+-- the places of n positions: of each the leaf of its cell in the round that a table gives it
+pub record IsIndep (i : Input) (n : ℕ) (places : List (Option ℕ)) : Type 0 where
+  pub table : List (Option ℕ)
+  pub is_table : IsTable i n table
+  pub places_are : places ≡ map (place_at i n table) (range_with_len 0 n)

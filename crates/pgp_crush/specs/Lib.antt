@@ -14,4 +14,5 @@ pub mod Examples
 pub mod Chosen
 pub mod TreeFault
 pub mod Place
+pub mod Indexed
 pub mod Tree

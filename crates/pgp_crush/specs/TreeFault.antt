@@ -1,8 +1,9 @@
 -- Which lists of buckets are no placement tree, and why.
-use Rattle.std.specs.Prelude.{ℕ, zero, suc, ℤ, pos, ◌-◌, ◌^◌, List, [], ◌∷◌, length, map, sum, count_by, Bool, false, not, ◌||◌, nat_eq, nat_lt, nat_le, int_le, Option, Some, None, is_some, if◌then◌else◌}
+use Rattle.std.specs.Prelude.{ℕ, zero, suc, ℤ, pos, ◌-◌, ◌^◌, List, length, map, sum, count_by, Bool, false, not, ◌||◌, nat_eq, nat_lt, nat_le, int_le, Option, Some, None, is_some, if◌then◌else◌}
 use Rattle.std.specs.List.{list_any, filter, flat_map}
 use Rattle.std.specs.Option.{option_map_or}
 use Rattle.std.specs.Ordering.{int_eq}
+use Rattle.pgp_lists.specs.Repeats.{has_repeat}
 use Rattle.pgp_crush.specs.declared.fault.TreeFault.{TreeFault}
 use Rattle.pgp_crush.specs.declared.fault.TreeFault.TheVariants.{NoRoot, TwiceHeld, WrongType, Unknown, TooDeep, TooMany, WeightSum, Memory}
 use Rattle.pgp_crush.specs.Bucket.{Bucket, bucket_at, is_device, is_held}
@@ -12,18 +13,13 @@ use Rattle.pgp_crush.specs.Descent.{level_limit}
 abbrev pub items_of : List Bucket → List ℤ
 items_of tree = flat_map (λ b. b.items) tree
 
--- an element stands twice
-abbrev pub has_repeat : List ℤ → Bool
-has_repeat [] = false
-has_repeat (x ∷ xs) = list_any (int_eq x) xs || has_repeat xs
-
 -- not exactly one bucket of the list is an item of none
 abbrev pub has_no_root : List Bucket → Bool
 has_no_root tree = not (nat_eq (count_by (λ b. not (is_held tree b.id)) tree) 1)
 
 -- a bucket's id stands twice, or an item in two places
 abbrev pub has_twice_held : List Bucket → Bool
-has_twice_held tree = has_repeat (map (λ b. b.id) tree) || has_repeat (items_of tree)
+has_twice_held tree = has_repeat int_eq (map (λ b. b.id) tree) || has_repeat int_eq (items_of tree)
 
 -- the item is a bucket of this type or of one above it
 abbrev pub reaches_kind : List Bucket → ℕ → ℤ → Bool

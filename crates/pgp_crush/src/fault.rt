@@ -4,34 +4,27 @@ ghost use Rattle.std.specs.Prelude.{◌≡◌};
 ghost use Rattle.pgp_crush.specs.TreeFault.{refusal_number, fault_number};
 
 use std::alloc::AllocError;
-use thiserror::Error;
+use std::error::Error;
+use std::fmt;
 
 /// Why a list of buckets is no placement tree. One with several faults has the first in this order.
-#[derive(Clone, Copy, Debug, PartialEq, Eq, Error)]
+#[derive(Clone, Copy, Debug, PartialEq, Eq)]
 pub enum TreeFault {
     /// Not exactly one bucket is an item of none.
-    #[error("the tree has not exactly one root")]
     NoRoot,
     /// A bucket's id stands twice, or an item in two places.
-    #[error("a bucket or an item stands twice")]
     TwiceHeld,
     /// A bucket's type is 0, or not above that of each bucket in it.
-    #[error("a bucket's type is 0, or not above that of a bucket in it")]
     WrongType,
     /// An item is no bucket of the list, and no device of a number up to 4095.
-    #[error("an item is neither a bucket of the tree nor a device")]
     Unknown,
     /// More than 10 levels of buckets stand above one another.
-    #[error("the tree has more than 10 levels of buckets")]
     TooDeep,
     /// There are more than 1,024 buckets, or more than 256 items in one.
-    #[error("the tree has more than 1024 buckets, or a bucket more than 256 items")]
     TooMany,
     /// The weights of a bucket make more than 2^32 - 1.
-    #[error("the weights of a bucket make more than 4294967295")]
     WeightSum,
     /// There was no memory to look at the list.
-    #[error("out of memory")]
     Memory,
 }
 
@@ -61,7 +54,29 @@ impl TreeFault {
             TreeFault::Memory => None,
         }
     }
+
+    /// What it says to a person.
+    fn text(self) -> &'static str {
+        match self {
+            TreeFault::NoRoot => "the tree has not exactly one root",
+            TreeFault::TwiceHeld => "a bucket or an item stands twice",
+            TreeFault::WrongType => "a bucket's type is 0, or not above that of a bucket in it",
+            TreeFault::Unknown => "an item is neither a bucket of the tree nor a device",
+            TreeFault::TooDeep => "the tree has more than 10 levels of buckets",
+            TreeFault::TooMany => "the tree has more than 1024 buckets, or a bucket more than 256 items",
+            TreeFault::WeightSum => "the weights of a bucket make more than 4294967295",
+            TreeFault::Memory => "out of memory",
+        }
+    }
 }
+
+impl fmt::Display for TreeFault {
+    fn fmt<W: fmt::Write>(&self, f: &mut fmt::Formatter<W>) -> fmt::Result {
+        f.write_str(self.text())
+    }
+}
+
+impl Error for TreeFault {}
 
 impl From<AllocError> for TreeFault {
     ghost use Rattle.pgp_crush.specs.declared.fault.TreeFault.TheVariants.{Memory};

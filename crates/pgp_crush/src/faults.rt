@@ -11,8 +11,9 @@ ghost use Rattle.pgp_crush.specs.TreeFault.{items_of, fault_below_root, has_no_r
 
 use super::depth::is_too_deep;
 use super::fault::TreeFault;
-use super::index::{find_bucket, has_repeat};
+use super::index::find_bucket;
 use pgp_ids::{BucketSpec, OsdId};
+use pgp_lists::has_repeat;
 use std::alloc::{AllocError, Global};
 use std::collections::{HashMap, HashSet};
 

@@ -4,8 +4,7 @@ ghost use Rattle.std.specs.Prelude.{◌≡◌, ◌+◌, ◌≤◌, ◌<◌, ◌^
 ghost use Rattle.std.specs.List.{list_any};
 ghost use Rattle.pgp_crush.specs.Descent.{rank_limit};
 ghost use Rattle.pgp_crush.specs.Candidate.{input_of, candidate};
-ghost use Rattle.pgp_crush.specs.Indep.{indep};
-ghost use Rattle.pgp_crush.specs.Cells.{is_open, holds, after_try, cells_row, leaf_held};
+ghost use Rattle.pgp_crush.specs.Cells.{is_open, holds, after_try, cells_row, leaf_held, indep};
 
 use super::candidate::{Candidate, Input, Pick};
 use super::descent::Rank;

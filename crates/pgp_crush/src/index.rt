@@ -7,7 +7,6 @@ ghost use Rattle.std.specs.HashSet as bag;
 ghost use Rattle.std.specs.HashMap as hash;
 ghost use Rattle.std.specs.Option.{option_copied, option_map};
 ghost use Rattle.pgp_crush.specs.Bucket.{bucket_of, bucket_at};
-ghost use Rattle.pgp_crush.specs.TreeFault.{has_repeat};
 ghost use Rattle.pgp_crush.specs.Place.{place_of};
 
 use pgp_ids::BucketSpec;
@@ -23,19 +22,6 @@ pub(crate) fn set_of(alloc: Global, ids: &[i32]) -> Result<HashSet<i32>, AllocEr
         set.insert(*id)?;
     }
     Ok(set)
-}
-
-/// Some id stands twice.
-pub(crate) fn has_repeat(alloc: Global, ids: &[i32]) -> Result<bool, AllocError>
-    ensures { IfOk result (λ repeated. repeated ≡ has_repeat ids.now) }
-{
-    let mut seen = HashSet::new(alloc);
-    for id in ids {
-        if !seen.insert(*id)? {
-            return Ok(true);
-        }
-    }
-    Ok(false)
 }
 
 /// Where the first bucket of each id stands.

@@ -1,7 +1,7 @@
 //! Worked examples that the definitions compute, and that the table of an erasure pool's placement is one and the only one.
 #![tactic(auto, unfolding(crate::specs::Worked::placements_computed))]
 
-ghost use Rattle.std.specs.Prelude.{◌≡◌, ℕ, ◌+◌, pos, negsuc, [], ◌∷◌, Some, None, true, List, Option, Contains, map};
+ghost use Rattle.std.specs.Prelude.{◌≡◌, ◌≤◌, ℕ, ℤ, ◌+◌, pos, negsuc, [], ◌∷◌, Some, None, true, List, Option, Contains, length, map};
 ghost use Rattle.pgp_ids.specs.Osds.{first_osd, osd_count};
 ghost use Rattle.pgp_crush.specs.declared.fault.TreeFault.TheVariants.{NoRoot, TwiceHeld, WrongType, Unknown, TooDeep, TooMany, WeightSum};
 ghost use Rattle.pgp_crush.specs.declared.descent.Rank.{Rank};
@@ -12,11 +12,15 @@ ghost use Rattle.pgp_crush.specs.Candidate.{Input, input_of};
 ghost use Rattle.pgp_crush.specs.Choice.{choice};
 ghost use Rattle.pgp_crush.specs.Descent.{path, descent};
 ghost use Rattle.pgp_crush.specs.FirstN.{first_n};
-ghost use Rattle.std.specs.List.{range_with_len};
-ghost use Rattle.pgp_crush.specs.Indep.{indep, IsTable, place_at, table_after};
+ghost use Rattle.pgp_crush.specs.Placement.{IsPlacement, placement};
+ghost use Rattle.pgp_crush.specs.declared.rule.Rule.{Rule};
+ghost use Rattle.pgp_ids.specs.declared.bucket.BucketAlg.TheVariants.{List as Weighed};
+ghost use Rattle.std.specs.List.{All, range_with_len};
+ghost use Rattle.pgp_crush.specs.Cells.{indep};
+ghost use Rattle.pgp_crush.specs.Indep.{IsTable, IsIndep, place_at};
 ghost use Rattle.pgp_crush.specs.Bucket.{Bucket, root_of};
 ghost use Rattle.pgp_crush.specs.TreeFault.{is_known, tree_fault};
-ghost use Rattle.pgp_crush.specs.Examples.{uniform, weighed, three_devices, one_in, device_in_a_row, empty_root, two_hosts, chain, wide};
+ghost use Rattle.pgp_crush.specs.Examples.{uniform, weighed, three_devices, one_in, device_in_a_row, empty_root, two_hosts, outer_in, four_in_a_list, four_in, chain, wide};
 
 /// Of three devices device 0 alone is in: a replicated pool lists it, and in an erasure pool one place of three has it.
 pub fn one_device_in()
@@ -42,6 +46,34 @@ pub fn list_of_little_weight()
     ensures last_has_all { choice 7 3 (weighed (0 ∷ 0x10000 ∷ [])) ≡ Some (pos 1) }
 {}
 
+/// A list bucket whose weights are all 0 but the first always chooses its first item.
+pub fn first_item_of_all_weight()
+    ensures { (x r : ℕ) (b : Bucket) (item : ℤ) (items : List ℤ) (weight : ℕ) (weights : List ℕ) → b.alg ≡ Weighed → b.items ≡ item ∷ items
+        → b.weights ≡ weight ∷ weights → All (λ w. w ≡ 0) weights → choice x r b ≡ Some item }
+{}
+
+/// Two hosts, of each of which one device is in, and a list of four equal weights: each position has its own place.
+pub fn positions_keep_their_places()
+    ensures two_hosts { indep (input_of two_hosts outer_in 6 1) 2 ≡ Some 3 ∷ Some 0 ∷ [] }
+    ensures list { indep (input_of four_in_a_list four_in 1 0) 2 ≡ Some 2 ∷ Some 1 ∷ [] }
+{}
+
+/// A placement meets its rule, and nothing else does.
+pub fn placements_are_the_only_ones()
+    ensures placed { (tree : Option (List Bucket)) (rule : Rule) (weights : List ℕ) (x n : ℕ)
+        → IsPlacement tree rule weights x n (placement tree rule weights x n) }
+    ensures only { (tree : Option (List Bucket)) (rule : Rule) (weights : List ℕ) (x n : ℕ) (places : List (Option ℕ))
+        → IsPlacement tree rule weights x n places → places ≡ placement tree rule weights x n }
+{}
+
+/// A group has at most as many places as its pool has copies, and in an erasure pool exactly one for each shard.
+pub fn placements_have_their_size()
+    ensures at_most { (tree : Option (List Bucket)) (rule : Rule) (weights : List ℕ) (x n : ℕ)
+        → length (placement tree rule weights x n) ≤ n }
+    ensures erasure { (tree : Option (List Bucket)) (rule : Rule) (weights : List ℕ) (x n : ℕ) → rule.indep ≡ true
+        → length (placement tree rule weights x n) ≡ n }
+{}
+
 /// A bucket with no items chooses nothing.
 pub fn empty_bucket()
     ensures empty { descent empty_root 7 (Same 0) 0 (root_of empty_root) ≡ Empty }
@@ -61,22 +93,19 @@ pub fn refused_trees()
     ensures last_device { tree_fault (uniform (negsuc 0) 1 (pos 4095 ∷ []) ∷ []) ≡ None }
     ensures eleven_levels { tree_fault (chain 11 0) ≡ Some TooDeep }
     ensures ten_levels { tree_fault (chain 10 0) ≡ None }
+    ensures type_of_devices { tree_fault (uniform (negsuc 0) 0 (pos 0 ∷ []) ∷ []) ≡ Some WrongType }
+    ensures id_twice { tree_fault (uniform (negsuc 0) 2 (negsuc 1 ∷ []) ∷ uniform (negsuc 1) 1 [] ∷ uniform (negsuc 1) 1 [] ∷ []) ≡ Some TwiceHeld }
+    ensures as_many_items_as_may_be { tree_fault (wide 256) ≡ None }
     ensures many_items { tree_fault (wide 257) ≡ Some TooMany }
     ensures heavy { tree_fault (weighed (4294967295 ∷ 1 ∷ []) ∷ []) ≡ Some WeightSum }
     ensures as_heavy_as_may_be { tree_fault (weighed (4294967294 ∷ 1 ∷ []) ∷ []) ≡ None }
     ensures two_hosts { tree_fault two_hosts ≡ None }
 {}
 
-/// An erasure pool's placement has a table, in which each position has its least round.
-#[tactic(auto, using(crate::proofs::TableLemmas::table_is))]
-pub fn table_is_there()
-    ensures { (i : Input) (n : ℕ) → IsTable i n (table_after i n 51) }
-{}
-
-/// That table is the only one, and the placement is read off it.
-#[tactic(auto, using(crate::proofs::TableLemmas::table_is_one, crate::proofs::TableLemmas::indep_by_table))]
-pub fn table_is_the_only_one()
-    ensures only { (i : Input) (n : ℕ) (table : List (Option ℕ)) → IsTable i n table → table ≡ table_after i n 51 }
+/// An erasure pool's placement is read off a table in which each position has its least round, and there is one such table.
+pub fn one_table()
+    ensures placed { (i : Input) (n : ℕ) → IsIndep i n (indep i n) }
+    ensures only { (i : Input) (n : ℕ) (table other : List (Option ℕ)) → IsTable i n table → IsTable i n other → table ≡ other }
     ensures placement { (i : Input) (n : ℕ) (table : List (Option ℕ)) → IsTable i n table → indep i n ≡ map (place_at i n table) (range_with_len 0 n) }
 {}
 

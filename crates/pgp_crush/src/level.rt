@@ -54,7 +54,7 @@ pub(crate) fn level_at<'a>(
     }
 }
 
-/// The same, where the bucket has items and is this chooser, which chooses one of them with the number `r`.
+/// The level at a bucket that has items and chooses one of them as `chooser` does, with the number `r`.
 fn level_by<'a, C: Chooser>(tree: &'a Tree, chooser: &C, x: u32, r: u32, kind: u8) -> Level<'a>
     requires { 0 < length (C.items chooser.now) }
     ensures end { (d : Descent) (rank : Rank) (m : ℕ) → result ≡ End d → first_stop tree.now kind (path_by tree.now x rank m (step_of (C.choice chooser.now x r) r)) ≡ d }

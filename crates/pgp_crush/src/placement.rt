@@ -2,7 +2,7 @@
 
 ghost use Rattle.std.specs.Prelude.{◌≡◌, ◌≤◌, [], None, length, replicate, if◌then◌else◌};
 ghost use Rattle.std.specs.Option.{option_copied};
-ghost use Rattle.pgp_crush.specs.Placement.{placement};
+ghost use Rattle.pgp_crush.specs.Placement.{IsPlacement, placement};
 
 use super::candidate::Input;
 use super::rule::Rule;
@@ -11,14 +11,15 @@ use pgp_ids::Osds;
 
 /// The devices that `rule` gives `n` places on the tree.
 ///
-/// Of a replicated pool these are at most `n` devices in order, the first of which is the best; of an erasure pool `n`
+/// Of a replicated pool these are at most `n` devices, in the order in which its replicas took them; of an erasure pool `n`
 /// places, some of which may be empty. With no tree there is no device. `weights` has the weight of each of the 4,096
 /// devices in units of 1/0x10000, and `x` is the input of the placement, as its group hashes. This is CRUSH's `firstn` and
 /// `indep` (Weil and others, 2006), in this project's profile: tries, rounds and collisions are its own. No memory is taken.
 pub fn place(tree: Option<&Tree>, rule: Rule, weights: &[u32], x: u32, n: u8) -> Osds
     requires weighed { length weights.now ≡ 4096 }
     requires room { n ≤ 16 }
-    ensures { result ≡ placement (option_copied tree.entry) rule weights.now x n }
+    ensures placed { IsPlacement (option_copied tree.entry) rule weights.now x n result }
+    ensures value { result ≡ placement (option_copied tree.entry) rule weights.now x n }
 {
     let Some(tree) = tree else {
         return unplaced(rule, n);

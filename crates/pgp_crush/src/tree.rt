@@ -3,6 +3,7 @@
 ghost use Rattle.std.specs.Prelude.{◌≡◌, ◌<◌, ◌^◌, ◌⊎◌, map, sum, Some, None, IfSome, IfOk, IfErr, OnOk};
 ghost use Rattle.std.specs.Option.{option_copied, option_map};
 ghost use Rattle.pgp_crush.specs.Bucket.{bucket_of, bucket_at, root_of};
+ghost use Rattle.pgp_crush.specs.Indexed.{IsIndexed};
 ghost use Rattle.pgp_crush.specs.TreeFault.{tree_fault};
 
 use super::fault::TreeFault;
@@ -45,15 +46,7 @@ impl Tree {
         ensures faultless { OnOk result (tree_fault (map bucket_of buckets.items) ≡ None) }
         ensures fault { IfErr result (λ fault. (fault ≡ TreeFault.Memory) ⊎ (tree_fault (map bucket_of buckets.items) ≡ Some fault)) }
     {
-        let items = items_of(alloc, &buckets)?;
-        let held = set_of(alloc, &items)?;
-        let Some(root) = find_root(&buckets, &held) else {
-            return Err(TreeFault::NoRoot);
-        };
-        let index = index_of(alloc, &buckets)?;
-        if let Some(fault) = fault_below_root(alloc, &buckets, &items, held, &index)? {
-            return Err(fault);
-        }
+        let (root, index) = root_and_index(alloc, &buckets)?;
         Ok(Tree {
             buckets,
             index,
@@ -76,5 +69,25 @@ impl Tree {
     {
         let place = *self.index.get(&id)?;
         Some(&self.buckets[place])
+    }
+}
+
+/// The place of the root, and that of each bucket by its id; or the first fault of the list.
+fn root_and_index(
+    alloc: Global,
+    buckets: &[BucketSpec],
+) -> Result<(usize, HashMap<i32, usize>), TreeFault>
+    ensures ok { IfOk result (λ found. IsIndexed buckets.now found.0 found.1) }
+    ensures fault { IfErr result (λ fault. (fault ≡ TreeFault.Memory) ⊎ (tree_fault (map bucket_of buckets.now) ≡ Some fault)) }
+{
+    let items = items_of(alloc, buckets)?;
+    let held = set_of(alloc, &items)?;
+    let Some(root) = find_root(buckets, &held) else {
+        return Err(TreeFault::NoRoot);
+    };
+    let index = index_of(alloc, buckets)?;
+    match fault_below_root(alloc, buckets, &items, held, &index)? {
+        Some(fault) => Err(fault),
+        None => Ok((root, index)),
     }
 }

@@ -1,5 +1,6 @@
--- Each device of a group's up set and acting set is up.
-use Rattle.std.proofs.Common.{◌≡◌, ℕ, List, [], ◌∷◌, Option, Some, None, Bool, true, false, refl, ap, sym, ◌∙◌, inl, inr, if◌then◌else◌}
+-- Each device of a group's up set and acting set is up, and the up set has at most the pool's size of places.
+use Rattle.std.proofs.Common.{◌≡◌, ◌≤◌, ℕ, List, [], ◌∷◌, length, Option, Some, None, Bool, true, false, cond, refl, arith, ap, sym, ◌∙◌, subst, inl, inr, if◌then◌else◌}
+use Rattle.std.proofs.lemmas.List.{length-map}
 use Rattle.std.specs.List.{filter}
 use Rattle.std.specs.Prelude.{map}
 use Rattle.std.specs.Option.{option_map, option_map_or, unwrap_or}
@@ -8,10 +9,12 @@ use Rattle.pgp_ids.specs.declared.incremental.Incremental.{Incremental}
 use Rattle.pgp_ids.specs.declared.membership.Membership.{Membership}
 use Rattle.pgp_ids.specs.declared.pg_id.PgId.{PgId}
 use Rattle.pgp_ids.specs.declared.pool.PoolSpec.{PoolSpec}
-use Rattle.pgp_map.specs.Devices.{is_up}
+use Rattle.pgp_crush.proofs.PlacementLemmas.{placement-at_most, placement-size}
+use Rattle.pgp_map.specs.Devices.{is_up, weights}
+use Rattle.pgp_map.specs.Map.{tree}
 use Rattle.pgp_map.specs.MapFault.{is_erasure}
 use Rattle.pgp_map.specs.Pools.{pool, temp}
-use Rattle.pgp_sets.specs.Sets.{if_up, without_down, raw_set, up_set, pool_membership, membership, are_up}
+use Rattle.pgp_sets.specs.Sets.{rule_of, placement_input, if_up, without_down, raw_set, up_set, pool_membership, membership, are_up}
 
 up_or_empty : (incs : List Incremental) (place : Option ℕ) (b : Bool) → option_map_or (is_up incs) place false ≡ b → option_map_or (is_up incs) (if b then place else None) true ≡ true
 up_or_empty incs None true is = refl
@@ -70,3 +73,40 @@ pub acting-are_up : (incs : List Incremental) (pg : PgId) (members : Membership)
 acting-are_up incs pg members is =
     let from = of_pool incs pg (pool incs pg.pool) members is in
     ap (λ (m : Membership). are_up incs m.acting) (sym from.1) ∙ are_up-acting incs pg from.0
+
+-- ---- sizes
+
+left_out-size : (test : Option ℕ → Bool) (places : List (Option ℕ)) → length (filter test places) ≤ length places
+left_out-size test [] = omega arith
+left_out-size test (place ∷ places) = by_test (test place) (left_out-size test places)
+  where
+    by_test : (b : Bool) → length (filter test places) ≤ length places → length (cond b (place ∷ filter test places) (filter test places)) ≤ length (place ∷ places)
+    by_test true rest = omega arith
+    by_test false rest = omega arith
+
+up_set-at_most : (incs : List Incremental) (pg : PgId) (pool : PoolSpec) → length (up_set incs pool pg) ≤ pool.size
+up_set-at_most incs pg pool =
+    by_kind (is_erasure pool.kind) (placement-at_most (tree incs) (rule_of pool) (weights incs) (placement_input pool pg) pool.size)
+  where
+    by_kind : (b : Bool) → length (raw_set incs pool pg) ≤ pool.size
+        → length (if b then map (if_up incs) (raw_set incs pool pg) else filter (λ place. option_map_or (is_up incs) place false) (raw_set incs pool pg)) ≤ pool.size
+    by_kind true most = omega (arith, length-map (raw_set incs pool pg) (if_up incs))
+    by_kind false most = omega (arith, left_out-size (λ place. option_map_or (is_up incs) place false) (raw_set incs pool pg))
+
+pub up-at_most : (incs : List Incremental) (pg : PgId) (members : Membership) → membership incs pg ≡ Some members → length members.up ≤ members.size
+up-at_most incs pg members is =
+    let from = of_pool incs pg (pool incs pg.pool) members is in
+    subst (λ (m : Membership). length m.up ≤ m.size) from.1 (up_set-at_most incs pg from.0)
+
+pub up-size : (incs : List Incremental) (pg : PgId) (made : PoolSpec) (members : Membership) → pool incs pg.pool ≡ Some made → is_erasure made.kind ≡ true
+    → membership incs pg ≡ Some members → length members.up ≡ members.size
+up-size incs pg made members there erasure is =
+    let same : pool_membership incs pg made ≡ members =
+    some_same _ _ (ap (option_map (pool_membership incs pg)) (sym there) ∙ is) in
+    subst (λ (m : Membership). length m.up ≡ m.size) same
+    (by_kind (is_erasure made.kind) erasure (placement-size (tree incs) (rule_of made) (weights incs) (placement_input made pg) made.size erasure))
+  where
+    by_kind : (b : Bool) → b ≡ true → length (raw_set incs made pg) ≡ made.size
+        → length (if b then map (if_up incs) (raw_set incs made pg) else filter (λ place. option_map_or (is_up incs) place false) (raw_set incs made pg)) ≡ made.size
+    by_kind true e all = length-map (raw_set incs made pg) (if_up incs) ∙ all
+    by_kind false e all = cc

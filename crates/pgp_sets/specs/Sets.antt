@@ -76,7 +76,8 @@ members_from_up incs pool pg up = members_with pool up (acting_set incs pool pg 
 abbrev pub pool_membership : List Incremental → PgId → PoolSpec → Membership
 pool_membership incs pg pool = members_from_up incs pool pg (up_set incs pool pg)
 
--- the membership of a group, where its pool is there
+-- the membership of a group, where its pool is there. A number that the pool lacks is answered as the group into which it
+-- folds; that the pool has the group is HasGroup of the map, which each call that asks for a membership requires.
 abbrev pub membership : List Incremental → PgId → Option Membership
 membership incs pg = option_map (pool_membership incs pg) (pool incs pg.pool)
 

@@ -1,14 +1,16 @@
 //! What the definitions say of small maps.
 #![tactic(auto, unfolding(crate::specs::Worked::sets_computed))]
 
-ghost use Rattle.std.specs.Prelude.{◌≡◌, ℕ, List, Option, true, false, [], ◌∷◌, Some, None};
+ghost use Rattle.std.specs.Prelude.{◌≡◌, ◌≤◌, ℕ, List, Option, true, false, [], ◌∷◌, Some, None, length};
 ghost use Rattle.pgp_sets.specs.declared.status.Status.TheVariants.{Up, Gone, Lost, Down};
 ghost use Rattle.pgp_ids.specs.declared.incremental.Incremental.{Incremental};
 ghost use Rattle.pgp_ids.specs.declared.membership.Membership.{Membership};
 ghost use Rattle.pgp_ids.specs.declared.pg_id.PgId.{PgId};
+ghost use Rattle.pgp_ids.specs.declared.pool.PoolSpec.{PoolSpec};
 ghost use Rattle.pgp_map.specs.declared.map.OsdMap.{OsdMap};
 ghost use Rattle.pgp_map.specs.Examples.{boot, empty_step};
-ghost use Rattle.pgp_map.specs.MapFault.{map_fault, then_with};
+ghost use Rattle.pgp_map.specs.MapFault.{map_fault, then_with, is_erasure};
+ghost use Rattle.pgp_map.specs.Pools.{pool};
 ghost use Rattle.pgp_map.specs.MapOf.{IsMapOf};
 ghost use Rattle.pgp_sets.specs.Status.{status, held_status};
 ghost use Rattle.pgp_sets.specs.Sets.{membership, membership_at, raw_set_of, moves, are_up};
@@ -20,6 +22,14 @@ pub fn who_lies_there_is_up()
         → membership incs pg ≡ Some members → are_up incs members.up ≡ true }
     ensures acting { (incs : List Incremental) (pg : PgId) (members : Membership)
         → membership incs pg ≡ Some members → are_up incs members.acting ≡ true }
+{}
+
+/// An up set has at most as many places as the size of the pool, and in an erasure pool exactly so many.
+pub fn up_sets_have_their_size()
+    ensures at_most { (incs : List Incremental) (pg : PgId) (members : Membership)
+        → membership incs pg ≡ Some members → length members.up ≤ members.size }
+    ensures erasure { (incs : List Incremental) (pg : PgId) (made : PoolSpec) (members : Membership) → pool incs pg.pool ≡ Some made
+        → is_erasure made.kind ≡ true → membership incs pg ≡ Some members → length members.up ≡ members.size }
 {}
 
 /// Where the tree puts a group stays, unless an incremental gives a tree, weights, or sizes of the group's pool.

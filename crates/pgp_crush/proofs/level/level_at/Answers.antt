@@ -3,7 +3,7 @@ use Rattle.std.specs.Int.{w32}
 use Rattle.std.proofs.lemmas.Int.{to_z-of_z}
 use Rattle.std.proofs.lemmas.Bool.Decides.{nat_tests}
 use Rattle.pgp_crush.specs.Bucket.{bucket_of}
-use Rattle.pgp_crush.specs.Chosen.{choice-empty, choice-uniform, choice-list}
+use Rattle.pgp_crush.proofs.ChoiceLemmas.{choice-empty, choice-uniform, choice-list}
 use Rattle.pgp_crush.proofs.DescentLemmas.{down-empty, down-step}
 use Rattle.pgp_crush.proofs.level.level_at.Goals as goal
 

@@ -1,5 +1,6 @@
-use Rattle.std.proofs.Common.{◌≡◌, ℕ, ℤ, pos, ◌≤ℤ◌, ◌<ℤ◌, FitsSigned, Some, None, rules, arith, sym, ap, ◌∙◌, to_z, of_z}
+use Rattle.std.proofs.Common.{◌≡◌, ℕ, ℤ, pos, ◌≤ℤ◌, ◌<ℤ◌, true, false, FitsSigned, Some, None, rules, arith, sym, ap, ◌∙◌, to_z, of_z}
 use Rattle.std.specs.Int.{w32}
+use Rattle.std.proofs.lemmas.Bool.Decides.{nat_tests}
 use Rattle.std.proofs.lemmas.Int.{ints, to_z-of_z}
 use Rattle.pgp_crush.specs.declared.descent.Descent.TheVariants.{Found, Early}
 use Rattle.pgp_crush.specs.declared.descent.Descent.{Descent}
@@ -7,7 +8,7 @@ use Rattle.pgp_crush.specs.declared.descent.Step.{Step}
 use Rattle.pgp_crush.specs.declared.level.Level.TheVariants.{End}
 use Rattle.pgp_crush.specs.Bucket.{bucket_of, bucket_at}
 use Rattle.pgp_crush.specs.Descent.{step_of}
-use Rattle.pgp_crush.proofs.DescentLemmas.{by-device, by-early, by-lost, by-found, by-on, bucket_at-id}
+use Rattle.pgp_crush.proofs.DescentLemmas.{by-device, by-lost, by-bucket, bucket_at-id}
 use Rattle.pgp_crush.proofs.level.level_by.Goals as goal
 use Rattle.pgp_crush.proofs.level.level_by.Goals.{then-kind-eq0, else-kind-eq0}
 
@@ -23,9 +24,9 @@ returns-then-item-ge0-clause-end g c d rank m e =
     sym chosen ∙ sym (to_z-of_z w32 _ fits) in
     let same : c.if-kind-eq0.descent ≡ d = cc in
     elim c.if-kind-eq0.branch [
-      | then-kind-eq0 w ↦ by-device c.args.tree.now c.args.x rank c.args.kind m c.args.r _ device w.if-kind-eq0.true
+      | then-kind-eq0 w ↦ by-device c.args.tree.now c.args.x rank c.args.kind m c.args.r _ true device (grind (arith, nat_tests, w.if-kind-eq0.true))
           ∙ ap (λ (z : ℤ). Found (step_of z c.args.r)) item ∙ sym w.descent-is ∙ same
-      | else-kind-eq0 w ↦ by-early c.args.tree.now c.args.x rank c.args.kind m c.args.r _ device w.if-kind-eq0.false
+      | else-kind-eq0 w ↦ by-device c.args.tree.now c.args.x rank c.args.kind m c.args.r _ false device (grind (arith, nat_tests, w.if-kind-eq0.false))
           ∙ sym w.descent-is ∙ same
     ]
 
@@ -57,8 +58,8 @@ returns-in-Some-clause-end g c d rank m e =
     let at : bucket_at c.args.tree.now c.choose-item.result ≡ Some (bucket_of c.in-Some.next.now) = sym (simp to_z-of_z at c.in-Some.ensures.value) in
     let item : g.C.Chooser.choice c.args.chooser.now c.args.x c.args.r ≡ to_z w32 (of_z w32 c.choose-item.result) =
     sym chosen ∙ sym (to_z-of_z w32 _ fits) in
-    by-found c.args.tree.now c.args.x rank c.args.kind m c.args.r _ (bucket_of c.in-Some.next.now) bucket
-    (ap (bucket_at c.args.tree.now) (sym chosen) ∙ at) c.if-next-kind.true
+    by-bucket c.args.tree.now c.args.x rank c.args.kind m c.args.r _ (bucket_of c.in-Some.next.now) true bucket
+    (ap (bucket_at c.args.tree.now) (sym chosen) ∙ at) (grind (arith, nat_tests, c.if-next-kind.true))
     ∙ ap (λ (z : ℤ). Found (step_of z c.args.r)) item ∙ cc
 
 pub returns-in-Some-clause-item : goal.returns-in-Some-clause-item
@@ -76,8 +77,8 @@ returns-in-Some-2-clause-on g c next rank m e =
     let bucket : g.C.Chooser.choice c.args.chooser.now c.args.x c.args.r <ℤ pos 0 = grind (arith, ints) in
     let at : bucket_at c.args.tree.now c.choose-item.result ≡ Some (bucket_of c.in-Some.next.now) = sym (simp to_z-of_z at c.in-Some.ensures.value) in
     let same : c.in-Some.next ≡ next = cc in
-    by-on c.args.tree.now c.args.x rank c.args.kind m c.args.r _ (bucket_of c.in-Some.next.now) bucket
-    (ap (bucket_at c.args.tree.now) (sym chosen) ∙ at) c.if-next-kind.false
+    by-bucket c.args.tree.now c.args.x rank c.args.kind m c.args.r _ (bucket_of c.in-Some.next.now) false bucket
+    (ap (bucket_at c.args.tree.now) (sym chosen) ∙ at) (grind (arith, nat_tests, c.if-next-kind.false))
     ∙ cc
 
 pub returns-in-Some-2-clause-next : goal.returns-in-Some-2-clause-next

@@ -1,6 +1,6 @@
 use Rattle.std.proofs.Common.{◌≡◌, arith, ap, sym, ◌∙◌, ℕ}
 use Rattle.pgp_crush.specs.Choice.{traced_back}
-use Rattle.pgp_crush.specs.Chosen.{traced_back-zero, uniform_place_is}
+use Rattle.pgp_crush.proofs.ChoiceLemmas.{traced_back-zero, uniform_place_is}
 use Rattle.pgp_crush.proofs.uniform.uniform_place.Goals as goal
 
 pub returns-clause-value : goal.returns-clause-value

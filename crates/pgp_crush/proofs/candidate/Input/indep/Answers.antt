@@ -4,7 +4,7 @@ use Rattle.pgp_crush.specs.declared.indep.Cell.{Cell}
 use Rattle.pgp_crush.specs.declared.indep.Cell.TheVariants.{Open}
 use Rattle.pgp_crush.specs.Candidate.{input_of}
 use Rattle.pgp_crush.specs.Cells.{is_open, cells_row, cells_after, leaf_held}
-use Rattle.pgp_crush.proofs.IndepLemmas.{cells_after-start, cells_after-more, cells_after-settled, indep_is}
+use Rattle.pgp_crush.proofs.IndepLemmas.{cells_after-start, cells_after-more, cells_after-settled}
 use Rattle.pgp_crush.proofs.candidate.Input.indep.Goals as goal
 
 pub loop-round-init : goal.loop-round-init
@@ -32,7 +32,6 @@ returns-then-not-any_open c =
     ∙ sym (cells_after-settled i c.args.n c.loop-round.round (51 - c.loop-round.round)
     (ap (list_any is_open) (sym c.loop-round.invariant) ∙ settled))
     ∙ ap (cells_after i c.args.n) left)
-    ∙ indep_is i c.args.n
 
 pub returns : goal.returns
 returns c =
@@ -40,4 +39,3 @@ returns c =
     let i = input_of self.tree.now self.weights.now self.x self.kind in
     c.leaves_held-2.ensures
     ∙ ap (map leaf_held) (c.loop-round.invariant ∙ ap (cells_after i c.args.n) (omega arith))
-    ∙ indep_is i c.args.n

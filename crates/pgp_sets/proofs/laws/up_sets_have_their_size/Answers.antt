@@ -1,0 +1,8 @@
+use Rattle.pgp_sets.proofs.UpLemmas.{up-at_most, up-size}
+use Rattle.pgp_sets.proofs.laws.up_sets_have_their_size.Goals as goal
+
+pub returns-clause-at_most : goal.returns-clause-at_most
+returns-clause-at_most c = up-at_most
+
+pub returns-clause-erasure : goal.returns-clause-erasure
+returns-clause-erasure c = up-size
