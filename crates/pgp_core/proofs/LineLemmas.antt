@@ -5,7 +5,8 @@ use Rattle.pgp_ids.specs.declared.entry.Entry.{Entry}
 use Rattle.std.specs.Prelude.{Result, Ok, Err, IfErr}
 use Rattle.pgp_text.specs.Command.{command_of}
 use Rattle.pgp_lines.specs.declared.command.Command.{Command}
-use Rattle.pgp_core.specs.Wants.{CanMeet}
+use Rattle.pgp_lines.specs.declared.command.Command.TheVariants.{Submit, Ask, Locate, Trace}
+use Rattle.pgp_core.specs.Wants.{want_of}
 use Rattle.pgp_core.specs.Answer.{line_text, line_log, long_text}
 use Rattle.pgp_core.specs.Lines.{is_blank}
 use Rattle.pgp_core.specs.Script.{longest_line, MayMeet, answer, log_past}
@@ -14,7 +15,6 @@ use Rattle.pgp_core.specs.declared.line.Fate.TheVariants.{Kept, TooLong, NoMemor
 use Rattle.pgp_core.specs.declared.line.LineBuffer.{LineBuffer}
 use Rattle.pgp_core.specs.declared.line.LineAnswer.TheVariants.{Nothing, Wants, Text}
 use Rattle.pgp_core.specs.declared.want.Want.{Want}
-use Rattle.pgp_core.specs.declared.want.Want.TheVariants as want
 
 is_long : (line : List ℕ) → longest_line < length line → nat_lt longest_line (length line) ≡ true
 is_long line long = grind (arith, nat_tests)
@@ -27,6 +27,16 @@ kept-whole buffer line holds fate = subst (λ f. KeptBy f buffer.bytes.items lin
 
 too-long : (buffer : LineBuffer) (line : List ℕ) → Holds buffer line → buffer.fate ≡ TooLong → longest_line < length line
 too-long buffer line holds fate = subst (λ f. KeptBy f buffer.bytes.items line) fate holds.kept
+
+-- a line that found no memory has a byte, and so has a line that isn't blank
+pub forgotten-some : (buffer : LineBuffer) (line : List ℕ) → Holds buffer line → buffer.fate ≡ NoMemory → 0 < length line
+forgotten-some buffer line holds fate = subst (λ f. KeptBy f buffer.bytes.items line) fate holds.kept
+
+pub has-byte : (buffer : LineBuffer) (line : List ℕ) → Holds buffer line → buffer.blank ≡ false → 0 < length line
+has-byte buffer line holds some = go line (sym holds.blank ∙ some) where
+  go : (line : List ℕ) → is_blank line ≡ false → 0 < length line
+  go [] some = cc
+  go (byte ∷ line) some = omega arith
 
 -- want of memory changes nothing
 pub answer-wants : (log : List Entry) (line : List ℕ) (want : Want) → MayMeet (Some want) line → IsAnswerTo (Wants want) log log line
@@ -58,19 +68,21 @@ answer-kept before after buffer line text holds fate some is goes =
     }
 
 pub answer-kept-wants : (before after : List Entry) (buffer : LineBuffer) (line : List ℕ) (want : Want) → Holds buffer line → buffer.fate ≡ Kept
-    → (length buffer.bytes.items ≤ longest_line → MayMeet (Some want) buffer.bytes.items) → after ≡ before → IsAnswerTo (Wants want) before after line
-answer-kept-wants before after buffer line want holds fate may same =
+    → buffer.blank ≡ false → (0 < length buffer.bytes.items → length buffer.bytes.items ≤ longest_line → MayMeet (Some want) buffer.bytes.items) → after ≡ before → IsAnswerTo (Wants want) before after line
+answer-kept-wants before after buffer line want holds fate some may same =
     let kept = kept-whole buffer line holds fate in
-    let meets : length line ≤ longest_line → MayMeet (Some want) line = rw kept.0 at may in
-    record { met = Some want; may = meets kept.1; text = refl; log = same }
+    let meets : 0 < length line → length line ≤ longest_line → MayMeet (Some want) line = rw kept.0 at may in
+    record { met = Some want; may = meets (has-byte buffer line holds some) kept.1; text = refl; log = same }
 
--- a line can meet what its command can
-pub line-meets : (want : Want) (line : List ℕ) (command : Command) → length line ≤ longest_line → command_of line ≡ Ok command → CanMeet want command → MayMeet (Some want) line
-line-meets want.Line line command short reads can = tt
-line-meets want.Entry line command short reads can = record { short = short; entry = can.0; reads = reads ∙ ap (λ (c : Command). Ok c) can.1 }
+-- a line can meet what its command meets
+line-meets : (line : List ℕ) (command : Command) → 0 < length line → length line ≤ longest_line → command_of line ≡ Ok command → MayMeet (Some (want_of command)) line
+line-meets line (Submit entry) some short reads = record { short = short; entry = entry; reads = reads }
+line-meets line (Ask pg) some short reads = some
+line-meets line (Locate pool name) some short reads = some
+line-meets line (Trace code epochs) some short reads = some
 
 -- what a line met, from what its command met
-pub wants-of : {T : Type 0} (r : Result T Want) (line : List ℕ) (command : Command) → command_of line ≡ Ok command → IfErr r (λ want. CanMeet want command)
-    → IfErr r (λ want. length line ≤ longest_line → MayMeet (Some want) line)
-wants-of (Ok x) line command reads can = tt
-wants-of (Err want) line command reads can = λ short. line-meets want line command short reads can
+pub wants-of : {T : Type 0} (r : Result T Want) (line : List ℕ) (command : Command) → command_of line ≡ Ok command → IfErr r (λ want. want ≡ want_of command)
+    → IfErr r (λ want. 0 < length line → length line ≤ longest_line → MayMeet (Some want) line)
+wants-of (Ok x) line command reads is = tt
+wants-of (Err want) line command reads is = λ some short. rw is (line-meets line command some short reads)

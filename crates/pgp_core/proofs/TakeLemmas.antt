@@ -1,6 +1,6 @@
 -- What one entry more does to a log.
 use Rattle.std.proofs.lemmas.Bool.Decides.{leb_tells}
-use Rattle.std.proofs.Common.{◌≡◌, ◌≢◌, ℕ, ◌<◌, ◌≤◌, ◌||◌, inl, inr, length-append, List, [], ◌∷◌, ◌++◌, Bool, true, false, Option, Some, None, IfSome, length, nat_le, if◌then◌else◌, refl, sym, ap, ◌∙◌, append-nil, arith}
+use Rattle.std.proofs.Common.{◌≡◌, ◌≢◌, ℕ, ◌<◌, ◌≤◌, ◌||◌, inl, inr, length-append, List, [], ◌∷◌, ◌++◌, Bool, true, false, Option, Some, None, is_some, IfSome, length, nat_le, if◌then◌else◌, refl, sym, ap, ◌∙◌, append-nil, arith}
 use Rattle.std.specs.List.{list_any, last_or, filter_map}
 use Rattle.std.specs.Option.{option_map, option_or, option_map_or}
 use Rattle.pgp_ids.specs.declared.entry.Entry.{Entry}
@@ -34,6 +34,12 @@ incs-other (entry.Inc other ∷ log) new none = ap (λ rest. other ∷ rest) (in
 incs-other (entry.Info info ∷ log) new none = incs-other log new none
 incs-other (entry.Entries report ∷ log) new none = incs-other log new none
 incs-other (entry.Close ∷ log) new none = incs-other log new none
+
+pub incs-same : (log : List Entry) (new : Entry) → is_some (inc_of new) ≡ false → incs_of (log ++ new ∷ []) ≡ incs_of log
+incs-same log (entry.Inc inc) none = cc
+incs-same log (entry.Info info) none = incs-other log (entry.Info info) refl
+incs-same log (entry.Entries report) none = incs-other log (entry.Entries report) refl
+incs-same log entry.Close none = incs-other log entry.Close refl
 
 last_of : (first : Incremental) (incs : List Incremental) (inc : Incremental) → last_or None (first ∷ (incs ++ inc ∷ [])) ≡ Some inc
 last_of first [] inc = refl

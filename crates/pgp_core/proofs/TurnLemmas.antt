@@ -88,28 +88,17 @@ stops_in_chunk_write bounds script output from mid to start now flushed then chu
   answered = inl (stop bounds start reads.bytes (after_flush bounds script output start now flushed reads.bytes wrote none reads.after));
 }
 
-ended : (bounds : Bounds) (script : Script) (output : Output) (from mid to start now flushed : Option (List ℕ))
-    → Reads bounds script from mid start now → Appends now flushed script.output.pending.items → output.pending.items ≡ [] → Consumes mid to []
-    → Reads bounds (record script { output = output }) from to start flushed
-ended bounds script output from mid to start now flushed reads wrote none more = record {
-  bytes = reads.bytes;
-  consumed = subst (Consumes from to) (append-nil reads.bytes) (Consumes-trans from mid to reads.bytes [] reads.consumed more);
-  after = after_flush bounds script output start now flushed reads.bytes wrote none reads.after;
-}
-
-pub ends : (bounds : Bounds) (script : Script) (output : Output) (from mid to start now flushed then : Option (List ℕ))
-    → Reads bounds script from mid start now → Appends now flushed script.output.pending.items → output.pending.items ≡ [] → Consumes mid to [] → IsAtEnd to
-    → ((bounds : Bounds) (start : Option (List ℕ)) (bytes : List ℕ) → IsAfter bounds (record script { output = output }) start flushed bytes → Answered bounds start then bytes)
+pub ends : (bounds : Bounds) (script : Script) (from to start now then : Option (List ℕ))
+    → Reads bounds script from to start now → IsAtEnd to
+    → ((bounds : Bounds) (start : Option (List ℕ)) (bytes : List ℕ) → IsAfter bounds script start now bytes → Answered bounds start then bytes)
     → AllAnswered bounds from to start then
-ends bounds script output from mid to start now flushed then reads wrote none more end finish =
-    let read = ended bounds script output from mid to start now flushed reads wrote none more in
-    record { script = read.bytes; consumed = read.consumed; ended = end; answered = finish bounds start read.bytes read.after }
+ends bounds script from to start now then reads end finish =
+    record { script = reads.bytes; consumed = reads.consumed; ended = end; answered = finish bounds start reads.bytes reads.after }
 
-pub stops_at_end : (bounds : Bounds) (script : Script) (output : Output) (from mid to start now flushed then : Option (List ℕ)) (failed : Bool)
-    → Reads bounds script from mid start now → Appends now flushed script.output.pending.items → output.pending.items ≡ [] → Consumes mid to [] → IsAtEnd to
-    → ((bounds : Bounds) (start : Option (List ℕ)) (bytes : List ℕ) → IsAfter bounds (record script { output = output }) start flushed bytes → BrokenAtEnd bounds start then bytes)
+pub stops_at_end : (bounds : Bounds) (script : Script) (from to start now then : Option (List ℕ)) (failed : Bool)
+    → Reads bounds script from to start now → IsAtEnd to
+    → ((bounds : Bounds) (start : Option (List ℕ)) (bytes : List ℕ) → IsAfter bounds script start now bytes → BrokenAtEnd bounds start then bytes)
     → failed ≡ true
     → WriteStopped bounds from to start then failed
-stops_at_end bounds script output from mid to start now flushed then failed reads wrote none more end stop cause =
-    let read = ended bounds script output from mid to start now flushed reads wrote none more in
-    record { script = read.bytes; consumed = read.consumed; cause = cause; answered = inr (end, stop bounds start read.bytes read.after) }
+stops_at_end bounds script from to start now then failed reads end stop cause =
+    record { script = reads.bytes; consumed = reads.consumed; cause = cause; answered = inr (end, stop bounds start reads.bytes reads.after) }

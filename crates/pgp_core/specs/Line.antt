@@ -14,7 +14,7 @@ use Rattle.pgp_core.specs.declared.want.Want.{Want}
 abbrev pub KeptBy : Fate → List ℕ → List ℕ → Type 0
 KeptBy Kept bytes line = (bytes ≡ line) × (length line ≤ longest_line)
 KeptBy TooLong bytes line = longest_line < length line
-KeptBy NoMemory bytes line = Unit {0}
+KeptBy NoMemory bytes line = 0 < length line
 
 -- the buffer is that of this line
 pub record Holds (buffer : LineBuffer) (line : List ℕ) : Type 0 where

@@ -1,5 +1,5 @@
 -- The text of a script: what is written for its lines, where some of them may have met want of memory.
-use Rattle.std.specs.Prelude.{◌≡◌, ℕ, ◌≤◌, List, [], ◌∷◌, ◌++◌, Option, Some, None, Ok, nat_lt, length, take, flat_map, slice_index_or, if◌then◌else◌}
+use Rattle.std.specs.Prelude.{◌≡◌, ℕ, ◌<◌, ◌≤◌, List, [], ◌∷◌, ◌++◌, Option, Some, None, Ok, nat_lt, length, take, flat_map, slice_index_or, if◌then◌else◌}
 use Rattle.std.specs.List.{range_with_len}
 use Rattle.pgp_ids.specs.declared.entry.Entry.{Entry}
 use Rattle.pgp_ids.specs.declared.refusal.Refusal.TheVariants as refusal
@@ -24,10 +24,11 @@ pub record IsEntryLine (line : List ℕ) : Type 0 where
   pub entry : Entry
   pub reads : command_of line ≡ Ok (Submit entry)
 
--- a line can meet this want of memory: that of an entry only where it was read as one
+-- a line can meet this want of memory: that of a line only where it has a byte, that of an entry only where it was read
+-- as one
 abbrev pub MayMeet : Option Want → List ℕ → Type 0
 MayMeet None line = Unit {0}
-MayMeet (Some want.Line) line = Unit {0}
+MayMeet (Some want.Line) line = 0 < length line
 MayMeet (Some want.Entry) line = IsEntryLine line
 
 -- the text for a line that met want of memory

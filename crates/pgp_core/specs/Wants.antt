@@ -1,12 +1,12 @@
--- Which want of memory a command can meet.
-use Rattle.std.specs.Prelude.{◌≡◌}
-use Rattle.pgp_ids.specs.declared.entry.Entry.{Entry}
+-- Which want of memory a command meets, if any.
 use Rattle.pgp_lines.specs.declared.command.Command.{Command}
-use Rattle.pgp_lines.specs.declared.command.Command.TheVariants.{Submit}
+use Rattle.pgp_lines.specs.declared.command.Command.TheVariants.{Submit, Ask, Locate, Trace}
 use Rattle.pgp_core.specs.declared.want.Want.{Want}
 use Rattle.pgp_core.specs.declared.want.Want.TheVariants as want
 
--- the command can meet this want of memory: that of an entry only where it submits one
-abbrev pub CanMeet : Want → Command → Type 0
-CanMeet want.Line command = Unit {0}
-CanMeet want.Entry command = (entry : Entry) × (command ≡ Submit entry)
+-- that of an entry where it submits one
+abbrev pub want_of : Command → Want
+want_of (Submit entry) = want.Entry
+want_of (Ask pg) = want.Line
+want_of (Locate pool name) = want.Line
+want_of (Trace code epochs) = want.Line

@@ -1,11 +1,11 @@
 //! The answer to a line.
-ghost use Rattle.std.specs.Prelude.{◌≡◌, ◌≤◌, ◌++◌, ◌∷◌, [], length, IfOk, IsOk, IfErr, OnErr, Some};
+ghost use Rattle.std.specs.Prelude.{◌≡◌, ◌<◌, ◌≤◌, ◌++◌, ◌∷◌, [], length, IfOk, IsOk, IfErr, OnErr, Some, None};
 ghost use Rattle.pgp_text.specs.Command.{command_of, IsInRange};
 ghost use Rattle.pgp_text.specs.Reply.{reply_text};
 ghost use Rattle.pgp_core.specs.Answer.{reply_of, log_after, traced_reply, submitted_reply, log_with, line_text, line_log, long_text};
 ghost use Rattle.pgp_core.specs.Fits.{fits};
 ghost use Rattle.pgp_core.specs.Script.{MayMeet};
-ghost use Rattle.pgp_core.specs.Wants.{CanMeet};
+ghost use Rattle.pgp_core.specs.Wants.{want_of};
 
 use super::history::history;
 use super::log::Log;
@@ -22,16 +22,15 @@ use std::alloc::{AllocError, Global};
 pub fn answer_line(alloc: Global, line: &[u8], log: &mut Log) -> Result<Vec<u8>, Want>
     ensures text { IfOk result (λ text. text.items ≡ line_text log.old line.now ++ 10 ∷ []) }
     ensures log { IsOk result → log.new ≡ line_log log.old line.now }
-    ensures wants { IfErr result (λ want. length line.now ≤ 1048576 → MayMeet (Some want) line.now) }
+    ensures wants { IfErr result (λ want. 0 < length line.now → length line.now ≤ 1048576 → MayMeet (Some want) line.now) }
     ensures kept { OnErr result (log.new ≡ log.old) }
 {
     match read_line(alloc, line) {
         Ok(command) => answer_command(alloc, command, log),
         Err(TextFault::Memory) => Err(Want::Line),
-        Err(fault) => match write_line(alloc, &Reply::Refused(Refused::Line(fault))) {
-            Ok(text) => Ok(text),
-            Err(_) => Err(Want::Line),
-        },
+        Err(fault) => {
+            write_line(alloc, &Reply::Refused(Refused::Line(fault))).or(Err(Want::Line))
+        }
     }
 }
 
@@ -41,23 +40,16 @@ fn answer_command(alloc: Global, command: Command, log: &mut Log) -> Result<Vec<
     requires { IsInRange command }
     ensures text { IfOk result (λ text. text.items ≡ reply_text (reply_of log.old command) ++ 10 ∷ []) }
     ensures log { IsOk result → log.new ≡ log_after log.old command }
-    ensures wants { IfErr result (λ want. CanMeet want command) }
+    ensures wants { IfErr result (λ want. want ≡ want_of command) }
     ensures kept { OnErr result (log.new ≡ log.old) }
 {
     match command {
-        Command::Submit(entry) => match submit(alloc, entry, log) {
-            Ok(text) => Ok(text),
-            Err(_) => Err(Want::Entry),
-        },
+        Command::Submit(entry) => submit(alloc, entry, log).or(Err(Want::Entry)),
         Command::Ask(_pg) => unreachable!(),
-        Command::Locate { pool, name } => match write_line(alloc, &log.locate(pool, &name)) {
-            Ok(text) => Ok(text),
-            Err(_) => Err(Want::Line),
-        },
-        Command::Trace { code, epochs } => match trace(alloc, code, epochs) {
-            Ok(text) => Ok(text),
-            Err(_) => Err(Want::Line),
-        },
+        Command::Locate { pool, name } => {
+            write_line(alloc, &log.locate(pool, &name)).or(Err(Want::Line))
+        }
+        Command::Trace { code, epochs } => trace(alloc, code, epochs).or(Err(Want::Line)),
     }
 }
 
@@ -80,26 +72,41 @@ fn write_line(alloc: Global, reply: &Reply) -> Result<Vec<u8>, AllocError>
     Ok(text)
 }
 
-/// Has the log take an entry. The text is made first, so that nothing can fail once the log has the entry.
+/// The text of the answer to an entry, with a line feed. Where the log takes the entry, it has it from now on.
 fn submit(alloc: Global, entry: Entry, log: &mut Log) -> Result<Vec<u8>, AllocError>
     ensures text { IfOk result (λ text. text.items ≡ reply_text (submitted_reply log.old entry (fits log.old entry)) ++ 10 ∷ []) }
     ensures log { IsOk result → log.new ≡ log_with log.old entry (fits log.old entry) }
     ensures kept { OnErr result (log.new ≡ log.old) }
 {
     match log.judge(&entry) {
-        Ok(()) => {
-            let reply = Reply::Accepted {
-                op: EntryOp::of(&entry),
-                count: log.count() + 1,
-                epoch: log.epoch_with(&entry),
-            };
-            let text = write_line(alloc, &reply)?;
-            log.take(entry)?;
-            Ok(text)
-        }
+        Ok(()) => accept(alloc, entry, log),
         Err(Refusal::Memory) => Err(AllocError),
         Err(refusal) => write_line(alloc, &Reply::Refused(Refused::Entry(refusal))),
     }
+}
+
+/// Has the log take an entry that fits. The text is made first, so that nothing can fail once the log has the entry.
+fn accept(alloc: Global, entry: Entry, log: &mut Log) -> Result<Vec<u8>, AllocError>
+    requires { fits log.old entry ≡ None }
+    ensures text { IfOk result (λ text. text.items ≡ reply_text (submitted_reply log.old entry None) ++ 10 ∷ []) }
+    ensures log { IsOk result → log.new ≡ log.old ++ entry ∷ [] }
+    ensures kept { OnErr result (log.new ≡ log.old) }
+{
+    let text = write_accepted(alloc, &entry, log)?;
+    log.take(entry)?;
+    Ok(text)
+}
+
+/// The text of the answer to an entry that the log takes, with a line feed.
+fn write_accepted(alloc: Global, entry: &Entry, log: &Log) -> Result<Vec<u8>, AllocError>
+    ensures { IfOk result (λ text. text.items ≡ reply_text (submitted_reply log.now entry.now None) ++ 10 ∷ []) }
+{
+    let reply = Reply::Accepted {
+        op: EntryOp::of(entry),
+        count: log.count() + 1,
+        epoch: log.epoch_with(entry),
+    };
+    write_line(alloc, &reply)
 }
 
 /// The answer to a trace of a group whose pool is of this kind, with a line feed.

@@ -100,7 +100,7 @@ impl LineBuffer {
     {
         self.started = self.started || !piece.is_empty();
         self.blank = self.blank && all_blank(piece);
-        if self.fate == Fate::Kept {
+        if self.fate == Fate::Kept && !piece.is_empty() {
             self.fate = if piece.len() > LONGEST_LINE
                 || self.bytes.len() > LONGEST_LINE - piece.len()
             {

@@ -1,5 +1,5 @@
 //! The log of a script, and what it takes next.
-ghost use Rattle.std.specs.Prelude.{◌≡◌, ◌≢◌, ◌≤◌, ℕ, List, [], ◌∷◌, ◌++◌, length, false, true, None, Some, IsOk, OnOk, OnErr, IfErr, IfSome, IfNone, option_map};
+ghost use Rattle.std.specs.Prelude.{◌≡◌, ◌≢◌, ◌≤◌, ℕ, List, [], ◌∷◌, ◌++◌, length, false, true, is_some, None, Some, Err, IsOk, OnOk, OnErr, IfErr, IfSome, IfNone, option_map};
 ghost use Rattle.pgp_ids.specs.declared.entry.Entry.{Entry as AnyEntry};
 ghost use Rattle.pgp_ids.specs.declared.incremental.Incremental.{Incremental as Step};
 ghost use Rattle.pgp_ids.specs.declared.refusal.Refusal.TheVariants.{Memory};
@@ -89,10 +89,12 @@ impl Log {
         }
     }
 
-    /// Why the log doesn't take the entry, if it doesn't. `Memory` may come in place of any answer.
+    /// Why the log doesn't take the entry, if it doesn't. `Memory` comes only where there was none to look at an incremental
+    /// of an open log.
     pub fn judge(&self, entry: &Entry) -> Result<(), Refusal>
         ensures ok { IsOk result → fits self.now entry.now ≡ None }
         ensures err { IfErr result (λ refusal. refusal ≢ Memory → fits self.now entry.now ≡ Some refusal) }
+        ensures wants { result ≡ Err Memory → (is_closed self.now ≡ false) × (is_some (inc_of entry.now) ≡ true) }
     {
         if self.closed {
             return Err(Refusal::Closed);
@@ -106,10 +108,12 @@ impl Log {
         Ok(())
     }
 
-    /// What is wrong with the entry itself, by the map that the log makes. `Memory` may come in place of any answer.
+    /// What is wrong with the entry itself, by the map that the log makes. `Memory` comes only where there was none to look at
+    /// an incremental.
     fn fault_of(&self, entry: &Entry) -> Option<Refusal>
         ensures none { IfNone result (entry_fault self.now entry.now ≡ None) }
         ensures some { IfSome result (λ refusal. refusal ≢ Memory → entry_fault self.now entry.now ≡ Some refusal) }
+        ensures wants { result ≡ Some Memory → is_some (inc_of entry.now) ≡ true }
     {
         match entry {
             Entry::Inc(inc) => match self.map.check(inc) {
@@ -140,7 +144,7 @@ impl Log {
     {
         self.entries.reserve(1)?;
         extend_map(&mut self.map, &entry)?;
-        self.raw_sets.clear();
+        self.raw_sets.follow(&entry);
         self.closed = is_close(&entry);
         self.entries.push(entry)?;
         Ok(())

@@ -33,6 +33,7 @@ impl Output {
         ensures empty { OnOk result (self.new.pending.items ≡ []) }
         ensures err { OnErr result (FrontWent (W.contents writer.old) (W.contents writer.new) self.old.pending.items) }
         ensures told { OnErr result (W.failed writer.new ≡ true) }
+        ensures kept { OnOk result (W.failed writer.new ≡ W.failed writer.old) }
     {
         write_out(writer, self.pending.as_slice())?;
         self.pending.clear();
@@ -45,12 +46,10 @@ impl Output {
         ensures empty { OnOk result (self.new.pending.items ≡ []) }
         ensures err { OnErr result (FrontWent (W.contents writer.old) (W.contents writer.new) self.old.pending.items) }
         ensures told { OnErr result (W.failed writer.new ≡ true) }
+        ensures kept { OnOk result (W.failed writer.new ≡ W.failed writer.old) }
     {
         self.flush(writer)?;
-        match writer.flush() {
-            Ok(()) => Ok(()),
-            Err(_) => Err(WriteFault),
-        }
+        writer.flush().or(Err(WriteFault))
     }
 
     /// Puts text after what is pending. Where there is no memory for it, all of it is written at once.
@@ -60,6 +59,7 @@ impl Output {
         ensures err { OnErr result (FrontWent (W.contents writer.old) (W.contents writer.new)
             (self.old.pending.items ++ text.now)) }
         ensures told { OnErr result (W.failed writer.new ≡ true) }
+        ensures kept { OnOk result (W.failed writer.new ≡ W.failed writer.old) }
     {
         match self.pending.extend_from_slice(text) {
             Ok(()) if self.pending.len() <= PENDING_LIMIT => Ok(()),
@@ -77,13 +77,17 @@ pub fn write_out<W: Sink>(writer: &mut W, text: &[u8]) -> Result<(), WriteFault>
     ensures ok { OnOk result (Appends (W.contents writer.old) (W.contents writer.new) text.now) }
     ensures err { OnErr result (FrontWent (W.contents writer.old) (W.contents writer.new) text.now) }
     ensures told { OnErr result (W.failed writer.new ≡ true) }
+    ensures kept { OnOk result (W.failed writer.new ≡ W.failed writer.old) }
 {
     let mut rest = text;
     while !rest.is_empty() {
-        match writer.write(rest) {
-            Ok(0) | Err(_) => return Err(WriteFault),
-            Ok(n) => rest = &rest[n..],
+        let Ok(count) = writer.write(rest) else {
+            return Err(WriteFault);
+        };
+        if count == 0 {
+            return Err(WriteFault);
         }
+        rest = &rest[count..];
     }
     Ok(())
 }

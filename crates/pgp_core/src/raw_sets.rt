@@ -1,13 +1,15 @@
 //! The raw sets of placement groups, kept from question to question.
 
-ghost use Rattle.std.specs.Prelude.{◌≡◌, List, Some};
+ghost use Rattle.std.specs.Prelude.{◌≡◌, List, [], ◌∷◌, ◌++◌, Some, is_some};
+ghost use Rattle.pgp_ids.specs.declared.entry.Entry.{Entry as AnyEntry};
 ghost use Rattle.pgp_ids.specs.declared.incremental.Incremental.{Incremental as Step};
+ghost use Rattle.pgp_group.specs.Entries.{inc_of, incs_of};
 ghost use Rattle.pgp_map.specs.Held.{HasGroup};
 ghost use Rattle.pgp_map.specs.MapOf.{IsMapOf};
 ghost use Rattle.pgp_sets.specs.Sets.{membership};
 ghost use Rattle.pgp_core.specs.RawSets.{AreRawSets};
 
-use pgp_ids::{Membership, Osds, PgId};
+use pgp_ids::{Entry, Membership, Osds, PgId};
 use pgp_map::OsdMap;
 use pgp_sets::{filter, raw};
 use std::alloc::Global;
@@ -29,11 +31,22 @@ impl RawSets {
         }
     }
 
-    /// Forgets all of them: the map changes.
-    pub fn clear(&mut self)
+    /// Stays true of the map after an entry that the log takes: where it is an incremental, it may move any group.
+    pub fn follow(&mut self, entry: &Entry)
+        ensures { (log : List AnyEntry) → AreRawSets (incs_of log) self.old → AreRawSets (incs_of (log ++ entry.now ∷ [])) self.new }
+    {
+        if may_move(entry) {
+            self.clear();
+        }
+    }
+
+    /// Forgets all of them.
+    fn clear(&mut self)
         ensures { (incs : List Step) → AreRawSets incs self.new }
     {
-        self.known.clear();
+        if !self.known.is_empty() {
+            self.known.clear();
+        }
     }
 
     /// Where the group lies by the map. Its raw set is kept, where there is memory for it.
@@ -51,4 +64,11 @@ impl RawSets {
         let _kept: Result<_, _> = self.known.insert(*pg, found);
         members
     }
+}
+
+/// The entry is an incremental, which may move any group.
+fn may_move(entry: &Entry) -> bool
+    ensures { result ≡ is_some (inc_of entry.now) }
+{
+    matches!(entry, Entry::Inc(_))
 }

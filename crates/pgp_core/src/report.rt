@@ -1,5 +1,5 @@
 //! Which reports of members the log refuses, by its map.
-ghost use Rattle.std.specs.Prelude.{◌≡◌, ◌||◌, List};
+ghost use Rattle.std.specs.Prelude.{◌≡◌, ◌≢◌, ◌||◌, List, Some};
 ghost use Rattle.std.specs.List.{list_any};
 ghost use Rattle.pgp_ids.specs.declared.incremental.Incremental.{Incremental as Step};
 ghost use Rattle.pgp_map.specs.MapOf.{IsMapOf};
@@ -11,14 +11,16 @@ use pgp_map::OsdMap;
 
 /// Why the log refuses an info, if it does.
 pub fn info_fault(map: &OsdMap, info: &Info) -> Option<Refusal>
-    ensures { (incs : List Step) → IsMapOf incs map.now → result ≡ info_fault incs info.now }
+    ensures fault { (incs : List Step) → IsMapOf incs map.now → result ≡ info_fault incs info.now }
+    ensures told { result ≢ Some Refusal.Memory }
 {
     report_fault(map, &info.pg, &info.member, info.stamp, has_bad_info(info))
 }
 
 /// Why the log refuses a report of log entries, if it does.
 pub fn entries_fault(map: &OsdMap, report: &Report) -> Option<Refusal>
-    ensures { (incs : List Step) → IsMapOf incs map.now → result ≡ entries_fault incs report.now }
+    ensures fault { (incs : List Step) → IsMapOf incs map.now → result ≡ entries_fault incs report.now }
+    ensures told { result ≢ Some Refusal.Memory }
 {
     let bad = has_bad_entries(report.stamp, report.log.as_slice());
     report_fault(map, &report.pg, &report.member, report.stamp, bad)
@@ -32,7 +34,8 @@ fn report_fault(
     stamp: Epoch,
     bad: bool,
 ) -> Option<Refusal>
-    ensures { (incs : List Step) → IsMapOf incs map.now → result ≡ report_fault incs pg.now member.now stamp bad }
+    ensures fault { (incs : List Step) → IsMapOf incs map.now → result ≡ report_fault incs pg.now member.now stamp bad }
+    ensures told { result ≢ Some Refusal.Memory }
 {
     if !has_group(map, pg) {
         Some(Refusal::UnknownGroup)

@@ -1,12 +1,12 @@
 //! Answering a script: its lines are read, and the answer to each is written.
 
-ghost use Rattle.std.specs.Prelude.{◌≡◌, ℕ, ◌+◌, ◌-◌, ◌<◌, ◌≤◌, List, [], ◌∷◌, ◌++◌, Bool, true, false, Option, OnOk, OnErr, IfSome, IfNone, length};
+ghost use Rattle.std.specs.Prelude.{◌≡◌, ℕ, ◌+◌, ◌-◌, ◌<◌, ◌≤◌, List, [], ◌∷◌, ◌++◌, Bool, true, false, Option, OnOk, OnErr, IfOk, IfSome, IfNone, length};
 ghost use Rattle.std.specs.List.{list_any};
 ghost use Rattle.pgp_core.specs.Lines.{is_line_feed};
 ghost use Rattle.pgp_core.specs.Line.{Holds};
-ghost use Rattle.std.specs.Io.KnownBytes.{Appends};
+ghost use Rattle.std.specs.Io.KnownBytes.{Appends, IsAtEnd};
 ghost use Rattle.pgp_core.specs.Output.{FrontWent};
-ghost use Rattle.pgp_core.specs.Run.{IsAfter, Answered, CutOff, BrokenOff, BrokenAtEnd, IsDone, IsBeyond, Puts, PutsFront, AllAnswered, ReadStopped, WriteStopped, bounds_of, script_bounds};
+ghost use Rattle.pgp_core.specs.Run.{IsAfter, Answered, CutOff, BrokenOff, BrokenAtEnd, IsDone, IsBeyond, Puts, PutsFront, AllAnswered, ReadStopped, WriteStopped, Reads, bounds_of, script_bounds};
 
 use super::line::LineBuffer;
 use super::log::Log;
@@ -93,7 +93,8 @@ impl Script {
         ensures err { OnErr result ((line : List ℕ) → Holds self.old.line line
             → PutsFront (W.contents writer.old) (W.contents writer.new) self.old.output.pending.items self.old.log line) }
         ensures told { OnErr result (W.failed writer.new ≡ true) }
-        ensures kept { self.new ≡ record self.old { output = self.new.output; log = self.new.log } }
+        ensures kept { OnOk result (W.failed writer.new ≡ W.failed writer.old) }
+        ensures rest { self.new ≡ record self.old { output = self.new.output; log = self.new.log } }
     {
         let answer = self.line.answer(alloc, &mut self.log);
         self.output.put(answer.as_slice(), writer)
@@ -104,6 +105,7 @@ impl Script {
         ensures read { result ≡ ScriptFault.Read → Appends (W.contents writer.old) (W.contents writer.new) self.old.output.pending.items }
         ensures write { result ≡ ScriptFault.Write → FrontWent (W.contents writer.old) (W.contents writer.new) self.old.output.pending.items }
         ensures told { result ≡ ScriptFault.Write → W.failed writer.new ≡ true }
+        ensures kept { result ≡ ScriptFault.Read → W.failed writer.new ≡ W.failed writer.old }
     {
         match self.output.close(writer) {
             Ok(()) => ScriptFault::Read,
@@ -123,6 +125,7 @@ impl Script {
             → IsAfter bounds self.old start (W.contents writer.old) bytes
             → BrokenOff bounds start (W.contents writer.new) (bytes ++ 10 ∷ more)) }
         ensures told { OnErr result (W.failed writer.new ≡ true) }
+        ensures kept { OnOk result (W.failed writer.new ≡ W.failed writer.old) }
     {
         self.put_answer(alloc, writer)?;
         self.line.clear();
@@ -155,6 +158,8 @@ impl Script {
             → IsAfter bounds self.old start (W.contents writer.old) bytes
             → BrokenOff bounds start (W.contents writer.new) (bytes ++ (chunk.now ++ more)) }
         ensures told { result ≡ Err ScriptFault.Write → W.failed writer.new ≡ true }
+        ensures kept { OnOk result (W.failed writer.new ≡ W.failed writer.old) }
+        ensures kept_at_read { result ≡ Err ScriptFault.Read → W.failed writer.new ≡ W.failed writer.old }
     {
         let mut rest = chunk;
         while !rest.is_empty() {
@@ -199,6 +204,8 @@ impl Script {
             → IsAfter bounds self.old start (W.contents writer.old) bytes
             → BrokenOff bounds start (W.contents writer.new) (bytes ++ chunk.now) }
         ensures told { result ≡ Err ScriptFault.Write → W.failed writer.new ≡ true }
+        ensures kept { OnOk result (W.failed writer.new ≡ W.failed writer.old) }
+        ensures kept_at_read { result ≡ Err ScriptFault.Read → W.failed writer.new ≡ W.failed writer.old }
     {
         if chunk.len() as u64 <= self.left.bytes {
             return self.take_allowed(alloc, chunk, writer);
@@ -219,6 +226,7 @@ impl Script {
             → IsAfter bounds self.old start (W.contents writer.old) bytes
             → BrokenAtEnd bounds start (W.contents writer.new) bytes) }
         ensures told { OnErr result (W.failed writer.new ≡ true) }
+        ensures kept { OnOk result (W.failed writer.new ≡ W.failed writer.old) }
     {
         if self.line.started {
             self.put_answer(alloc, writer)
@@ -236,9 +244,47 @@ impl Script {
             → IsAfter bounds self.old start (W.contents writer.old) bytes
             → BrokenAtEnd bounds start (W.contents writer.new) bytes) }
         ensures told { OnErr result (W.failed writer.new ≡ true) }
+        ensures kept { OnOk result (W.failed writer.new ≡ W.failed writer.old) }
     {
         self.put_last(alloc, writer)?;
         self.output.close(writer)
+    }
+}
+
+impl Script {
+    /// Writes what is pending, reads once, and answers the lines that end in what was read. Gives how many bytes that was:
+    /// none only at the end.
+    fn read_on<R: Source, W: Sink>(
+        &mut self,
+        alloc: Global,
+        chunk: &mut [u8],
+        reader: &mut R,
+        writer: &mut W,
+    ) -> Result<usize, ScriptFault>
+        ensures ok { OnOk result ((bounds : Bounds) (from start : Option (List ℕ))
+            → Reads bounds self.old from (R.remaining reader.old) start (W.contents writer.old)
+            → Reads bounds self.new from (R.remaining reader.new) start (W.contents writer.new)) }
+        ensures left { IfOk result (λ count. self.new.left.bytes + count ≡ self.old.left.bytes) }
+        ensures end { IfOk result (λ count. count ≡ 0 → 0 < length chunk.old → IsAtEnd (R.remaining reader.new)) }
+        ensures read { result ≡ Err ScriptFault.Read → (bounds : Bounds) (from start : Option (List ℕ))
+            → Reads bounds self.old from (R.remaining reader.old) start (W.contents writer.old)
+            → ReadStopped bounds from (R.remaining reader.new) start (W.contents writer.new) (R.failed reader.new) }
+        ensures write { result ≡ Err ScriptFault.Write → (bounds : Bounds) (from start : Option (List ℕ))
+            → Reads bounds self.old from (R.remaining reader.old) start (W.contents writer.old)
+            → WriteStopped bounds from (R.remaining reader.new) start (W.contents writer.new) (W.failed writer.new) }
+        ensures kept { OnOk result ((R.failed reader.new ≡ R.failed reader.old) × (W.failed writer.new ≡ W.failed writer.old)) }
+        ensures kept_at_read { result ≡ Err ScriptFault.Read → W.failed writer.new ≡ W.failed writer.old }
+        ensures kept_at_write { result ≡ Err ScriptFault.Write → R.failed reader.new ≡ R.failed reader.old }
+    {
+        self.output.close(writer)?;
+        let count = match reader.read(chunk) {
+            Ok(count) => count,
+            Err(_) => return Err(ScriptFault::Read),
+        };
+        if let Err(fault) = self.take(alloc, &chunk[..count], writer) {
+            return Err(fault);
+        }
+        Ok(count)
     }
 }
 
@@ -254,6 +300,9 @@ pub fn run_script<R: Source, W: Sink>(
         (W.contents writer.old) (W.contents writer.new) (R.failed reader.new) }
     ensures write { result ≡ Err ScriptFault.Write → WriteStopped script_bounds (R.remaining reader.old) (R.remaining reader.new)
         (W.contents writer.old) (W.contents writer.new) (W.failed writer.new) }
+    ensures kept { OnOk result ((R.failed reader.new ≡ R.failed reader.old) × (W.failed writer.new ≡ W.failed writer.old)) }
+    ensures kept_at_read { result ≡ Err ScriptFault.Read → W.failed writer.new ≡ W.failed writer.old }
+    ensures kept_at_write { result ≡ Err ScriptFault.Write → R.failed reader.new ≡ R.failed reader.old }
 {
     run_script_within(alloc, reader, writer, 1_000_000, 4_294_967_296)
 }
@@ -276,6 +325,9 @@ pub fn run_script_within<R: Source, W: Sink>(
         (R.remaining reader.new) (W.contents writer.old) (W.contents writer.new) (R.failed reader.new) }
     ensures write { result ≡ Err ScriptFault.Write → WriteStopped (bounds_of max_lines max_bytes) (R.remaining reader.old)
         (R.remaining reader.new) (W.contents writer.old) (W.contents writer.new) (W.failed writer.new) }
+    ensures kept { OnOk result ((R.failed reader.new ≡ R.failed reader.old) × (W.failed writer.new ≡ W.failed writer.old)) }
+    ensures kept_at_read { result ≡ Err ScriptFault.Read → W.failed writer.new ≡ W.failed writer.old }
+    ensures kept_at_write { result ≡ Err ScriptFault.Write → R.failed reader.new ≡ R.failed reader.old }
 {
     let bounds = Bounds {
         lines: max_lines,
@@ -297,20 +349,13 @@ fn run_within<R: Source, W: Sink>(
         (W.contents writer.old) (W.contents writer.new) (R.failed reader.new) }
     ensures write { result ≡ Err ScriptFault.Write → WriteStopped bounds (R.remaining reader.old) (R.remaining reader.new)
         (W.contents writer.old) (W.contents writer.new) (W.failed writer.new) }
+    ensures kept { OnOk result ((R.failed reader.new ≡ R.failed reader.old) × (W.failed writer.new ≡ W.failed writer.old)) }
+    ensures kept_at_read { result ≡ Err ScriptFault.Read → W.failed writer.new ≡ W.failed writer.old }
+    ensures kept_at_write { result ≡ Err ScriptFault.Write → R.failed reader.new ≡ R.failed reader.old }
 {
     let mut chunk = [0u8; CHUNK];
     let mut script = Script::new(alloc, bounds);
-    loop {
-        script.output.close(writer)?;
-        let count = match reader.read(&mut chunk) {
-            Ok(0) => break,
-            Ok(count) => count,
-            Err(_) => return Err(ScriptFault::Read),
-        };
-        if let Err(fault) = script.take(alloc, &chunk[..count], writer) {
-            return Err(fault);
-        }
-    }
+    while script.read_on(alloc, &mut chunk, reader, writer)? != 0 {}
     script.finish(alloc, writer)?;
     Ok(())
 }

@@ -6,9 +6,11 @@ use Rattle.clap.specs.Simple.{App, on_top, new_app, new_shape, with_subcommand}
 use Rattle.clap.specs.declared.error.kind.ErrorKind.{ErrorKind}
 use Rattle.clap.specs.declared.error.kind.ErrorKind.TheVariants.{DisplayHelp, DisplayVersion}
 
--- `pgpeer run`, where `run` is required and has no options
+-- `pgpeer run`, where `run` is required and has no options, and `pgpeer --version`
 abbrev pub pgpeer_app : App
-pgpeer_app = with_subcommand (on_top (λ top. record top { subcommand_required = true }) (new_app (codes "pgpeer"))) (new_shape (codes "run"))
+pgpeer_app =
+    with_subcommand (on_top (λ top. record top { has_version = true; subcommand_required = true }) (new_app (codes "pgpeer")))
+    (new_shape (codes "run"))
 
 -- the kinds of fault that the words may have, the program's name first
 abbrev pub faults_in : List (List ℕ) → Kinds

@@ -4,9 +4,9 @@
 //! command line asks for, and `pgp_core::run_script` answers a script.
 #![tactic(auto)]
 
-use clap::Error;
-use status::{USAGE, status_of};
+use status::{status_of, without_words};
 use std::env;
+use std::io::ErrorKind;
 use std::process::ExitCode;
 use streams::Watched;
 
@@ -20,20 +20,18 @@ mod tests;
 fn main(rt: HostRuntime) -> ExitCode {
     let alloc = rt.alloc();
     let words = match env::args(&rt) {
-        Ok(args) => args.collect::<Vec<String>>(alloc),
-        Err(_) => Err(std::alloc::AllocError),
+        Ok(args) => args.collect::<Vec<String>>(alloc).or(Err(ErrorKind::OutOfMemory)),
+        Err(error) => Err(error.kind()),
     };
-    match words {
-        Ok(words) => ExitCode::from(status_of(
+    let status = match words {
+        Ok(words) => status_of(
             alloc,
             words.as_slice(),
             &mut Watched::new(rt.stdin()),
             &mut Watched::new(rt.stdout()),
             &mut rt.stderr(),
-        )),
-        Err(error) => {
-            let _ = Error::from(error).print(&rt);
-            ExitCode::from(USAGE)
-        }
-    }
+        ),
+        Err(kind) => without_words(kind, &mut rt.stderr()),
+    };
+    ExitCode::from(status)
 }

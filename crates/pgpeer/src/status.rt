@@ -1,16 +1,17 @@
 //! What the program does, over any reader and writers, and the status that it ends with.
 
-ghost use Rattle.std.specs.Prelude.{◌≡◌, ◌≢◌, ◌⊎◌, true, map, string_bytes};
+ghost use Rattle.std.specs.Prelude.{◌≡◌, ◌≢◌, ◌⊎◌, true, OnOk, OnErr, map, string_bytes};
 ghost use Rattle.std.specs.Io.KnownBytes.{Appends};
 ghost use Rattle.clap.specs.Values.{kind_of};
 ghost use Rattle.pgpeer.specs.Options.{AsksForRun, AsksForHelp, IsRequest};
+ghost use Rattle.pgpeer.specs.Status.{Grows};
 ghost use Rattle.pgp_core.specs.Run.{AllAnswered, Stopped, script_bounds};
 
 use super::options::options;
 use clap::Error;
-use pgp_core::{ScriptFault, Sink, Source, run_script, write_out};
+use pgp_core::{ScriptFault, Sink, Source, WriteFault, run_script, write_out};
 use std::alloc::{AllocError, Global};
-use std::io::Write;
+use std::io::{ErrorKind, Write};
 
 /// The script was answered to its end, or help was shown.
 pub const DONE: u8 = 0;
@@ -33,7 +34,11 @@ pub fn status_of<R: Source, W: Sink, E: Write>(
     ensures done { result ≡ DONE
         → (AsksForRun (map string_bytes words.now) × AllAnswered script_bounds (R.remaining reader.old) (R.remaining reader.new)
         (W.contents writer.old) (W.contents writer.new))
-        ⊎ (AsksForHelp (map string_bytes words.now) × (reader.new ≡ reader.old)) }
+        ⊎ (AsksForHelp (map string_bytes words.now) × (reader.new ≡ reader.old)
+        × Grows (W.contents writer.old) (W.contents writer.new)) }
+    // No call failed, and nothing was told.
+    ensures kept { result ≡ DONE → (R.failed reader.new ≡ R.failed reader.old) × (W.failed writer.new ≡ W.failed writer.old) }
+    ensures quiet { result ≡ DONE → errors.new ≡ errors.old }
     // Nothing was read, and nothing was answered.
     ensures usage { result ≡ USAGE → (reader.new ≡ reader.old) × (writer.new ≡ writer.old) }
     // The script was answered as far as it was read whole, or as far as it could be written, or help could not be shown.
@@ -51,7 +56,9 @@ pub fn status_of<R: Source, W: Sink, E: Write>(
 
 /// Shows help where that was asked for, and else tells what is wrong with the command line.
 fn explain<W: Sink, E: Write>(alloc: Global, error: &Error, writer: &mut W, errors: &mut E) -> u8
-    ensures done { result ≡ DONE → IsRequest (kind_of error.now) }
+    ensures done { result ≡ DONE → IsRequest (kind_of error.now) × Grows (W.contents writer.old) (W.contents writer.new) }
+    ensures kept { result ≡ DONE → W.failed writer.new ≡ W.failed writer.old }
+    ensures quiet { result ≡ DONE → errors.new ≡ errors.old }
     ensures usage { result ≡ USAGE → writer.new ≡ writer.old }
     ensures fault { result ≢ DONE → result ≢ USAGE
         → (result ≡ FAULT) × IsRequest (kind_of error.now) × (W.failed writer.new ≡ true) }
@@ -77,14 +84,23 @@ fn usage<E: Write>(error: &Error, errors: &mut E) -> u8
 fn show_help<W: Sink, E: Write>(help: &str, writer: &mut W, errors: &mut E) -> u8
     ensures fault { result ≢ DONE → (result ≡ FAULT) × (W.failed writer.new ≡ true) }
     ensures shown { result ≡ DONE → Appends (W.contents writer.old) (W.contents writer.new) help.now }
+    ensures kept { result ≡ DONE → W.failed writer.new ≡ W.failed writer.old }
+    ensures quiet { result ≡ DONE → errors.new ≡ errors.old }
 {
-    match write_out(writer, help.as_bytes()) {
-        Ok(()) => match writer.flush() {
-            Ok(()) => DONE,
-            Err(_) => fault(ScriptFault::Write, errors),
-        },
+    match pass_on(writer, help.as_bytes()) {
+        Ok(()) => DONE,
         Err(_) => fault(ScriptFault::Write, errors),
     }
+}
+
+/// Writes all of `text`, and has the writer pass it on.
+fn pass_on<W: Sink>(writer: &mut W, text: &[u8]) -> Result<(), WriteFault>
+    ensures ok { OnOk result (Appends (W.contents writer.old) (W.contents writer.new) text.now) }
+    ensures told { OnErr result (W.failed writer.new ≡ true) }
+    ensures kept { OnOk result (W.failed writer.new ≡ W.failed writer.old) }
+{
+    write_out(writer, text)?;
+    writer.flush().or(Err(WriteFault))
 }
 
 /// Answers the script.
@@ -96,6 +112,8 @@ fn run<R: Source, W: Sink, E: Write>(
 ) -> u8
     ensures done { result ≡ DONE → AllAnswered script_bounds (R.remaining reader.old) (R.remaining reader.new)
         (W.contents writer.old) (W.contents writer.new) }
+    ensures kept { result ≡ DONE → (R.failed reader.new ≡ R.failed reader.old) × (W.failed writer.new ≡ W.failed writer.old) }
+    ensures quiet { result ≡ DONE → errors.new ≡ errors.old }
     ensures fault { result ≢ DONE → (result ≡ FAULT)
         × Stopped script_bounds (R.remaining reader.old) (R.remaining reader.new) (W.contents writer.old) (W.contents writer.new)
         (R.failed reader.new) (W.failed writer.new) }
@@ -105,6 +123,18 @@ fn run<R: Source, W: Sink, E: Write>(
         Err(ScriptFault::Read) => fault(ScriptFault::Read, errors),
         Err(ScriptFault::Write) => fault(ScriptFault::Write, errors),
     }
+}
+
+/// Tells why the words of the command line could not be read.
+pub fn without_words<E: Write>(kind: ErrorKind, errors: &mut E) -> u8
+    ensures { result ≡ USAGE }
+{
+    let why = match kind {
+        ErrorKind::InvalidData => "an argument is not UTF-8",
+        _ => "out of memory",
+    };
+    let _ = writeln!(errors, "error: {why}");
+    USAGE
 }
 
 /// Tells a fault.

@@ -1,6 +1,6 @@
 //! What the program does beyond answering a script: its command line, its status and what it tells of faults.
 
-use super::status::{DONE, FAULT, USAGE, status_of};
+use super::status::{DONE, FAULT, USAGE, status_of, without_words};
 use super::streams::Watched;
 use std::alloc::Global;
 use std::io;
@@ -54,6 +54,7 @@ fn reads_the_command_line(rt: HostRuntime) -> Result<(), Fail> {
     for (words, wanted, answered, silent) in [
         (["pgpeer", "run"].as_slice(), DONE, true, true),
         (["pgpeer", "--help"].as_slice(), DONE, true, true),
+        (["pgpeer", "run", "--help"].as_slice(), DONE, true, true),
         (["pgpeer", "peer"].as_slice(), USAGE, false, false),
         (["pgpeer"].as_slice(), USAGE, false, false),
         (["pgpeer", "run", "now"].as_slice(), USAGE, false, false),
@@ -77,5 +78,23 @@ fn tells_faults(rt: HostRuntime) -> Result<(), Fail> {
         assert_eq!(rt; status, FAULT);
         assert_eq!(rt; errors.as_slice(), b"pgpeer: write fault\n".as_slice());
     }
+    Ok(())
+}
+
+#[test]
+fn tells_its_version(rt: HostRuntime) -> Result<(), Fail> {
+    let alloc = rt.alloc();
+    let (status, out, _) = run_with(alloc, &["pgpeer", "--version"], SCRIPT, Vec::new(alloc))?;
+    assert_eq!(rt; status, DONE);
+    assert_eq!(rt; out.as_slice(), b"pgpeer 0.1.0\n".as_slice());
+    Ok(())
+}
+
+#[test]
+fn tells_of_words_that_could_not_be_read(rt: HostRuntime) -> Result<(), Fail> {
+    let mut errors = Vec::new(rt.alloc());
+    let status = without_words(ErrorKind::InvalidData, &mut errors);
+    assert_eq!(rt; status, USAGE);
+    assert_eq!(rt; errors.as_slice(), b"error: an argument is not UTF-8\n".as_slice());
     Ok(())
 }

@@ -7,4 +7,4 @@ pub returns : goal.returns
 returns c =
     let real : c.in-Err.refusal ≢ Memory = search rules in
     let refused = c.in-Err.ensures.err real in
-    rw refused (record { text = c.write_line-in-Err.ensures; log = λ _. refl; kept = on_err _ refl })
+    rw refused (record { text = c.write_line.ensures; log = λ _. refl; kept = on_err _ refl })

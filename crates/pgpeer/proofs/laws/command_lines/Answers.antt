@@ -10,6 +10,10 @@ pub returns-clause-help : goal.returns-clause-help
 unfolding clap_on_literals
 returns-clause-help c = refl
 
+pub returns-clause-version : goal.returns-clause-version
+unfolding clap_on_literals
+returns-clause-version c = refl
+
 pub returns-clause-nothing : goal.returns-clause-nothing
 unfolding clap_on_literals
 returns-clause-nothing c = refl

@@ -9,7 +9,7 @@ is_simple : is_simple_and_free pgpeer_app ≡ true
 unfolding clap_on_literals
 is_simple = refl
 
-pub returns-in-Ok : goal.returns-in-Ok
-returns-in-Ok c =
+pub returns : goal.returns
+returns c =
     let app = c.in_ok-pgpeer.ensures in
-    subst (λ (a : App). fault_of a (map string_bytes c.args.words.now) ≡ []) app (c.in-Ok.ensures.kinds (ap is_simple_and_free app ∙ is_simple))
+    subst (λ (a : App). fault_of a (map string_bytes c.args.words.now) ≡ []) app (c.in_ok-try_get_matches_from.ensures.kinds (ap is_simple_and_free app ∙ is_simple))

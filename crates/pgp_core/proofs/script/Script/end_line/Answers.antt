@@ -9,6 +9,6 @@ returns-in_err-put_answer-clause-err g c = on_err _ (broken_at_feed c.args.self.
 
 pub returns-clause-ok : goal.returns-clause-ok
 returns-clause-ok g c bounds start bytes after =
-    let left = ap (λ (s : Script). s.left) c.in_ok-put_answer.ensures.kept in
+    let left = ap (λ (s : Script). s.left) c.in_ok-put_answer.ensures.rest in
     rw left (after-end bounds c.args.self.now c.clear.new.self c.put_answer.new.self.output c.put_answer.new.self.log start _ _ bytes c.requires.room c.requires.fits c.clear.ensures
     (c.in_ok-put_answer.ensures.ok _ after.line) after)

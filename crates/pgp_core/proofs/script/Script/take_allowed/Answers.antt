@@ -1,4 +1,4 @@
-use Rattle.std.proofs.Common.{◌≡◌, ◌<◌, [], ◌∷◌, ◌++◌, length, refl, sym, ap, subst, append-nil, arith, length-append}
+use Rattle.std.proofs.Common.{◌≡◌, ◌<◌, [], ◌∷◌, ◌++◌, length, refl, sym, ◌∙◌, ap, subst, append-nil, arith, length-append}
 use Rattle.std.proofs.lemmas.Bool.Decides.{nat_tests}
 use Rattle.pgp_core.specs.Run.{CutOff, BrokenOff, IsBeyond}
 use Rattle.pgp_core.specs.declared.script.Bounds.{Bounds}
@@ -49,6 +49,7 @@ loop-rest-preserved-in-Some g c =
     record {
       fits = omega (arith, parts, long, after_add, after_end, invariant.fits);
       left = omega (arith, parts, long, after_add, after_end, invariant.fits, invariant.left);
+      kept = c.in_ok-end_line-in-Some.ensures.kept ∙ invariant.kept;
       taken = taken-more _ _ _ _ _ _ _ (10 ∷ c.in-Some.others.now) (10 ∷ []) _
           (taken-more _ _ _ _ _ _ _ _ c.in-Some.piece.now (10 ∷ c.in-Some.others.now) invariant.taken c.in-Some.ensures.whole (λ bounds start bytes. c.add.ensures.after bounds start _ bytes))
           refl c.in_ok-end_line-in-Some.ensures.ok;
@@ -61,5 +62,6 @@ loop-rest-preserved g c =
     record {
       fits = omega arith;
       left = omega (arith, after_add, invariant.fits, invariant.left);
+      kept = invariant.kept;
       taken = taken-more _ _ _ _ _ _ _ _ c.loop-rest.rest.now [] invariant.taken (sym (append-nil c.loop-rest.rest.now)) (λ bounds start bytes. c.add-in-None.ensures.after bounds start _ bytes);
     }

@@ -6,6 +6,7 @@ abbrev pub invariant-loop-rest : goal.invariant-loop-rest
 invariant-loop-rest g l = record {
   fits : length l.rest ≤ l.self.left.bytes;
   left : l.self.left.bytes + length l.chunk ≡ l.initial.self.left.bytes + length l.rest;
+  kept : g.W.Sink.failed l.writer ≡ g.W.Sink.failed l.initial.writer;
   taken : Taken l.initial.self l.self (g.W.Sink.contents l.initial.writer) (g.W.Sink.contents l.writer) l.chunk l.rest;
 }
 
