@@ -2,6 +2,7 @@
 use Rattle.std.proofs.Common.{◌≡◌, ◌<◌, ℕ, ◌+◌, ◌-◌, zero, suc, ℤ, List, [], ◌∷◌, ◌++◌, length, map, drop, get_or, slice_get, Bool, true, false, cond, not, ◌||◌, nat_lt, nat_eq, refl, arith, ap, sym, ◌∙◌, add-one, Option, Some, None}
 use Rattle.std.specs.List.{list_any, find, flat_map, filter, count_by}
 use Rattle.std.specs.Ordering.{int_eq}
+use Rattle.std.proofs.lemmas.List.Elements.{filter_agree}
 use Rattle.std.proofs.lemmas.List.Folds.{list_any-append}
 use Rattle.std.proofs.lemmas.List.Sums.{sum_by-cons}
 use Rattle.std.proofs.lemmas.Bool.Decides.{nat_tests}
@@ -60,16 +61,11 @@ pub below_levels-suc : (tree : List Bucket) (k : ℕ) → below_levels tree (suc
 unfolding below_levels
 below_levels-suc tree k = refl
 
-filter-same : (p q : Bucket → Bool) (tree : List Bucket) → ((b : Bucket) → p b ≡ q b) → filter p tree ≡ filter q tree
-filter-same p q [] h = refl
-filter-same p q (b ∷ tree) h =
-    ap (λ (t : Bool). cond t (b ∷ filter p tree) (filter p tree)) (h b) ∙ ap (λ (rest : List Bucket). cond (q b) (b ∷ rest) rest) (filter-same p q tree h)
-
 -- the next level, by a test that tells which ids the level before holds
 pub below_levels-more : (tree : List Bucket) (k : ℕ) (held : ℤ → Bool) → ((q : ℤ) → held q ≡ is_held (below_levels tree k) q) →
     filter (λ b. held b.id) tree ≡ below_levels tree (k + 1)
 below_levels-more tree k held h =
-    filter-same (λ b. held b.id) (λ b. is_held (below_levels tree k) b.id) tree (λ b. h b.id)
+    filter_agree (λ (b : Bucket). held b.id) (λ b. is_held (below_levels tree k) b.id) (λ b. h b.id) tree
     ∙ sym (below_levels-suc tree k) ∙ ap (below_levels tree) (sym (add-one k))
 
 -- no bucket stands below what holds nothing

@@ -63,7 +63,8 @@ impl TreeFault {
             TreeFault::WrongType => "a bucket's type is 0, or not above that of a bucket in it",
             TreeFault::Unknown => "an item is neither a bucket of the tree nor a device",
             TreeFault::TooDeep => "the tree has more than 10 levels of buckets",
-            TreeFault::TooMany => "the tree has more than 1024 buckets, or a bucket more than 256 items",
+            TreeFault::TooMany =>
+                "the tree has more than 1024 buckets, or a bucket more than 256 items",
             TreeFault::WeightSum => "the weights of a bucket make more than 4294967295",
             TreeFault::Memory => "out of memory",
         }

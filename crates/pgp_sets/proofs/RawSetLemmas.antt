@@ -6,8 +6,9 @@ use Rattle.std.specs.Option.{option_map_or}
 use Rattle.std.proofs.Common.{arith}
 use Rattle.std.proofs.lemmas.Bool.{or_parts, eqb-true}
 use Rattle.std.proofs.lemmas.Bool.Decides.{nat_tests}
-use Rattle.std.proofs.lemmas.List.Concat.{flat_map-append}
 use Rattle.std.proofs.lemmas.List.Elements.{filter-append, filter_map-append}
+use Rattle.pgp_lists.proofs.Lists.{flat_map-push}
+use Rattle.pgp_lists.proofs.Options.{if_none}
 use Rattle.pgp_crush.specs.Bucket.{bucket_of}
 use Rattle.pgp_ids.specs.declared.bucket.BucketSpec.{BucketSpec}
 use Rattle.pgp_ids.specs.declared.incremental.DeviceWeight.{DeviceWeight}
@@ -32,28 +33,22 @@ none_pass test (x ∷ xs) none =
 told-stays : {E : Type 0} (test : E → Bool) (f : Incremental → List E) (incs : List Incremental) (inc : Incremental)
     → list_any test (f inc) ≡ false → filter test (flat_map f (then_with incs inc)) ≡ filter test (flat_map f incs)
 told-stays test f incs inc none =
-    ap (filter test) (flat_map-append f incs (inc ∷ [])) ∙ filter-append test (flat_map f incs) (f inc ++ [])
-    ∙ ap (λ ys. filter test (flat_map f incs) ++ filter test ys) (append-nil (f inc))
+    ap (filter test) (flat_map-push f incs inc) ∙ filter-append test (flat_map f incs) (f inc)
     ∙ ap (λ ys. filter test (flat_map f incs) ++ ys) (none_pass test (f inc) none) ∙ append-nil _
-
--- a fault that comes before others isn't there, and neither is one of them
-not_this : {X : Type 0} (b : Bool) (x : X) (rest : Option X) → cond b (Some x) rest ≡ None → (b ≡ false) × (rest ≡ None)
-not_this true x rest e = cc
-not_this false x rest e = (refl, e)
 
 no_known : (incs : List Incremental) (inc : Incremental) → map_fault incs inc ≡ None → has_pool_known incs inc ≡ false
 unfolding map_fault
 no_known incs inc e =
-    let a = not_this (has_epoch_gap incs inc) _ _ e in
-    let b = not_this (has_twice inc) _ _ a.1 in
-    let c = not_this (has_unknown_device incs inc) _ _ b.1 in
-    let d = not_this (has_already_up incs inc) _ _ c.1 in
-    let f = not_this (has_already_down incs inc) _ _ d.1 in
-    let g = not_this (has_still_up incs inc) _ _ f.1 in
-    let h = not_this (has_up_thru_back incs inc) _ _ g.1 in
-    let i = not_this (has_ahead inc) _ _ h.1 in
-    let j = not_this (has_bad_pool incs inc) _ _ i.1 in
-    (not_this (has_pool_known incs inc) _ _ j.1).0
+    let a = if_none (has_epoch_gap incs inc) _ _ e in
+    let b = if_none (has_twice inc) _ _ a.1 in
+    let c = if_none (has_unknown_device incs inc) _ _ b.1 in
+    let d = if_none (has_already_up incs inc) _ _ c.1 in
+    let f = if_none (has_already_down incs inc) _ _ d.1 in
+    let g = if_none (has_still_up incs inc) _ _ f.1 in
+    let h = if_none (has_up_thru_back incs inc) _ _ g.1 in
+    let i = if_none (has_ahead inc) _ _ h.1 in
+    let j = if_none (has_bad_pool incs inc) _ _ i.1 in
+    (if_none (has_pool_known incs inc) _ _ j.1).0
 
 -- a pool that is there isn't made again
 not_made : (incs : List Incremental) (id : ℕ) (made : List PoolSpec) → is_some (pool incs id) ≡ true

@@ -3,8 +3,9 @@ use Rattle.std.proofs.Common.{◌≡◌, ◌≤◌, ℕ, List, [], ◌∷◌, le
 use Rattle.std.proofs.lemmas.List.{length-map}
 use Rattle.std.specs.List.{filter}
 use Rattle.std.specs.Prelude.{map}
-use Rattle.std.specs.Option.{option_map, option_map_or, unwrap_or}
+use Rattle.std.specs.Option.{option_map, option_map_or}
 use Rattle.std.proofs.lemmas.Bool.{cases_Bool}
+use Rattle.std.proofs.lemmas.Option.{none-some, same_Some}
 use Rattle.pgp_ids.specs.declared.incremental.Incremental.{Incremental}
 use Rattle.pgp_ids.specs.declared.membership.Membership.{Membership}
 use Rattle.pgp_ids.specs.declared.pg_id.PgId.{PgId}
@@ -54,15 +55,9 @@ are_up-acting : (incs : List Incremental) (pg : PgId) (pool : PoolSpec) → are_
 are_up-acting incs pg pool =
     one_of_both incs (up_set incs pool pg) (without_down incs pool (temp incs pg)) _ (are_up-up incs pg pool) (are_up-without_down incs pool (temp incs pg))
 
-nothing : {X : Type 0} (x : X) → None ≡ Some x → ⊥
-nothing x same = cc
-
-some_same : (x y : Membership) → Some x ≡ Some y → x ≡ y
-some_same x y same = ap (λ o. unwrap_or o x) same
-
 of_pool : (incs : List Incremental) (pg : PgId) (found : Option PoolSpec) (members : Membership) → option_map (pool_membership incs pg) found ≡ Some members → (made : PoolSpec) × (pool_membership incs pg made ≡ members)
-of_pool incs pg None members is = absurd (nothing members is)
-of_pool incs pg (Some made) members is = (made, some_same _ _ is)
+of_pool incs pg None members is = absurd (none-some members is)
+of_pool incs pg (Some made) members is = (made, same_Some _ _ is)
 
 pub up-are_up : (incs : List Incremental) (pg : PgId) (members : Membership) → membership incs pg ≡ Some members → are_up incs members.up ≡ true
 up-are_up incs pg members is =
@@ -102,7 +97,7 @@ pub up-size : (incs : List Incremental) (pg : PgId) (made : PoolSpec) (members :
     → membership incs pg ≡ Some members → length members.up ≡ members.size
 up-size incs pg made members there erasure is =
     let same : pool_membership incs pg made ≡ members =
-    some_same _ _ (ap (option_map (pool_membership incs pg)) (sym there) ∙ is) in
+    same_Some _ _ (ap (option_map (pool_membership incs pg)) (sym there) ∙ is) in
     subst (λ (m : Membership). length m.up ≡ m.size) same
     (by_kind (is_erasure made.kind) erasure (placement-size (tree incs) (rule_of made) (weights incs) (placement_input made pg) made.size erasure))
   where

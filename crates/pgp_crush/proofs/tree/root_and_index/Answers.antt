@@ -1,8 +1,7 @@
-use Rattle.std.proofs.Common.{◌≡◌, inr, map, None, Some, sym, ap, ◌∙◌}
+use Rattle.std.proofs.Common.{inr, map, None, Some, sym, ap, ◌∙◌}
 use Rattle.std.specs.List.{list_any}
 use Rattle.std.specs.Ordering.{int_eq}
-use Rattle.std.specs.HashSet as bag
-use Rattle.pgp_crush.specs.Bucket.{bucket_of, is_held}
+use Rattle.pgp_crush.specs.Bucket.{bucket_of}
 use Rattle.pgp_crush.proofs.FaultLemmas.{is_held_is, fault-no_root, fault-below}
 use Rattle.pgp_crush.proofs.tree.root_and_index.Goals as goal
 
