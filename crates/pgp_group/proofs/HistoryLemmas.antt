@@ -79,13 +79,13 @@ pool-made incs id inc there making =
     (contains-flat_map (λ (i : Incremental). i.pools) incs inc found.0 there found.1.0) found.1.1
 
 -- the last incremental that makes the pool
-record Maker (incs : List Incremental) (id : ℕ) : Type 0 where
-  maker : Incremental
-  there : Contains incs maker
-  making : makes id maker ≡ true
-  epoch : made_at incs id ≡ maker.epoch
+pub record Maker (incs : List Incremental) (id : ℕ) : Type 0 where
+  pub maker : Incremental
+  pub there : Contains incs maker
+  pub making : makes id maker ≡ true
+  pub epoch : made_at incs id ≡ maker.epoch
 
-maker_of : (incs : List Incremental) (id : ℕ) → is_some (pool incs id) ≡ true → Maker incs id
+pub maker_of : (incs : List Incremental) (id : ℕ) → is_some (pool incs id) ≡ true → Maker incs id
 maker_of incs id there =
     let one = any-contains (λ (made : PoolSpec). nat_eq made.id id) (flat_map (λ (i : Incremental). i.pools) incs) (sym (pool-some incs id) ∙ there) in
     let where' = flat_map-contains (λ (i : Incremental). i.pools) incs one.0 one.1.0 in
@@ -136,7 +136,7 @@ get-kept f a (suc n) (suc k) each below =
 
 -- ---- the history
 
-history_if : (incs : List Incremental) (pg : PgId) (found : Option PoolSpec) (h : History AnyCode) (b : Bool) → (if b then option_map (history_of incs pg) found else None) ≡ Some h → (made : PoolSpec) × ((found ≡ Some made) × (history_of incs pg made ≡ h))
+pub history_if : (incs : List Incremental) (pg : PgId) (found : Option PoolSpec) (h : History AnyCode) (b : Bool) → (if b then option_map (history_of incs pg) found else None) ≡ Some h → (made : PoolSpec) × ((found ≡ Some made) × (history_of incs pg made ≡ h))
 history_if incs pg found h false is = absurd (nothing_before h is)
 history_if incs pg None h true is = absurd (nothing_before h is)
 history_if incs pg (Some made) h true is = (made, (refl, some_same _ _ is))

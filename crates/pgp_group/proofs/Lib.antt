@@ -3,3 +3,5 @@ pub mod HeardLemmas
 pub mod ViewLemmas
 pub mod HistoryLemmas
 pub mod PeerLemmas
+pub mod Lists
+pub mod GrowthLemmas

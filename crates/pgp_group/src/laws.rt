@@ -1,6 +1,9 @@
 //! What the definitions say of small logs.
 #![tactic(auto, unfolding(crate::specs::Worked::views_computed))]
 
+pub mod causes;
+pub mod growth;
+
 ghost use Rattle.std.specs.Prelude.{ℕ, ◌+◌, ◌-◌, ◌<◌, length, slice_get, ◌≡◌, ◌↔◌, List, [], ◌∷◌, ◌++◌, Some, None, is_some, true, false, option_map, codes, Contains};
 ghost use Rattle.pgp_code.specs.AnyCode.{enough_of, is_by_place};
 ghost use Rattle.pgp_ids.specs.declared.entry.Entry.{Entry};
