@@ -1,7 +1,8 @@
 -- Lists that grow, ranges, and last elements that pass a test.
-use Rattle.std.proofs.Common.{◌≡◌, ℕ, zero, suc, ◌+◌, ◌<◌, ◌≤◌, List, [], ◌∷◌, ◌++◌, Option, Some, None, Bool, true, false, ◌||◌, length, map, refl, ap, ap₂, sym, ◌∙◌, inl, inr, arith, if◌then◌else◌, append-nil, append_assoc}
+use Rattle.std.proofs.Common.{◌≡◌, ℕ, zero, suc, ◌+◌, ◌<◌, ◌≤◌, List, [], ◌∷◌, ◌++◌, Option, Some, None, Bool, true, false, ◌||◌, length, map, refl, ap, ap₂, sym, ◌∙◌, inl, inr, arith, if◌then◌else◌, append-nil, append_assoc, get_or, take}
 use Rattle.std.specs.List.{cons_option, filter, filter_map, flat_map, last_or, list_any, range_with_len}
 use Rattle.std.proofs.lemmas.Bool.{cases_Bool, true≢false}
+use Rattle.std.proofs.lemmas.List.{take_more}
 use Rattle.std.proofs.lemmas.List.Elements.{filter-append}
 use Rattle.pgp_map.specs.Last.{last_where}
 
@@ -59,3 +60,21 @@ pub filter_map-agree : {Y : Type 0} (f g : ℕ → Option Y) (a n : ℕ) → ((k
 filter_map-agree f g a zero same = refl
 filter_map-agree f g a (suc n) same =
     ap₂ cons_option (same a (omega arith)) (filter_map-agree f g (a + 1) n (λ k below. same k (omega arith)))
+
+-- ---- parts of a list, up to one more element
+
+take-next : {X : Type 0} (xs : List X) (i : ℕ) (x : X) → i < length xs → x ≡ get_or xs i x → take (i + 1) xs ≡ take i xs ++ x ∷ []
+take-next {X = X} xs i x within item = take_more xs i x within ∙ ap (λ (y : X). take i xs ++ y ∷ []) (sym item)
+
+pub append-next : {X : Type 0} (before xs : List X) (i : ℕ) (x : X) → i < length xs → x ≡ get_or xs i x → before ++ take (i + 1) xs ≡ (before ++ take i xs) ++ x ∷ []
+append-next before xs i x within item = ap (λ l. before ++ l) (take-next xs i x within item) ∙ sym (append_assoc before (take i xs) (x ∷ []))
+
+pub filter-passes : {X : Type 0} (test : X → Bool) (xs : List X) (i : ℕ) (x : X) → i < length xs → x ≡ get_or xs i x → test x ≡ true → filter test (take (i + 1) xs) ≡ filter test (take i xs) ++ x ∷ []
+filter-passes {X = X} test xs i x within item passes =
+    let new : filter test (x ∷ []) ≡ x ∷ [] = rw passes refl in
+    ap (filter test) (take-next xs i x within item) ∙ filter-append test (take i xs) (x ∷ []) ∙ ap (λ (l : List X). filter test (take i xs) ++ l) new
+
+pub filter-fails : {X : Type 0} (test : X → Bool) (xs : List X) (i : ℕ) (x : X) → i < length xs → x ≡ get_or xs i x → test x ≡ false → filter test (take (i + 1) xs) ≡ filter test (take i xs)
+filter-fails {X = X} test xs i x within item fails =
+    let new : filter test (x ∷ []) ≡ [] = rw fails refl in
+    ap (filter test) (take-next xs i x within item) ∙ filter-append test (take i xs) (x ∷ []) ∙ ap (λ (l : List X). filter test (take i xs) ++ l) new ∙ append-nil (filter test (take i xs))

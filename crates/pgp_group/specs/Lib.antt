@@ -8,3 +8,5 @@ pub mod Verdict
 pub mod View
 pub mod Examples
 pub mod Worked
+pub mod Present
+pub mod Causes

@@ -5,4 +5,8 @@
 //! the best, what the others lack. This crate joins them into one view (Ceph's developer documentation on peering).
 #![tactic(auto)]
 
+mod causes;
+mod copies;
+mod counted;
 pub mod laws;
+mod reported;
