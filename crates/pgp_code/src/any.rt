@@ -7,7 +7,7 @@ use super::replicated::Replicated;
 use pgp_ids::{PoolKind, SlotSet};
 
 /// The code of any pool.
-#[derive(Clone, Copy, Debug, PartialEq, Eq, Hash)]
+#[derive(Clone, Copy, Debug, PartialEq, Eq)]
 pub enum AnyCode {
     Replicated(Replicated),
     Erasure(Erasure),

@@ -5,7 +5,7 @@ use super::recoverable::Recoverable;
 use pgp_ids::SlotSet;
 
 /// An erasure code: each member holds the shard of its place, and any `k` shards are enough.
-#[derive(Clone, Copy, Debug, PartialEq, Eq, Hash)]
+#[derive(Clone, Copy, Debug, PartialEq, Eq)]
 pub struct Erasure {
     pub k: u8,
     ghost at_least_one: { 1 ≤ k },

@@ -6,13 +6,13 @@ ghost use Rattle.pgp_code.specs.Enough.{enough_copies, enough_shards};
 
 use super::recoverable::Recoverable;
 
-/// One copy serves a replicated pool, and none doesn't.
+/// A replicated pool is served by one copy, and by no fewer.
 pub fn copies()
     ensures one { enough_copies (0 ∷ []) ≡ true }
     ensures none { enough_copies [] ≡ false }
 {}
 
-/// Of a code with two data shards any two serve, also where a place between them is empty; one doesn't.
+/// Of a code with two data shards any two serve, also where a place between them is empty; one is too few.
 pub fn shards()
     ensures apart { enough_shards 2 (0 ∷ 2 ∷ []) ≡ true }
     ensures more { enough_shards 2 (0 ∷ 1 ∷ 2 ∷ []) ≡ true }

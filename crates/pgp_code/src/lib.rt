@@ -1,7 +1,7 @@
 //! When the slots at hand are enough to serve a group: the codes that a pool can have.
 //!
-//! A code is anything that meets the laws of [`Recoverable`]: more slots never hurt, and no slot is never enough. The
-//! layers above use these laws alone.
+//! A code is anything that meets the laws of [`Recoverable`]: more slots never hurt, and the empty set is never enough.
+//! The layers above use these laws alone.
 #![tactic(auto)]
 
 mod any;

@@ -23,6 +23,6 @@ pub trait Recoverable {
     ghost monotone: { (code : Self) (a b : List ℕ) → IsSlotSet a → IsSlotSet b → is_within a b ≡ true
         → enough code a ≡ true → enough code b ≡ true };
 
-    /// No slot is not enough.
+    /// The empty set is never enough.
     ghost empty_is_short: { (code : Self) → enough code [] ≡ false };
 }

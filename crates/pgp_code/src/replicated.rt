@@ -5,7 +5,7 @@ use super::recoverable::Recoverable;
 use pgp_ids::SlotSet;
 
 /// Whole copies: every member has slot 0, and one copy is enough.
-#[derive(Clone, Copy, Debug, PartialEq, Eq, Hash)]
+#[derive(Clone, Copy, Debug, PartialEq, Eq)]
 pub struct Replicated;
 
 impl Recoverable for Replicated {

@@ -1,6 +1,6 @@
 pub mod Same
-pub mod Ranges
 pub mod Openings
 pub mod Places
 pub mod IntervalLemmas
 pub mod StepLemmas
+pub mod RunningLemmas

@@ -4,7 +4,7 @@ use Rattle.std.specs.List.{range_with_len}
 use Rattle.std.proofs.lemmas.Bool.{cases_Bool, true≢false}
 use Rattle.std.proofs.lemmas.List.Sums.{fold-append}
 use Rattle.std.proofs.Math.Nat.{max-eq_right}
-use Rattle.pgp_interval.proofs.Ranges.{filter_range-suc}
+use Rattle.pgp_lists.proofs.Ranges.{filter_range-suc}
 use Rattle.pgp_interval.specs.History.{History}
 use Rattle.pgp_interval.specs.Runs.{ends_at, opens_at, greatest_below, opening_of}
 

@@ -12,7 +12,7 @@ use Rattle.pgp_interval.specs.History.{History, stepped, last_place, current_sta
 use Rattle.pgp_interval.specs.ReadWrite.{may_have_gone_rw}
 use Rattle.pgp_interval.specs.Runs.{ends_at, opens_at, opening_of, past_ending, past_intervals, current_first, current_ending}
 use Rattle.pgp_interval.proofs.Openings.{opening_of-opens, opening_of-stays, opens_at-next}
-use Rattle.pgp_interval.proofs.Ranges.{filter_range-suc, map_filter_range-passes, map_filter_range-fails}
+use Rattle.pgp_lists.proofs.Ranges.{filter_range-suc, map_filter_range-passes, map_filter_range-fails}
 use Rattle.pgp_interval.proofs.IntervalLemmas.{members_at-last_place, same-stays, differ-ends}
 
 -- ---- the epochs before the step stay

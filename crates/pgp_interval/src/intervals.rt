@@ -1,8 +1,9 @@
-ghost use Rattle.std.specs.Prelude.{◌≡◌, ◌+◌, ◌<◌, ◌≤◌, IfOk, OnOk, OnErr};
-ghost use Rattle.pgp_interval.specs.History.{begun, stepped, last_place, members_at};
-ghost use Rattle.pgp_interval.specs.Runs.{opens_at, opening_of, past_ending, past_intervals, current_first};
+ghost use Rattle.std.specs.Prelude.{◌≡◌, ◌+◌, IfOk, OnOk, OnErr};
+ghost use Rattle.pgp_interval.specs.History.{History, begun, stepped};
+ghost use Rattle.pgp_interval.specs.IntervalsOf.{IsIntervalsOf};
+ghost use Rattle.pgp_interval.specs.Runs.{past_intervals, current_first};
 
-use super::members::{copy_of, is_same};
+use super::members::{copy_of, copy_of_past, is_same};
 use super::read_write::may_have_gone_rw;
 use pgp_code::Recoverable;
 use pgp_ids::{Epoch, EpochState, Membership, Past, PrimaryFacts};
@@ -10,55 +11,46 @@ use std::alloc::{AllocError, Global};
 use std::marker::Model;
 use std::mem;
 
-/// The history of a placement group, of a pool with the code `R`, and the intervals in it.
+/// The intervals of a placement group, of a pool with the code `R`, as its history grows by an epoch after another.
 ///
-/// It keeps every epoch and finds the intervals anew at each question, in time proportional to the number of epochs.
+/// It keeps the past intervals and the current one, and nothing of single epochs.
 #[derive(Debug, Drop)]
 pub struct Intervals<R> {
     code: R,
+    /// The past intervals, in ascending order.
+    past: Vec<Past>,
+    /// The first epoch of the current interval.
     first: Epoch,
     /// The current epoch.
     last: Epoch,
-    /// The epochs before the current one, in order.
-    lived: Vec<EpochState>,
-    /// The membership of the current epoch.
+    /// The membership of the current interval.
     current: Membership,
 }
 
 impl<R> Model for Intervals<R> {
-    ghost use Rattle.std.specs.Prelude.{◌≡◌, ◌+◌, length};
-    ghost use Rattle.pgp_interval.specs.History.{History};
+    ghost use Rattle.pgp_interval.specs.IntervalsOf.{Running};
 
-    ghost Value = { History R };
+    ghost Value = { Running R };
 
     ghost view = { λ i. record {
       code = i.code;
+      past = i.past.items;
       first = i.first;
-      lived = i.lived.items;
+      last = i.last;
       current = i.current;
     } };
-
-    ghost invariant = { λ i. i.last ≡ i.first + length i.lived.items };
-}
-
-/// The current interval, which reaches the last epoch.
-#[derive(Clone, Copy, Debug, PartialEq, Eq)]
-pub struct Current<'a> {
-    /// Its first epoch.
-    pub first: Epoch,
-    pub members: &'a Membership,
 }
 
 impl<R: Recoverable> Intervals<R> {
-    /// The history of one epoch, the first of the group's life, which is not over yet.
+    /// The intervals of a history of one epoch, the first of the group's life, which is not over yet.
     pub fn begin(alloc: Global, code: R, first: Epoch, members: Membership) -> Self
-        ensures { result ≡ begun code first members }
+        ensures { IsIntervalsOf R.enough R.by_place (begun code first members) result }
     {
         Intervals {
             code,
+            past: Vec::new(alloc),
             first,
             last: first,
-            lived: Vec::new(alloc),
             current: members,
         }
     }
@@ -66,23 +58,33 @@ impl<R: Recoverable> Intervals<R> {
     /// The epoch after the current one, with its membership.
     ///
     /// `facts` are those of the primary that was acting until now, in the map of the epoch that was current: they
-    /// complete that epoch. After an error the history is as before.
+    /// complete that epoch. After an error the intervals are as before.
     pub fn step(
         &mut self,
         epoch: Epoch,
         members: Membership,
         facts: PrimaryFacts,
     ) -> Result<(), AllocError>
-        requires { epoch ≡ self.old.first + last_place self.old + 1 }
-        ensures ok { OnOk result (self.new ≡ stepped self.old members facts) }
+        requires { epoch ≡ self.old.last + 1 }
+        ensures ok { OnOk result ((h : History R) → IsIntervalsOf R.enough R.by_place h self.old
+            → IsIntervalsOf R.enough R.by_place (stepped h members facts) self.new) }
         ensures err { OnErr result (self.new ≡ self.old) }
     {
-        self.lived.reserve(1)?;
-        let ended = mem::replace(&mut self.current, members);
-        self.lived.push_reserved(EpochState {
-            members: ended,
-            facts,
-        });
+        if !is_same(&self.current, &members) {
+            self.past.reserve(1)?;
+            let ended = EpochState {
+                members: mem::replace(&mut self.current, members),
+                facts,
+            };
+            let rw = may_have_gone_rw(&self.code, &ended, self.first);
+            self.past.push_reserved(Past {
+                first: self.first,
+                last: self.last,
+                members: ended.members,
+                rw,
+            });
+            self.first = epoch;
+        }
         self.last = epoch;
         Ok(())
     }
@@ -95,85 +97,30 @@ impl<R: Recoverable> Intervals<R> {
 
     /// The current epoch.
     pub fn last(&self) -> Epoch
-        ensures { result ≡ self.now.first + last_place self.now }
+        ensures { result ≡ self.now.last }
     {
         self.last
     }
 
     /// The past intervals, in ascending order.
     pub fn past(&self, alloc: Global) -> Result<Vec<Past>, AllocError>
-        ensures { IfOk result (λ past. past.items ≡ past_intervals R.enough R.by_place self.now) }
+        ensures { IfOk result (λ past. (h : History R) → IsIntervalsOf R.enough R.by_place h self.now
+            → past.items ≡ past_intervals R.enough R.by_place h) }
     {
         let mut past = Vec::new(alloc);
-        for place in 0..self.lived.len() {
-            if self.opens_at(place + 1) {
-                past.push(self.past_ending(place))?;
-            }
+        for interval in self.past.as_slice() {
+            past.push(copy_of_past(interval))?;
         }
         Ok(past)
     }
 
-    /// The interval that reaches the last epoch.
-    pub fn current(&self) -> Current<'_>
-        ensures first { result.first ≡ current_first self.now }
-        ensures members { result.members.now ≡ self.now.current }
+    /// The interval that reaches the current epoch: its first epoch and its membership.
+    pub fn current(&self) -> (Epoch, Membership)
+        ensures first { (h : History R) → IsIntervalsOf R.enough R.by_place h self.now
+            → result.0 ≡ current_first h }
+        ensures members { (h : History R) → IsIntervalsOf R.enough R.by_place h self.now
+            → result.1 ≡ h.current }
     {
-        Current {
-            first: self.epoch_at(self.opening_of(self.lived.len())),
-            members: &self.current,
-        }
-    }
-
-    fn members_at(&self, place: usize) -> &Membership
-        ensures { result.now ≡ members_at self.now place }
-    {
-        match self.lived.get(place) {
-            Some(state) => &state.members,
-            None => &self.current,
-        }
-    }
-
-    /// Whether an interval opens at this place.
-    fn opens_at(&self, place: usize) -> bool
-        ensures { result ≡ opens_at self.now place }
-    {
-        place == 0 || !is_same(self.members_at(place - 1), self.members_at(place))
-    }
-
-    /// Where the interval that holds this place opens.
-    fn opening_of(&self, place: usize) -> usize
-        ensures opening { result ≡ opening_of self.now place }
-        ensures within { result ≤ place }
-    {
-        let mut opening = place;
-        while !self.opens_at(opening) {
-            opening -= 1;
-        }
-        opening
-    }
-
-    /// The past interval that ends at this place.
-    fn past_ending(&self, place: usize) -> Past
-        requires { place < last_place self.now }
-        ensures { result ≡ past_ending R.enough R.by_place self.now place }
-    {
-        let opening = self.opening_of(place);
-        let first = self.epoch_at(opening);
-        let last = &self.lived[place];
-        Past {
-            first,
-            last: self.epoch_at(place),
-            members: copy_of(&last.members),
-            rw: may_have_gone_rw(&self.code, last, first),
-        }
-    }
-
-    fn epoch_at(&self, place: usize) -> Epoch
-        requires { place ≤ last_place self.now }
-        ensures { result ≡ self.now.first + place }
-    {
-        let last = self.last.number();
-        let since = self.lived.len() - place;
-        Epoch::new(last - since as u32)
+        (self.first, copy_of(&self.current))
     }
 }

@@ -11,4 +11,5 @@ pub mod laws;
 mod members;
 mod read_write;
 
-pub use intervals::{Current, Intervals};
+pub use acting::acting_slots;
+pub use intervals::Intervals;

@@ -1,6 +1,6 @@
 pub mod Ascending
 pub mod Members
-pub mod MembersLeft
+pub mod MemberOrder
 pub mod Blocks
 pub mod Prior
 pub mod Better

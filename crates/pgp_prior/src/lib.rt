@@ -14,5 +14,6 @@ mod prior_set;
 mod probe;
 mod walk;
 
+pub use members::{Members, members_of};
 pub use prior_set::Prior;
 pub use walk::prior;

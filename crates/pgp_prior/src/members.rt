@@ -9,21 +9,23 @@ use std::marker::Model;
 #[derive(Drop)]
 pub struct Members<'a> {
     by_place: bool,
-    /// The place of the first of `places`.
-    place: u8,
     places: &'a [Option<OsdId>],
+    /// The place that is looked at next.
+    place: u8,
 }
 
 impl<'a> Model for Members<'a> {
-    ghost use Rattle.std.specs.Prelude.{List, ◌+◌, ◌≤◌, length};
+    ghost use Rattle.std.specs.Prelude.{List, ◌-◌, ◌≤◌, length, filter_map};
+    ghost use Rattle.std.specs.List.{range_with_len};
     ghost use Rattle.pgp_ids.specs.declared.group_member.Member.{Member};
-    ghost use Rattle.pgp_prior.specs.MembersLeft.{members_from};
+    ghost use Rattle.pgp_prior.specs.Members.{member_at};
 
     ghost Value = { List Member };
 
-    ghost view = { λ m. members_from m.by_place m.place m.places.now };
+    ghost view = { λ m. filter_map (member_at m.by_place m.places.now)
+        (range_with_len m.place (length m.places.now - m.place)) };
 
-    ghost invariant = { λ m. m.place + length m.places.now ≤ 16 };
+    ghost invariant = { λ m. length m.places.now ≤ 16 };
 }
 
 impl<'a> Iterator for Members<'a> {
@@ -34,9 +36,8 @@ impl<'a> Iterator for Members<'a> {
     ghost remaining = { item_count (λ rest. rest) };
 
     fn next(&mut self) -> Option<Member> {
-        while let Some((osd, rest)) = self.places.split_first() {
+        while let Some(osd) = self.places.get(usize::from(self.place)) {
             let place = self.place;
-            self.places = rest;
             self.place += 1;
             if let Some(osd) = osd {
                 let slot = if self.by_place { place } else { 0 };
@@ -54,7 +55,7 @@ pub fn members_of(by_place: bool, osds: &Osds) -> Members<'_>
 {
     Members {
         by_place,
-        place: 0,
         places: osds.as_slice(),
+        place: 0,
     }
 }

@@ -1,7 +1,7 @@
 use Rattle.std.proofs.Common.{◌≡◌, ℕ, ◌+◌, ◌∷◌, [], ◌++◌, Bool, None, is_some, get_or, filter, ap, sym, ◌∙◌, arith}
 use Rattle.std.specs.List.{range_with_len}
 use Rattle.pgp_ids.specs.SlotSet.{with_slot}
-use Rattle.pgp_interval.proofs.Ranges.{filter_range-passes, filter_range-fails}
+use Rattle.pgp_lists.proofs.Ranges.{filter_range-passes, filter_range-fails}
 use Rattle.pgp_interval.proofs.Places.{with_slot-filter_range, is_some-get_or}
 use Rattle.pgp_interval.proofs.acting.held_places.Goals as goal
 use Rattle.pgp_interval.proofs.acting.held_places.Goals.{then-is_some, else-is_some}

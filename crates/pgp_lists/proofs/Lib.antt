@@ -1,0 +1,11 @@
+pub mod Bools
+pub mod Options
+pub mod Lists
+pub mod Members
+pub mod Pairs
+pub mod Ranges
+pub mod Last
+pub mod Repeats
+pub mod Ordered
+pub mod Searched
+pub mod Taken

@@ -1,0 +1,33 @@
+-- What is there, and what isn't.
+use Rattle.std.proofs.Common.{◌≡◌, Bool, true, false, Option, Some, None, is_none, is_some, option_map, option_and_then, cond, refl}
+
+-- something is there
+pub some_is : {X : Type 0} (found : Option X) → is_some found ≡ true → (x : X) × (found ≡ Some x)
+some_is None some = cc
+some_is (Some x) some = (x, refl)
+
+pub none_is : {X : Type 0} (found : Option X) → is_none found ≡ true → found ≡ None
+none_is None is = refl
+none_is (Some x) is = cc
+
+pub some_mapped : {X Y : Type 0} (f : X → Y) (found : Option X) → is_some (option_map f found) ≡ is_some found
+some_mapped f None = refl
+some_mapped f (Some x) = refl
+
+pub map_some : {X Y : Type 0} (f : X → Y) (found : Option X) (y : Y) → option_map f found ≡ Some y → (x : X) × (found ≡ Some x) × (f x ≡ y)
+map_some f None y is = cc
+map_some f (Some x) y is = (x, refl, cc)
+
+pub and_then_some : {X Y : Type 0} (found : Option X) (f : X → Option Y) (y : Y) → option_and_then f found ≡ Some y → (x : X) × (found ≡ Some x) × (f x ≡ Some y)
+and_then_some None f y is = cc
+and_then_some (Some x) f y is = (x, refl, is)
+
+-- a first finding isn't there, and so no later one
+pub if_none : {X : Type 0} (b : Bool) (x : X) (rest : Option X) → cond b (Some x) rest ≡ None → (b ≡ false) × (rest ≡ None)
+if_none true x rest is = cc
+if_none false x rest is = (refl, is)
+
+-- what a test lets through
+pub if_some : {X : Type 0} (b : Bool) (found : Option X) (x : X) → cond b found None ≡ Some x → (b ≡ true) × (found ≡ Some x)
+if_some true found x is = (refl, is)
+if_some false found x is = cc

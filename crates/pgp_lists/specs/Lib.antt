@@ -1,0 +1,4 @@
+pub mod Last
+pub mod Ordered
+pub mod Repeats
+pub mod Taken
