@@ -1,5 +1,6 @@
 pub mod Preference
 pub mod PreferenceLaws
+pub mod Prefers
 pub mod Best
 pub mod Heard
 pub mod Examples

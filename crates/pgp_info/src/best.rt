@@ -1,5 +1,7 @@
-ghost use Rattle.std.specs.Prelude.{◌≡◌, [], ◌∷◌, ◌&&◌, true, nat_le, unwrap_or, option_map, OnOk, OnErr};
+ghost use Rattle.std.specs.Prelude.{◌≡◌, [], ◌∷◌, ◌&&◌, true, nat_le, unwrap_or, option_map, is_some, find, OnOk, OnErr};
+ghost use Rattle.std.specs.List.{list_any};
 ghost use Rattle.std.specs.Option.{option_copied};
+ghost use Rattle.pgp_ids.specs.Member.{is_same_member};
 ghost use Rattle.pgp_info.specs.Best.{last_start, best_info};
 ghost use Rattle.pgp_info.specs.Heard.{heard_nothing, without, with_info};
 
@@ -52,6 +54,26 @@ impl<P> Best<P> {
         self.infos.retain(|other| other.member != info.member);
         self.infos.push_reserved(info);
         Ok(())
+    }
+
+    /// The infos that are kept, the last of each member.
+    pub fn infos(&self) -> &[Info]
+        ensures { result.now ≡ self.now.infos }
+    {
+        self.infos.as_slice()
+    }
+
+    /// The info of this member, where it was heard.
+    pub fn info_of(&self, member: &Member) -> Option<&Info>
+        ensures value { option_copied result ≡ find (λ info. is_same_member info.member member.now) self.now.infos }
+        ensures heard { is_some result ≡ list_any (λ info. is_same_member info.member member.now) self.now.infos }
+    {
+        for info in self.infos.as_slice() {
+            if info.member == *member {
+                return Some(info);
+            }
+        }
+        None
     }
 
     /// Forgets the member's info, where there is one.

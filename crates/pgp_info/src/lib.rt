@@ -4,7 +4,7 @@
 //! erasure pool by the one with the oldest, since only a write that enough shards have can be given back (Ceph's
 //! developer documentation on peering, and on erasure coding). [`Best`] keeps the last info of each member and finds
 //! the best one by any [`Prefer`], of whose laws alone it makes use; [`NewestFirst`] and [`OldestFirst`] are those of
-//! the two kinds of pool. What is heard and what counts is decided above.
+//! the two kinds of pool, and [`Preference`] is that of any pool. What is heard and what counts is decided above.
 #![tactic(auto)]
 
 mod best;
@@ -12,9 +12,11 @@ pub mod laws;
 mod newest_first;
 mod oldest_first;
 mod prefer;
+mod preference;
 mod tie;
 
 pub use best::Best;
 pub use newest_first::NewestFirst;
 pub use oldest_first::OldestFirst;
 pub use prefer::Prefer;
+pub use preference::Preference;
