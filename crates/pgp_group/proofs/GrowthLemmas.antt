@@ -22,16 +22,14 @@ use Rattle.pgp_map.specs.Map.{epoch, up_to}
 use Rattle.pgp_map.specs.MapFault.{map_fault, then_with, has_epoch_gap, has_twice, has_unknown_device, has_already_up, has_already_down, has_still_up, has_up_thru_back, has_ahead, has_bad_pool, has_pool_known}
 use Rattle.pgp_map.specs.Pools.{pool, with_sizes, has_group}
 use Rattle.pgp_sets.specs.Sets.{pool_membership, membership}
-use Rattle.pgp_prior.proofs.ListLemmas.{filter-contains}
+use Rattle.pgp_lists.proofs.Members.{filter-contains}
+use Rattle.pgp_lists.proofs.Options.{if_none}
+use Rattle.pgp_lists.proofs.Ranges.{range_with_len-suc}
 use Rattle.pgp_group.specs.GroupHistory.{makes, made_at, AreNumbered, primary_facts, state_with, state_at_epoch, states_from, history_of, group_history}
-use Rattle.pgp_group.proofs.HistoryLemmas.{Maker, maker_of, history_if}
-use Rattle.pgp_group.proofs.Lists.{none-narrower, filter-none, flat_map-snoc, last_or-snoc, last_where-passes, last_where-none, range_with_len-snoc, filter_map-agree}
+use Rattle.pgp_group.proofs.HistoryLemmas.{Maker, maker_of, history_if, history-length}
+use Rattle.pgp_group.proofs.Lists.{none-narrower, filter-none, flat_map-snoc, last_or-snoc, last_where-passes, last_where-none, filter_map-agree}
 
 -- ---- an incremental that isn't refused
-
-else_none : {X : Type 0} (b : Bool) (x : X) (rest : Option X) → (if b then Some x else rest) ≡ None → (b ≡ false) × (rest ≡ None)
-else_none true x rest is = cc
-else_none false x rest is = (refl, is)
 
 -- its epoch is the next one, and it makes no pool that is there
 record IsNext (incs : List Incremental) (inc : Incremental) : Type 0 where
@@ -41,16 +39,16 @@ record IsNext (incs : List Incremental) (inc : Incremental) : Type 0 where
 next_of : (incs : List Incremental) (inc : Incremental) → map_fault incs inc ≡ None → IsNext incs inc
 unfolding map_fault
 next_of incs inc fine =
-    let a = else_none (has_epoch_gap incs inc) _ _ fine in
-    let b = else_none (has_twice inc) _ _ a.1 in
-    let c = else_none (has_unknown_device incs inc) _ _ b.1 in
-    let d = else_none (has_already_up incs inc) _ _ c.1 in
-    let e = else_none (has_already_down incs inc) _ _ d.1 in
-    let f = else_none (has_still_up incs inc) _ _ e.1 in
-    let g = else_none (has_up_thru_back incs inc) _ _ f.1 in
-    let h = else_none (has_ahead inc) _ _ g.1 in
-    let i = else_none (has_bad_pool incs inc) _ _ h.1 in
-    record { gap = a.0; known = (else_none (has_pool_known incs inc) _ _ i.1).0 }
+    let a = if_none (has_epoch_gap incs inc) _ _ fine in
+    let b = if_none (has_twice inc) _ _ a.1 in
+    let c = if_none (has_unknown_device incs inc) _ _ b.1 in
+    let d = if_none (has_already_up incs inc) _ _ c.1 in
+    let e = if_none (has_already_down incs inc) _ _ d.1 in
+    let f = if_none (has_still_up incs inc) _ _ e.1 in
+    let g = if_none (has_up_thru_back incs inc) _ _ f.1 in
+    let h = if_none (has_ahead inc) _ _ g.1 in
+    let i = if_none (has_bad_pool incs inc) _ _ h.1 in
+    record { gap = a.0; known = (if_none (has_pool_known incs inc) _ _ i.1).0 }
 
 pub next_epoch : (incs : List Incremental) (inc : Incremental) → map_fault incs inc ≡ None → inc.epoch ≡ epoch incs + 1
 next_epoch incs inc fine = let gap : has_epoch_gap incs inc ≡ false = (next_of incs inc fine).gap in grind (arith, nat_tests)
@@ -75,7 +73,7 @@ numbered-more incs inc counts fine =
     let last : inc.epoch ≡ 1 + length incs = omega (arith, next_epoch incs inc fine, numbered-epoch incs counts) in
     let long : length (incs ++ inc ∷ []) ≡ suc (length incs) = omega (arith, length_push incs inc) in
     map_push (λ (i : Incremental). i.epoch) incs inc
-    ∙ ap₂ (λ l k. l ++ k ∷ []) counts last ∙ sym (range_with_len-snoc 1 (length incs)) ∙ ap (range_with_len 1) (sym long)
+    ∙ ap₂ (λ l k. l ++ k ∷ []) counts last ∙ sym (range_with_len-suc 1 (length incs)) ∙ ap (range_with_len 1) (sym long)
 
 record Ended (incs : List Incremental) : Type 0 where
   front : List Incremental
@@ -222,7 +220,7 @@ states-grow incs inc pg made first counts fine is within =
     let long : epoch (then_with incs inc) - first ≡ suc n = omega (arith, epoch-snoc incs inc, next_epoch incs inc fine) in
     let there : first + n ≡ epoch incs = omega arith in
     ap (λ k. filter_map (state_at_epoch (then_with incs inc) pg) (range_with_len first k)) long
-    ∙ ap (filter_map (state_at_epoch (then_with incs inc) pg)) (range_with_len-snoc first n)
+    ∙ ap (filter_map (state_at_epoch (then_with incs inc) pg)) (range_with_len-suc first n)
     ∙ filter_map-append (state_at_epoch (then_with incs inc) pg) (range_with_len first n) ((first + n) ∷ [])
     ∙ ap₂ (λ (states : List EpochState) (last : Option EpochState). states ++ filter_map (λ (u : Unit {0}). last) (tt ∷ []))
     (filter_map-agree (state_at_epoch (then_with incs inc) pg) (state_at_epoch incs pg) first n
@@ -292,3 +290,16 @@ pub history-begins-made : (incs : List Incremental) (inc : Incremental) (pg : Pg
 history-begins-made incs inc pg making there =
     history-begins (then_with incs inc) pg (made_at-made incs inc pg.pool making ∙ sym (epoch-snoc incs inc)) there
     ∙ ap (λ (e : ℕ). option_map (λ made. begun (code_of made.kind) e (pool_membership (then_with incs inc) pg made)) (pool (then_with incs inc) pg.pool)) (epoch-snoc incs inc)
+
+-- ---- the last epoch
+
+lasts_to : (incs : List Incremental) (pg : PgId) (made : PoolSpec) → AreNumbered incs → pool incs pg.pool ≡ Some made → made_at incs pg.pool ≤ epoch incs
+lasts_to incs pg made counts is = made_at-before incs pg.pool counts (ap is_some is)
+
+-- the history reaches the last epoch
+pub history-last : (incs : List Incremental) (pg : PgId) (h : History AnyCode) → AreNumbered incs → group_history incs pg ≡ Some h → h.first + length h.lived ≡ epoch incs
+history-last incs pg h counts is =
+    let from = history_if incs pg (pool incs pg.pool) h (has_group incs pg) is in
+    let first : made_at incs pg.pool ≡ h.first = ap (λ (g : History AnyCode). g.first) from.1.1 in
+    let within : made_at incs pg.pool ≤ epoch incs = lasts_to incs pg from.0 counts from.1.0 in
+    omega (arith, history-length incs pg h is)

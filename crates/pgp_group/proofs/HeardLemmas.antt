@@ -4,12 +4,14 @@ use Rattle.std.specs.List.{Contains, All}
 use Rattle.std.proofs.lemmas.Bool.{cases_Bool, true≢false}
 use Rattle.std.proofs.lemmas.Bool.Decides.{nat_tests}
 use Rattle.std.proofs.lemmas.List.Elements.{All-contains_itself, All-weaker}
+use Rattle.std.proofs.lemmas.List.Kept.{AllPairs-cons}
 use Rattle.pgp_ids.specs.Member.{is_same_member}
 use Rattle.pgp_ids.specs.declared.group_member.Member.{Member}
 use Rattle.pgp_ids.specs.declared.report.Info.{Info}
 use Rattle.pgp_info.specs.Best.{HasDistinctMembers}
 use Rattle.pgp_info.specs.Heard.{with_info}
-use Rattle.pgp_prior.proofs.ListLemmas.{Contains-here, Contains-first, Contains-later, Contains-cases, Contains-nil, AllPairs-cons, AllPairs-nil, contains-any}
+use Rattle.pgp_lists.proofs.Members.{Contains-here, Contains-first, Contains-later, Contains-cases, Contains-nil, contains-any}
+use Rattle.pgp_lists.proofs.Pairs.{AllPairs-nil}
 use Rattle.pgp_group.specs.Heard.{has_member, last_of_each_member, IsLastOfMember}
 
 same_member_itself : (a : Member) → is_same_member a a ≡ true

@@ -5,3 +5,5 @@ pub mod HistoryLemmas
 pub mod PeerLemmas
 pub mod Lists
 pub mod GrowthLemmas
+pub mod GroupLemmas
+pub mod FoundLemmas

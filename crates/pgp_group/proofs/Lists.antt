@@ -1,32 +1,24 @@
 -- Lists that grow, ranges, and last elements that pass a test.
 use Rattle.std.proofs.Common.{◌≡◌, ℕ, zero, suc, ◌+◌, ◌<◌, ◌≤◌, List, [], ◌∷◌, ◌++◌, Option, Some, None, Bool, true, false, ◌||◌, length, map, refl, ap, ap₂, sym, ◌∙◌, inl, inr, arith, if◌then◌else◌, append-nil, append_assoc, get_or, take}
 use Rattle.std.specs.List.{cons_option, filter, filter_map, flat_map, last_or, list_any, range_with_len}
-use Rattle.std.proofs.lemmas.Bool.{cases_Bool, true≢false}
+use Rattle.std.proofs.lemmas.Bool.{cases_Bool, or_parts, true≢false}
 use Rattle.std.proofs.lemmas.List.{take_more}
 use Rattle.std.proofs.lemmas.List.Elements.{filter-append}
 use Rattle.pgp_map.specs.Last.{last_where}
 
--- ---- tests
-
-pub none_left : (a b : Bool) → (a || b) ≡ false → a ≡ false
-none_left true b none = cc
-none_left false b none = refl
-
-pub none_right : (a b : Bool) → (a || b) ≡ false → b ≡ false
-none_right true b none = cc
-none_right false b none = none
+-- ---- elements that don't pass
 
 -- where no element passes a test, none passes a narrower one
 pub none-narrower : {X : Type 0} (narrow wide : X → Bool) → ((x : X) → narrow x ≡ true → wide x ≡ true) → (xs : List X) → list_any wide xs ≡ false → list_any narrow xs ≡ false
 none-narrower narrow wide each [] none = refl
 none-narrower narrow wide each (x ∷ xs) none = elim (cases_Bool (narrow x)) [
-  | inl passes ↦ absurd (true≢false (sym (each x passes) ∙ none_left (wide x) _ none))
-  | inr fails ↦ rw fails (none-narrower narrow wide each xs (none_right (wide x) _ none))
+  | inl passes ↦ absurd (true≢false (sym (each x passes) ∙ (or_parts (wide x) _ none).0))
+  | inr fails ↦ rw fails (none-narrower narrow wide each xs (or_parts (wide x) _ none).1)
 ]
 
 pub filter-none : {X : Type 0} (test : X → Bool) (xs : List X) → list_any test xs ≡ false → filter test xs ≡ []
 filter-none test [] none = refl
-filter-none test (x ∷ xs) none = rw (none_left (test x) _ none) (filter-none test xs (none_right (test x) _ none))
+filter-none test (x ∷ xs) none = rw ((or_parts (test x) _ none).0) (filter-none test xs (or_parts (test x) _ none).1)
 
 -- ---- lists that grow by one
 
@@ -49,12 +41,6 @@ last_where-none {X = X} test xs ys none =
     ap (last_or None) (filter-append test xs ys ∙ ap (λ (l : List X). filter test xs ++ l) (filter-none test ys none) ∙ append-nil (filter test xs))
 
 -- ---- ranges
-
-pub range_with_len-snoc : (a n : ℕ) → range_with_len a (suc n) ≡ range_with_len a n ++ (a + n) ∷ []
-range_with_len-snoc a zero = ap (λ k. k ∷ []) (omega arith)
-range_with_len-snoc a (suc n) =
-    let last : a + 1 + n ≡ a + suc n = omega arith in
-    ap (λ l. a ∷ l) (range_with_len-snoc (a + 1) n ∙ ap (λ k. range_with_len (a + 1) n ++ k ∷ []) last)
 
 pub filter_map-agree : {Y : Type 0} (f g : ℕ → Option Y) (a n : ℕ) → ((k : ℕ) → k < a + n → f k ≡ g k) → filter_map f (range_with_len a n) ≡ filter_map g (range_with_len a n)
 filter_map-agree f g a zero same = refl

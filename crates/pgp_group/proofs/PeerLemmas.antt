@@ -1,23 +1,26 @@
 -- The states of peers: each other heard member of up and acting has one, in ascending order.
-use Rattle.std.proofs.Common.{◌≡◌, ◌≢◌, List, [], ◌∷◌, ◌++◌, Option, Some, None, Bool, true, false, not, map, refl, ap, sym, ◌∙◌, subst, inl, inr, arith}
+use Rattle.std.proofs.Common.{◌≡◌, ◌≢◌, ℕ, ◌+◌, ◌<◌, List, [], ◌∷◌, ◌++◌, Option, Some, None, Bool, true, false, not, get_or, length, map, take, refl, ap, sym, ◌∙◌, subst, inl, inr, arith, append-nil, if◌then◌else◌}
 use Rattle.std.specs.List.{Contains, All, AllPairs, cons_option, filter, filter_map, find, list_any}
 use Rattle.std.specs.Option.{option_map_or}
 use Rattle.std.specs.Ordering.{on}
-use Rattle.std.proofs.lemmas.Bool.{and_parts, cases_Bool, eqb-true}
+use Rattle.std.proofs.lemmas.Bool.{and_parts, cases_Bool, eqb-true, true≢false}
 use Rattle.std.proofs.lemmas.Bool.Decides.{nat_tests}
-use Rattle.std.proofs.lemmas.List.Elements.{All-contains, All-contains_itself, All-map, All-weaker}
-use Rattle.std.proofs.lemmas.List.Kept.{AllPairs-filter}
+use Rattle.std.proofs.lemmas.List.Elements.{All-contains, All-contains_itself, All-weaker, filter_map-append}
+use Rattle.std.proofs.lemmas.List.Kept.{AllPairs-cons, AllPairs-filter}
 use Rattle.pgp_ids.specs.Member.{is_before, is_same_member}
 use Rattle.pgp_ids.specs.declared.group_member.Member.{Member}
 use Rattle.pgp_ids.specs.declared.peer.PeerMissing.{PeerMissing}
 use Rattle.pgp_ids.specs.declared.report.Info.{Info}
-use Rattle.pgp_prior.specs.Ascending.{ascending, IsAscending}
-use Rattle.pgp_prior.proofs.ListLemmas.{Contains-first, Contains-later, Contains-cases, Contains-nil, filter-contains, contains-filter, any-contains, contains-any, AllPairs-cons, AllPairs-first, AllPairs-rest, AllPairs-nil}
-use Rattle.pgp_prior.proofs.AscendingLemmas.{ascending-contains, contains-ascending, IsAscending-ascending, member_order}
+use Rattle.pgp_lists.specs.Ordered.{ascending, IsAscending}
+use Rattle.pgp_lists.proofs.Members.{Contains-first, Contains-later, Contains-cases, Contains-nil, filter-contains, contains-filter, any-contains, contains-any, find-some, find-none}
+use Rattle.pgp_lists.proofs.Pairs.{AllPairs-first, AllPairs-mapped, AllPairs-nil, AllPairs-rest}
+use Rattle.pgp_lists.proofs.Ordered.{ascending-contains, contains-ascending, IsAscending-ascending}
+use Rattle.pgp_prior.specs.MemberOrder.{member_order}
 use Rattle.pgp_group.specs.GroupLog.{GroupLog}
 use Rattle.pgp_info.specs.Best.{HasDistinctMembers}
 use Rattle.pgp_group.specs.Heard.{counted_infos, heard}
 use Rattle.pgp_group.proofs.HeardLemmas.{HasDistinctMembers-last_of}
+use Rattle.pgp_group.proofs.Lists.{filter-passes, filter-fails}
 use Rattle.pgp_group.specs.Peering.{up_members, acting_members, present_members, info_of, others_heard, is_peer, peers, peer_missing, peer_states, whole_best}
 
 -- ---- members
@@ -55,42 +58,21 @@ record Found (infos : List Info) (member : Member) (info : Info) : Type 0 where
 
 -- what is found is an info of the member
 found_of : (infos : List Info) (member : Member) (info : Info) → info_of infos member ≡ Some info → Found infos member info
-found_of [] member info found = cc
-found_of (first ∷ infos) member info found = elim (cases_Bool (is_same_member first.member member)) [
-  | inl here ↦
-      let first_is : Some first ≡ Some info = rw here at found in
-      let is : first ≡ info = cc in
-      record { there = Contains-first first infos info is; of_member = ap (λ (i : Info). i.member) (sym is) ∙ same_member first.member member here }
-  | inr other ↦
-      let rest = found_of infos member info (rw other at found) in
-      record { there = Contains-later first infos info rest.there; of_member = rest.of_member }
-]
+found_of infos member info found =
+    let some = find-some (λ (i : Info). is_same_member i.member member) infos info found in
+    record { there = some.0; of_member = same_member info.member member some.1 }
 
 -- where there is an info of the member, one is found
-record Some_of (found : Option Info) : Type 0 where
-  info : Info
-  is : found ≡ Some info
-
-some_of : (infos : List Info) (member : Member) (info : Info) → Contains infos info → info.member ≡ member → Some_of (info_of infos member)
-some_of [] member info there same = absurd (Contains-nil info there)
-some_of (first ∷ infos) member info there same = elim (cases_Bool (is_same_member first.member member)) [
-  | inl here ↦ record { info = first; is = rw here refl }
-  | inr other ↦ elim (Contains-cases first infos info there) [
-    | inl is ↦
-        let here : is_same_member first.member member ≡ true = same_member_as first.member member (ap (λ (i : Info). i.member) is ∙ same) in
-        absurd (differs here other)
-    | inr later ↦ let rest = some_of infos member info later same in record { info = rest.info; is = rw other rest.is }
-  ]
-]
-  where
-    differs : {b : Bool} → b ≡ true → b ≡ false → ⊥
-    differs is isnt = cc
+some_of : (infos : List Info) (member : Member) (info : Info) → Contains infos info → info.member ≡ member → (found : Option Info) → info_of infos member ≡ found → (other : Info) × (info_of infos member ≡ Some other)
+some_of infos member info there same None none =
+    absurd (true≢false (sym (same_member_as info.member member same) ∙ find-none (λ (i : Info). is_same_member i.member member) infos info none there))
+some_of infos member info there same (Some other) found = (other, found)
 
 info_of-is : (infos : List Info) → HasDistinctMembers infos → (info : Info) → Contains infos info → info_of infos info.member ≡ Some info
 info_of-is infos distinct info there =
-    let some = some_of infos info.member info there refl in
-    let found = found_of infos info.member some.info some.is in
-    some.is ∙ ap Some (one_of_member infos distinct some.info info found.there there found.of_member)
+    let some = some_of infos info.member info there refl (info_of infos info.member) refl in
+    let found = found_of infos info.member some.0 some.1 in
+    some.1 ∙ ap Some (one_of_member infos distinct some.0 info found.there there found.of_member)
 
 -- ---- a list of what is found
 
@@ -179,16 +161,6 @@ peers-ascend g best =
     ascend_found (info_of (heard g)) (λ m info is. (found_of (heard g) m info is).of_member) (filter (is_other best) (present_members g))
     (AllPairs-filter (λ (x y : Member). is_before x y ≡ true) (is_other best) (present_members g) (IsAscending-ascending is_before member_order (up_members g ++ acting_members g)))
 
-All-mapped : {X Y : Type 0} (f : X → Y) (P : X → Type 0) (Q : Y → Type 0) → ((x : X) → P x → Q (f x)) → (xs : List X) → All P xs → All Q (map f xs)
-All-mapped f P Q each xs all = All-map Q f xs (All-weaker P (λ x. Q (f x)) each xs all)
-
-AllPairs-mapped : {X Y : Type 0} (f : X → Y) (R : X → X → Type 0) (S : Y → Y → Type 0) → ((x y : X) → R x y → S (f x) (f y)) → (xs : List X) → AllPairs R xs → AllPairs S (map f xs)
-AllPairs-mapped f R S each [] pairs = AllPairs-nil S
-AllPairs-mapped f R S each (x ∷ xs) pairs =
-    AllPairs-cons S (f x) (map f xs)
-    (All-mapped f (R x) (S (f x)) (each x) xs (AllPairs-first R x xs pairs))
-    (AllPairs-mapped f R S each xs (AllPairs-rest R x xs pairs))
-
 states-ascend : (g : GroupLog) (found : Option Info) → IsAscending (on (λ (p : PeerMissing). p.member) is_before) (option_map_or (λ (best : Info). map (peer_missing g best) (peers g best)) found [])
 states-ascend g None = AllPairs-nil (λ (x y : PeerMissing). is_before x.member y.member ≡ true)
 states-ascend g (Some best) =
@@ -197,3 +169,29 @@ states-ascend g (Some best) =
 
 pub peer_states-ascend : (g : GroupLog) → IsAscending (on (λ (p : PeerMissing). p.member) is_before) (peer_states g)
 peer_states-ascend g = states-ascend g (whole_best g)
+
+-- ---- one more member
+
+others-same : (all : List Member) (kept : List Info) (info : Info) (i : ℕ) (x : Member) → i < length all → x ≡ get_or all i x → is_same_member x info.member ≡ true → others_heard (take (i + 1) all) kept info ≡ others_heard (take i all) kept info
+others-same all kept info i x within item same =
+    let fails : not (is_same_member x info.member) ≡ false = rw same refl in
+    ap (filter_map (info_of kept)) (filter-fails (λ (m : Member). not (is_same_member m info.member)) all i x within item fails)
+
+others-next : (all : List Member) (kept : List Info) (info : Info) (i : ℕ) (x : Member) (found : Option Info) → i < length all → x ≡ get_or all i x → is_same_member x info.member ≡ false → info_of kept x ≡ found → others_heard (take (i + 1) all) kept info ≡ others_heard (take i all) kept info ++ cons_option found []
+others-next all kept info i x found within item other is =
+    let passes : not (is_same_member x info.member) ≡ true = rw other refl in
+    ap (filter_map (info_of kept)) (filter-passes (λ (m : Member). not (is_same_member m info.member)) all i x within item passes)
+    ∙ filter_map-append (info_of kept) (filter (λ (m : Member). not (is_same_member m info.member)) (take i all)) (x ∷ [])
+    ∙ ap (λ (o : Option Info). others_heard (take i all) kept info ++ cons_option o []) is
+
+pub others-one : (all : List Member) (kept : List Info) (info : Info) (i : ℕ) (x : Member) → i < length all → x ≡ get_or all i x → (peer : Info) → Some peer ≡ (if is_same_member x info.member then None else info_of kept x) → others_heard (take (i + 1) all) kept info ≡ others_heard (take i all) kept info ++ peer ∷ []
+others-one all kept info i x within item peer found = elim (cases_Bool (is_same_member x info.member)) [
+  | inl same ↦ let none : Some peer ≡ None = rw same at found in cc
+  | inr other ↦ others-next all kept info i x (Some peer) within item other (sym (rw other at found))
+]
+
+pub others-none : (all : List Member) (kept : List Info) (info : Info) (i : ℕ) (x : Member) → i < length all → x ≡ get_or all i x → None ≡ (if is_same_member x info.member then None else info_of kept x) → others_heard (take (i + 1) all) kept info ≡ others_heard (take i all) kept info
+others-none all kept info i x within item found = elim (cases_Bool (is_same_member x info.member)) [
+  | inl same ↦ others-same all kept info i x within item same
+  | inr other ↦ others-next all kept info i x None within item other (sym (rw other at found)) ∙ append-nil (others_heard (take i all) kept info)
+]

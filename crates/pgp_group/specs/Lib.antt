@@ -10,3 +10,5 @@ pub mod Examples
 pub mod Worked
 pub mod Present
 pub mod Causes
+pub mod GroupOf
+pub mod Found

@@ -12,7 +12,7 @@ use Rattle.pgp_info.specs.Best.{best_info}
 use Rattle.pgp_interval.specs.Runs.{past_intervals}
 use Rattle.pgp_missing.specs.Log.{is_whole}
 use Rattle.pgp_missing.specs.Missing.{peer_state}
-use Rattle.pgp_prior.specs.Ascending.{ascending}
+use Rattle.pgp_lists.specs.Ordered.{ascending}
 use Rattle.pgp_prior.specs.Members.{members_of}
 use Rattle.pgp_prior.specs.Prior.{prior_set}
 use Rattle.pgp_prior.specs.declared.prior_set.Prior.{Prior}

@@ -9,4 +9,11 @@ mod causes;
 mod copies;
 mod counted;
 pub mod laws;
+mod found;
+mod group;
+mod heard;
+mod peers;
 mod reported;
+mod standing;
+
+pub use group::Group;
