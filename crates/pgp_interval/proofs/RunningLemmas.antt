@@ -8,8 +8,7 @@ use Rattle.pgp_ids.specs.declared.member.Membership.{Membership}
 use Rattle.pgp_ids.specs.declared.past.Past.{Past}
 use Rattle.pgp_interval.specs.SameMembers.{is_same}
 use Rattle.pgp_interval.specs.History.{History, stepped, last_place}
-use Rattle.pgp_interval.specs.ReadWrite.{may_have_gone_rw}
-use Rattle.pgp_interval.specs.Runs.{past_intervals, current_first, current_ending}
+use Rattle.pgp_interval.specs.Runs.{past_of, past_intervals, current_first, current_ending}
 use Rattle.pgp_interval.specs.IntervalsOf.{Running, IsIntervalsOf}
 use Rattle.pgp_interval.proofs.Same.{is_same-eq, eq-is_same}
 use Rattle.pgp_interval.proofs.StepLemmas.{past_intervals-continues, current_first-continues, past_intervals-ends, current_first-ends}
@@ -34,12 +33,7 @@ module _ {C : Type 0} (enough : C → List ℕ → Bool) (by_place : C → Bool)
   abbrev ended : Running C → PrimaryFacts → Past
   ended running facts =
       let last : EpochState = record { members = running.current; facts = facts } in
-      record {
-        first = running.first;
-        last = running.last;
-        members = running.current;
-        rw = may_have_gone_rw (enough running.code) (by_place running.code) last running.first;
-      }
+      past_of (enough running.code) (by_place running.code) running.first running.last last
 
   ended-is : (h : History C) (running : Running C) → IsIntervalsOf enough by_place h running → (facts : PrimaryFacts) → ended running facts ≡ current_ending enough by_place h facts
   ended-is h running is facts = rw (is.code_is, is.first_is, is.last_is, is.current_is) refl

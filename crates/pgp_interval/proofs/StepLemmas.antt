@@ -1,5 +1,5 @@
 -- What a step does to the intervals: the past ones stay, and the current one goes on or ends.
-use Rattle.std.proofs.Common.{◌≡◌, ◌≢◌, ℕ, zero, suc, ◌+◌, ◌<◌, ◌≤◌, List, [], ◌∷◌, ◌++◌, Bool, true, false, not, cond, map, filter, fold, max, refl, ap, sym, ◌∙◌, arith, add-one, inl, inr}
+use Rattle.std.proofs.Common.{◌≡◌, ◌≢◌, ℕ, zero, suc, ◌+◌, ◌<◌, ◌≤◌, List, [], ◌∷◌, ◌++◌, Bool, true, false, not, cond, map, filter, fold, max, refl, ap, ap₂, sym, ◌∙◌, arith, add-one, inl, inr}
 use Rattle.std.specs.List.{range_with_len}
 use Rattle.std.proofs.lemmas.Bool.{cases_Bool, cases_lt}
 use Rattle.std.proofs.lemmas.List.{get_or_append_left, get_or_default, get_or_push, length_push}
@@ -9,8 +9,7 @@ use Rattle.pgp_ids.specs.declared.member.Membership.{Membership}
 use Rattle.pgp_ids.specs.declared.past.Past.{Past}
 use Rattle.pgp_interval.specs.SameMembers.{is_same}
 use Rattle.pgp_interval.specs.History.{History, stepped, last_place, current_state, state_at, members_at}
-use Rattle.pgp_interval.specs.ReadWrite.{may_have_gone_rw}
-use Rattle.pgp_interval.specs.Runs.{ends_at, opens_at, opening_of, past_ending, past_intervals, current_first, current_ending}
+use Rattle.pgp_interval.specs.Runs.{ends_at, opens_at, opening_of, past_of, past_ending, past_intervals, current_first, current_ending}
 use Rattle.pgp_interval.proofs.Openings.{opening_of-opens, opening_of-stays, opens_at-next}
 use Rattle.pgp_lists.proofs.Ranges.{filter_range-suc, map_filter_range-passes, map_filter_range-fails}
 use Rattle.pgp_interval.proofs.IntervalLemmas.{members_at-last_place, same-stays, differ-ends}
@@ -78,21 +77,9 @@ opening_of-stepped h members facts place within =
 
 -- ---- the past intervals
 
--- the past interval of a history with this first epoch and code, from its opening and its last state
-abbrev past_of : (List ℕ → Bool) → Bool → ℕ → ℕ → ℕ → EpochState → Past
-past_of enough by_place first last opening state =
-    record {
-      first = first + opening;
-      last = first + last;
-      members = state.members;
-      rw = may_have_gone_rw enough by_place state (first + opening);
-    }
-
-past_ending-at : {C : Type 0} (enough : C → List ℕ → Bool) (by_place : C → Bool) (h : History C) (members : Membership) (facts : PrimaryFacts) (place : ℕ) (state : EpochState) → place ≤ last_place h → state_at (stepped h members facts) place ≡ state → past_ending enough by_place (stepped h members facts) place ≡ past_of (enough h.code) (by_place h.code) h.first place (opening_of h place) state
+past_ending-at : {C : Type 0} (enough : C → List ℕ → Bool) (by_place : C → Bool) (h : History C) (members : Membership) (facts : PrimaryFacts) (place : ℕ) (state : EpochState) → place ≤ last_place h → state_at (stepped h members facts) place ≡ state → past_ending enough by_place (stepped h members facts) place ≡ past_of (enough h.code) (by_place h.code) (h.first + opening_of h place) (h.first + place) state
 past_ending-at enough by_place h members facts place state within at =
-    ap (λ (k : ℕ). past_of (enough h.code) (by_place h.code) h.first place k (state_at (stepped h members facts) place))
-    (opening_of-stepped h members facts place within)
-    ∙ ap (λ (s : EpochState). past_of (enough h.code) (by_place h.code) h.first place (opening_of h place) s) at
+    ap₂ (λ k s. past_of (enough h.code) (by_place h.code) (h.first + k) (h.first + place) s) (opening_of-stepped h members facts place within) at
 
 past-stepped : {C : Type 0} (enough : C → List ℕ → Bool) (by_place : C → Bool) (h : History C) (members : Membership) (facts : PrimaryFacts) → map (past_ending enough by_place (stepped h members facts)) (filter (ends_at (stepped h members facts)) (range_with_len 0 (last_place h))) ≡ past_intervals enough by_place h
 past-stepped enough by_place h members facts =

@@ -26,16 +26,20 @@ greatest_below test limit = fold max 0 (filter test (range_with_len 0 limit))
 abbrev pub opening_of : {C : Type 0} → History C → ℕ → ℕ
 opening_of h place = greatest_below (opens_at h) (place + 1)
 
+-- the past interval from the epoch `first` to the epoch `last`, which ended in this state
+abbrev pub past_of : (List ℕ → Bool) → Bool → ℕ → ℕ → EpochState → Past
+past_of enough by_place first last ended =
+    record {
+      first = first;
+      last = last;
+      members = ended.members;
+      rw = may_have_gone_rw enough by_place ended first;
+    }
+
 -- the past interval that ends at this place
 abbrev pub past_ending : {C : Type 0} → (C → List ℕ → Bool) → (C → Bool) → History C → ℕ → Past
 past_ending enough by_place h last =
-    let first = h.first + opening_of h last in
-    record {
-      first = first;
-      last = h.first + last;
-      members = members_at h last;
-      rw = may_have_gone_rw (enough h.code) (by_place h.code) (state_at h last) first;
-    }
+    past_of (enough h.code) (by_place h.code) (h.first + opening_of h last) (h.first + last) (state_at h last)
 
 -- the last places of the past intervals, in ascending order
 abbrev pub past_ends : {C : Type 0} → History C → List ℕ
@@ -52,10 +56,5 @@ current_first h = h.first + opening_of h (last_place h)
 -- the current interval as a past one, where it ends with these facts
 abbrev pub current_ending : {C : Type 0} → (C → List ℕ → Bool) → (C → Bool) → History C → PrimaryFacts → Past
 current_ending enough by_place h facts =
-    let last : EpochState = record { members = h.current; facts = facts } in
-    record {
-      first = current_first h;
-      last = h.first + last_place h;
-      members = h.current;
-      rw = may_have_gone_rw (enough h.code) (by_place h.code) last (current_first h);
-    }
+    let ended : EpochState = record { members = h.current; facts = facts } in
+    past_of (enough h.code) (by_place h.code) (current_first h) (h.first + last_place h) ended

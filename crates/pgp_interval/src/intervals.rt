@@ -3,8 +3,8 @@ ghost use Rattle.pgp_interval.specs.History.{History, begun, stepped};
 ghost use Rattle.pgp_interval.specs.IntervalsOf.{IsIntervalsOf};
 ghost use Rattle.pgp_interval.specs.Runs.{past_intervals, current_first};
 
-use super::members::{copy_of, copy_of_past, is_same};
-use super::read_write::may_have_gone_rw;
+use super::members::{copy_of, is_same};
+use super::past::{copy_of_past, past_of};
 use pgp_code::Recoverable;
 use pgp_ids::{Epoch, EpochState, Membership, Past, PrimaryFacts};
 use std::alloc::{AllocError, Global};
@@ -76,13 +76,8 @@ impl<R: Recoverable> Intervals<R> {
                 members: mem::replace(&mut self.current, members),
                 facts,
             };
-            let rw = may_have_gone_rw(&self.code, &ended, self.first);
-            self.past.push_reserved(Past {
-                first: self.first,
-                last: self.last,
-                members: ended.members,
-                rw,
-            });
+            let past = past_of(&self.code, self.first, self.last, ended);
+            self.past.push_reserved(past);
             self.first = epoch;
         }
         self.last = epoch;

@@ -1,7 +1,7 @@
 ghost use Rattle.std.specs.Prelude.{◌≡◌};
 ghost use Rattle.pgp_interval.specs.SameMembers.{is_same};
 
-use pgp_ids::{Membership, Osds, Past};
+use pgp_ids::{Membership, Osds};
 
 /// Whether all six fields are the same.
 pub fn is_same(a: &Membership, b: &Membership) -> bool
@@ -32,15 +32,4 @@ fn copy_of_places(places: &Osds) -> Osds
         copy.push(*place);
     }
     copy
-}
-
-pub fn copy_of_past(past: &Past) -> Past
-    ensures { result ≡ past.now }
-{
-    Past {
-        first: past.first,
-        last: past.last,
-        members: copy_of(&past.members),
-        rw: past.rw,
-    }
 }

@@ -1,11 +1,6 @@
-pub mod ListLemmas
-pub mod AscendingLemmas
+pub mod Lists
 pub mod PriorLemmas
 pub mod SlotLemmas
 pub mod BetterLemmas
-pub mod PutLemmas
 pub mod MemberLemmas
-pub mod WithLemmas
-pub mod WalkLemmas
-pub mod IntervalLemmas
 pub mod DownLemmas

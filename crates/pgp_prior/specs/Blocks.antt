@@ -1,7 +1,7 @@
 -- The past intervals that a placement group has to reckon with, and those for whose devices it has to wait (Ceph's
 -- developer documentation on peering: the prior set). `status` says what has become of a device of an interval, given
 -- the first epoch of the interval.
-use Rattle.std.specs.Prelude.{ℕ, List, Bool, true, false, not, ◌&&◌, nat_le, filter}
+use Rattle.std.specs.Prelude.{ℕ, List, Bool, true, false, not, ◌&&◌, nat_le, map, filter}
 use Rattle.std.specs.List.{list_any}
 use Rattle.pgp_ids.specs.declared.group_member.Member.{Member}
 use Rattle.pgp_ids.specs.declared.past.Past.{Past}
@@ -37,6 +37,10 @@ matters les past = past.rw && nat_le les past.last
 abbrev pub acting_where : (Status → Bool) → Bool → (ℕ → ℕ → Status) → Past → List Member
 acting_where test by_place status past =
     filter (λ member. test (status member.osd past.first)) (members_of by_place past.members.acting)
+
+-- the devices of acting that are down
+abbrev pub down_osds : Bool → (ℕ → ℕ → Status) → Past → List ℕ
+down_osds by_place status past = map (λ member. member.osd) (acting_where is_down by_place status past)
 
 -- the slots of the acting members that are up or lost
 abbrev pub settled_slots : Bool → (ℕ → ℕ → Status) → Past → List ℕ

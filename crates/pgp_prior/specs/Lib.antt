@@ -1,6 +1,5 @@
-pub mod Ascending
-pub mod Members
 pub mod MemberOrder
+pub mod Members
 pub mod Blocks
 pub mod Prior
 pub mod Better

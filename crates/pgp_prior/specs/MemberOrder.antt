@@ -1,5 +1,5 @@
 -- Members stand in one order: of two that are not the same one stands before the other.
-use Rattle.std.proofs.Common.{◌≡◌, Bool, true, false, arith}
+use Rattle.std.proofs.Common.{◌≡◌, true, false, arith}
 use Rattle.std.proofs.lemmas.Bool.Decides.{nat_tests}
 use Rattle.pgp_ids.specs.Member.{is_before}
 use Rattle.pgp_ids.specs.declared.group_member.Member.{Member}

@@ -1,9 +1,9 @@
 -- The members of a list of devices (Ceph's documentation of erasure-coded pools: a shard is a device and its place). In an
 -- erasure pool a member's slot is its place in the list, in a replicated pool it is 0.
-use Rattle.std.specs.Prelude.{ℕ, List, [], length, fold, filter_map, Option, None, option_map, Bool, if◌then◌else◌, slice_index_or}
+use Rattle.std.specs.Prelude.{ℕ, List, length, map, filter_map, Option, None, option_map, Bool, nat_lt, if◌then◌else◌, slice_index_or}
 use Rattle.std.specs.List.{range_with_len}
-use Rattle.pgp_ids.specs.SlotSet.{with_slot}
 use Rattle.pgp_ids.specs.declared.group_member.Member.{Member}
+use Rattle.pgp_lists.specs.Ordered.{ascending}
 
 -- the member at this place, if a device stands there
 abbrev pub member_at : Bool → List (Option ℕ) → ℕ → Option Member
@@ -16,4 +16,4 @@ members_of by_place places = filter_map (member_at by_place places) (range_with_
 
 -- the slots in which members are, in ascending order, each once
 abbrev pub slots_of : List Member → List ℕ
-slots_of members = fold (λ slots member. with_slot member.slot slots) [] members
+slots_of members = ascending nat_lt (map (λ member. member.slot) members)

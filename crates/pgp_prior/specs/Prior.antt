@@ -1,5 +1,5 @@
 -- The prior set of a placement group (Ceph's developer documentation on peering).
-use Rattle.std.specs.Prelude.{◌≡◌, ◌⊎◌, ℕ, List, ◌++◌, Bool, true, false, map, filter, flat_map, nat_lt, Contains}
+use Rattle.std.specs.Prelude.{◌≡◌, ◌⊎◌, ℕ, List, ◌++◌, Bool, true, false, filter, flat_map, nat_lt, Contains}
 use Rattle.std.specs.List.{list_any}
 use Rattle.pgp_ids.specs.Member.{is_before}
 use Rattle.pgp_ids.specs.declared.group_member.Member.{Member}
@@ -8,9 +8,9 @@ use Rattle.pgp_ids.specs.declared.past.Past.{Past}
 use Rattle.pgp_sets.specs.declared.status.Status.{Status}
 use Rattle.pgp_sets.specs.declared.status.Status.TheVariants.{Up, Down}
 use Rattle.pgp_prior.specs.declared.prior_set.Prior.{Prior}
-use Rattle.pgp_prior.specs.Ascending.{ascending}
+use Rattle.pgp_lists.specs.Ordered.{ascending}
 use Rattle.pgp_prior.specs.Members.{members_of}
-use Rattle.pgp_prior.specs.Blocks.{is_up, is_down, matters, acting_where, settled_slots, blocks}
+use Rattle.pgp_prior.specs.Blocks.{is_up, matters, acting_where, down_osds, settled_slots, blocks}
 
 -- the members that have to be heard: those of up and acting, and those of acting of each interval that matters that are up
 abbrev pub probe : Bool → (ℕ → ℕ → Status) → ℕ → List Past → Membership → List Member
@@ -22,9 +22,7 @@ probe by_place status les past current =
 -- the devices for which the group has to wait: those of intervals that block that are down
 abbrev pub blocked_by : (List ℕ → Bool) → Bool → (ℕ → ℕ → Status) → ℕ → List Past → List ℕ
 blocked_by enough by_place status les past =
-    ascending nat_lt
-    (map (λ member. member.osd)
-    (flat_map (acting_where is_down by_place status) (filter (blocks enough by_place status les) past)))
+    ascending nat_lt (flat_map (down_osds by_place status) (filter (blocks enough by_place status les) past))
 
 -- some interval blocks
 abbrev pub is_group_down : (List ℕ → Bool) → Bool → (ℕ → ℕ → Status) → ℕ → List Past → Bool

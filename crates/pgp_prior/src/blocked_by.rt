@@ -1,13 +1,13 @@
-ghost use Rattle.std.specs.Prelude.{◌≡◌, IfOk, OnOk, nat_lt, map};
-ghost use Rattle.pgp_prior.specs.Ascending.{IsAscending, with_items};
-ghost use Rattle.pgp_prior.specs.Blocks.{is_down, acting_where};
+ghost use Rattle.std.specs.Prelude.{◌≡◌, IfOk, OnOk, nat_lt};
+ghost use Rattle.pgp_lists.specs.Ordered.{IsAscending, with_items};
+ghost use Rattle.pgp_prior.specs.Blocks.{down_osds};
 ghost use Rattle.pgp_prior.specs.Prior.{blocked_by};
 
-use super::ascending::put;
 use super::blocks::{blocks, is_down};
 use super::members::members_of;
 use pgp_code::Recoverable;
 use pgp_ids::{Epoch, OsdId, Past, Seq};
+use pgp_lists::put;
 use pgp_sets::StatusOf;
 use std::alloc::{AllocError, Global};
 
@@ -40,8 +40,8 @@ fn add_down<S: StatusOf>(
     past: &Past,
 ) -> Result<(), AllocError>
     requires { IsAscending nat_lt list.old.items }
-    ensures { OnOk result (list.new.items ≡ with_items nat_lt
-        (map (λ member. member.osd) (acting_where is_down by_place (S.status_of statuses.now) past.now)) list.old.items) }
+    ensures { OnOk result (list.new.items
+        ≡ with_items nat_lt (down_osds by_place (S.status_of statuses.now) past.now) list.old.items) }
 {
     for member in members_of(by_place, &past.members.acting) {
         if is_down(statuses.status(member.osd, past.first)) {

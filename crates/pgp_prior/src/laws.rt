@@ -6,7 +6,7 @@ ghost use Rattle.pgp_ids.specs.declared.member.Membership.{Membership};
 ghost use Rattle.pgp_ids.specs.declared.past.Past.{Past};
 ghost use Rattle.pgp_sets.specs.declared.status.Status.{Status};
 ghost use Rattle.pgp_sets.specs.declared.status.Status.TheVariants.{Up, Gone, Lost, Down};
-ghost use Rattle.pgp_prior.specs.Ascending.{IsAscending};
+ghost use Rattle.pgp_lists.specs.Ordered.{IsAscending};
 ghost use Rattle.pgp_prior.specs.Prior.{probe, blocked_by, is_group_down, IsBlocking, IsProbed};
 ghost use Rattle.pgp_prior.specs.Better.{IsNoWorse};
 ghost use Rattle.pgp_prior.specs.Examples.{prior_with, in_slot};

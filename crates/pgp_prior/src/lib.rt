@@ -5,7 +5,6 @@
 //! more come back or are given up for lost (Ceph's developer documentation on peering: the prior set).
 #![tactic(auto)]
 
-mod ascending;
 mod blocked_by;
 mod blocks;
 pub mod laws;

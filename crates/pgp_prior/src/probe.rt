@@ -1,14 +1,14 @@
 ghost use Rattle.std.specs.Prelude.{◌≡◌, IfOk, OnOk};
 ghost use Rattle.pgp_ids.specs.Member.{is_before};
-ghost use Rattle.pgp_prior.specs.Ascending.{IsAscending, with_items};
+ghost use Rattle.pgp_lists.specs.Ordered.{IsAscending, with_items};
 ghost use Rattle.pgp_prior.specs.Members.{members_of};
 ghost use Rattle.pgp_prior.specs.Blocks.{is_up, acting_where};
 ghost use Rattle.pgp_prior.specs.Prior.{probe};
 
-use super::ascending::put;
 use super::blocks::matters;
 use super::members::members_of;
 use pgp_ids::{Epoch, Member, Membership, Osds, Past, Seq};
+use pgp_lists::put;
 use pgp_sets::{Status, StatusOf};
 use std::alloc::{AllocError, Global};
 

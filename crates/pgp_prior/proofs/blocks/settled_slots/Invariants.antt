@@ -1,7 +1,7 @@
-use Rattle.std.proofs.Common.{◌≡◌, ◌<◌}
-use Rattle.std.specs.List.{All, filter, fold}
-use Rattle.pgp_ids.specs.SlotSet.{with_slot}
+use Rattle.std.proofs.Common.{◌≡◌, ◌<◌, map, nat_lt}
+use Rattle.std.specs.List.{All, filter}
 use Rattle.pgp_ids.specs.declared.group_member.Member.{Member}
+use Rattle.pgp_lists.specs.Ordered.{with_items}
 use Rattle.pgp_prior.specs.Blocks.{is_settled, settled_slots}
 use Rattle.pgp_prior.proofs.blocks.settled_slots.Given as goal
 
@@ -10,5 +10,5 @@ abbrev pub invariant-loop-member : goal.invariant-loop-member
 invariant-loop-member g l =
     (goal.iterator-loop-member g).can_next l.member-iterator
     × (goal.iterator-loop-member g).is_finite l.member-iterator
-    × (fold (λ slots member. with_slot member.slot slots) l.slots (filter (λ member. is_settled (g.S.StatusOf.status_of l.statuses member.osd l.past.first)) l.member-iterator) ≡ settled_slots l.by_place (g.S.StatusOf.status_of l.statuses) l.past)
+    × (with_items nat_lt (map (λ member. member.slot) (filter (λ member. is_settled (g.S.StatusOf.status_of l.statuses member.osd l.past.first)) l.member-iterator)) l.slots ≡ settled_slots l.by_place (g.S.StatusOf.status_of l.statuses) l.past)
     × All (λ (member : Member). member.slot < 16) l.member-iterator

@@ -3,4 +3,4 @@ use Rattle.pgp_prior.proofs.laws.better_statuses_never_block.Goals as goal
 
 pub returns : goal.returns
 returns g c = λ code old new les past better up.
-    not_down-better (g.R.Recoverable.enough code) (g.met.R.Recoverable.monotone code) (g.R.Recoverable.by_place code) old new better les past up
+    not_down-better (g.R.Recoverable.by_place code) old new better (g.R.Recoverable.enough code) (g.met.R.Recoverable.monotone code) les past up

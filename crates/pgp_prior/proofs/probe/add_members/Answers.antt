@@ -1,9 +1,10 @@
 use Rattle.std.proofs.Common.{◌≡◌, List, subst, sym}
 use Rattle.pgp_ids.specs.Member.{is_before}
 use Rattle.pgp_ids.specs.declared.group_member.Member.{Member}
-use Rattle.pgp_prior.specs.Ascending.{IsAscending, with_item}
-use Rattle.pgp_prior.proofs.AscendingLemmas.{member_order, IsAscending-with_item}
-use Rattle.pgp_prior.proofs.WalkLemmas.{fold-next}
+use Rattle.pgp_lists.specs.Ordered.{IsAscending, with_item}
+use Rattle.pgp_lists.proofs.Ordered.{IsAscending-with_item}
+use Rattle.pgp_prior.specs.MemberOrder.{member_order}
+use Rattle.pgp_prior.proofs.Lists.{fold-next}
 use Rattle.pgp_prior.proofs.probe.add_members.Goals as goal
 
 pub loop-member-preserved : goal.loop-member-preserved

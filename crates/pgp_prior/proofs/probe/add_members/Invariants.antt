@@ -1,6 +1,6 @@
 use Rattle.std.proofs.Common.{◌≡◌}
 use Rattle.pgp_ids.specs.Member.{is_before}
-use Rattle.pgp_prior.specs.Ascending.{IsAscending, with_items}
+use Rattle.pgp_lists.specs.Ordered.{IsAscending, with_items}
 use Rattle.pgp_prior.specs.Members.{members_of}
 use Rattle.pgp_prior.proofs.probe.add_members.Given as goal
 

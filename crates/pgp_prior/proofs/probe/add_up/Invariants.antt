@@ -1,7 +1,7 @@
 use Rattle.std.proofs.Common.{◌≡◌}
 use Rattle.std.specs.List.{filter}
 use Rattle.pgp_ids.specs.Member.{is_before}
-use Rattle.pgp_prior.specs.Ascending.{IsAscending, with_items}
+use Rattle.pgp_lists.specs.Ordered.{IsAscending, with_items}
 use Rattle.pgp_prior.specs.Blocks.{is_up, acting_where}
 use Rattle.pgp_prior.proofs.probe.add_up.Given as goal
 

@@ -1,4 +1,4 @@
-use Rattle.std.proofs.Common.{◌≡◌, ◌+◌, ◌<◌, None, length, get_or, if◌then◌else◌, ap, sym, ◌∙◌, arith}
+use Rattle.std.proofs.Common.{◌≡◌, None, length, get_or, if◌then◌else◌, ap, sym, ◌∙◌, arith}
 use Rattle.pgp_prior.proofs.MemberLemmas.{next-held, next-empty}
 use Rattle.pgp_prior.proofs.members.MembersIterator.next.Goals as goal
 use Rattle.pgp_prior.proofs.members.MembersIterator.next.Goals.{then-self, else-self}
@@ -29,6 +29,6 @@ loop-osd-preserved c =
     let found = c.in-Some.ensures.lookup.3 in (
       c.loop-osd.invariant.0,
       sym (next-empty inside.by_place inside.places.now inside.place (omega (arith, found.0))
-      (ap (λ k. get_or inside.places.now k None) (sym c.from.ensures) ∙ sym (found.1 None) ∙ c.in_default-osd.is))
-      ∙ c.loop-osd.invariant.1,
+          (ap (λ k. get_or inside.places.now k None) (sym c.from.ensures) ∙ sym (found.1 None) ∙ c.in_default-osd.is))
+          ∙ c.loop-osd.invariant.1,
     )
