@@ -1,72 +1,21 @@
 -- By any preference a list of infos of distinct members has one info to which no other is preferred, and the search
 -- finds it.
 use Rattle.std.proofs.Common.{◌≡◌, ◌≢◌, ℕ, zero, suc, ◌+◌, ◌<◌, ◌⊎◌, List, [], ◌∷◌, ◌++◌, Option, Some, None, Bool, true, false, not, cond, length, take, get_or, filter, unwrap_or, option_map, append-nil, refl, ap, sym, ◌∙◌, subst, inl, inr, arith}
-use Rattle.std.specs.List.{All, AllPairs, Contains, find}
+use Rattle.std.specs.List.{All, Contains, find}
+use Rattle.std.proofs.lemmas.Bool.{false_from_ne_true}
 use Rattle.std.proofs.lemmas.Bool.Decides.{nat_tests}
-use Rattle.std.proofs.lemmas.List.Elements.{All-contains, All-contains_itself, All-weaker, All-take, All-push, filter_more, filter_passes}
+use Rattle.std.proofs.lemmas.List.Elements.{All-contains, All-contains_itself, All-weaker, All-take, All-push, Contains-push, Contains-append_left, Contains-push_cases, filter_more, filter_passes}
 use Rattle.std.proofs.lemmas.List.Kept.{AllPairs-filter, AllPairs-cons}
 use Rattle.std.proofs.lemmas.List.Sums.{AllPass-from_list_all, list_all-from_AllPass}
 use Rattle.pgp_ids.specs.Member.{is_same_member}
+use Rattle.pgp_lists.proofs.Lists.{take-front}
+use Rattle.pgp_lists.proofs.Members.{Contains-nil, Contains-here, Contains-later, Contains-cases, find-some, find-none}
+use Rattle.pgp_lists.proofs.Pairs.{AllPairs-nil, AllPairs-first, AllPairs-rest}
 use Rattle.pgp_ids.specs.declared.group_member.Member.{Member}
 use Rattle.pgp_ids.specs.declared.report.Info.{Info}
 use Rattle.pgp_info.specs.Preference.{IsPreference}
 use Rattle.pgp_info.specs.Best.{HasDistinctMembers, candidates, is_unbeaten, best_info, IsBest}
 use Rattle.pgp_info.specs.Heard.{Heard, without, with_info}
-
--- ---- lists
-
-pub Contains-here : {X : Type 0} (x : X) (xs : List X) → Contains (x ∷ xs) x
-Contains-here x xs = (0, omega arith, refl)
-
-pub Contains-later : {X : Type 0} (x : X) (xs : List X) (y : X) → Contains xs y → Contains (x ∷ xs) y
-Contains-later x xs y in' = (suc in'.0, omega arith, in'.2)
-
-Contains-at : {X : Type 0} (x : X) (xs : List X) (y : X) (k : ℕ) → k < suc (length xs) → get_or (x ∷ xs) k y ≡ y → (x ≡ y) ⊎ Contains xs y
-Contains-at x xs y zero below is = inl is
-Contains-at x xs y (suc k) below is = inr (k, omega arith, is)
-
-pub Contains-cases : {X : Type 0} (x : X) (xs : List X) (y : X) → Contains (x ∷ xs) y → (x ≡ y) ⊎ Contains xs y
-Contains-cases x xs y in' = Contains-at x xs y in'.0 in'.1 in'.2
-
-pub Contains-nil : {X : Type 0} (y : X) → Contains [] y → ⊥
-Contains-nil y in' = let below : in'.0 < 0 = in'.1 in omega arith
-
-AllPairs-first : {X : Type 0} (R : X → X → Type 0) (x : X) (xs : List X) → AllPairs R (x ∷ xs) → All (R x) xs
-AllPairs-first R x xs pairs = λ k d below. pairs 0 (suc k) d (omega arith) (omega arith)
-
-AllPairs-rest : {X : Type 0} (R : X → X → Type 0) (x : X) (xs : List X) → AllPairs R (x ∷ xs) → AllPairs R xs
-AllPairs-rest R x xs pairs = λ i j d before below. pairs (suc i) (suc j) d (omega arith) (omega arith)
-
-AllPairs-nil : {X : Type 0} (R : X → X → Type 0) → AllPairs R []
-AllPairs-nil R = λ i j d before below. absurd (omega arith)
-
--- the search stopped at the first element, or went on
-found_at : {X : Type 0} (test : X → Bool) (x : X) (rest : Option X) (y : X) (b : Bool) → test x ≡ b → cond b (Some x) rest ≡ Some y → ((x ≡ y) × (test x ≡ true)) ⊎ (rest ≡ Some y)
-found_at test x rest y true passes found = inl (cc, passes)
-found_at test x rest y false passes found = inr found
-
--- what a search finds is in the list and passes the test
-find-some : {X : Type 0} (test : X → Bool) (xs : List X) (y : X) → find test xs ≡ Some y → Contains xs y × (test y ≡ true)
-find-some test [] y found = cc
-find-some test (x ∷ xs) y found =
-    elim (found_at test x (find test xs) y (test x) refl found) [
-      | inl here ↦ (subst (Contains (x ∷ xs)) here.0 (Contains-here x xs), ap test (sym here.0) ∙ here.1)
-      | inr later ↦ let rest = find-some test xs y later in (Contains-later x xs y rest.0, rest.1)
-    ]
-
-missed_at : {X : Type 0} (test : X → Bool) (x : X) (rest : Option X) (b : Bool) → test x ≡ b → cond b (Some x) rest ≡ None → (test x ≡ false) × (rest ≡ None)
-missed_at test x rest true passes missed = cc
-missed_at test x rest false passes missed = (passes, missed)
-
--- a search that finds nothing met no element that passes the test
-find-none : {X : Type 0} (test : X → Bool) (xs : List X) (y : X) → find test xs ≡ None → Contains xs y → test y ≡ false
-find-none test [] y missed in' = absurd (Contains-nil y in')
-find-none test (x ∷ xs) y missed in' =
-    let cases = missed_at test x (find test xs) (test x) refl missed in
-    elim (Contains-cases x xs y in') [
-      | inl here ↦ ap test (sym here) ∙ cases.0
-      | inr later ↦ find-none test xs y cases.1 later
-    ]
 
 -- ---- infos of distinct members
 
@@ -99,10 +48,6 @@ not_neither : (b c : Bool) → b ≡ not c → b ≡ false → c ≡ false → �
 not_neither b true is left right = cc
 not_neither b false is left right = cc
 
-false_unless : (b : Bool) → (b ≡ true → ⊥) → b ≡ false
-false_unless true never = absurd (never refl)
-false_unless false never = refl
-
 -- what was unbeaten stays so beside an info that is not preferred to it
 unbeaten_more : (better : Info → Info → Bool) (x : Info) (infos : List Info) (m : Info) → Unbeaten better infos m → better x m ≡ false → Unbeaten better (x ∷ infos) m
 unbeaten_more better x infos m unbeaten less other in' =
@@ -115,8 +60,8 @@ unbeaten_more better x infos m unbeaten less other in' =
 unbeaten_above : (better : Info → Info → Bool) → IsPreference better → (x : Info) (infos : List Info) → HasDistinctMembers infos → ((y : Info) → Contains infos y → x.member ≢ y.member) → (m : Info) → Contains infos m → Unbeaten better infos m → better x m ≡ true → Unbeaten better infos x
 unbeaten_above better laws x infos distinct differ m in_m unbeaten above other in' =
     elim (same_or_distinct infos distinct other m in' in_m) [
-      | inl same ↦ ap (λ y. better y x) same ∙ false_unless (better m x) (λ back. not_both (better x m) (better m x) (laws.one_of_two x m (differ m in_m)) above back)
-      | inr apart ↦ false_unless (better other x) (λ back.
+      | inl same ↦ ap (λ y. better y x) same ∙ false_from_ne_true (better m x) (λ back. not_both (better x m) (better m x) (laws.one_of_two x m (differ m in_m)) above back)
+      | inr apart ↦ false_from_ne_true (better other x) (λ back.
           let still : better other m ≡ true = laws.transitive other x m (λ same. differ other in' (sym same)) (differ m in_m) apart back above in
           let none : better other m ≡ false = unbeaten other in' in
           cc)
@@ -157,7 +102,7 @@ unbeaten_of better laws x (y ∷ infos) distinct =
 is_unbeaten-Unbeaten : (better : Info → Info → Bool) (infos : List Info) (m : Info) → is_unbeaten better infos m ≡ true → Unbeaten better infos m
 is_unbeaten-Unbeaten better infos m is other in' =
     let passes : not (better other m) ≡ true = All-contains (λ i. not (better i m) ≡ true) infos other (AllPass-from_list_all (λ i. not (better i m)) infos is) in' in
-    false_unless (better other m) (λ above. let back : not (better other m) ≡ false = ap not above in cc)
+    false_from_ne_true (better other m) (λ above. let back : not (better other m) ≡ false = ap not above in cc)
 
 Unbeaten-is_unbeaten : (better : Info → Info → Bool) (infos : List Info) (m : Info) → Unbeaten better infos m → is_unbeaten better infos m ≡ true
 Unbeaten-is_unbeaten better infos m unbeaten =
@@ -215,29 +160,6 @@ none-best_info better infos empty = ap (λ (kept : List Info). find (is_unbeaten
 
 -- ---- one info more, at the end
 
-Contains-push : {X : Type 0} (xs : List X) (x : X) → Contains (xs ++ x ∷ []) x
-Contains-push [] x = Contains-here x []
-Contains-push (y ∷ xs) x = Contains-later y (xs ++ x ∷ []) x (Contains-push xs x)
-
-Contains-pushed : {X : Type 0} (xs : List X) (x y : X) → Contains xs y → Contains (xs ++ x ∷ []) y
-Contains-pushed [] x y in' = absurd (Contains-nil y in')
-Contains-pushed (z ∷ xs) x y in' =
-    elim (Contains-cases z xs y in') [
-      | inl here ↦ subst (Contains (z ∷ (xs ++ x ∷ []))) here (Contains-here z (xs ++ x ∷ []))
-      | inr later ↦ Contains-later z (xs ++ x ∷ []) y (Contains-pushed xs x y later)
-    ]
-
-Contains-push_cases : {X : Type 0} (xs : List X) (x y : X) → Contains (xs ++ x ∷ []) y → (x ≡ y) ⊎ Contains xs y
-Contains-push_cases [] x y in' = Contains-cases x [] y in'
-Contains-push_cases (z ∷ xs) x y in' =
-    elim (Contains-cases z (xs ++ x ∷ []) y in') [
-      | inl here ↦ inr (subst (Contains (z ∷ xs)) here (Contains-here z xs))
-      | inr later ↦ elim (Contains-push_cases xs x y later) [
-        | inl last ↦ inl last
-        | inr before ↦ inr (Contains-later z xs y before)
-      ]
-    ]
-
 -- the last of infos of distinct members is of another member than the others
 differ_last : (infos : List Info) (x : Info) → HasDistinctMembers (infos ++ x ∷ []) → (y : Info) → Contains infos y → x.member ≢ y.member
 differ_last [] x distinct y in' = absurd (Contains-nil y in')
@@ -249,19 +171,23 @@ differ_last (z ∷ infos) x distinct y in' =
       | inr later ↦ differ_last infos x rest y later
     ]
 
+distinct_take : (infos : List Info) (n : ℕ) → HasDistinctMembers infos → HasDistinctMembers (take n infos)
+distinct_take [] zero distinct = distinct
+distinct_take [] (suc n) distinct = distinct
+distinct_take (x ∷ infos) zero distinct = AllPairs-nil (λ a b. a.member ≢ b.member)
+distinct_take (x ∷ infos) (suc n) distinct =
+    AllPairs-cons (λ a b. a.member ≢ b.member) x (take n infos)
+    (All-weaker (Contains infos) (λ y. x.member ≢ y.member) (λ y in'. differ_first x infos distinct y in') (take n infos) (All-take (Contains infos) n infos (All-contains_itself infos)))
+    (distinct_take infos n (AllPairs-rest (λ a b. a.member ≢ b.member) x infos distinct))
+
 distinct_before : (infos : List Info) (x : Info) → HasDistinctMembers (infos ++ x ∷ []) → HasDistinctMembers infos
-distinct_before [] x distinct = AllPairs-nil (λ a b. a.member ≢ b.member)
-distinct_before (z ∷ infos) x distinct =
-    let rest : HasDistinctMembers (infos ++ x ∷ []) = AllPairs-rest (λ a b. a.member ≢ b.member) z (infos ++ x ∷ []) distinct in
-    AllPairs-cons (λ a b. a.member ≢ b.member) z infos
-    (All-weaker (Contains infos) (λ y. z.member ≢ y.member) (λ y in'. differ_first z (infos ++ x ∷ []) distinct y (Contains-pushed infos x y in')) infos (All-contains_itself infos))
-    (distinct_before infos x rest)
+distinct_before infos x distinct = subst HasDistinctMembers (take-front infos (x ∷ [])) (distinct_take (infos ++ x ∷ []) (length infos) distinct)
 
 unbeaten_push : (better : Info → Info → Bool) (infos : List Info) (x m : Info) → Unbeaten better infos m → better x m ≡ false → Unbeaten better (infos ++ x ∷ []) m
 unbeaten_push better infos x m unbeaten less other in' =
     elim (Contains-push_cases infos x other in') [
-      | inl last ↦ ap (λ y. better y m) (sym last) ∙ less
-      | inr before ↦ unbeaten other before
+      | inl before ↦ unbeaten other before
+      | inr last ↦ ap (λ y. better y m) (sym last) ∙ less
     ]
 
 -- the info is preferred to the best one so far, or the first
@@ -282,18 +208,9 @@ behind : (better : Info → Info → Bool) → IsPreference better → (infos : 
 behind better laws infos x distinct None found is = cc
 behind better laws infos x distinct (Some m) found is =
     let so_far = find-some (is_unbeaten better infos) infos m found in
-    unbeaten_of_all-is better laws (infos ++ x ∷ []) distinct m (Contains-pushed infos x m so_far.0) (unbeaten_push better infos x m (is_unbeaten-Unbeaten better infos m so_far.1) is)
+    unbeaten_of_all-is better laws (infos ++ x ∷ []) distinct m (Contains-append_left infos (x ∷ []) m so_far.0) (unbeaten_push better infos x m (is_unbeaten-Unbeaten better infos m so_far.1) is)
 
 -- ---- one step of the search
-
-distinct_take : (infos : List Info) (n : ℕ) → HasDistinctMembers infos → HasDistinctMembers (take n infos)
-distinct_take [] zero distinct = distinct
-distinct_take [] (suc n) distinct = distinct
-distinct_take (x ∷ infos) zero distinct = AllPairs-nil (λ a b. a.member ≢ b.member)
-distinct_take (x ∷ infos) (suc n) distinct =
-    AllPairs-cons (λ a b. a.member ≢ b.member) x (take n infos)
-    (All-weaker (Contains infos) (λ y. x.member ≢ y.member) (λ y in'. differ_first x infos distinct y in') (take n infos) (All-take (Contains infos) n infos (All-contains_itself infos)))
-    (distinct_take infos n (AllPairs-rest (λ a b. a.member ≢ b.member) x infos distinct))
 
 -- the ones that pass among the first infos, with one more
 more_passes : (test : Info → Bool) (infos : List Info) (i : ℕ) (x : Info) → i < length infos → x ≡ get_or infos i x → test x ≡ true → filter test (take (i + 1) infos) ≡ filter test (take i infos) ++ x ∷ []

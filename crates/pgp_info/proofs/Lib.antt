@@ -1,2 +1,3 @@
 pub mod BestLemmas
+pub mod PutLemmas
 pub mod SameInfos

@@ -1,11 +1,11 @@
 -- The best info depends on which infos there are, and not on their order.
-use Rattle.std.proofs.Common.{◌≡◌, ℕ, ◌≤◌, ◌⊎◌, List, [], ◌∷◌, Option, Some, None, Bool, true, false, cond, ◌&&◌, nat_le, map, filter, fold, max, refl, ap, sym, inl, inr, subst, arith}
+use Rattle.std.proofs.Common.{◌≡◌, ℕ, ◌≤◌, List, [], ◌∷◌, Option, Some, None, Bool, ◌&&◌, nat_le, map, filter, fold, max, refl, ap, sym, inl, inr, subst, arith}
 use Rattle.std.specs.List.{Contains}
-use Rattle.std.proofs.lemmas.List.Elements.{All-contains, All-contains_itself, All-filter, filter_passes}
 use Rattle.pgp_ids.specs.declared.report.Info.{Info}
+use Rattle.pgp_lists.proofs.Members.{Contains-nil, Contains-here, Contains-later, Contains-cases, filter-contains, contains-filter}
 use Rattle.pgp_info.specs.Preference.{IsPreference}
 use Rattle.pgp_info.specs.Best.{HasDistinctMembers, last_start, candidates, best_info, IsBest}
-use Rattle.pgp_info.proofs.BestLemmas.{Contains-nil, Contains-here, Contains-later, Contains-cases, best_info-IsBest, IsBest-best_info, best_info-none, none-best_info}
+use Rattle.pgp_info.proofs.BestLemmas.{best_info-IsBest, IsBest-best_info, best_info-none, none-best_info}
 
 -- each of the first infos is one of the second
 abbrev AllAmong : List Info → List Info → Type 0
@@ -42,30 +42,10 @@ greatest-among f a b among = greatest-below f 0 (fold max 0 (map f b)) a (omega 
 
 -- ---- infos that pass a test
 
-Contains-passing : (test : Info → Bool) (infos : List Info) (info : Info) → Contains (filter test infos) info → Contains infos info × (test info ≡ true)
-Contains-passing test infos info in' = (
-  All-contains (Contains infos) (filter test infos) info (All-filter test (Contains infos) infos (All-contains_itself infos)) in',
-  All-contains (λ x. test x ≡ true) (filter test infos) info (filter_passes test infos) in',
-)
-
-passing_at : (test : Info → Bool) (x : Info) (kept : List Info) (info : Info) → (x ≡ info) ⊎ Contains kept info → test info ≡ true → (b : Bool) → test x ≡ b → Contains (cond b (x ∷ kept) kept) info
-passing_at test x kept info (inl here) passes true is = subst (Contains (x ∷ kept)) here (Contains-here x kept)
-passing_at test x kept info (inr later) passes true is = Contains-later x kept info later
-passing_at test x kept info (inl here) passes false is = let same : test x ≡ test info = ap test here in cc
-passing_at test x kept info (inr later) passes false is = later
-
-passing-Contains : (test : Info → Bool) (infos : List Info) (info : Info) → Contains infos info → test info ≡ true → Contains (filter test infos) info
-passing-Contains test [] info in' passes = absurd (Contains-nil info in')
-passing-Contains test (x ∷ infos) info in' passes =
-    elim (Contains-cases x infos info in') [
-      | inl here ↦ passing_at test x (filter test infos) info (inl here) passes (test x) refl
-      | inr later ↦ passing_at test x (filter test infos) info (inr (passing-Contains test infos info later passes)) passes (test x) refl
-    ]
-
 passing-among : (test : Info → Bool) (a b : List Info) → AllAmong a b → AllAmong (filter test a) (filter test b)
 passing-among test a b among info in' =
-    let passes = Contains-passing test a info in' in
-    passing-Contains test b info (among info passes.0) passes.1
+    let passes = filter-contains test a info in' in
+    contains-filter test b info (among info passes.0) passes.1
 
 -- ---- the best info
 

@@ -1,9 +1,8 @@
 ghost use Rattle.std.specs.Prelude.{◌≡◌, [], ◌∷◌, ◌&&◌, true, nat_le, unwrap_or, option_map, is_some, find, OnOk, OnErr};
-ghost use Rattle.std.specs.List.{list_any};
 ghost use Rattle.std.specs.Option.{option_copied};
 ghost use Rattle.pgp_ids.specs.Member.{is_same_member};
 ghost use Rattle.pgp_info.specs.Best.{last_start, best_info};
-ghost use Rattle.pgp_info.specs.Heard.{heard_nothing, without, with_info};
+ghost use Rattle.pgp_info.specs.Heard.{heard_nothing, without, with_info, has_member};
 
 use super::prefer::Prefer;
 use pgp_ids::{Epoch, Info, Member};
@@ -66,7 +65,7 @@ impl<P> Best<P> {
     /// The info of this member, where it was heard.
     pub fn info_of(&self, member: &Member) -> Option<&Info>
         ensures value { option_copied result ≡ find (λ info. is_same_member info.member member.now) self.now.infos }
-        ensures heard { is_some result ≡ list_any (λ info. is_same_member info.member member.now) self.now.infos }
+        ensures heard { is_some result ≡ has_member member.now self.now.infos }
     {
         for info in self.infos.as_slice() {
             if info.member == *member {

@@ -4,7 +4,7 @@ ghost use Rattle.pgp_ids.specs.declared.group_member.Member.{Member};
 ghost use Rattle.pgp_ids.specs.declared.report.Info.{Info};
 ghost use Rattle.pgp_info.specs.Preference.{newest_first, oldest_first, IsPreference};
 ghost use Rattle.pgp_info.specs.Best.{HasDistinctMembers, candidates, best_info, IsBest};
-ghost use Rattle.pgp_info.specs.Heard.{without, with_info};
+ghost use Rattle.pgp_info.specs.Heard.{without, with_info, with_infos, last_of_each_member};
 ghost use Rattle.pgp_info.specs.Examples.{in_slot, at, copy_up_to, fresh, device_0};
 
 /// Both preferences are strict total orders over infos of distinct members, whoever leads.
@@ -39,6 +39,11 @@ pub fn members_stay_distinct()
         → HasDistinctMembers infos → HasDistinctMembers (with_info info infos) }
     ensures drop { (member : Member) (infos : List Info)
         → HasDistinctMembers infos → HasDistinctMembers (without member infos) }
+{}
+
+/// Infos that are put in their order leave the last of each member.
+pub fn infos_put_in_their_order()
+    ensures { (infos : List Info) → with_infos infos [] ≡ last_of_each_member infos }
 {}
 
 /// Of equal copies that of the acting primary is the best, and without it that of the least device.

@@ -1,8 +1,6 @@
-pub mod KeptLemmas
+pub mod EntryLemmas
+pub mod LastLemmas
+pub mod Lists
+pub mod LogLemmas
 pub mod MissingLemmas
-pub mod NeededLemmas
 pub mod NumberLemmas
-pub mod NumberedLemmas
-pub mod ObjectLemmas
-pub mod OrderLemmas
-pub mod RisingLemmas

@@ -1,31 +1,173 @@
--- A complete peer that has the last write of a whole log misses nothing.
-use Rattle.std.proofs.Common.{◌≡◌, ℕ, List, [], ◌∷◌, Bool, true, false, ◌&&◌, ◌||◌, nat_lt, nat_le, cond, refl, ap, arith}
-use Rattle.std.specs.List.{filter}
+-- What a copy lacks by a log: the objects whose entry of the greatest number is a modify, in the order of their names.
+use Rattle.std.proofs.Common.{◌≡◌, ℕ, ◌<◌, ◌≤◌, List, [], ◌∷◌, ◌++◌, Bool, true, false, ◌&&◌, ◌||◌, nat_lt, nat_le, Option, Some, refl, ap, ap₂, sym, ◌∙◌, subst, inl, inr, arith, ltb-true, lt-ltb}
+use Rattle.std.specs.List.{AllPairs, Contains, filter_map}
+use Rattle.std.specs.Cmp.Lexicographic.{slice_cmp}
+use Rattle.std.specs.Ordering.{nat_cmp, is_lt}
+use Rattle.std.specs.declared.cmp.Ordering.TheVariants.{Less}
+use Rattle.std.proofs.lemmas.Bool.{cases_Bool, cases_lt}
 use Rattle.std.proofs.lemmas.Bool.Decides.{nat_tests}
+use Rattle.std.proofs.lemmas.Cmp.{nat_cmp_total, nat_list_cmp_total}
+use Rattle.std.proofs.lemmas.List.Elements.{Contains-append_right, Contains-append_cases}
+use Rattle.std.proofs.lemmas.List.Kept.{AllPairs-filter}
+use Rattle.std.proofs.lemmas.Map.Lookups.{exact_unsigned, exact_bytes}
 use Rattle.pgp_ids.specs.Version.{is_older, is_same_version}
+use Rattle.pgp_ids.specs.declared.log_entry.Change.{Change}
+use Rattle.pgp_ids.specs.declared.log_entry.Change.TheVariants.{Modify, Delete}
 use Rattle.pgp_ids.specs.declared.log_entry.LogEntry.{LogEntry}
+use Rattle.pgp_ids.specs.declared.peer.MissingObject.{MissingObject}
 use Rattle.pgp_ids.specs.declared.peer.PeerState.TheVariants.{Missing}
 use Rattle.pgp_ids.specs.declared.report.Info.{Info}
-use Rattle.pgp_missing.specs.Log.{last_of_each_number, log_of, has_version, has_each_number, is_rising_from, is_whole}
-use Rattle.pgp_missing.specs.Missing.{modified_objects, by_name, missing_above, peer_state}
-use Rattle.pgp_missing.proofs.ObjectLemmas.{above}
+use Rattle.pgp_ids.specs.declared.version.Version.{Version}
+use Rattle.pgp_lists.proofs.Members.{Contains-here, Contains-cases, Contains-later, filter-contains, contains-filter}
+use Rattle.pgp_lists.proofs.Pairs.{AllPairs-weaker}
+use Rattle.pgp_missing.specs.Last.{IsLast}
+use Rattle.pgp_missing.specs.Log.{number_of, by_number, IsByNumber, is_in_log, within, log_of, has_version, is_full, is_rising_from, is_whole}
+use Rattle.pgp_missing.specs.Missing.{object_of, by_object, entries_above, made_by, missing_by, missing_above, IsByName, IsMissing, peer_state}
+use Rattle.pgp_missing.proofs.LastLemmas.{last_of_each-ordered, last_of_each-IsLast, IsLast-last_of_each}
+use Rattle.pgp_missing.proofs.Lists.{Contains-split, AllPairs-after, AllPairs-before, contains-filter_map, filter_map-contains, AllPairs-filter_map}
+
+-- ---- the log by number
+
+less_number : (a b : ℕ) → nat_cmp a b ≡ Less → a < b
+less_number a b less = grind (arith, nat_tests)
+
+pub by_number-ascends : (reported : List LogEntry) → IsByNumber (by_number reported)
+by_number-ascends reported =
+    AllPairs-weaker (λ (a b : LogEntry). nat_cmp a.version.v b.version.v ≡ Less) (λ (a b : LogEntry). a.version.v < b.version.v)
+    (λ a b less. less_number a.version.v b.version.v less) (by_number reported)
+    (last_of_each-ordered number_of nat_cmp nat_cmp_total exact_unsigned reported)
+
+pub log_of-ascends : (info : Info) (reported : List LogEntry) → IsByNumber (log_of info reported)
+log_of-ascends info reported =
+    AllPairs-filter (λ (a b : LogEntry). a.version.v < b.version.v) (λ (entry : LogEntry). is_in_log info entry.version.v) (by_number reported) (by_number-ascends reported)
+
+pub by_number-last : (reported : List LogEntry) (entry : LogEntry) → Contains (by_number reported) entry → IsLast number_of reported entry
+by_number-last = last_of_each-IsLast number_of nat_cmp nat_cmp_total exact_unsigned
+
+pub last-by_number : (reported : List LogEntry) (entry : LogEntry) → IsLast number_of reported entry → Contains (by_number reported) entry
+last-by_number = IsLast-last_of_each number_of nat_cmp nat_cmp_total exact_unsigned
+
+pub log_of-last : (info : Info) (reported : List LogEntry) (entry : LogEntry) → Contains (log_of info reported) entry → (is_in_log info entry.version.v ≡ true) × IsLast number_of reported entry
+log_of-last info reported entry in' =
+    let kept = filter-contains (λ (e : LogEntry). is_in_log info e.version.v) (by_number reported) entry in' in
+    (kept.1, by_number-last reported entry kept.0)
+
+pub last-log_of : (info : Info) (reported : List LogEntry) (entry : LogEntry) → (is_in_log info entry.version.v ≡ true) × IsLast number_of reported entry → Contains (log_of info reported) entry
+last-log_of info reported entry is =
+    contains-filter (λ (e : LogEntry). is_in_log info e.version.v) (by_number reported) entry (last-by_number reported entry is.1) is.0
+
+-- ---- the objects by their last entries
+
+made_is : (change : Change) (entry : LogEntry) (missing : MissingObject) → made_by change entry ≡ Some missing → (change ≡ Modify) × (missing_by entry ≡ missing)
+made_is Modify entry missing is = (refl, cc)
+made_is Delete entry missing is = cc
+
+pub missing_above-last : (v : ℕ) (entries : List LogEntry) (missing : MissingObject) → Contains (missing_above v entries) missing
+    → (entry : LogEntry) × IsLast object_of (entries_above v entries) entry × (made_by entry.change entry ≡ Some missing)
+missing_above-last v entries missing in' =
+    let found = filter_map-contains (λ (entry : LogEntry). made_by entry.change entry) (by_object (entries_above v entries)) missing in' in
+    (found.0, last_of_each-IsLast object_of (slice_cmp nat_cmp) nat_list_cmp_total exact_bytes (entries_above v entries) found.0 found.1, found.2)
+
+pub last-missing_above : (v : ℕ) (entries : List LogEntry) (missing : MissingObject)
+    → (entry : LogEntry) × IsLast object_of (entries_above v entries) entry × (made_by entry.change entry ≡ Some missing) → Contains (missing_above v entries) missing
+last-missing_above v entries missing found =
+    contains-filter_map (λ (entry : LogEntry). made_by entry.change entry) (by_object (entries_above v entries)) found.0 missing
+    (IsLast-last_of_each object_of (slice_cmp nat_cmp) nat_list_cmp_total exact_bytes (entries_above v entries) found.0 found.1) found.2
+
+-- ---- in a log the last entry is the one of the greatest number
+
+module _ (v : ℕ) (log : List LogEntry) (ascends : IsByNumber log) where
+  abbrev test : LogEntry → Bool
+  test entry = nat_lt v entry.version.v
+
+  abbrev Less_number : LogEntry → LogEntry → Type 0
+  Less_number a b = a.version.v < b.version.v
+
+  above_ascends : IsByNumber (entries_above v log)
+  above_ascends = AllPairs-filter Less_number test log ascends
+
+  newest_at : (entry other : LogEntry) → IsLast object_of (entries_above v log) entry → Contains (entries_above v log) other → other.object ≡ entry.object → other.version.v ≤ entry.version.v
+  newest_at entry other last in' same =
+      let ordered : AllPairs Less_number (last.before ++ entry ∷ last.after) = subst (AllPairs Less_number) last.split above_ascends in
+      elim (Contains-append_cases last.before (entry ∷ last.after) other (subst (λ es. Contains es other) last.split in')) [
+        | inl before ↦ let less : other.version.v < entry.version.v = AllPairs-before Less_number last.before entry last.after ordered other before in omega arith
+        | inr there ↦ elim (Contains-cases entry last.after other there) [
+          | inl here ↦ let is : entry.version.v ≡ other.version.v = ap number_of here in omega arith
+          | inr later ↦ absurd (last.last other later same)
+        ]
+      ]
+
+  pub last-IsMissing : (missing : MissingObject) → (entry : LogEntry) × IsLast object_of (entries_above v log) entry × (made_by entry.change entry ≡ Some missing)
+      → (entry : LogEntry) × IsMissing v log missing entry
+  last-IsMissing missing found =
+      let entry : LogEntry = found.0 in
+      let last = found.1 in
+      let there : Contains (entries_above v log) entry =
+      subst (λ es. Contains es entry) (sym last.split) (Contains-append_right last.before (entry ∷ last.after) entry (Contains-here entry last.after)) in
+      let kept = filter-contains test log entry there in
+      let above : v < entry.version.v = ltb-true v entry.version.v kept.1 in
+      let is = made_is entry.change entry missing found.2 in (
+        entry,
+        record {
+          there = kept.0;
+          above = above;
+          modify = is.0;
+          object = ap (λ (m : MissingObject). m.object) is.1;
+          version = ap (λ (m : MissingObject). m.version) is.1;
+          newest = λ other in' same. elim (cases_lt v other.version.v) [
+            | inl high ↦ newest_at entry other last (contains-filter test log other in' (lt-ltb v other.version.v high)) same
+            | inr low ↦ omega arith
+          ];
+        },
+      )
+
+  pub IsMissing-last : (missing : MissingObject) → (entry : LogEntry) × IsMissing v log missing entry
+      → (entry : LogEntry) × IsLast object_of (entries_above v log) entry × (made_by entry.change entry ≡ Some missing)
+  IsMissing-last missing found =
+      let entry : LogEntry = found.0 in
+      let is = found.1 in
+      let split = Contains-split (entries_above v log) entry (contains-filter test log entry is.there (lt-ltb v entry.version.v is.above)) in
+      let ordered : AllPairs Less_number (split.0 ++ entry ∷ split.1) = subst (AllPairs Less_number) split.2 above_ascends in
+      let object : List ℕ → Version → Option MissingObject = λ o version. Some (record { object = o; version = version }) in (
+        entry,
+        record {
+          before = split.0;
+          after = split.1;
+          split = split.2;
+          last = λ other later same.
+              let less : entry.version.v < other.version.v = AllPairs-after Less_number split.0 entry split.1 ordered other later in
+              let in' : Contains (entries_above v log) other =
+              subst (λ es. Contains es other) (sym split.2) (Contains-append_right split.0 (entry ∷ split.1) other (Contains-later entry split.1 other later)) in
+              let most : other.version.v ≤ entry.version.v = is.newest other ((filter-contains test log other in').0) same in
+              omega arith;
+        },
+        rw is.modify (ap₂ object is.object is.version),
+      )
+
+-- ---- in the order of the names
+
+pub missing_above-by_name : (v : ℕ) (entries : List LogEntry) → IsByName (missing_above v entries)
+missing_above-by_name v entries =
+    AllPairs-filter_map (λ (entry : LogEntry). made_by entry.change entry) (λ (a b : LogEntry). slice_cmp nat_cmp a.object b.object ≡ Less)
+    (λ (a b : MissingObject). is_lt (slice_cmp nat_cmp a.object b.object) ≡ true)
+    (λ a b x y less made_x made_y.
+    let is_x : a.object ≡ x.object = ap (λ (m : MissingObject). m.object) (made_is a.change a x made_x).1 in
+    let is_y : b.object ≡ y.object = ap (λ (m : MissingObject). m.object) (made_is b.change b y made_y).1 in
+    ap is_lt (ap₂ (slice_cmp nat_cmp) (sym is_x) (sym is_y) ∙ less))
+    (by_object (entries_above v entries))
+    (last_of_each-ordered object_of (slice_cmp nat_cmp) nat_list_cmp_total exact_bytes (entries_above v entries))
+
+-- ---- a peer that has the last write
 
 not_above : (low high v : ℕ) → (nat_lt low v && nat_le v high) ≡ true → nat_lt high v ≡ false
-not_above low high v within = grind (arith, nat_tests)
+not_above low high v is = grind (arith, nat_tests)
 
-one_above : (low high : ℕ) (entry : LogEntry) (kept : List LogEntry) (b : Bool) → (nat_lt low entry.version.v && nat_le entry.version.v high) ≡ b → above high kept ≡ [] → above high (cond b (entry ∷ kept) kept) ≡ []
-one_above low high entry kept true within rest =
-    let none : nat_lt high entry.version.v ≡ false = not_above low high entry.version.v within in rw none rest
-one_above low high entry kept false within rest = rest
-
--- no entry up to a number is above it
-none_above : (low high : ℕ) (entries : List LogEntry) → above high (filter (λ entry. nat_lt low entry.version.v && nat_le entry.version.v high) entries) ≡ []
-none_above low high [] = refl
-none_above low high (entry ∷ entries) = one_above low high entry _ _ refl (none_above low high entries)
-
-missing_above-last : (best : Info) (reported : List LogEntry) → missing_above best.last_update.v (log_of best reported) ≡ []
-missing_above-last best reported =
-    ap (λ (entries : List LogEntry). by_name (modified_objects entries)) (none_above best.log_tail.v best.last_update.v (last_of_each_number reported))
+none_above : (info : Info) (entries : List LogEntry) → entries_above info.last_update.v (within info entries) ≡ []
+none_above info [] = refl
+none_above info (x ∷ xs) = elim (cases_Bool (is_in_log info x.version.v)) [
+  | inl is ↦ let low : nat_lt info.last_update.v x.version.v ≡ false = not_above info.log_tail.v info.last_update.v x.version.v is in rw (is, low) (none_above info xs)
+  | inr is ↦ rw is (none_above info xs)
+]
 
 -- a log that is whole is empty or has an entry at its end
 empty_or_ended : (empty each ended rising : Bool) → (empty || each && ended && rising) ≡ true → (empty || ended) ≡ true
@@ -36,7 +178,8 @@ empty_or_ended false false ended rising whole = cc
 
 pub equal_peer : (best : Info) (reported : List LogEntry) (peer : Info) → is_whole best reported ≡ true → is_older best.last_update best.log_tail ≡ false → peer.complete ≡ true → peer.last_update ≡ best.last_update → peer_state best reported peer ≡ Missing []
 equal_peer best reported peer whole valid complete same =
-    let none : missing_above best.last_update.v (log_of best reported) ≡ [] = missing_above-last best reported in
-    let in_log : (is_same_version best.last_update best.log_tail || has_version best.last_update (log_of best reported)) ≡ true =
-    empty_or_ended _ (has_each_number best reported) _ (is_rising_from best.log_tail (log_of best reported)) whole in
-    rw (complete, same, valid, in_log, none) refl
+    let none : missing_above best.last_update.v (log_of best reported) ≡ [] =
+    ap (λ (entries : List LogEntry). filter_map (λ (entry : LogEntry). made_by entry.change entry) (by_object entries)) (none_above best (by_number reported)) in
+    let ended : (is_same_version best.last_update best.log_tail || has_version best.last_update (log_of best reported)) ≡ true =
+    empty_or_ended _ (is_full best (log_of best reported)) _ (is_rising_from best.log_tail.epoch (log_of best reported)) whole in
+    rw (complete, same, valid, ended, none) refl

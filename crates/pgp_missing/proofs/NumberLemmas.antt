@@ -1,129 +1,140 @@
 -- A log has as many entries as it has numbers exactly where each of its numbers has an entry.
-use Rattle.std.proofs.Common.{◌≡◌, ◌≢◌, ℕ, zero, suc, ◌+◌, ◌-◌, ◌<◌, ◌≤◌, List, [], ◌∷◌, Bool, true, false, ◌&&◌, ◌||◌, nat_eq, nat_lt, nat_le, cond, if◌then◌else◌, eqb-true, eq-eqb, length, refl, ap, sym, ◌∙◌, inl, inr, arith}
-use Rattle.std.specs.List.{filter}
-use Rattle.std.proofs.lemmas.Bool.Decides.{nat_tests, eqb_tells}
+use Rattle.std.proofs.Common.{◌≡◌, ◌≢◌, ℕ, suc, ◌-◌, ◌<◌, ◌≤◌, List, [], ◌∷◌, true, false, nat_eq, nat_lt, nat_le, eqb-true, eq-eqb, length, refl, ap, sym, ◌∙◌, subst, inl, inr, arith, ltb-true, leb-true}
+use Rattle.std.specs.List.{All, Contains}
+use Rattle.std.proofs.lemmas.Bool.{and_parts, and_from, or_cases, or_left, or_right, cases_Bool, cases_lt, lt-ltb, le-leb}
+use Rattle.std.proofs.lemmas.Bool.Decides.{eqb_tells}
+use Rattle.std.proofs.lemmas.List.Elements.{All-head, All-tail, All-contains, Contains-append_right}
 use Rattle.pgp_ids.specs.declared.log_entry.LogEntry.{LogEntry}
 use Rattle.pgp_ids.specs.declared.report.Info.{Info}
-use Rattle.pgp_missing.specs.Log.{has_number, last_of_each_number, log_of, has_each_number, HasEachNumber}
+use Rattle.pgp_lists.proofs.Members.{Contains-here, All-members, any-contains, contains-any, none-contains}
+use Rattle.pgp_lists.proofs.Pairs.{AllPairs-first, AllPairs-rest}
+use Rattle.pgp_missing.specs.Last.{IsLast}
+use Rattle.pgp_missing.specs.Log.{number_of, IsByNumber, is_in_log, log_of, has_number, has_each_number, HasEachNumber}
+use Rattle.pgp_missing.proofs.MissingLemmas.{log_of-ascends, log_of-last, last-log_of}
 
-or_true : (b : Bool) → (b || true) ≡ true
-or_true true = refl
-or_true false = refl
+abbrev AllAbove : ℕ → List LogEntry → Type 0
+AllAbove low entries = All (λ (e : LogEntry). low < e.version.v) entries
 
--- how many of the n numbers above `low` pass the test
-abbrev count_above : (ℕ → Bool) → ℕ → ℕ → ℕ
-count_above test low zero = 0
-count_above test low (suc n) = cond (test (low + suc n)) 1 0 + count_above test low n
+abbrev AllUpTo : ℕ → List LogEntry → Type 0
+AllUpTo high entries = All (λ (e : LogEntry). e.version.v ≤ high) entries
 
--- tests that agree on those numbers count alike
-count_above-agree : (p q : ℕ → Bool) (low n : ℕ) → ((v : ℕ) → low < v → v ≤ low + n → p v ≡ q v) → count_above p low n ≡ count_above q low n
-count_above-agree p q low zero same = refl
-count_above-agree p q low (suc n) same =
-    let here : p (low + suc n) ≡ q (low + suc n) = same (low + suc n) (omega arith) (omega arith) in
-    let rest : count_above p low n ≡ count_above q low n = count_above-agree p q low n (λ v more less. same v more (omega arith)) in
-    rw (here, rest) refl
+abbrev Less_number : LogEntry → LogEntry → Type 0
+Less_number a b = a.version.v < b.version.v
 
-count_above-le : (test : ℕ → Bool) (low n : ℕ) → count_above test low n ≤ n
-count_above-le test low zero = omega arith
-count_above-le test low (suc n) =
-    let rest = count_above-le test low n in
-    elim (test (low + suc n)) as (λ b. cond b 1 0 + count_above test low n ≤ suc n) [ true ↦ omega arith | false ↦ omega arith ]
+bounded : (high low : ℕ) (entries : List LogEntry) → IsByNumber entries → AllAbove low entries → AllUpTo high entries → length entries ≤ high - low
+bounded high low [] ascends above below = omega arith
+bounded high low (e ∷ es) ascends above below =
+    let rest = bounded high e.version.v es (AllPairs-rest Less_number e es ascends) (AllPairs-first Less_number e es ascends) (All-tail (λ (x : LogEntry). x.version.v ≤ high) e es below) in
+    let here : low < e.version.v = All-head (λ (x : LogEntry). low < x.version.v) e es above in
+    let top : e.version.v ≤ high = All-head (λ (x : LogEntry). x.version.v ≤ high) e es below in
+    omega arith
 
-count_above-none : (low n : ℕ) → count_above (λ v. false) low n ≡ 0
-count_above-none low zero = refl
-count_above-none low (suc n) = let rest = count_above-none low n in omega arith
-
-within_top : (low x n : ℕ) → x ≡ low + suc n → (nat_lt low x && nat_le x (low + suc n)) ≡ true
-within_top low x n top = grind (arith, nat_tests)
-
-beyond_top : (low x n : ℕ) → x ≡ low + suc n → (nat_lt low x && nat_le x (low + n)) ≡ false
-beyond_top low x n top = grind (arith, nat_tests)
-
-within_less : (low x n : ℕ) → x ≢ low + suc n → (nat_lt low x && nat_le x (low + suc n)) ≡ (nat_lt low x && nat_le x (low + n))
-within_less low x n other = grind (arith, nat_tests)
-
-beyond_none : (low x : ℕ) → (nat_lt low x && nat_le x (low + 0)) ≡ false
-beyond_none low x = grind (arith, nat_tests)
-
--- a number that doesn't pass, beside the test, counts once where it is one of those
-count_above-one : (test : ℕ → Bool) (x low n : ℕ) → test x ≡ false → count_above (λ v. nat_eq x v || test v) low n ≡ cond (nat_lt low x && nat_le x (low + n)) 1 0 + count_above test low n
-count_above-one test x low zero fails = rw (beyond_none low x) refl
-count_above-one test x low (suc n) fails =
-    let rest = count_above-one test x low n fails in
-    elim (eqb_tells x (low + suc n)) [
-      | inl same ↦
-          let here : nat_eq x (low + suc n) ≡ true = same.0 in
-          let fails_here : test (low + suc n) ≡ false = ap test (sym same.1) ∙ fails in
-          let rest_is : count_above (λ v. nat_eq x v || test v) low n ≡ 0 + count_above test low n = rw (beyond_top low x n same.1) at rest in
-          rw (here, fails_here, within_top low x n same.1) (omega (arith, rest_is))
+full-each : (high low : ℕ) (entries : List LogEntry) → IsByNumber entries → AllAbove low entries → AllUpTo high entries → length entries ≡ high - low
+    → (v : ℕ) → low < v → v ≤ high → has_number v entries ≡ true
+full-each high low [] ascends above below full v more less = absurd (omega arith)
+full-each high low (e ∷ es) ascends above below full v more less =
+    let rest_below : AllUpTo high es = All-tail (λ (x : LogEntry). x.version.v ≤ high) e es below in
+    let rest = bounded high e.version.v es (AllPairs-rest Less_number e es ascends) (AllPairs-first Less_number e es ascends) rest_below in
+    let here : low < e.version.v = All-head (λ (x : LogEntry). low < x.version.v) e es above in
+    let top : e.version.v ≤ high = All-head (λ (x : LogEntry). x.version.v ≤ high) e es below in
+    elim (eqb_tells e.version.v v) [
+      | inl same ↦ or_left (nat_eq e.version.v v) (has_number v es) same.0
       | inr other ↦
-          let here : nat_eq x (low + suc n) ≡ false = other.0 in
-          rw (here, within_less low x n other.1) (omega (arith, rest))
+          let apart : e.version.v ≢ v = other.1 in
+          or_right (nat_eq e.version.v v) (has_number v es)
+          (full-each high e.version.v es (AllPairs-rest Less_number e es ascends) (AllPairs-first Less_number e es ascends) rest_below (omega arith) v (omega arith) less)
     ]
 
--- of a number that came again, the earlier entry adds none
-has_number-again : (x v : ℕ) (reported : List LogEntry) → has_number x reported ≡ true → (nat_eq x v || has_number v reported) ≡ has_number v reported
-has_number-again x v reported again =
-    elim (eqb_tells x v) [
-      | inl same ↦ let there : has_number v reported ≡ true = ap (λ n. has_number n reported) (sym same.1) ∙ again in rw there (or_true (nat_eq x v))
-      | inr other ↦ let here : nat_eq x v ≡ false = other.0 in rw here refl
+-- a number that isn't the first entry's is that of a later one
+later_has : (v : ℕ) (e : LogEntry) (es : List LogEntry) → e.version.v ≢ v → has_number v (e ∷ es) ≡ true → has_number v es ≡ true
+later_has v e es apart has = elim (or_cases (nat_eq e.version.v v) (has_number v es) has) [
+  | inl here ↦ absurd (apart (eqb-true e.version.v v here))
+  | inr there ↦ there
+]
+
+each-full : (high low : ℕ) (entries : List LogEntry) → IsByNumber entries → AllAbove low entries → AllUpTo high entries
+    → ((v : ℕ) → low < v → v ≤ high → has_number v entries ≡ true) → length entries ≡ high - low
+each-full high low [] ascends above below each = elim (cases_lt low high) [
+  | inl more ↦ absurd (let never : false ≡ true = each high more (omega arith) in cc)
+  | inr none ↦ omega arith
+]
+each-full high low (e ∷ es) ascends above below each =
+    let later : AllAbove e.version.v es = AllPairs-first Less_number e es ascends in
+    let here : low < e.version.v = All-head (λ (x : LogEntry). low < x.version.v) e es above in
+    let top : e.version.v ≤ high = All-head (λ (x : LogEntry). x.version.v ≤ high) e es below in
+    let rest : length es ≡ high - e.version.v =
+    each-full high e.version.v es (AllPairs-rest Less_number e es ascends) later (All-tail (λ (x : LogEntry). x.version.v ≤ high) e es below)
+    (λ v more less. later_has v e es (omega arith) (each v (omega arith) less)) in
+    elim (eqb_tells e.version.v (suc low)) [
+      | inl same ↦ let is : e.version.v ≡ suc low = same.1 in omega arith
+      | inr other ↦
+          let apart : e.version.v ≢ suc low = other.1 in
+          let found = any-contains (λ (x : LogEntry). nat_eq x.version.v (suc low)) es (later_has (suc low) e es apart (each (suc low) (omega arith) (omega arith))) in
+          let x : LogEntry = found.0 in
+          let is : x.version.v ≡ suc low = eqb-true x.version.v (suc low) found.1.1 in
+          let after : e.version.v < x.version.v = All-contains (λ (y : LogEntry). e.version.v < y.version.v) es x later found.1.0 in
+          absurd (omega arith)
     ]
 
-abbrev kept : ℕ → ℕ → List LogEntry → List LogEntry
-kept low n entries = filter (λ entry. nat_lt low entry.version.v && nat_le entry.version.v (low + n)) entries
+-- ---- what was reported with a number and what the log has
 
-length-one : (entry : LogEntry) (entries : List LogEntry) (b : Bool) → length (cond b (entry ∷ entries) entries) ≡ cond b 1 0 + length entries
-length-one entry entries true = omega arith
-length-one entry entries false = omega arith
+has_last : (v : ℕ) (reported : List LogEntry) → has_number v reported ≡ true → (entry : LogEntry) × IsLast number_of reported entry × (entry.version.v ≡ v)
+has_last v [] has = cc
+has_last v (x ∷ xs) has = elim (cases_Bool (has_number v xs)) [
+  | inl later ↦
+      let rest = has_last v xs later in
+      let last = rest.1 in
+      (rest.0, record { before = x ∷ last.before; after = last.after; split = ap (λ zs. x ∷ zs) last.split; last = last.last }, rest.2)
+  | inr none ↦ elim (or_cases (nat_eq x.version.v v) (has_number v xs) has) [
+    | inl here ↦
+        let is : x.version.v ≡ v = eqb-true x.version.v v here in (
+          x,
+          record {
+            before = [];
+            after = xs;
+            split = refl;
+            last = λ other in' same.
+                let fails : nat_eq other.version.v v ≡ false = none-contains (λ (e : LogEntry). nat_eq e.version.v v) xs other none in' in
+                let passes : nat_eq other.version.v v ≡ true = eq-eqb other.version.v v (same ∙ is) in
+                cc;
+          },
+          is,
+        )
+    | inr there ↦ cc
+  ]
+]
 
-length_step : (low n : ℕ) (entry : LogEntry) (later : List LogEntry) (b : Bool) → has_number entry.version.v later ≡ b → length (kept low n (last_of_each_number later)) ≡ count_above (λ v. has_number v later) low n → length (kept low n (if b then last_of_each_number later else entry ∷ last_of_each_number later)) ≡ count_above (λ v. nat_eq entry.version.v v || has_number v later) low n
-length_step low n entry later true again rest =
-    rest ∙ sym (count_above-agree (λ v. nat_eq entry.version.v v || has_number v later) (λ v. has_number v later) low n (λ v more less. has_number-again entry.version.v v later again))
-length_step low n entry later false last rest =
-    length-one entry (kept low n (last_of_each_number later)) (nat_lt low entry.version.v && nat_le entry.version.v (low + n))
-    ∙ ap (λ m. cond (nat_lt low entry.version.v && nat_le entry.version.v (low + n)) 1 0 + m) rest
-    ∙ sym (count_above-one (λ v. has_number v later) entry.version.v low n last)
+log_has : (info : Info) (reported : List LogEntry) (v : ℕ) → is_in_log info v ≡ true → has_number v reported ≡ true → has_number v (log_of info reported) ≡ true
+log_has info reported v in_log has =
+    let found = has_last v reported has in
+    let entry : LogEntry = found.0 in
+    contains-any (λ (e : LogEntry). nat_eq e.version.v v) (log_of info reported) entry
+    (last-log_of info reported entry (ap (is_in_log info) found.2 ∙ in_log, found.1)) (eq-eqb entry.version.v v found.2)
 
--- the log has as many entries as it has numbers that were reported
-length-kept : (low n : ℕ) (reported : List LogEntry) → length (kept low n (last_of_each_number reported)) ≡ count_above (λ v. has_number v reported) low n
-length-kept low n [] = sym (count_above-none low n)
-length-kept low n (entry ∷ later) = length_step low n entry later (has_number entry.version.v later) refl (length-kept low n later)
+has_reported : (info : Info) (reported : List LogEntry) (v : ℕ) → has_number v (log_of info reported) ≡ true → has_number v reported ≡ true
+has_reported info reported v has =
+    let found = any-contains (λ (e : LogEntry). nat_eq e.version.v v) (log_of info reported) has in
+    let entry : LogEntry = found.0 in
+    let last = (log_of-last info reported entry found.1.0).1 in
+    contains-any (λ (e : LogEntry). nat_eq e.version.v v) reported entry
+    (subst (λ (es : List LogEntry). Contains es entry) (sym last.split) (Contains-append_right last.before (entry ∷ last.after) entry (Contains-here entry last.after))) found.1.1
 
--- the last number counts, or all the others together are too few
-count_top : (b : Bool) (rest n : ℕ) → cond b 1 0 + rest ≡ suc n → rest ≤ n → (b ≡ true) × (rest ≡ n)
-count_top true rest n full less = (refl, omega arith)
-count_top false rest n full less = absurd (omega arith)
+module _ (info : Info) (reported : List LogEntry) where
+  bounds : (v : ℕ) → is_in_log info v ≡ true → (info.log_tail.v < v) × (v ≤ info.last_update.v)
+  bounds v is = let parts = and_parts (nat_lt info.log_tail.v v) (nat_le v info.last_update.v) is in (ltb-true info.log_tail.v v parts.0, leb-true v info.last_update.v parts.1)
 
-full-each : (test : ℕ → Bool) (low n : ℕ) → count_above test low n ≡ n → (v : ℕ) → low < v → v ≤ low + n → test v ≡ true
-full-each test low zero full v more less = absurd (omega arith)
-full-each test low (suc n) full v more less =
-    let cases = count_top (test (low + suc n)) (count_above test low n) n full (count_above-le test low n) in
-    elim (eqb_tells v (low + suc n)) [
-      | inl same ↦ ap test same.1 ∙ cases.0
-      | inr other ↦ let apart : v ≢ low + suc n = other.1 in full-each test low n cases.1 v more (omega arith)
-    ]
+  all_above : AllAbove info.log_tail.v (log_of info reported)
+  all_above = All-members (λ (e : LogEntry). info.log_tail.v < e.version.v) (log_of info reported) (λ e in'. (bounds e.version.v (log_of-last info reported e in').0).0)
 
-each-full : (test : ℕ → Bool) (low n : ℕ) → ((v : ℕ) → low < v → v ≤ low + n → test v ≡ true) → count_above test low n ≡ n
-each-full test low zero each = refl
-each-full test low (suc n) each =
-    let here : test (low + suc n) ≡ true = each (low + suc n) (omega arith) (omega arith) in
-    let rest = each-full test low n (λ v more less. each v more (omega arith)) in
-    rw here (omega (arith, rest))
+  all_up_to : AllUpTo info.last_update.v (log_of info reported)
+  all_up_to = All-members (λ (e : LogEntry). e.version.v ≤ info.last_update.v) (log_of info reported) (λ e in'. (bounds e.version.v (log_of-last info reported e in').0).1)
 
-numbers_of : (info : Info) → info.log_tail.v ≤ info.last_update.v → info.log_tail.v + (info.last_update.v - info.log_tail.v) ≡ info.last_update.v
-numbers_of info ordered = omega arith
+  pub each_number-counted : has_each_number info reported ≡ true → HasEachNumber info reported
+  each_number-counted counted = λ v more less.
+      has_reported info reported v
+      (full-each info.last_update.v info.log_tail.v (log_of info reported) (log_of-ascends info reported) all_above all_up_to (eqb-true _ _ counted) v more less)
 
-length-log_of : (info : Info) (reported : List LogEntry) → info.log_tail.v ≤ info.last_update.v → length (log_of info reported) ≡ count_above (λ v. has_number v reported) info.log_tail.v (info.last_update.v - info.log_tail.v)
-length-log_of info reported ordered =
-    let all = length-kept info.log_tail.v (info.last_update.v - info.log_tail.v) reported in
-    rw (numbers_of info ordered) at all
-
-pub each_number-counted : (info : Info) (reported : List LogEntry) → info.log_tail.v ≤ info.last_update.v → has_each_number info reported ≡ true → HasEachNumber info reported
-each_number-counted info reported ordered counted =
-    let full : length (log_of info reported) ≡ info.last_update.v - info.log_tail.v = eqb-true _ _ counted in
-    λ v more less. full-each (λ n. has_number n reported) info.log_tail.v (info.last_update.v - info.log_tail.v) (sym (length-log_of info reported ordered) ∙ full) v more (omega (arith, numbers_of info ordered))
-
-pub counted-each_number : (info : Info) (reported : List LogEntry) → info.log_tail.v ≤ info.last_update.v → HasEachNumber info reported → has_each_number info reported ≡ true
-counted-each_number info reported ordered each =
-    let full = each-full (λ n. has_number n reported) info.log_tail.v (info.last_update.v - info.log_tail.v) (λ v more less. each v more (omega (arith, numbers_of info ordered))) in
-    eq-eqb _ _ (length-log_of info reported ordered ∙ full)
+  pub counted-each_number : HasEachNumber info reported → has_each_number info reported ≡ true
+  counted-each_number each =
+      eq-eqb _ _ (each-full info.last_update.v info.log_tail.v (log_of info reported) (log_of-ascends info reported) all_above all_up_to
+      (λ v more less. log_has info reported v (and_from (nat_lt info.log_tail.v v) (nat_le v info.last_update.v) (lt-ltb info.log_tail.v v more) (le-leb v info.last_update.v less)) (each v more less)))

@@ -1,31 +1,25 @@
--- The log of a member as it is kept while its entries come (this project's own choice): those entries that still count.
-use Rattle.std.specs.Prelude.{◌≡◌, ◌↔◌, ◌⊎◌, ◌<◌, ℕ, List, not, nat_eq, filter, Contains, AllPairs}
+-- The log of a member as it is kept while its entries come (this project's own choice).
+use Rattle.std.specs.Prelude.{◌≡◌, ℕ, List}
 use Rattle.pgp_ids.specs.declared.log_entry.LogEntry.{LogEntry}
 use Rattle.pgp_ids.specs.declared.report.Info.{Info}
-use Rattle.pgp_missing.specs.Log.{log_of}
+use Rattle.pgp_missing.specs.Log.{by_number}
+use Rattle.pgp_missing.specs.declared.entries.Write.{Write}
+use Rattle.pgp_missing.specs.declared.entries.Newest.{Newest}
 
 -- the member's info, and the entries that are kept
 pub record KeptLog : Type 0 where
   pub info : Info
   pub entries : List LogEntry
 
--- the lists have the same entries, in whatever order
-abbrev pub HaveSameEntries : List LogEntry → List LogEntry → Type 0
-HaveSameEntries a b = (entry : LogEntry) → Contains a entry ↔ Contains b entry
-
--- what is kept is the log of the member with this info, by the entries that it reported
+-- what is kept is the log of the member with this info, by all entries that it reported: the last of each number
 pub record IsLogOf (info : Info) (reported : List LogEntry) (log : KeptLog) : Type 0 where
   pub of_member : log.info ≡ info
-  pub of_reported : HaveSameEntries log.entries (log_of info reported)
+  pub of_reported : log.entries ≡ by_number reported
 
--- the entries in ascending order of their numbers, one of each
-abbrev pub IsByNumber : List LogEntry → Type 0
-IsByNumber entries = AllPairs (λ a b. a.version.v < b.version.v) entries
+-- the entry of this number
+abbrev pub numbered : ℕ × Write → LogEntry
+numbered e = record { version = record { epoch = e.1.epoch; v = e.0 }; change = e.1.change; object = e.1.object }
 
--- the entries with other numbers
-abbrev pub without_number : ℕ → List LogEntry → List LogEntry
-without_number v entries = filter (λ entry. not (nat_eq entry.version.v v)) entries
-
--- the second list has the entry, and of the first those with other numbers
-abbrev pub TakesPlace : LogEntry → List LogEntry → List LogEntry → Type 0
-TakesPlace new old entries = (entry : LogEntry) → Contains entries entry ↔ ((new ≡ entry) ⊎ Contains (without_number new.version.v old) entry)
+-- the entry of this object
+abbrev pub named : List ℕ × Newest → LogEntry
+named e = record { version = e.1.version; change = e.1.change; object = e.0 }

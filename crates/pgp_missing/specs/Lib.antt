@@ -1,3 +1,4 @@
+pub mod Last
 pub mod Log
 pub mod Missing
 pub mod Kept

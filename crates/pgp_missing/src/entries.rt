@@ -1,38 +1,50 @@
 //! Log entries by their numbers.
 
-ghost use Rattle.std.specs.Prelude.{◌≡◌, ◌↔◌, ℕ, List, [], Some, length, map, IfOk, OnOk, OnErr};
-ghost use Rattle.std.specs.BTreeMap as tree;
-ghost use Rattle.std.specs.Cmp.Lexicographic.{slice_cmp};
+ghost use Rattle.std.specs.Prelude.{◌≡◌, List, [], map, filter_map, IfOk, OnOk, OnErr};
 ghost use Rattle.std.specs.Ordering.{nat_cmp};
-ghost use Rattle.pgp_ids.specs.declared.log_entry.LogEntry.{LogEntry};
-ghost use Rattle.pgp_ids.specs.declared.version.Version.{Version};
-ghost use Rattle.pgp_missing.specs.Log.{has_version, is_rising_from};
-ghost use Rattle.pgp_missing.specs.Missing.{missing_above, IsMissing};
-ghost use Rattle.pgp_missing.specs.Kept.{IsByNumber, TakesPlace};
+ghost use Rattle.pgp_missing.specs.Last.{put_in};
+ghost use Rattle.pgp_missing.specs.Log.{number_of, is_in_log, within, is_full, has_version, is_rising_from};
+ghost use Rattle.pgp_missing.specs.Missing.{entries_above, by_object, made_by, missing_above};
+ghost use Rattle.pgp_missing.specs.Kept.{named};
 
-use pgp_ids::{Change, LogEntry, MissingObject, ObjectName, Seq, Version};
+use pgp_ids::{Change, Epoch, Info, LogEntry, MissingObject, ObjectName, Seq, Version};
 use std::alloc::{AllocError, Global};
 use std::collections::BTreeMap;
 use std::marker::Model;
 
+/// What a log entry says beside its number.
+#[derive(Debug, Drop)]
+pub(crate) struct Write {
+    epoch: Epoch,
+    change: Change,
+    object: ObjectName,
+}
+
+/// What the last entry of an object says.
+#[derive(Debug, Drop)]
+pub(crate) struct Newest {
+    version: Version,
+    change: Change,
+}
+
 /// Log entries, one of each number at most. Contracts see the list of them in ascending order of their numbers.
 #[derive(Debug, Drop)]
 pub(crate) struct Entries {
-    by_number: BTreeMap<u32, LogEntry>,
+    by_number: BTreeMap<u32, Write>,
 }
 
 impl Model for Entries {
-    ghost use Rattle.std.specs.Prelude.{◌≡◌, List, map};
-    ghost use Rattle.std.specs.BTreeMap.{keys, values, IsOrdered};
+    ghost use Rattle.std.specs.Prelude.{List, map};
+    ghost use Rattle.std.specs.BTreeMap.{IsOrdered};
     ghost use Rattle.std.specs.Ordering.{nat_cmp};
     ghost use Rattle.pgp_ids.specs.declared.log_entry.LogEntry.{LogEntry};
+    ghost use Rattle.pgp_missing.specs.Kept.{numbered};
 
     ghost Value = { List LogEntry };
 
-    ghost view = { λ e. values e.by_number };
+    ghost view = { λ e. map numbered e.by_number.entries };
 
-    ghost invariant = { λ e. IsOrdered nat_cmp e.by_number
-        × (keys e.by_number ≡ map (λ entry. entry.version.v) (values e.by_number)) };
+    ghost invariant = { λ e. IsOrdered nat_cmp e.by_number };
 }
 
 impl Entries {
@@ -47,101 +59,125 @@ impl Entries {
 
     /// Puts a copy of the entry in, and takes out the one with its number. After an error the entries are as before.
     pub(crate) fn put(&mut self, entry: &LogEntry) -> Result<(), AllocError>
-        ensures ok { OnOk result (TakesPlace entry.now self.old self.new) }
+        ensures ok { OnOk result (self.new ≡ put_in number_of nat_cmp self.old entry.now) }
         ensures err { OnErr result (self.new ≡ self.old) }
     {
-        let copy = LogEntry {
-            version: entry.version,
+        let write = Write {
+            epoch: entry.version.epoch,
             change: entry.change,
             object: entry.object.clone()?,
         };
-        self.by_number.insert(entry.version.v, copy)?;
+        self.by_number.insert(entry.version.v, write)?;
         Ok(())
     }
 
-    pub(crate) fn len(&self) -> usize
-        ensures value { result ≡ length self.now }
-        ensures ascending { IsByNumber self.now }
+    /// There are as many entries within the log of this info as it has numbers.
+    pub(crate) fn is_full(&self, info: &Info) -> bool
+        ensures { result ≡ is_full info.now (within info.now self.now) }
     {
-        self.by_number.len()
+        let mut lacking = info.last_update.v.saturating_sub(info.log_tail.v);
+        for (number, _) in &self.by_number {
+            if is_in_log(info, *number) {
+                if lacking == 0 {
+                    return false;
+                }
+                lacking -= 1;
+            }
+        }
+        lacking == 0
     }
 
-    /// Some entry has this version.
-    pub(crate) fn has_version(&self, version: Version) -> bool
-        ensures { result ≡ has_version version self.now }
+    /// Some entry within the log of this info has the version.
+    pub(crate) fn has_version(&self, info: &Info, version: Version) -> bool
+        ensures { result ≡ has_version version (within info.now self.now) }
     {
+        if !is_in_log(info, version.v) {
+            return false;
+        }
         match self.by_number.get(&version.v) {
-            Some(entry) => entry.version == version,
+            Some(write) => write.epoch == version.epoch,
             None => false,
         }
     }
 
-    /// The epochs don't fall, in the order of the numbers, from that of this version on.
-    pub(crate) fn is_rising_from(&self, version: Version) -> bool
-        ensures { result ≡ is_rising_from version self.now }
+    /// The epochs within the log of this info don't fall, in the order of the numbers, from that of its log_tail on.
+    pub(crate) fn is_rising(&self, info: &Info) -> bool
+        ensures { result ≡ is_rising_from info.now.log_tail.epoch (within info.now self.now) }
     {
-        let mut last = version.epoch;
-        for entry in self.by_number.values() {
-            if entry.version.epoch < last {
-                return false;
+        let mut last = info.log_tail.epoch;
+        for (number, write) in &self.by_number {
+            if is_in_log(info, *number) {
+                if write.epoch < last {
+                    return false;
+                }
+                last = write.epoch;
             }
-            last = entry.version.epoch;
         }
         true
     }
 
-    /// The objects that a copy lacks which has the writes up to this number, in ascending order of their names.
+    /// The objects that a copy lacks by the log of this info which has the writes up to this number, in ascending order of
+    /// their names.
     pub(crate) fn missing_above(
         &self,
         alloc: Global,
+        info: &Info,
         number: u32,
     ) -> Result<Seq<MissingObject>, AllocError>
-        ensures objects { IfOk result (λ objects. objects ≡ missing_above number self.now) }
-        ensures ascending { OnOk result (IsByNumber self.now) }
+        ensures { IfOk result (λ objects. objects ≡ missing_above number (within info.now self.now)) }
     {
-        let needed = self.needed_above(alloc, number)?;
-        Ok(Seq::from_vec(listed(alloc, needed)?))
+        let newest = self.newest_above(alloc, info, number)?;
+        Ok(Seq::from_vec(modified(alloc, newest)?))
     }
 
-    /// The objects whose newest entry is a modify above this number, with its version.
-    fn needed_above(
+    /// What the last entry of each object says, of those within the log of this info above the number.
+    fn newest_above(
         &self,
         alloc: Global,
-        number: u32,
-    ) -> Result<BTreeMap<ObjectName, Version>, AllocError>
-        ensures needed { IfOk result (λ needed. (object : List ℕ) (version : Version)
-            → (tree.get (slice_cmp nat_cmp) needed object ≡ Some version)
-            ↔ ((entry : LogEntry) × IsMissing number self.now (record { object = object; version = version }) entry)) }
-        ensures ascending { OnOk result (IsByNumber self.now) }
+        info: &Info,
+        above: u32,
+    ) -> Result<BTreeMap<ObjectName, Newest>, AllocError>
+        ensures { IfOk result (λ newest.
+            map named newest.entries ≡ by_object (entries_above above (within info.now self.now))) }
     {
-        let mut needed = BTreeMap::new(alloc);
-        for entry in self.by_number.values() {
-            if entry.version.v > number {
-                match entry.change {
-                    Change::Modify => {
-                        needed.insert(entry.object.clone()?, entry.version)?;
-                    }
-                    Change::Delete => {
-                        needed.remove(&entry.object);
-                    }
-                }
+        let mut newest = BTreeMap::new(alloc);
+        for (number, write) in &self.by_number {
+            if is_in_log(info, *number) && *number > above {
+                let version = Version {
+                    epoch: write.epoch,
+                    v: *number,
+                };
+                let change = write.change;
+                newest.insert(write.object.clone()?, Newest { version, change })?;
             }
         }
-        Ok(needed)
+        Ok(newest)
     }
 }
 
-/// The objects with their versions, in ascending order of their names.
-fn listed(
-    alloc: Global,
-    needed: BTreeMap<ObjectName, Version>,
-) -> Result<Vec<MissingObject>, AllocError>
-    ensures objects { IfOk result (λ objects.
-        objects.items ≡ map (λ e. record { object = e.0; version = e.1 }) needed.entries) }
-    ensures ascending { tree.IsOrdered (slice_cmp nat_cmp) needed }
+/// The number is one of the log of this info.
+fn is_in_log(info: &Info, number: u32) -> bool
+    ensures { result ≡ is_in_log info.now number }
 {
-    needed
+    info.log_tail.v < number && number <= info.last_update.v
+}
+
+/// The objects whose last entry is a modify, with its version.
+fn modified(
+    alloc: Global,
+    newest: BTreeMap<ObjectName, Newest>,
+) -> Result<Vec<MissingObject>, AllocError>
+    ensures { IfOk result (λ objects.
+        objects.items ≡ filter_map (λ e. made_by e.1.change (named e)) newest.entries) }
+{
+    newest
         .into_iter()
-        .map(|(object, version)| MissingObject { object, version })
+        .filter_map(|(object, last)| match last.change {
+            Change::Modify => Some(MissingObject {
+                object,
+                version: last.version,
+            }),
+            Change::Delete => None,
+        })
         .collect(alloc)
 }

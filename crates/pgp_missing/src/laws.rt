@@ -1,12 +1,14 @@
 //! What the definitions say of small logs, and of a peer that has all writes.
-ghost use Rattle.std.specs.Prelude.{◌≡◌, ℕ, Contains, ◌≤◌, ◌↔◌, List, [], ◌∷◌, true, false, codes};
+ghost use Rattle.std.specs.Prelude.{◌≡◌, ℕ, All, AllPairs, Contains, ◌≤◌, ◌↔◌, List, [], ◌∷◌, Some, true, false, codes};
 ghost use Rattle.pgp_ids.specs.Version.{is_older};
 ghost use Rattle.pgp_ids.specs.declared.log_entry.LogEntry.{LogEntry};
 ghost use Rattle.pgp_ids.specs.declared.peer.MissingObject.{MissingObject};
 ghost use Rattle.pgp_ids.specs.declared.peer.PeerState.TheVariants.{Missing, Backfill, Diverged};
 ghost use Rattle.pgp_ids.specs.declared.report.Info.{Info};
-ghost use Rattle.pgp_missing.specs.Log.{log_of, has_each_number, HasEachNumber, is_whole};
-ghost use Rattle.pgp_missing.specs.Missing.{IsByName, missing_above, IsMissing, peer_state};
+ghost use Rattle.pgp_missing.specs.Last.{IsLast};
+ghost use Rattle.pgp_missing.specs.Log.{number_of, IsByNumber, is_in_log, log_of, has_each_number, HasEachNumber, is_rising_from, is_whole};
+ghost use Rattle.pgp_missing.specs.Kept.{KeptLog, IsLogOf};
+ghost use Rattle.pgp_missing.specs.Missing.{object_of, entries_above, made_by, IsByName, missing_above, IsMissing, peer_state};
 ghost use Rattle.pgp_missing.specs.Examples.{at, modify, delete, lacks, copy, copy_at, two_writes};
 
 /// A complete peer that has the best copy's last write misses nothing.
@@ -19,15 +21,35 @@ pub fn equal_peers_miss_nothing()
 
 /// A log has as many entries as it has numbers exactly where an entry with each of its numbers was reported.
 pub fn counting_shows_that_no_number_is_lacking()
-    ensures { (info : Info) (reported : List LogEntry) → info.log_tail.v ≤ info.last_update.v
+    ensures { (info : Info) (reported : List LogEntry)
         → (has_each_number info reported ≡ true) ↔ HasEachNumber info reported }
 {}
 
-/// A copy with the writes up to a number lacks just the objects whose newest entry is a modify above that number.
+/// Of each number a log has just the last entry that was reported with it, in ascending order of the numbers.
+pub fn log_holds_the_last_entry_of_each_number()
+    ensures last { (info : Info) (reported : List LogEntry) (log : KeptLog) → IsLogOf info reported log
+        → (entry : LogEntry) → Contains log.entries entry ↔ IsLast number_of reported entry }
+    ensures within { (info : Info) (reported : List LogEntry) (entry : LogEntry)
+        → Contains (log_of info reported) entry
+        ↔ ((is_in_log info entry.version.v ≡ true) × IsLast number_of reported entry) }
+    ensures ascending { (info : Info) (reported : List LogEntry) → IsByNumber (log_of info reported) }
+{}
+
+/// Epochs that rise from one entry to the next rise from each entry to each later one.
+pub fn rising_epochs_never_fall()
+    ensures { (epoch : ℕ) (entries : List LogEntry) → (is_rising_from epoch entries ≡ true)
+        ↔ (All (λ e. epoch ≤ e.version.epoch) entries × AllPairs (λ a b. a.version.epoch ≤ b.version.epoch) entries) }
+{}
+
+/// A copy with the writes up to a number lacks just the objects whose last entry above that number is a modify; by a
+/// log, that is the entry of the greatest number.
 pub fn missing_objects_are_those_modified_last()
-    ensures { (v : ℕ) (entries : List LogEntry) (missing : MissingObject)
+    ensures last { (v : ℕ) (entries : List LogEntry) (missing : MissingObject)
         → Contains (missing_above v entries) missing
-        ↔ ((entry : LogEntry) × IsMissing v entries missing entry) }
+        ↔ ((entry : LogEntry) × IsLast object_of (entries_above v entries) entry × (made_by entry.change entry ≡ Some missing)) }
+    ensures newest { (best : Info) (reported : List LogEntry) (v : ℕ) (missing : MissingObject)
+        → Contains (missing_above v (log_of best reported)) missing
+        ↔ ((entry : LogEntry) × IsMissing v (log_of best reported) missing entry) }
 {}
 
 /// What a copy lacks by a log comes in ascending order of the objects' names, each once.
@@ -84,8 +106,8 @@ pub fn entries_told_again()
 /// An object whose newest entry deletes it isn't missing; one that was made again is, once, at its newest version.
 pub fn deletes()
     ensures deleted { missing_above 1 (modify (codes "a") (at 1 2) ∷ delete (codes "a") (at 1 3) ∷ []) ≡ [] }
-    ensures made_again { let first = modify (codes "a") (at 1 2) ∷ delete (codes "a") (at 1 3) ∷ [] in
-        missing_above 1 (modify (codes "a") (at 1 4) ∷ first) ≡ lacks (codes "a") (at 1 4) ∷ [] }
+    ensures made_again { let later = delete (codes "a") (at 1 3) ∷ modify (codes "a") (at 1 4) ∷ [] in
+        missing_above 1 (modify (codes "a") (at 1 2) ∷ later) ≡ lacks (codes "a") (at 1 4) ∷ [] }
     ensures deleted_before { missing_above 2 (delete (codes "a") (at 1 2) ∷ modify (codes "b") (at 1 3) ∷ [])
         ≡ lacks (codes "b") (at 1 3) ∷ [] }
 {}

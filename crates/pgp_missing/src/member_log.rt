@@ -1,11 +1,11 @@
 //! The log of the best member, and what other copies lack by it.
 
-ghost use Rattle.std.specs.Prelude.{◌≡◌, ◌-◌, List, [], ◌∷◌, ◌++◌, true, length, nat_eq, IfOk, OnOk, OnErr};
+ghost use Rattle.std.specs.Prelude.{◌≡◌, List, [], ◌∷◌, ◌++◌, true, IfOk, OnOk, OnErr};
 ghost use Rattle.pgp_ids.specs.declared.log_entry.LogEntry.{LogEntry};
 ghost use Rattle.pgp_ids.specs.declared.report.Info.{Info};
-ghost use Rattle.pgp_missing.specs.Log.{is_whole};
-ghost use Rattle.pgp_missing.specs.Missing.{peer_state};
-ghost use Rattle.pgp_missing.specs.Kept.{IsLogOf, IsByNumber};
+ghost use Rattle.pgp_missing.specs.Log.{within, are_whole, is_whole};
+ghost use Rattle.pgp_missing.specs.Missing.{peer_state_by, peer_state};
+ghost use Rattle.pgp_missing.specs.Kept.{IsLogOf};
 
 use super::entries::Entries;
 use pgp_ids::{Info, LogEntry, PeerState};
@@ -14,12 +14,12 @@ use std::marker::Model;
 
 /// The log of a member, by its info and the entries that it reported.
 ///
-/// It keeps the last entry of each number of the log. A log may span 2^32 numbers: time and memory go by the entries that
-/// were reported, and not by the numbers.
+/// It keeps the last entry of each number. A log may span 2^32 numbers: time and memory go by the entries that were
+/// reported, and not by the numbers.
 #[derive(Debug, Drop)]
 pub struct MemberLog {
     info: Info,
-    /// Those of its entries that were reported, by their numbers.
+    /// All entries that were reported, by their numbers.
     entries: Entries,
 }
 
@@ -48,10 +48,6 @@ impl MemberLog {
             → IsLogOf info reported self.old → IsLogOf info (reported ++ entry.now ∷ []) self.new) }
         ensures err { OnErr result (self.new ≡ self.old) }
     {
-        let number = entry.version.v;
-        if number <= self.info.log_tail.v || number > self.info.last_update.v {
-            return Ok(());
-        }
         self.entries.put(entry)
     }
 
@@ -61,10 +57,7 @@ impl MemberLog {
         ensures { (info : Info) (reported : List LogEntry)
             → IsLogOf info reported self.now → result ≡ is_whole info reported }
     {
-        self.info.last_update == self.info.log_tail
-            || self.has_each_number()
-                && self.entries.has_version(self.info.last_update)
-                && self.entries.is_rising_from(self.info.log_tail)
+        self.is_whole_by_entries()
     }
 
     /// How the copy of the member with this info compares with that of the log's member. The log has to be whole.
@@ -74,25 +67,39 @@ impl MemberLog {
         ensures { IfOk result (λ state. (info : Info) (reported : List LogEntry)
             → IsLogOf info reported self.now → state ≡ peer_state info reported peer.now) }
     {
+        self.state_by_entries(alloc, peer)
+    }
+
+    /// The log is whole, by the entries that are kept.
+    fn is_whole_by_entries(&self) -> bool
+        ensures { result ≡ are_whole self.now.info (within self.now.info self.now.entries) }
+    {
+        if self.info.last_update == self.info.log_tail {
+            return true;
+        }
+        if !self.entries.is_full(&self.info) {
+            return false;
+        }
+        if !self.entries.has_version(&self.info, self.info.last_update) {
+            return false;
+        }
+        self.entries.is_rising(&self.info)
+    }
+
+    /// The state of the peer, by the entries that are kept.
+    fn state_by_entries(&self, alloc: Global, peer: &Info) -> Result<PeerState, AllocError>
+        ensures { IfOk result (λ state.
+            state ≡ peer_state_by self.now.info (within self.now.info self.now.entries) peer.now) }
+    {
         let last = peer.last_update;
         let tail = self.info.log_tail;
         if !peer.complete || last.is_older_than(tail) {
             return Ok(PeerState::Backfill);
         }
-        if last != tail && !self.entries.has_version(last) {
+        if last != tail && !self.entries.has_version(&self.info, last) {
             return Ok(PeerState::Diverged);
         }
-        let objects = self.entries.missing_above(alloc, last.v)?;
+        let objects = self.entries.missing_above(alloc, &self.info, last.v)?;
         Ok(PeerState::Missing(objects))
-    }
-
-    /// There are as many entries as numbers.
-    fn has_each_number(&self) -> bool
-        ensures value { let numbers = self.now.info.last_update.v - self.now.info.log_tail.v in
-            result ≡ nat_eq (length self.now.entries) numbers }
-        ensures ascending { IsByNumber self.now.entries }
-    {
-        let numbers = self.info.last_update.v.saturating_sub(self.info.log_tail.v);
-        self.entries.len() as u64 == u64::from(numbers)
     }
 }

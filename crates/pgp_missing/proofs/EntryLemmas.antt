@@ -1,0 +1,92 @@
+-- Entries of a map by their numbers.
+use Rattle.std.proofs.Common.{◌≡◌, ℕ, ◌<◌, List, [], ◌∷◌, Bool, true, false, ◌&&◌, ◌||◌, nat_eq, eqb-true, map, fold, refl, ap, sym, ◌∙◌, subst, inl, inr, arith}
+use Rattle.std.specs.Cmp.Lexicographic.{slice_cmp}
+use Rattle.std.specs.List.{All}
+use Rattle.std.specs.List.Sorted.{IsStrictlySortedBy}
+use Rattle.std.specs.Map.{keys_of, lookup}
+use Rattle.std.specs.BTreeMap.{is_at}
+use Rattle.std.specs.Option.{option_map_or}
+use Rattle.std.specs.Ordering.{nat_cmp, is_eq}
+use Rattle.std.specs.declared.cmp.Ordering.TheVariants.{Less}
+use Rattle.std.proofs.lemmas.Bool.{and_parts, cases_Bool, false_from_ne_true, lt-ltb}
+use Rattle.std.proofs.lemmas.Bool.Decides.{nat_tests, eqb_tells}
+use Rattle.std.proofs.lemmas.List.Elements.{All-head, All-tail}
+use Rattle.std.proofs.lemmas.Map.Keys.{sorted_tail}
+use Rattle.std.proofs.lemmas.Map.Views.{All-after_first}
+use Rattle.pgp_ids.specs.Version.{is_same_version}
+use Rattle.pgp_ids.specs.declared.log_entry.LogEntry.{LogEntry}
+use Rattle.pgp_ids.specs.declared.report.Info.{Info}
+use Rattle.pgp_ids.specs.declared.version.Version.{Version}
+use Rattle.pgp_missing.specs.Last.{put_in}
+use Rattle.pgp_missing.specs.Log.{is_in_log, within, has_version}
+use Rattle.pgp_missing.specs.Missing.{object_of, entries_above}
+use Rattle.pgp_missing.specs.Kept.{numbered}
+use Rattle.pgp_missing.specs.declared.entries.Write.{Write}
+
+-- ---- the last entry of each object
+
+-- after those so far, the entries of the log above the number
+abbrev pub newest_of : ℕ → Info → List LogEntry → List (ℕ × Write) → List LogEntry
+newest_of low info so_far es = fold (put_in object_of (slice_cmp nat_cmp)) so_far (entries_above low (within info (map numbered es)))
+
+pub newest_more : (low : ℕ) (info : Info) (so_far : List LogEntry) (v : ℕ) (write : Write) (more : List (ℕ × Write)) → is_in_log info v ≡ true → low < v
+    → newest_of low info so_far ((v, write) ∷ more) ≡ newest_of low info (put_in object_of (slice_cmp nat_cmp) so_far (numbered (v, write))) more
+newest_more low info so_far v write more in_log above = rw (in_log, lt-ltb low v above) refl
+
+-- ---- whether an entry has a version
+
+same_number : (a b : Version) → is_same_version a b ≡ true → a.v ≡ b.v
+same_number a b same = eqb-true a.v b.v ((and_parts (nat_eq a.epoch b.epoch) (nat_eq a.v b.v) same).1)
+
+other_log : (info : Info) (a b : Version) → is_in_log info a.v ≡ true → is_in_log info b.v ≡ false → (a.v ≡ b.v) → ⊥
+other_log info a b is out same = let back : is_in_log info b.v ≡ true = subst (λ v. is_in_log info v ≡ true) same is in cc
+
+module _ (info : Info) (version : Version) where
+  pub version_outside : (entries : List LogEntry) → is_in_log info version.v ≡ false → has_version version (within info entries) ≡ false
+  version_outside [] out = refl
+  version_outside (x ∷ xs) out = elim (cases_Bool (is_in_log info x.version.v)) [
+    | inl is ↦
+        let other : is_same_version x.version version ≡ false = false_from_ne_true _ (λ same. other_log info x.version version is out (same_number x.version version same)) in
+        rw (is, other) (version_outside xs out)
+    | inr is ↦ rw is (version_outside xs out)
+  ]
+
+  pub version_inside : (entries : List LogEntry) → is_in_log info version.v ≡ true → has_version version (within info entries) ≡ has_version version entries
+  version_inside [] within_log = refl
+  version_inside (x ∷ xs) within_log = elim (cases_Bool (is_in_log info x.version.v)) [
+    | inl is ↦ rw is (ap (λ b. is_same_version x.version version || b) (version_inside xs within_log))
+    | inr is ↦
+        let other : is_same_version x.version version ≡ false = false_from_ne_true _ (λ same. other_log info version x.version within_log is (sym (same_number x.version version same))) in
+        rw (is, other) (version_inside xs within_log)
+  ]
+
+module _ (version : Version) where
+  none_after : (es : List (ℕ × Write)) → All (λ k. nat_cmp version.v k ≡ Less) (keys_of es) → has_version version (map numbered es) ≡ false
+  none_after [] later = refl
+  none_after (e ∷ es) later =
+      let here : nat_cmp version.v e.0 ≡ Less = All-head (λ k. nat_cmp version.v k ≡ Less) e.0 (keys_of es) later in
+      let other : is_same_version (numbered e).version version ≡ false = grind (arith, nat_tests) in
+      rw other (none_after es (All-tail (λ k. nat_cmp version.v k ≡ Less) e.0 (keys_of es) later))
+
+  first_is : (b : Bool) → ((b && true) || false) ≡ b
+  first_is true = refl
+  first_is false = refl
+
+  first_not : (b rest : Bool) → ((b && false) || rest) ≡ rest
+  first_not true rest = refl
+  first_not false rest = refl
+
+  pub has_version-lookup : (es : List (ℕ × Write)) → IsStrictlySortedBy nat_cmp (keys_of es)
+      → has_version version (map numbered es) ≡ option_map_or (λ write. nat_eq write.epoch version.epoch) (lookup (is_at (nat_cmp version.v)) es) false
+  has_version-lookup [] ordered = refl
+  has_version-lookup (e ∷ es) ordered = elim (eqb_tells e.0 version.v) [
+    | inl same ↦
+        let at : nat_eq e.0 version.v ≡ true = same.0 in
+        let tied : is_eq (nat_cmp version.v e.0) ≡ true = grind (arith, nat_tests) in
+        let later : All (λ k. nat_cmp version.v k ≡ Less) (keys_of es) = subst (λ v. All (λ k. nat_cmp v k ≡ Less) (keys_of es)) same.1 (All-after_first nat_cmp e.0 (keys_of es) ordered) in
+        rw (at, tied, none_after es later) (first_is (nat_eq e.1.epoch version.epoch))
+    | inr other ↦
+        let at : nat_eq e.0 version.v ≡ false = other.0 in
+        let untied : is_eq (nat_cmp version.v e.0) ≡ false = grind (arith, nat_tests) in
+        rw (at, untied) (first_not (nat_eq e.1.epoch version.epoch) (has_version version (map numbered es)) ∙ has_version-lookup es (sorted_tail nat_cmp e.0 (keys_of es) ordered))
+  ]

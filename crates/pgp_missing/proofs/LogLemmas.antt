@@ -1,0 +1,60 @@
+-- What is kept of a log tells all that its reports tell.
+use Rattle.std.proofs.Common.{◌≡◌, ℕ, ◌≤◌, true, nat_le, refl, arith, leb-true, List, [], ◌∷◌, ◌++◌, Result, Ok, Err, ap, ap₂, sym, ◌∙◌}
+use Rattle.std.specs.List.{All, AllPairs}
+use Rattle.std.specs.Ordering.{nat_cmp}
+use Rattle.std.specs.Result.{IfOk, OnOk}
+use Rattle.std.proofs.lemmas.Bool.{and_parts, and_from, le-leb}
+use Rattle.std.proofs.lemmas.List.Elements.{All-nil, All-cons, All-head, All-weaker}
+use Rattle.std.proofs.lemmas.List.Kept.{AllPairs-cons}
+use Rattle.std.proofs.lemmas.List.Sums.{fold_push}
+use Rattle.pgp_ids.specs.declared.log_entry.LogEntry.{LogEntry}
+use Rattle.pgp_ids.specs.declared.report.Info.{Info}
+use Rattle.pgp_lists.proofs.Pairs.{AllPairs-nil, AllPairs-first, AllPairs-rest}
+use Rattle.pgp_missing.specs.Kept.{KeptLog, IsLogOf}
+use Rattle.pgp_missing.specs.Last.{put_in}
+use Rattle.pgp_missing.specs.Log.{number_of, within, log_of, is_rising_from}
+
+pub log_more : (info : Info) (reported : List LogEntry) (log : KeptLog) (new : LogEntry) (entries : List LogEntry) → IsLogOf info reported log
+    → entries ≡ put_in number_of nat_cmp log.entries new → IsLogOf info (reported ++ new ∷ []) (record { info = log.info; entries = entries })
+log_more info reported log new entries is put = record {
+  of_member = is.of_member;
+  of_reported = put ∙ ap (λ old. put_in number_of nat_cmp old new) is.of_reported ∙ sym (fold_push (put_in number_of nat_cmp) [] reported new);
+}
+
+pub log_tells : {A : Type 0} (f : Info → List LogEntry → A) (info : Info) (reported : List LogEntry) (log : KeptLog) → IsLogOf info reported log
+    → f log.info (within log.info log.entries) ≡ f info (log_of info reported)
+log_tells f info reported log is = ap₂ (λ i entries. f i (within i entries)) is.of_member is.of_reported
+
+-- ---- epochs that don't fall
+
+abbrev Rise : LogEntry → LogEntry → Type 0
+Rise a b = a.version.epoch ≤ b.version.epoch
+
+abbrev NoneBelow : ℕ → List LogEntry → Type 0
+NoneBelow epoch entries = All (λ (e : LogEntry). epoch ≤ e.version.epoch) entries
+
+pub rising-pairs : (epoch : ℕ) (entries : List LogEntry) → is_rising_from epoch entries ≡ true → NoneBelow epoch entries × AllPairs Rise entries
+rising-pairs epoch [] up = (All-nil (λ (e : LogEntry). epoch ≤ e.version.epoch), AllPairs-nil Rise)
+rising-pairs epoch (x ∷ xs) up =
+    let parts = and_parts (nat_le epoch x.version.epoch) (is_rising_from x.version.epoch xs) up in
+    let here : epoch ≤ x.version.epoch = leb-true epoch x.version.epoch parts.0 in
+    let rest = rising-pairs x.version.epoch xs parts.1 in (
+      All-cons (λ (e : LogEntry). epoch ≤ e.version.epoch) x xs here (All-weaker (Rise x) (λ (e : LogEntry). epoch ≤ e.version.epoch) (λ e more. omega arith) xs rest.0),
+      AllPairs-cons Rise x xs rest.0 rest.1,
+    )
+
+pub pairs-rising : (epoch : ℕ) (entries : List LogEntry) → NoneBelow epoch entries × AllPairs Rise entries → is_rising_from epoch entries ≡ true
+pairs-rising epoch [] up = refl
+pairs-rising epoch (x ∷ xs) up =
+    and_from (nat_le epoch x.version.epoch) (is_rising_from x.version.epoch xs) (le-leb epoch x.version.epoch (All-head (λ (e : LogEntry). epoch ≤ e.version.epoch) x xs up.0))
+    (pairs-rising x.version.epoch xs (AllPairs-first Rise x xs up.1, AllPairs-rest Rise x xs up.1))
+
+-- ---- answers
+
+pub on_ok : {T E : Type 0} (r : Result T E) (P Q : Type 0) → (P → Q) → OnOk r P → OnOk r Q
+on_ok (Ok x) P Q gives given = gives given
+on_ok (Err e) P Q gives given = given
+
+pub if_ok : {T E : Type 0} (r : Result T E) (P Q : T → Type 0) → ((x : T) → P x → Q x) → IfOk r P → IfOk r Q
+if_ok (Ok x) P Q gives given = gives x given
+if_ok (Err e) P Q gives given = given
