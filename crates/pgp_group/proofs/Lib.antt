@@ -7,3 +7,4 @@ pub mod Lists
 pub mod GrowthLemmas
 pub mod GroupLemmas
 pub mod FoundLemmas
+pub mod RiseLemmas

@@ -8,7 +8,7 @@ ghost use Rattle.pgp_group.specs.Verdict.{verdict};
 use pgp_ids::Verdict;
 
 /// Which causes hold, in the order in which they are looked at.
-#[derive(Clone, Copy, Debug, PartialEq, Eq)]
+#[derive(Clone, Copy)]
 pub(crate) struct Causes {
     /// Nobody leads.
     pub(crate) no_primary: bool,

@@ -4,7 +4,7 @@ use pgp_ids::{Epoch, Member, Past, PeerMissing, Seq};
 use pgp_prior::Prior;
 
 /// The best copy, and the states of the others.
-#[derive(Debug, Drop)]
+#[derive(Drop)]
 pub(crate) struct Found {
     /// The member whose copy is the best.
     pub(crate) best: Option<Member>,
@@ -15,7 +15,7 @@ pub(crate) struct Found {
 }
 
 /// Whom the group has to hear, and why.
-#[derive(Debug, Drop)]
+#[derive(Drop)]
 pub(crate) struct Needs {
     /// The past intervals, in ascending order.
     pub(crate) intervals: Seq<Past>,

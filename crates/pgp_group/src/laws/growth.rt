@@ -1,6 +1,6 @@
 //! How the history of a group grows with the list of incrementals.
 
-ghost use Rattle.std.specs.Prelude.{◌≡◌, ℕ, List, Some, true, length, option_map};
+ghost use Rattle.std.specs.Prelude.{◌≡◌, ◌≤◌, ◌++◌, ℕ, List, Some, true, length, option_map};
 ghost use Rattle.pgp_code.specs.Pool.{code_of};
 ghost use Rattle.pgp_code.specs.declared.any.AnyCode.{AnyCode};
 ghost use Rattle.pgp_ids.specs.declared.entry.Entry.{Entry};
@@ -16,7 +16,9 @@ ghost use Rattle.pgp_map.specs.declared.map.OsdMap.{OsdMap};
 ghost use Rattle.pgp_sets.specs.Sets.{membership, pool_membership};
 ghost use Rattle.pgp_group.specs.Entries.{incs_of};
 ghost use Rattle.pgp_group.specs.GroupHistory.{AreNumbered, makes, made_at, primary_facts, group_history};
+ghost use Rattle.pgp_group.specs.GroupLog.{GroupLog, group_in};
 ghost use Rattle.pgp_group.specs.GroupOf.{IsGroupOf, Follows};
+ghost use Rattle.pgp_group.specs.Heard.{les};
 ghost use Rattle.pgp_group.specs.declared.group.Group.{Group};
 
 use pgp_map::laws::{checked_lists_grow_by_incrementals_without_fault, pools_of_checked_lists};
@@ -64,3 +66,9 @@ pub fn the_next_map_follows()
     checked_lists_grow_by_incrementals_without_fault();
     pools_of_checked_lists();
 }
+
+/// The last epoch in which a group is known to have begun to serve never falls.
+pub fn serving_is_never_forgotten()
+    ensures { (log later : List Entry) (pg : PgId) (g after : GroupLog) → group_in log pg ≡ Some g
+        → group_in (log ++ later) pg ≡ Some after → les g ≤ les after }
+{}
