@@ -26,8 +26,8 @@ use Rattle.pgp_sets.specs.Status.{held_status}
 use Rattle.pgp_sets.specs.StatusLaws.{held_status-is}
 use Rattle.pgp_group.specs.Found.{AreHeard, IsFound}
 use Rattle.pgp_group.specs.GroupLog.{GroupLog, incs}
-use Rattle.pgp_group.specs.Heard.{les, heard, has_member, reported}
-use Rattle.pgp_group.specs.Peering.{past, prior, leader, best, has_whole_log, if_whole, whole_best, others_heard, present_members, peers, peer_missing, peer_states}
+use Rattle.pgp_group.specs.Heard.{les, heard, has_member}
+use Rattle.pgp_group.specs.Peering.{past, prior, leader, best, has_whole_log, if_whole, whole_best, present_members, peers, peer_missing}
 use Rattle.pgp_group.specs.Prefers.{prefers}
 use Rattle.pgp_group.specs.Verdict.{is_waiting}
 use Rattle.pgp_group.specs.declared.found.Found.{Found}

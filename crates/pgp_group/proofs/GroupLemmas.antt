@@ -1,17 +1,15 @@
 -- What a group keeps as its log grows.
-use Rattle.std.proofs.Common.{◌≡◌, List, [], ◌∷◌, ◌++◌, Option, Some, None, Bool, true, false, refl, ap, ap₂, sym, ◌∙◌, subst, arith, append-nil, if◌then◌else◌}
+use Rattle.std.proofs.Common.{◌≡◌, List, [], ◌∷◌, ◌++◌, Option, Some, None, Bool, true, false, refl, ap, sym, ◌∙◌, subst, append-nil}
 use Rattle.std.specs.List.{filter, filter_map}
-use Rattle.std.specs.Option.{option_map, option_map_or}
+use Rattle.std.specs.Option.{option_map}
 use Rattle.std.specs.Prelude.{Result, Ok, Err}
 use Rattle.std.specs.Result.{IfOk, OnOk, OnErr}
-use Rattle.std.proofs.lemmas.Bool.{and_parts, eqb-true}
 use Rattle.std.proofs.lemmas.List.Elements.{filter-append, filter_map-append}
 use Rattle.pgp_code.specs.AnyCode.{enough_of, is_by_place}
 use Rattle.pgp_code.specs.Pool.{code_of}
 use Rattle.pgp_code.specs.declared.any.AnyCode.{AnyCode}
 use Rattle.pgp_ids.specs.declared.entry.Entry.{Entry}
 use Rattle.pgp_ids.specs.declared.entry.Entry.TheVariants as entry
-use Rattle.pgp_ids.specs.declared.history.PrimaryFacts.{PrimaryFacts}
 use Rattle.pgp_ids.specs.declared.incremental.Incremental.{Incremental}
 use Rattle.pgp_ids.specs.declared.member.Membership.{Membership}
 use Rattle.pgp_ids.specs.declared.pg_id.PgId.{PgId}
@@ -20,15 +18,14 @@ use Rattle.pgp_ids.specs.declared.pool.PoolSpec.{PoolSpec}
 use Rattle.pgp_ids.specs.declared.report.Info.{Info}
 use Rattle.pgp_ids.specs.declared.report.Report.{Report}
 use Rattle.pgp_interval.specs.History.{History, begun, stepped}
-use Rattle.pgp_interval.specs.IntervalsOf.{IsIntervalsOf, Running}
+use Rattle.pgp_interval.specs.IntervalsOf.{IsIntervalsOf}
 use Rattle.pgp_map.specs.Map.{epoch}
 use Rattle.pgp_map.specs.MapFault.{map_fault, then_with}
 use Rattle.pgp_map.specs.Pools.{pool, has_group, is_same_group}
 use Rattle.pgp_sets.specs.Sets.{pool_membership, membership}
 use Rattle.pgp_group.specs.Entries.{inc_of, info_of, report_of, incs_of, infos_of, reports_of}
 use Rattle.pgp_group.specs.GroupHistory.{AreNumbered, made_at, primary_facts, group_history}
-use Rattle.pgp_group.specs.GroupLog.{GroupLog, group_with, infos, reports}
-use Rattle.pgp_group.specs.GroupOf.{Keeps, IsGroupOf, IsSilent}
+use Rattle.pgp_group.specs.GroupOf.{IsGroupOf, IsSilent}
 use Rattle.pgp_group.specs.declared.group.Group.{Group}
 use Rattle.pgp_group.proofs.GrowthLemmas.{history-begins, history-grows, numbered-more}
 
@@ -53,8 +50,6 @@ left_new : {X : Type 0} (test : X → Bool) (xs : List X) (x : X) → test x ≡
 left_new {X = X} test xs x fails =
     let new : filter test (x ∷ []) ≡ [] = rw fails refl in
     filter-append test xs (x ∷ []) ∙ ap (λ (l : List X). filter test xs ++ l) new ∙ append-nil (filter test xs)
-
-
 
 -- ---- an entry that brings no map
 
@@ -118,8 +113,8 @@ IsGroupOf-inc log inc pg old group members is fine lies pg_is infos' reports' in
     record {
       history = after;
       history_is = ap (λ (l : List Incremental). group_history l pg) incs
-      ∙ history-grows (incs_of log) inc pg is.history is.numbered fine is.history_is
-      ∙ ap (option_map (λ (m : Membership). stepped is.history m (primary_facts (incs_of log) is.history.current.acting_primary))) lies;
+          ∙ history-grows (incs_of log) inc pg is.history is.numbered fine is.history_is
+          ∙ ap (option_map (λ (m : Membership). stepped is.history m (primary_facts (incs_of log) is.history.current.acting_primary))) lies;
       numbered = subst AreNumbered (sym incs) (numbered-more (incs_of log) inc is.numbered fine);
       keeps = record {
         pg_is = pg_is ∙ is.keeps.pg_is;

@@ -1,6 +1,6 @@
 -- How a list of incrementals is numbered, and how the history of a group grows by an incremental that isn't refused.
-use Rattle.std.proofs.Common.{◌≡◌, ℕ, zero, suc, ◌+◌, ◌-◌, ◌<◌, ◌≤◌, List, [], ◌∷◌, ◌++◌, Option, Some, None, is_some, Bool, true, false, nat_eq, nat_lt, nat_le, length, map, refl, ap, ap₂, sym, ◌∙◌, subst, inl, inr, arith, append-nil, drop, if◌then◌else◌}
-use Rattle.std.specs.List.{Contains, filter, filter_map, flat_map, last_or, list_any, range_with_len, slice_index_or}
+use Rattle.std.proofs.Common.{◌≡◌, ℕ, zero, suc, ◌+◌, ◌-◌, ◌<◌, ◌≤◌, List, [], ◌∷◌, ◌++◌, Option, Some, None, is_some, Bool, true, false, nat_eq, nat_lt, nat_le, length, map, refl, ap, ap₂, sym, ◌∙◌, subst, inl, inr, arith, drop, if◌then◌else◌}
+use Rattle.std.specs.List.{Contains, filter_map, flat_map, last_or, list_any, range_with_len, slice_index_or}
 use Rattle.std.specs.Option.{option_map, option_map_or}
 use Rattle.std.proofs.lemmas.Bool.{cases_Bool, eqb-true}
 use Rattle.std.proofs.lemmas.Bool.Decides.{nat_tests}
@@ -10,9 +10,7 @@ use Rattle.pgp_code.specs.declared.any.AnyCode.{AnyCode}
 use Rattle.pgp_code.specs.Pool.{code_of}
 use Rattle.pgp_ids.specs.declared.history.EpochState.{EpochState}
 use Rattle.pgp_ids.specs.declared.incremental.Incremental.{Incremental}
-use Rattle.pgp_ids.specs.declared.member.Membership.{Membership}
 use Rattle.pgp_ids.specs.declared.pg_id.PgId.{PgId}
-use Rattle.pgp_ids.specs.declared.pool.PoolKind.{PoolKind}
 use Rattle.pgp_ids.specs.declared.pool.PoolSizes.{PoolSizes}
 use Rattle.pgp_ids.specs.declared.pool.PoolSpec.{PoolSpec}
 use Rattle.pgp_interval.specs.History.{History, begun, stepped}
@@ -26,8 +24,8 @@ use Rattle.pgp_lists.proofs.Members.{filter-contains}
 use Rattle.pgp_lists.proofs.Options.{if_none}
 use Rattle.pgp_lists.proofs.Ranges.{range_with_len-suc}
 use Rattle.pgp_group.specs.GroupHistory.{makes, made_at, AreNumbered, primary_facts, state_with, state_at_epoch, states_from, history_of, group_history}
-use Rattle.pgp_group.proofs.HistoryLemmas.{Maker, maker_of, history_if, history-length}
-use Rattle.pgp_group.proofs.Lists.{none-narrower, filter-none, flat_map-snoc, last_or-snoc, last_where-passes, last_where-none, filter_map-agree}
+use Rattle.pgp_group.proofs.HistoryLemmas.{maker_of, history_if, history-length}
+use Rattle.pgp_group.proofs.Lists.{none-narrower, flat_map-snoc, last_or-snoc, last_where-passes, last_where-none, filter_map-agree}
 
 -- ---- an incremental that isn't refused
 

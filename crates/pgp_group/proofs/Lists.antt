@@ -1,5 +1,5 @@
 -- Lists that grow, ranges, and last elements that pass a test.
-use Rattle.std.proofs.Common.{◌≡◌, ℕ, zero, suc, ◌+◌, ◌<◌, ◌≤◌, List, [], ◌∷◌, ◌++◌, Option, Some, None, Bool, true, false, ◌||◌, length, map, refl, ap, ap₂, sym, ◌∙◌, inl, inr, arith, if◌then◌else◌, append-nil, append_assoc, get_or, take}
+use Rattle.std.proofs.Common.{◌≡◌, ℕ, zero, suc, ◌+◌, ◌<◌, List, [], ◌∷◌, ◌++◌, Option, Some, None, Bool, true, false, length, refl, ap, ap₂, sym, ◌∙◌, inl, inr, arith, append-nil, append_assoc, get_or, take}
 use Rattle.std.specs.List.{cons_option, filter, filter_map, flat_map, last_or, list_any, range_with_len}
 use Rattle.std.proofs.lemmas.Bool.{cases_Bool, or_parts, true≢false}
 use Rattle.std.proofs.lemmas.List.{take_more}

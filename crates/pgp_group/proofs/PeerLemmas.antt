@@ -1,6 +1,6 @@
 -- The states of peers: each other heard member of up and acting has one, in ascending order.
 use Rattle.std.proofs.Common.{◌≡◌, ◌≢◌, ℕ, ◌+◌, ◌<◌, List, [], ◌∷◌, ◌++◌, Option, Some, None, Bool, true, false, not, get_or, length, map, take, refl, ap, sym, ◌∙◌, subst, inl, inr, arith, append-nil, if◌then◌else◌}
-use Rattle.std.specs.List.{Contains, All, AllPairs, cons_option, filter, filter_map, find, list_any}
+use Rattle.std.specs.List.{Contains, All, cons_option, filter, filter_map, list_any}
 use Rattle.std.specs.Option.{option_map_or}
 use Rattle.std.specs.Ordering.{on}
 use Rattle.std.proofs.lemmas.Bool.{and_parts, cases_Bool, eqb-true, true≢false}
@@ -11,7 +11,7 @@ use Rattle.pgp_ids.specs.Member.{is_before, is_same_member}
 use Rattle.pgp_ids.specs.declared.group_member.Member.{Member}
 use Rattle.pgp_ids.specs.declared.peer.PeerMissing.{PeerMissing}
 use Rattle.pgp_ids.specs.declared.report.Info.{Info}
-use Rattle.pgp_lists.specs.Ordered.{ascending, IsAscending}
+use Rattle.pgp_lists.specs.Ordered.{IsAscending}
 use Rattle.pgp_lists.proofs.Members.{Contains-first, Contains-later, Contains-cases, Contains-nil, filter-contains, contains-filter, any-contains, contains-any, find-some, find-none}
 use Rattle.pgp_lists.proofs.Pairs.{AllPairs-first, AllPairs-mapped, AllPairs-nil, AllPairs-rest}
 use Rattle.pgp_lists.proofs.Ordered.{ascending-contains, contains-ascending, IsAscending-ascending}

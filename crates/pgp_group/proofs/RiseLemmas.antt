@@ -1,15 +1,12 @@
 -- What never falls as a log grows.
-use Rattle.std.proofs.Common.{◌≡◌, ℕ, ◌≤◌, List, [], ◌∷◌, ◌++◌, Option, Some, None, fold, map, max, ap, sym, ◌∙◌, subst, arith}
+use Rattle.std.proofs.Common.{◌≡◌, ℕ, ◌≤◌, List, [], ◌∷◌, ◌++◌, Some, fold, map, max, ap, sym, ◌∙◌, arith}
 use Rattle.std.specs.List.{filter}
-use Rattle.std.specs.Option.{option_map}
 use Rattle.std.proofs.lemmas.List.{map-append}
 use Rattle.std.proofs.lemmas.List.Elements.{filter-append, filter_map-append}
 use Rattle.std.proofs.lemmas.List.Sums.{fold-append}
-use Rattle.pgp_code.specs.declared.any.AnyCode.{AnyCode}
 use Rattle.pgp_ids.specs.declared.entry.Entry.{Entry}
 use Rattle.pgp_ids.specs.declared.pg_id.PgId.{PgId}
 use Rattle.pgp_ids.specs.declared.report.Info.{Info}
-use Rattle.pgp_interval.specs.History.{History}
 use Rattle.pgp_lists.proofs.Options.{map_some}
 use Rattle.pgp_map.specs.Pools.{is_same_group}
 use Rattle.pgp_group.specs.Entries.{info_of, infos_of, incs_of}

@@ -143,7 +143,15 @@ impl Group {
         let found = self.found(map, first, &current, &heard)?;
         let needs = self.needs(map, &current, &heard)?;
         let causes = self.causes(map, first, &current, &found, &needs);
-        Ok(seen(count, map.epoch(), first, current, found, needs, causes.verdict()))
+        Ok(seen(
+            count,
+            map.epoch(),
+            first,
+            current,
+            found,
+            needs,
+            causes.verdict(),
+        ))
     }
 
     /// The last counted info of each member, by the preference of the group's pool.

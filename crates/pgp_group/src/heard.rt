@@ -45,7 +45,5 @@ pub(crate) fn heard(
 pub(crate) fn is_waiting(probe: &[Member], heard: &Best<Preference>) -> bool
     ensures { result ≡ list_any (λ member. not (has_member member heard.now.infos)) probe.now }
 {
-    probe
-        .iter()
-        .any(|member| heard.info_of(member).is_none())
+    probe.iter().any(|member| heard.info_of(member).is_none())
 }

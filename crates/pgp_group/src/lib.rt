@@ -8,10 +8,10 @@
 mod causes;
 mod copies;
 mod counted;
-pub mod laws;
 mod found;
 mod group;
 mod heard;
+pub mod laws;
 mod peers;
 mod reported;
 mod standing;

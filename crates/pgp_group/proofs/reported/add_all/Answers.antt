@@ -1,4 +1,4 @@
-use Rattle.std.proofs.Common.{◌++◌, List, arith, length, subst, sym, take}
+use Rattle.std.proofs.Common.{◌++◌, List, subst, sym, take}
 use Rattle.std.proofs.lemmas.List.{take_all}
 use Rattle.pgp_ids.specs.declared.log_entry.LogEntry.{LogEntry}
 use Rattle.pgp_missing.specs.Kept.{IsLogOf}

@@ -1,8 +1,6 @@
-use Rattle.std.proofs.Common.{◌≡◌, ◌++◌, [], ◌∷◌, List, None, refl, subst, sym, ◌∙◌}
+use Rattle.std.proofs.Common.{◌++◌, [], ◌∷◌, refl, subst, sym, ◌∙◌}
 use Rattle.pgp_ids.specs.declared.entry.Entry.{Entry}
 use Rattle.pgp_ids.specs.declared.entry.Entry.TheVariants as entry
-use Rattle.pgp_ids.specs.declared.pg_id.PgId.{PgId}
-use Rattle.pgp_group.specs.Entries.{inc_of}
 use Rattle.pgp_group.specs.GroupOf.{IsGroupOf}
 use Rattle.pgp_group.proofs.GroupLemmas.{on_ok, StandsWith, TakesReport, IsGroupOf-other, infos-same, reports-same, no_map}
 use Rattle.pgp_group.proofs.group.Group.absorb_report.Goals as goal

@@ -22,7 +22,7 @@ returns c = if_ok c.heard.result
     record {
       infos = ap (λ (h : Heard Preference). h.infos) all;
       prefer = ap (λ (h : Heard Preference). prefers h.prefer) all ∙ c.of_pool-prefer.ensures
-      ∙ prefer-is g c.by_place-by_place.result c.leader.result c.args.current.now
-      (c.by_place-by_place.ensures ∙ ap (λ (code : AnyCode). is_by_place code) (c.code.ensures ∙ keeps.intervals_are.code_is)) current c.leader.ensures;
+          ∙ prefer-is g c.by_place-by_place.result c.leader.result c.args.current.now
+          (c.by_place-by_place.ensures ∙ ap (λ (code : AnyCode). is_by_place code) (c.code.ensures ∙ keeps.intervals_are.code_is)) current c.leader.ensures;
     })
     c.heard.ensures

@@ -21,6 +21,6 @@ returns c = λ g keeps is current heard.
       les = les_is;
       prior = prior_is;
       waiting = c.is_waiting-waiting.ensures
-      ∙ ap (list_any (λ (member : Member). not (has_member member c.args.heard.now.infos))) c.as_slice-3.ensures
-      ∙ waiting-is g c.in_ok-prior.prior c.args.heard.now.infos prior_is heard.infos;
+          ∙ ap (list_any (λ (member : Member). not (has_member member c.args.heard.now.infos))) c.as_slice-3.ensures
+          ∙ waiting-is g c.in_ok-prior.prior c.args.heard.now.infos prior_is heard.infos;
     }
