@@ -1,14 +1,17 @@
 -- The infos that are heard are of distinct members, and each is the last of its member.
-use Rattle.std.proofs.Common.{◌≡◌, ◌≢◌, List, [], ◌∷◌, ◌++◌, true, false, ap, sym, ◌∙◌, subst, inl, inr, arith}
+use Rattle.std.proofs.Common.{◌≡◌, ◌≢◌, List, [], ◌∷◌, ◌++◌, Bool, true, false, ◌||◌, refl, ap, sym, ◌∙◌, subst, inl, inr, arith}
 use Rattle.std.specs.List.{Contains, All}
 use Rattle.std.proofs.lemmas.Bool.{cases_Bool, true≢false}
 use Rattle.std.proofs.lemmas.Bool.Decides.{nat_tests}
 use Rattle.std.proofs.lemmas.List.Elements.{All-contains_itself, All-weaker}
+use Rattle.std.proofs.lemmas.List.Kept.{AllPairs-cons}
 use Rattle.pgp_ids.specs.Member.{is_same_member}
 use Rattle.pgp_ids.specs.declared.member.Member.{Member}
 use Rattle.pgp_ids.specs.declared.report.Info.{Info}
 use Rattle.pgp_info.specs.Best.{HasDistinctMembers}
-use Rattle.pgp_prior.proofs.ListLemmas.{Contains-here, Contains-first, Contains-later, Contains-cases, Contains-nil, AllPairs-cons, AllPairs-nil, contains-any}
+use Rattle.pgp_info.specs.Heard.{with_info}
+use Rattle.pgp_lists.proofs.Members.{Contains-here, Contains-first, Contains-later, Contains-cases, Contains-nil, contains-any}
+use Rattle.pgp_lists.proofs.Pairs.{AllPairs-nil}
 use Rattle.pgp_group.specs.Heard.{has_member, last_of_each_member, IsLastOfMember}
 
 same_member_itself : (a : Member) → is_same_member a a ≡ true
@@ -80,3 +83,46 @@ kept_behind (first ∷ before) info after last =
 pub IsLastOfMember-last_of : (infos : List Info) (info : Info) → IsLastOfMember infos info → Contains (last_of_each_member infos) info
 IsLastOfMember-last_of infos info is =
     subst (λ l. Contains (last_of_each_member l) info) (sym is.split) (kept_behind is.before info is.after is.last)
+
+-- ---- one more info
+
+or_nothing : (a : Bool) → (a || false) ≡ a
+or_nothing true = refl
+or_nothing false = refl
+
+has_member-snoc : (member : Member) (infos : List Info) (info : Info) → has_member member (infos ++ info ∷ []) ≡ (has_member member infos || is_same_member info.member member)
+has_member-snoc member [] info = or_nothing (is_same_member info.member member)
+has_member-snoc member (first ∷ infos) info = elim (cases_Bool (is_same_member first.member member)) [
+  | inl here ↦ rw here refl
+  | inr other ↦ rw other (has_member-snoc member infos info)
+]
+
+same_back : (a b : Member) → is_same_member a b ≡ true → is_same_member b a ≡ true
+same_back a b same = grind (arith, nat_tests)
+
+differ_back : (a b : Member) → is_same_member a b ≡ false → is_same_member b a ≡ false
+differ_back a b differ = elim (cases_Bool (is_same_member b a)) [
+  | inl same ↦ absurd (true≢false (sym (same_back b a same) ∙ differ))
+  | inr other ↦ other
+]
+
+-- the last infos of the members with one more info: those of the others, and then this one
+pub last_of-snoc : (infos : List Info) (info : Info) → last_of_each_member (infos ++ info ∷ []) ≡ with_info info (last_of_each_member infos)
+last_of-snoc [] info = refl
+last_of-snoc (first ∷ infos) info =
+    let rest : last_of_each_member (infos ++ info ∷ []) ≡ with_info info (last_of_each_member infos) = last_of-snoc infos info in
+    elim (cases_Bool (has_member first.member infos)) [
+      | inl again ↦
+          let again_then : has_member first.member (infos ++ info ∷ []) ≡ true = rw (has_member-snoc first.member infos info, again) refl in
+          rw (again_then, again) rest
+      | inr once ↦ elim (cases_Bool (is_same_member info.member first.member)) [
+        | inl same ↦
+            let again_then : has_member first.member (infos ++ info ∷ []) ≡ true = rw (has_member-snoc first.member infos info, once) same in
+            let back : is_same_member first.member info.member ≡ true = same_back info.member first.member same in
+            rw (again_then, once, back) rest
+        | inr differ ↦
+            let once_then : has_member first.member (infos ++ info ∷ []) ≡ false = rw (has_member-snoc first.member infos info, once) differ in
+            let back : is_same_member first.member info.member ≡ false = differ_back info.member first.member differ in
+            rw (once_then, once, back) (ap (λ l. first ∷ l) rest)
+      ]
+    ]

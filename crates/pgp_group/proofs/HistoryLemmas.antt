@@ -1,8 +1,8 @@
 -- The history of a group has a state for each epoch, from the one that made its pool on.
-use Rattle.std.proofs.Common.{◌≡◌, ◌⊎◌, ℕ, zero, suc, ◌+◌, ◌-◌, ◌<◌, ◌≤◌, List, [], ◌∷◌, Option, Some, None, is_some, Bool, true, false, ◌||◌, nat_eq, nat_le, length, refl, ap, sym, ◌∙◌, subst, inl, inr, arith, if◌then◌else◌}
-use Rattle.std.specs.List.{Contains, filter, filter_map, flat_map, last_or, list_any, range_with_len, slice_get}
-use Rattle.std.specs.Option.{option_map, option_map_or, unwrap_or}
-use Rattle.std.proofs.lemmas.Bool.{cases_Bool}
+use Rattle.std.proofs.Common.{◌≡◌, ℕ, zero, suc, ◌+◌, ◌-◌, ◌<◌, ◌≤◌, List, Option, Some, None, is_some, Bool, true, false, nat_eq, nat_le, length, refl, ap, sym, ◌∙◌, subst, arith, if◌then◌else◌}
+use Rattle.std.specs.List.{Contains, filter_map, flat_map, list_any, range_with_len, slice_get}
+use Rattle.std.specs.Option.{option_map, option_map_or}
+use Rattle.std.proofs.lemmas.Option.{same_Some}
 use Rattle.std.proofs.lemmas.Bool.Decides.{nat_tests}
 use Rattle.pgp_code.specs.declared.any.AnyCode.{AnyCode}
 use Rattle.pgp_ids.specs.declared.incremental.Incremental.{Incremental}
@@ -12,60 +12,13 @@ use Rattle.pgp_interval.specs.History.{History}
 use Rattle.pgp_map.specs.Last.{last_where}
 use Rattle.pgp_map.specs.Map.{epoch, up_to}
 use Rattle.pgp_map.specs.Pools.{pool, has_group}
-use Rattle.pgp_prior.proofs.ListLemmas.{Contains-here, Contains-later, any-contains, contains-any, contains-filter, contains-flat_map, flat_map-contains}
+use Rattle.pgp_lists.proofs.Last.{last_where-some, last_where-found}
+use Rattle.pgp_lists.proofs.Members.{any-contains, contains-any, contains-filter, contains-flat_map, flat_map-contains}
+use Rattle.pgp_lists.proofs.Options.{some_is, some_mapped}
 use Rattle.pgp_sets.specs.Sets.{pool_membership, membership}
 use Rattle.pgp_group.specs.GroupHistory.{makes, made_at, state_at_epoch, history_of, group_history}
 
--- ---- the last element that passes a test
-
-or_true : (a : Bool) → (a || true) ≡ true
-or_true true = refl
-or_true false = refl
-
-last_or-some : {X : Type 0} (test : X → Bool) (o : Option X) (xs : List X) → is_some (last_or o (filter test xs)) ≡ (is_some o || list_any test xs)
-last_or-some test None [] = refl
-last_or-some test (Some y) [] = refl
-last_or-some test o (x ∷ xs) = elim (cases_Bool (test x)) [
-  | inl passes ↦ rw passes (last_or-some test (Some x) xs ∙ sym (or_true (is_some o)))
-  | inr fails ↦ rw fails (last_or-some test o xs)
-]
-
-last_where-some : {X : Type 0} (test : X → Bool) (xs : List X) → is_some (last_where test xs) ≡ list_any test xs
-last_where-some test xs = last_or-some test None xs
-
-some_same : {X : Type 0} (x y : X) → Some x ≡ Some y → x ≡ y
-some_same x y same = ap (λ o. unwrap_or o x) same
-
-first_found : {X : Type 0} (test : X → Bool) (y : X) (xs : List X) (x : X) → Some y ≡ Some x → test y ≡ true → Contains (y ∷ xs) x × (test x ≡ true)
-first_found test y xs x here passes =
-    let same : y ≡ x = some_same y x here in
-    (subst (Contains (y ∷ xs)) same (Contains-here y xs), ap test (sym same) ∙ passes)
-
-last_or-found : {X : Type 0} (test : X → Bool) (o : Option X) (xs : List X) (x : X) → last_or o (filter test xs) ≡ Some x → (o ≡ Some x) ⊎ (Contains xs x × (test x ≡ true))
-last_or-found test o [] x found = inl found
-last_or-found test o (y ∷ xs) x found = elim (cases_Bool (test y)) [
-  | inl passes ↦ elim (last_or-found test (Some y) xs x (rw passes at found)) [
-    | inl here ↦ inr (first_found test y xs x here passes)
-    | inr later ↦ inr (Contains-later y xs x later.0, later.1)
-  ]
-  | inr fails ↦ elim (last_or-found test o xs x (rw fails at found)) [
-    | inl before ↦ inl before
-    | inr later ↦ inr (Contains-later y xs x later.0, later.1)
-  ]
-]
-
-some_is : {X : Type 0} (found : Option X) → is_some found ≡ true → (x : X) × (found ≡ Some x)
-some_is None some = cc
-some_is (Some x) some = (x, refl)
-
-nothing_before : {X : Type 0} (x : X) → None ≡ Some x → ⊥
-nothing_before x same = cc
-
 -- ---- the incremental that made a pool
-
-some_mapped : {X Y : Type 0} (f : X → Y) (found : Option X) → is_some (option_map f found) ≡ is_some found
-some_mapped f None = refl
-some_mapped f (Some x) = refl
 
 -- the pool is there where some incremental makes it
 pool-some : (incs : List Incremental) (id : ℕ) → is_some (pool incs id) ≡ list_any (λ made. nat_eq made.id id) (flat_map (λ inc. inc.pools) incs)
@@ -79,28 +32,26 @@ pool-made incs id inc there making =
     (contains-flat_map (λ (i : Incremental). i.pools) incs inc found.0 there found.1.0) found.1.1
 
 -- the last incremental that makes the pool
-record Maker (incs : List Incremental) (id : ℕ) : Type 0 where
-  maker : Incremental
-  there : Contains incs maker
-  making : makes id maker ≡ true
-  epoch : made_at incs id ≡ maker.epoch
+pub record Maker (incs : List Incremental) (id : ℕ) : Type 0 where
+  pub maker : Incremental
+  pub there : Contains incs maker
+  pub making : makes id maker ≡ true
+  pub epoch : made_at incs id ≡ maker.epoch
 
-maker_of : (incs : List Incremental) (id : ℕ) → is_some (pool incs id) ≡ true → Maker incs id
+pub maker_of : (incs : List Incremental) (id : ℕ) → is_some (pool incs id) ≡ true → Maker incs id
 maker_of incs id there =
     let one = any-contains (λ (made : PoolSpec). nat_eq made.id id) (flat_map (λ (i : Incremental). i.pools) incs) (sym (pool-some incs id) ∙ there) in
     let where' = flat_map-contains (λ (i : Incremental). i.pools) incs one.0 one.1.0 in
     let making : makes id where'.0 ≡ true = contains-any (λ (made : PoolSpec). nat_eq made.id id) where'.0.pools one.0 where'.1.1 one.1.1 in
     let some : is_some (last_where (makes id) incs) ≡ true = last_where-some (makes id) incs ∙ contains-any (makes id) incs where'.0 where'.1.0 making in
     let last = some_is (last_where (makes id) incs) some in
-    elim (last_or-found (makes id) None incs last.0 last.1) [
-      | inl nothing ↦ absurd (nothing_before last.0 nothing)
-      | inr found ↦ record {
-        maker = last.0;
-        there = found.0;
-        making = found.1;
-        epoch = ap (λ o. option_map_or (λ (inc : Incremental). inc.epoch) o 0) last.1;
-      }
-    ]
+    let found = last_where-found (makes id) incs last.0 last.1 in
+    record {
+      maker = last.0;
+      there = found.0;
+      making = found.1;
+      epoch = ap (λ o. option_map_or (λ (inc : Incremental). inc.epoch) o 0) last.1;
+    }
 
 -- from the epoch that made the pool on, each map has it
 pool-since : (incs : List Incremental) (id at : ℕ) → is_some (pool incs id) ≡ true → made_at incs id ≤ at → is_some (pool (up_to at incs) id) ≡ true
@@ -136,10 +87,10 @@ get-kept f a (suc n) (suc k) each below =
 
 -- ---- the history
 
-history_if : (incs : List Incremental) (pg : PgId) (found : Option PoolSpec) (h : History AnyCode) (b : Bool) → (if b then option_map (history_of incs pg) found else None) ≡ Some h → (made : PoolSpec) × ((found ≡ Some made) × (history_of incs pg made ≡ h))
-history_if incs pg found h false is = absurd (nothing_before h is)
-history_if incs pg None h true is = absurd (nothing_before h is)
-history_if incs pg (Some made) h true is = (made, (refl, some_same _ _ is))
+pub history_if : (incs : List Incremental) (pg : PgId) (found : Option PoolSpec) (h : History AnyCode) (b : Bool) → (if b then option_map (history_of incs pg) found else None) ≡ Some h → (made : PoolSpec) × ((found ≡ Some made) × (history_of incs pg made ≡ h))
+history_if incs pg found h false is = cc
+history_if incs pg None h true is = cc
+history_if incs pg (Some made) h true is = (made, (refl, same_Some _ _ is))
 
 pub history-length : (incs : List Incremental) (pg : PgId) (h : History AnyCode) → group_history incs pg ≡ Some h → length h.lived ≡ epoch incs - h.first
 history-length incs pg h is =

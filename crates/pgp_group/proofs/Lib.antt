@@ -3,3 +3,8 @@ pub mod HeardLemmas
 pub mod ViewLemmas
 pub mod HistoryLemmas
 pub mod PeerLemmas
+pub mod Lists
+pub mod GrowthLemmas
+pub mod GroupLemmas
+pub mod FoundLemmas
+pub mod RiseLemmas

@@ -1,38 +1,37 @@
 -- The states of peers: each other heard member of up and acting has one, in ascending order.
-use Rattle.std.proofs.Common.{◌≡◌, ◌≢◌, suc, List, [], ◌∷◌, Option, Some, None, Bool, true, map, ap, sym, ◌∙◌, inl, inr, arith}
-use Rattle.std.specs.List.{Contains, All, AllPairs, filter}
+use Rattle.std.proofs.Common.{◌≡◌, ◌≢◌, ℕ, ◌+◌, ◌<◌, List, [], ◌∷◌, ◌++◌, Option, Some, None, Bool, true, false, not, get_or, length, map, take, refl, ap, sym, ◌∙◌, subst, inl, inr, arith, append-nil, if◌then◌else◌}
+use Rattle.std.specs.List.{Contains, All, cons_option, filter, filter_map, list_any}
 use Rattle.std.specs.Option.{option_map_or}
 use Rattle.std.specs.Ordering.{on}
-use Rattle.std.proofs.lemmas.List.Elements.{All-nil, All-cons, All-contains}
-use Rattle.pgp_ids.specs.Member.{is_before}
+use Rattle.std.proofs.lemmas.Bool.{and_parts, cases_Bool, eqb-true, true≢false}
+use Rattle.std.proofs.lemmas.Bool.Decides.{nat_tests}
+use Rattle.std.proofs.lemmas.List.Elements.{All-contains, All-contains_itself, All-weaker, filter_map-append}
+use Rattle.std.proofs.lemmas.List.Kept.{AllPairs-cons, AllPairs-filter}
+use Rattle.pgp_ids.specs.Member.{is_before, is_same_member}
+use Rattle.pgp_ids.specs.declared.member.Member.{Member}
 use Rattle.pgp_ids.specs.declared.peer.PeerMissing.{PeerMissing}
 use Rattle.pgp_ids.specs.declared.report.Info.{Info}
-use Rattle.pgp_prior.specs.Ascending.{IsAscending}
-use Rattle.pgp_prior.proofs.ListLemmas.{Contains-cases, Contains-nil, filter-contains, contains-filter, AllPairs-cons, AllPairs-first, AllPairs-rest, AllPairs-nil}
-use Rattle.pgp_prior.proofs.AscendingLemmas.{ascending-contains, contains-ascending_of, IsAscending-by_transitive, member_order}
+use Rattle.pgp_lists.specs.Ordered.{IsAscending}
+use Rattle.pgp_lists.proofs.Members.{Contains-first, Contains-later, Contains-cases, Contains-nil, filter-contains, contains-filter, any-contains, contains-any, find-some, find-none}
+use Rattle.pgp_lists.proofs.Pairs.{AllPairs-first, AllPairs-mapped, AllPairs-nil, AllPairs-rest}
+use Rattle.pgp_lists.proofs.Ordered.{ascending-contains, contains-ascending, IsAscending-ascending}
+use Rattle.pgp_prior.specs.MemberOrder.{member_order}
 use Rattle.pgp_group.specs.GroupLog.{GroupLog}
 use Rattle.pgp_info.specs.Best.{HasDistinctMembers}
 use Rattle.pgp_group.specs.Heard.{counted_infos, heard}
 use Rattle.pgp_group.proofs.HeardLemmas.{HasDistinctMembers-last_of}
-use Rattle.pgp_group.specs.Peering.{is_peer, peers, peer_missing, peer_states, whole_best}
+use Rattle.pgp_group.proofs.Lists.{filter-passes, filter-fails}
+use Rattle.pgp_group.specs.Peering.{up_members, acting_members, present_members, info_of, others_heard, is_peer, peers, peer_missing, peer_states, whole_best}
 
--- one info stands before another by their members
-abbrev by_member : Info → Info → Bool
-by_member = on (λ (info : Info). info.member) is_before
+-- ---- members
 
-All-mapped : {X Y : Type 0} (f : X → Y) (P : X → Type 0) (Q : Y → Type 0) → ((x : X) → P x → Q (f x)) → (xs : List X) → All P xs → All Q (map f xs)
-All-mapped f P Q each [] all = All-nil Q
-All-mapped f P Q each (x ∷ xs) all =
-    All-cons Q (f x) (map f xs) (each x (all 0 x (omega arith))) (All-mapped f P Q each xs (λ k d below. all (suc k) d (omega arith)))
+same_member : (a b : Member) → is_same_member a b ≡ true → a ≡ b
+same_member a b same =
+    let parts = and_parts _ _ same in
+    λ i. record { osd = eqb-true a.osd b.osd parts.0 i; slot = eqb-true a.slot b.slot parts.1 i }
 
-AllPairs-mapped : {X Y : Type 0} (f : X → Y) (R : X → X → Type 0) (S : Y → Y → Type 0) → ((x y : X) → R x y → S (f x) (f y)) → (xs : List X) → AllPairs R xs → AllPairs S (map f xs)
-AllPairs-mapped f R S each [] pairs = AllPairs-nil S
-AllPairs-mapped f R S each (x ∷ xs) pairs =
-    AllPairs-cons S (f x) (map f xs)
-    (All-mapped f (R x) (S (f x)) (each x) xs (AllPairs-first R x xs pairs))
-    (AllPairs-mapped f R S each xs (AllPairs-rest R x xs pairs))
-
--- ---- the peers
+same_member_as : (a b : Member) → a ≡ b → is_same_member a b ≡ true
+same_member_as a b same = subst (λ m. is_same_member a m ≡ true) same (grind (arith, nat_tests))
 
 -- infos of distinct members that are of one member are the same
 one_of_member : (infos : List Info) → HasDistinctMembers infos → (a b : Info) → Contains infos a → Contains infos b → a.member ≡ b.member → a ≡ b
@@ -51,23 +50,116 @@ one_of_member (x ∷ infos) distinct a b in_a in_b same =
       ]
     ]
 
+-- ---- the info of a member
+
+record Found (infos : List Info) (member : Member) (info : Info) : Type 0 where
+  there : Contains infos info
+  of_member : info.member ≡ member
+
+-- what is found is an info of the member
+found_of : (infos : List Info) (member : Member) (info : Info) → info_of infos member ≡ Some info → Found infos member info
+found_of infos member info found =
+    let some = find-some (λ (i : Info). is_same_member i.member member) infos info found in
+    record { there = some.0; of_member = same_member info.member member some.1 }
+
+-- where there is an info of the member, one is found
+some_of : (infos : List Info) (member : Member) (info : Info) → Contains infos info → info.member ≡ member → (found : Option Info) → info_of infos member ≡ found → (other : Info) × (info_of infos member ≡ Some other)
+some_of infos member info there same None none =
+    absurd (true≢false (sym (same_member_as info.member member same) ∙ find-none (λ (i : Info). is_same_member i.member member) infos info none there))
+some_of infos member info there same (Some other) found = (other, found)
+
+info_of-is : (infos : List Info) → HasDistinctMembers infos → (info : Info) → Contains infos info → info_of infos info.member ≡ Some info
+info_of-is infos distinct info there =
+    let some = some_of infos info.member info there refl (info_of infos info.member) refl in
+    let found = found_of infos info.member some.0 some.1 in
+    some.1 ∙ ap Some (one_of_member infos distinct some.0 info found.there there found.of_member)
+
+-- ---- a list of what is found
+
+record Mapped {X Y : Type 0} (f : X → Option Y) (xs : List X) (y : Y) : Type 0 where
+  from : X
+  there : Contains xs from
+  is : f from ≡ Some y
+
+cons_option-contains : {X Y : Type 0} (f : X → Option Y) (x : X) (xs : List X) (o : Option Y) (ys : List Y) (y : Y) → f x ≡ o → (Contains ys y → Mapped f (x ∷ xs) y) → Contains (cons_option o ys) y → Mapped f (x ∷ xs) y
+cons_option-contains f x xs None ys y is rest there = rest there
+cons_option-contains f x xs (Some z) ys y is rest there = elim (Contains-cases z ys y there) [
+  | inl here ↦ record { from = x; there = Contains-first x xs x refl; is = is ∙ ap Some here }
+  | inr later ↦ rest later
+]
+
+filter_map-contains : {X Y : Type 0} (f : X → Option Y) (xs : List X) (y : Y) → Contains (filter_map f xs) y → Mapped f xs y
+filter_map-contains f [] y there = absurd (Contains-nil y there)
+filter_map-contains f (x ∷ xs) y there =
+    cons_option-contains f x xs (f x) (filter_map f xs) y refl
+    (λ later. let rest = filter_map-contains f xs y later in record { from = rest.from; there = Contains-later x xs rest.from rest.there; is = rest.is }) there
+
+contains-cons_option : {Y : Type 0} (o : Option Y) (ys : List Y) (y : Y) → Contains ys y → Contains (cons_option o ys) y
+contains-cons_option None ys y there = there
+contains-cons_option (Some z) ys y there = Contains-later z ys y there
+
+contains-filter_map : {X Y : Type 0} (f : X → Option Y) (xs : List X) (x : X) (y : Y) → Contains xs x → f x ≡ Some y → Contains (filter_map f xs) y
+contains-filter_map f [] x y there is = absurd (Contains-nil x there)
+contains-filter_map {Y = Y} f (first ∷ xs) x y there is = elim (Contains-cases first xs x there) [
+  | inl here ↦ subst (λ (o : Option Y). Contains (cons_option o (filter_map f xs)) y) (sym (ap f here ∙ is)) (Contains-first y (filter_map f xs) y refl)
+  | inr later ↦ contains-cons_option (f first) (filter_map f xs) y (contains-filter_map f xs x y later is)
+]
+
+-- what is found for an ascending list ascends
+ascend_found : (f : Member → Option Info) → ((m : Member) (info : Info) → f m ≡ Some info → info.member ≡ m) → (members : List Member) → IsAscending is_before members → IsAscending (on (λ (info : Info). info.member) is_before) (filter_map f members)
+ascend_found f law [] ascend = AllPairs-nil (λ (x y : Info). is_before x.member y.member ≡ true)
+ascend_found f law (m ∷ members) ascend =
+    with_first (ascend_found f law members (AllPairs-rest (λ (x y : Member). is_before x y ≡ true) m members ascend)) (f m) refl
+  where
+    behind : (info other : Info) → f m ≡ Some info → Contains (filter_map f members) other → is_before info.member other.member ≡ true
+    behind info other is there =
+        let from = filter_map-contains f members other there in
+        let before : is_before m from.from ≡ true = All-contains (λ (y : Member). is_before m y ≡ true) members from.from (AllPairs-first (λ (x y : Member). is_before x y ≡ true) m members ascend) from.there in
+        subst (λ (k : Member). is_before k other.member ≡ true) (sym (law m info is))
+        (subst (λ (k : Member). is_before m k ≡ true) (sym (law from.from other from.is)) before)
+
+    with_first : IsAscending (on (λ (info : Info). info.member) is_before) (filter_map f members) → (o : Option Info) → f m ≡ o → IsAscending (on (λ (info : Info). info.member) is_before) (cons_option o (filter_map f members))
+    with_first rest None is = rest
+    with_first rest (Some info) is =
+        AllPairs-cons (λ (x y : Info). is_before x.member y.member ≡ true) info (filter_map f members)
+        (All-weaker (Contains (filter_map f members)) (λ other. is_before info.member other.member ≡ true) (λ other there. behind info other is there) (filter_map f members) (All-contains_itself (filter_map f members)))
+        rest
+
+-- ---- the peers
+
+is_other : Info → Member → Bool
+is_other best member = not (is_same_member member best.member)
+
+-- the member is one of up and acting where it is one of these in ascending order
+standing : GroupLog → List Member
+standing g = up_members g ++ acting_members g
+
 pub peers-contains : (g : GroupLog) (best info : Info) → Contains (peers g best) info → Contains (heard g) info × (is_peer g best info.member ≡ true)
+unfolding is_other standing
 peers-contains g best info in' =
-    filter-contains (λ (i : Info). is_peer g best i.member) (heard g) info
-    (ascending-contains by_member (filter (λ (i : Info). is_peer g best i.member) (heard g)) info in')
+    let from = filter_map-contains (info_of (heard g)) (filter (is_other best) (present_members g)) info in' in
+    let found = found_of (heard g) from.from info from.is in
+    let kept = filter-contains (is_other best) (present_members g) from.from from.there in
+    let stands : Contains (standing g) from.from = ascending-contains is_before (standing g) from.from kept.0 in
+    let any : list_any (is_same_member from.from) (standing g) ≡ true = contains-any (is_same_member from.from) (standing g) from.from stands (same_member_as from.from from.from refl) in
+    let peer : is_peer g best from.from ≡ true = rw any kept.1 in
+    (found.there, subst (λ m. is_peer g best m ≡ true) (sym found.of_member) peer)
 
 pub contains-peers : (g : GroupLog) (best info : Info) → Contains (heard g) info → is_peer g best info.member ≡ true → Contains (peers g best) info
+unfolding is_other standing
 contains-peers g best info there peer =
-    let kept : List Info = filter (λ (i : Info). is_peer g best i.member) (heard g) in
-    let was : (i : Info) → Contains kept i → Contains (heard g) i = λ i in'. (filter-contains (λ (j : Info). is_peer g best j.member) (heard g) i in').0 in
-    contains-ascending_of by_member kept
-    (λ x y in_x in_y xy yx. one_of_member (heard g) (HasDistinctMembers-last_of (counted_infos g)) x y (was x in_x) (was y in_y) (member_order.connected x.member y.member xy yx))
-    info (contains-filter (λ (i : Info). is_peer g best i.member) (heard g) info there peer)
+    let parts = and_parts (list_any (is_same_member info.member) (standing g)) (is_other best info.member) peer in
+    let stands = any-contains (is_same_member info.member) (standing g) parts.0 in
+    let here : Contains (standing g) info.member = subst (Contains (standing g)) (sym (same_member info.member stands.0 stands.1.1)) stands.1.0 in
+    contains-filter_map (info_of (heard g)) (filter (is_other best) (present_members g)) info.member info
+    (contains-filter (is_other best) (present_members g) info.member (contains-ascending is_before member_order (standing g) info.member here) parts.1)
+    (info_of-is (heard g) (HasDistinctMembers-last_of (counted_infos g)) info there)
 
-peers-ascend : (g : GroupLog) (best : Info) → IsAscending by_member (peers g best)
+peers-ascend : (g : GroupLog) (best : Info) → IsAscending (on (λ (info : Info). info.member) is_before) (peers g best)
+unfolding is_other
 peers-ascend g best =
-    IsAscending-by_transitive by_member (λ x y z. member_order.transitive x.member y.member z.member)
-    (filter (λ (i : Info). is_peer g best i.member) (heard g))
+    ascend_found (info_of (heard g)) (λ m info is. (found_of (heard g) m info is).of_member) (filter (is_other best) (present_members g))
+    (AllPairs-filter (λ (x y : Member). is_before x y ≡ true) (is_other best) (present_members g) (IsAscending-ascending is_before member_order (up_members g ++ acting_members g)))
 
 states-ascend : (g : GroupLog) (found : Option Info) → IsAscending (on (λ (p : PeerMissing). p.member) is_before) (option_map_or (λ (best : Info). map (peer_missing g best) (peers g best)) found [])
 states-ascend g None = AllPairs-nil (λ (x y : PeerMissing). is_before x.member y.member ≡ true)
@@ -77,3 +169,29 @@ states-ascend g (Some best) =
 
 pub peer_states-ascend : (g : GroupLog) → IsAscending (on (λ (p : PeerMissing). p.member) is_before) (peer_states g)
 peer_states-ascend g = states-ascend g (whole_best g)
+
+-- ---- one more member
+
+others-same : (all : List Member) (kept : List Info) (info : Info) (i : ℕ) (x : Member) → i < length all → x ≡ get_or all i x → is_same_member x info.member ≡ true → others_heard (take (i + 1) all) kept info ≡ others_heard (take i all) kept info
+others-same all kept info i x within item same =
+    let fails : not (is_same_member x info.member) ≡ false = rw same refl in
+    ap (filter_map (info_of kept)) (filter-fails (λ (m : Member). not (is_same_member m info.member)) all i x within item fails)
+
+others-next : (all : List Member) (kept : List Info) (info : Info) (i : ℕ) (x : Member) (found : Option Info) → i < length all → x ≡ get_or all i x → is_same_member x info.member ≡ false → info_of kept x ≡ found → others_heard (take (i + 1) all) kept info ≡ others_heard (take i all) kept info ++ cons_option found []
+others-next all kept info i x found within item other is =
+    let passes : not (is_same_member x info.member) ≡ true = rw other refl in
+    ap (filter_map (info_of kept)) (filter-passes (λ (m : Member). not (is_same_member m info.member)) all i x within item passes)
+    ∙ filter_map-append (info_of kept) (filter (λ (m : Member). not (is_same_member m info.member)) (take i all)) (x ∷ [])
+    ∙ ap (λ (o : Option Info). others_heard (take i all) kept info ++ cons_option o []) is
+
+pub others-one : (all : List Member) (kept : List Info) (info : Info) (i : ℕ) (x : Member) → i < length all → x ≡ get_or all i x → (peer : Info) → Some peer ≡ (if is_same_member x info.member then None else info_of kept x) → others_heard (take (i + 1) all) kept info ≡ others_heard (take i all) kept info ++ peer ∷ []
+others-one all kept info i x within item peer found = elim (cases_Bool (is_same_member x info.member)) [
+  | inl same ↦ let none : Some peer ≡ None = rw same at found in cc
+  | inr other ↦ others-next all kept info i x (Some peer) within item other (sym (rw other at found))
+]
+
+pub others-none : (all : List Member) (kept : List Info) (info : Info) (i : ℕ) (x : Member) → i < length all → x ≡ get_or all i x → None ≡ (if is_same_member x info.member then None else info_of kept x) → others_heard (take (i + 1) all) kept info ≡ others_heard (take i all) kept info
+others-none all kept info i x within item found = elim (cases_Bool (is_same_member x info.member)) [
+  | inl same ↦ others-same all kept info i x within item same
+  | inr other ↦ others-next all kept info i x None within item other (sym (rw other at found)) ∙ append-nil (others_heard (take i all) kept info)
+]

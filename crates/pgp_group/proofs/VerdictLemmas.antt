@@ -1,80 +1,27 @@
 -- The verdict is the first whose cause holds.
 use Rattle.std.proofs.Common.{◌≡◌, ℕ, suc, ◌<◌, List, [], ◌∷◌, true, false, refl, ap, sym, ◌∙◌, inl, inr, arith}
-use Rattle.std.specs.List.{find}
+use Rattle.std.specs.List.{find, slice_index_or}
 use Rattle.std.specs.Option.{unwrap_or}
 use Rattle.std.proofs.lemmas.Bool.{cases_Bool, cases_lt, true≢false}
 use Rattle.pgp_ids.specs.declared.verdict.Verdict.{Verdict}
 use Rattle.pgp_ids.specs.declared.verdict.Verdict.TheVariants.{NoPrimary, Down, Waiting, Incomplete, Short, NeedLog, NeedUpThru, Serve}
 use Rattle.pgp_group.specs.GroupLog.{GroupLog}
-use Rattle.pgp_group.specs.Verdict.{holds, verdict, place_of, IsFirstCause}
+use Rattle.pgp_group.specs.Verdict.{holds, verdict, in_order, place_of, IsFirstCause}
 
 -- ---- places tell verdicts apart
 
+at_its_place : (v : Verdict) → slice_index_or in_order (place_of v) Serve ≡ v
+at_its_place NoPrimary = refl
+at_its_place Down = refl
+at_its_place Waiting = refl
+at_its_place Incomplete = refl
+at_its_place Short = refl
+at_its_place NeedLog = refl
+at_its_place NeedUpThru = refl
+at_its_place Serve = refl
+
 same_place : (v w : Verdict) → place_of v ≡ place_of w → v ≡ w
-same_place NoPrimary NoPrimary same = refl
-same_place NoPrimary Down same = absurd (omega (arith, same))
-same_place NoPrimary Waiting same = absurd (omega (arith, same))
-same_place NoPrimary Incomplete same = absurd (omega (arith, same))
-same_place NoPrimary Short same = absurd (omega (arith, same))
-same_place NoPrimary NeedLog same = absurd (omega (arith, same))
-same_place NoPrimary NeedUpThru same = absurd (omega (arith, same))
-same_place NoPrimary Serve same = absurd (omega (arith, same))
-same_place Down NoPrimary same = absurd (omega (arith, same))
-same_place Down Down same = refl
-same_place Down Waiting same = absurd (omega (arith, same))
-same_place Down Incomplete same = absurd (omega (arith, same))
-same_place Down Short same = absurd (omega (arith, same))
-same_place Down NeedLog same = absurd (omega (arith, same))
-same_place Down NeedUpThru same = absurd (omega (arith, same))
-same_place Down Serve same = absurd (omega (arith, same))
-same_place Waiting NoPrimary same = absurd (omega (arith, same))
-same_place Waiting Down same = absurd (omega (arith, same))
-same_place Waiting Waiting same = refl
-same_place Waiting Incomplete same = absurd (omega (arith, same))
-same_place Waiting Short same = absurd (omega (arith, same))
-same_place Waiting NeedLog same = absurd (omega (arith, same))
-same_place Waiting NeedUpThru same = absurd (omega (arith, same))
-same_place Waiting Serve same = absurd (omega (arith, same))
-same_place Incomplete NoPrimary same = absurd (omega (arith, same))
-same_place Incomplete Down same = absurd (omega (arith, same))
-same_place Incomplete Waiting same = absurd (omega (arith, same))
-same_place Incomplete Incomplete same = refl
-same_place Incomplete Short same = absurd (omega (arith, same))
-same_place Incomplete NeedLog same = absurd (omega (arith, same))
-same_place Incomplete NeedUpThru same = absurd (omega (arith, same))
-same_place Incomplete Serve same = absurd (omega (arith, same))
-same_place Short NoPrimary same = absurd (omega (arith, same))
-same_place Short Down same = absurd (omega (arith, same))
-same_place Short Waiting same = absurd (omega (arith, same))
-same_place Short Incomplete same = absurd (omega (arith, same))
-same_place Short Short same = refl
-same_place Short NeedLog same = absurd (omega (arith, same))
-same_place Short NeedUpThru same = absurd (omega (arith, same))
-same_place Short Serve same = absurd (omega (arith, same))
-same_place NeedLog NoPrimary same = absurd (omega (arith, same))
-same_place NeedLog Down same = absurd (omega (arith, same))
-same_place NeedLog Waiting same = absurd (omega (arith, same))
-same_place NeedLog Incomplete same = absurd (omega (arith, same))
-same_place NeedLog Short same = absurd (omega (arith, same))
-same_place NeedLog NeedLog same = refl
-same_place NeedLog NeedUpThru same = absurd (omega (arith, same))
-same_place NeedLog Serve same = absurd (omega (arith, same))
-same_place NeedUpThru NoPrimary same = absurd (omega (arith, same))
-same_place NeedUpThru Down same = absurd (omega (arith, same))
-same_place NeedUpThru Waiting same = absurd (omega (arith, same))
-same_place NeedUpThru Incomplete same = absurd (omega (arith, same))
-same_place NeedUpThru Short same = absurd (omega (arith, same))
-same_place NeedUpThru NeedLog same = absurd (omega (arith, same))
-same_place NeedUpThru NeedUpThru same = refl
-same_place NeedUpThru Serve same = absurd (omega (arith, same))
-same_place Serve NoPrimary same = absurd (omega (arith, same))
-same_place Serve Down same = absurd (omega (arith, same))
-same_place Serve Waiting same = absurd (omega (arith, same))
-same_place Serve Incomplete same = absurd (omega (arith, same))
-same_place Serve Short same = absurd (omega (arith, same))
-same_place Serve NeedLog same = absurd (omega (arith, same))
-same_place Serve NeedUpThru same = absurd (omega (arith, same))
-same_place Serve Serve same = refl
+same_place v w same = sym (at_its_place v) ∙ ap (λ (n : ℕ). slice_index_or in_order n Serve) same ∙ at_its_place w
 
 -- ---- the first cause that holds
 

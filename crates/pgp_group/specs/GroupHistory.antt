@@ -1,6 +1,6 @@
 -- The history of a placement group, as a list of map incrementals tells it: from the epoch that made its pool to that of
 -- the last map (Ceph's developer documentation on peering: past intervals).
-use Rattle.std.specs.Prelude.{ℕ, ◌-◌, List, Bool, nat_eq, Option, Some, None, option_map, filter_map, if◌then◌else◌}
+use Rattle.std.specs.Prelude.{◌≡◌, ℕ, ◌-◌, List, Bool, nat_eq, Option, Some, None, length, map, option_map, filter_map, if◌then◌else◌}
 use Rattle.std.specs.List.{list_any, range_with_len}
 use Rattle.std.specs.Option.{option_map_or}
 use Rattle.pgp_code.specs.declared.any.AnyCode.{AnyCode}
@@ -17,6 +17,10 @@ use Rattle.pgp_map.specs.Map.{epoch, up_to}
 use Rattle.pgp_map.specs.Pools.{pool, has_group}
 use Rattle.pgp_sets.specs.Sets.{pool_membership, membership_at}
 use Rattle.pgp_code.specs.Pool.{code_of}
+
+-- the epochs of the incrementals are 1, 2, and so on
+abbrev pub AreNumbered : List Incremental → Type 0
+AreNumbered incs = map (λ inc. inc.epoch) incs ≡ range_with_len 1 (length incs)
 
 -- the incremental makes the pool
 abbrev pub makes : ℕ → Incremental → Bool

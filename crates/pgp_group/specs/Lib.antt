@@ -8,3 +8,7 @@ pub mod Verdict
 pub mod View
 pub mod Examples
 pub mod Worked
+pub mod Present
+pub mod Causes
+pub mod GroupOf
+pub mod Found

@@ -1,8 +1,7 @@
 -- What peering finds out about a placement group (Ceph's developer documentation on peering).
-use Rattle.std.specs.Prelude.{List, [], Bool, not, ◌&&◌, ◌++◌, Option, Some, None, option_and_then, map, filter, slice_get, if◌then◌else◌}
+use Rattle.std.specs.Prelude.{List, [], Bool, not, ◌&&◌, ◌++◌, Option, Some, None, option_and_then, map, filter, filter_map, find, slice_get, if◌then◌else◌}
 use Rattle.std.specs.List.{list_any}
 use Rattle.std.specs.Option.{option_map_or}
-use Rattle.std.specs.Ordering.{on}
 use Rattle.pgp_code.specs.AnyCode.{enough_of, is_by_place}
 use Rattle.pgp_ids.specs.Member.{is_before, is_same_member}
 use Rattle.pgp_ids.specs.declared.member.Member.{Member}
@@ -13,7 +12,7 @@ use Rattle.pgp_info.specs.Best.{best_info}
 use Rattle.pgp_interval.specs.Runs.{past_intervals}
 use Rattle.pgp_missing.specs.Log.{is_whole}
 use Rattle.pgp_missing.specs.Missing.{peer_state}
-use Rattle.pgp_prior.specs.Ascending.{ascending}
+use Rattle.pgp_lists.specs.Ordered.{ascending}
 use Rattle.pgp_prior.specs.Members.{members_of}
 use Rattle.pgp_prior.specs.Prior.{prior_set}
 use Rattle.pgp_prior.specs.declared.prior_set.Prior.{Prior}
@@ -58,14 +57,26 @@ if_whole g info = if has_whole_log g info then Some info else None
 abbrev pub whole_best : GroupLog → Option Info
 whole_best g = option_and_then (if_whole g) (best g)
 
+-- the members of up and acting, in ascending order, each once
+abbrev pub present_members : GroupLog → List Member
+present_members g = ascending is_before (up_members g ++ acting_members g)
+
+-- the member's info among these
+abbrev pub info_of : List Info → Member → Option Info
+info_of infos member = find (λ info. is_same_member info.member member) infos
+
+-- those of these members that are another than that of the best info and were heard, with their infos
+abbrev pub others_heard : List Member → List Info → Info → List Info
+others_heard members heard best = filter_map (info_of heard) (filter (λ member. not (is_same_member member best.member)) members)
+
+-- the infos of the members of up and acting that were heard, but for the best one, in ascending order of the members
+abbrev pub peers : GroupLog → Info → List Info
+peers g best = others_heard (present_members g) (heard g) best
+
 -- the member is one of up or acting, and another than that of the best info
 abbrev pub is_peer : GroupLog → Info → Member → Bool
 is_peer g best member =
     list_any (is_same_member member) (up_members g ++ acting_members g) && not (is_same_member member best.member)
-
--- the infos of the members of up and acting that were heard, but for the best one, in ascending order of the members
-abbrev pub peers : GroupLog → Info → List Info
-peers g best = ascending (on (λ info. info.member) is_before) (filter (λ info. is_peer g best info.member) (heard g))
 
 -- how the copy of a peer compares with the best one
 abbrev pub peer_missing : GroupLog → Info → Info → PeerMissing

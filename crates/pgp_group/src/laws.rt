@@ -1,6 +1,9 @@
 //! What the definitions say of small logs.
 #![tactic(auto, unfolding(crate::specs::Worked::views_computed))]
 
+pub mod causes;
+pub mod growth;
+
 ghost use Rattle.std.specs.Prelude.{ℕ, ◌+◌, ◌-◌, ◌<◌, length, slice_get, ◌≡◌, ◌↔◌, List, [], ◌∷◌, ◌++◌, Some, None, is_some, true, false, option_map, codes, Contains};
 ghost use Rattle.pgp_code.specs.AnyCode.{enough_of, is_by_place};
 ghost use Rattle.pgp_ids.specs.declared.entry.Entry.{Entry};
@@ -26,7 +29,7 @@ ghost use Rattle.pgp_group.specs.Heard.{counted_infos, heard, IsLastOfMember};
 ghost use Rattle.std.specs.Ordering.{on};
 ghost use Rattle.pgp_ids.specs.Member.{is_before};
 ghost use Rattle.pgp_ids.specs.declared.peer.PeerMissing.{PeerMissing};
-ghost use Rattle.pgp_prior.specs.Ascending.{IsAscending};
+ghost use Rattle.pgp_lists.specs.Ordered.{IsAscending};
 ghost use Rattle.pgp_group.specs.Peering.{best, leader, is_peer, peers, peer_states};
 ghost use Rattle.pgp_group.specs.Prefers.{prefers};
 ghost use Rattle.pgp_group.specs.Verdict.{verdict, IsFirstCause};

@@ -5,4 +5,15 @@
 //! the best, what the others lack. This crate joins them into one view (Ceph's developer documentation on peering).
 #![tactic(auto)]
 
+mod causes;
+mod copies;
+mod counted;
+mod found;
+mod group;
+mod heard;
 pub mod laws;
+mod peers;
+mod reported;
+mod standing;
+
+pub use group::Group;

@@ -1,0 +1,89 @@
+-- The parts of a view are those of its definition.
+use Rattle.std.proofs.Common.{◌≡◌, ℕ, List, [], ◌++◌, Option, Some, None, Bool, true, false, not, is_some, map, refl, ap, ap₂, sym, ◌∙◌, if◌then◌else◌}
+use Rattle.std.specs.List.{list_any, slice_get}
+use Rattle.std.specs.Option.{option_and_then, option_map, option_map_or}
+use Rattle.pgp_code.specs.AnyCode.{enough_of, is_by_place}
+use Rattle.pgp_code.specs.declared.any.AnyCode.{AnyCode}
+use Rattle.pgp_code.specs.declared.any.AnyCode.TheVariants as code
+use Rattle.pgp_ids.specs.Member.{is_before}
+use Rattle.pgp_ids.specs.declared.member.Member.{Member}
+use Rattle.pgp_ids.specs.declared.membership.Membership.{Membership}
+use Rattle.pgp_ids.specs.declared.past.Past.{Past}
+use Rattle.pgp_ids.specs.declared.peer.PeerMissing.{PeerMissing}
+use Rattle.pgp_ids.specs.declared.report.Info.{Info}
+use Rattle.pgp_info.specs.Best.{best_info}
+use Rattle.pgp_info.specs.Heard.{Heard}
+use Rattle.pgp_info.specs.Preference.{newest_first, oldest_first}
+use Rattle.pgp_info.specs.Prefers.{prefers as prefers_by}
+use Rattle.pgp_info.specs.declared.preference.Preference.{Preference}
+use Rattle.pgp_lists.specs.Ordered.{ascending}
+use Rattle.pgp_map.specs.MapOf.{IsMapOf}
+use Rattle.pgp_map.specs.declared.map.OsdMap.{OsdMap}
+use Rattle.pgp_prior.specs.Members.{members_of}
+use Rattle.pgp_prior.specs.Prior.{prior_set}
+use Rattle.pgp_prior.specs.declared.prior_set.Prior.{Prior}
+use Rattle.pgp_sets.specs.Status.{held_status}
+use Rattle.pgp_sets.specs.StatusLaws.{held_status-is}
+use Rattle.pgp_group.specs.Found.{AreHeard, IsFound}
+use Rattle.pgp_group.specs.GroupLog.{GroupLog, incs}
+use Rattle.pgp_group.specs.Heard.{les, heard, has_member}
+use Rattle.pgp_group.specs.Peering.{past, prior, leader, best, has_whole_log, if_whole, whole_best, present_members, peers, peer_missing}
+use Rattle.pgp_group.specs.Prefers.{prefers}
+use Rattle.pgp_group.specs.Verdict.{is_waiting}
+use Rattle.pgp_group.specs.declared.found.Found.{Found}
+
+-- ---- the best copy
+
+prefers-by_place : (c : AnyCode) (leader : Option Member) → (if is_by_place c then oldest_first leader else newest_first leader) ≡ prefers c leader
+prefers-by_place (code.Replicated c) leader = refl
+prefers-by_place (code.Erasure c) leader = refl
+
+pub best-is : (g : GroupLog) (found : Heard Preference) → AreHeard g found → best_info (prefers_by found.prefer) found.infos ≡ best g
+best-is g found are = ap₂ best_info are.prefer are.infos
+
+-- the states of the peers, where this is the best info with a whole log
+abbrev states_by : GroupLog → Option Info → List PeerMissing
+states_by g whole = option_map_or (λ (b : Info). map (peer_missing g b) (peers g b)) whole []
+
+found_with : (g : GroupLog) (found : Found) (found_best whole : Option Info) → best g ≡ found_best → option_and_then (if_whole g) found_best ≡ whole → found.best ≡ option_map (λ info. info.member) found_best → found.whole ≡ is_some whole → found.states ≡ states_by g whole → IsFound g found
+found_with g found found_best whole is log best' whole' states =
+    let whole_is : whole_best g ≡ whole = ap (option_and_then (if_whole g)) is ∙ log in
+    record {
+      best = best' ∙ sym (ap (option_map (λ (info : Info). info.member)) is);
+      whole = whole' ∙ sym (ap (λ (o : Option Info). is_some o) whole_is);
+      states = states ∙ sym (ap (states_by g) whole_is);
+    }
+
+pub found-none : (g : GroupLog) (found : Found) → best g ≡ None → found.best ≡ None → found.whole ≡ false → found.states ≡ [] → IsFound g found
+found-none g found is best' whole states = found_with g found None None is refl best' whole states
+
+pub found-no_log : (g : GroupLog) (found : Found) (info : Info) → best g ≡ Some info → has_whole_log g info ≡ false → found.best ≡ Some info.member → found.whole ≡ false → found.states ≡ [] → IsFound g found
+found-no_log g found info is log best' whole states =
+    let none : if_whole g info ≡ None = rw log refl in
+    found_with g found (Some info) None is none best' whole states
+
+pub found-whole : (g : GroupLog) (found : Found) (info : Info) → best g ≡ Some info → has_whole_log g info ≡ true → found.best ≡ Some info.member → found.whole ≡ true → found.states ≡ map (peer_missing g info) (peers g info) → IsFound g found
+found-whole g found info is log best' whole states =
+    let there : if_whole g info ≡ Some info = rw log refl in
+    found_with g found (Some info) (Some info) is there best' whole states
+
+-- the members of up and acting, by the same code and membership
+pub present-is : (g : GroupLog) (c : AnyCode) (current : Membership) → c ≡ g.history.code → current ≡ g.history.current → ascending is_before (members_of (is_by_place c) current.up ++ members_of (is_by_place c) current.acting) ≡ present_members g
+present-is g c current code_is current_is = λ i. ascending is_before (members_of (is_by_place (code_is i)) (current_is i).up ++ members_of (is_by_place (code_is i)) (current_is i).acting)
+
+-- the preference of the pool, by the place rule of its code and the member that leads
+pub prefer-is : (g : GroupLog) (by_place : Bool) (primary : Option Member) (current : Membership) → by_place ≡ is_by_place g.history.code → current ≡ g.history.current → primary ≡ slice_get (members_of by_place current.acting) 0
+    → (if by_place then oldest_first primary else newest_first primary) ≡ prefers g.history.code (leader g)
+prefer-is g by_place primary current by_is current_is primary_is =
+    let leads : primary ≡ leader g = primary_is ∙ (λ i. slice_get (members_of (by_is i) (current_is i).acting) 0) in
+    (λ i. if by_is i then oldest_first (leads i) else newest_first (leads i)) ∙ prefers-by_place g.history.code (leader g)
+
+-- ---- whom the group needs
+
+pub prior-is : (g : GroupLog) (map' : OsdMap) (c : AnyCode) (found_les : ℕ) (intervals : List Past) (current : Membership) → IsMapOf (incs g) map' → c ≡ g.history.code → found_les ≡ les g → intervals ≡ past g → current ≡ g.history.current
+    → prior_set (enough_of c) (is_by_place c) (held_status map') found_les intervals current ≡ prior g
+prior-is g map' c found_les intervals current is code_is les_is past_is current_is =
+    λ i. prior_set (enough_of (code_is i)) (is_by_place (code_is i)) (λ osd first. held_status-is (incs g) map' is osd first i) (les_is i) (past_is i) (current_is i)
+
+pub waiting-is : (g : GroupLog) (found : Prior) (infos' : List Info) → found ≡ prior g → infos' ≡ heard g → list_any (λ member. not (has_member member infos')) found.probe ≡ is_waiting g
+waiting-is g found infos' prior_is infos_is = λ i. list_any (λ member. not (has_member member (infos_is i))) (prior_is i).probe

@@ -1,0 +1,203 @@
+-- What a group keeps as its log grows.
+use Rattle.std.proofs.Common.{◌≡◌, List, [], ◌∷◌, ◌++◌, Option, Some, None, Bool, true, false, refl, ap, sym, ◌∙◌, subst, append-nil}
+use Rattle.std.specs.List.{filter, filter_map}
+use Rattle.std.specs.Option.{option_map}
+use Rattle.std.specs.Prelude.{Result, Ok, Err}
+use Rattle.std.specs.Result.{IfOk, OnOk, OnErr}
+use Rattle.std.proofs.lemmas.List.Elements.{filter-append, filter_map-append}
+use Rattle.pgp_code.specs.AnyCode.{enough_of, is_by_place}
+use Rattle.pgp_code.specs.Pool.{code_of}
+use Rattle.pgp_code.specs.declared.any.AnyCode.{AnyCode}
+use Rattle.pgp_ids.specs.declared.entry.Entry.{Entry}
+use Rattle.pgp_ids.specs.declared.entry.Entry.TheVariants as entry
+use Rattle.pgp_ids.specs.declared.incremental.Incremental.{Incremental}
+use Rattle.pgp_ids.specs.declared.membership.Membership.{Membership}
+use Rattle.pgp_ids.specs.declared.pg_id.PgId.{PgId}
+use Rattle.pgp_ids.specs.declared.pool.PoolKind.{PoolKind}
+use Rattle.pgp_ids.specs.declared.pool.PoolSpec.{PoolSpec}
+use Rattle.pgp_ids.specs.declared.report.Info.{Info}
+use Rattle.pgp_ids.specs.declared.report.Report.{Report}
+use Rattle.pgp_interval.specs.History.{History, begun, stepped}
+use Rattle.pgp_interval.specs.IntervalsOf.{IsIntervalsOf}
+use Rattle.pgp_map.specs.Map.{epoch}
+use Rattle.pgp_map.specs.MapFault.{map_fault, then_with}
+use Rattle.pgp_map.specs.Pools.{pool, has_group, is_same_group}
+use Rattle.pgp_sets.specs.Sets.{pool_membership, membership}
+use Rattle.pgp_group.specs.Entries.{inc_of, info_of, report_of, incs_of, infos_of, reports_of}
+use Rattle.pgp_group.specs.GroupHistory.{AreNumbered, made_at, primary_facts, group_history}
+use Rattle.pgp_group.specs.GroupOf.{IsGroupOf, IsSilent}
+use Rattle.pgp_group.specs.declared.group.Group.{Group}
+use Rattle.pgp_group.proofs.GrowthLemmas.{history-begins, history-grows, numbered-more}
+
+-- ---- the parts of a longer log
+
+nothing_new : {X Y : Type 0} (f : X → Option Y) (xs : List X) (x : X) → f x ≡ None → filter_map f (xs ++ x ∷ []) ≡ filter_map f xs
+nothing_new {X = X} {Y = Y} f xs x none =
+    let new : filter_map f (x ∷ []) ≡ [] = rw none refl in
+    filter_map-append f xs (x ∷ []) ∙ ap (λ (l : List Y). filter_map f xs ++ l) new ∙ append-nil (filter_map f xs)
+
+one_new : {X Y : Type 0} (f : X → Option Y) (xs : List X) (x : X) (y : Y) → f x ≡ Some y → filter_map f (xs ++ x ∷ []) ≡ filter_map f xs ++ y ∷ []
+one_new {X = X} {Y = Y} f xs x y is =
+    let new : filter_map f (x ∷ []) ≡ y ∷ [] = rw is refl in
+    filter_map-append f xs (x ∷ []) ∙ ap (λ (l : List Y). filter_map f xs ++ l) new
+
+kept_new : {X : Type 0} (test : X → Bool) (xs : List X) (x : X) → test x ≡ true → filter test (xs ++ x ∷ []) ≡ filter test xs ++ x ∷ []
+kept_new {X = X} test xs x passes =
+    let new : filter test (x ∷ []) ≡ x ∷ [] = rw passes refl in
+    filter-append test xs (x ∷ []) ∙ ap (λ (l : List X). filter test xs ++ l) new
+
+left_new : {X : Type 0} (test : X → Bool) (xs : List X) (x : X) → test x ≡ false → filter test (xs ++ x ∷ []) ≡ filter test xs
+left_new {X = X} test xs x fails =
+    let new : filter test (x ∷ []) ≡ [] = rw fails refl in
+    filter-append test xs (x ∷ []) ∙ ap (λ (l : List X). filter test xs ++ l) new ∙ append-nil (filter test xs)
+
+-- ---- an entry that brings no map
+
+-- what a group has, after an entry that brings no map
+pub IsGroupOf-other : (log : List Entry) (new : Entry) (pg : PgId) (old group : Group) (is : IsGroupOf log pg old) → inc_of new ≡ None
+    → group.pg ≡ old.pg → group.intervals ≡ old.intervals
+    → group.infos.items ≡ filter (λ (info : Info). is_same_group info.pg pg) (infos_of (log ++ new ∷ []))
+    → group.reports.items ≡ filter (λ (report : Report). is_same_group report.pg pg) (reports_of (log ++ new ∷ []))
+    → IsGroupOf (log ++ new ∷ []) pg group
+IsGroupOf-other log new pg old group is none pg_is intervals infos' reports' =
+    let incs : incs_of (log ++ new ∷ []) ≡ incs_of log = nothing_new inc_of log new none in
+    record {
+      history = is.history;
+      history_is = ap (λ (l : List Incremental). group_history l pg) incs ∙ is.history_is;
+      numbered = subst AreNumbered (sym incs) is.numbered;
+      keeps = record {
+        pg_is = pg_is ∙ is.keeps.pg_is;
+        intervals_are = subst (IsIntervalsOf enough_of is_by_place is.history) (sym intervals) is.keeps.intervals_are;
+        infos_are = infos';
+        reports_are = reports';
+      };
+    }
+
+-- an info of the group, and one of another
+pub infos-new : (log : List Entry) (info : Info) (pg : PgId) → is_same_group info.pg pg ≡ true
+    → filter (λ (i : Info). is_same_group i.pg pg) (infos_of (log ++ entry.Info info ∷ [])) ≡ filter (λ (i : Info). is_same_group i.pg pg) (infos_of log) ++ info ∷ []
+infos-new log info pg same = ap (filter (λ (i : Info). is_same_group i.pg pg)) (one_new info_of log (entry.Info info) info refl) ∙ kept_new (λ (i : Info). is_same_group i.pg pg) (infos_of log) info same
+
+pub infos-other : (log : List Entry) (info : Info) (pg : PgId) → is_same_group info.pg pg ≡ false
+    → filter (λ (i : Info). is_same_group i.pg pg) (infos_of (log ++ entry.Info info ∷ [])) ≡ filter (λ (i : Info). is_same_group i.pg pg) (infos_of log)
+infos-other log info pg differ = ap (filter (λ (i : Info). is_same_group i.pg pg)) (one_new info_of log (entry.Info info) info refl) ∙ left_new (λ (i : Info). is_same_group i.pg pg) (infos_of log) info differ
+
+-- the same of reports of log entries
+pub reports-new : (log : List Entry) (report : Report) (pg : PgId) → is_same_group report.pg pg ≡ true
+    → filter (λ (r : Report). is_same_group r.pg pg) (reports_of (log ++ entry.Entries report ∷ [])) ≡ filter (λ (r : Report). is_same_group r.pg pg) (reports_of log) ++ report ∷ []
+reports-new log report pg same = ap (filter (λ (r : Report). is_same_group r.pg pg)) (one_new report_of log (entry.Entries report) report refl) ∙ kept_new (λ (r : Report). is_same_group r.pg pg) (reports_of log) report same
+
+pub reports-other : (log : List Entry) (report : Report) (pg : PgId) → is_same_group report.pg pg ≡ false
+    → filter (λ (r : Report). is_same_group r.pg pg) (reports_of (log ++ entry.Entries report ∷ [])) ≡ filter (λ (r : Report). is_same_group r.pg pg) (reports_of log)
+reports-other log report pg differ = ap (filter (λ (r : Report). is_same_group r.pg pg)) (one_new report_of log (entry.Entries report) report refl) ∙ left_new (λ (r : Report). is_same_group r.pg pg) (reports_of log) report differ
+
+-- an entry that tells no info, or no log entries
+pub infos-same : (log : List Entry) (new : Entry) (pg : PgId) → info_of new ≡ None
+    → filter (λ (i : Info). is_same_group i.pg pg) (infos_of (log ++ new ∷ [])) ≡ filter (λ (i : Info). is_same_group i.pg pg) (infos_of log)
+infos-same log new pg none = ap (filter (λ (i : Info). is_same_group i.pg pg)) (nothing_new info_of log new none)
+
+pub reports-same : (log : List Entry) (new : Entry) (pg : PgId) → report_of new ≡ None
+    → filter (λ (r : Report). is_same_group r.pg pg) (reports_of (log ++ new ∷ [])) ≡ filter (λ (r : Report). is_same_group r.pg pg) (reports_of log)
+reports-same log new pg none = ap (filter (λ (r : Report). is_same_group r.pg pg)) (nothing_new report_of log new none)
+
+-- ---- an incremental
+
+pub IsGroupOf-inc : (log : List Entry) (inc : Incremental) (pg : PgId) (old group : Group) (members : Membership) (is : IsGroupOf log pg old) → map_fault (incs_of log) inc ≡ None
+    → membership (then_with (incs_of log) inc) pg ≡ Some members
+    → group.pg ≡ old.pg → group.infos.items ≡ old.infos.items → group.reports.items ≡ old.reports.items
+    → IsIntervalsOf enough_of is_by_place (stepped is.history members (primary_facts (incs_of log) is.history.current.acting_primary)) group.intervals
+    → IsGroupOf (log ++ entry.Inc inc ∷ []) pg group
+IsGroupOf-inc log inc pg old group members is fine lies pg_is infos' reports' intervals =
+    let incs : incs_of (log ++ entry.Inc inc ∷ []) ≡ then_with (incs_of log) inc = one_new inc_of log (entry.Inc inc) inc refl in
+    let after : History AnyCode = stepped is.history members (primary_facts (incs_of log) is.history.current.acting_primary) in
+    record {
+      history = after;
+      history_is = ap (λ (l : List Incremental). group_history l pg) incs
+          ∙ history-grows (incs_of log) inc pg is.history is.numbered fine is.history_is
+          ∙ ap (option_map (λ (m : Membership). stepped is.history m (primary_facts (incs_of log) is.history.current.acting_primary))) lies;
+      numbered = subst AreNumbered (sym incs) (numbered-more (incs_of log) inc is.numbered fine);
+      keeps = record {
+        pg_is = pg_is ∙ is.keeps.pg_is;
+        intervals_are = intervals;
+        infos_are = infos' ∙ is.keeps.infos_are ∙ sym (infos-same log (entry.Inc inc) pg refl);
+        reports_are = reports' ∙ is.keeps.reports_are ∙ sym (reports-same log (entry.Inc inc) pg refl);
+      };
+    }
+
+-- ---- the first epoch
+
+begun_as : (incs : List Incremental) (pg : PgId) (kind : PoolKind) (members : Membership) (found : Option PoolSpec) → option_map (λ made. made.kind) found ≡ Some kind → option_map (pool_membership incs pg) found ≡ Some members
+    → option_map (λ made. begun (code_of made.kind) (epoch incs) (pool_membership incs pg made)) found ≡ Some (begun (code_of kind) (epoch incs) members)
+begun_as incs pg kind members None is lies = cc
+begun_as incs pg kind members (Some made) is lies =
+    let same_kind : made.kind ≡ kind = cc in
+    let same_members : pool_membership incs pg made ≡ members = cc in
+    λ i. Some (begun (code_of (same_kind i)) (epoch incs) (same_members i))
+
+pub IsGroupOf-begun : (log : List Entry) (pg : PgId) (kind : PoolKind) (members : Membership) (group : Group) → AreNumbered (incs_of log) → has_group (incs_of log) pg ≡ true → made_at (incs_of log) pg.pool ≡ epoch (incs_of log) → IsSilent log pg
+    → option_map (λ made. made.kind) (pool (incs_of log) pg.pool) ≡ Some kind → membership (incs_of log) pg ≡ Some members
+    → group.pg ≡ pg → group.infos.items ≡ [] → group.reports.items ≡ []
+    → IsIntervalsOf enough_of is_by_place (begun (code_of kind) (epoch (incs_of log)) members) group.intervals
+    → IsGroupOf log pg group
+IsGroupOf-begun log pg kind members group counts there now silent is lies pg_is none nothing intervals = record {
+  history = begun (code_of kind) (epoch (incs_of log)) members;
+  history_is = history-begins (incs_of log) pg now there ∙ begun_as (incs_of log) pg kind members (pool (incs_of log) pg.pool) is lies;
+  numbered = counts;
+  keeps = record {
+    pg_is = pg_is;
+    intervals_are = intervals;
+    infos_are = none ∙ sym silent.infos;
+    reports_are = nothing ∙ sym silent.reports;
+  };
+}
+
+-- the group stands for the log, also where its parts are kept elsewhere
+pub IsGroupOf-same : (log : List Entry) (pg : PgId) (old group : Group) → IsGroupOf log pg old → group.pg ≡ old.pg → group.intervals ≡ old.intervals → group.infos.items ≡ old.infos.items → group.reports.items ≡ old.reports.items → IsGroupOf log pg group
+IsGroupOf-same log pg old group is pg_is intervals infos' reports' = record {
+  history = is.history;
+  history_is = is.history_is;
+  numbered = is.numbered;
+  keeps = record {
+    pg_is = pg_is ∙ is.keeps.pg_is;
+    intervals_are = subst (IsIntervalsOf enough_of is_by_place is.history) (sym intervals) is.keeps.intervals_are;
+    infos_are = infos' ∙ is.keeps.infos_are;
+    reports_are = reports' ∙ is.keeps.reports_are;
+  };
+}
+
+-- the second group stands for each log for which the first does
+abbrev pub StandsLike : Group → Group → Type 0
+StandsLike old group = (log : List Entry) (pg : PgId) → IsGroupOf log pg old → IsGroupOf log pg group
+
+-- the second group stands for each log for which the first does, with the entry too
+abbrev pub StandsWith : Entry → Group → Group → Type 0
+StandsWith new old group = (log : List Entry) (pg : PgId) → IsGroupOf log pg old → IsGroupOf (log ++ new ∷ []) pg group
+
+-- the same, where the entry brings no map
+abbrev pub TakesReport : Entry → Group → Group → Type 0
+TakesReport new old group = (log : List Entry) (pg : PgId) → inc_of new ≡ None → IsGroupOf log pg old → IsGroupOf (log ++ new ∷ []) pg group
+
+-- ---- what holds of a result
+
+pub on_ok : {T E : Type 0} (r : Result T E) (P Q : Type 0) → (P → Q) → OnOk r P → OnOk r Q
+on_ok (Ok x) P Q gives given = gives given
+on_ok (Err e) P Q gives given = given
+
+pub on_err_from : {T E : Type 0} (r : Result T E) (P Q : Type 0) → (P → Q) → OnErr r P → OnErr r Q
+on_err_from (Ok x) P Q gives given = given
+on_err_from (Err e) P Q gives given = gives given
+
+pub on_err : {T E : Type 0} (r : Result T E) (P : Type 0) → P → OnErr r P
+on_err (Ok x) P holds = tt
+on_err (Err e) P holds = holds
+
+pub if_ok : {T E : Type 0} (r : Result T E) (P Q : T → Type 0) → ((x : T) → P x → Q x) → IfOk r P → IfOk r Q
+if_ok (Ok x) P Q gives given = gives x given
+if_ok (Err e) P Q gives given = given
+
+-- an incremental brings a map
+pub no_map : {P : Type 0} (e : Entry) (inc : Incremental) → e ≡ entry.Inc inc → inc_of e ≡ None → P
+no_map {P = P} e inc is none = absurd (contradicts (ap inc_of (sym is) ∙ none))
+  where
+    contradicts : Some inc ≡ None → ⊥
+    contradicts same = cc

@@ -1,0 +1,303 @@
+-- How a list of incrementals is numbered, and how the history of a group grows by an incremental that isn't refused.
+use Rattle.std.proofs.Common.{◌≡◌, ℕ, zero, suc, ◌+◌, ◌-◌, ◌<◌, ◌≤◌, List, [], ◌∷◌, ◌++◌, Option, Some, None, is_some, Bool, true, false, nat_eq, nat_lt, nat_le, length, map, refl, ap, ap₂, sym, ◌∙◌, subst, inl, inr, arith, drop, if◌then◌else◌}
+use Rattle.std.specs.List.{Contains, filter_map, flat_map, last_or, list_any, range_with_len, slice_index_or}
+use Rattle.std.specs.Option.{option_map, option_map_or}
+use Rattle.std.proofs.lemmas.Bool.{cases_Bool, eqb-true}
+use Rattle.std.proofs.lemmas.Bool.Decides.{nat_tests}
+use Rattle.std.proofs.lemmas.List.{length_push, map_push}
+use Rattle.std.proofs.lemmas.List.Elements.{filter_map-append}
+use Rattle.pgp_code.specs.declared.any.AnyCode.{AnyCode}
+use Rattle.pgp_code.specs.Pool.{code_of}
+use Rattle.pgp_ids.specs.declared.history.EpochState.{EpochState}
+use Rattle.pgp_ids.specs.declared.incremental.Incremental.{Incremental}
+use Rattle.pgp_ids.specs.declared.pg_id.PgId.{PgId}
+use Rattle.pgp_ids.specs.declared.pool.PoolSizes.{PoolSizes}
+use Rattle.pgp_ids.specs.declared.pool.PoolSpec.{PoolSpec}
+use Rattle.pgp_interval.specs.History.{History, begun, stepped}
+use Rattle.pgp_map.specs.Checked.{are_checked}
+use Rattle.pgp_map.specs.Last.{last_where}
+use Rattle.pgp_map.specs.Map.{epoch, up_to}
+use Rattle.pgp_map.specs.MapFault.{map_fault, then_with, has_epoch_gap, has_twice, has_unknown_device, has_already_up, has_already_down, has_still_up, has_up_thru_back, has_ahead, has_bad_pool, has_pool_known}
+use Rattle.pgp_map.specs.Pools.{pool, with_sizes, has_group}
+use Rattle.pgp_sets.specs.Sets.{pool_membership, membership}
+use Rattle.pgp_lists.proofs.Members.{filter-contains}
+use Rattle.pgp_lists.proofs.Options.{if_none}
+use Rattle.pgp_lists.proofs.Ranges.{range_with_len-suc}
+use Rattle.pgp_group.specs.GroupHistory.{makes, made_at, AreNumbered, primary_facts, state_with, state_at_epoch, states_from, history_of, group_history}
+use Rattle.pgp_group.proofs.HistoryLemmas.{maker_of, history_if, history-length}
+use Rattle.pgp_group.proofs.Lists.{none-narrower, flat_map-snoc, last_or-snoc, last_where-passes, last_where-none, filter_map-agree}
+
+-- ---- an incremental that isn't refused
+
+-- its epoch is the next one, and it makes no pool that is there
+record IsNext (incs : List Incremental) (inc : Incremental) : Type 0 where
+  gap : has_epoch_gap incs inc ≡ false
+  known : has_pool_known incs inc ≡ false
+
+next_of : (incs : List Incremental) (inc : Incremental) → map_fault incs inc ≡ None → IsNext incs inc
+unfolding map_fault
+next_of incs inc fine =
+    let a = if_none (has_epoch_gap incs inc) _ _ fine in
+    let b = if_none (has_twice inc) _ _ a.1 in
+    let c = if_none (has_unknown_device incs inc) _ _ b.1 in
+    let d = if_none (has_already_up incs inc) _ _ c.1 in
+    let e = if_none (has_already_down incs inc) _ _ d.1 in
+    let f = if_none (has_still_up incs inc) _ _ e.1 in
+    let g = if_none (has_up_thru_back incs inc) _ _ f.1 in
+    let h = if_none (has_ahead inc) _ _ g.1 in
+    let i = if_none (has_bad_pool incs inc) _ _ h.1 in
+    record { gap = a.0; known = (if_none (has_pool_known incs inc) _ _ i.1).0 }
+
+pub next_epoch : (incs : List Incremental) (inc : Incremental) → map_fault incs inc ≡ None → inc.epoch ≡ epoch incs + 1
+next_epoch incs inc fine = let gap : has_epoch_gap incs inc ≡ false = (next_of incs inc fine).gap in grind (arith, nat_tests)
+
+pub epoch-snoc : (incs : List Incremental) (inc : Incremental) → epoch (then_with incs inc) ≡ inc.epoch
+epoch-snoc incs inc = ap (λ (o : Option Incremental). option_map_or (λ i. i.epoch) o 0) (last_or-snoc None incs inc)
+
+-- ---- the epochs of a list count 1, 2, and so on
+
+last_epoch : (incs : List Incremental) (o : Option Incremental) (a : ℕ) → option_map_or (λ inc. inc.epoch) o 0 ≡ a → map (λ inc. inc.epoch) incs ≡ range_with_len (a + 1) (length incs) → option_map_or (λ inc. inc.epoch) (last_or o incs) 0 ≡ a + length incs
+last_epoch [] o a before counts = before ∙ omega arith
+last_epoch (inc ∷ incs) o a before counts =
+    let first : inc.epoch ≡ a + 1 = ap (λ l. slice_index_or l 0 0) counts in
+    let rest : map (λ i. i.epoch) incs ≡ range_with_len (a + 1 + 1) (length incs) = ap (λ l. drop 1 l) counts in
+    last_epoch incs (Some inc) (a + 1) first rest ∙ omega arith
+
+pub numbered-epoch : (incs : List Incremental) → AreNumbered incs → epoch incs ≡ length incs
+numbered-epoch incs counts = last_epoch incs None 0 refl counts ∙ omega arith
+
+pub numbered-more : (incs : List Incremental) (inc : Incremental) → AreNumbered incs → map_fault incs inc ≡ None → AreNumbered (then_with incs inc)
+numbered-more incs inc counts fine =
+    let last : inc.epoch ≡ 1 + length incs = omega (arith, next_epoch incs inc fine, numbered-epoch incs counts) in
+    let long : length (incs ++ inc ∷ []) ≡ suc (length incs) = omega (arith, length_push incs inc) in
+    map_push (λ (i : Incremental). i.epoch) incs inc
+    ∙ ap₂ (λ l k. l ++ k ∷ []) counts last ∙ sym (range_with_len-suc 1 (length incs)) ∙ ap (range_with_len 1) (sym long)
+
+record Ended (incs : List Incremental) : Type 0 where
+  front : List Incremental
+  last : Incremental
+  is : incs ≡ front ++ last ∷ []
+
+ended : (inc : Incremental) (incs : List Incremental) → Ended (inc ∷ incs)
+ended inc [] = record { front = []; last = inc; is = refl }
+ended inc (next ∷ incs) = let rest = ended next incs in record { front = inc ∷ rest.front; last = rest.last; is = ap (λ l. inc ∷ l) rest.is }
+
+-- fronts of checked lists are checked, and the last incremental of one has no fault
+abbrev Shortens : Type 0
+Shortens = (incs later : List Incremental) → are_checked (incs ++ later) ≡ true → are_checked incs ≡ true
+
+abbrev EndsWell : Type 0
+EndsWell = (incs : List Incremental) (inc : Incremental) → are_checked (then_with incs inc) ≡ true → map_fault incs inc ≡ None
+
+numbered-long : Shortens → EndsWell → (n : ℕ) (incs : List Incremental) → length incs ≡ n → are_checked incs ≡ true → AreNumbered incs
+numbered-long shorten fine n [] long checked = refl
+numbered-long shorten fine zero (inc ∷ incs) long checked = absurd (omega (arith, long))
+numbered-long shorten fine (suc n) (inc ∷ incs) long checked =
+    let end = ended inc incs in
+    let whole : are_checked (end.front ++ end.last ∷ []) ≡ true = ap are_checked (sym end.is) ∙ checked in
+    let shorter : length end.front ≡ n = omega (arith, long, ap length end.is, length_push end.front end.last) in
+    let before : AreNumbered end.front = numbered-long shorten fine n end.front shorter (shorten end.front (end.last ∷ []) whole) in
+    subst AreNumbered (sym end.is) (numbered-more end.front end.last before (fine end.front end.last whole))
+
+pub checked-numbered : Shortens → EndsWell → (incs : List Incremental) → are_checked incs ≡ true → AreNumbered incs
+checked-numbered shorten fine incs = numbered-long shorten fine (length incs) incs refl
+
+-- ---- the map of an epoch
+
+up_to-all : (incs : List Incremental) (a e : ℕ) → map (λ inc. inc.epoch) incs ≡ range_with_len a (length incs) → a + length incs ≤ e + 1 → up_to e incs ≡ incs
+up_to-all [] a e counts within = refl
+up_to-all (inc ∷ incs) a e counts within =
+    let first : inc.epoch ≡ a = ap (λ l. slice_index_or l 0 0) counts in
+    let rest : map (λ i. i.epoch) incs ≡ range_with_len (a + 1) (length incs) = ap (λ l. drop 1 l) counts in
+    let kept : nat_le inc.epoch e ≡ true = grind (arith, nat_tests) in
+    rw kept (ap (λ l. inc ∷ l) (up_to-all incs (a + 1) e rest (omega arith)))
+
+-- the map of the last epoch is that of all
+pub up_to-epoch : (incs : List Incremental) → AreNumbered incs → up_to (epoch incs) incs ≡ incs
+up_to-epoch incs counts = up_to-all incs 1 (epoch incs) counts (omega (arith, numbered-epoch incs counts))
+
+-- maps of earlier epochs stay
+up_to-earlier : (at : ℕ) (incs : List Incremental) (inc : Incremental) → at < inc.epoch → up_to at (then_with incs inc) ≡ up_to at incs
+up_to-earlier at [] inc later = let no : nat_le inc.epoch at ≡ false = grind (arith, nat_tests) in rw no refl
+up_to-earlier at (first ∷ incs) inc later = elim (cases_Bool (nat_le first.epoch at)) [
+  | inl kept ↦ rw kept (ap (λ l. first ∷ l) (up_to-earlier at incs inc later))
+  | inr left ↦ rw left (up_to-earlier at incs inc later)
+]
+
+-- ---- the pool
+
+-- the pool as it was made last
+made_of : List Incremental → ℕ → Option PoolSpec
+made_of incs id = last_where (λ made. nat_eq made.id id) (flat_map (λ inc. inc.pools) incs)
+
+-- the sizes that it was given last
+sizes_of : List Incremental → ℕ → Option PoolSizes
+sizes_of incs id = last_where (λ sizes. nat_eq sizes.pool id) (flat_map (λ inc. inc.sizes) incs)
+
+pool-is : (incs : List Incremental) (id : ℕ) → pool incs id ≡ option_map (with_sizes (sizes_of incs id)) (made_of incs id)
+unfolding made_of sizes_of
+pool-is incs id = refl
+
+unmade : (incs : List Incremental) (inc : Incremental) (id : ℕ) → map_fault incs inc ≡ None → is_some (pool incs id) ≡ true → makes id inc ≡ false
+unmade incs inc id fine there =
+    none-narrower (λ (made : PoolSpec). nat_eq made.id id) (λ (made : PoolSpec). is_some (pool incs made.id))
+    (λ made same. ap (λ (k : ℕ). is_some (pool incs k)) (eqb-true made.id id same) ∙ there) inc.pools (next_of incs inc fine).known
+
+made_of-stays : (incs : List Incremental) (inc : Incremental) (id : ℕ) → makes id inc ≡ false → made_of (then_with incs inc) id ≡ made_of incs id
+unfolding made_of
+made_of-stays incs inc id unmade =
+    ap (last_where (λ (made : PoolSpec). nat_eq made.id id)) (flat_map-snoc (λ (i : Incremental). i.pools) incs inc)
+    ∙ last_where-none (λ (made : PoolSpec). nat_eq made.id id) (flat_map (λ (i : Incremental). i.pools) incs) inc.pools unmade
+
+made_at-stays : (incs : List Incremental) (inc : Incremental) (id : ℕ) → makes id inc ≡ false → made_at (then_with incs inc) id ≡ made_at incs id
+made_at-stays incs inc id unmade =
+    let none : list_any (makes id) (inc ∷ []) ≡ false = rw unmade refl in
+    ap (λ (o : Option Incremental). option_map_or (λ (i : Incremental). i.epoch) o 0) (last_where-none (makes id) incs (inc ∷ []) none)
+
+pub made_at-made : (incs : List Incremental) (inc : Incremental) (id : ℕ) → makes id inc ≡ true → made_at (then_with incs inc) id ≡ inc.epoch
+made_at-made incs inc id makes' =
+    ap (λ (o : Option Incremental). option_map_or (λ (i : Incremental). i.epoch) o 0) (last_where-passes (makes id) incs inc makes')
+
+-- the pool was made by the last incremental or before
+made_at-before : (incs : List Incremental) (id : ℕ) → AreNumbered incs → is_some (pool incs id) ≡ true → made_at incs id ≤ epoch incs
+made_at-before incs id counts there =
+    let m = maker_of incs id there in
+    let all : List Incremental = up_to (epoch incs) incs in
+    let kept : Contains all m.maker = subst (λ l. Contains l m.maker) (sym (up_to-epoch incs counts)) m.there in
+    let within : nat_le m.maker.epoch (epoch incs) ≡ true = (filter-contains (λ (inc : Incremental). nat_le inc.epoch (epoch incs)) incs m.maker kept).1 in
+    let is : made_at incs id ≡ m.maker.epoch = m.epoch in
+    grind (arith, nat_tests)
+
+-- sizes change neither the kind of a pool nor its number of groups
+kind-sized : (sizes : Option PoolSizes) (made : PoolSpec) → (with_sizes sizes made).kind ≡ made.kind
+kind-sized None made = refl
+kind-sized (Some sizes) made = refl
+
+groups-sized : (sizes : Option PoolSizes) (made : PoolSpec) → (with_sizes sizes made).pg_num ≡ made.pg_num
+groups-sized None made = refl
+groups-sized (Some sizes) made = refl
+
+-- a pool that is there, before and after an incremental that isn't refused
+record Stays (incs : List Incremental) (inc : Incremental) (id : ℕ) (made : PoolSpec) : Type 0 where
+  now : PoolSpec
+  is : pool (then_with incs inc) id ≡ Some now
+  kind : now.kind ≡ made.kind
+  groups : now.pg_num ≡ made.pg_num
+  since : made_at (then_with incs inc) id ≡ made_at incs id
+
+stays_as : (incs : List Incremental) (inc : Incremental) (id : ℕ) (made : PoolSpec) (base : Option PoolSpec) → made_at (then_with incs inc) id ≡ made_at incs id → made_of (then_with incs inc) id ≡ base → option_map (with_sizes (sizes_of incs id)) base ≡ Some made → Stays incs inc id made
+stays_as incs inc id made None since new old = cc
+stays_as incs inc id made (Some base) since new old =
+    let sizes : Option PoolSizes = sizes_of (then_with incs inc) id in
+    let was : with_sizes (sizes_of incs id) base ≡ made = cc in
+    record {
+      now = with_sizes sizes base;
+      is = pool-is (then_with incs inc) id ∙ ap (option_map (with_sizes sizes)) new;
+      kind = kind-sized sizes base ∙ sym (kind-sized (sizes_of incs id) base) ∙ ap (λ (p : PoolSpec). p.kind) was;
+      groups = groups-sized sizes base ∙ sym (groups-sized (sizes_of incs id) base) ∙ ap (λ (p : PoolSpec). p.pg_num) was;
+      since = since;
+    }
+
+pool-stays : (incs : List Incremental) (inc : Incremental) (id : ℕ) (made : PoolSpec) → map_fault incs inc ≡ None → pool incs id ≡ Some made → Stays incs inc id made
+pool-stays incs inc id made fine is =
+    let none : makes id inc ≡ false = unmade incs inc id fine (ap is_some is) in
+    stays_as incs inc id made (made_of incs id) (made_at-stays incs inc id none) (made_of-stays incs inc id none) (sym (pool-is incs id) ∙ is)
+
+-- ---- the history grows by one state
+
+-- the state of the epoch that was current
+state-ended : (incs : List Incremental) (inc : Incremental) (pg : PgId) (made : PoolSpec) → AreNumbered incs → map_fault incs inc ≡ None → pool incs pg.pool ≡ Some made → state_at_epoch (then_with incs inc) pg (epoch incs) ≡ Some (state_with incs (pool_membership incs pg made))
+state-ended incs inc pg made counts fine is =
+    let before : up_to (epoch incs) (then_with incs inc) ≡ incs = up_to-earlier (epoch incs) incs inc (omega (arith, next_epoch incs inc fine)) ∙ up_to-epoch incs counts in
+    ap (λ (l : List Incremental). option_map (state_with l) (membership l pg)) before
+    ∙ ap (λ (found : Option PoolSpec). option_map (state_with incs) (option_map (pool_membership incs pg) found)) is
+
+states-grow : (incs : List Incremental) (inc : Incremental) (pg : PgId) (made : PoolSpec) (first : ℕ) → AreNumbered incs → map_fault incs inc ≡ None → pool incs pg.pool ≡ Some made → first ≤ epoch incs → states_from (then_with incs inc) pg first ≡ states_from incs pg first ++ state_with incs (pool_membership incs pg made) ∷ []
+states-grow incs inc pg made first counts fine is within =
+    let n : ℕ = epoch incs - first in
+    let long : epoch (then_with incs inc) - first ≡ suc n = omega (arith, epoch-snoc incs inc, next_epoch incs inc fine) in
+    let there : first + n ≡ epoch incs = omega arith in
+    ap (λ k. filter_map (state_at_epoch (then_with incs inc) pg) (range_with_len first k)) long
+    ∙ ap (filter_map (state_at_epoch (then_with incs inc) pg)) (range_with_len-suc first n)
+    ∙ filter_map-append (state_at_epoch (then_with incs inc) pg) (range_with_len first n) ((first + n) ∷ [])
+    ∙ ap₂ (λ (states : List EpochState) (last : Option EpochState). states ++ filter_map (λ (u : Unit {0}). last) (tt ∷ []))
+    (filter_map-agree (state_at_epoch (then_with incs inc) pg) (state_at_epoch incs pg) first n
+    (λ k below. ap (λ (l : List Incremental). option_map (state_with l) (membership l pg)) (up_to-earlier k incs inc (omega (arith, next_epoch incs inc fine)))))
+    (ap (state_at_epoch (then_with incs inc) pg) there ∙ state-ended incs inc pg made counts fine is)
+
+history_of-grows : (incs : List Incremental) (inc : Incremental) (pg : PgId) (made now : PoolSpec) → now.kind ≡ made.kind → made_at (then_with incs inc) pg.pool ≡ made_at incs pg.pool → states_from (then_with incs inc) pg (made_at incs pg.pool) ≡ states_from incs pg (made_at incs pg.pool) ++ state_with incs (pool_membership incs pg made) ∷ [] → history_of (then_with incs inc) pg now ≡ stepped (history_of incs pg made) (pool_membership (then_with incs inc) pg now) (primary_facts incs (pool_membership incs pg made).acting_primary)
+history_of-grows incs inc pg made now kind since states =
+    let lived : states_from (then_with incs inc) pg (made_at (then_with incs inc) pg.pool) ≡ states_from incs pg (made_at incs pg.pool) ++ state_with incs (pool_membership incs pg made) ∷ [] =
+    ap (states_from (then_with incs inc) pg) since ∙ states in
+    λ i. record {
+      code = code_of (kind i);
+      first = since i;
+      lived = lived i;
+      current = pool_membership (then_with incs inc) pg now;
+    }
+
+has_group-stays : (incs : List Incremental) (inc : Incremental) (pg : PgId) (made : PoolSpec) → Stays incs inc pg.pool made → pool incs pg.pool ≡ Some made → has_group (then_with incs inc) pg ≡ has_group incs pg
+has_group-stays incs inc pg made s is =
+    ap (λ (o : Option PoolSpec). option_map_or (λ p. nat_lt pg.pg p.pg_num) o false) s.is
+    ∙ ap (nat_lt pg.pg) s.groups
+    ∙ sym (ap (λ (o : Option PoolSpec). option_map_or (λ p. nat_lt pg.pg p.pg_num) o false) is)
+
+-- a group that is there is there
+there_then : (incs : List Incremental) (pg : PgId) (h : History AnyCode) (b : Bool) (found : Option PoolSpec) → (if b then option_map (history_of incs pg) found else None) ≡ Some h → b ≡ true
+there_then incs pg h true found is = refl
+there_then incs pg h false found is = cc
+
+pub history-grows : (incs : List Incremental) (inc : Incremental) (pg : PgId) (h : History AnyCode) → AreNumbered incs → map_fault incs inc ≡ None → group_history incs pg ≡ Some h
+    → group_history (then_with incs inc) pg ≡ option_map (λ members. stepped h members (primary_facts incs h.current.acting_primary)) (membership (then_with incs inc) pg)
+history-grows incs inc pg h counts fine is =
+    let from = history_if incs pg (pool incs pg.pool) h (has_group incs pg) is in
+    let made : PoolSpec = from.0 in
+    let s = pool-stays incs inc pg.pool made fine from.1.0 in
+    let here : has_group (then_with incs inc) pg ≡ true = has_group-stays incs inc pg made s from.1.0 ∙ there_then incs pg h (has_group incs pg) (pool incs pg.pool) is in
+    let within : made_at incs pg.pool ≤ epoch incs = made_at-before incs pg.pool counts (ap is_some from.1.0) in
+    let grown : history_of (then_with incs inc) pg s.now ≡ stepped (history_of incs pg made) (pool_membership (then_with incs inc) pg s.now) (primary_facts incs (pool_membership incs pg made).acting_primary) =
+    history_of-grows incs inc pg made s.now s.kind s.since (states-grow incs inc pg made (made_at incs pg.pool) counts fine from.1.0 within) in
+    ap₂ (λ (b : Bool) (o : Option PoolSpec). if b then option_map (history_of (then_with incs inc) pg) o else None) here s.is
+    ∙ ap Some (grown ∙ ap (λ (g : History AnyCode). stepped g (pool_membership (then_with incs inc) pg s.now) (primary_facts incs g.current.acting_primary)) from.1.1)
+    ∙ ap (λ (o : Option PoolSpec). option_map (λ members. stepped h members (primary_facts incs h.current.acting_primary)) (option_map (pool_membership (then_with incs inc) pg) o)) (sym s.is)
+
+pub has_group-grows : (incs : List Incremental) (inc : Incremental) (pg : PgId) (h : History AnyCode) → map_fault incs inc ≡ None → group_history incs pg ≡ Some h → has_group (then_with incs inc) pg ≡ true
+has_group-grows incs inc pg h fine is =
+    let from = history_if incs pg (pool incs pg.pool) h (has_group incs pg) is in
+    has_group-stays incs inc pg from.0 (pool-stays incs inc pg.pool from.0 fine from.1.0) from.1.0 ∙ there_then incs pg h (has_group incs pg) (pool incs pg.pool) is
+
+-- ---- the history begins
+
+pub history-begins : (incs : List Incremental) (pg : PgId) → made_at incs pg.pool ≡ epoch incs → has_group incs pg ≡ true → group_history incs pg ≡ option_map (λ made. begun (code_of made.kind) (epoch incs) (pool_membership incs pg made)) (pool incs pg.pool)
+history-begins incs pg now there =
+    let none : epoch incs - made_at incs pg.pool ≡ 0 = omega arith in
+    let begins : (made : PoolSpec) → history_of incs pg made ≡ begun (code_of made.kind) (epoch incs) (pool_membership incs pg made) = λ made. λ i. record {
+      code = code_of made.kind;
+      first = now i;
+      lived = filter_map (state_at_epoch incs pg) (range_with_len (made_at incs pg.pool) (none i));
+      current = pool_membership incs pg made;
+    } in
+    ap (λ (b : Bool). if b then option_map (history_of incs pg) (pool incs pg.pool) else None) there ∙ mapped (pool incs pg.pool) begins
+  where
+    mapped : (found : Option PoolSpec) → ((made : PoolSpec) → history_of incs pg made ≡ begun (code_of made.kind) (epoch incs) (pool_membership incs pg made)) → option_map (history_of incs pg) found ≡ option_map (λ made. begun (code_of made.kind) (epoch incs) (pool_membership incs pg made)) found
+    mapped None same = refl
+    mapped (Some made) same = ap Some (same made)
+
+pub history-begins-made : (incs : List Incremental) (inc : Incremental) (pg : PgId) → makes pg.pool inc ≡ true → has_group (then_with incs inc) pg ≡ true
+    → group_history (then_with incs inc) pg ≡ option_map (λ made. begun (code_of made.kind) inc.epoch (pool_membership (then_with incs inc) pg made)) (pool (then_with incs inc) pg.pool)
+history-begins-made incs inc pg making there =
+    history-begins (then_with incs inc) pg (made_at-made incs inc pg.pool making ∙ sym (epoch-snoc incs inc)) there
+    ∙ ap (λ (e : ℕ). option_map (λ made. begun (code_of made.kind) e (pool_membership (then_with incs inc) pg made)) (pool (then_with incs inc) pg.pool)) (epoch-snoc incs inc)
+
+-- ---- the last epoch
+
+lasts_to : (incs : List Incremental) (pg : PgId) (made : PoolSpec) → AreNumbered incs → pool incs pg.pool ≡ Some made → made_at incs pg.pool ≤ epoch incs
+lasts_to incs pg made counts is = made_at-before incs pg.pool counts (ap is_some is)
+
+-- the history reaches the last epoch
+pub history-last : (incs : List Incremental) (pg : PgId) (h : History AnyCode) → AreNumbered incs → group_history incs pg ≡ Some h → h.first + length h.lived ≡ epoch incs
+history-last incs pg h counts is =
+    let from = history_if incs pg (pool incs pg.pool) h (has_group incs pg) is in
+    let first : made_at incs pg.pool ≡ h.first = ap (λ (g : History AnyCode). g.first) from.1.1 in
+    let within : made_at incs pg.pool ≤ epoch incs = lasts_to incs pg from.0 counts from.1.0 in
+    omega (arith, history-length incs pg h is)

@@ -1,0 +1,44 @@
+-- What the code of a group keeps of the log that it was made by.
+use Rattle.std.specs.Prelude.{◌≡◌, ◌+◌, List, [], Some, filter}
+use Rattle.pgp_code.specs.AnyCode.{enough_of, is_by_place}
+use Rattle.pgp_code.specs.declared.any.AnyCode.{AnyCode}
+use Rattle.pgp_ids.specs.declared.entry.Entry.{Entry}
+use Rattle.pgp_ids.specs.declared.incremental.Incremental.{Incremental}
+use Rattle.pgp_ids.specs.declared.pg_id.PgId.{PgId}
+use Rattle.pgp_interval.specs.History.{History}
+use Rattle.pgp_interval.specs.IntervalsOf.{IsIntervalsOf}
+use Rattle.pgp_map.specs.Held.{HasGroup}
+use Rattle.pgp_map.specs.Map.{epoch}
+use Rattle.pgp_map.specs.MapOf.{IsMapOf}
+use Rattle.pgp_map.specs.Pools.{is_same_group}
+use Rattle.pgp_map.specs.declared.map.OsdMap.{OsdMap}
+use Rattle.pgp_group.specs.Entries.{incs_of, infos_of, reports_of}
+use Rattle.pgp_group.specs.GroupHistory.{AreNumbered, group_history}
+use Rattle.pgp_group.specs.GroupLog.{GroupLog, group_with, infos, reports}
+use Rattle.pgp_group.specs.declared.group.Group.{Group}
+
+-- the group keeps the intervals of its history in the log, and all that its members reported, in the order in which it came
+pub record Keeps (g : GroupLog) (group : Group) : Type 0 where
+  pub pg_is : group.pg ≡ g.pg
+  pub intervals_are : IsIntervalsOf enough_of is_by_place g.history group.intervals
+  pub infos_are : group.infos.items ≡ infos g
+  pub reports_are : group.reports.items ≡ reports g
+
+-- the group stands for this group of the log, whose incrementals have the epochs 1, 2, and so on
+pub record IsGroupOf (log : List Entry) (pg : PgId) (group : Group) : Type 0 where
+  pub history : History AnyCode
+  pub history_is : group_history (incs_of log) pg ≡ Some history
+  pub numbered : AreNumbered (incs_of log)
+  pub keeps : Keeps (group_with log pg history) group
+
+-- none of the log's reports is of the group
+pub record IsSilent (log : List Entry) (pg : PgId) : Type 0 where
+  pub infos : filter (λ info. is_same_group info.pg pg) (infos_of log) ≡ []
+  pub reports : filter (λ report. is_same_group report.pg pg) (reports_of log) ≡ []
+
+-- the map is the one of the epoch after that of the group, and has the group
+pub record Follows (group : Group) (map : OsdMap) : Type 0 where
+  pub incs : List Incremental
+  pub is : IsMapOf incs map
+  pub there : HasGroup map group.pg
+  pub next : epoch incs ≡ group.intervals.last + 1

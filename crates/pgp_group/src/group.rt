@@ -1,0 +1,331 @@
+//! A placement group, as the log so far tells of it.
+
+ghost use Rattle.std.specs.Prelude.{◌≡◌, ◌++◌, [], ◌∷◌, List, Some, None, true, false, length, option_map, IfOk, OnOk, OnErr};
+ghost use Rattle.pgp_code.specs.AnyCode.{enough_of, is_by_place};
+ghost use Rattle.pgp_code.specs.Pool.{code_of};
+ghost use Rattle.pgp_ids.specs.Member.{is_before};
+ghost use Rattle.pgp_interval.specs.History.{begun};
+ghost use Rattle.pgp_interval.specs.IntervalsOf.{IsIntervalsOf};
+ghost use Rattle.pgp_interval.specs.Runs.{current_first};
+ghost use Rattle.pgp_lists.specs.Ordered.{ascending};
+ghost use Rattle.pgp_prior.specs.Members.{members_of};
+ghost use Rattle.pgp_sets.specs.Sets.{membership};
+ghost use Rattle.pgp_ids.specs.declared.entry.Entry.{Entry as Told};
+ghost use Rattle.pgp_ids.specs.declared.entry.Entry.TheVariants as entry;
+ghost use Rattle.pgp_ids.specs.declared.incremental.Incremental.{Incremental};
+ghost use Rattle.pgp_ids.specs.declared.pg_id.PgId.{PgId as Id};
+ghost use Rattle.pgp_map.specs.Held.{HasGroup};
+ghost use Rattle.pgp_map.specs.Map.{epoch as epoch_of};
+ghost use Rattle.pgp_map.specs.MapFault.{map_fault, then_with};
+ghost use Rattle.pgp_map.specs.MapOf.{IsMapOf};
+ghost use Rattle.pgp_map.specs.Pools.{pool, has_group};
+ghost use Rattle.pgp_group.specs.Entries.{inc_of, incs_of};
+ghost use Rattle.pgp_group.specs.GroupHistory.{AreNumbered, made_at};
+ghost use Rattle.pgp_group.specs.Causes.{AreCauses};
+ghost use Rattle.pgp_group.specs.Found.{AreHeard, IsFound, AreNeeds};
+ghost use Rattle.pgp_group.specs.GroupLog.{GroupLog, incs};
+ghost use Rattle.pgp_group.specs.GroupOf.{Keeps, IsGroupOf, IsSilent, Follows};
+ghost use Rattle.pgp_group.specs.Present.{IsPresent};
+ghost use Rattle.pgp_group.specs.Verdict.{verdict as verdict_of};
+ghost use Rattle.pgp_group.specs.View.{view_of, scratch};
+
+use super::causes::Causes;
+use super::copies::copy_of;
+use super::counted::{last_started, primary_facts};
+use super::found::{Found, Needs};
+use super::heard::{heard, is_waiting, leader};
+use super::peers::states;
+use super::reported::member_log;
+use super::standing::{is_short, needs_up_thru};
+use pgp_code::{AnyCode, Recoverable};
+use pgp_ids::{Entry, Epoch, Info, Member, Membership, PgId, PoolKind, Report, Seq, Verdict, View};
+use pgp_info::{Best, Preference};
+use pgp_interval::Intervals;
+use pgp_map::OsdMap;
+use pgp_prior::prior;
+use pgp_sets::up_acting;
+use std::alloc::{AllocError, Global};
+
+/// A placement group: its intervals so far, and all that its members reported.
+///
+/// It keeps no map. The last map is lent where it is needed, since devices change in it without a word to the group.
+#[derive(Debug, Drop)]
+pub struct Group {
+    alloc: Global,
+    pg: PgId,
+    intervals: Intervals<AnyCode>,
+    /// All infos of the group, counted or not, in the order in which they came.
+    infos: Vec<Info>,
+    /// All reports of log entries of the group, counted or not, in the order in which they came.
+    reports: Vec<Report>,
+}
+
+impl Group {
+    /// The group at the epoch that made its pool, of which nothing was reported yet. It takes no memory.
+    pub fn begin(alloc: Global, map: &OsdMap, pg: PgId) -> Self
+        requires { HasGroup map.now pg }
+        ensures { (log : List Told) → AreNumbered (incs_of log) → IsMapOf (incs_of log) map.now
+            → has_group (incs_of log) pg ≡ true → made_at (incs_of log) pg.pool ≡ epoch_of (incs_of log)
+            → IsSilent log pg → IsGroupOf log pg result }
+    {
+        let kind = kind_of(map, &pg);
+        let members = lies_at(map, &pg);
+        let intervals = opening(alloc, kind, map.epoch(), members);
+        Group {
+            alloc,
+            pg,
+            intervals,
+            infos: Vec::new(alloc),
+            reports: Vec::new(alloc),
+        }
+    }
+
+    /// Takes the next map. `before` is the one that it was until now. After an error the group stands for the same log.
+    pub fn absorb_map(&mut self, before: &OsdMap, after: &OsdMap) -> Result<(), AllocError>
+        requires { Follows self.old after.now }
+        ensures ok { OnOk result ((log : List Told) (pg : Id) (inc : Incremental)
+            → IsGroupOf log pg self.old → map_fault (incs_of log) inc ≡ None
+            → IsMapOf (incs_of log) before.now → IsMapOf (then_with (incs_of log) inc) after.now
+            → IsGroupOf (log ++ entry.Inc inc ∷ []) pg self.new) }
+        ensures err { OnErr result ((log : List Told) (pg : Id) → IsGroupOf log pg self.old → IsGroupOf log pg self.new) }
+    {
+        let (_, current) = self.intervals.current();
+        let facts = primary_facts(before, current.acting_primary);
+        let members = lies_at(after, &self.pg);
+        self.intervals.step(after.epoch(), members, facts)
+    }
+
+    /// Takes a report, or another entry that brings no map: of those that aren't reports of this group nothing is kept.
+    /// After an error the group stands for the same log.
+    pub fn absorb_report(&mut self, entry: &Entry) -> Result<(), AllocError>
+        ensures ok { OnOk result ((log : List Told) (pg : Id) → inc_of entry.now ≡ None
+            → IsGroupOf log pg self.old → IsGroupOf (log ++ entry.now ∷ []) pg self.new) }
+        ensures err { OnErr result ((log : List Told) (pg : Id) → IsGroupOf log pg self.old → IsGroupOf log pg self.new) }
+    {
+        match entry {
+            Entry::Info(info) => self.keep_info(info),
+            Entry::Entries(report) => self.keep_report(report),
+            Entry::Inc(_) => Ok(()),
+            Entry::Close => Ok(()),
+        }
+    }
+
+    fn keep_info(&mut self, info: &Info) -> Result<(), AllocError>
+        ensures ok { OnOk result ((log : List Told) (pg : Id)
+            → IsGroupOf log pg self.old → IsGroupOf (log ++ entry.Info info.now ∷ []) pg self.new) }
+        ensures err { OnErr result ((log : List Told) (pg : Id) → IsGroupOf log pg self.old → IsGroupOf log pg self.new) }
+    {
+        if info.pg == self.pg {
+            self.infos.push(*info)?;
+        }
+        Ok(())
+    }
+
+    fn keep_report(&mut self, report: &Report) -> Result<(), AllocError>
+        ensures ok { OnOk result ((log : List Told) (pg : Id)
+            → IsGroupOf log pg self.old → IsGroupOf (log ++ entry.Entries report.now ∷ []) pg self.new) }
+        ensures err { OnErr result ((log : List Told) (pg : Id) → IsGroupOf log pg self.old → IsGroupOf log pg self.new) }
+    {
+        if report.pg == self.pg {
+            let copy = copy_of(self.alloc, report)?;
+            self.reports.push(copy)?;
+        }
+        Ok(())
+    }
+
+    /// All that the log so far says of the group. `map` is the last map, and `count` the number of the log's entries.
+    pub fn view(&self, map: &OsdMap, count: usize) -> Result<View, AllocError>
+        ensures { IfOk result (λ view. (log : List Told) (pg : Id) → IsGroupOf log pg self.now
+            → IsMapOf (incs_of log) map.now → length log ≡ count → scratch log pg ≡ Some view) }
+    {
+        let (first, current) = self.intervals.current();
+        let heard = self.heard(map, first, &current)?;
+        let found = self.found(map, first, &current, &heard)?;
+        let needs = self.needs(map, &current, &heard)?;
+        let causes = self.causes(map, first, &current, &found, &needs);
+        Ok(seen(
+            count,
+            map.epoch(),
+            first,
+            current,
+            found,
+            needs,
+            causes.verdict(),
+        ))
+    }
+
+    /// The last counted info of each member, by the preference of the group's pool.
+    fn heard(
+        &self,
+        map: &OsdMap,
+        first: Epoch,
+        current: &Membership,
+    ) -> Result<Best<Preference>, AllocError>
+        ensures { IfOk result (λ heard. (g : GroupLog) → Keeps g self.now → IsPresent g map.now first
+            → current.now ≡ g.history.current → AreHeard g heard) }
+    {
+        let by_place = self.intervals.code().by_place();
+        let prefer = Preference::of_pool(by_place, leader(by_place, &current.acting));
+        heard(self.alloc, map, first, self.infos.as_slice(), prefer)
+    }
+
+    /// The best copy of those that were heard, and the states of the others.
+    fn found(
+        &self,
+        map: &OsdMap,
+        first: Epoch,
+        current: &Membership,
+        heard: &Best<Preference>,
+    ) -> Result<Found, AllocError>
+        ensures { IfOk result (λ found. (g : GroupLog) → Keeps g self.now → IsPresent g map.now first
+            → current.now ≡ g.history.current → AreHeard g heard.now → IsFound g found) }
+    {
+        let Some(best) = heard.best() else {
+            return Ok(nothing_to_go_by(self.alloc, None));
+        };
+        let log = member_log(self.alloc, map, first, self.reports.as_slice(), best)?;
+        if !log.whole() {
+            return Ok(nothing_to_go_by(self.alloc, Some(best.member)));
+        }
+        let members = present_members(self.alloc, self.intervals.code(), map, current)?;
+        let states = states(self.alloc, &log, best.member, members.as_slice(), heard)?;
+        Ok(Found {
+            best: Some(best.member),
+            whole: true,
+            states: Seq::from_vec(states),
+        })
+    }
+
+    /// Whom the group has to hear, and whether it was.
+    fn needs(
+        &self,
+        map: &OsdMap,
+        current: &Membership,
+        heard: &Best<Preference>,
+    ) -> Result<Needs, AllocError>
+        ensures { IfOk result (λ needs. (g : GroupLog) → Keeps g self.now → IsMapOf (incs g) map.now
+            → current.now ≡ g.history.current → AreHeard g heard.now → AreNeeds g needs) }
+    {
+        let les = last_started(self.infos.as_slice());
+        let intervals = self.intervals.past(self.alloc)?;
+        let prior = prior(
+            self.alloc,
+            self.intervals.code(),
+            intervals.as_slice(),
+            current,
+            les,
+            map,
+        )?;
+        let waiting = is_waiting(prior.probe.as_slice(), heard);
+        Ok(Needs {
+            intervals: Seq::from_vec(intervals),
+            les,
+            prior,
+            waiting,
+        })
+    }
+
+    /// Why the group may not serve yet.
+    fn causes(
+        &self,
+        map: &OsdMap,
+        first: Epoch,
+        current: &Membership,
+        found: &Found,
+        needs: &Needs,
+    ) -> Causes
+        ensures { (g : GroupLog) → Keeps g self.now → IsPresent g map.now first → current.now ≡ g.history.current
+            → IsFound g found.now → AreNeeds g needs.now → AreCauses g result }
+    {
+        Causes {
+            no_primary: current.acting_primary.is_none(),
+            down: needs.prior.down,
+            waiting: needs.waiting,
+            incomplete: found.best.is_none(),
+            short: is_short(self.intervals.code(), current),
+            need_log: !found.whole,
+            need_up_thru: needs_up_thru(map, first, current.acting_primary),
+        }
+    }
+}
+
+/// The intervals of a group of a pool of this kind at its first epoch.
+fn opening(alloc: Global, kind: PoolKind, first: Epoch, members: Membership) -> Intervals<AnyCode>
+    ensures { IsIntervalsOf enough_of is_by_place (begun (code_of kind) first members) result }
+{
+    Intervals::begin(alloc, AnyCode::of_pool(kind), first, members)
+}
+
+/// The kind of the group's pool.
+fn kind_of(map: &OsdMap, pg: &PgId) -> PoolKind
+    requires { HasGroup map.now pg.now }
+    ensures { (incs : List Incremental) → IsMapOf incs map.now
+        → option_map (λ made. made.kind) (pool incs pg.now.pool) ≡ Some result }
+{
+    map.pool(pg.pool).unwrap().kind
+}
+
+/// Where the group lies by the map.
+fn lies_at(map: &OsdMap, pg: &PgId) -> Membership
+    requires { HasGroup map.now pg.now }
+    ensures { (incs : List Incremental) → IsMapOf incs map.now → membership incs pg.now ≡ Some result }
+{
+    up_acting(map, *pg)
+}
+
+/// There is no copy to go by, or the log of this member isn't whole.
+fn nothing_to_go_by(alloc: Global, best: Option<Member>) -> Found
+    ensures best { result.best ≡ best }
+    ensures whole { result.whole ≡ false }
+    ensures states { result.states ≡ [] }
+{
+    Found {
+        best,
+        whole: false,
+        states: Seq::new(alloc),
+    }
+}
+
+/// The members of up and acting, in ascending order: those that a group with no past has to hear.
+fn present_members(
+    alloc: Global,
+    code: &AnyCode,
+    map: &OsdMap,
+    current: &Membership,
+) -> Result<Seq<Member>, AllocError>
+    ensures { IfOk result (λ members. members ≡ ascending is_before
+        (members_of (is_by_place code.now) current.now.up ++ members_of (is_by_place code.now) current.now.acting)) }
+{
+    Ok(prior(alloc, code, &[], current, Epoch::new(0), map)?.probe)
+}
+
+/// The view that is made of these parts.
+fn seen(
+    count: usize,
+    epoch: Epoch,
+    first: Epoch,
+    current: Membership,
+    found: Found,
+    needs: Needs,
+    verdict: Verdict,
+) -> View
+    ensures { (g : GroupLog) → length g.log ≡ count → epoch_of (incs g) ≡ epoch → current_first g.history ≡ first
+        → g.history.current ≡ current → IsFound g found → AreNeeds g needs → verdict_of g ≡ verdict → view_of g ≡ result }
+{
+    View {
+        count,
+        epoch,
+        up: current.up,
+        up_primary: current.up_primary,
+        acting: current.acting,
+        acting_primary: current.acting_primary,
+        first,
+        intervals: needs.intervals,
+        les: needs.les,
+        probe: needs.prior.probe,
+        blocked_by: needs.prior.blocked_by,
+        verdict,
+        best: found.best,
+        missing: found.states,
+    }
+}

@@ -1,0 +1,101 @@
+//! What the definitions say of small logs, one for each cause by which a group may not serve yet and for each report that
+//! plays no part.
+
+ghost use Rattle.std.specs.Prelude.{◌≡◌, [], ◌∷◌, ◌++◌, Some, None, true, false, option_map, codes};
+ghost use Rattle.pgp_code.specs.AnyCode.{enough_of, is_by_place};
+ghost use Rattle.pgp_ids.specs.declared.entry.Entry.TheVariants as entry;
+ghost use Rattle.pgp_ids.specs.declared.peer.PeerState.TheVariants.{Missing};
+ghost use Rattle.pgp_ids.specs.declared.verdict.Verdict.TheVariants as the;
+ghost use Rattle.pgp_interval.specs.Runs.{past_intervals};
+ghost use Rattle.pgp_sets.specs.Examples.{copies_group, shards_group, stands_on, copies_placed, copies_on_three, shards_on_three, take_down, resize, lies_on};
+ghost use Rattle.pgp_group.specs.GroupHistory.{group_history};
+ghost use Rattle.pgp_group.specs.GroupLog.{group_in};
+ghost use Rattle.pgp_group.specs.Heard.{les, heard};
+ghost use Rattle.pgp_group.specs.View.{scratch};
+ghost use Rattle.pgp_group.specs.Examples.{in_slot, at, known_up, was, maps, two_shards_down, copy, copy_up_to, shard, infos_sent, entries_of, entries_of_first, three_writes, peer};
+
+/// A group is short of members where acting has fewer than min_size, or where their slots aren't enough for the code.
+pub fn short_groups()
+    ensures of_members { let log = maps (copies_placed ∷ []) ++ infos_sent (copy 0 1 ∷ []) in
+        option_map (λ view. view.verdict) (scratch log copies_group) ≡ Some the.Short }
+    ensures of_slots { let alone = record (take_down 2 (1 ∷ 2 ∷ [])) { sizes = record { pool = 2; size = 3; min_size = 1 } ∷ [] } in
+        let log = maps (shards_on_three ∷ alone ∷ []) ++ infos_sent (shard 0 0 2 ∷ []) in
+        option_map (λ view. view.verdict) (scratch log shards_group) ≡ Some the.Short }
+{}
+
+/// Where no copy that was heard is complete, there is none to go by.
+pub fn no_complete_copy()
+    ensures verdict { let log = maps (copies_placed ∷ []) ++ infos_sent (record (copy 0 1) { complete = false } ∷ []) in
+        option_map (λ view. view.verdict) (scratch log copies_group) ≡ Some the.Incomplete }
+    ensures best { let log = maps (copies_placed ∷ []) ++ infos_sent (record (copy 0 1) { complete = false } ∷ []) in
+        option_map (λ view. view.best) (scratch log copies_group) ≡ Some None }
+{}
+
+/// When a group last began to serve is told by any info, also by one that isn't counted. A past interval that ended before
+/// plays no part, and one that ended then does.
+pub fn when_a_group_last_began_to_serve()
+    ensures counted { let log = maps (copies_on_three ∷ []) ++ infos_sent (record (copy 0 1) { history_les = 1 } ∷ []) in
+        option_map les (group_in log copies_group) ≡ Some 1 }
+    ensures not_counted { let log = maps (copies_on_three ∷ resize 2 3 1 ∷ []) ++ infos_sent (record (copy 0 1) { history_les = 1 } ∷ []) in
+        option_map les (group_in log copies_group) ≡ Some 1 }
+    ensures not_heard { let log = maps (copies_on_three ∷ resize 2 3 1 ∷ []) ++ infos_sent (record (copy 0 1) { history_les = 1 } ∷ []) in
+        option_map heard (group_in log copies_group) ≡ Some [] }
+    ensures ended_before { let log = maps two_shards_down ++ infos_sent (record (shard 0 0 3) { history_les = 3 } ∷ []) in
+        option_map (λ view. view.blocked_by) (scratch log shards_group) ≡ Some [] }
+    ensures ended_then { let log = maps two_shards_down ++ infos_sent (record (shard 0 0 3) { history_les = 2 } ∷ []) in
+        option_map (λ view. view.blocked_by) (scratch log shards_group) ≡ Some (1 ∷ 2 ∷ []) }
+{}
+
+/// A device that goes down isn't heard any more, though the interval goes on.
+pub fn heard_device_goes_down()
+    ensures before { let log = maps (copies_placed ∷ []) ++ infos_sent (copy 0 1 ∷ copy 2 1 ∷ []) in
+        option_map heard (group_in log copies_group) ≡ Some (copy 0 1 ∷ copy 2 1 ∷ []) }
+    ensures after { let log = maps (copies_placed ∷ []) ++ infos_sent (copy 0 1 ∷ copy 2 1 ∷ [])
+        ++ entry.Inc (take_down 2 (2 ∷ [])) ∷ [] in
+        option_map heard (group_in log copies_group) ≡ Some (copy 0 1 ∷ []) }
+{}
+
+/// The log of the best member is made of what this member itself reported, in reports that count.
+pub fn entries_that_play_no_part()
+    ensures of_another_member { let log = maps (copies_on_three ∷ [])
+        ++ infos_sent (copy_up_to 0 (at 1 3) ∷ copy 1 1 ∷ copy 2 1 ∷ [])
+        ++ entries_of copies_group (in_slot 1 0) three_writes ∷ [] in
+        option_map (λ view. view.verdict) (scratch log copies_group) ≡ Some the.NeedLog }
+    ensures not_counted { let first = record (copy 0 2) { last_update = at 1 3 } in
+        let log = maps (copies_on_three ∷ resize 2 3 1 ∷ [])
+        ++ infos_sent (first ∷ copy 1 2 ∷ copy 2 2 ∷ []) ++ entries_of_first three_writes ∷ [] in
+        option_map (λ view. view.verdict) (scratch log copies_group) ≡ Some the.NeedLog }
+{}
+
+/// Of equal shards that of the acting primary in its place is the best, and not another one of its device.
+pub fn primary_in_its_place()
+    ensures there { let placed = record shards_on_three { temp = stands_on shards_group (Some 5 ∷ Some 1 ∷ Some 2 ∷ []) } in
+        let log = maps (placed ∷ []) ++ infos_sent (shard 1 1 1 ∷ shard 5 0 1 ∷ []) in
+        option_map (λ view. view.best) (scratch log shards_group) ≡ Some (Some (in_slot 5 0)) }
+    ensures elsewhere { let placed = record shards_on_three { temp = stands_on shards_group (Some 5 ∷ Some 1 ∷ Some 2 ∷ []) } in
+        let log = maps (placed ∷ []) ++ infos_sent (shard 1 1 1 ∷ shard 5 2 1 ∷ []) in
+        option_map (λ view. view.best) (scratch log shards_group) ≡ Some (Some (in_slot 1 1)) }
+{}
+
+/// A member of up that doesn't serve is a peer too.
+pub fn peer_of_up()
+    ensures { let placed = record copies_placed { temp = stands_on copies_group (Some 1 ∷ Some 2 ∷ []) } in
+        let log = maps (placed ∷ []) ++ infos_sent (copy 0 1 ∷ copy 1 1 ∷ copy 2 1 ∷ []) in
+        option_map (λ view. view.missing) (scratch log copies_group)
+        ≡ Some (peer (in_slot 0 0) (Missing []) ∷ peer (in_slot 2 0) (Missing []) ∷ []) }
+{}
+
+/// Reports of another group play no part.
+pub fn reports_of_another_group()
+    ensures heard { let other = record (copy 0 1) { pg = record copies_group { pg = 1 }; history_les = 1 } in
+        option_map heard (group_in (maps (copies_on_three ∷ []) ++ infos_sent (other ∷ [])) copies_group) ≡ Some [] }
+    ensures les { let other = record (copy 0 1) { pg = record copies_group { pg = 1 }; history_les = 1 } in
+        option_map les (group_in (maps (copies_on_three ∷ []) ++ infos_sent (other ∷ [])) copies_group) ≡ Some 0 }
+{}
+
+/// An interval in which acting had fewer than min_size members was none of writes, though its primary was known to be up.
+pub fn too_few_to_go_read_write()
+    ensures { option_map (past_intervals enough_of is_by_place)
+        (group_history (copies_placed ∷ known_up 2 0 1 ∷ resize 3 3 1 ∷ []) copies_group)
+        ≡ Some (was 1 2 (lies_on 3 2 (Some 0 ∷ []) (Some 0 ∷ [])) false ∷ []) }
+{}

@@ -1,0 +1,74 @@
+//! How the history of a group grows with the list of incrementals.
+
+ghost use Rattle.std.specs.Prelude.{◌≡◌, ◌≤◌, ◌++◌, ℕ, List, Some, true, length, option_map};
+ghost use Rattle.pgp_code.specs.Pool.{code_of};
+ghost use Rattle.pgp_code.specs.declared.any.AnyCode.{AnyCode};
+ghost use Rattle.pgp_ids.specs.declared.entry.Entry.{Entry};
+ghost use Rattle.pgp_ids.specs.declared.incremental.Incremental.{Incremental};
+ghost use Rattle.pgp_ids.specs.declared.pg_id.PgId.{PgId};
+ghost use Rattle.pgp_interval.specs.History.{History, begun, stepped};
+ghost use Rattle.pgp_map.specs.Checked.{are_checked};
+ghost use Rattle.pgp_map.specs.Map.{epoch, up_to};
+ghost use Rattle.pgp_map.specs.MapFault.{then_with};
+ghost use Rattle.pgp_map.specs.MapOf.{IsMapOf};
+ghost use Rattle.pgp_map.specs.Pools.{pool, has_group};
+ghost use Rattle.pgp_map.specs.declared.map.OsdMap.{OsdMap};
+ghost use Rattle.pgp_sets.specs.Sets.{membership, pool_membership};
+ghost use Rattle.pgp_group.specs.Entries.{incs_of};
+ghost use Rattle.pgp_group.specs.GroupHistory.{AreNumbered, makes, made_at, primary_facts, group_history};
+ghost use Rattle.pgp_group.specs.GroupLog.{GroupLog, group_in};
+ghost use Rattle.pgp_group.specs.GroupOf.{IsGroupOf, Follows};
+ghost use Rattle.pgp_group.specs.Heard.{les};
+ghost use Rattle.pgp_group.specs.declared.group.Group.{Group};
+
+use pgp_map::laws::{checked_lists_grow_by_incrementals_without_fault, pools_of_checked_lists};
+
+/// The epochs of incrementals that were checked one by one are 1, 2, and so on: the last is the number of incrementals, and
+/// the map of that epoch is what they all make.
+pub fn checked_incrementals_are_numbered()
+    ensures counts { (incs : List Incremental) → are_checked incs ≡ true → AreNumbered incs }
+    ensures last { (incs : List Incremental) → are_checked incs ≡ true → epoch incs ≡ length incs }
+    ensures all { (incs : List Incremental) → are_checked incs ≡ true → up_to (epoch incs) incs ≡ incs }
+{
+    checked_lists_grow_by_incrementals_without_fault();
+}
+
+/// A history grows by one state for each incremental: the membership of the new map follows, and what the map before said of
+/// the primary that was acting completes the epoch that was current. A group that is there stays.
+pub fn history_grows_by_one_state()
+    ensures grows { (incs : List Incremental) (inc : Incremental) (pg : PgId) (h : History AnyCode)
+        → are_checked (then_with incs inc) ≡ true → group_history incs pg ≡ Some h
+        → group_history (then_with incs inc) pg
+        ≡ option_map (λ members. stepped h members (primary_facts incs h.current.acting_primary)) (membership (then_with incs inc) pg) }
+    ensures stays { (incs : List Incremental) (inc : Incremental) (pg : PgId) (h : History AnyCode)
+        → are_checked (then_with incs inc) ≡ true → group_history incs pg ≡ Some h
+        → has_group (then_with incs inc) pg ≡ true }
+{
+    checked_lists_grow_by_incrementals_without_fault();
+}
+
+/// A history begins with the epoch that makes the pool, which has no other.
+pub fn history_begins_with_its_pool()
+    ensures made { (incs : List Incremental) (inc : Incremental) (id : ℕ) → makes id inc ≡ true
+        → made_at (then_with incs inc) id ≡ inc.epoch }
+    ensures begins { (incs : List Incremental) (inc : Incremental) (pg : PgId) → makes pg.pool inc ≡ true
+        → has_group (then_with incs inc) pg ≡ true
+        → group_history (then_with incs inc) pg
+        ≡ option_map (λ made. begun (code_of made.kind) inc.epoch (pool_membership (then_with incs inc) pg made)) (pool (then_with incs inc) pg.pool) }
+{}
+
+/// The map that the next incremental makes follows that of a group, so that the group can take it.
+pub fn the_next_map_follows()
+    ensures { (log : List Entry) (pg : PgId) (inc : Incremental) (group : Group) (map : OsdMap) → IsGroupOf log pg group
+        → are_checked (then_with (incs_of log) inc) ≡ true → IsMapOf (then_with (incs_of log) inc) map
+        → Follows group map }
+{
+    checked_lists_grow_by_incrementals_without_fault();
+    pools_of_checked_lists();
+}
+
+/// The last epoch in which a group is known to have begun to serve never falls.
+pub fn serving_is_never_forgotten()
+    ensures { (log later : List Entry) (pg : PgId) (g after : GroupLog) → group_in log pg ≡ Some g
+        → group_in (log ++ later) pg ≡ Some after → les g ≤ les after }
+{}
