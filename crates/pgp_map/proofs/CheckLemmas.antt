@@ -22,15 +22,11 @@ use Rattle.pgp_map.specs.Findings.{first_of, AreFindings}
 use Rattle.pgp_map.specs.MapOf.{IsMapOf}
 use Rattle.pgp_map.specs.MapFault.{map_fault, given_fault, then_with, has_unknown_device, has_already_up, has_already_down, has_still_up, has_up_thru_back, has_ahead, has_bad_pool, has_pool_known, has_bad_temp, has_epoch_gap, has_twice, are_sizes, is_erasure, are_bad_sizes, is_bad_list, is_bad_temp}
 use Rattle.pgp_map.specs.Pools.{pool, with_sizes}
-use Rattle.pgp_map.specs.Last.{last_where}
+use Rattle.pgp_lists.specs.Last.{last_where}
 use Rattle.pgp_map.specs.PoolTable.{or_made}
+use Rattle.pgp_lists.proofs.Lists.{any-same}
 use Rattle.pgp_map.proofs.DeviceLemmas.{is_up-push}
 use Rattle.pgp_map.proofs.MapLemmas.{pool-push}
-
--- tests that say the same of each element say the same of the list
-pub any-same : {X : Type 0} (f g : X → Bool) (xs : List X) → ((x : X) → f x ≡ g x) → list_any f xs ≡ list_any g xs
-any-same f g [] same = refl
-any-same f g (x ∷ xs) same = λ i. same x i || any-same f g xs same i
 
 module _ (incs : List Incremental) (m : OsdMap) (is : IsMapOf incs m) where
   pub exists-is : (osd : ℕ) → (device_at m.devices osd).exists ≡ exists incs osd

@@ -4,15 +4,16 @@ use Rattle.std.specs.Prelude.{nat_eq, Option, Some, None, flat_map}
 use Rattle.std.specs.List.{last_or}
 use Rattle.std.specs.Option.{option_map_or}
 use Rattle.std.proofs.lemmas.List.Elements.{filter-append}
-use Rattle.std.proofs.lemmas.List.{flat_map_more, map-append}
+use Rattle.std.proofs.lemmas.List.{map-append}
 use Rattle.std.proofs.lemmas.List.Sums.{fold-append}
 use Rattle.std.proofs.Common.{append-nil}
 use Rattle.pgp_ids.specs.declared.incremental.DeviceEpoch.{DeviceEpoch}
 use Rattle.pgp_ids.specs.declared.incremental.Incremental.{Incremental}
-use Rattle.pgp_map.specs.Last.{last_where}
+use Rattle.pgp_lists.specs.Last.{last_where}
 use Rattle.pgp_map.specs.Devices.{boots, takes_down, destroys, is_up, greatest_epoch}
 use Rattle.pgp_map.specs.DeviceTable.{Device, device, with_up_thru, with_lost_at, after_up, after_gone, after_down, changed}
-use Rattle.pgp_map.proofs.LastLemmas.{last_where-append, last_where-push}
+use Rattle.pgp_lists.proofs.Last.{last_where-append, last_where-push}
+use Rattle.pgp_lists.proofs.Lists.{flat_map-push}
 
 pub with_up_thru-again : (told : DeviceEpoch) (o : Option DeviceEpoch) (d : Device) → with_up_thru (Some told) (with_up_thru o d) ≡ with_up_thru (Some told) d
 with_up_thru-again told None d = refl
@@ -21,9 +22,6 @@ with_up_thru-again told (Some other) d = refl
 pub with_lost_at-again : (told : DeviceEpoch) (o : Option DeviceEpoch) (d : Device) → with_lost_at (Some told) (with_lost_at o d) ≡ with_lost_at (Some told) d
 with_lost_at-again told None d = refl
 with_lost_at-again told (Some other) d = refl
-
-pub flat_map-push : {X A : Type 0} (f : X → List A) (xs : List X) (x : X) → flat_map f (xs ++ x ∷ []) ≡ flat_map f xs ++ f x
-flat_map-push f xs x = sym (flat_map_more f [] xs x)
 
 -- the default plays no part where there is a last element
 last_or-default : {X Y : Type 0} (h : X → Y) (x : X) (xs : List X) (d e : Y) → option_map_or h (last_or (Some x) xs) d ≡ option_map_or h (last_or (Some x) xs) e

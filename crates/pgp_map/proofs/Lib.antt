@@ -5,6 +5,5 @@ pub mod PoolLemmas
 pub mod WeightLemmas
 pub mod FaultLemmas
 pub mod MapLemmas
-pub mod RepeatLemmas
 pub mod CheckLemmas
 pub mod CheckedLemmas

@@ -6,7 +6,7 @@ use Rattle.pgp_ids.specs.declared.pg_id.PgId.{PgId}
 use Rattle.pgp_ids.specs.declared.pool.PoolSizes.{PoolSizes}
 use Rattle.pgp_ids.specs.declared.pool.PoolSpec.{PoolSpec}
 use Rattle.pgp_ids.specs.declared.incremental.Incremental.{Incremental}
-use Rattle.pgp_map.specs.Last.{last_where}
+use Rattle.pgp_lists.specs.Last.{last_where}
 
 -- the pool with these sizes, where there are some
 abbrev pub with_sizes : Option PoolSizes → PoolSpec → PoolSpec

@@ -2,7 +2,7 @@
 
 ghost use Rattle.std.specs.Prelude.{◌≡◌, ℕ, true, max, nat_eq, OnOk, if◌then◌else◌};
 ghost use Rattle.std.specs.List.{list_any};
-ghost use Rattle.pgp_map.specs.Last.{last_where};
+ghost use Rattle.pgp_lists.specs.Last.{last_where};
 ghost use Rattle.pgp_map.specs.DeviceTable.{absent, device_at, has_place, booted, downed, destroyed, with_up_thru, with_lost_at, changed, HasPlaces};
 
 use super::device::Device;

@@ -3,7 +3,7 @@
 ghost use Rattle.std.specs.Prelude.{◌≡◌, ℕ, ◌-◌, ◌≤◌, ◌^◌, min, length, nat_eq, sum_by, option_map, Some, if◌then◌else◌};
 ghost use Rattle.std.specs.HashMap as hash;
 ghost use Rattle.std.specs.HashMap.{spare};
-ghost use Rattle.pgp_map.specs.Last.{last_where};
+ghost use Rattle.pgp_lists.specs.Last.{last_where};
 ghost use Rattle.pgp_map.specs.Pools.{with_sizes};
 ghost use Rattle.pgp_map.specs.PoolTable.{or_made};
 

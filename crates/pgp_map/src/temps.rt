@@ -3,7 +3,7 @@
 ghost use Rattle.std.specs.Prelude.{◌≡◌, ◌≤◌, ℕ, List, Option, true, OnOk, length, take, if◌then◌else◌};
 ghost use Rattle.std.specs.List.{list_any};
 ghost use Rattle.pgp_ids.specs.declared.pg_id.PgId.{PgId as Group};
-ghost use Rattle.pgp_map.specs.Last.{last_where};
+ghost use Rattle.pgp_lists.specs.Last.{last_where};
 ghost use Rattle.pgp_map.specs.Pools.{is_same_group};
 ghost use Rattle.pgp_map.specs.TempTable.{temp_at, has_temp, with_temp};
 

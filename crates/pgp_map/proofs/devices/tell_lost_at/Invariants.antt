@@ -1,6 +1,6 @@
 use Rattle.std.proofs.Common.{◌≡◌, ℕ, nat_eq, take}
 use Rattle.pgp_map.specs.DeviceTable.{device_at, has_place, with_lost_at}
-use Rattle.pgp_map.specs.Last.{last_where}
+use Rattle.pgp_lists.specs.Last.{last_where}
 use Rattle.pgp_map.proofs.devices.tell_lost_at.Given as goal
 
 abbrev pub invariant-loop-entry : goal.invariant-loop-entry

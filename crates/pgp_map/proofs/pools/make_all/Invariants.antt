@@ -1,7 +1,7 @@
 use Rattle.std.proofs.Common.{◌≡◌, ◌≤◌, ◌+◌, ℕ, nat_eq, take, length}
 use Rattle.std.specs.HashMap as hash
 use Rattle.std.specs.HashMap.{spare}
-use Rattle.pgp_map.specs.Last.{last_where}
+use Rattle.pgp_lists.specs.Last.{last_where}
 use Rattle.pgp_map.specs.PoolTable.{or_made}
 use Rattle.pgp_map.proofs.pools.make_all.Given as goal
 

@@ -1,7 +1,7 @@
 use Rattle.std.proofs.Common.{◌≡◌, ℕ, nat_eq, take}
 use Rattle.std.specs.Prelude.{option_map}
 use Rattle.std.specs.HashMap as hash
-use Rattle.pgp_map.specs.Last.{last_where}
+use Rattle.pgp_lists.specs.Last.{last_where}
 use Rattle.pgp_map.specs.Pools.{with_sizes}
 use Rattle.pgp_map.proofs.pools.resize_all.Given as goal
 

@@ -1,6 +1,6 @@
 use Rattle.std.proofs.Common.{nat_eq, arith}
 use Rattle.pgp_map.proofs.Tables.{nat_eq-sym}
-use Rattle.pgp_map.proofs.RepeatLemmas.{seen-more}
+use Rattle.pgp_lists.proofs.Repeats.{seen-more}
 use Rattle.pgp_map.proofs.repeats.set_of.Goals as goal
 
 pub loop-device-preserved : goal.loop-device-preserved

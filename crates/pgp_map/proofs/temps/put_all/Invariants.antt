@@ -1,6 +1,6 @@
 use Rattle.std.proofs.Common.{◌≡◌, true, take}
 use Rattle.pgp_ids.specs.declared.pg_id.PgId.{PgId}
-use Rattle.pgp_map.specs.Last.{last_where}
+use Rattle.pgp_lists.specs.Last.{last_where}
 use Rattle.pgp_map.specs.Pools.{is_same_group}
 use Rattle.pgp_map.specs.TempTable.{temp_at, has_temp, with_temp}
 use Rattle.pgp_map.proofs.temps.put_all.Given as goal
