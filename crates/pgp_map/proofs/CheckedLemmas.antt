@@ -1,6 +1,6 @@
 -- What holds of a list of incrementals, each of which was checked when it came.
-use Rattle.std.proofs.Common.{◌≡◌, ℕ, zero, suc, ◌+◌, ◌<◌, ◌≤◌, List, [], ◌∷◌, ◌++◌, Option, Some, None, is_none, is_some, Bool, true, false, not, ◌&&◌, length, take, nat_eq, refl, ap, ap₂, sym, ◌∙◌, subst, inl, inr, arith}
-use Rattle.std.specs.List.{list_any, list_all, range_with_len, slice_get}
+use Rattle.std.proofs.Common.{◌≡◌, ℕ, ◌≤◌, List, [], ◌++◌, Option, Some, None, is_none, is_some, Bool, true, false, not, ◌&&◌, nat_eq, refl, ap, sym, ◌∙◌, subst, arith}
+use Rattle.std.specs.List.{list_any}
 use Rattle.std.specs.Option.{option_map, option_map_or}
 use Rattle.std.specs.Prelude.{flat_map, nat_lt, nat_le}
 use Rattle.std.proofs.lemmas.Bool.{and_parts, eqb-true, ltb-false, not-false, or_parts}
@@ -12,17 +12,16 @@ use Rattle.pgp_ids.specs.declared.pool.PoolKind.{PoolKind}
 use Rattle.pgp_ids.specs.declared.pool.PoolKind.TheVariants.{Replicated, Erasure}
 use Rattle.pgp_ids.specs.declared.pool.PoolSizes.{PoolSizes}
 use Rattle.pgp_ids.specs.declared.pool.PoolSpec.{PoolSpec}
-use Rattle.pgp_map.specs.declared.fault.MapFault.{MapFault}
 use Rattle.pgp_map.specs.declared.map.OsdMap.{OsdMap}
 use Rattle.pgp_map.specs.Checked.{is_faultless, are_checked}
 use Rattle.pgp_map.specs.Devices.{up_thru}
 use Rattle.pgp_map.specs.Held.{is_group_of, HasGroup}
 use Rattle.pgp_map.specs.HeldLaws.{held_pool-is}
 use Rattle.pgp_lists.specs.Last.{last_where}
-use Rattle.pgp_map.specs.MapFault.{map_fault, then_with, is_pool, is_within, is_kind, is_erasure, are_sizes, are_bad_sizes, has_bad_pool, has_up_thru_back}
+use Rattle.pgp_map.specs.MapFault.{map_fault, then_with, is_pool, is_within, is_kind, is_erasure, are_sizes, are_bad_sizes, has_bad_pool}
 use Rattle.pgp_map.specs.MapOf.{IsMapOf}
 use Rattle.pgp_map.specs.Pools.{pool, with_sizes, has_group}
-use Rattle.pgp_map.specs.PoolTable.{or_made}
+use Rattle.pgp_tables.specs.PoolTable.{or_made}
 use Rattle.pgp_lists.proofs.Bools.{and3_parts, or3_parts}
 use Rattle.pgp_lists.proofs.Last.{last_found}
 use Rattle.pgp_lists.proofs.Options.{none_is}

@@ -1,7 +1,4 @@
-pub mod Tables
-pub mod LastLemmas
 pub mod DeviceLemmas
-pub mod PoolLemmas
 pub mod WeightLemmas
 pub mod FaultLemmas
 pub mod MapLemmas

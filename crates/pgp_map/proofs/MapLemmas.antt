@@ -22,8 +22,8 @@ use Rattle.pgp_lists.specs.Last.{last_where}
 use Rattle.pgp_map.specs.Map.{epoch, tree}
 use Rattle.pgp_map.specs.MapFault.{then_with, has_bad_pool, has_pool_known, is_bad_temp, are_bad_sizes, are_sizes, is_pool, is_erasure, has_bad_places}
 use Rattle.pgp_map.specs.Pools.{pool, temp, with_sizes, group_count, is_same_group}
-use Rattle.pgp_map.specs.PoolTable.{or_made}
-use Rattle.pgp_map.specs.TempTable.{with_temp}
+use Rattle.pgp_tables.specs.PoolTable.{or_made}
+use Rattle.pgp_tables.specs.TempTable.{with_temp}
 use Rattle.pgp_map.specs.WeightTable.{with_weight}
 use Rattle.pgp_map.proofs.DeviceLemmas.{told-push}
 use Rattle.pgp_lists.proofs.Bools.{or3_parts}

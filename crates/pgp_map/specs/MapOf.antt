@@ -4,12 +4,13 @@ use Rattle.std.specs.HashMap as hash
 use Rattle.pgp_ids.specs.declared.incremental.Incremental.{Incremental}
 use Rattle.pgp_ids.specs.declared.pg_id.PgId.{PgId}
 use Rattle.pgp_map.specs.declared.map.OsdMap.{OsdMap}
-use Rattle.pgp_map.specs.DeviceTable.{device, device_at}
+use Rattle.pgp_tables.specs.DeviceTable.{device_at}
+use Rattle.pgp_map.specs.Devices.{device}
 use Rattle.pgp_map.specs.Devices.{weight}
 use Rattle.pgp_lists.specs.Last.{last_where}
 use Rattle.pgp_map.specs.Map.{epoch, tree}
 use Rattle.pgp_map.specs.Pools.{pool, temp, group_count}
-use Rattle.pgp_map.specs.TempTable.{temp_at}
+use Rattle.pgp_tables.specs.TempTable.{temp_at}
 use Rattle.pgp_map.specs.WeightTable.{weight_in}
 
 -- the map says what these incrementals say, oldest first; and a pool that isn't there was given no sizes

@@ -13,14 +13,14 @@ ghost use Rattle.std.specs.HashSet as bag;
 ghost use Rattle.std.specs.List.{list_any};
 ghost use Rattle.pgp_map.specs.Findings.{AreFindings};
 
-use super::device::Device;
 use super::fault::MapFault;
 use super::findings::Findings;
 use super::trees::{check_tree, given_tree};
 use super::weights::Weights;
-use super::{devices, pools, ranges, repeats, standing, temp_check, temps};
+use super::{ranges, repeats, standing, temp_check};
 use pgp_crush::Tree;
 use pgp_ids::{Epoch, Incremental, OsdId, Osds, PgId, PoolId, PoolSpec};
+use pgp_tables::{Device, devices, pools, temps};
 use std::alloc::{AllocError, Global};
 use std::collections::{HashMap, HashSet};
 

@@ -32,7 +32,9 @@ pub(crate) fn has_twice(alloc: Global, inc: &Incremental) -> Result<bool, AllocE
 fn changes_twice(alloc: Global, inc: &Incremental) -> Result<bool, AllocError>
     ensures { IfOk result (λ twice. twice ≡ has_repeat nat_eq (inc.now.up ++ inc.now.down ++ inc.now.gone)) }
 {
-    let osds = changed_devices(alloc, inc)?;
+    let mut osds = Vec::from_slice(alloc, inc.up.as_slice())?;
+    osds.extend_from_slice(inc.down.as_slice())?;
+    osds.extend_from_slice(inc.gone.as_slice())?;
     has_repeat(alloc, &osds)
 }
 
@@ -64,18 +66,11 @@ fn sizes_twice(alloc: Global, made: &[PoolSpec], sizes: &[PoolSizes]) -> Result<
 fn lists_twice(alloc: Global, temps: &[TempList]) -> Result<bool, AllocError>
     ensures { IfOk result (λ twice. twice ≡ has_repeat is_same_group (map (λ given. given.pg) temps.now)) }
 {
-    let groups = named_groups(alloc, temps)?;
+    let mut groups = Vec::new(alloc);
+    for given in temps {
+        groups.push(given.pg)?;
+    }
     has_repeat(alloc, &groups)
-}
-
-/// The devices that boot, are taken down or are destroyed.
-fn changed_devices(alloc: Global, inc: &Incremental) -> Result<Vec<OsdId>, AllocError>
-    ensures { IfOk result (λ osds. osds.items ≡ inc.now.up ++ inc.now.down ++ inc.now.gone) }
-{
-    let mut osds = Vec::from_slice(alloc, inc.up.as_slice())?;
-    osds.extend_from_slice(inc.down.as_slice())?;
-    osds.extend_from_slice(inc.gone.as_slice())?;
-    Ok(osds)
 }
 
 /// The devices of which something else is told.
@@ -139,17 +134,6 @@ fn made_pools(alloc: Global, made: &[PoolSpec]) -> Result<Vec<PoolId>, AllocErro
         pools.push(pool.id)?;
     }
     Ok(pools)
-}
-
-/// The groups that are given pg_temp lists.
-fn named_groups(alloc: Global, temps: &[TempList]) -> Result<Vec<PgId>, AllocError>
-    ensures { IfOk result (λ groups. groups.items ≡ map (λ given. given.pg) temps.now) }
-{
-    let mut groups = Vec::new(alloc);
-    for given in temps {
-        groups.push(given.pg)?;
-    }
-    Ok(groups)
 }
 
 /// The set of the devices that are taken down or destroyed.

@@ -6,7 +6,7 @@ ghost use Rattle.std.specs.HashMap as hash;
 ghost use Rattle.pgp_lists.specs.Last.{last_where};
 ghost use Rattle.pgp_map.specs.MapFault.{is_bad_list, has_bad_places};
 ghost use Rattle.pgp_map.specs.Pools.{with_sizes};
-ghost use Rattle.pgp_map.specs.PoolTable.{or_made, new_pool};
+ghost use Rattle.pgp_tables.specs.PoolTable.{or_made, new_pool};
 
 use super::ranges::is_erasure;
 use pgp_ids::{MAX_OSDS, OsdId, PoolId, PoolSizes, PoolSpec, TempList};

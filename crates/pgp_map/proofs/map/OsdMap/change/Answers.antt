@@ -1,12 +1,12 @@
 use Rattle.std.proofs.Common.{◌∙◌, ap, sym, nat_eq}
-use Rattle.pgp_map.specs.DeviceTable.{changed}
+use Rattle.pgp_tables.specs.DeviceTable.{changed}
 use Rattle.pgp_lists.specs.Last.{last_where}
 use Rattle.std.specs.Prelude.{Option, option_map}
 use Rattle.std.specs.Option.{option_or}
 use Rattle.pgp_ids.specs.declared.pool.PoolSpec.{PoolSpec}
-use Rattle.pgp_map.specs.PoolTable.{or_made}
+use Rattle.pgp_tables.specs.PoolTable.{or_made}
 use Rattle.pgp_map.specs.Pools.{is_same_group, with_sizes}
-use Rattle.pgp_map.specs.TempTable.{with_temp}
+use Rattle.pgp_tables.specs.TempTable.{with_temp}
 use Rattle.pgp_map.specs.WeightTable.{with_weight}
 use Rattle.pgp_map.proofs.DeviceLemmas.{device-push}
 use Rattle.pgp_map.proofs.FaultLemmas.{no_fault}
