@@ -1,5 +1,5 @@
 -- What the tests of a map's tables say of the incrementals that made it.
-use Rattle.std.proofs.Common.{◌≡◌, ◌+◌, ◌-◌, ◌^◌, ℕ, List, [], ◌∷◌, ◌++◌, Bool, true, false, ◌||◌, ◌&&◌, not, cond, refl, ap, sym, ◌∙◌, min, arith}
+use Rattle.std.proofs.Common.{◌≡◌, ◌+◌, ◌-◌, ◌^◌, ℕ, List, ◌++◌, Bool, true, false, ◌||◌, ◌&&◌, not, cond, refl, ap, sym, ◌∙◌, min, arith}
 use Rattle.std.proofs.lemmas.Bool.Decides.{nat_tests}
 use Rattle.std.specs.Prelude.{Result, Ok, Err, OnOk, IfErr}
 use Rattle.std.proofs.Common.{◌⊎◌, inl, inr}
@@ -16,21 +16,18 @@ use Rattle.pgp_map.specs.declared.findings.Findings.{Findings}
 use Rattle.pgp_map.specs.declared.fault.MapFault.{MapFault}
 use Rattle.pgp_map.specs.declared.fault.MapFault.TheVariants.{EpochGap, Twice, UnknownDevice, AlreadyUp, AlreadyDown, StillUp, UpThruBack, Ahead, BadPool, PoolKnown, BadTemp}
 use Rattle.pgp_map.specs.declared.map.OsdMap.{OsdMap}
-use Rattle.pgp_map.specs.DeviceTable.{Device, device_at}
+use Rattle.pgp_tables.specs.declared.device.Device.{Device}
+use Rattle.pgp_tables.specs.DeviceTable.{device_at}
 use Rattle.pgp_map.specs.Devices.{boots, takes_down, destroys, exists, is_up, up_thru}
 use Rattle.pgp_map.specs.Findings.{first_of, AreFindings}
 use Rattle.pgp_map.specs.MapOf.{IsMapOf}
 use Rattle.pgp_map.specs.MapFault.{map_fault, given_fault, then_with, has_unknown_device, has_already_up, has_already_down, has_still_up, has_up_thru_back, has_ahead, has_bad_pool, has_pool_known, has_bad_temp, has_epoch_gap, has_twice, are_sizes, is_erasure, are_bad_sizes, is_bad_list, is_bad_temp}
 use Rattle.pgp_map.specs.Pools.{pool, with_sizes}
-use Rattle.pgp_map.specs.Last.{last_where}
-use Rattle.pgp_map.specs.PoolTable.{or_made}
+use Rattle.pgp_lists.specs.Last.{last_where}
+use Rattle.pgp_tables.specs.PoolTable.{or_made}
+use Rattle.pgp_lists.proofs.Lists.{any-same}
 use Rattle.pgp_map.proofs.DeviceLemmas.{is_up-push}
 use Rattle.pgp_map.proofs.MapLemmas.{pool-push}
-
--- tests that say the same of each element say the same of the list
-pub any-same : {X : Type 0} (f g : X → Bool) (xs : List X) → ((x : X) → f x ≡ g x) → list_any f xs ≡ list_any g xs
-any-same f g [] same = refl
-any-same f g (x ∷ xs) same = λ i. same x i || any-same f g xs same i
 
 module _ (incs : List Incremental) (m : OsdMap) (is : IsMapOf incs m) where
   pub exists-is : (osd : ℕ) → (device_at m.devices osd).exists ≡ exists incs osd

@@ -1,29 +1,21 @@
 -- What an incremental changes of a device.
-use Rattle.std.proofs.Common.{◌≡◌, ℕ, List, [], ◌∷◌, ◌++◌, Bool, true, false, ◌||◌, cond, refl, ap, sym, ◌∙◌, max, map, filter, fold}
+use Rattle.std.proofs.Common.{◌≡◌, ℕ, List, [], ◌∷◌, ◌++◌, Bool, true, false, ◌||◌, cond, refl, ap, ◌∙◌, max, map, filter, fold}
 use Rattle.std.specs.Prelude.{nat_eq, Option, Some, None, flat_map}
 use Rattle.std.specs.List.{last_or}
 use Rattle.std.specs.Option.{option_map_or}
 use Rattle.std.proofs.lemmas.List.Elements.{filter-append}
-use Rattle.std.proofs.lemmas.List.{flat_map_more, map-append}
+use Rattle.std.proofs.lemmas.List.{map-append}
 use Rattle.std.proofs.lemmas.List.Sums.{fold-append}
 use Rattle.std.proofs.Common.{append-nil}
 use Rattle.pgp_ids.specs.declared.incremental.DeviceEpoch.{DeviceEpoch}
 use Rattle.pgp_ids.specs.declared.incremental.Incremental.{Incremental}
-use Rattle.pgp_map.specs.Last.{last_where}
+use Rattle.pgp_lists.specs.Last.{last_where}
 use Rattle.pgp_map.specs.Devices.{boots, takes_down, destroys, is_up, greatest_epoch}
-use Rattle.pgp_map.specs.DeviceTable.{Device, device, with_up_thru, with_lost_at, after_up, after_gone, after_down, changed}
-use Rattle.pgp_map.proofs.LastLemmas.{last_where-append, last_where-push}
-
-pub with_up_thru-again : (told : DeviceEpoch) (o : Option DeviceEpoch) (d : Device) → with_up_thru (Some told) (with_up_thru o d) ≡ with_up_thru (Some told) d
-with_up_thru-again told None d = refl
-with_up_thru-again told (Some other) d = refl
-
-pub with_lost_at-again : (told : DeviceEpoch) (o : Option DeviceEpoch) (d : Device) → with_lost_at (Some told) (with_lost_at o d) ≡ with_lost_at (Some told) d
-with_lost_at-again told None d = refl
-with_lost_at-again told (Some other) d = refl
-
-pub flat_map-push : {X A : Type 0} (f : X → List A) (xs : List X) (x : X) → flat_map f (xs ++ x ∷ []) ≡ flat_map f xs ++ f x
-flat_map-push f xs x = sym (flat_map_more f [] xs x)
+use Rattle.pgp_tables.specs.declared.device.Device.{Device}
+use Rattle.pgp_tables.specs.DeviceTable.{with_up_thru, with_lost_at, after_up, after_gone, after_down, changed}
+use Rattle.pgp_map.specs.Devices.{device}
+use Rattle.pgp_lists.proofs.Last.{last_where-append, last_where-push}
+use Rattle.pgp_lists.proofs.Lists.{flat_map-push}
 
 -- the default plays no part where there is a last element
 last_or-default : {X Y : Type 0} (h : X → Y) (x : X) (xs : List X) (d e : Y) → option_map_or h (last_or (Some x) xs) d ≡ option_map_or h (last_or (Some x) xs) e
@@ -61,6 +53,14 @@ greatest-push test incs inc = ap greatest_epoch (filter-append test incs (inc �
         ap (fold max 0) (map-append (λ i. i.epoch) (filter test incs) (inc ∷ [])) ∙ fold-append max 0 (map (λ i. i.epoch) (filter test incs)) (inc.epoch ∷ [])
     by_test false = ap greatest_epoch (append-nil (filter test incs))
 
+-- a device of which an up_thru and a loss are told, where they are
+told-is : (thru lost : Option DeviceEpoch) (d : Device)
+    → record d { up_thru = option_map_or (λ entry. entry.epoch) thru d.up_thru; lost_at = option_map_or (λ entry. entry.epoch) lost d.lost_at } ≡ with_lost_at lost (with_up_thru thru d)
+told-is None None d = refl
+told-is None (Some y) d = refl
+told-is (Some x) None d = refl
+told-is (Some x) (Some y) d = refl
+
 -- the facts of a device after an incremental, joined
 fields : (b t g : Bool) (thru lost : Option DeviceEpoch) (epoch : ℕ) (d : Device) →
     let r : Device = record {
@@ -72,38 +72,14 @@ fields : (b t g : Bool) (thru lost : Option DeviceEpoch) (epoch : ℕ) (d : Devi
       lost_at = option_map_or (λ entry. entry.epoch) lost d.lost_at;
     } in
     r ≡ with_lost_at lost (with_up_thru thru (after_up b epoch (after_gone g (after_down t epoch d))))
-fields true true true None None epoch d = refl
-fields true true true None (Some y) epoch d = refl
-fields true true true (Some x) None epoch d = refl
-fields true true true (Some x) (Some y) epoch d = refl
-fields true true false None None epoch d = refl
-fields true true false None (Some y) epoch d = refl
-fields true true false (Some x) None epoch d = refl
-fields true true false (Some x) (Some y) epoch d = refl
-fields true false true None None epoch d = refl
-fields true false true None (Some y) epoch d = refl
-fields true false true (Some x) None epoch d = refl
-fields true false true (Some x) (Some y) epoch d = refl
-fields true false false None None epoch d = refl
-fields true false false None (Some y) epoch d = refl
-fields true false false (Some x) None epoch d = refl
-fields true false false (Some x) (Some y) epoch d = refl
-fields false true true None None epoch d = refl
-fields false true true None (Some y) epoch d = refl
-fields false true true (Some x) None epoch d = refl
-fields false true true (Some x) (Some y) epoch d = refl
-fields false true false None None epoch d = refl
-fields false true false None (Some y) epoch d = refl
-fields false true false (Some x) None epoch d = refl
-fields false true false (Some x) (Some y) epoch d = refl
-fields false false true None None epoch d = refl
-fields false false true None (Some y) epoch d = refl
-fields false false true (Some x) None epoch d = refl
-fields false false true (Some x) (Some y) epoch d = refl
-fields false false false None None epoch d = refl
-fields false false false None (Some y) epoch d = refl
-fields false false false (Some x) None epoch d = refl
-fields false false false (Some x) (Some y) epoch d = refl
+fields true true true thru lost epoch d = told-is thru lost (after_up true epoch (after_gone true (after_down true epoch d)))
+fields true true false thru lost epoch d = told-is thru lost (after_up true epoch (after_gone false (after_down true epoch d)))
+fields true false true thru lost epoch d = told-is thru lost (after_up true epoch (after_gone true (after_down false epoch d)))
+fields true false false thru lost epoch d = told-is thru lost (after_up true epoch (after_gone false (after_down false epoch d)))
+fields false true true thru lost epoch d = told-is thru lost (after_up false epoch (after_gone true (after_down true epoch d)))
+fields false true false thru lost epoch d = told-is thru lost (after_up false epoch (after_gone false (after_down true epoch d)))
+fields false false true thru lost epoch d = told-is thru lost (after_up false epoch (after_gone true (after_down false epoch d)))
+fields false false false thru lost epoch d = told-is thru lost (after_up false epoch (after_gone false (after_down false epoch d)))
 
 pub device-push : (incs : List Incremental) (inc : Incremental) (osd : ℕ) → device (incs ++ inc ∷ []) osd ≡ changed inc osd (device incs osd)
 device-push incs inc osd =

@@ -1,10 +1,6 @@
-pub mod Tables
-pub mod LastLemmas
 pub mod DeviceLemmas
-pub mod PoolLemmas
 pub mod WeightLemmas
 pub mod FaultLemmas
 pub mod MapLemmas
-pub mod RepeatLemmas
 pub mod CheckLemmas
 pub mod CheckedLemmas

@@ -2,8 +2,8 @@
 use Rattle.std.proofs.Common.{◌≡◌, ◌≤◌, ◌+◌, ◌-◌, ◌^◌, ℕ, List, [], ◌∷◌, ◌++◌, Bool, true, false, not, refl, ap, sym, ◌∙◌, map, filter, take, min, length, arith}
 use Rattle.std.specs.Prelude.{Option, Some, None, is_some, nat_eq, nat_lt, flat_map, filter_map, option_map, sum_by}
 use Rattle.std.specs.List.{list_any, last_or}
-use Rattle.std.specs.Option.{option_map_or}
-use Rattle.std.proofs.lemmas.Bool.{eqb-true, ltb-false}
+use Rattle.std.specs.Option.{option_map_or, option_or}
+use Rattle.std.proofs.lemmas.Bool.{eqb-true, ltb-false, or_parts}
 use Rattle.std.proofs.lemmas.List.{take_all}
 use Rattle.std.specs.List.{cons_option}
 use Rattle.std.specs.Prelude.{◌&&◌}
@@ -18,16 +18,19 @@ use Rattle.pgp_ids.specs.declared.pg_id.PgId.{PgId}
 use Rattle.pgp_ids.specs.declared.pool.PoolSizes.{PoolSizes}
 use Rattle.pgp_ids.specs.declared.pool.PoolSpec.{PoolSpec}
 use Rattle.pgp_map.specs.Devices.{weight}
-use Rattle.pgp_map.specs.Last.{last_where}
+use Rattle.pgp_lists.specs.Last.{last_where}
 use Rattle.pgp_map.specs.Map.{epoch, tree}
-use Rattle.pgp_map.specs.MapFault.{then_with, has_bad_pool, has_pool_known, is_bad_temp, are_bad_sizes, are_sizes, is_pool, is_erasure, has_repeat, has_bad_places}
+use Rattle.pgp_map.specs.MapFault.{then_with, has_bad_pool, has_pool_known, is_bad_temp, are_bad_sizes, are_sizes, is_pool, is_erasure, has_bad_places}
 use Rattle.pgp_map.specs.Pools.{pool, temp, with_sizes, group_count, is_same_group}
-use Rattle.pgp_map.specs.PoolTable.{or_made}
-use Rattle.pgp_map.specs.TempTable.{with_temp}
+use Rattle.pgp_tables.specs.PoolTable.{or_made}
+use Rattle.pgp_tables.specs.TempTable.{with_temp}
 use Rattle.pgp_map.specs.WeightTable.{with_weight}
-use Rattle.pgp_map.proofs.DeviceLemmas.{flat_map-push, told-push}
-use Rattle.pgp_map.proofs.FaultLemmas.{NoFault, or_false, or3_false, or4_false, last_found}
-use Rattle.pgp_map.proofs.LastLemmas.{last_or-append, last_where-append}
+use Rattle.pgp_map.proofs.DeviceLemmas.{told-push}
+use Rattle.pgp_lists.proofs.Bools.{or3_parts}
+use Rattle.pgp_lists.proofs.Lists.{flat_map-push}
+use Rattle.pgp_lists.specs.Repeats.{has_repeat}
+use Rattle.pgp_map.proofs.FaultLemmas.{NoFault}
+use Rattle.pgp_lists.proofs.Last.{last_or-append, last_where-append, last_found}
 
 pub epoch-push : (incs : List Incremental) (inc : Incremental) → epoch (then_with incs inc) ≡ inc.epoch
 epoch-push incs inc = ap (λ (o : Option Incremental). option_map_or (λ i. i.epoch) o 0) (last_or-append None incs (inc ∷ []))
@@ -42,21 +45,16 @@ weight-push incs inc osd =
     is None d = refl
     is (Some entry) d = refl
 
--- the first, or else the second
-abbrev pub either : {X : Type 0} → Option X → Option X → Option X
-either None o = o
-either (Some x) o = Some x
-
-either_last : {X : Type 0} (x : X) (xs : List X) (o : Option X) → either (last_or (Some x) xs) o ≡ last_or (Some x) xs
+either_last : {X : Type 0} (x : X) (xs : List X) (o : Option X) → option_or (last_or (Some x) xs) o ≡ last_or (Some x) xs
 either_last x [] o = refl
 either_last x (y ∷ ys) o = either_last y ys o
 
-last_or-either : {X : Type 0} (o : Option X) (xs : List X) → last_or o xs ≡ either (last_or None xs) o
+last_or-either : {X : Type 0} (o : Option X) (xs : List X) → last_or o xs ≡ option_or (last_or None xs) o
 last_or-either o [] = refl
 last_or-either o (x ∷ xs) = sym (either_last x xs o)
 
 last-push : {E : Type 0} (test : E → Bool) (f : Incremental → List E) (incs : List Incremental) (inc : Incremental)
-    → last_where test (flat_map f (incs ++ inc ∷ [])) ≡ either (last_where test (f inc)) (last_where test (flat_map f incs))
+    → last_where test (flat_map f (incs ++ inc ∷ [])) ≡ option_or (last_where test (f inc)) (last_where test (flat_map f incs))
 last-push test f incs inc =
     ap (last_where test) (flat_map-push f incs inc) ∙ last_where-append test (flat_map f incs) (f inc)
     ∙ last_or-either (last_where test (flat_map f incs)) (filter test (f inc))
@@ -85,7 +83,7 @@ pool-push incs inc id known unsized =
     none (Some x) e = cc
 
     joined : (z s : Option PoolSizes) (m p : Option PoolSpec) → ((made : PoolSpec) → m ≡ Some made → s ≡ None)
-        → option_map (with_sizes (either z s)) (either m p) ≡ option_map (with_sizes z) (or_made m (option_map (with_sizes s) p))
+        → option_map (with_sizes (option_or z s)) (option_or m p) ≡ option_map (with_sizes z) (or_made m (option_map (with_sizes s) p))
     joined None None (Some m) p unsized = refl
     joined None (Some s) (Some m) p unsized = let no = unsized m refl in cc
     joined (Some z) s (Some m) p unsized = refl
@@ -105,8 +103,8 @@ temp-push incs inc pg fine =
     short given (last_found (is_bad_temp (then_with incs inc)) (λ given. is_same_group given.pg pg) inc.temp given fine.temps e).1)
   where
     short : (given : TempList) → is_bad_temp (then_with incs inc) given ≡ false → take 16 given.osds ≡ given.osds
-    short given good = take_all 16 given.osds (ltb-false 16 (length given.osds) (or4_false (not (option_map_or (λ made. nat_lt given.pg.pg made.pg_num) (pool (then_with incs inc) given.pg.pool) false)) (nat_lt 16 (length given.osds)) (has_repeat nat_eq (filter_map (λ place. place) given.osds))
-        (option_map_or (λ made. has_bad_places made given.osds) (pool (then_with incs inc) given.pg.pool) true) good).1)
+    short given good = take_all 16 given.osds (ltb-false 16 (length given.osds) (or3_parts (not (option_map_or (λ made. nat_lt given.pg.pg made.pg_num) (pool (then_with incs inc) given.pg.pool) false)) (nat_lt 16 (length given.osds)) (has_repeat nat_eq (filter_map (λ place. place) given.osds))
+        (or_parts _ (option_map_or (λ made. has_bad_places made given.osds) (pool (then_with incs inc) given.pg.pool) true) good).0).1)
 
     is : (o : Option TempList) (d : List (Option ℕ)) → ((given : TempList) → o ≡ Some given → take 16 given.osds ≡ given.osds)
         → option_map_or (λ given. given.osds) o d ≡ with_temp o d
@@ -117,7 +115,7 @@ pools_fine : (incs : List Incremental) (inc : Incremental) → has_bad_pool incs
     → (list_any (λ made. not (is_pool made)) inc.pools ≡ false) × (list_any (are_bad_sizes incs) inc.sizes ≡ false)
     × (nat_lt 16384 (group_count incs + sum_by (λ made. made.pg_num) inc.pools) ≡ false)
 pools_fine incs inc e =
-    or3_false (list_any (λ made. not (is_pool made)) inc.pools) (list_any (are_bad_sizes incs) inc.sizes)
+    or3_parts (list_any (λ made. not (is_pool made)) inc.pools) (list_any (are_bad_sizes incs) inc.sizes)
     (nat_lt 16384 (group_count incs + sum_by (λ made. made.pg_num) inc.pools)) e
 
 pub count-push : (incs : List Incremental) (inc : Incremental) → NoFault incs inc
@@ -129,23 +127,15 @@ count-push incs inc fine =
     ap (sum_by (λ made. made.pg_num)) (flat_map-push (λ inc. inc.pools) incs inc) ∙ sum_by-append (λ made. made.pg_num) (flat_map (λ inc. inc.pools) incs) inc.pools in
     omega (arith, few, both)
 
-pub tree-push : (incs : List Incremental) (inc : Incremental) → tree (then_with incs inc) ≡ either (option_map (map bucket_of) inc.crush) (tree incs)
+pub tree-push : (incs : List Incremental) (inc : Incremental) → tree (then_with incs inc) ≡ option_or (option_map (map bucket_of) inc.crush) (tree incs)
 tree-push incs inc =
     ap (λ (o : Option (List BucketSpec)). option_map (map bucket_of) o)
     (ap (last_or None) (filter_map-append (λ inc. inc.crush) incs (inc ∷ [])) ∙ last_or-append None (filter_map (λ inc. inc.crush) incs) (filter_map (λ inc. inc.crush) (inc ∷ [])))
     ∙ is inc.crush (last_or None (filter_map (λ inc. inc.crush) incs))
   where
-    is : (given o : Option (List BucketSpec)) → option_map (map bucket_of) (last_or o (cons_option given [])) ≡ either (option_map (map bucket_of) given) (option_map (map bucket_of) o)
+    is : (given o : Option (List BucketSpec)) → option_map (map bucket_of) (last_or o (cons_option given [])) ≡ option_or (option_map (map bucket_of) given) (option_map (map bucket_of) o)
     is None o = refl
     is (Some buckets) o = refl
-
-pub either-some : {X : Type 0} (o p : Option X) → is_some o ≡ true → o ≡ either o p
-either-some None p e = cc
-either-some (Some x) p e = refl
-
-pub either-none : {X : Type 0} (o p : Option X) → is_some o ≡ false → p ≡ either o p
-either-none None p e = refl
-either-none (Some x) p e = cc
 
 pub sizes-push : (incs : List Incremental) (inc : Incremental) (id : ℕ) → NoFault incs inc
     → (pool incs id ≡ None → last_where (λ sizes. nat_eq sizes.pool id) (flat_map (λ inc. inc.sizes) incs) ≡ None)
@@ -157,7 +147,7 @@ sizes-push incs inc id fine unsized absent =
     ∙ joined (last_where (λ sizes. nat_eq sizes.pool id) inc.sizes) (sizes_of incs id) (last_where (λ made. nat_eq made.id id) inc.pools) (pool incs id)
     (λ (sizes : PoolSizes) (e : last_where (λ sizes. nat_eq sizes.pool id) inc.sizes ≡ Some sizes).
     let is = last_found (are_bad_sizes incs) (λ sizes. nat_eq sizes.pool id) inc.sizes sizes (pools_fine incs inc fine.pools).1 e in
-    there (pool incs id) sizes (ap (λ (n : ℕ). option_map_or (λ made. is_erasure made.kind && not (nat_eq made.size sizes.size)) (pool incs n) true) (sym (eqb-true sizes.pool id is.0)) ∙ (or_false (not (are_sizes sizes.size sizes.min_size)) (option_map_or (λ made. is_erasure made.kind && not (nat_eq made.size sizes.size)) (pool incs sizes.pool) true) is.1).1))
+    there (pool incs id) sizes (ap (λ (n : ℕ). option_map_or (λ made. is_erasure made.kind && not (nat_eq made.size sizes.size)) (pool incs n) true) (sym (eqb-true sizes.pool id is.0)) ∙ (or_parts (not (are_sizes sizes.size sizes.min_size)) (option_map_or (λ made. is_erasure made.kind && not (nat_eq made.size sizes.size)) (pool incs sizes.pool) true) is.1).1))
     unsized (sym (pool-push incs inc id fine.known unsized) ∙ absent)
   where
     there : (o : Option PoolSpec) (sizes : PoolSizes) → option_map_or (λ made. is_erasure made.kind && not (nat_eq made.size sizes.size)) o true ≡ false → is_some o ≡ true
@@ -165,7 +155,7 @@ sizes-push incs inc id fine unsized absent =
     there (Some made) sizes e = refl
 
     joined : (z s : Option PoolSizes) (m o : Option PoolSpec) → ((sizes : PoolSizes) → z ≡ Some sizes → is_some o ≡ true)
-        → (o ≡ None → s ≡ None) → option_map (with_sizes z) (or_made m o) ≡ None → either z s ≡ None
+        → (o ≡ None → s ≡ None) → option_map (with_sizes z) (or_made m o) ≡ None → option_or z s ≡ None
     joined None s None None known unsized e = unsized refl
     joined (Some z) s None None known unsized e = let no : false ≡ true = known z refl in cc
     joined z s (Some m) o known unsized e = cc

@@ -2,23 +2,13 @@
 -- of an epoch is what all incrementals up to it say). Each fact is given by the last incremental that tells of it, but for
 -- two, which are greatest epochs.
 use Rattle.std.specs.Prelude.{ℕ, List, Bool, false, ◌||◌, nat_eq, map, max, fold, filter, flat_map}
-use Rattle.std.specs.List.{list_any, range_with_len}
+use Rattle.std.specs.List.{range_with_len}
 use Rattle.std.specs.Option.{option_map_or}
 use Rattle.pgp_ids.specs.declared.incremental.DeviceEpoch.{DeviceEpoch}
 use Rattle.pgp_ids.specs.declared.incremental.Incremental.{Incremental}
-use Rattle.pgp_map.specs.Last.{last_where}
-
--- the incremental boots the device
-abbrev pub boots : ℕ → Incremental → Bool
-boots osd inc = list_any (nat_eq osd) inc.up
-
--- the incremental takes the device down
-abbrev pub takes_down : ℕ → Incremental → Bool
-takes_down osd inc = list_any (nat_eq osd) inc.down
-
--- the incremental destroys the device
-abbrev pub destroys : ℕ → Incremental → Bool
-destroys osd inc = list_any (nat_eq osd) inc.gone
+use Rattle.pgp_tables.specs.declared.device.Device.{Device}
+pub use Rattle.pgp_tables.specs.DeviceTable.{boots, takes_down, destroys}
+use Rattle.pgp_lists.specs.Last.{last_where}
 
 -- the last incremental that boots or destroys the device boots it
 abbrev pub exists : List Incremental → ℕ → Bool
@@ -62,3 +52,15 @@ weight incs osd =
 -- the weights of the devices 0 to 4095
 abbrev pub weights : List Incremental → List ℕ
 weights incs = map (weight incs) (range_with_len 0 4096)
+
+-- what the incrementals say of a device
+abbrev pub device : List Incremental → ℕ → Device
+device incs osd =
+    record {
+      exists = exists incs osd;
+      is_up = is_up incs osd;
+      up_from = up_from incs osd;
+      down_at = down_at incs osd;
+      up_thru = up_thru incs osd;
+      lost_at = lost_at incs osd;
+    }

@@ -41,6 +41,10 @@ told osd epoch = record { osd = osd; epoch = epoch } ∷ []
 abbrev pub one_up : List Incremental
 one_up = boot 1 (0 ∷ []) ∷ []
 
+-- devices 0 and 1 are there, 1 is down and was up through epoch 2
+abbrev pub one_up_one_down : List Incremental
+one_up_one_down = boot 1 (0 ∷ 1 ∷ []) ∷ record (empty_step 2) { down = 1 ∷ []; up_thru = told 1 2 } ∷ []
+
 -- a replicated pool of one group
 abbrev pub copies : ℕ → ℕ → PoolSpec
 copies id size = record { id = id; pg_num = 1; kind = Replicated; size = size; min_size = 1; leaf = 0 }

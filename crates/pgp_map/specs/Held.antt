@@ -5,7 +5,7 @@ use Rattle.std.specs.Option.{option_map_or}
 use Rattle.pgp_ids.specs.declared.pg_id.PgId.{PgId}
 use Rattle.pgp_ids.specs.declared.pool.PoolSpec.{PoolSpec}
 use Rattle.pgp_map.specs.declared.map.OsdMap.{OsdMap}
-use Rattle.pgp_map.specs.DeviceTable.{device_at}
+use Rattle.pgp_tables.specs.DeviceTable.{device_at}
 
 -- the map has the device
 unfoldable pub held_exists : OsdMap → ℕ → Bool

@@ -2,7 +2,7 @@
 use Rattle.std.proofs.Common.{◌≡◌, ℕ, List, ap}
 use Rattle.pgp_ids.specs.declared.incremental.Incremental.{Incremental}
 use Rattle.pgp_map.specs.declared.map.OsdMap.{OsdMap}
-use Rattle.pgp_map.specs.DeviceTable.{Device}
+use Rattle.pgp_tables.specs.declared.device.Device.{Device}
 use Rattle.pgp_map.specs.Devices.{exists, is_up, lost_at}
 use Rattle.pgp_map.specs.Held.{held_exists, held_up, held_lost_at, held_pool}
 use Rattle.pgp_map.specs.MapOf.{IsMapOf}

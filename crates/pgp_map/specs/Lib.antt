@@ -4,10 +4,7 @@ pub mod Pools
 pub mod Map
 pub mod MapFault
 pub mod FaultNumber
-pub mod DeviceTable
-pub mod PoolTable
 pub mod WeightTable
-pub mod TempTable
 pub mod MapOf
 pub mod Checked
 pub mod Held

@@ -14,6 +14,7 @@ use Rattle.pgp_ids.specs.declared.pool.PoolSizes.{PoolSizes}
 use Rattle.pgp_ids.specs.declared.pool.PoolSpec.{PoolSpec}
 use Rattle.pgp_map.specs.declared.fault.MapFault.{MapFault}
 use Rattle.pgp_map.specs.declared.fault.MapFault.TheVariants.{EpochGap, Twice, UnknownDevice, AlreadyUp, AlreadyDown, StillUp, UpThruBack, Ahead, BadPool, PoolKnown, BadTemp, TreeFault}
+use Rattle.pgp_lists.specs.Repeats.{has_repeat}
 use Rattle.pgp_map.specs.Devices.{boots, exists, is_up, up_thru}
 use Rattle.pgp_map.specs.Map.{epoch}
 use Rattle.pgp_map.specs.Pools.{pool, group_count, is_same_group}
@@ -21,11 +22,6 @@ use Rattle.pgp_map.specs.Pools.{pool, group_count, is_same_group}
 -- the old map with the incremental
 abbrev pub then_with : List Incremental → Incremental → List Incremental
 then_with incs inc = incs ++ inc ∷ []
-
--- an element stands twice
-abbrev pub has_repeat : {X : Type 0} → (X → X → Bool) → List X → Bool
-has_repeat same [] = false
-has_repeat same (x ∷ xs) = list_any (same x) xs || has_repeat same xs
 
 -- the incremental's epoch isn't the one after the map's
 abbrev pub has_epoch_gap : List Incremental → Incremental → Bool

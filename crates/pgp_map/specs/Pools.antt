@@ -1,17 +1,13 @@
 -- What a list of map incrementals, oldest first, says of pools and placement groups (Ceph's developer documentation on map
 -- epochs; on pg_temp).
-use Rattle.std.specs.Prelude.{ℕ, List, [], Bool, false, ◌&&◌, nat_eq, nat_lt, Option, Some, None, flat_map, sum_by, option_map}
+use Rattle.std.specs.Prelude.{ℕ, List, [], Bool, false, nat_eq, nat_lt, Option, flat_map, sum_by, option_map}
 use Rattle.std.specs.Option.{option_map_or}
 use Rattle.pgp_ids.specs.declared.pg_id.PgId.{PgId}
-use Rattle.pgp_ids.specs.declared.pool.PoolSizes.{PoolSizes}
 use Rattle.pgp_ids.specs.declared.pool.PoolSpec.{PoolSpec}
 use Rattle.pgp_ids.specs.declared.incremental.Incremental.{Incremental}
-use Rattle.pgp_map.specs.Last.{last_where}
-
--- the pool with these sizes, where there are some
-abbrev pub with_sizes : Option PoolSizes → PoolSpec → PoolSpec
-with_sizes None pool = pool
-with_sizes (Some sizes) pool = record pool { size = sizes.size; min_size = sizes.min_size }
+pub use Rattle.pgp_tables.specs.PoolTable.{with_sizes}
+pub use Rattle.pgp_tables.specs.TempTable.{is_same_group}
+use Rattle.pgp_lists.specs.Last.{last_where}
 
 -- the pool as it was made last, with the sizes that it was given last
 abbrev pub pool : List Incremental → ℕ → Option PoolSpec
@@ -22,10 +18,6 @@ pool incs id =
 -- how many groups the pools have that were made, in all
 abbrev pub group_count : List Incremental → ℕ
 group_count incs = sum_by (λ made. made.pg_num) (flat_map (λ inc. inc.pools) incs)
-
--- the two groups are the same
-abbrev pub is_same_group : PgId → PgId → Bool
-is_same_group a b = nat_eq a.pool b.pool && nat_eq a.pg b.pg
 
 -- the pool is there, and has this group
 abbrev pub has_group : List Incremental → PgId → Bool

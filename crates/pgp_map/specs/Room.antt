@@ -5,9 +5,9 @@ use Rattle.std.specs.HashMap.{spare}
 use Rattle.pgp_ids.specs.declared.incremental.Incremental.{Incremental}
 use Rattle.pgp_ids.specs.declared.pg_id.PgId.{PgId}
 use Rattle.pgp_map.specs.declared.map.OsdMap.{OsdMap}
-use Rattle.pgp_map.specs.DeviceTable.{HasPlaces}
+use Rattle.pgp_tables.specs.DeviceTable.{HasPlaces}
 use Rattle.pgp_map.specs.Pools.{is_same_group}
-use Rattle.pgp_map.specs.TempTable.{has_temp}
+use Rattle.pgp_tables.specs.TempTable.{has_temp}
 
 -- the map has a place for each thing that the incremental names
 pub record HasRoom (inc : Incremental) (m : OsdMap) : Type 0 where

@@ -6,7 +6,7 @@ ghost use Rattle.pgp_map.specs.Findings.{first_of};
 use super::fault::MapFault;
 
 /// The tests that an incremental fails, its tree aside.
-#[derive(Clone, Copy, Debug)]
+#[derive(Clone, Copy)]
 pub(crate) struct Findings {
     pub epoch_gap: bool,
     pub twice: bool,

@@ -10,6 +10,7 @@ ghost use Rattle.pgp_map.specs.Devices.{exists, is_up, up_from, down_at, up_thru
 ghost use Rattle.pgp_map.specs.Map.{epoch, up_to, tree};
 ghost use Rattle.pgp_ids.specs.declared.incremental.Incremental.{Incremental};
 ghost use Rattle.pgp_ids.specs.declared.pg_id.PgId.{PgId};
+ghost use Rattle.pgp_ids.specs.declared.pool.PoolKind.TheVariants.{Erasure};
 ghost use Rattle.pgp_ids.specs.declared.pool.PoolSpec.{PoolSpec};
 ghost use Rattle.pgp_map.specs.declared.map.OsdMap.{OsdMap};
 ghost use Rattle.pgp_map.specs.Checked.{are_checked};
@@ -17,7 +18,7 @@ ghost use Rattle.pgp_map.specs.Held.{held_exists, held_up, held_lost_at, held_po
 ghost use Rattle.pgp_map.specs.MapFault.{map_fault, then_with, is_pool};
 ghost use Rattle.pgp_map.specs.MapOf.{IsMapOf};
 ghost use Rattle.pgp_map.specs.Pools.{pool, temp, has_group};
-ghost use Rattle.pgp_map.specs.Examples.{empty_step, boot, weighs, told, one_up, copies, shards, shards_of, large_pools, sized, placed, two_pools, made_again};
+ghost use Rattle.pgp_map.specs.Examples.{empty_step, boot, weighs, told, one_up, one_up_one_down, copies, shards, shards_of, large_pools, sized, placed, two_pools, made_again};
 ghost use Rattle.std.specs.List.{range_with_len};
 
 /// The first incremental leads to epoch 1.
@@ -45,6 +46,11 @@ pub fn nothing_is_named_twice()
     ensures down_and_gone { map_fault one_up (record (empty_step 2) { down = 0 ∷ []; gone = 0 ∷ [] }) ≡ Some Twice }
     ensures up_and_down { map_fault one_up (record (boot 2 (0 ∷ [])) { down = 0 ∷ [] }) ≡ Some Twice }
     ensures before_unknown { map_fault [] (record (empty_step 1) { down = 7 ∷ 7 ∷ [] }) ≡ Some Twice }
+    ensures weights { map_fault one_up (record (empty_step 2) { weight = weighs 0 0 ++ weighs 0 1 }) ≡ Some Twice }
+    ensures up_thrus { map_fault one_up (record (empty_step 2) { up_thru = told 0 1 ++ told 0 2 }) ≡ Some Twice }
+    ensures losses { map_fault one_up (record (empty_step 2) { down = 0 ∷ []; lost = told 0 1 ++ told 0 1 }) ≡ Some Twice }
+    ensures lists { map_fault two_pools (record (empty_step 2) { temp = placed 1 [] ++ placed 1 (Some 0 ∷ []) }) ≡ Some Twice }
+    ensures lists_of_two { map_fault two_pools (record (empty_step 2) { temp = placed 1 [] ++ placed 2 [] }) ≡ None }
     ensures made_and_sized { map_fault [] (record (empty_step 1) { pools = copies 1 3 ∷ []; sizes = sized 1 2 1 }) ≡ Some Twice }
 {}
 
@@ -57,6 +63,16 @@ pub fn devices_that_stand()
     ensures lost_as_it_boots { map_fault [] (record (boot 1 (0 ∷ [])) { lost = told 0 1 }) ≡ Some StillUp }
     ensures lost_as_it_goes_down { map_fault one_up (record (empty_step 2) { down = 0 ∷ []; lost = told 0 2 }) ≡ None }
     ensures lost_ahead { map_fault one_up (record (empty_step 2) { down = 0 ∷ []; lost = told 0 3 }) ≡ Some Ahead }
+{}
+
+/// Of several faults the first in their order is told.
+#[tactic(auto, unfolding(crate::specs::MapFault::map_fault))]
+pub fn faults_come_in_order()
+    ensures up_before_down { map_fault one_up_one_down (record (boot 3 (0 ∷ [])) { down = 1 ∷ [] }) ≡ Some AlreadyUp }
+    ensures down_before_still_up { map_fault one_up_one_down (record (empty_step 3) { down = 1 ∷ []; gone = 0 ∷ [] }) ≡ Some AlreadyDown }
+    ensures still_up_before_back { map_fault one_up_one_down (record (empty_step 3) { gone = 0 ∷ []; up_thru = told 1 1 }) ≡ Some StillUp }
+    ensures back_before_ahead { map_fault one_up_one_down (record (empty_step 3) { up_thru = told 1 1 ++ told 0 4 }) ≡ Some UpThruBack }
+    ensures ahead_before_bad_pool { map_fault one_up_one_down (record (empty_step 3) { up_thru = told 0 4; pools = copies 1 17 ∷ [] }) ≡ Some Ahead }
 {}
 
 /// up_thru never falls, and is never above the incremental's epoch.
@@ -161,6 +177,14 @@ pub fn pools_of_checked_lists()
         → pool incs id ≡ Some made → is_pool made ≡ true }
     ensures group { (incs : List Incremental) (map : OsdMap) (pg : PgId) → IsMapOf incs map → are_checked incs ≡ true
         → has_group incs pg ≡ true → HasGroup map pg }
+{}
+
+/// Along a checked list the up_thru of a device never falls, and an erasure pool keeps its size.
+pub fn what_later_incrementals_keep()
+    ensures up_thru { (incs later : List Incremental) (osd : ℕ) → are_checked (incs ++ later) ≡ true
+        → up_thru incs osd ≤ up_thru (incs ++ later) osd }
+    ensures size { (incs later : List Incremental) (id k : ℕ) (made : PoolSpec) → are_checked (incs ++ later) ≡ true
+        → pool incs id ≡ Some made → made.kind ≡ Erasure k → option_map (λ now. now.size) (pool (incs ++ later) id) ≡ Some made.size }
 {}
 
 /// What a map itself says of a device or a pool is what its incrementals say.

@@ -7,18 +7,14 @@
 //! The map takes memory for what was named and nothing else; no reader takes any. [`laws`] has worked examples.
 #![tactic(auto)]
 
-mod device;
-mod devices;
 mod fault;
 mod findings;
 pub mod laws;
 mod map;
-mod pools;
 mod ranges;
 mod repeats;
 mod standing;
 mod temp_check;
-mod temps;
 mod trees;
 mod weights;
 

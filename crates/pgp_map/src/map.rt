@@ -3,8 +3,7 @@
 ghost use Rattle.std.specs.Prelude.{◌≡◌, ◌≤◌, ℕ, List, [], Some, None, OnOk, OnErr, IfOk, IfErr, ◌⊎◌, option_copied, option_map, map, length, nat_eq, ◌++◌};
 ghost use Rattle.pgp_crush.specs.Bucket.{bucket_of};
 ghost use Rattle.pgp_map.specs.Room.{HasRoom};
-ghost use Rattle.pgp_ids.specs.declared.incremental.Incremental.{Incremental as Step};
-ghost use Rattle.pgp_map.specs.MapOf.{IsMapOf};
+ghost use Rattle.pgp_map.specs.MapOf.{IsMapOf, Says};
 ghost use Rattle.pgp_map.specs.Held.{held_exists, held_up, held_lost_at, held_pool};
 ghost use Rattle.pgp_map.specs.Devices.{exists, is_up, up_from, down_at, up_thru, lost_at, weight, weights};
 ghost use Rattle.pgp_map.specs.Pools.{pool, temp};
@@ -14,14 +13,14 @@ ghost use Rattle.std.specs.HashSet as bag;
 ghost use Rattle.std.specs.List.{list_any};
 ghost use Rattle.pgp_map.specs.Findings.{AreFindings};
 
-use super::device::Device;
 use super::fault::MapFault;
 use super::findings::Findings;
 use super::trees::{check_tree, given_tree};
 use super::weights::Weights;
-use super::{devices, pools, ranges, repeats, standing, temp_check, temps};
+use super::{ranges, repeats, standing, temp_check};
 use pgp_crush::Tree;
 use pgp_ids::{Epoch, Incremental, OsdId, Osds, PgId, PoolId, PoolSpec};
+use pgp_tables::{Device, devices, pools, temps};
 use std::alloc::{AllocError, Global};
 use std::collections::{HashMap, HashSet};
 
@@ -62,9 +61,9 @@ impl OsdMap {
     /// Whether the incremental can be applied. It can't if it has a fault, of which the first in the order of [`MapFault`] is
     /// answered; or there was no memory to look at it. The map stays as it is.
     pub fn check(&self, inc: &Incremental) -> Result<(), MapFault>
-        ensures ok { OnOk result ((incs : List Step) → IsMapOf incs self.now → map_fault incs inc.now ≡ None) }
+        ensures ok { OnOk result (Says self.now (λ incs. map_fault incs inc.now ≡ None)) }
         ensures tree { OnOk result (given_fault inc.now.crush ≡ None) }
-        ensures fault { IfErr result (λ fault. (fault ≡ MapFault.Memory) ⊎ ((incs : List Step) → IsMapOf incs self.now → map_fault incs inc.now ≡ Some fault)) }
+        ensures fault { IfErr result (λ fault. (fault ≡ MapFault.Memory) ⊎ Says self.now (λ incs. map_fault incs inc.now ≡ Some fault)) }
     {
         let findings = self.findings(inc)?;
         if let Some(fault) = findings.first() {
@@ -75,7 +74,7 @@ impl OsdMap {
 
     /// The tests that the incremental fails, its tree aside.
     fn findings(&self, inc: &Incremental) -> Result<Findings, AllocError>
-        ensures { IfOk result (λ findings. (incs : List Step) → IsMapOf incs self.now → AreFindings incs inc.now findings) }
+        ensures { IfOk result (λ findings. Says self.now (λ incs. AreFindings incs inc.now findings)) }
     {
         let boots = repeats::set_of(self.alloc, inc.up.as_slice())?;
         let falls = repeats::falling_devices(self.alloc, inc)?;
@@ -107,7 +106,7 @@ impl OsdMap {
 
     /// The incremental's epoch isn't the one after the map's.
     fn has_epoch_gap(&self, inc: &Incremental) -> bool
-        ensures { (incs : List Step) → IsMapOf incs self.now → result ≡ has_epoch_gap incs inc.now }
+        ensures { Says self.now (λ incs. result ≡ has_epoch_gap incs inc.now) }
     {
         u64::from(inc.epoch.number()) != u64::from(self.epoch.number()) + 1
     }
@@ -116,21 +115,21 @@ impl OsdMap {
     fn has_unknown_device(&self, inc: &Incremental, boots: &HashSet<OsdId>, told: &[OsdId]) -> bool
         requires boots { (q : ℕ) → bag.contains nat_eq boots.now q ≡ list_any (nat_eq q) inc.now.up }
         requires told { told.now ≡ told_devices inc.now }
-        ensures { (incs : List Step) → IsMapOf incs self.now → result ≡ has_unknown_device incs inc.now }
+        ensures { Says self.now (λ incs. result ≡ has_unknown_device incs inc.now) }
     {
         standing::has_unknown(&self.devices, boots, told)
     }
 
     /// A device boots that is up.
     fn has_already_up(&self, inc: &Incremental) -> bool
-        ensures { (incs : List Step) → IsMapOf incs self.now → result ≡ has_already_up incs inc.now }
+        ensures { Says self.now (λ incs. result ≡ has_already_up incs inc.now) }
     {
         standing::has_up(&self.devices, inc.up.as_slice())
     }
 
     /// A device is taken down that is there and down.
     fn has_already_down(&self, inc: &Incremental) -> bool
-        ensures { (incs : List Step) → IsMapOf incs self.now → result ≡ has_already_down incs inc.now }
+        ensures { Says self.now (λ incs. result ≡ has_already_down incs inc.now) }
     {
         standing::has_down(&self.devices, inc.down.as_slice())
     }
@@ -144,7 +143,7 @@ impl OsdMap {
     ) -> bool
         requires boots { (q : ℕ) → bag.contains nat_eq boots.now q ≡ list_any (nat_eq q) inc.now.up }
         requires falls { (q : ℕ) → bag.contains nat_eq falls.now q ≡ list_any (nat_eq q) (inc.now.down ++ inc.now.gone) }
-        ensures { (incs : List Step) → IsMapOf incs self.now → result ≡ has_still_up incs inc.now }
+        ensures { Says self.now (λ incs. result ≡ has_still_up incs inc.now) }
     {
         if standing::has_up(&self.devices, inc.gone.as_slice()) {
             return true;
@@ -154,21 +153,21 @@ impl OsdMap {
 
     /// An up_thru is below that of its device.
     fn has_up_thru_back(&self, inc: &Incremental) -> bool
-        ensures { (incs : List Step) → IsMapOf incs self.now → result ≡ has_up_thru_back incs inc.now }
+        ensures { Says self.now (λ incs. result ≡ has_up_thru_back incs inc.now) }
     {
         standing::has_up_thru_back(&self.devices, inc.up_thru.as_slice())
     }
 
     /// A pool is made that is there.
     fn has_pool_known(&self, inc: &Incremental) -> bool
-        ensures { (incs : List Step) → IsMapOf incs self.now → result ≡ has_pool_known incs inc.now }
+        ensures { Says self.now (λ incs. result ≡ has_pool_known incs inc.now) }
     {
         ranges::has_known(&self.pools, inc.pools.as_slice())
     }
 
     /// A pool is made of numbers out of range or given sizes to which it can't change, or there are too many groups.
     fn has_bad_pool(&self, inc: &Incremental) -> bool
-        ensures { (incs : List Step) → IsMapOf incs self.now → result ≡ has_bad_pool incs inc.now }
+        ensures { Says self.now (λ incs. result ≡ has_bad_pool incs inc.now) }
     {
         if ranges::has_bad_spec(inc.pools.as_slice()) {
             return true;
@@ -184,8 +183,8 @@ impl OsdMap {
     /// it said before.
     pub fn apply(&mut self, inc: &Incremental) -> Result<(), AllocError>
         requires { given_fault inc.now.crush ≡ None }
-        ensures ok { OnOk result ((incs : List Step) → IsMapOf incs self.old → map_fault incs inc.now ≡ None → IsMapOf (then_with incs inc.now) self.new) }
-        ensures err { OnErr result ((incs : List Step) → IsMapOf incs self.old → IsMapOf incs self.new) }
+        ensures ok { OnOk result (Says self.old (λ incs. map_fault incs inc.now ≡ None → IsMapOf (then_with incs inc.now) self.new)) }
+        ensures err { OnErr result (Says self.old (λ incs. IsMapOf incs self.new)) }
     {
         let tree = given_tree(self.alloc, &inc.crush)?;
         self.make_room(inc)?;
@@ -195,7 +194,7 @@ impl OsdMap {
 
     /// Makes room for all that the incremental names. The map says what it said before.
     fn make_room(&mut self, inc: &Incremental) -> Result<(), AllocError>
-        ensures same { (incs : List Step) → IsMapOf incs self.old → IsMapOf incs self.new }
+        ensures same { Says self.old (λ incs. IsMapOf incs self.new) }
         ensures room { OnOk result (HasRoom inc.now self.new) }
     {
         devices::place_named(&mut self.devices, inc)?;
@@ -208,7 +207,7 @@ impl OsdMap {
     fn change(&mut self, inc: &Incremental, tree: Option<Tree>)
         requires room { HasRoom inc.now self.old }
         requires tree { tree ≡ option_map (map bucket_of) inc.now.crush }
-        ensures { (incs : List Step) → IsMapOf incs self.old → map_fault incs inc.now ≡ None → IsMapOf (then_with incs inc.now) self.new }
+        ensures { Says self.old (λ incs. map_fault incs inc.now ≡ None → IsMapOf (then_with incs inc.now) self.new) }
     {
         self.epoch = inc.epoch;
         devices::change(&mut self.devices, inc);
@@ -218,13 +217,11 @@ impl OsdMap {
         let made = pools::group_sum(inc.pools.as_slice());
         self.group_count = self.group_count.saturating_add(made);
         temps::put_all(&mut self.temps, inc.temp.as_slice());
-        if tree.is_some() {
-            self.tree = tree;
-        }
+        self.tree = tree.or(self.tree.take());
     }
 
     pub fn epoch(&self) -> Epoch
-        ensures { (incs : List Step) → IsMapOf incs self.now → result ≡ epoch incs }
+        ensures { Says self.now (λ incs. result ≡ epoch incs) }
     {
         self.epoch
     }
@@ -233,7 +230,7 @@ impl OsdMap {
     #[tactic(auto, unfolding(crate::specs::Held::held_exists))]
     pub fn exists(&self, osd: OsdId) -> bool
         ensures held { result ≡ held_exists self.now osd }
-        ensures value { (incs : List Step) → IsMapOf incs self.now → result ≡ exists incs osd }
+        ensures value { Says self.now (λ incs. result ≡ exists incs osd) }
     {
         devices::device_at(&self.devices, osd).exists
     }
@@ -242,28 +239,28 @@ impl OsdMap {
     #[tactic(auto, unfolding(crate::specs::Held::held_up))]
     pub fn is_up(&self, osd: OsdId) -> bool
         ensures held { result ≡ held_up self.now osd }
-        ensures value { (incs : List Step) → IsMapOf incs self.now → result ≡ is_up incs osd }
+        ensures value { Says self.now (λ incs. result ≡ is_up incs osd) }
     {
         devices::device_at(&self.devices, osd).is_up
     }
 
     /// The last epoch that booted the device, 0 if none did.
     pub fn up_from(&self, osd: OsdId) -> Epoch
-        ensures { (incs : List Step) → IsMapOf incs self.now → result ≡ up_from incs osd }
+        ensures { Says self.now (λ incs. result ≡ up_from incs osd) }
     {
         devices::device_at(&self.devices, osd).up_from
     }
 
     /// The last epoch that took the device down, 0 if none did.
     pub fn down_at(&self, osd: OsdId) -> Epoch
-        ensures { (incs : List Step) → IsMapOf incs self.now → result ≡ down_at incs osd }
+        ensures { Says self.now (λ incs. result ≡ down_at incs osd) }
     {
         devices::device_at(&self.devices, osd).down_at
     }
 
     /// The epoch through which the device is known to have been up, 0 if none was told.
     pub fn up_thru(&self, osd: OsdId) -> Epoch
-        ensures { (incs : List Step) → IsMapOf incs self.now → result ≡ up_thru incs osd }
+        ensures { Says self.now (λ incs. result ≡ up_thru incs osd) }
     {
         devices::device_at(&self.devices, osd).up_thru
     }
@@ -272,14 +269,14 @@ impl OsdMap {
     #[tactic(auto, unfolding(crate::specs::Held::held_lost_at))]
     pub fn lost_at(&self, osd: OsdId) -> Epoch
         ensures held { result ≡ held_lost_at self.now osd }
-        ensures value { (incs : List Step) → IsMapOf incs self.now → result ≡ lost_at incs osd }
+        ensures value { Says self.now (λ incs. result ≡ lost_at incs osd) }
     {
         devices::device_at(&self.devices, osd).lost_at
     }
 
     /// The device's weight, in units of 1/0x10000; 0x10000 if none was given.
     pub fn weight(&self, osd: OsdId) -> u32
-        ensures { (incs : List Step) → IsMapOf incs self.now → result ≡ weight incs osd }
+        ensures { Says self.now (λ incs. result ≡ weight incs osd) }
     {
         self.weights.weight(osd)
     }
@@ -287,7 +284,7 @@ impl OsdMap {
     /// The weights of the devices 0 to 4095, in units of 1/0x10000.
     pub fn weights(&self) -> &[u32]
         ensures long { length result.now ≡ 4096 }
-        ensures value { (incs : List Step) → IsMapOf incs self.now → result.now ≡ weights incs }
+        ensures value { Says self.now (λ incs. result.now ≡ weights incs) }
     {
         self.weights.as_slice()
     }
@@ -296,7 +293,7 @@ impl OsdMap {
     #[tactic(auto, unfolding(crate::specs::Held::held_pool))]
     pub fn pool(&self, id: PoolId) -> Option<PoolSpec>
         ensures held { result ≡ held_pool self.now id }
-        ensures value { (incs : List Step) → IsMapOf incs self.now → result ≡ pool incs id }
+        ensures value { Says self.now (λ incs. result ≡ pool incs id) }
     {
         match self.pools.get(&id) {
             Some(pool) => Some(*pool),
@@ -307,14 +304,14 @@ impl OsdMap {
     /// The group's pg_temp list; empty if it has none.
     pub fn temp(&self, pg: PgId) -> &[Option<OsdId>]
         ensures within { length result.now ≤ 16 }
-        ensures value { (incs : List Step) → IsMapOf incs self.now → result.now ≡ temp incs pg }
+        ensures value { Says self.now (λ incs. result.now ≡ temp incs pg) }
     {
         temps::temp_at(&self.temps, pg)
     }
 
     /// The placement tree, if one was given.
     pub fn tree(&self) -> Option<&Tree>
-        ensures { (incs : List Step) → IsMapOf incs self.now → option_copied result ≡ tree incs }
+        ensures { Says self.now (λ incs. option_copied result ≡ tree incs) }
     {
         self.tree.as_ref()
     }

@@ -3,12 +3,14 @@
 ghost use Rattle.std.specs.Prelude.{◌≡◌, ℕ, ◌++◌, map, nat_eq, IfOk};
 ghost use Rattle.std.specs.List.{list_any};
 ghost use Rattle.std.specs.HashSet as bag;
-ghost use Rattle.pgp_map.specs.MapFault.{has_repeat, has_twice, told_devices};
+ghost use Rattle.pgp_lists.specs.Repeats.{has_repeat};
+ghost use Rattle.pgp_map.specs.MapFault.{has_twice, told_devices};
 ghost use Rattle.pgp_map.specs.Pools.{is_same_group};
 
 use pgp_ids::{
     DeviceEpoch, DeviceWeight, Incremental, OsdId, PgId, PoolId, PoolSizes, PoolSpec, TempList,
 };
+use pgp_lists::has_repeat;
 use std::alloc::{AllocError, Global};
 use std::collections::HashSet;
 
@@ -16,30 +18,59 @@ use std::collections::HashSet;
 pub(crate) fn has_twice(alloc: Global, inc: &Incremental) -> Result<bool, AllocError>
     ensures { IfOk result (λ twice. twice ≡ has_twice inc.now) }
 {
-    let changed = changed_devices(alloc, inc)?;
-    let weighed = weighed_devices(alloc, inc.weight.as_slice())?;
-    let seen = named_devices(alloc, inc.up_thru.as_slice())?;
-    let lost = named_devices(alloc, inc.lost.as_slice())?;
-    let pools = named_pools(alloc, inc.pools.as_slice(), inc.sizes.as_slice())?;
-    let groups = named_groups(alloc, inc.temp.as_slice())?;
     Ok(
-        has_repeated_device(alloc, &changed)?
-            || has_repeated_device(alloc, &weighed)?
-            || has_repeated_device(alloc, &seen)?
-            || has_repeated_device(alloc, &lost)?
-            || has_repeated_pool(alloc, &pools)?
-            || has_repeated_group(alloc, &groups)?,
+        changes_twice(alloc, inc)?
+            || weighs_twice(alloc, inc.weight.as_slice())?
+            || tells_twice(alloc, inc.up_thru.as_slice())?
+            || tells_twice(alloc, inc.lost.as_slice())?
+            || sizes_twice(alloc, inc.pools.as_slice(), inc.sizes.as_slice())?
+            || lists_twice(alloc, inc.temp.as_slice())?,
     )
 }
 
-/// The devices that boot, are taken down or are destroyed.
-fn changed_devices(alloc: Global, inc: &Incremental) -> Result<Vec<OsdId>, AllocError>
-    ensures { IfOk result (λ osds. osds.items ≡ inc.now.up ++ inc.now.down ++ inc.now.gone) }
+/// A device stands twice among those that boot, are taken down or are destroyed.
+fn changes_twice(alloc: Global, inc: &Incremental) -> Result<bool, AllocError>
+    ensures { IfOk result (λ twice. twice ≡ has_repeat nat_eq (inc.now.up ++ inc.now.down ++ inc.now.gone)) }
 {
     let mut osds = Vec::from_slice(alloc, inc.up.as_slice())?;
     osds.extend_from_slice(inc.down.as_slice())?;
     osds.extend_from_slice(inc.gone.as_slice())?;
-    Ok(osds)
+    has_repeat(alloc, &osds)
+}
+
+/// A device is given two weights.
+fn weighs_twice(alloc: Global, weights: &[DeviceWeight]) -> Result<bool, AllocError>
+    ensures { IfOk result (λ twice. twice ≡ has_repeat nat_eq (map (λ entry. entry.osd) weights.now)) }
+{
+    let osds = weighed_devices(alloc, weights)?;
+    has_repeat(alloc, &osds)
+}
+
+/// Two epochs are told of a device.
+fn tells_twice(alloc: Global, told: &[DeviceEpoch]) -> Result<bool, AllocError>
+    ensures { IfOk result (λ twice. twice ≡ has_repeat nat_eq (map (λ entry. entry.osd) told.now)) }
+{
+    let osds = named_devices(alloc, told)?;
+    has_repeat(alloc, &osds)
+}
+
+/// A pool stands twice among those that are made or given sizes.
+fn sizes_twice(alloc: Global, made: &[PoolSpec], sizes: &[PoolSizes]) -> Result<bool, AllocError>
+    ensures { IfOk result (λ twice. twice ≡ has_repeat nat_eq (map (λ pool. pool.id) made.now ++ map (λ given. given.pool) sizes.now)) }
+{
+    let pools = named_pools(alloc, made, sizes)?;
+    has_repeat(alloc, &pools)
+}
+
+/// A group is given two pg_temp lists.
+fn lists_twice(alloc: Global, temps: &[TempList]) -> Result<bool, AllocError>
+    ensures { IfOk result (λ twice. twice ≡ has_repeat is_same_group (map (λ given. given.pg) temps.now)) }
+{
+    let mut groups = Vec::new(alloc);
+    for given in temps {
+        groups.push(given.pg)?;
+    }
+    has_repeat(alloc, &groups)
 }
 
 /// The devices of which something else is told.
@@ -103,56 +134,6 @@ fn made_pools(alloc: Global, made: &[PoolSpec]) -> Result<Vec<PoolId>, AllocErro
         pools.push(pool.id)?;
     }
     Ok(pools)
-}
-
-/// The groups that are given pg_temp lists.
-fn named_groups(alloc: Global, temps: &[TempList]) -> Result<Vec<PgId>, AllocError>
-    ensures { IfOk result (λ groups. groups.items ≡ map (λ given. given.pg) temps.now) }
-{
-    let mut groups = Vec::new(alloc);
-    for given in temps {
-        groups.push(given.pg)?;
-    }
-    Ok(groups)
-}
-
-/// Some device stands twice.
-pub(crate) fn has_repeated_device(alloc: Global, devices: &[OsdId]) -> Result<bool, AllocError>
-    ensures { IfOk result (λ repeated. repeated ≡ has_repeat nat_eq devices.now) }
-{
-    let mut seen = HashSet::new(alloc);
-    for device in devices {
-        if !seen.insert(*device)? {
-            return Ok(true);
-        }
-    }
-    Ok(false)
-}
-
-/// Some pool stands twice.
-fn has_repeated_pool(alloc: Global, pools: &[PoolId]) -> Result<bool, AllocError>
-    ensures { IfOk result (λ repeated. repeated ≡ has_repeat nat_eq pools.now) }
-{
-    let mut seen = HashSet::new(alloc);
-    for pool in pools {
-        if !seen.insert(*pool)? {
-            return Ok(true);
-        }
-    }
-    Ok(false)
-}
-
-/// Some group stands twice.
-fn has_repeated_group(alloc: Global, groups: &[PgId]) -> Result<bool, AllocError>
-    ensures { IfOk result (λ repeated. repeated ≡ has_repeat is_same_group groups.now) }
-{
-    let mut seen = HashSet::new(alloc);
-    for group in groups {
-        if !seen.insert(*group)? {
-            return Ok(true);
-        }
-    }
-    Ok(false)
 }
 
 /// The set of the devices that are taken down or destroyed.

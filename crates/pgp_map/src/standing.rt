@@ -3,20 +3,12 @@
 ghost use Rattle.std.specs.Prelude.{◌≡◌, not, ◌||◌, ◌&&◌, nat_eq, nat_lt};
 ghost use Rattle.std.specs.List.{list_any};
 ghost use Rattle.std.specs.HashSet as bag;
-ghost use Rattle.pgp_map.specs.DeviceTable.{device_at};
+ghost use Rattle.pgp_tables.specs.DeviceTable.{device_at};
 
-use super::device::Device;
-use super::devices::device_at;
 use pgp_ids::{DeviceEpoch, Epoch, OsdId};
+use pgp_tables::Device;
+use pgp_tables::devices::device_at;
 use std::collections::{HashMap, HashSet};
-
-/// The device exists and is down.
-fn is_down(table: &HashMap<OsdId, Device>, osd: OsdId) -> bool
-    ensures { result ≡ ((device_at table.now osd).exists && not (device_at table.now osd).is_up) }
-{
-    let device = device_at(table, osd);
-    device.exists && !device.is_up
-}
 
 /// A device is named that neither exists nor is one of those that boot.
 pub(crate) fn has_unknown(
@@ -51,7 +43,8 @@ pub(crate) fn has_down(table: &HashMap<OsdId, Device>, osds: &[OsdId]) -> bool
     ensures { result ≡ list_any (λ osd. (device_at table.now osd).exists && not (device_at table.now osd).is_up) osds.now }
 {
     for osd in osds {
-        if is_down(table, *osd) {
+        let device = device_at(table, *osd);
+        if device.exists && !device.is_up {
             return true;
         }
     }

@@ -3,14 +3,14 @@
 ghost use Rattle.std.specs.Prelude.{◌≡◌, ℕ, nat_eq, IfOk, is_none, option_map, filter_map};
 ghost use Rattle.std.specs.List.{list_any};
 ghost use Rattle.std.specs.HashMap as hash;
-ghost use Rattle.pgp_map.specs.Last.{last_where};
+ghost use Rattle.pgp_lists.specs.Last.{last_where};
 ghost use Rattle.pgp_map.specs.MapFault.{is_bad_list, has_bad_places};
 ghost use Rattle.pgp_map.specs.Pools.{with_sizes};
-ghost use Rattle.pgp_map.specs.PoolTable.{or_made, new_pool};
+ghost use Rattle.pgp_tables.specs.PoolTable.{or_made, new_pool};
 
 use super::ranges::is_erasure;
-use super::repeats::has_repeated_device;
 use pgp_ids::{MAX_OSDS, OsdId, PoolId, PoolSizes, PoolSpec, TempList};
+use pgp_lists::has_repeat;
 use std::alloc::{AllocError, Global};
 use std::collections::HashMap;
 
@@ -107,7 +107,7 @@ fn is_bad_list(alloc: Global, pool: Option<PoolSpec>, given: &TempList) -> Resul
     };
     let places = given.osds.as_slice();
     let osds = devices_of(alloc, places)?;
-    let repeated = has_repeated_device(alloc, &osds)?;
+    let repeated = has_repeat(alloc, &osds)?;
     Ok(
         given.pg.pg >= made.pg_num
             || places.len() > MAX_OSDS

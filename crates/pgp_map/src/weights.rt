@@ -1,7 +1,7 @@
 //! The table of weights.
 
 ghost use Rattle.std.specs.Prelude.{◌≡◌, ℕ, ◌<◌, true, false, nat_eq, slice_index_or, length, IsOk, OnOk};
-ghost use Rattle.pgp_map.specs.Last.{last_where};
+ghost use Rattle.pgp_lists.specs.Last.{last_where};
 ghost use Rattle.pgp_map.specs.WeightTable.{is_whole, weight_in, with_weight};
 
 use pgp_ids::{DeviceWeight, OsdId};

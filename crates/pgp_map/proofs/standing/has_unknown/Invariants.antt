@@ -1,7 +1,7 @@
 use Rattle.std.proofs.Common.{◌≡◌, take, false, not, ◌||◌, nat_eq}
 use Rattle.std.specs.List.{list_any}
 use Rattle.std.specs.HashSet as bag
-use Rattle.pgp_map.specs.DeviceTable.{device_at}
+use Rattle.pgp_tables.specs.DeviceTable.{device_at}
 use Rattle.pgp_map.proofs.standing.has_unknown.Given as goal
 
 abbrev pub invariant-loop-osd : goal.invariant-loop-osd

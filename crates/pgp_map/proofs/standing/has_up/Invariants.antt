@@ -1,6 +1,6 @@
 use Rattle.std.proofs.Common.{◌≡◌, take, false}
 use Rattle.std.specs.List.{list_any}
-use Rattle.pgp_map.specs.DeviceTable.{device_at}
+use Rattle.pgp_tables.specs.DeviceTable.{device_at}
 use Rattle.pgp_map.proofs.standing.has_up.Given as goal
 
 abbrev pub invariant-loop-osd : goal.invariant-loop-osd

@@ -1,7 +1,7 @@
 use Rattle.std.proofs.Common.{◌≡◌, take, false}
 use Rattle.std.specs.List.{list_any}
 use Rattle.pgp_map.specs.MapFault.{is_bad_list}
-use Rattle.pgp_map.specs.PoolTable.{new_pool}
+use Rattle.pgp_tables.specs.PoolTable.{new_pool}
 use Rattle.pgp_map.proofs.temp_check.has_bad_temp.Given as goal
 
 abbrev pub invariant-loop-given : goal.invariant-loop-given

@@ -1,5 +1,5 @@
 use Rattle.std.proofs.Common.{nat_eq, arith}
-use Rattle.pgp_map.proofs.LastLemmas.{found_more}
+use Rattle.pgp_lists.proofs.Last.{found_more}
 use Rattle.pgp_map.proofs.temp_check.sizes_by_pool.Goals as goal
 
 pub loop-given-preserved : goal.loop-given-preserved

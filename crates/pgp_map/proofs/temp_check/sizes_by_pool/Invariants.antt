@@ -1,6 +1,6 @@
 use Rattle.std.proofs.Common.{◌≡◌, ℕ, take, nat_eq}
 use Rattle.std.specs.HashMap as hash
-use Rattle.pgp_map.specs.Last.{last_where}
+use Rattle.pgp_lists.specs.Last.{last_where}
 use Rattle.pgp_map.proofs.temp_check.sizes_by_pool.Given as goal
 
 abbrev pub invariant-loop-given : goal.invariant-loop-given

@@ -2,7 +2,7 @@ use Rattle.std.proofs.Common.{◌∙◌, nat_eq}
 use Rattle.std.specs.HashMap as hash
 use Rattle.std.specs.Prelude.{option_map}
 use Rattle.pgp_map.specs.Pools.{with_sizes}
-use Rattle.pgp_map.specs.PoolTable.{or_made, new_pool}
+use Rattle.pgp_tables.specs.PoolTable.{or_made, new_pool}
 use Rattle.pgp_map.proofs.CheckLemmas.{temps-are}
 use Rattle.pgp_map.proofs.map.OsdMap.findings.Goals as goal
 

@@ -2,7 +2,7 @@ use Rattle.std.proofs.Common.{◌≡◌, ◌<◌, ◌∙◌, length, arith, set}
 use Rattle.std.proofs.lemmas.List.{length-set}
 use Rattle.pgp_map.specs.WeightTable.{weight_in, with_weight}
 use Rattle.pgp_map.proofs.WeightLemmas.{get_or_after, with_weight-again}
-use Rattle.pgp_map.proofs.LastLemmas.{told_more}
+use Rattle.pgp_tables.proofs.Told.{told_more}
 use Rattle.pgp_map.proofs.weights.Weights.set_all.Goals as goal
 
 pub loop-entry-preserved : goal.loop-entry-preserved

@@ -1,5 +1,5 @@
 use Rattle.std.proofs.Common.{◌≡◌, ◌<◌, ℕ, nat_eq, take, length}
-use Rattle.pgp_map.specs.Last.{last_where}
+use Rattle.pgp_lists.specs.Last.{last_where}
 use Rattle.pgp_map.specs.WeightTable.{weight_in, with_weight}
 use Rattle.pgp_map.proofs.weights.Weights.set_all.Given as goal
 

@@ -1,0 +1,13 @@
+use Rattle.std.proofs.Common.{◌∙◌, arith}
+use Rattle.pgp_tables.specs.DeviceTable.{device_at, with_up_thru}
+use Rattle.pgp_tables.proofs.Tables.{with_up_thru-again}
+use Rattle.pgp_tables.proofs.Told.{told_more}
+use Rattle.pgp_tables.proofs.devices.tell_up_thru.Goals as goal
+
+pub loop-entry-preserved : goal.loop-entry-preserved
+loop-entry-preserved c = record {
+  after = λ q. told_more (λ entry. entry.osd) with_up_thru (device_at c.args.table.now) (device_at c.loop-entry.table) (device_at c.put.new.table)
+      c.args.told.now c.loop-entry.entry-index c.entry-item.result q (with_up_thru-again c.entry-item.result) (omega arith) c.entry-item.is
+      (c.loop-entry.invariant.after q) (simp c.device_at-device.ensures at (c.put.ensures.after q));
+  kept = λ q. c.put.ensures.kept q ∙ c.loop-entry.invariant.kept q;
+}

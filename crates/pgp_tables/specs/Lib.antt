@@ -1,0 +1,3 @@
+pub mod DeviceTable
+pub mod PoolTable
+pub mod TempTable
