@@ -1,0 +1,21 @@
+//! Values that several tests need.
+
+use pgp_ids::{MAX_OSDS, OsdId, Osds, PgId, PoolId};
+use std::test::Fail;
+
+/// The list of these devices; a number out of range is an empty place.
+pub fn places(numbers: &[u16]) -> Osds {
+    let mut places = Osds::new();
+    for number in numbers {
+        if places.len() < MAX_OSDS {
+            places.push(OsdId::new(*number));
+        }
+    }
+    places
+}
+
+/// Group 0 of pool 1.
+pub fn group() -> Result<PgId, Fail> {
+    let pool = PoolId::new(1).ok_or("a pool")?;
+    Ok(PgId { pool, pg: 0 })
+}
