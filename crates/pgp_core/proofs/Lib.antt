@@ -3,3 +3,13 @@ pub mod LogLemmas
 pub mod EpochLemmas
 pub mod WorldLemmas
 pub mod ScriptLemmas
+pub mod OutputLemmas
+pub mod LineLemmas
+pub mod FeedLemmas
+pub mod CutLemmas
+pub mod TakeLemmas
+pub mod LocateLemmas
+pub mod RawSetLemmas
+pub mod RunLemmas
+pub mod TurnLemmas
+pub mod HistoryLemmas

@@ -8,5 +8,10 @@ pub mod ToldHistory
 pub mod Answer
 pub mod Lines
 pub mod Script
+pub mod Line
+pub mod Output
+pub mod RawSets
+pub mod Wants
+pub mod Run
 pub mod Examples
 pub mod Worked

@@ -19,6 +19,8 @@ mod peering;
 #[cfg(test)]
 mod prior_sets;
 #[cfg(test)]
+mod scripts;
+#[cfg(test)]
 mod texts;
 #[cfg(test)]
 mod trees;

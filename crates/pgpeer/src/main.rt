@@ -1,7 +1,7 @@
 //! The program: lines of JSON in, one answer for each.
 //!
 //! Everything but the standard streams is a function over any reader and writers: `status::status_of` does what the
-//! command line asks for, and `script::run_within` answers a script.
+//! command line asks for, and `pgp_core::run_script` answers a script.
 #![tactic(auto)]
 
 use clap::Error;
@@ -10,17 +10,8 @@ use std::env;
 use std::process::ExitCode;
 use streams::Watched;
 
-mod answer;
-mod history;
 mod laws;
-mod line;
-mod locate;
-mod log;
 mod options;
-mod output;
-mod raw_sets;
-mod report;
-mod script;
 mod status;
 mod streams;
 #[cfg(test)]

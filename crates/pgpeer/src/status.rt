@@ -4,14 +4,11 @@ ghost use Rattle.std.specs.Prelude.{◌≡◌, ◌≢◌, ◌⊎◌, true, map, 
 ghost use Rattle.std.specs.Io.KnownBytes.{Appends};
 ghost use Rattle.clap.specs.Values.{kind_of};
 ghost use Rattle.pgpeer.specs.Options.{AsksForRun, AsksForHelp, IsRequest};
-ghost use Rattle.pgpeer.specs.Run.{AllAnswered, Stopped};
-ghost use Rattle.pgpeer.specs.Status.{script_bounds};
+ghost use Rattle.pgp_core.specs.Run.{AllAnswered, Stopped, script_bounds};
 
 use super::options::options;
-use super::output::write_out;
-use super::script::{Bounds, ScriptFault, run_within};
-use super::streams::{Sink, Source};
 use clap::Error;
+use pgp_core::{ScriptFault, Sink, Source, run_script, write_out};
 use std::alloc::{AllocError, Global};
 use std::io::Write;
 
@@ -21,12 +18,6 @@ pub const DONE: u8 = 0;
 pub const USAGE: u8 = 2;
 /// A read or a write failed, or the script is too large.
 pub const FAULT: u8 = 3;
-
-/// How large a script may be.
-pub const SCRIPT_BOUNDS: Bounds = Bounds {
-    lines: 1_000_000,
-    bytes: 4_294_967_296,
-};
 
 /// Does what the words ask for, the program's name first, and gives the status to exit with.
 ///
@@ -109,7 +100,7 @@ fn run<R: Source, W: Sink, E: Write>(
         × Stopped script_bounds (R.remaining reader.old) (R.remaining reader.new) (W.contents writer.old) (W.contents writer.new)
         (R.failed reader.new) (W.failed writer.new) }
 {
-    match run_within(alloc, reader, writer, SCRIPT_BOUNDS) {
+    match run_script(alloc, reader, writer) {
         Ok(()) => DONE,
         Err(ScriptFault::Read) => fault(ScriptFault::Read, errors),
         Err(ScriptFault::Write) => fault(ScriptFault::Write, errors),

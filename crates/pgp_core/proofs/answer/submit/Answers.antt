@@ -1,0 +1,10 @@
+use Rattle.std.proofs.Common.{◌≢◌, refl, rules}
+use Rattle.pgp_ids.specs.declared.refusal.Refusal.TheVariants.{Memory}
+use Rattle.pgp_core.proofs.OutputLemmas.{on_err}
+use Rattle.pgp_core.proofs.answer.submit.Goals as goal
+
+pub returns : goal.returns
+returns c =
+    let real : c.in-Err.refusal ≢ Memory = search rules in
+    let refused = c.in-Err.ensures.err real in
+    rw refused (record { text = c.write_line-in-Err.ensures; log = λ _. refl; kept = on_err _ refl })

@@ -1,0 +1,16 @@
+use Rattle.std.proofs.Common.{[], ◌∷◌, ◌++◌, sym, ap, ap₂, ◌∙◌, append_assoc}
+use Rattle.pgp_ids.specs.declared.history.EpochState.{EpochState}
+use Rattle.pgp_interval.specs.History.{stepped}
+use Rattle.pgp_core.proofs.HistoryLemmas.{last-push, told-push}
+use Rattle.pgp_core.proofs.history.history.Goals as goal
+
+pub loop-state-preserved : goal.loop-state-preserved
+loop-state-preserved c =
+    let invariant = c.loop-state.invariant in
+    let state = c.in-Some.state in (
+      tt,
+      tt,
+      append_assoc c.loop-state.yielded (state ∷ []) _ ∙ ap (λ l. c.loop-state.yielded ++ l) (sym c.in-Some.ensures.steps.0) ∙ invariant.2,
+      c.in_ok-step.ensures.ok ∙ ap₂ (λ h f. stepped h state.members f) invariant.3 invariant.4 ∙ told-push c.args.code c.args.opening c.loop-state.yielded state,
+      ap (λ (s : EpochState). s.facts) (sym (last-push c.args.opening c.loop-state.yielded state)),
+    )

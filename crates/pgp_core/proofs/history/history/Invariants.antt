@@ -1,0 +1,12 @@
+use Rattle.std.proofs.Common.{◌≡◌, ◌++◌}
+use Rattle.std.specs.Vec.Iter.{into_iter_items}
+use Rattle.pgp_core.specs.ToldHistory.{last_state, told_history}
+use Rattle.pgp_core.proofs.history.history.Given as goal
+
+abbrev pub invariant-loop-state : goal.invariant-loop-state
+invariant-loop-state l =
+    (goal.iterator-loop-state).can_next l.state-iterator ×
+    (goal.iterator-loop-state).is_finite l.state-iterator ×
+    (l.yielded ++ into_iter_items l.state-iterator ≡ into_iter_items l.fn.others) ×
+    (l.history ≡ told_history l.fn.code l.fn.opening l.yielded) ×
+    (l.facts ≡ (last_state l.fn.opening l.yielded).facts)

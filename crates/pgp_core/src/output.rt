@@ -1,0 +1,89 @@
+ghost use Rattle.std.specs.Prelude.{◌≡◌, ℕ, List, [], ◌++◌, true, OnOk, OnErr, vec_items};
+ghost use Rattle.std.specs.Io.KnownBytes.{Appends};
+ghost use Rattle.pgp_core.specs.Output.{Went, FrontWent};
+
+use super::streams::Sink;
+use std::alloc::Global;
+
+/// A write failed, or took no byte.
+#[derive(Clone, Copy, Debug, PartialEq, Eq)]
+pub struct WriteFault;
+
+/// How many bytes of answers wait before they are written.
+const PENDING_LIMIT: usize = 65536;
+
+/// Answers that are not yet written.
+#[derive(Debug, Drop)]
+pub struct Output {
+    pub pending: Vec<u8>,
+}
+
+impl Output {
+    pub fn new(alloc: Global) -> Self
+        ensures { result.pending.items ≡ [] }
+    {
+        Output {
+            pending: Vec::new(alloc),
+        }
+    }
+
+    /// Writes what is pending.
+    pub fn flush<W: Sink>(&mut self, writer: &mut W) -> Result<(), WriteFault>
+        ensures ok { OnOk result (Appends (W.contents writer.old) (W.contents writer.new) self.old.pending.items) }
+        ensures empty { OnOk result (self.new.pending.items ≡ []) }
+        ensures err { OnErr result (FrontWent (W.contents writer.old) (W.contents writer.new) self.old.pending.items) }
+        ensures told { OnErr result (W.failed writer.new ≡ true) }
+    {
+        write_out(writer, self.pending.as_slice())?;
+        self.pending.clear();
+        Ok(())
+    }
+
+    /// Writes what is pending, and has the writer pass it on.
+    pub fn close<W: Sink>(&mut self, writer: &mut W) -> Result<(), WriteFault>
+        ensures ok { OnOk result (Appends (W.contents writer.old) (W.contents writer.new) self.old.pending.items) }
+        ensures empty { OnOk result (self.new.pending.items ≡ []) }
+        ensures err { OnErr result (FrontWent (W.contents writer.old) (W.contents writer.new) self.old.pending.items) }
+        ensures told { OnErr result (W.failed writer.new ≡ true) }
+    {
+        self.flush(writer)?;
+        match writer.flush() {
+            Ok(()) => Ok(()),
+            Err(_) => Err(WriteFault),
+        }
+    }
+
+    /// Puts text after what is pending. Where there is no memory for it, all of it is written at once.
+    pub fn put<W: Sink>(&mut self, text: &[u8], writer: &mut W) -> Result<(), WriteFault>
+        ensures ok { OnOk result (Went (W.contents writer.old) (W.contents writer.new)
+            (self.old.pending.items ++ text.now) self.new.pending.items) }
+        ensures err { OnErr result (FrontWent (W.contents writer.old) (W.contents writer.new)
+            (self.old.pending.items ++ text.now)) }
+        ensures told { OnErr result (W.failed writer.new ≡ true) }
+    {
+        match self.pending.extend_from_slice(text) {
+            Ok(()) if self.pending.len() <= PENDING_LIMIT => Ok(()),
+            Ok(()) => self.flush(writer),
+            Err(_) => {
+                self.flush(writer)?;
+                write_out(writer, text)
+            }
+        }
+    }
+}
+
+/// Writes all of `text`.
+pub fn write_out<W: Sink>(writer: &mut W, text: &[u8]) -> Result<(), WriteFault>
+    ensures ok { OnOk result (Appends (W.contents writer.old) (W.contents writer.new) text.now) }
+    ensures err { OnErr result (FrontWent (W.contents writer.old) (W.contents writer.new) text.now) }
+    ensures told { OnErr result (W.failed writer.new ≡ true) }
+{
+    let mut rest = text;
+    while !rest.is_empty() {
+        match writer.write(rest) {
+            Ok(0) | Err(_) => return Err(WriteFault),
+            Ok(n) => rest = &rest[n..],
+        }
+    }
+    Ok(())
+}

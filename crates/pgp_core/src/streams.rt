@@ -1,0 +1,46 @@
+//! What a script is read from and its answers are written to: readers and writers that tell whether a call failed.
+ghost use Rattle.std.specs.Prelude.{◌≡◌, ℕ, ◌<◌, List, Option, Bool, true, false, IfOk, OnOk, OnErr, length};
+ghost use Rattle.std.specs.Io.{ReadsAtMost, WritesAtMost};
+ghost use Rattle.std.specs.Io.KnownBytes.{Keeps, ReadConsumes, WriteAppends};
+
+use std::io;
+use std::io::{Read, Write};
+
+/// A reader that tells whether a read of it failed.
+pub trait Source {
+    // The bytes that reads will give from here on, where they are known.
+    ghost remaining: { Self → Option (List ℕ) };
+
+    // A read failed.
+    ghost failed: { Self → Bool };
+
+    /// Reads into `buf` and says how many bytes it gave: none only at the end, or with no room.
+    fn read(&mut self, buf: &mut [u8]) -> io::Result<usize>
+        ensures bound { ReadsAtMost result buf.new }
+        ensures bytes { ReadConsumes (remaining self.old) (remaining self.new) result buf.new }
+        ensures told { OnErr result (failed self.new ≡ true) }
+        ensures kept { OnOk result (failed self.new ≡ failed self.old) };
+}
+
+/// A writer that tells whether a call of it failed.
+pub trait Sink {
+    // The bytes that the writer holds, where they are known.
+    ghost contents: { Self → Option (List ℕ) };
+
+    // A write failed, or took no byte of some, or passing the bytes on failed.
+    ghost failed: { Self → Bool };
+
+    /// Writes a first part of `buf`, and says how many bytes it took.
+    fn write(&mut self, buf: &[u8]) -> io::Result<usize>
+        ensures bound { WritesAtMost result buf.now }
+        ensures bytes { WriteAppends (contents self.old) (contents self.new) result buf.now }
+        ensures told { OnErr result (failed self.new ≡ true) }
+        ensures stuck { IfOk result (λ n. n ≡ 0 → 0 < length buf.now → failed self.new ≡ true) }
+        ensures kept { IfOk result (λ n. 0 < n → failed self.new ≡ failed self.old) };
+
+    /// Passes on what was written.
+    fn flush(&mut self) -> io::Result<()>
+        ensures bytes { Keeps (contents self.old) (contents self.new) }
+        ensures told { OnErr result (failed self.new ≡ true) }
+        ensures kept { OnOk result (failed self.new ≡ failed self.old) };
+}

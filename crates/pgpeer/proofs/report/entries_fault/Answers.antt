@@ -1,5 +1,0 @@
-use Rattle.std.proofs.Common.{refl, ◌∙◌}
-use Rattle.pgpeer.proofs.report.entries_fault.Goals as goal
-
-pub returns : goal.returns
-returns c incs is = c.report_fault.ensures incs is ∙ rw (c.has_bad_entries-bad.ensures, c.as_slice.ensures) refl
