@@ -17,13 +17,13 @@ fn slots(list: &[u8]) -> SlotSet {
 #[test]
 fn sets_hold_their_slots(rt: HostRuntime) {
     let set = slots(&[7, 0, 31, 7]);
-    assert_eq!(rt; set.count(), 3);
+    assert!(rt; set.count() == 3);
     assert!(rt; set.has(0) && set.has(7) && set.has(31) && !set.has(1));
     assert!(rt; slots(&[7, 31]).within(set) && !slots(&[7, 1]).within(set));
 }
 
 /// Slots, and whether they are enough of copies, of two data shards, and of three.
-const ENOUGH: [(&[u8], [bool; 3]); 6] = [
+static ENOUGH: [(&[u8], [bool; 3]); 6] = [
     (&[], [false, false, false]),
     (&[0], [true, false, false]),
     (&[2], [true, false, false]),
@@ -41,6 +41,6 @@ fn codes_count_slots(rt: HostRuntime) {
     for (list, enough) in &ENOUGH {
         let have = slots(list);
         let found = [copies.enough(have), two.enough(have), three.enough(have)];
-        assert_eq!(rt; found, *enough, "of {list:?}");
+        assert!(rt; found == *enough, "of {list:?}");
     }
 }

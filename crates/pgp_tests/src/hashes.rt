@@ -5,7 +5,7 @@ use pgp_hash::{Triple, hash2, hash3, hash4, mask_of, mix, name_hash, stable_mod}
 
 /// Two, three or four words, and their hash. In the last ten rows the second word is the id of a uniform bucket of 247 to 256
 /// items, whose first choices by `crushtool --test` leave one hash.
-const HASHES: [(&[u32], u32); 22] = [
+static HASHES: [(&[u32], u32); 22] = [
     (&[0, 0], 0x19ad_4ce9),
     (&[1, 2], 0xb78d_ee9c),
     (&[2, 1], 0xe38e_fe44),
@@ -32,7 +32,7 @@ const HASHES: [(&[u32], u32); 22] = [
 
 /// Words, and the lower 16 bits of their hash. By `crushtool --test`: from which weight on a device is in, and from which
 /// weight on a list bucket chooses its last item, is one more.
-const LOW_HALVES: [(&[u32], u32); 20] = [
+static LOW_HALVES: [(&[u32], u32); 20] = [
     (&[0, 0], 0x4ce9),
     (&[1, 1], 0x3f38),
     (&[7, 4095], 0xf0d7),
@@ -68,12 +68,11 @@ fn hash(words: &[u32]) -> Option<u32> {
 #[test]
 fn hashes_words(rt: HostRuntime) {
     for (words, full) in &HASHES {
-        assert_eq!(rt; hash(words), Some(*full), "of {words:?}");
+        assert!(rt; hash(words) == Some(*full), "of {words:?}");
     }
     for (words, low) in &LOW_HALVES {
-        assert_eq!(rt;
-            hash(words).map(|hash| hash & 0xffff),
-            Some(*low),
+        assert!(rt;
+            hash(words).is_some_and(|hash| hash & 0xffff == *low),
             "of {words:?}"
         );
     }
@@ -90,12 +89,12 @@ fn mixes_three_words(rt: HostRuntime) {
     ] {
         let [a, b, c] = given;
         let words = mix(Triple { a, b, c });
-        assert_eq!(rt; [words.a, words.b, words.c], mixed);
+        assert!(rt; [words.a, words.b, words.c] == mixed);
     }
 }
 
 /// Names, also with bytes from 128 on, and their hashes.
-const NAMES: [(&[u8], u32); 20] = [
+static NAMES: [(&[u8], u32); 20] = [
     (b"", 0xbd49_d10d),
     (b"a", 0x29ee_c818),
     (b"object", 0x570e_3222),
@@ -137,7 +136,7 @@ const NAMES: [(&[u8], u32); 20] = [
 ];
 
 /// Names, and their groups among 2^30 by `osdmaptool --test-map-object`: the lower 30 bits of the hash.
-const GROUPS_OF_NAMES: [(&[u8], u32); 13] = [
+static GROUPS_OF_NAMES: [(&[u8], u32); 13] = [
     (b"a", 0x29ee_c818),
     (b"ab", 0x1879_ac41),
     (b"abcd", 0x1ae6_1fa5),
@@ -156,13 +155,12 @@ const GROUPS_OF_NAMES: [(&[u8], u32); 13] = [
 #[test]
 fn hashes_names(rt: HostRuntime) {
     for (name, hash) in &NAMES {
-        assert_eq!(rt; name_hash(name), *hash, "of {name:?}");
+        assert!(rt; name_hash(name) == *hash, "of {name:?}");
     }
     let mask = mask_of(1 << 30);
     for (name, group) in &GROUPS_OF_NAMES {
-        assert_eq!(rt;
-            stable_mod(name_hash(name), 1 << 30, mask),
-            *group,
+        assert!(rt;
+            stable_mod(name_hash(name), 1 << 30, mask) == *group,
             "of {name:?}"
         );
     }
@@ -179,9 +177,9 @@ fn finds_groups(rt: HostRuntime) {
         (1025, 2047),
         (0xffff_ffff, 0xffff_ffff),
     ] {
-        assert_eq!(rt; mask_of(groups), mask, "for {groups} groups");
+        assert!(rt; mask_of(groups) == mask, "for {groups} groups");
     }
     for (hash, group) in [(11, 11), (12, 4), (15, 7), (16, 0), (0x29ee_c818, 8)] {
-        assert_eq!(rt; stable_mod(hash, 12, mask_of(12)), group, "of {hash}");
+        assert!(rt; stable_mod(hash, 12, mask_of(12)) == group, "of {hash}");
     }
 }

@@ -82,7 +82,7 @@ const SERVED: [Told; 4] = [
 
 /// How many of which infos came, and the device of the best of them where the newest write is preferred, and the oldest.
 /// Device 0 leads.
-const BEST: [(&[Told], usize, Option<u16>, Option<u16>); 9] = [
+static BEST: [(&[Told], usize, Option<u16>, Option<u16>); 9] = [
     (&AGAIN, 0, None, None),
     (&AGAIN, 3, Some(0), Some(0)),
     (&AGAIN, 4, Some(1), Some(1)),
@@ -99,9 +99,9 @@ fn finds_the_best(rt: HostRuntime) -> Result<(), Fail> {
     let primary = Some(member(0, 0)?);
     for (row, (infos, count, newest, oldest)) in BEST.iter().enumerate() {
         let copies = heard(rt.alloc(), NewestFirst { primary }, infos, *count)?;
-        assert_eq!(rt; leader(&copies), *newest, "row {row}");
+        assert!(rt; leader(&copies) == *newest, "row {row}");
         let shards = heard(rt.alloc(), OldestFirst { primary }, infos, *count)?;
-        assert_eq!(rt; leader(&shards), *oldest, "row {row}");
+        assert!(rt; leader(&shards) == *oldest, "row {row}");
     }
     Ok(())
 }
@@ -112,7 +112,7 @@ fn forgets_members(rt: HostRuntime) -> Result<(), Fail> {
     let mut heard = heard(rt.alloc(), NewestFirst { primary }, &AGAIN, 3)?;
     for (osd, best) in [(0, Some(1)), (1, Some(2)), (2, None)] {
         heard.drop_member(&member(osd, 0)?);
-        assert_eq!(rt; leader(&heard), best);
+        assert!(rt; leader(&heard) == best);
     }
     Ok(())
 }

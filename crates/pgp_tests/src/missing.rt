@@ -116,7 +116,7 @@ const FAR: Entries = &[
 ];
 
 /// The copy of the best info, its log entries, a peer's copy, and the peer's state.
-const STATES: [(Held, Entries, Held, &str); 24] = [
+static STATES: [(Held, Entries, Held, &str); 24] = [
     (
         Held(At(1, 1), At(2, 3), true),
         TWO,
@@ -273,7 +273,7 @@ fn found(alloc: Global, best: Held, entries: Entries, peer: Held) -> Result<Stri
 fn finds_what_peers_miss(rt: HostRuntime) -> Result<(), Fail> {
     for (best, entries, peer, words) in &STATES {
         let found = found(rt.alloc(), *best, entries, *peer)?;
-        assert_eq!(rt; found.as_str(), *words);
+        assert!(rt; found.as_str() == *words, "{found}");
     }
     Ok(())
 }

@@ -1,16 +1,16 @@
 //! What the maps of a list of incrementals say of a placement group: its intervals, its prior sets and the statuses of its
 //! devices.
 
-use super::fixtures::group;
+use super::fixtures::{group, incremental};
 use super::prior_sets::told;
 use pgp_code::AnyCode;
-use pgp_ids::{Entry, Epoch, EpochState, Incremental, Membership, OsdId, PgId, PrimaryFacts, Seq};
+use pgp_ids::{Epoch, EpochState, Membership, OsdId, PgId, PrimaryFacts, Seq};
 use pgp_interval::Intervals;
 use pgp_map::OsdMap;
 use pgp_prior::{Prior, prior};
 use pgp_sets::{Status, StatusOf, up_acting};
-use pgp_text::{Command, Reply, read_line, write_reply};
-use std::alloc::Global;
+use pgp_text::{Reply, write_reply};
+use std::alloc::{AllocError, Global};
 use std::test::Fail;
 
 /// Pool 1 of three copies over the devices 0, 1 and 2, of which device 0 alone has weight; pg_temp puts its one group on
@@ -25,21 +25,6 @@ const WITHOUT_TEMP: &str =
 /// Pool 1 of two data shards and one more over six devices without weight; pg_temp puts its one group on the first three.
 const SHARDS: &str =
     r#"{"op":"inc","epoch":1,"up":[0,1,2,3,4,5],"weight":[[0,0],[1,0],[2,0],[3,0],[4,0],[5,0]],"crush":[{"id":-1,"type":1,"alg":"uniform","items":[0,1,2,3,4,5]}],"pools":[{"id":1,"pg_num":1,"kind":"erasure","k":2,"size":3,"min_size":2,"leaf":0}],"temp":[[1,0,[0,1,2]]]}"#;
-
-/// The incremental that the line is.
-fn incremental(alloc: Global, line: &str) -> Option<Incremental> {
-    match read_line(alloc, line.as_bytes()).ok()? {
-        Command::Submit(entry) => incremental_of(entry),
-        _other => None,
-    }
-}
-
-fn incremental_of(entry: Entry) -> Option<Incremental> {
-    match entry {
-        Entry::Inc(inc) => Some(inc),
-        _other => None,
-    }
-}
 
 /// The map with one incremental more.
 fn grow(alloc: Global, map: &mut OsdMap, line: &str) -> Result<(), Fail> {
@@ -61,9 +46,15 @@ fn members_of(map: &OsdMap, pg: PgId) -> Option<Membership> {
 
 /// What the map says of the primary, if there is one.
 fn facts_of(map: &OsdMap, primary: Option<OsdId>) -> PrimaryFacts {
-    PrimaryFacts {
-        up_from: primary.map_or(Epoch::new(0), |osd| map.up_from(osd)),
-        up_thru: primary.map_or(Epoch::new(0), |osd| map.up_thru(osd)),
+    match primary {
+        Some(osd) => PrimaryFacts {
+            up_from: map.up_from(osd),
+            up_thru: map.up_thru(osd),
+        },
+        None => PrimaryFacts {
+            up_from: Epoch::new(0),
+            up_thru: Epoch::new(0),
+        },
     }
 }
 
@@ -75,7 +66,7 @@ fn state_of(map: &OsdMap) -> Result<EpochState, Fail> {
 }
 
 /// The map of these incrementals, the first of which makes the group, and the states of the group, one for each of them.
-fn follow(alloc: Global, lines: &[&str]) -> Result<(OsdMap, Vec<EpochState>), Fail> {
+fn states_of(alloc: Global, lines: &[&str]) -> Result<(OsdMap, Vec<EpochState>), Fail> {
     let mut map = OsdMap::empty(alloc);
     let mut states = Vec::new(alloc);
     for line in lines {
@@ -105,29 +96,32 @@ fn history(
     Ok(history)
 }
 
-/// The group's intervals after these incrementals, as a trace is answered.
-fn intervals(alloc: Global, lines: &[&str]) -> Result<Vec<u8>, Fail> {
-    let (map, states) = follow(alloc, lines)?;
+/// The map of these incrementals, and the group's history by them.
+fn follow(alloc: Global, lines: &[&str]) -> Result<(OsdMap, Intervals<AnyCode>), Fail> {
+    let (map, states) = states_of(alloc, lines)?;
     let history = history(alloc, &map, states)?;
+    Ok((map, history))
+}
+
+/// The group's intervals, as a trace is answered.
+fn intervals(alloc: Global, history: &Intervals<AnyCode>) -> Result<Vec<u8>, AllocError> {
     let reply = Reply::Traced {
         first: history.current().first,
         past: Seq::from_vec(history.past(alloc)?),
     };
-    Ok(write_reply(alloc, &reply)?)
+    write_reply(alloc, &reply)
 }
 
-/// The group's prior set after these incrementals.
-fn prior_set(alloc: Global, lines: &[&str]) -> Result<Prior, Fail> {
-    let (map, states) = follow(alloc, lines)?;
-    let history = history(alloc, &map, states)?;
+/// The group's prior set.
+fn prior_set(alloc: Global, map: &OsdMap, history: &Intervals<AnyCode>) -> Result<Prior, Fail> {
     let past = history.past(alloc)?;
-    let members = members_of(&map, group()?).ok_or("no such group")?;
+    let members = members_of(map, group()?).ok_or("no such group")?;
     let les = Epoch::new(0);
-    Ok(prior(alloc, history.code(), past.as_slice(), &members, les, &map)?)
+    Ok(prior(alloc, history.code(), past.as_slice(), &members, les, map)?)
 }
 
 /// Incrementals, and the group's intervals.
-const INTERVALS: [(&[&str], &str); 7] = [
+static INTERVALS: [(&[&str], &str); 7] = [
     // Where pg_temp puts the group on devices that aren't up, the up set serves, and no interval ends by that.
     (
         &[
@@ -186,8 +180,9 @@ const INTERVALS: [(&[&str], &str); 7] = [
 #[test]
 fn follows_intervals(rt: HostRuntime) -> Result<(), Fail> {
     for (lines, answer) in &INTERVALS {
-        let text = intervals(rt.alloc(), lines)?;
-        assert_eq!(rt; text.as_slice(), answer.as_bytes());
+        let (_map, history) = follow(rt.alloc(), lines)?;
+        let text = intervals(rt.alloc(), &history)?;
+        assert!(rt; text.as_slice() == answer.as_bytes(), "{answer}");
     }
     Ok(())
 }
@@ -200,7 +195,7 @@ const MOVED: &str = r#"{"op":"inc","epoch":3,"down":[1,2],"temp":[[1,0,[0,3,4]]]
 
 /// Incrementals, and the group's prior set. It waits for both shards that are down, until one is given up for lost after the
 /// interval began, and then for the other again where that one is destroyed.
-const PRIOR_SETS: [(&[&str], &str); 6] = [
+static PRIOR_SETS: [(&[&str], &str); 6] = [
     (&[SHARDS, SERVED, MOVED], "asks 0:0 3:1 4:2, down 1 2"),
     (
         &[
@@ -243,15 +238,16 @@ const PRIOR_SETS: [(&[&str], &str); 6] = [
 #[test]
 fn follows_prior_sets(rt: HostRuntime) -> Result<(), Fail> {
     for (lines, words) in &PRIOR_SETS {
-        let found = told(rt.alloc(), &prior_set(rt.alloc(), lines)?)?;
-        assert_eq!(rt; found.as_str(), *words);
+        let (map, history) = follow(rt.alloc(), lines)?;
+        let found = told(rt.alloc(), &prior_set(rt.alloc(), &map, &history)?)?;
+        assert!(rt; found.as_str() == *words, "{found}");
     }
     Ok(())
 }
 
 /// Incrementals, one after the other, and what has become of device 1 since an interval that began in epoch 1, and since one
 /// that began in epoch 2: it is down until it is given up for lost, gone once it is destroyed, and up whenever it is up.
-const STATUSES: [(&str, Status, Status); 6] = [
+static STATUSES: [(&str, Status, Status); 6] = [
     (COPIES, Status::Up, Status::Up),
     (
         r#"{"op":"inc","epoch":2,"down":[1]}"#,
@@ -280,14 +276,14 @@ const STATUSES: [(&str, Status, Status); 6] = [
 fn follows_statuses(rt: HostRuntime) -> Result<(), Fail> {
     let osd = OsdId::new(1).ok_or("a device")?;
     let mut map = OsdMap::empty(rt.alloc());
-    assert_eq!(rt; map.status(osd, Epoch::new(1)), Status::Gone);
+    assert!(rt; map.status(osd, Epoch::new(1)) == Status::Gone);
     for (line, first, second) in &STATUSES {
         grow(rt.alloc(), &mut map, line)?;
         let found = (
             map.status(osd, Epoch::new(1)),
             map.status(osd, Epoch::new(2)),
         );
-        assert_eq!(rt; found, (*first, *second), "{line}");
+        assert!(rt; found == (*first, *second), "{line}");
     }
     Ok(())
 }

@@ -72,31 +72,52 @@ pub fn told(alloc: Global, prior: &Prior) -> Result<String, AllocError> {
     Ok(text)
 }
 
-/// Groups by their history: how many shards give an object back (0 for whole copies), past acting sets, present up and acting
-/// sets, the epoch in which it last began to serve, the statuses, and the prior set.
+/// A group by its history: how many shards give an object back (0 for whole copies), its past acting sets, its present up and
+/// acting sets, and the epoch in which it last began to serve.
 #[derive(Clone, Copy)]
-struct Row {
+struct Lived {
     k: u8,
     past: &'static [&'static [u16]],
     up: &'static [u16],
     acting: &'static [u16],
     les: u32,
-    statuses: &'static [Status],
-    words: &'static str,
 }
 
-/// In the epochs 1 and 2 two of three shards were enough to serve on the devices 0, 1 and 2, and now the group lies on 0, 3, 4.
-const fn moved(statuses: &'static [Status], les: u32, words: &'static str) -> Row {
-    Row {
-        k: 2,
-        past: &[&[0, 1, 2]],
-        up: &[],
-        acting: &[0, 3, 4],
-        les,
-        statuses,
-        words,
-    }
-}
+/// In the epochs 1 and 2 two of three shards were enough to serve on the devices 0, 1 and 2.
+const SHARDS: Lived = Lived {
+    k: 2,
+    past: &[&[0, 1, 2]],
+    up: &[],
+    acting: &[0, 3, 4],
+    les: 2,
+};
+
+/// It began to serve after them.
+const SERVED_SINCE: Lived = Lived {
+    k: 2,
+    past: &[&[0, 1, 2]],
+    up: &[],
+    acting: &[0, 3, 4],
+    les: 3,
+};
+
+/// The same devices in other places: each member once, in ascending order.
+const EXCHANGED: Lived = Lived {
+    k: 2,
+    past: &[&[7, 2, 5], &[5, 9999, 7], &[2, 5, 7]],
+    up: &[6, 3, 9999],
+    acting: &[6, 7, 3],
+    les: 0,
+};
+
+/// Of whole copies one is enough, and a device is one member wherever it stood.
+const COPIES: Lived = Lived {
+    k: 0,
+    past: &[&[2, 1], &[1]],
+    up: &[0, 2],
+    acting: &[2, 0],
+    les: 0,
+};
 
 const UP: Status = Status::Up;
 
@@ -106,69 +127,52 @@ const LOST: Status = Status::Lost;
 
 const GONE: Status = Status::Gone;
 
-const ROWS: [Row; 8] = [
-    moved(&[UP, DOWN, DOWN], 2, "asks 0:0 3:1 4:2, down 1 2"),
-    moved(&[UP, DOWN, DOWN], 3, "asks 0:0 3:1 4:2, not down"),
-    moved(&[UP, LOST, DOWN], 0, "asks 0:0 3:1 4:2, not down"),
-    moved(&[UP, GONE, DOWN], 0, "asks 0:0 3:1 4:2, down 2"),
-    moved(&[UP, GONE, GONE], 0, "asks 0:0 3:1 4:2, not down"),
-    // The same devices in other places: each member once, in ascending order.
-    Row {
-        k: 2,
-        past: &[&[7, 2, 5], &[5, 9999, 7], &[2, 5, 7]],
-        up: &[6, 3, 9999],
-        acting: &[6, 7, 3],
-        les: 0,
-        statuses: &[UP, UP, DOWN, UP, UP, DOWN, UP, UP],
-        words: "asks 3:1 3:2 6:0 7:0 7:1 7:2, down 2 5",
-    },
-    // Of whole copies one is enough, and a device is one member wherever it stood.
-    Row {
-        k: 0,
-        past: &[&[2, 1], &[1]],
-        up: &[0, 2],
-        acting: &[2, 0],
-        les: 0,
-        statuses: &[UP, DOWN, UP],
-        words: "asks 0:0 2:0, down 1",
-    },
-    Row {
-        k: 0,
-        past: &[&[2, 1], &[1]],
-        up: &[0, 2],
-        acting: &[2, 0],
-        les: 0,
-        statuses: &[UP, UP, UP],
-        words: "asks 0:0 1:0 2:0, not down",
-    },
+/// Groups, the statuses of the devices, and the prior sets.
+static PRIOR_SETS: [(Lived, &[Status], &str); 8] = [
+    (SHARDS, &[UP, DOWN, DOWN], "asks 0:0 3:1 4:2, down 1 2"),
+    (
+        SERVED_SINCE,
+        &[UP, DOWN, DOWN],
+        "asks 0:0 3:1 4:2, not down",
+    ),
+    (SHARDS, &[UP, LOST, DOWN], "asks 0:0 3:1 4:2, not down"),
+    (SHARDS, &[UP, GONE, DOWN], "asks 0:0 3:1 4:2, down 2"),
+    (SHARDS, &[UP, GONE, GONE], "asks 0:0 3:1 4:2, not down"),
+    (
+        EXCHANGED,
+        &[UP, UP, DOWN, UP, UP, DOWN, UP, UP],
+        "asks 3:1 3:2 6:0 7:0 7:1 7:2, down 2 5",
+    ),
+    (COPIES, &[UP, DOWN, UP], "asks 0:0 2:0, down 1"),
+    (COPIES, &[UP, UP, UP], "asks 0:0 1:0 2:0, not down"),
 ];
 
-/// The prior set of this row in words.
-fn found(alloc: Global, row: &Row) -> Result<String, AllocError> {
-    let code = AnyCode::of_pool(if row.k == 0 {
+/// The prior set of this group in words.
+fn found(alloc: Global, lived: Lived, statuses: &[Status]) -> Result<String, AllocError> {
+    let code = AnyCode::of_pool(if lived.k == 0 {
         PoolKind::Replicated
     } else {
-        PoolKind::Erasure { k: row.k }
+        PoolKind::Erasure { k: lived.k }
     });
-    let past = written_on(alloc, row.past)?;
-    let current = lying_on(row.up, row.acting);
-    let les = Epoch::new(row.les);
+    let past = written_on(alloc, lived.past)?;
+    let current = lying_on(lived.up, lived.acting);
+    let les = Epoch::new(lived.les);
     let prior = prior(
         alloc,
         &code,
         past.as_slice(),
         &current,
         les,
-        &Listed(row.statuses),
+        &Listed(statuses),
     )?;
     told(alloc, &prior)
 }
 
 #[test]
 fn finds_prior_sets(rt: HostRuntime) -> Result<(), Fail> {
-    for row in &ROWS {
-        let found = found(rt.alloc(), row)?;
-        assert_eq!(rt; found.as_str(), row.words);
+    for (lived, statuses, words) in &PRIOR_SETS {
+        let found = found(rt.alloc(), *lived, statuses)?;
+        assert!(rt; found.as_str() == *words, "{found}");
     }
     Ok(())
 }

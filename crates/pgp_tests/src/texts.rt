@@ -11,7 +11,7 @@ use std::alloc::{AllocError, Global};
 use std::test::Fail;
 
 /// Lines, and the commands that they are, as `Debug` writes them.
-const LINES: [(&str, &str); 6] = [
+static LINES: [(&str, &str); 6] = [
     (
         r#" {"op":"inc","epoch":1,"up":[0,1,2],"weight":[[1,0],[2,7]],"crush":[{"id":-1,"type":1,"alg":"list","items":[0,1,-2],"weights":[1,2,3]},{"id":-2,"type":1,"alg":"uniform","items":[]}],"pools":[{"id":2,"pg_num":1,"kind":"erasure","k":2,"size":3,"min_size":2,"leaf":0}],"temp":[[1,0,[0,null,2]]]}
 "#,
@@ -41,9 +41,14 @@ fn reads_lines(rt: HostRuntime) -> Result<(), Fail> {
     for (line, words) in &LINES {
         let command = read_line(rt.alloc(), line.as_bytes())?;
         let told = format!(in rt.alloc(); "{command:?}")?;
-        assert_eq!(rt; told.as_str(), *words);
+        assert!(rt; told.as_str() == *words, "{told}");
     }
     Ok(())
+}
+
+/// What is answered to what was refused.
+fn refused(alloc: Global, refused: Refused) -> Result<Vec<u8>, AllocError> {
+    write_reply(alloc, &Reply::Refused(refused))
 }
 
 #[test]
@@ -51,33 +56,27 @@ fn reads_no_line_of_bytes_that_are_no_text(rt: HostRuntime) -> Result<(), Fail> 
     let fault = read_line(rt.alloc(), b"{\"op\":\"\xff\"}")
         .err()
         .ok_or("a command")?;
-    let text = write_reply(rt.alloc(), &Reply::Refused(Refused::Line(fault)))?;
-    assert_eq!(rt;
-        text.as_slice(),
-        b"{\"code\":31,\"refused\":\"NotJson\"}".as_slice()
-    );
+    let text = refused(rt.alloc(), Refused::Line(fault))?;
+    assert!(rt; text.as_slice() == b"{\"code\":31,\"refused\":\"NotJson\"}".as_slice());
     Ok(())
 }
 
 #[test]
-fn tells_want_of_memory(rt: HostRuntime) -> Result<(), Fail> {
-    let entry = Reply::Refused(Refused::Entry(Refusal::Memory));
-    let text = write_reply(rt.alloc(), &entry)?;
-    assert_eq!(rt;
-        text.as_slice(),
-        b"{\"code\":51,\"refused\":\"Memory\"}".as_slice()
-    );
-    let question = Reply::Refused(Refused::Ask(AskRefusal::Memory));
-    let text = write_reply(rt.alloc(), &question)?;
-    assert_eq!(rt;
-        text.as_slice(),
-        b"{\"code\":41,\"refused\":\"Memory\"}".as_slice()
-    );
+fn tells_that_an_entry_found_no_memory(rt: HostRuntime) -> Result<(), Fail> {
+    let text = refused(rt.alloc(), Refused::Entry(Refusal::Memory))?;
+    assert!(rt; text.as_slice() == b"{\"code\":51,\"refused\":\"Memory\"}".as_slice());
+    Ok(())
+}
+
+#[test]
+fn tells_that_a_question_found_no_memory(rt: HostRuntime) -> Result<(), Fail> {
+    let text = refused(rt.alloc(), Refused::Ask(AskRefusal::Memory))?;
+    assert!(rt; text.as_slice() == b"{\"code\":41,\"refused\":\"Memory\"}".as_slice());
     Ok(())
 }
 
 /// A list of one item.
-fn one<T>(alloc: Global, item: T) -> Result<Seq<T>, AllocError> {
+fn one<T: Drop>(alloc: Global, item: T) -> Result<Seq<T>, AllocError> {
     let mut items = Seq::new(alloc);
     items.push(item)?;
     Ok(items)
@@ -128,6 +127,6 @@ fn writes_a_view(rt: HostRuntime) -> Result<(), Fail> {
     let text = write_reply(rt.alloc(), &reply)?;
     let expected =
         r#"{"acting":[null,5],"acting_primary":5,"best":[2,3],"blocked_by":[2],"count":5,"epoch":9,"first":8,"intervals":[],"les":7,"missing":[{"member":[2,3],"objects":{"a\"":[1,2]},"state":"missing"}],"ok":"ask","pg":[1,0],"probe":[[2,3]],"up":[],"up_primary":null,"verdict":"NeedUpThru"}"#;
-    assert_eq!(rt; text.as_slice(), expected.as_bytes());
+    assert!(rt; text.as_slice() == expected.as_bytes());
     Ok(())
 }
