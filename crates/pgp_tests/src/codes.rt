@@ -1,14 +1,13 @@
-//! Which slots are enough, by each code.
+//! Which slots are enough, by the code of each kind of pool.
 
-use pgp_code::{AnyCode, Erasure, Recoverable, Replicated};
-use pgp_ids::{PoolKind, SlotSet};
-use std::test::Fail;
+use pgp_code::{AnyCode, Erasure, Recoverable};
+use pgp_ids::{PoolKind, SLOT_LIMIT, SlotSet};
 
 /// The set of these slots.
-fn slots<const N: usize>(list: &[u8; N]) -> SlotSet {
+fn slots(list: &[u8]) -> SlotSet {
     let mut set = SlotSet::empty();
     for slot in list {
-        if *slot < 32 {
+        if *slot < SLOT_LIMIT {
             set = set.with(*slot);
         }
     }
@@ -18,31 +17,30 @@ fn slots<const N: usize>(list: &[u8; N]) -> SlotSet {
 #[test]
 fn sets_hold_their_slots(rt: HostRuntime) {
     let set = slots(&[7, 0, 31, 7]);
-    assert_eq!(rt; set.count(), 3);
+    assert!(rt; set.count() == 3);
     assert!(rt; set.has(0) && set.has(7) && set.has(31) && !set.has(1));
-    assert!(rt; slots(&[7, 31]).within(set));
-    assert!(rt; !slots(&[7, 1]).within(set));
-    assert!(rt; SlotSet::empty().within(SlotSet::empty()));
+    assert!(rt; slots(&[7, 31]).within(set) && !slots(&[7, 1]).within(set));
 }
 
-#[test]
-fn codes_count_slots(rt: HostRuntime) -> Result<(), Fail> {
-    let copies = AnyCode::Replicated(Replicated);
-    let shards = AnyCode::Erasure(Erasure::new(2).ok_or("two shards")?);
-    assert!(rt; Erasure::new(0).is_none());
-    assert!(rt; !copies.by_place() && shards.by_place());
-    assert!(rt; copies.enough(slots(&[0])) && !copies.enough(SlotSet::empty()));
-    assert!(rt; shards.enough(slots(&[0, 2])) && shards.enough(slots(&[0, 1, 2])));
-    assert!(rt; !shards.enough(slots(&[2])) && !shards.enough(SlotSet::empty()));
-    Ok(())
-}
+/// Slots, and whether they are enough of copies, of two data shards, and of three.
+static ENOUGH: [(&[u8], [bool; 3]); 6] = [
+    (&[], [false, false, false]),
+    (&[0], [true, false, false]),
+    (&[2], [true, false, false]),
+    (&[0, 2], [true, true, false]),
+    (&[0, 1], [true, true, false]),
+    (&[0, 1, 2], [true, true, true]),
+];
 
 #[test]
-fn pools_have_their_codes(rt: HostRuntime) {
-    assert_eq!(rt;
-        AnyCode::of_pool(PoolKind::Replicated),
-        AnyCode::Replicated(Replicated)
-    );
+fn codes_count_slots(rt: HostRuntime) {
+    let copies = AnyCode::of_pool(PoolKind::Replicated);
+    let two = AnyCode::of_pool(PoolKind::Erasure { k: 2 });
     let three = AnyCode::of_pool(PoolKind::Erasure { k: 3 });
-    assert!(rt; three.enough(slots(&[0, 1, 2])) && !three.enough(slots(&[0, 1])));
+    assert!(rt; !copies.by_place() && two.by_place() && Erasure::new(0).is_none());
+    for (list, enough) in &ENOUGH {
+        let have = slots(list);
+        let found = [copies.enough(have), two.enough(have), three.enough(have)];
+        assert!(rt; found == *enough, "of {list:?}");
+    }
 }

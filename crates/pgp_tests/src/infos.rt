@@ -1,10 +1,20 @@
 //! The best of infos as they come, by both preferences.
 
-use pgp_ids::{Epoch, Info, Member, OsdId, PgId, PoolId, Version};
+use super::fixtures::group;
+use pgp_ids::{Epoch, Info, Member, OsdId, Version};
 use pgp_info::{Best, NewestFirst, OldestFirst, Prefer};
-use std::alloc::{AllocError, Global};
-use std::process::Abort;
+use std::alloc::Global;
 use std::test::Fail;
+
+/// What a member tells: its device and slot, the epochs of its last start and of the group's, the number of its last write,
+/// which was in epoch 1 if there was one, and whether its copy is complete.
+#[derive(Clone, Copy)]
+struct Told(u16, u8, u32, u32, u32, bool);
+
+fn member(osd: u16, slot: u8) -> Result<Member, Fail> {
+    let osd = OsdId::new(osd).ok_or("a device")?;
+    Ok(Member { osd, slot })
+}
 
 fn version(epoch: u32, v: u32) -> Version {
     Version {
@@ -13,113 +23,96 @@ fn version(epoch: u32, v: u32) -> Version {
     }
 }
 
-/// The info of a complete copy with the writes up to this one, sent in epoch 1.
-fn copy_up_to(last_update: Version, osd: u16, slot: u8) -> Result<Info, Fail> {
+fn info(told: Told) -> Result<Info, Fail> {
+    let Told(osd, slot, les, history_les, v, complete) = told;
     Ok(Info {
-        pg: PgId {
-            pool: PoolId::new(1).ok_or("a pool")?,
-            pg: 0,
-        },
-        member: Member {
-            osd: OsdId::new(osd).ok_or("a device")?,
-            slot,
-        },
+        pg: group()?,
+        member: member(osd, slot)?,
         stamp: Epoch::new(1),
-        les: Epoch::new(0),
-        history_les: Epoch::new(0),
-        last_update,
+        les: Epoch::new(les),
+        history_les: Epoch::new(history_les),
+        last_update: version(u32::from(v > 0), v),
         log_tail: version(0, 0),
-        complete: true,
+        complete,
     })
 }
 
-/// What is heard after these infos.
+/// What is heard after the first of these infos.
 fn heard<P: Prefer + Drop>(
     alloc: Global,
     prefer: P,
-    infos: &[Info],
-) -> Result<Best<P>, AllocError> {
+    infos: &[Told],
+    count: usize,
+) -> Result<Best<P>, Fail> {
     let mut heard = Best::new(alloc, prefer);
-    for info in infos {
-        heard.put(*info)?;
+    for told in infos.iter().take(count) {
+        heard.put(info(*told)?)?;
     }
     Ok(heard)
 }
 
-/// Whose copy is the one to go by.
-fn leader<P: Prefer>(heard: &Best<P>) -> Option<Member> {
-    heard.best().map(|info| info.member)
+/// The device whose copy is the one to go by.
+fn leader<P: Prefer>(heard: &Best<P>) -> Option<u16> {
+    heard.best().map(|info| info.member.osd.number())
 }
 
-/// This member's copy is the one to go by.
-fn expect<P: Prefer>(rt: &impl Abort, heard: &Best<P>, member: Option<Member>) {
-    assert_eq!(rt; leader(heard), member);
-}
+/// Three copies, of which the first one tells again that it isn't complete, and that it is.
+const AGAIN: [Told; 5] = [
+    Told(0, 0, 0, 0, 0, true),
+    Told(1, 0, 0, 0, 0, true),
+    Told(2, 0, 0, 0, 0, true),
+    Told(0, 0, 0, 0, 0, false),
+    Told(0, 0, 0, 0, 0, true),
+];
+
+/// Members in slots of their own, one of which lacks a write.
+const BEHIND: [Told; 3] = [
+    Told(0, 0, 0, 0, 2, true),
+    Told(1, 1, 0, 0, 1, true),
+    Told(2, 2, 0, 0, 2, true),
+];
+
+/// A copy with a write more and one that served, which then tells that it didn't; the first has heard of a start.
+const SERVED: [Told; 4] = [
+    Told(0, 0, 0, 0, 4, true),
+    Told(1, 0, 1, 0, 3, true),
+    Told(1, 0, 0, 0, 3, true),
+    Told(0, 0, 0, 1, 4, true),
+];
+
+/// How many of which infos came, and the device of the best of them where the newest write is preferred, and the oldest.
+/// Device 0 leads.
+static BEST: [(&[Told], usize, Option<u16>, Option<u16>); 9] = [
+    (&AGAIN, 0, None, None),
+    (&AGAIN, 3, Some(0), Some(0)),
+    (&AGAIN, 4, Some(1), Some(1)),
+    (&AGAIN, 5, Some(0), Some(0)),
+    (&BEHIND, 3, Some(0), Some(1)),
+    (&SERVED, 1, Some(0), Some(0)),
+    (&SERVED, 2, Some(1), Some(1)),
+    (&SERVED, 3, Some(0), Some(1)),
+    (&SERVED, 4, None, None),
+];
 
 #[test]
-fn equal_copies(rt: HostRuntime) -> Result<(), Fail> {
-    let none = version(0, 0);
-    let infos = [
-        copy_up_to(none, 0, 0)?,
-        copy_up_to(none, 1, 0)?,
-        copy_up_to(none, 2, 0)?,
-    ];
-    let [first, second, third] = infos;
-    let partial = Info {
-        complete: false,
-        ..first
-    };
-    let primary = Some(first.member);
-    let mut heard = heard(rt.alloc(), NewestFirst { primary }, &infos)?;
-    expect(&rt, &heard, primary);
-    heard.put(partial)?;
-    expect(&rt, &heard, Some(second.member));
-    heard.put(first)?;
-    expect(&rt, &heard, primary);
-    heard.drop_member(&first.member);
-    expect(&rt, &heard, Some(second.member));
-    heard.drop_member(&second.member);
-    expect(&rt, &heard, Some(third.member));
-    heard.drop_member(&third.member);
-    expect(&rt, &heard, None);
+fn finds_the_best(rt: HostRuntime) -> Result<(), Fail> {
+    let primary = Some(member(0, 0)?);
+    for (row, (infos, count, newest, oldest)) in BEST.iter().enumerate() {
+        let copies = heard(rt.alloc(), NewestFirst { primary }, infos, *count)?;
+        assert!(rt; leader(&copies) == *newest, "row {row}");
+        let shards = heard(rt.alloc(), OldestFirst { primary }, infos, *count)?;
+        assert!(rt; leader(&shards) == *oldest, "row {row}");
+    }
     Ok(())
 }
 
 #[test]
-fn copies_that_differ_in_one_write(rt: HostRuntime) -> Result<(), Fail> {
-    let infos = [
-        copy_up_to(version(1, 2), 0, 0)?,
-        copy_up_to(version(1, 1), 1, 1)?,
-        copy_up_to(version(1, 2), 2, 2)?,
-    ];
-    let [first, second, _] = infos;
-    let primary = Some(first.member);
-    let shards = heard(rt.alloc(), OldestFirst { primary }, &infos)?;
-    expect(&rt, &shards, Some(second.member));
-    let copies = heard(rt.alloc(), NewestFirst { primary }, &infos)?;
-    expect(&rt, &copies, primary);
-    Ok(())
-}
-
-#[test]
-fn copy_that_served_later(rt: HostRuntime) -> Result<(), Fail> {
-    let served = Info {
-        les: Epoch::new(1),
-        ..copy_up_to(version(1, 3), 0, 0)?
-    };
-    let newer = copy_up_to(version(1, 4), 1, 0)?;
-    let prefer = NewestFirst {
-        primary: Some(newer.member),
-    };
-    let mut heard = heard(rt.alloc(), prefer, &[newer, served])?;
-    assert_eq!(rt; heard.best(), Some(&served));
-    heard.put(copy_up_to(version(1, 3), 0, 0)?)?;
-    assert_eq!(rt; heard.best(), Some(&newer));
-    let told = Info {
-        history_les: Epoch::new(1),
-        ..newer
-    };
-    heard.put(told)?;
-    expect(&rt, &heard, None);
+fn forgets_members(rt: HostRuntime) -> Result<(), Fail> {
+    let primary = Some(member(0, 0)?);
+    let mut heard = heard(rt.alloc(), NewestFirst { primary }, &AGAIN, 3)?;
+    for (osd, best) in [(0, Some(1)), (1, Some(2)), (2, None)] {
+        heard.drop_member(&member(osd, 0)?);
+        assert!(rt; leader(&heard) == best);
+    }
     Ok(())
 }

@@ -7,11 +7,11 @@
 #[cfg(test)]
 mod codes;
 #[cfg(test)]
+mod fixtures;
+#[cfg(test)]
 mod hashes;
 #[cfg(test)]
 mod infos;
-#[cfg(test)]
-mod intervals;
 #[cfg(test)]
 mod missing;
 #[cfg(test)]

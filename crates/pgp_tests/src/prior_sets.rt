@@ -1,11 +1,11 @@
 //! Prior sets by statuses that a list tells.
 
-use pgp_code::{Erasure, Recoverable, Replicated};
-use pgp_ids::{Epoch, MAX_OSDS, Membership, OsdId, Osds, Past};
+use super::fixtures::places;
+use pgp_code::AnyCode;
+use pgp_ids::{Epoch, Membership, OsdId, Past, PoolKind};
 use pgp_prior::{Prior, prior};
 use pgp_sets::{Status, StatusOf};
 use std::alloc::{AllocError, Global};
-use std::process::Abort;
 use std::test::Fail;
 
 /// The statuses of the devices 0, 1, 2, ..; later ones are up.
@@ -26,17 +26,6 @@ impl<'a> StatusOf for Listed<'a> {
     }
 }
 
-/// The list of these devices; a number out of range is an empty place.
-fn places(numbers: &[u16]) -> Osds {
-    let mut places = Osds::new();
-    for number in numbers {
-        if places.len() < MAX_OSDS {
-            places.push(OsdId::new(*number));
-        }
-    }
-    places
-}
-
 /// A group that lies on `up` and is served by `acting`.
 fn lying_on(up: &[u16], acting: &[u16]) -> Membership {
     let up = places(up);
@@ -51,20 +40,25 @@ fn lying_on(up: &[u16], acting: &[u16]) -> Membership {
     }
 }
 
-/// A past interval in which the group may have gone read-write on these devices.
-fn written_on(first: u32, last: u32, acting: &[u16]) -> Past {
-    Past {
-        first: Epoch::new(first),
-        last: Epoch::new(last),
-        members: lying_on(&[], acting),
-        rw: true,
+/// Past intervals, each two epochs long from epoch 1 on, in which the group may have gone read-write on these devices.
+fn written_on(alloc: Global, actings: &[&[u16]]) -> Result<Vec<Past>, AllocError> {
+    let mut past = Vec::new(alloc);
+    let mut first = 1u32;
+    for acting in actings {
+        past.push(Past {
+            first: Epoch::new(first),
+            last: Epoch::new(first.saturating_add(1)),
+            members: lying_on(&[], acting),
+            rw: true,
+        })?;
+        first = first.saturating_add(2);
     }
+    Ok(past)
 }
 
 /// A prior set in words.
-fn told(alloc: Global, prior: &Prior) -> Result<String, AllocError> {
-    let mut text = String::new(alloc);
-    text.push_str("asks")?;
+pub fn told(alloc: Global, prior: &Prior) -> Result<String, AllocError> {
+    let mut text = String::from_str(alloc, "asks")?;
     for member in prior.probe.as_slice() {
         let osd = member.osd.number();
         let slot = member.slot;
@@ -78,92 +72,107 @@ fn told(alloc: Global, prior: &Prior) -> Result<String, AllocError> {
     Ok(text)
 }
 
-/// The prior set of a group that has served since the epoch `les` is told in these words.
-fn expect<R: Recoverable>(
-    rt: &impl Abort,
-    alloc: Global,
-    code: &R,
-    past: &[Past],
-    current: &Membership,
+/// A group by its history: how many shards give an object back (0 for whole copies), its past acting sets, its present up and
+/// acting sets, and the epoch in which it last began to serve.
+#[derive(Clone, Copy)]
+struct Lived {
+    k: u8,
+    past: &'static [&'static [u16]],
+    up: &'static [u16],
+    acting: &'static [u16],
     les: u32,
-    statuses: &[Status],
-    words: &str,
-) -> Result<(), AllocError> {
-    let les = Epoch::new(les);
-    let prior = prior(alloc, code, past, current, les, &Listed(statuses))?;
-    let told = told(alloc, &prior)?;
-    assert_eq!(rt; told.as_str(), words);
-    Ok(())
 }
 
-/// The prior set of a group of two data shards that lay on 0, 1, 2 in the epochs 1 and 2, and now lies on 0, 3, 4.
-fn expect_moved(
-    rt: &impl Abort,
-    alloc: Global,
-    statuses: [Status; 3],
-    les: u32,
-    words: &str,
-) -> Result<(), Fail> {
-    let code = Erasure::new(2).ok_or("two shards")?;
-    let past = [written_on(1, 2, &[0, 1, 2])];
-    let current = lying_on(&[], &[0, 3, 4]);
-    expect(rt, alloc, &code, &past, &current, les, &statuses, words)?;
-    Ok(())
+/// In the epochs 1 and 2 two of three shards were enough to serve on the devices 0, 1 and 2.
+const SHARDS: Lived = Lived {
+    k: 2,
+    past: &[&[0, 1, 2]],
+    up: &[],
+    acting: &[0, 3, 4],
+    les: 2,
+};
+
+/// It began to serve after them.
+const SERVED_SINCE: Lived = Lived {
+    k: 2,
+    past: &[&[0, 1, 2]],
+    up: &[],
+    acting: &[0, 3, 4],
+    les: 3,
+};
+
+/// The same devices in other places: each member once, in ascending order.
+const EXCHANGED: Lived = Lived {
+    k: 2,
+    past: &[&[7, 2, 5], &[5, 9999, 7], &[2, 5, 7]],
+    up: &[6, 3, 9999],
+    acting: &[6, 7, 3],
+    les: 0,
+};
+
+/// Of whole copies one is enough, and a device is one member wherever it stood.
+const COPIES: Lived = Lived {
+    k: 0,
+    past: &[&[2, 1], &[1]],
+    up: &[0, 2],
+    acting: &[2, 0],
+    les: 0,
+};
+
+const UP: Status = Status::Up;
+
+const DOWN: Status = Status::Down;
+
+const LOST: Status = Status::Lost;
+
+const GONE: Status = Status::Gone;
+
+/// Groups, the statuses of the devices, and the prior sets.
+static PRIOR_SETS: [(Lived, &[Status], &str); 8] = [
+    (SHARDS, &[UP, DOWN, DOWN], "asks 0:0 3:1 4:2, down 1 2"),
+    (
+        SERVED_SINCE,
+        &[UP, DOWN, DOWN],
+        "asks 0:0 3:1 4:2, not down",
+    ),
+    (SHARDS, &[UP, LOST, DOWN], "asks 0:0 3:1 4:2, not down"),
+    (SHARDS, &[UP, GONE, DOWN], "asks 0:0 3:1 4:2, down 2"),
+    (SHARDS, &[UP, GONE, GONE], "asks 0:0 3:1 4:2, not down"),
+    (
+        EXCHANGED,
+        &[UP, UP, DOWN, UP, UP, DOWN, UP, UP],
+        "asks 3:1 3:2 6:0 7:0 7:1 7:2, down 2 5",
+    ),
+    (COPIES, &[UP, DOWN, UP], "asks 0:0 2:0, down 1"),
+    (COPIES, &[UP, UP, UP], "asks 0:0 1:0 2:0, not down"),
+];
+
+/// The prior set of this group in words.
+fn found(alloc: Global, lived: Lived, statuses: &[Status]) -> Result<String, AllocError> {
+    let code = AnyCode::of_pool(if lived.k == 0 {
+        PoolKind::Replicated
+    } else {
+        PoolKind::Erasure { k: lived.k }
+    });
+    let past = written_on(alloc, lived.past)?;
+    let current = lying_on(lived.up, lived.acting);
+    let les = Epoch::new(lived.les);
+    let prior = prior(
+        alloc,
+        &code,
+        past.as_slice(),
+        &current,
+        les,
+        &Listed(statuses),
+    )?;
+    told(alloc, &prior)
 }
 
 #[test]
-fn two_shards_down(rt: HostRuntime) -> Result<(), Fail> {
-    let statuses = [Status::Up, Status::Down, Status::Down];
-    let words = "asks 0:0 3:1 4:2, down 1 2";
-    expect_moved(&rt, rt.alloc(), statuses, 2, words)?;
-    let since = "asks 0:0 3:1 4:2, not down";
-    expect_moved(&rt, rt.alloc(), statuses, 3, since)
-}
-
-#[test]
-fn one_shard_lost(rt: HostRuntime) -> Result<(), Fail> {
-    let statuses = [Status::Up, Status::Lost, Status::Down];
-    let words = "asks 0:0 3:1 4:2, not down";
-    expect_moved(&rt, rt.alloc(), statuses, 0, words)
-}
-
-#[test]
-fn shards_gone(rt: HostRuntime) -> Result<(), Fail> {
-    let one = [Status::Up, Status::Gone, Status::Down];
-    expect_moved(&rt, rt.alloc(), one, 0, "asks 0:0 3:1 4:2, down 2")?;
-    let both = [Status::Up, Status::Gone, Status::Gone];
-    expect_moved(&rt, rt.alloc(), both, 0, "asks 0:0 3:1 4:2, not down")
-}
-
-/// Three intervals with the same devices in other places: each member once, in ascending order.
-#[test]
-fn several_intervals(rt: HostRuntime) -> Result<(), Fail> {
-    let code = Erasure::new(2).ok_or("two shards")?;
-    let past = [
-        written_on(1, 2, &[7, 2, 5]),
-        written_on(3, 4, &[5, 9999, 7]),
-        written_on(5, 6, &[2, 5, 7]),
-    ];
-    let current = lying_on(&[6, 3, 9999], &[6, 7, 3]);
-    let (up, down) = (Status::Up, Status::Down);
-    let statuses = [up, up, down, up, up, down, up, up];
-    let words = "asks 3:1 3:2 6:0 7:0 7:1 7:2, down 2 5";
-    expect(&rt, rt.alloc(), &code, &past, &current, 0, &statuses, words)?;
-    Ok(())
-}
-
-/// In a replicated pool one copy is enough, and a device is one member wherever it stood.
-#[test]
-fn copies(rt: HostRuntime) -> Result<(), Fail> {
-    let past = [written_on(1, 2, &[2, 1]), written_on(3, 4, &[1])];
-    let current = lying_on(&[0, 2], &[2, 0]);
-    let (up, down) = (Status::Up, Status::Down);
-    for (statuses, words) in [
-        ([up, down, up], "asks 0:0 2:0, down 1"),
-        ([up, up, up], "asks 0:0 1:0 2:0, not down"),
-    ] {
-        let a = rt.alloc();
-        expect(&rt, a, &Replicated, &past, &current, 0, &statuses, words)?;
+fn finds_prior_sets(rt: HostRuntime) -> Result<(), Fail> {
+    for (lived, statuses, words) in &PRIOR_SETS {
+        let found = found(rt.alloc(), *lived, statuses)?;
+        assert!(rt; found.as_str() == *words, "{found}");
     }
     Ok(())
 }

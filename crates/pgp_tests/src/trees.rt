@@ -1,15 +1,15 @@
-//! The calls with memory enough, and against values that were worked out apart from this project.
+//! Trees with as many buckets as a tree may have, and placements that Ceph's own tool makes too.
 
 ghost use Rattle.std.specs.Prelude.{◌≤ℤ◌, ◌<ℤ◌, pos, negsuc};
 
+use super::fixtures::{incremental, places};
+use pgp_crush::{Rule, Tree, TreeFault, place};
 use pgp_ids::{BucketAlg, BucketSpec, Seq};
 use std::alloc::{AllocError, Global};
-
-mod faults;
-mod placements;
+use std::test::Fail;
 
 /// A uniform bucket.
-fn uniform_bucket(alloc: Global, id: i32, kind: u8, items: &[i32]) -> Result<BucketSpec, AllocError>
+fn bucket(alloc: Global, id: i32, kind: u8, items: &[i32]) -> Result<BucketSpec, AllocError>
     requires low { negsuc 65535 ≤ℤ id }
     requires negative { id <ℤ pos 0 }
 {
@@ -22,41 +22,103 @@ fn uniform_bucket(alloc: Global, id: i32, kind: u8, items: &[i32]) -> Result<Buc
     })
 }
 
-/// A list bucket of two items.
-fn list_bucket(
-    alloc: Global,
-    id: i32,
-    kind: u8,
-    items: [i32; 2],
-    weights: [u32; 2],
-) -> Result<BucketSpec, AllocError>
-    requires low { negsuc 65535 ≤ℤ id }
-    requires negative { id <ℤ pos 0 }
-{
-    Ok(BucketSpec {
-        id,
-        kind,
-        alg: BucketAlg::List,
-        items: Seq::from_vec(items.to_vec(alloc)?),
-        weights: Seq::from_vec(weights.to_vec(alloc)?),
-    })
+/// The bucket that holds this one: the root, of number 0, holds the first four, and these hold the others.
+fn holder(number: u16) -> u16 {
+    if number <= 4 { 0 } else { 1 + number % 4 }
 }
 
-/// A list of one bucket.
-fn alone(alloc: Global, bucket: BucketSpec) -> Result<Vec<BucketSpec>, AllocError> {
+/// The ids of the buckets that the bucket of this number holds, of so many. The id of number 0 is -1, that of 1 is -2.
+fn held(alloc: Global, holding: u16, count: u16) -> Result<Vec<i32>, AllocError> {
+    let mut items = Vec::new(alloc);
+    for number in 1..count {
+        if holder(number) == holding {
+            items.push(-1 - i32::from(number))?;
+        }
+    }
+    Ok(items)
+}
+
+/// So many buckets in three levels.
+fn crowd(alloc: Global, count: u16) -> Result<Vec<BucketSpec>, AllocError> {
     let mut buckets = Vec::new(alloc);
-    buckets.push(bucket)?;
+    for number in 0..count {
+        let items = held(alloc, number, count)?;
+        let kind = match number {
+            0 => 3,
+            1..=4 => 2,
+            _ => 1,
+        };
+        buckets.push(bucket(alloc, -1 - i32::from(number), kind, &items)?)?;
+    }
     Ok(buckets)
 }
 
-/// A list of two buckets.
-fn pair(
-    alloc: Global,
-    first: BucketSpec,
-    second: BucketSpec,
-) -> Result<Vec<BucketSpec>, AllocError> {
-    let mut buckets = Vec::new(alloc);
-    buckets.push(first)?;
-    buckets.push(second)?;
-    Ok(buckets)
+#[test]
+fn counts_buckets(rt: HostRuntime) -> Result<(), Fail> {
+    for (count, fault) in [(1024, None), (1025, Some(TreeFault::TooMany))] {
+        let tree = Tree::check(rt.alloc(), crowd(rt.alloc(), count)?);
+        assert!(rt; tree.err() == fault, "{count} buckets");
+    }
+    Ok(())
+}
+
+/// A tree of four levels, with buckets of both kinds, over devices 0 to 6.
+const FOUR_LEVELS: &str =
+    r#"{"op":"inc","epoch":1,"crush":[{"id":-2,"type":2,"alg":"uniform","items":[0,1,2]},{"id":-3,"type":2,"alg":"list","items":[3,4],"weights":[65536,32768]},{"id":-4,"type":2,"alg":"uniform","items":[5,6]},{"id":-5,"type":3,"alg":"list","items":[-2,-3],"weights":[131072,65536]},{"id":-1,"type":4,"alg":"list","items":[-5,-4],"weights":[196608,98304]}]}"#;
+
+/// The tree that the incremental of this line gives.
+fn tree_of(alloc: Global, line: &str) -> Result<Tree, Fail> {
+    let inc = incremental(alloc, line).ok_or("no incremental")?;
+    let buckets = inc.crush.ok_or("no tree")?;
+    Ok(Tree::check(alloc, buckets.into_vec())?)
+}
+
+/// An empty place.
+const NONE: u16 = 9999;
+
+/// Whether a rule keeps places, the type of its items, an input, and the placement that `crushtool --test` of Ceph 16.2.15
+/// (pacific) makes on this tree, as `tools/compare_with_ceph.py` asks it.
+static PLACEMENTS: [(bool, u8, u32, &[u16]); 16] = [
+    (false, 0, 0, &[5, 2, 0]),
+    (false, 0, 2, &[6, 5, 0]),
+    (false, 0, 3, &[1, 2, 5]),
+    (false, 0, 4, &[0, 6, 2]),
+    (false, 2, 0, &[5, 2, 4]),
+    (false, 2, 2, &[6, 0, 4]),
+    (false, 2, 3, &[1, 5, 4]),
+    (false, 2, 4, &[0, 6, 4]),
+    (true, 0, 0, &[5, 0, 4]),
+    (true, 0, 2, &[6, 2, 5]),
+    (true, 0, 3, &[1, 2, 0]),
+    (true, 0, 6, &[4, 2, 0]),
+    (true, 2, 0, &[5, 4, NONE, 2]),
+    (true, 2, 2, &[6, NONE, 2, 4]),
+    (true, 2, 3, &[1, 4, NONE, NONE]),
+    (true, 2, 6, &[4, NONE, 2, NONE]),
+];
+
+/// Device 1 is in for half of the inputs, device 6 for a quarter, and device 3 is out.
+fn weights() -> [u32; 4096] {
+    let mut weights = [0x1_0000u32; 4096];
+    weights[1] = 0x8000;
+    weights[3] = 0;
+    weights[6] = 0x4000;
+    weights
+}
+
+#[test]
+fn places_where_ceph_places(rt: HostRuntime) -> Result<(), Fail> {
+    let tree = tree_of(rt.alloc(), FOUR_LEVELS)?;
+    let weights = weights();
+    for (indep, leaf, x, devices) in &PLACEMENTS {
+        let expected = places(devices);
+        let rule = Rule {
+            indep: *indep,
+            leaf: *leaf,
+        };
+        let count = if *indep && *leaf > 0 { 4 } else { 3 };
+        let found = place(Some(&tree), rule, &weights, *x, count);
+        assert!(rt; found == expected, "of {x}");
+    }
+    Ok(())
 }

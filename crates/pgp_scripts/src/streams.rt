@@ -1,0 +1,66 @@
+//! A script that lies in memory, and its answers.
+
+use pgp_core::{Sink, Source};
+use std::alloc::Global;
+use std::io;
+use std::io::ErrorKind;
+
+/// The part of a script that is still to be read.
+#[derive(Drop)]
+pub struct Given<'a> {
+    pub left: &'a [u8],
+}
+
+impl Source for Given<'_> {
+    ghost use Rattle.std.specs.Prelude.{Some, false};
+
+    ghost remaining = { λ given. Some given.left.now };
+
+    ghost failed = { λ _. false };
+
+    fn read(&mut self, buf: &mut [u8]) -> io::Result<usize> {
+        let count = buf.len().min(self.left.len());
+        let (given, left) = self.left.split_at(count);
+        buf[..count].copy_from_slice(given);
+        self.left = left;
+        Ok(count)
+    }
+}
+
+/// What was written so far, and whether there was no memory for some of it.
+#[derive(Drop)]
+pub struct Taken {
+    pub bytes: Vec<u8>,
+    failed: bool,
+}
+
+impl Taken {
+    pub fn new(alloc: Global) -> Self {
+        Taken {
+            bytes: Vec::new(alloc),
+            failed: false,
+        }
+    }
+}
+
+impl Sink for Taken {
+    ghost use Rattle.std.specs.Prelude.{Some};
+
+    ghost contents = { λ taken. Some taken.bytes.items };
+
+    ghost failed = { λ taken. taken.failed };
+
+    fn write(&mut self, buf: &[u8]) -> io::Result<usize> {
+        match self.bytes.extend_from_slice(buf) {
+            Ok(()) => Ok(buf.len()),
+            Err(_) => {
+                self.failed = true;
+                Err(io::Error::from(ErrorKind::OutOfMemory))
+            }
+        }
+    }
+
+    fn flush(&mut self) -> io::Result<()> {
+        Ok(())
+    }
+}
