@@ -105,8 +105,9 @@ fn follow(alloc: Global, lines: &[&str]) -> Result<(OsdMap, Intervals<AnyCode>),
 
 /// The group's intervals, as a trace is answered.
 fn intervals(alloc: Global, history: &Intervals<AnyCode>) -> Result<Vec<u8>, AllocError> {
+    let (first, _) = history.current();
     let reply = Reply::Traced {
-        first: history.current().first,
+        first,
         past: Seq::from_vec(history.past(alloc)?),
     };
     write_reply(alloc, &reply)
