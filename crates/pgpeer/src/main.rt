@@ -20,7 +20,9 @@ mod tests;
 fn main(rt: HostRuntime) -> ExitCode {
     let alloc = rt.alloc();
     let words = match env::args(&rt) {
-        Ok(args) => args.collect::<Vec<String>>(alloc).or(Err(ErrorKind::OutOfMemory)),
+        Ok(args) => args
+            .collect::<Vec<String>>(alloc)
+            .or(Err(ErrorKind::OutOfMemory)),
         Err(error) => Err(error.kind()),
     };
     let status = match words {

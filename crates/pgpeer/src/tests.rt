@@ -95,6 +95,9 @@ fn tells_of_words_that_could_not_be_read(rt: HostRuntime) -> Result<(), Fail> {
     let mut errors = Vec::new(rt.alloc());
     let status = without_words(ErrorKind::InvalidData, &mut errors);
     assert_eq!(rt; status, USAGE);
-    assert_eq!(rt; errors.as_slice(), b"error: an argument is not UTF-8\n".as_slice());
+    assert_eq!(rt;
+        errors.as_slice(),
+        b"error: an argument is not UTF-8\n".as_slice()
+    );
     Ok(())
 }

@@ -15,8 +15,8 @@ loop-state-preserved c =
       tt,
       append_assoc c.loop-state.yielded (state ∷ []) _ ∙ ap (λ l. c.loop-state.yielded ++ l) (sym c.in-Some.ensures.steps.0) ∙ invariant.2,
       subst
-        (λ h. IsIntervalsOf enough_of is_by_place h c.step.new.self)
-        (ap (λ f. stepped (told_history c.args.code c.args.opening c.loop-state.yielded) state.members f) invariant.4 ∙ told-push c.args.code c.args.opening c.loop-state.yielded state)
-        (c.in_ok-step.ensures.ok _ invariant.3),
+          (λ h. IsIntervalsOf enough_of is_by_place h c.step.new.self)
+          (ap (λ f. stepped (told_history c.args.code c.args.opening c.loop-state.yielded) state.members f) invariant.4 ∙ told-push c.args.code c.args.opening c.loop-state.yielded state)
+          (c.in_ok-step.ensures.ok _ invariant.3),
       ap (λ (s : EpochState). s.facts) (sym (last-push c.args.opening c.loop-state.yielded state)),
     )
