@@ -1,12 +1,13 @@
 -- The membership of a group from its raw set, and a table of raw sets with one more.
 use Rattle.std.specs.Prelude.{Result, Ok, Err, OnOk, OnErr}
 use Rattle.std.proofs.Common.{◌≡◌, ℕ, List, Bool, true, false, cond, Option, Some, None, IfSome, option_map, refl, sym, ap, ◌∙◌, subst}
+use Rattle.std.proofs.lemmas.Bool.{and_parts, eqb-true}
+use Rattle.std.specs.Prelude.{nat_eq}
 use Rattle.pgp_ids.specs.declared.incremental.Incremental.{Incremental}
 use Rattle.pgp_ids.specs.declared.membership.Membership.{Membership}
 use Rattle.pgp_ids.specs.declared.pg_id.PgId.{PgId}
 use Rattle.pgp_ids.specs.declared.pool.PoolSpec.{PoolSpec}
 use Rattle.pgp_map.specs.Pools.{pool, is_same_group}
-use Rattle.pgp_map.proofs.Tables.{same_group}
 use Rattle.pgp_sets.specs.Sets.{membership, pool_membership, raw_set, without_down, members_from_up}
 use Rattle.pgp_core.specs.RawSets.{IsRawSet}
 
@@ -29,6 +30,12 @@ filtered incs pg raw members is lies = at (pool incs pg.pool) is lies where
 pub known-is : (incs : List Incremental) (pg : PgId) (found : Option (List (Option ℕ))) (raw : List (Option ℕ)) → found ≡ Some raw
     → IfSome found (IsRawSet incs pg) → IsRawSet incs pg raw
 known-is incs pg found raw same each = subst (λ (o : Option (List (Option ℕ))). IfSome o (IsRawSet incs pg)) same each
+
+-- groups with the same numbers are one
+same_group : (a b : PgId) → is_same_group a b ≡ true → a ≡ b
+same_group a b same =
+    let parts = and_parts (nat_eq a.pool b.pool) (nat_eq a.pg b.pg) same in
+    λ i. record { pool = eqb-true a.pool b.pool parts.0 i; pg = eqb-true a.pg b.pg parts.1 i }
 
 -- a table with one more raw set
 pub with-raw_set : (incs : List Incremental) (old new : PgId → Option (List (Option ℕ))) (pg : PgId) (raw : List (Option ℕ))
