@@ -72,7 +72,7 @@ first-within shorten fine opens incs pg h checked is =
     let run = opens h in
     omega (arith, run.1, run.2.ordered, history-last incs pg h (checked-numbered shorten fine incs checked) is)
 
-first-step : Shortens → EndsWell → Steps → Decides → Opens → (incs : List Incremental) (inc : Incremental) (pg : PgId) (h after : History AnyCode) → are_checked (then_with incs inc) ≡ true
+pub first-step : Shortens → EndsWell → Steps → Decides → Opens → (incs : List Incremental) (inc : Incremental) (pg : PgId) (h after : History AnyCode) → are_checked (then_with incs inc) ≡ true
     → group_history incs pg ≡ Some h → group_history (then_with incs inc) pg ≡ Some after → current_first h ≤ current_first after
 first-step shorten fine steps decides opens incs inc pg h after checked is then' = elim (cases_Bool (is_same after.current h.current)) [
   | inl same ↦ omega (arith, first-goes_on shorten fine steps incs inc pg h after checked is then' ((decides after.current h.current).0 same))

@@ -9,3 +9,4 @@ pub mod GroupLemmas
 pub mod FoundLemmas
 pub mod RiseLemmas
 pub mod FirstLemmas
+pub mod LaterLemmas
