@@ -5,7 +5,7 @@ use Rattle.std.specs.Option.{option_map_or}
 use Rattle.std.proofs.lemmas.Bool.{cases_Bool, and_parts, true≢false}
 use Rattle.std.proofs.lemmas.Bool.Decides.{nat_tests}
 use Rattle.std.proofs.lemmas.List.{map-append}
-use Rattle.std.proofs.lemmas.List.Elements.{filter-append, filter_map-append, All-head, All-tail, All-weaker}
+use Rattle.std.proofs.lemmas.List.Elements.{filter-append, filter_map-append, All-weaker}
 use Rattle.std.proofs.lemmas.List.Sums.{fold-append}
 use Rattle.pgp_code.specs.declared.any.AnyCode.{AnyCode}
 use Rattle.pgp_ids.specs.declared.entry.Entry.{Entry}
@@ -21,18 +21,17 @@ use Rattle.pgp_interval.specs.Runs.{current_first}
 use Rattle.pgp_lists.proofs.Options.{map_some}
 use Rattle.pgp_map.specs.Checked.{are_checked}
 use Rattle.pgp_map.specs.Devices.{boots, takes_down, destroys, is_up, up_from, greatest_epoch}
-use Rattle.pgp_map.specs.Last.{last_where}
 use Rattle.pgp_map.specs.Map.{epoch}
 use Rattle.pgp_map.specs.MapFault.{then_with}
 use Rattle.pgp_map.specs.Pools.{is_same_group}
 use Rattle.pgp_group.specs.Entries.{inc_of, info_of, report_of, incs_of, infos_of, reports_of}
 use Rattle.pgp_group.specs.GroupHistory.{group_history}
 use Rattle.pgp_group.specs.GroupLog.{GroupLog, group_in, group_with, incs, infos, reports}
-use Rattle.pgp_group.specs.Heard.{is_counted, counted_infos, heard, last_of_each_member, reported}
+use Rattle.pgp_group.specs.Heard.{is_counted, heard, last_of_each_member, reported}
 use Rattle.pgp_group.specs.Later.{IsAfter, AreSentBy}
 use Rattle.pgp_group.proofs.FirstLemmas.{Steps, Decides, Opens, first-opens, first-step, along}
 use Rattle.pgp_group.proofs.GrowthLemmas.{Shortens, EndsWell, epoch-snoc, next_epoch}
-use Rattle.pgp_group.proofs.Lists.{last_where-passes, last_where-none}
+use Rattle.pgp_group.proofs.Lists.{last_where-passes, last_where-none, filter-fail, and_fails}
 use Rattle.pgp_group.proofs.RiseLemmas.{fold_max-least}
 
 -- ---- the histories of a group and of the same group later
@@ -88,10 +87,6 @@ same-reports g after inc is =
     let told : reports_of after.log ≡ reports_of g.log = ap reports_of hs.log ∙ filter_map-append report_of g.log (entry.Inc inc ∷ []) ∙ append-nil (reports_of g.log) in
     ap₂ (λ (pg : PgId) (told : List Report). filter (λ report. is_same_group report.pg pg) told) hs.pg told
 
-filter-fail : {X : Type 0} (test : X → Bool) (xs : List X) → All (λ x. test x ≡ false) xs → filter test xs ≡ []
-filter-fail test [] each = refl
-filter-fail test (x ∷ xs) each = let here : test x ≡ false = All-head (λ x. test x ≡ false) x xs each in rw here (filter-fail test xs (All-tail (λ x. test x ≡ false) x xs each))
-
 pub new-heard : Shortens → EndsWell → Steps → (g after : GroupLog) (inc : Incremental) → IsAfter g (entry.Inc inc ∷ []) after
     → after.history.current ≢ g.history.current → AreSentBy (epoch (incs g)) g → heard after ≡ []
 new-heard shorten fine steps g after inc is differ sent =
@@ -101,17 +96,13 @@ new-heard shorten fine steps g after inc is differ sent =
     ap (λ (told : List Info). last_of_each_member (filter (λ info. is_counted after info.member info.stamp) told)) (same-infos g after inc is)
     ∙ ap last_of_each_member (filter-fail (λ (info : Info). is_counted after info.member info.stamp) (infos g) each)
 
-fails-with : (a b : Bool) → b ≡ false → (a && b) ≡ false
-fails-with true b fails = fails
-fails-with false b fails = refl
-
 pub new-reported : Shortens → EndsWell → Steps → (g after : GroupLog) (inc : Incremental) (member : Member) → IsAfter g (entry.Inc inc ∷ []) after
     → after.history.current ≢ g.history.current → AreSentBy (epoch (incs g)) g → reported after member ≡ []
 new-reported shorten fine steps g after inc member is differ sent =
     let test : Report → Bool = λ report. is_same_member report.member member && is_counted after report.member report.stamp in
     let each : All (λ (report : Report). test report ≡ false) (reports g) =
     All-weaker (λ (report : Report). report.stamp ≤ epoch (incs g)) (λ (report : Report). test report ≡ false)
-    (λ report by. fails-with (is_same_member report.member member) (is_counted after report.member report.stamp) (new-counts shorten fine steps g after inc report.member report.stamp is differ by)) (reports g) sent.each_report in
+    (λ report by. and_fails (is_same_member report.member member) (is_counted after report.member report.stamp) (new-counts shorten fine steps g after inc report.member report.stamp is differ by)) (reports g) sent.each_report in
     ap (λ (told : List Report). flat_map (λ report. report.log) (filter test told)) (same-reports g after inc is)
     ∙ ap (flat_map (λ report. report.log)) (filter-fail test (reports g) each)
 
@@ -174,11 +165,13 @@ silent-step shorten fine steps decides opens pg member stamp incs inc h after ch
     let next : inc.epoch ≡ epoch incs + 1 = next_epoch incs inc (fine incs inc checked) in
     let sent : stamp ≤ epoch incs = silent.0 in
     let later : stamp ≤ epoch (then_with incs inc) = omega (arith, epoch-snoc incs inc, next, sent) in
-    let rises : current_first h ≤ current_first after = first-step shorten fine steps decides opens incs inc pg h after checked is then' in
-    (later, elim (cases_Bool (counts_by (then_with incs inc) after member stamp)) [
-      | inl counts ↦ absurd (true≢false (sym (counted-before incs inc h after member stamp rises (omega (arith, next, sent)) counts) ∙ silent.1))
-      | inr silent' ↦ silent'
-    ])
+    let rises : current_first h ≤ current_first after = first-step shorten fine steps decides opens incs inc pg h after checked is then' in (
+      later,
+      elim (cases_Bool (counts_by (then_with incs inc) after member stamp)) [
+        | inl counts ↦ absurd (true≢false (sym (counted-before incs inc h after member stamp rises (omega (arith, next, sent)) counts) ∙ silent.1))
+        | inr silent' ↦ silent'
+      ],
+    )
 
 pub never-counts : Shortens → EndsWell → Steps → Decides → Opens → (g after : GroupLog) (later : List Entry) (member : Member) (stamp : ℕ) → IsAfter g later after
     → stamp ≤ epoch (incs g) → is_counted g member stamp ≡ false → is_counted after member stamp ≡ false

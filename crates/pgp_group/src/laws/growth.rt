@@ -23,7 +23,10 @@ ghost use Rattle.pgp_group.specs.Heard.{les};
 ghost use Rattle.pgp_group.specs.declared.group.Group.{Group};
 
 use pgp_code::AnyCode;
-use pgp_interval::laws::{a_step_continues_or_ends_the_current_interval, current_interval_reaches_the_last_epoch, same_memberships_are_equal};
+use pgp_interval::laws::{
+    a_step_continues_or_ends_the_current_interval, current_interval_reaches_the_last_epoch,
+    same_memberships_are_equal,
+};
 use pgp_map::laws::{checked_lists_grow_by_incrementals_without_fault, pools_of_checked_lists};
 
 /// The epochs of incrementals that were checked one by one are 1, 2, and so on: the last is the number of incrementals, and

@@ -11,7 +11,10 @@ ghost use Rattle.pgp_group.specs.Heard.{is_counted, heard, reported};
 ghost use Rattle.pgp_group.specs.Later.{IsAfter, AreSentBy};
 
 use pgp_code::AnyCode;
-use pgp_interval::laws::{a_step_continues_or_ends_the_current_interval, current_interval_reaches_the_last_epoch, same_memberships_are_equal};
+use pgp_interval::laws::{
+    a_step_continues_or_ends_the_current_interval, current_interval_reaches_the_last_epoch,
+    same_memberships_are_equal,
+};
 use pgp_map::laws::checked_lists_grow_by_incrementals_without_fault;
 
 /// A new interval has heard nobody: where an incremental opens one, nothing that was sent in the epoch before or earlier
@@ -28,7 +31,7 @@ pub fn a_new_interval_has_heard_nobody()
     a_step_continues_or_ends_the_current_interval::<AnyCode>();
 }
 
-/// A report that came when its epoch had and didn't count never counts again, whatever comes later.
+/// A report whose epoch has come and that doesn't count never counts again, whatever comes later.
 pub fn what_does_not_count_never_counts_again()
     ensures { (g after : GroupLog) (later : List Entry) (member : Member) (stamp : ℕ) → IsAfter g later after
         → stamp ≤ epoch (incs g) → is_counted g member stamp ≡ false → is_counted after member stamp ≡ false }
