@@ -83,10 +83,10 @@ ended inc [] = record { front = []; last = inc; is = refl }
 ended inc (next ∷ incs) = let rest = ended next incs in record { front = inc ∷ rest.front; last = rest.last; is = ap (λ l. inc ∷ l) rest.is }
 
 -- fronts of checked lists are checked, and the last incremental of one has no fault
-abbrev Shortens : Type 0
+abbrev pub Shortens : Type 0
 Shortens = (incs later : List Incremental) → are_checked (incs ++ later) ≡ true → are_checked incs ≡ true
 
-abbrev EndsWell : Type 0
+abbrev pub EndsWell : Type 0
 EndsWell = (incs : List Incremental) (inc : Incremental) → are_checked (then_with incs inc) ≡ true → map_fault incs inc ≡ None
 
 numbered-long : Shortens → EndsWell → (n : ℕ) (incs : List Incremental) → length incs ≡ n → are_checked incs ≡ true → AreNumbered incs

@@ -8,3 +8,5 @@ pub mod GrowthLemmas
 pub mod GroupLemmas
 pub mod FoundLemmas
 pub mod RiseLemmas
+pub mod FirstLemmas
+pub mod LaterLemmas

@@ -1,9 +1,9 @@
 -- Lists that grow, ranges, and last elements that pass a test.
-use Rattle.std.proofs.Common.{◌≡◌, ℕ, zero, suc, ◌+◌, ◌<◌, List, [], ◌∷◌, ◌++◌, Option, Some, None, Bool, true, false, length, refl, ap, ap₂, sym, ◌∙◌, inl, inr, arith, append-nil, append_assoc, get_or, take}
-use Rattle.std.specs.List.{cons_option, filter, filter_map, flat_map, last_or, list_any, range_with_len}
+use Rattle.std.proofs.Common.{◌≡◌, ℕ, zero, suc, ◌+◌, ◌<◌, List, [], ◌∷◌, ◌++◌, Option, Some, None, Bool, true, false, ◌&&◌, length, refl, ap, ap₂, sym, ◌∙◌, inl, inr, arith, append-nil, append_assoc, get_or, take}
+use Rattle.std.specs.List.{All, cons_option, filter, filter_map, flat_map, last_or, list_any, range_with_len}
 use Rattle.std.proofs.lemmas.Bool.{cases_Bool, or_parts, true≢false}
 use Rattle.std.proofs.lemmas.List.{take_more}
-use Rattle.std.proofs.lemmas.List.Elements.{filter-append}
+use Rattle.std.proofs.lemmas.List.Elements.{filter-append, All-head, All-tail}
 use Rattle.pgp_map.specs.Last.{last_where}
 
 -- ---- elements that don't pass
@@ -19,6 +19,14 @@ none-narrower narrow wide each (x ∷ xs) none = elim (cases_Bool (narrow x)) [
 pub filter-none : {X : Type 0} (test : X → Bool) (xs : List X) → list_any test xs ≡ false → filter test xs ≡ []
 filter-none test [] none = refl
 filter-none test (x ∷ xs) none = rw ((or_parts (test x) _ none).0) (filter-none test xs (or_parts (test x) _ none).1)
+
+pub filter-fail : {X : Type 0} (test : X → Bool) (xs : List X) → All (λ x. test x ≡ false) xs → filter test xs ≡ []
+filter-fail test [] each = refl
+filter-fail test (x ∷ xs) each = let here : test x ≡ false = All-head (λ x. test x ≡ false) x xs each in rw here (filter-fail test xs (All-tail (λ x. test x ≡ false) x xs each))
+
+pub and_fails : (a b : Bool) → b ≡ false → (a && b) ≡ false
+and_fails true b fails = fails
+and_fails false b fails = refl
 
 -- ---- lists that grow by one
 

@@ -14,7 +14,7 @@ use Rattle.pgp_group.specs.GroupHistory.{group_history}
 use Rattle.pgp_group.specs.GroupLog.{GroupLog, group_in, group_with}
 use Rattle.pgp_group.specs.Heard.{les}
 
-fold_max-least : (a : ℕ) (xs : List ℕ) → a ≤ fold max a xs
+pub fold_max-least : (a : ℕ) (xs : List ℕ) → a ≤ fold max a xs
 fold_max-least a [] = omega arith
 fold_max-least a (x ∷ xs) = let rest : max a x ≤ fold max (max a x) xs = fold_max-least (max a x) xs in omega arith
 

@@ -34,7 +34,7 @@ there_with : {X Y : Type 0} (found : Option X) (test : X → Bool) (make : X →
 there_with None test make = refl
 there_with (Some x) test make = there_if (test x) (make x)
 
-history_there : (incs : List Incremental) (pg : PgId) → is_some (group_history incs pg) ≡ has_group incs pg
+pub history_there : (incs : List Incremental) (pg : PgId) → is_some (group_history incs pg) ≡ has_group incs pg
 history_there incs pg = there_with (pool incs pg.pool) (λ made. nat_lt pg.pg made.pg_num) (history_of incs pg)
 
 pub scratch_there : (log : List Entry) (pg : PgId) → is_some (scratch log pg) ≡ has_group (incs_of log) pg

@@ -12,3 +12,4 @@ pub mod Present
 pub mod Causes
 pub mod GroupOf
 pub mod Found
+pub mod Later

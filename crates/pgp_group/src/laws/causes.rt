@@ -91,6 +91,25 @@ pub fn reports_of_another_group()
         option_map heard (group_in (maps (copies_on_three ∷ []) ++ infos_sent (other ∷ [])) copies_group) ≡ Some [] }
     ensures les { let other = record (copy 0 1) { pg = record copies_group { pg = 1 }; history_les = 1 } in
         option_map les (group_in (maps (copies_on_three ∷ []) ++ infos_sent (other ∷ [])) copies_group) ≡ Some 0 }
+    ensures entries { let log = maps (copies_on_three ∷ [])
+        ++ infos_sent (copy_up_to 0 (at 1 3) ∷ copy 1 1 ∷ copy 2 1 ∷ [])
+        ++ entries_of (record copies_group { pg = 1 }) (in_slot 0 0) three_writes ∷ [] in
+        option_map (λ view. view.verdict) (scratch log copies_group) ≡ Some the.NeedLog }
+{}
+
+/// A later info that doesn't count leaves an earlier one of its member standing.
+pub fn later_info_that_does_not_count()
+    ensures { let late = record (copy 0 1) { complete = false } in
+        let log = maps (copies_on_three ∷ resize 2 3 1 ∷ []) ++ infos_sent (copy 0 2 ∷ late ∷ []) in
+        option_map heard (group_in log copies_group) ≡ Some (copy 0 2 ∷ []) }
+{}
+
+/// An info of an interval that is over doesn't count again where the group comes back to the membership of that interval.
+pub fn membership_that_comes_back()
+    ensures first { let log = maps (copies_on_three ∷ resize 2 3 1 ∷ resize 3 3 2 ∷ []) ++ infos_sent (copy 0 1 ∷ []) in
+        option_map (λ view. view.first) (scratch log copies_group) ≡ Some 3 }
+    ensures heard { let log = maps (copies_on_three ∷ resize 2 3 1 ∷ resize 3 3 2 ∷ []) ++ infos_sent (copy 0 1 ∷ []) in
+        option_map heard (group_in log copies_group) ≡ Some [] }
 {}
 
 /// An interval in which acting had fewer than min_size members was none of writes, though its primary was known to be up.

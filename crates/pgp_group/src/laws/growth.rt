@@ -1,12 +1,13 @@
 //! How the history of a group grows with the list of incrementals.
 
-ghost use Rattle.std.specs.Prelude.{◌≡◌, ◌≤◌, ◌++◌, ℕ, List, Some, true, length, option_map};
+ghost use Rattle.std.specs.Prelude.{◌≡◌, ◌≢◌, ◌≤◌, ◌++◌, ℕ, List, Some, true, length, option_map};
 ghost use Rattle.pgp_code.specs.Pool.{code_of};
 ghost use Rattle.pgp_code.specs.declared.any.AnyCode.{AnyCode};
 ghost use Rattle.pgp_ids.specs.declared.entry.Entry.{Entry};
 ghost use Rattle.pgp_ids.specs.declared.incremental.Incremental.{Incremental};
 ghost use Rattle.pgp_ids.specs.declared.pg_id.PgId.{PgId};
 ghost use Rattle.pgp_interval.specs.History.{History, begun, stepped};
+ghost use Rattle.pgp_interval.specs.Runs.{current_first};
 ghost use Rattle.pgp_map.specs.Checked.{are_checked};
 ghost use Rattle.pgp_map.specs.Map.{epoch, up_to};
 ghost use Rattle.pgp_map.specs.MapFault.{then_with};
@@ -21,6 +22,11 @@ ghost use Rattle.pgp_group.specs.GroupOf.{IsGroupOf, Follows};
 ghost use Rattle.pgp_group.specs.Heard.{les};
 ghost use Rattle.pgp_group.specs.declared.group.Group.{Group};
 
+use pgp_code::AnyCode;
+use pgp_interval::laws::{
+    a_step_continues_or_ends_the_current_interval, current_interval_reaches_the_last_epoch,
+    same_memberships_are_equal,
+};
 use pgp_map::laws::{checked_lists_grow_by_incrementals_without_fault, pools_of_checked_lists};
 
 /// The epochs of incrementals that were checked one by one are 1, 2, and so on: the last is the number of incrementals, and
@@ -45,6 +51,25 @@ pub fn history_grows_by_one_state()
         → has_group (then_with incs inc) pg ≡ true }
 {
     checked_lists_grow_by_incrementals_without_fault();
+}
+
+/// With one more incremental the current interval goes on where the membership stays, and opens with the new epoch where it
+/// doesn't, so that its first epoch never falls.
+pub fn the_current_interval_never_opens_earlier()
+    ensures goes_on { (incs : List Incremental) (inc : Incremental) (pg : PgId) (h after : History AnyCode)
+        → are_checked (then_with incs inc) ≡ true → group_history incs pg ≡ Some h → group_history (then_with incs inc) pg ≡ Some after
+        → after.current ≡ h.current → current_first after ≡ current_first h }
+    ensures opens { (incs : List Incremental) (inc : Incremental) (pg : PgId) (h after : History AnyCode)
+        → are_checked (then_with incs inc) ≡ true → group_history incs pg ≡ Some h → group_history (then_with incs inc) pg ≡ Some after
+        → after.current ≢ h.current → current_first after ≡ inc.epoch }
+    ensures never_falls { (incs later : List Incremental) (pg : PgId) (h after : History AnyCode)
+        → are_checked (incs ++ later) ≡ true → group_history incs pg ≡ Some h → group_history (incs ++ later) pg ≡ Some after
+        → current_first h ≤ current_first after }
+{
+    checked_lists_grow_by_incrementals_without_fault();
+    same_memberships_are_equal();
+    current_interval_reaches_the_last_epoch::<AnyCode>();
+    a_step_continues_or_ends_the_current_interval::<AnyCode>();
 }
 
 /// A history begins with the epoch that makes the pool, which has no other.

@@ -1,0 +1,111 @@
+-- How the first epoch of the current interval moves with each incremental.
+use Rattle.std.proofs.Common.{◌≡◌, ◌≢◌, ℕ, ◌+◌, ◌≤◌, List, [], ◌∷◌, ◌++◌, Some, true, append-nil, append_assoc, ap, sym, ◌∙◌, subst, inl, inr, arith}
+use Rattle.std.specs.Prelude.{◌↔◌, IsTrue}
+use Rattle.std.proofs.lemmas.Bool.{cases_Bool, true≢false}
+use Rattle.std.proofs.lemmas.Option.{same_Some}
+use Rattle.pgp_code.specs.declared.any.AnyCode.{AnyCode}
+use Rattle.pgp_ids.specs.declared.history.PrimaryFacts.{PrimaryFacts}
+use Rattle.pgp_ids.specs.declared.incremental.Incremental.{Incremental}
+use Rattle.pgp_ids.specs.declared.membership.Membership.{Membership}
+use Rattle.pgp_ids.specs.declared.pg_id.PgId.{PgId}
+use Rattle.pgp_interval.specs.History.{History, last_place, stepped}
+use Rattle.pgp_interval.specs.Interval.{IsInterval}
+use Rattle.pgp_interval.specs.Runs.{current_first}
+use Rattle.pgp_interval.specs.SameMembers.{is_same}
+use Rattle.pgp_lists.proofs.Options.{map_some, some_is}
+use Rattle.pgp_map.specs.Checked.{are_checked}
+use Rattle.pgp_map.specs.Map.{epoch}
+use Rattle.pgp_map.specs.MapFault.{then_with}
+use Rattle.pgp_sets.specs.Sets.{membership}
+use Rattle.pgp_group.specs.GroupHistory.{primary_facts, group_history}
+use Rattle.pgp_group.proofs.GrowthLemmas.{Shortens, EndsWell, checked-numbered, has_group-grows, history-grows, history-last, next_epoch}
+use Rattle.pgp_group.proofs.ViewLemmas.{history_there}
+
+-- what a step does to the first epoch of the current interval
+pub record Steps : Type 0 where
+  pub goes_on : (h : History AnyCode) (facts : PrimaryFacts) → current_first (stepped h h.current facts) ≡ current_first h
+  pub opens : (h : History AnyCode) (members : Membership) (facts : PrimaryFacts) → members ≢ h.current → current_first (stepped h members facts) ≡ h.first + last_place h + 1
+
+-- one more incremental without fault makes the new history of the old one
+record Grown (incs : List Incremental) (inc : Incremental) (h after : History AnyCode) : Type 0 where
+  members : Membership
+  facts : PrimaryFacts
+  is : stepped h members facts ≡ after
+
+grown : Shortens → EndsWell → (incs : List Incremental) (inc : Incremental) (pg : PgId) (h after : History AnyCode) → are_checked (then_with incs inc) ≡ true
+    → group_history incs pg ≡ Some h → group_history (then_with incs inc) pg ≡ Some after → Grown incs inc h after
+grown shorten fine incs inc pg h after checked is then' =
+    let facts : PrimaryFacts = primary_facts incs h.current.acting_primary in
+    let grows = history-grows incs inc pg h (checked-numbered shorten fine incs (shorten incs (inc ∷ []) checked)) (fine incs inc checked) is in
+    let m = map_some (λ members. stepped h members facts) (membership (then_with incs inc) pg) after (sym grows ∙ then') in
+    record { members = m.0; facts = facts; is = m.2 }
+
+pub first-goes_on : Shortens → EndsWell → Steps → (incs : List Incremental) (inc : Incremental) (pg : PgId) (h after : History AnyCode) → are_checked (then_with incs inc) ≡ true
+    → group_history incs pg ≡ Some h → group_history (then_with incs inc) pg ≡ Some after → after.current ≡ h.current → current_first after ≡ current_first h
+first-goes_on shorten fine steps incs inc pg h after checked is then' same =
+    let g = grown shorten fine incs inc pg h after checked is then' in
+    let stays : g.members ≡ h.current = ap (λ (t : History AnyCode). t.current) g.is ∙ same in
+    ap current_first (sym g.is) ∙ ap (λ (m : Membership). current_first (stepped h m g.facts)) stays ∙ steps.goes_on h g.facts
+
+pub first-opens : Shortens → EndsWell → Steps → (incs : List Incremental) (inc : Incremental) (pg : PgId) (h after : History AnyCode) → are_checked (then_with incs inc) ≡ true
+    → group_history incs pg ≡ Some h → group_history (then_with incs inc) pg ≡ Some after → after.current ≢ h.current → current_first after ≡ inc.epoch
+first-opens shorten fine steps incs inc pg h after checked is then' differ =
+    let g = grown shorten fine incs inc pg h after checked is then' in
+    let moves : g.members ≢ h.current = λ same. differ (ap (λ (t : History AnyCode). t.current) (sym g.is) ∙ same) in
+    let counts = checked-numbered shorten fine incs (shorten incs (inc ∷ []) checked) in
+    let opened : current_first after ≡ h.first + last_place h + 1 = ap current_first (sym g.is) ∙ steps.opens h g.members g.facts moves in
+    omega (arith, opened, history-last incs pg h counts is, next_epoch incs inc (fine incs inc checked))
+
+-- ---- along a list
+
+-- memberships are the same or not
+abbrev pub Decides : Type 0
+Decides = (a b : Membership) → IsTrue (is_same a b) ↔ (a ≡ b)
+
+-- the current interval opens with an epoch of the history
+abbrev pub Opens : Type 0
+Opens = (h : History AnyCode) → (first : ℕ) × (current_first h ≡ h.first + first) × IsInterval h first (last_place h)
+
+-- the current interval opens with the last epoch at most
+pub first-within : Shortens → EndsWell → Opens → (incs : List Incremental) (pg : PgId) (h : History AnyCode) → are_checked incs ≡ true → group_history incs pg ≡ Some h → current_first h ≤ epoch incs
+first-within shorten fine opens incs pg h checked is =
+    let run = opens h in
+    omega (arith, run.1, run.2.ordered, history-last incs pg h (checked-numbered shorten fine incs checked) is)
+
+pub first-step : Shortens → EndsWell → Steps → Decides → Opens → (incs : List Incremental) (inc : Incremental) (pg : PgId) (h after : History AnyCode) → are_checked (then_with incs inc) ≡ true
+    → group_history incs pg ≡ Some h → group_history (then_with incs inc) pg ≡ Some after → current_first h ≤ current_first after
+first-step shorten fine steps decides opens incs inc pg h after checked is then' = elim (cases_Bool (is_same after.current h.current)) [
+  | inl same ↦ omega (arith, first-goes_on shorten fine steps incs inc pg h after checked is then' ((decides after.current h.current).0 same))
+  | inr differ ↦
+      let moves : after.current ≢ h.current = λ same. true≢false (sym ((decides after.current h.current).1 same) ∙ differ) in
+      omega (arith, first-opens shorten fine steps incs inc pg h after checked is then' moves, next_epoch incs inc (fine incs inc checked), first-within shorten fine opens incs pg h (shorten incs (inc ∷ []) checked) is)
+]
+
+-- a group that is there stays
+history-goes_on : Shortens → EndsWell → (incs : List Incremental) (inc : Incremental) (pg : PgId) (h : History AnyCode) → are_checked (then_with incs inc) ≡ true → group_history incs pg ≡ Some h
+    → (after : History AnyCode) × (group_history (then_with incs inc) pg ≡ Some after)
+history-goes_on shorten fine incs inc pg h checked is =
+    some_is (group_history (then_with incs inc) pg) (history_there (then_with incs inc) pg ∙ has_group-grows incs inc pg h (fine incs inc checked) is)
+
+-- a relation of the histories at two fronts of a checked list, if each incremental keeps it
+pub along : Shortens → EndsWell → (pg : PgId) (Kept : List Incremental → History AnyCode → Type 0)
+    → ((incs : List Incremental) (inc : Incremental) (h after : History AnyCode) → are_checked (then_with incs inc) ≡ true → group_history incs pg ≡ Some h → group_history (then_with incs inc) pg ≡ Some after → Kept incs h → Kept (then_with incs inc) after)
+    → (later incs : List Incremental) (h after : History AnyCode) → are_checked (incs ++ later) ≡ true → group_history incs pg ≡ Some h → group_history (incs ++ later) pg ≡ Some after → Kept incs h → Kept (incs ++ later) after
+along shorten fine pg Kept step [] incs h after checked is then' kept =
+    let all : incs ++ [] ≡ incs = append-nil incs in
+    let same : h ≡ after = same_Some h after (sym is ∙ ap (λ l. group_history l pg) (sym all) ∙ then') in
+    subst (λ l. Kept l after) (sym all) (subst (Kept incs) same kept)
+along shorten fine pg Kept step (inc ∷ later) incs h after checked is then' kept =
+    let all : incs ++ inc ∷ later ≡ then_with incs inc ++ later = sym (append_assoc incs (inc ∷ []) later) in
+    let checked' : are_checked (then_with incs inc ++ later) ≡ true = ap are_checked (sym all) ∙ checked in
+    let one : are_checked (then_with incs inc) ≡ true = shorten (then_with incs inc) later checked' in
+    let next = history-goes_on shorten fine incs inc pg h one is in
+    subst (λ l. Kept l after) (sym all)
+    (along shorten fine pg Kept step later (then_with incs inc) next.0 after checked' next.1 (ap (λ l. group_history l pg) (sym all) ∙ then') (step incs inc h next.0 one is next.1 kept))
+
+pub first-never_falls : Shortens → EndsWell → Steps → Decides → Opens → (incs later : List Incremental) (pg : PgId) (h after : History AnyCode) → are_checked (incs ++ later) ≡ true
+    → group_history incs pg ≡ Some h → group_history (incs ++ later) pg ≡ Some after → current_first h ≤ current_first after
+first-never_falls shorten fine steps decides opens incs later pg h after checked is then' =
+    along shorten fine pg (λ _ now. current_first h ≤ current_first now)
+    (λ incs inc h₁ h₂ checked is then' kept. let step : current_first h₁ ≤ current_first h₂ = first-step shorten fine steps decides opens incs inc pg h₁ h₂ checked is then' in omega arith)
+    later incs h after checked is then' (omega arith)

@@ -1,0 +1,183 @@
+-- Which reports count as more of the log comes.
+use Rattle.std.proofs.Common.{◌≡◌, ◌≢◌, ℕ, ◌+◌, ◌<◌, ◌≤◌, List, [], ◌∷◌, ◌++◌, Option, Some, Bool, true, false, ◌&&◌, ◌||◌, nat_le, map, fold, max, refl, append-nil, ap, ap₂, sym, ◌∙◌, subst, inl, inr, arith}
+use Rattle.std.specs.List.{All, filter, flat_map, list_any}
+use Rattle.std.specs.Option.{option_map_or}
+use Rattle.std.proofs.lemmas.Bool.{cases_Bool, and_parts, true≢false}
+use Rattle.std.proofs.lemmas.Bool.Decides.{nat_tests}
+use Rattle.std.proofs.lemmas.List.{map-append}
+use Rattle.std.proofs.lemmas.List.Elements.{filter-append, filter_map-append, All-weaker}
+use Rattle.std.proofs.lemmas.List.Sums.{fold-append}
+use Rattle.pgp_code.specs.declared.any.AnyCode.{AnyCode}
+use Rattle.pgp_ids.specs.declared.entry.Entry.{Entry}
+use Rattle.pgp_ids.specs.declared.entry.Entry.TheVariants as entry
+use Rattle.pgp_ids.specs.declared.incremental.Incremental.{Incremental}
+use Rattle.pgp_ids.specs.declared.member.Member.{Member}
+use Rattle.pgp_ids.specs.declared.pg_id.PgId.{PgId}
+use Rattle.pgp_ids.specs.declared.report.Info.{Info}
+use Rattle.pgp_ids.specs.declared.report.Report.{Report}
+use Rattle.pgp_ids.specs.Member.{is_same_member}
+use Rattle.pgp_interval.specs.History.{History}
+use Rattle.pgp_interval.specs.Runs.{current_first}
+use Rattle.pgp_lists.proofs.Options.{map_some}
+use Rattle.pgp_map.specs.Checked.{are_checked}
+use Rattle.pgp_map.specs.Devices.{boots, takes_down, destroys, is_up, up_from, greatest_epoch}
+use Rattle.pgp_map.specs.Map.{epoch}
+use Rattle.pgp_map.specs.MapFault.{then_with}
+use Rattle.pgp_map.specs.Pools.{is_same_group}
+use Rattle.pgp_group.specs.Entries.{inc_of, info_of, report_of, incs_of, infos_of, reports_of}
+use Rattle.pgp_group.specs.GroupHistory.{group_history}
+use Rattle.pgp_group.specs.GroupLog.{GroupLog, group_in, group_with, incs, infos, reports}
+use Rattle.pgp_group.specs.Heard.{is_counted, heard, last_of_each_member, reported}
+use Rattle.pgp_group.specs.Later.{IsAfter, AreSentBy}
+use Rattle.pgp_group.proofs.FirstLemmas.{Steps, Decides, Opens, first-opens, first-step, along}
+use Rattle.pgp_group.proofs.GrowthLemmas.{Shortens, EndsWell, epoch-snoc, next_epoch}
+use Rattle.pgp_group.proofs.Lists.{last_where-passes, last_where-none, filter-fail, and_fails}
+use Rattle.pgp_group.proofs.RiseLemmas.{fold_max-least}
+
+-- ---- the histories of a group and of the same group later
+
+record Histories (g : GroupLog) (later : List Entry) (after : GroupLog) : Type 0 where
+  checked : are_checked (incs g ++ incs_of later) ≡ true
+  before : group_history (incs g) g.pg ≡ Some g.history
+  then_is : group_history (incs g ++ incs_of later) g.pg ≡ Some after.history
+  log : after.log ≡ g.log ++ later
+  pg : after.pg ≡ g.pg
+  incs_are : incs after ≡ incs g ++ incs_of later
+
+history-in : (log : List Entry) (pg : PgId) (g : GroupLog) → group_in log pg ≡ Some g → (group_history (incs_of log) pg ≡ Some g.history) × ((g.log ≡ log) × (g.pg ≡ pg))
+history-in log pg g is =
+    let m = map_some (group_with log pg) (group_history (incs_of log) pg) g is in
+    (m.1 ∙ ap (λ (x : GroupLog). Some x.history) m.2, (sym (ap (λ (x : GroupLog). x.log) m.2), sym (ap (λ (x : GroupLog). x.pg) m.2)))
+
+histories : (g : GroupLog) (later : List Entry) (after : GroupLog) → IsAfter g later after → Histories g later after
+histories g later after is =
+    let grown : incs_of (g.log ++ later) ≡ incs g ++ incs_of later = filter_map-append inc_of g.log later in
+    let a = history-in (g.log ++ later) g.pg after is.then_is in
+    record {
+      checked = sym (ap are_checked grown) ∙ is.checked;
+      before = (history-in g.log g.pg g is.before).0;
+      then_is = ap (λ l. group_history l g.pg) (sym grown) ∙ a.0;
+      log = a.1.0;
+      pg = a.1.1;
+      incs_are = ap incs_of a.1.0 ∙ grown;
+    }
+
+-- ---- a new interval
+
+below-first : (g : GroupLog) (member : Member) (stamp : ℕ) → stamp < current_first g.history → is_counted g member stamp ≡ false
+below-first g member stamp below = let early : nat_le (current_first g.history) stamp ≡ false = grind (arith, nat_tests) in rw early refl
+
+pub new-counts : Shortens → EndsWell → Steps → (g after : GroupLog) (inc : Incremental) (member : Member) (stamp : ℕ) → IsAfter g (entry.Inc inc ∷ []) after
+    → after.history.current ≢ g.history.current → stamp ≤ epoch (incs g) → is_counted after member stamp ≡ false
+new-counts shorten fine steps g after inc member stamp is differ sent =
+    let hs = histories g (entry.Inc inc ∷ []) after is in
+    let opens : current_first after.history ≡ inc.epoch = first-opens shorten fine steps (incs g) inc g.pg g.history after.history hs.checked hs.before hs.then_is differ in
+    below-first after member stamp (omega (arith, opens, sent, next_epoch (incs g) inc (fine (incs g) inc hs.checked)))
+
+-- an incremental brings no reports
+same-infos : (g after : GroupLog) (inc : Incremental) → IsAfter g (entry.Inc inc ∷ []) after → infos after ≡ infos g
+same-infos g after inc is =
+    let hs = histories g (entry.Inc inc ∷ []) after is in
+    let told : infos_of after.log ≡ infos_of g.log = ap infos_of hs.log ∙ filter_map-append info_of g.log (entry.Inc inc ∷ []) ∙ append-nil (infos_of g.log) in
+    ap₂ (λ (pg : PgId) (told : List Info). filter (λ info. is_same_group info.pg pg) told) hs.pg told
+
+same-reports : (g after : GroupLog) (inc : Incremental) → IsAfter g (entry.Inc inc ∷ []) after → reports after ≡ reports g
+same-reports g after inc is =
+    let hs = histories g (entry.Inc inc ∷ []) after is in
+    let told : reports_of after.log ≡ reports_of g.log = ap reports_of hs.log ∙ filter_map-append report_of g.log (entry.Inc inc ∷ []) ∙ append-nil (reports_of g.log) in
+    ap₂ (λ (pg : PgId) (told : List Report). filter (λ report. is_same_group report.pg pg) told) hs.pg told
+
+pub new-heard : Shortens → EndsWell → Steps → (g after : GroupLog) (inc : Incremental) → IsAfter g (entry.Inc inc ∷ []) after
+    → after.history.current ≢ g.history.current → AreSentBy (epoch (incs g)) g → heard after ≡ []
+new-heard shorten fine steps g after inc is differ sent =
+    let each : All (λ (info : Info). is_counted after info.member info.stamp ≡ false) (infos g) =
+    All-weaker (λ (info : Info). info.stamp ≤ epoch (incs g)) (λ (info : Info). is_counted after info.member info.stamp ≡ false)
+    (λ info by. new-counts shorten fine steps g after inc info.member info.stamp is differ by) (infos g) sent.each_info in
+    ap (λ (told : List Info). last_of_each_member (filter (λ info. is_counted after info.member info.stamp) told)) (same-infos g after inc is)
+    ∙ ap last_of_each_member (filter-fail (λ (info : Info). is_counted after info.member info.stamp) (infos g) each)
+
+pub new-reported : Shortens → EndsWell → Steps → (g after : GroupLog) (inc : Incremental) (member : Member) → IsAfter g (entry.Inc inc ∷ []) after
+    → after.history.current ≢ g.history.current → AreSentBy (epoch (incs g)) g → reported after member ≡ []
+new-reported shorten fine steps g after inc member is differ sent =
+    let test : Report → Bool = λ report. is_same_member report.member member && is_counted after report.member report.stamp in
+    let each : All (λ (report : Report). test report ≡ false) (reports g) =
+    All-weaker (λ (report : Report). report.stamp ≤ epoch (incs g)) (λ (report : Report). test report ≡ false)
+    (λ report by. and_fails (is_same_member report.member member) (is_counted after report.member report.stamp) (new-counts shorten fine steps g after inc report.member report.stamp is differ by)) (reports g) sent.each_report in
+    ap (λ (told : List Report). flat_map (λ report. report.log) (filter test told)) (same-reports g after inc is)
+    ∙ ap (flat_map (λ report. report.log)) (filter-fail test (reports g) each)
+
+-- ---- what counts after an incremental counted before
+
+-- the greatest epoch with one more incremental
+up_from-snoc : (incs : List Incremental) (inc : Incremental) (osd : ℕ) → up_from (then_with incs inc) osd ≡ fold max (up_from incs osd) (map (λ i. i.epoch) (filter (boots osd) (inc ∷ [])))
+up_from-snoc incs inc osd =
+    ap greatest_epoch (filter-append (boots osd) incs (inc ∷ []))
+    ∙ ap (fold max 0) (map-append (λ (i : Incremental). i.epoch) (filter (boots osd) incs) (filter (boots osd) (inc ∷ [])))
+    ∙ fold-append max 0 (map (λ (i : Incremental). i.epoch) (filter (boots osd) incs)) (map (λ (i : Incremental). i.epoch) (filter (boots osd) (inc ∷ [])))
+
+up_from-rises : (incs : List Incremental) (inc : Incremental) (osd : ℕ) → up_from incs osd ≤ up_from (then_with incs inc) osd
+up_from-rises incs inc osd = subst (λ n. up_from incs osd ≤ n) (sym (up_from-snoc incs inc osd)) (fold_max-least (up_from incs osd) (map (λ (i : Incremental). i.epoch) (filter (boots osd) (inc ∷ []))))
+
+up_from-boots : (incs : List Incremental) (inc : Incremental) (osd : ℕ) → boots osd inc ≡ true → inc.epoch ≤ up_from (then_with incs inc) osd
+up_from-boots incs inc osd booting =
+    let last : up_from (then_with incs inc) osd ≡ max (up_from incs osd) inc.epoch = up_from-snoc incs inc osd ∙ rw booting refl in
+    omega (arith, last)
+
+-- a device that doesn't boot is up only if it was
+tells_of : ℕ → Incremental → Bool
+tells_of osd inc = boots osd inc || takes_down osd inc || destroys osd inc
+
+is_up-before : (incs : List Incremental) (inc : Incremental) (osd : ℕ) → boots osd inc ≡ false → is_up (then_with incs inc) osd ≡ true → is_up incs osd ≡ true
+unfolding tells_of
+is_up-before incs inc osd still up = elim (cases_Bool (tells_of osd inc)) [
+  | inl told ↦
+      absurd (true≢false (sym up ∙ ap (λ (o : Option Incremental). option_map_or (boots osd) o false) (last_where-passes (tells_of osd) incs inc told) ∙ still))
+  | inr silent ↦
+      let none : list_any (tells_of osd) (inc ∷ []) ≡ false = rw silent refl in
+      sym (ap (λ (o : Option Incremental). option_map_or (boots osd) o false) (last_where-none (tells_of osd) incs (inc ∷ []) none)) ∙ up
+]
+
+-- a report of this member and stamp counts by this history and map
+abbrev counts_by : List Incremental → History AnyCode → Member → ℕ → Bool
+counts_by incs h member stamp = nat_le (current_first h) stamp && is_up incs member.osd && nat_le (up_from incs member.osd) stamp
+
+counted-before : (incs : List Incremental) (inc : Incremental) (h after : History AnyCode) (member : Member) (stamp : ℕ) → current_first h ≤ current_first after → stamp < inc.epoch
+    → counts_by (then_with incs inc) after member stamp ≡ true → counts_by incs h member stamp ≡ true
+counted-before incs inc h after member stamp rises early counts =
+    let a = and_parts (nat_le (current_first after) stamp && is_up (then_with incs inc) member.osd) (nat_le (up_from (then_with incs inc) member.osd) stamp) counts in
+    let b = and_parts (nat_le (current_first after) stamp) (is_up (then_with incs inc) member.osd) a.0 in
+    let from : up_from (then_with incs inc) member.osd ≤ stamp = let le : nat_le (up_from (then_with incs inc) member.osd) stamp ≡ true = a.1 in grind (arith, nat_tests) in
+    let first : nat_le (current_first h) stamp ≡ true = let le : nat_le (current_first after) stamp ≡ true = b.0 in grind (arith, nat_tests) in
+    let since : nat_le (up_from incs member.osd) stamp ≡ true = let le : up_from incs member.osd ≤ up_from (then_with incs inc) member.osd = up_from-rises incs inc member.osd in grind (arith, nat_tests) in
+    let up : is_up incs member.osd ≡ true = elim (cases_Bool (boots member.osd inc)) [
+      | inl booting ↦ absurd (omega (arith, up_from-boots incs inc member.osd booting, from, early))
+      | inr still ↦ is_up-before incs inc member.osd still b.1
+    ] in
+    rw (first, up, since) refl
+
+-- a report of this stamp was sent, and doesn't count
+abbrev Silent : Member → ℕ → List Incremental → History AnyCode → Type 0
+Silent member stamp incs h = (stamp ≤ epoch incs) × (counts_by incs h member stamp ≡ false)
+
+silent-step : Shortens → EndsWell → Steps → Decides → Opens → (pg : PgId) (member : Member) (stamp : ℕ) (incs : List Incremental) (inc : Incremental) (h after : History AnyCode) → are_checked (then_with incs inc) ≡ true
+    → group_history incs pg ≡ Some h → group_history (then_with incs inc) pg ≡ Some after → Silent member stamp incs h → Silent member stamp (then_with incs inc) after
+silent-step shorten fine steps decides opens pg member stamp incs inc h after checked is then' silent =
+    let next : inc.epoch ≡ epoch incs + 1 = next_epoch incs inc (fine incs inc checked) in
+    let sent : stamp ≤ epoch incs = silent.0 in
+    let later : stamp ≤ epoch (then_with incs inc) = omega (arith, epoch-snoc incs inc, next, sent) in
+    let rises : current_first h ≤ current_first after = first-step shorten fine steps decides opens incs inc pg h after checked is then' in (
+      later,
+      elim (cases_Bool (counts_by (then_with incs inc) after member stamp)) [
+        | inl counts ↦ absurd (true≢false (sym (counted-before incs inc h after member stamp rises (omega (arith, next, sent)) counts) ∙ silent.1))
+        | inr silent' ↦ silent'
+      ],
+    )
+
+pub never-counts : Shortens → EndsWell → Steps → Decides → Opens → (g after : GroupLog) (later : List Entry) (member : Member) (stamp : ℕ) → IsAfter g later after
+    → stamp ≤ epoch (incs g) → is_counted g member stamp ≡ false → is_counted after member stamp ≡ false
+never-counts shorten fine steps decides opens g after later member stamp is sent silent =
+    let hs = histories g later after is in
+    let last : Silent member stamp (incs g ++ incs_of later) after.history =
+    along shorten fine g.pg (Silent member stamp) (silent-step shorten fine steps decides opens g.pg member stamp)
+    (incs_of later) (incs g) g.history after.history hs.checked hs.before hs.then_is (sent, silent) in
+    ap (λ l. counts_by l after.history member stamp) hs.incs_are ∙ last.1
