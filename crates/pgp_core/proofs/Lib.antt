@@ -10,6 +10,7 @@ pub mod CutLemmas
 pub mod TakeLemmas
 pub mod LocateLemmas
 pub mod RawSetLemmas
+pub mod ReplayLemmas
 pub mod RunLemmas
 pub mod TurnLemmas
 pub mod HistoryLemmas

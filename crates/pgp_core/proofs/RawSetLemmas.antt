@@ -32,7 +32,7 @@ pub known-is : (incs : List Incremental) (pg : PgId) (found : Option (List (Opti
 known-is incs pg found raw same each = subst (λ (o : Option (List (Option ℕ))). IfSome o (IsRawSet incs pg)) same each
 
 -- groups with the same numbers are one
-same_group : (a b : PgId) → is_same_group a b ≡ true → a ≡ b
+pub same_group : (a b : PgId) → is_same_group a b ≡ true → a ≡ b
 same_group a b same =
     let parts = and_parts (nat_eq a.pool b.pool) (nat_eq a.pg b.pg) same in
     λ i. record { pool = eqb-true a.pool b.pool parts.0 i; pg = eqb-true a.pg b.pg parts.1 i }

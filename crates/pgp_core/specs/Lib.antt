@@ -11,6 +11,7 @@ pub mod Script
 pub mod Line
 pub mod Output
 pub mod RawSets
+pub mod Replay
 pub mod Wants
 pub mod Run
 pub mod Examples

@@ -2,8 +2,9 @@
 ghost use Rattle.std.specs.Prelude.{◌≡◌, ◌<◌, ◌≤◌, ◌++◌, ◌∷◌, [], length, IfOk, IsOk, IfErr, OnErr, Some, None};
 ghost use Rattle.pgp_text.specs.Command.{command_of, IsInRange};
 ghost use Rattle.pgp_text.specs.Reply.{reply_text};
-ghost use Rattle.pgp_core.specs.Answer.{reply_of, log_after, traced_reply, submitted_reply, log_with, line_text, line_log, long_text};
+ghost use Rattle.pgp_core.specs.Answer.{reply_of, log_after, asked_reply, traced_reply, submitted_reply, log_with, line_text, line_log, long_text};
 ghost use Rattle.pgp_core.specs.Fits.{fits};
+ghost use Rattle.pgp_group.specs.View.{scratch};
 ghost use Rattle.pgp_core.specs.Script.{MayMeet};
 ghost use Rattle.pgp_core.specs.Wants.{want_of};
 
@@ -11,7 +12,7 @@ use super::history::history;
 use super::log::Log;
 use super::want::Want;
 use pgp_code::AnyCode;
-use pgp_ids::{Entry, Epoch, EpochState, PoolKind, Refusal, Seq, TextFault};
+use pgp_ids::{Entry, Epoch, EpochState, PgId, PoolKind, Refusal, Seq, TextFault};
 use pgp_text::{Command, EntryOp, Refused, Reply, read_line, write_reply};
 use std::alloc::{AllocError, Global};
 
@@ -45,12 +46,20 @@ fn answer_command(alloc: Global, command: Command, log: &mut Log) -> Result<Vec<
 {
     match command {
         Command::Submit(entry) => submit(alloc, entry, log).or(Err(Want::Entry)),
-        Command::Ask(_pg) => unreachable!(),
+        Command::Ask(pg) => ask(alloc, pg, log).or(Err(Want::Line)),
         Command::Locate { pool, name } => {
             write_line(alloc, &log.locate(pool, &name)).or(Err(Want::Line))
         }
         Command::Trace { code, epochs } => trace(alloc, code, epochs).or(Err(Want::Line)),
     }
+}
+
+/// The text of the answer to a question about a group, with a line feed.
+fn ask(alloc: Global, pg: PgId, log: &Log) -> Result<Vec<u8>, AllocError>
+    ensures { IfOk result (λ text. text.items ≡ reply_text (asked_reply pg (scratch log.now pg)) ++ 10 ∷ []) }
+{
+    let reply = log.ask(alloc, pg)?;
+    write_line(alloc, &reply)
 }
 
 /// The text of the answer to a line that is too long, with a line feed.

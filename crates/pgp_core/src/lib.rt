@@ -13,6 +13,7 @@ mod locate;
 mod log;
 mod output;
 mod raw_sets;
+mod replay;
 mod report;
 mod script;
 mod streams;

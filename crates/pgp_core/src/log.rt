@@ -1,5 +1,5 @@
 //! The log of a script, and what it takes next.
-ghost use Rattle.std.specs.Prelude.{◌≡◌, ◌≢◌, ◌≤◌, ℕ, List, [], ◌∷◌, ◌++◌, length, false, true, is_some, None, Some, Err, IsOk, OnOk, OnErr, IfErr, IfSome, IfNone, option_map};
+ghost use Rattle.std.specs.Prelude.{◌≡◌, ◌≢◌, ◌≤◌, ℕ, List, [], ◌∷◌, ◌++◌, length, false, true, is_some, None, Some, Err, IfOk, IsOk, OnOk, OnErr, IfErr, IfSome, IfNone, option_map};
 ghost use Rattle.pgp_ids.specs.declared.entry.Entry.{Entry as AnyEntry};
 ghost use Rattle.pgp_ids.specs.declared.incremental.Incremental.{Incremental as Step};
 ghost use Rattle.pgp_ids.specs.declared.refusal.Refusal.TheVariants.{Memory};
@@ -7,16 +7,20 @@ ghost use Rattle.pgp_map.specs.Checked.{are_checked};
 ghost use Rattle.pgp_map.specs.MapFault.{given_fault};
 ghost use Rattle.pgp_map.specs.MapOf.{IsMapOf};
 ghost use Rattle.pgp_map.specs.Pools.{pool};
-ghost use Rattle.pgp_core.specs.Answer.{located_reply};
+ghost use Rattle.pgp_core.specs.Answer.{asked_reply, located_reply};
 ghost use Rattle.pgp_core.specs.RawSets.{AreRawSets};
 ghost use Rattle.pgp_group.specs.Entries.{inc_of, incs_of};
+ghost use Rattle.pgp_group.specs.View.{scratch};
 ghost use Rattle.pgp_core.specs.Fits.{is_close, is_closed, entry_fault, fits};
-ghost use Rattle.pgp_core.specs.Log.{epoch_of};
+ghost use Rattle.pgp_core.specs.Log.{epoch_of, is_legal};
 
 use super::locate::group_of;
 use super::raw_sets::RawSets;
+use super::replay::replay_of;
 use super::report::{entries_fault, info_fault};
-use pgp_ids::{Entry, Epoch, Incremental, LocateRefusal, ObjectName, PgId, PoolId, Refusal};
+use pgp_ids::{
+    AskRefusal, Entry, Epoch, Incremental, LocateRefusal, ObjectName, PgId, PoolId, Refusal, View,
+};
 use pgp_map::OsdMap;
 use pgp_text::{Refused, Reply};
 use std::alloc::{AllocError, Global};
@@ -43,6 +47,7 @@ impl Model for Log {
       map : IsMapOf (incs_of log.entries.items) log.map;
       raw_sets : AreRawSets (incs_of log.entries.items) log.raw_sets;
       checked : are_checked (incs_of log.entries.items) ≡ true;
+      legal : is_legal log.entries.items ≡ true;
       closed : log.closed ≡ is_closed log.entries.items;
       few : length log.entries.items ≤ 65536;
       room : log.closed ≡ false → length log.entries.items ≤ 65535;
@@ -87,6 +92,15 @@ impl Log {
             members,
             epoch: self.map.epoch(),
         }
+    }
+
+    /// The reply to a question about a group: all that the log says of it.
+    pub fn ask(&self, alloc: Global, pg: PgId) -> Result<Reply, AllocError>
+        ensures { IfOk result (λ reply. reply ≡ asked_reply pg (scratch self.now pg)) }
+    {
+        let replay = replay_of(alloc, self.entries.as_slice(), &pg)?;
+        let view = replay.view(self.entries.len())?;
+        Ok(asked(pg, view))
     }
 
     /// Why the log doesn't take the entry, if it doesn't. `Memory` comes only where there was none to look at an incremental
@@ -164,8 +178,18 @@ fn extend_map(map: &mut OsdMap, entry: &Entry) -> Result<(), AllocError>
     }
 }
 
+/// The reply to a question about a group of which this is said.
+fn asked(pg: PgId, view: Option<View>) -> Reply
+    ensures { result ≡ asked_reply pg view }
+{
+    match view {
+        Some(view) => Reply::Asked(pg, view),
+        None => Reply::Refused(Refused::Ask(AskRefusal::UnknownGroup)),
+    }
+}
+
 /// The map incremental that the entry is.
-fn inc_of(entry: &Entry) -> Option<&Incremental>
+pub fn inc_of(entry: &Entry) -> Option<&Incremental>
     ensures { option_map (λ inc. inc.now) result ≡ inc_of entry.now }
 {
     match entry {

@@ -22,10 +22,10 @@ use Rattle.pgp_lines.specs.Trace.{replicated_in, erasure_in, code_of_kind, code_
 use Rattle.pgp_lines.specs.Ids.{osd_in, pool_id_in, word_in, group_in}
 use Rattle.pgp_lines.specs.Incremental.{inc_of}
 use Rattle.pgp_lines.specs.ReportParts.{pg_in, member_in, version_in, name_in, log_entry_in}
-use Rattle.pgp_lines.specs.Reports.{info_of, entries_of, locate_of}
-use Rattle.pgp_lines.specs.Command.{op_named, has_come, if_come, op_in, op_keys, trace_of, command_with, known, command_in, IsTraceCode, IsGroup, IsMember, IsEntry, IsInRange}
+use Rattle.pgp_lines.specs.Reports.{info_of, entries_of, ask_of, locate_of}
+use Rattle.pgp_lines.specs.Command.{op_in, op_keys, trace_of, command_with, known, command_in, IsTraceCode, IsGroup, IsMember, IsEntry, IsInRange}
 use Rattle.pgp_lines.specs.declared.command.Command.{Command}
-use Rattle.pgp_lines.specs.declared.command.Command.TheVariants.{Submit, Locate, Trace}
+use Rattle.pgp_lines.specs.declared.command.Command.TheVariants.{Submit, Ask, Locate, Trace}
 use Rattle.pgp_lines.specs.declared.command.Op.{Op}
 use Rattle.pgp_lines.specs.declared.command.Op.TheVariants as op
 use Rattle.pgp_lists.proofs.Options.{and_then_some, map_some, if_some}
@@ -181,40 +181,37 @@ locate_ok d object is =
     let ranged = number_within 1 255 of_pool.0 pool.0 of_pool.1 in
     subst (λ o. IsInRange (Locate o.0 o.1)) (ok_value pool.2) (ranged.0, ranged.1, sized.0, sized.1)
 
-with_ok : (named : Op) (d : Data) (command : Command) → has_come named ≡ true → command_with named d ≡ Ok command → IsInRange command
-with_ok op.Ask d command come is = cc
-with_ok op.Close d command come is = subst IsInRange (ok_same (Submit Close) command is) tt
-with_ok op.Entries d command come is =
+with_ok : (named : Op) (d : Data) (command : Command) → command_with named d ≡ Ok command → IsInRange command
+with_ok op.Ask d command is =
+    let of_pg : PgId → Result Command LineFault = λ pg. Ok (Ask pg) in
+    let pg = bind_ok (ask_of d) of_pg command is in
+    let read = required_some (codes "pg") pg_in d pg.0 pg.1 in
+    subst IsInRange (ok_same (Ask pg.0) command pg.2) (group_ok read.0 pg.0 read.1)
+with_ok op.Close d command is = subst IsInRange (ok_same (Submit Close) command is) tt
+with_ok op.Entries d command is =
     let of_report : Report → Result Command LineFault = λ report. Ok (Submit (Entries report)) in
     let report = bind_ok (entries_of d) of_report command is in
     subst IsInRange (ok_same (Submit (Entries report.0)) command report.2) (entries_ok d report.0 report.1)
-with_ok op.Inc d command come is =
+with_ok op.Inc d command is =
     let of_inc : Incremental → Result Command LineFault = λ inc. Ok (Submit (Inc inc)) in
     let inc = bind_ok (inc_of d) of_inc command is in
     subst IsInRange (ok_same (Submit (Inc inc.0)) command inc.2) tt
-with_ok op.Info d command come is =
+with_ok op.Info d command is =
     let of_info : Info → Result Command LineFault = λ info. Ok (Submit (InfoEntry info)) in
     let info = bind_ok (info_of d) of_info command is in
     subst IsInRange (ok_same (Submit (InfoEntry info.0)) command info.2) (info_ok d info.0 info.1)
-with_ok op.Locate d command come is =
+with_ok op.Locate d command is =
     let of_object : ℕ × List ℕ → Result Command LineFault = λ object. Ok (Locate object.0 object.1) in
     let object = bind_ok (locate_of d) of_object command is in
     subst IsInRange (ok_same (Locate object.0.0 object.0.1) command object.2) (locate_ok d object.0 object.1)
-with_ok op.Trace d command come is = trace_ok d command is
+with_ok op.Trace d command is = trace_ok d command is
 
-known_ok : (key : Option (List ℕ)) (named : Op) (d : Data) (command : Command) → has_come named ≡ true → known key (command_with named d) ≡ Ok command → IsInRange command
-known_ok (Some key) named d command come is = cc
-known_ok None named d command come is = with_ok named d command come is
-
--- an operation that a line names has come
-named_ok : (d : Data) (named : Op) → op_in d ≡ Some named → has_come named ≡ true
-named_ok d named is =
-    let of_name = and_then_some (option_and_then op_named (field (codes "op") as_str d)) if_come named is in
-    let chosen = if_some (has_come of_name.0) (Some of_name.0) named of_name.2 in
-    subst (λ o. has_come o ≡ true) (same_Some _ _ chosen.1) chosen.0
+known_ok : (key : Option (List ℕ)) (named : Op) (d : Data) (command : Command) → known key (command_with named d) ≡ Ok command → IsInRange command
+known_ok (Some key) named d command is = cc
+known_ok None named d command is = with_ok named d command is
 
 -- a command of a line is in range
 pub in_range : (d : Data) (command : Command) → command_in d ≡ Ok command → IsInRange command
 in_range d command is =
     let named = bind_ok (ok_or (op_in d) no_op) _ command is in
-    known_ok (unknown_key_in (op_keys named.0) d) named.0 d command (named_ok d named.0 (some_of_ok (op_in d) no_op named.0 named.1)) named.2
+    known_ok (unknown_key_in (op_keys named.0) d) named.0 d command named.2

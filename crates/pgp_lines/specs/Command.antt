@@ -1,5 +1,5 @@
 -- The command that a line is, in this project's own format over JSON (RFC 8259).
-use Rattle.std.specs.Prelude.{◌≤◌, ℕ, List, [], ◌∷◌, length, Bool, true, false, codes, if◌then◌else◌, Option, Some, None, Result, Ok, Err, option_and_then}
+use Rattle.std.specs.Prelude.{◌≤◌, ℕ, List, [], ◌∷◌, length, codes, if◌then◌else◌, Option, Some, None, Result, Ok, Err, option_and_then}
 use Rattle.std.specs.Option.{ok_or}
 use Rattle.std.specs.Str.{bytes_eq, is_utf8}
 use Rattle.serde_json.specs.Data.{Data}
@@ -32,23 +32,9 @@ op_named name =
     else (if bytes_eq name (codes "locate") then Some op.Locate
     else (if bytes_eq name (codes "trace") then Some op.Trace else None))))))
 
--- The operations that a line can name today: `ask` isn't answered yet, so a line that names it names no operation.
-abbrev pub has_come : Op → Bool
-has_come op.Ask = false
-has_come op.Close = true
-has_come op.Entries = true
-has_come op.Inc = true
-has_come op.Info = true
-has_come op.Locate = true
-has_come op.Trace = true
-
--- the operation, where it has come
-abbrev pub if_come : Op → Option Op
-if_come named = if has_come named then Some named else None
-
 -- the operation that a line names
 abbrev pub op_in : Data → Option Op
-op_in d = option_and_then if_come (option_and_then op_named (field (codes "op") as_str d))
+op_in d = option_and_then op_named (field (codes "op") as_str d)
 
 -- the keys that its line may have
 abbrev pub op_keys : Op → List (List ℕ)
@@ -108,12 +94,6 @@ command_of bytes = do
   d ← ok_or (data_of bytes) not_json
   command_in d
 
--- what a line with these keys says, by the judgement of its values
-abbrev pub line_with : {A : Type 0} → List (List ℕ) → (Data → Result A LineFault) → List ℕ → Result A LineFault
-line_with keys values bytes = do
-  d ← ok_or (data_of bytes) not_json
-  known (unknown_key_in keys d) (values d)
-
 -- a pool's kind as a trace can give it
 abbrev pub IsTraceCode : PoolKind → Type 0
 IsTraceCode Replicated = Unit {0}
@@ -135,9 +115,9 @@ IsEntry (Entries report) = IsGroup report.pg × IsMember report.member × (1 ≤
 IsEntry Close = Unit {0}
 
 -- Of each command what its line has to meet: a trace has 1 to 4,096 epochs, and an erasure code 1 to 16 data shards; the name of an object
--- has 1 to 255 bytes. No line is a question about a group yet.
+-- has 1 to 255 bytes.
 abbrev pub IsInRange : Command → Type 0
 IsInRange (Submit entry) = IsEntry entry
-IsInRange (Ask pg) = ⊥
+IsInRange (Ask pg) = IsGroup pg
 IsInRange (Locate pool name) = (1 ≤ pool) × (pool ≤ 255) × (1 ≤ length name) × (length name ≤ 255)
 IsInRange (Trace code epochs) = IsTraceCode code × (1 ≤ length epochs) × (length epochs ≤ 4096)

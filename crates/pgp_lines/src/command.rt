@@ -37,7 +37,7 @@ use trace::{has_empty_places, read_code, read_epochs};
 pub enum Command {
     /// The next entry of the log.
     Submit(Entry),
-    /// The view of one group. No line is read as one yet.
+    /// All that the log says of one group.
     Ask(PgId),
     /// Where an object lies.
     Locate {
@@ -140,12 +140,12 @@ fn read_values(alloc: Global, op: Op, value: &Value) -> Result<Command, TextFaul
     }
 }
 
-/// The operation that the text at `op` names, where it has come: `ask` isn't answered yet.
+/// The operation that the text at `op` names.
 fn read_op(value: &Value) -> Option<Op>
     ensures { result ≡ op_in (view value.now) }
 {
     match value.get("op")?.as_str()? {
-        "ask" => None,
+        "ask" => Some(Op::Ask),
         "close" => Some(Op::Close),
         "entries" => Some(Op::Entries),
         "inc" => Some(Op::Inc),

@@ -5,7 +5,7 @@ ghost use Rattle.std.specs.Prelude.{◌≡◌, List, ℕ, [], ◌∷◌, ◌++�
 ghost use Rattle.pgp_core.specs.declared.want.Want.{Want};
 ghost use Rattle.pgp_core.specs.declared.want.Want.TheVariants.{Line, Entry};
 ghost use Rattle.pgp_core.specs.Script.{script_text, answer, answers, log_past, logs};
-ghost use Rattle.pgp_core.specs.Examples.{without_want, copies_line, copies_located};
+ghost use Rattle.pgp_core.specs.Examples.{without_want, copies_line, copies_located, copies_asked};
 
 /// What is written for one line more goes by the log after the lines before it, and so does the log after that line.
 pub fn answers_go_by_the_lines_before()
@@ -52,4 +52,10 @@ pub fn scripts_that_want_memory()
 pub fn scripts_that_locate()
     ensures { script_text (without_want 3) (codes "{\"op\":\"locate\",\"pool\":1,\"name\":\"a\"}\n" ++ (copies_line ++ codes "\n{\"op\":\"locate\",\"pool\":1,\"name\":\"a\"}\n"))
         ≡ codes "{\"code\":42,\"refused\":\"UnknownPool\"}\n{\"count\":1,\"epoch\":1,\"ok\":\"inc\"}\n" ++ copies_located }
+{}
+
+/// A group is asked for in the log of the lines before.
+pub fn scripts_that_ask()
+    ensures { script_text (without_want 3) (codes "{\"op\":\"ask\",\"pg\":[1,0]}\n" ++ (copies_line ++ codes "\n{\"op\":\"ask\",\"pg\":[1,0]}\n"))
+        ≡ codes "{\"code\":40,\"refused\":\"UnknownGroup\"}\n{\"count\":1,\"epoch\":1,\"ok\":\"inc\"}\n" ++ copies_asked }
 {}

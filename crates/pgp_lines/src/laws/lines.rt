@@ -5,10 +5,9 @@ ghost use Rattle.std.specs.Prelude.{◌≡◌, ℕ, List, codes, Ok, Err};
 ghost use Rattle.std.proofs.Math.ListN.{replicate};
 ghost use Rattle.pgp_lines.specs.LineFault.{not_json, no_op, unknown_key, bad_field};
 ghost use Rattle.pgp_ids.specs.declared.entry.Entry.TheVariants.{Info, Entries};
-ghost use Rattle.pgp_lines.specs.Command.{command_of, line_with};
-ghost use Rattle.pgp_lines.specs.Reports.{ask_keys, ask_of};
+ghost use Rattle.pgp_lines.specs.Command.{command_of};
 ghost use Rattle.pgp_lines.specs.WorkedLines.{nested, close_with, trace_line, trace_command, erasure_line, erasure_command, info_line, first_info, edges_of_info_line, edges_of_info, entries_line, two_entries};
-ghost use Rattle.pgp_lines.specs.declared.command.Command.TheVariants.{Submit, Locate};
+ghost use Rattle.pgp_lines.specs.declared.command.Command.TheVariants.{Submit, Ask, Locate};
 
 /// What is no JSON text: one that is cut short, one with bytes behind it, a number that overflows, and no text at all.
 pub fn no_json()
@@ -30,11 +29,6 @@ pub fn no_operation()
     ensures other { command_of (codes "{\"op\":\"peer\"}") ≡ Err no_op }
     ensures absent { command_of (codes "{\"x\":1}") ≡ Err no_op }
     ensures number { command_of (codes "{\"op\":1}") ≡ Err no_op }
-{}
-
-/// An operation that no line is read as yet.
-pub fn operation_to_come()
-    ensures { command_of (codes "{\"op\":\"ask\",\"pg\":[1,0]}") ≡ Err no_op }
 {}
 
 /// Of unknown keys the least is named, and before a key that is absent.
@@ -82,12 +76,11 @@ pub fn locates()
     ensures unknown_key { command_of (codes "{\"op\":\"locate\",\"pg\":[1,0]}") ≡ Err (unknown_key (codes "pg")) }
 {}
 
-/// The lines of questions, by the judgement of their own keys and values.
+/// The lines of questions about groups.
 pub fn questions()
-    ensures group { line_with ask_keys ask_of (codes "{\"op\":\"ask\",\"pg\":[1,0]}")
-        ≡ Ok (record { pool = 1; pg = 0 }) }
-    ensures unknown_key { line_with ask_keys ask_of
-        (codes "{\"op\":\"ask\",\"pg\":[1,0],\"z\":1,\"x\":1}") ≡ Err (unknown_key (codes "x")) }
-    ensures pool_0 { line_with ask_keys ask_of (codes "{\"op\":\"ask\",\"pg\":[0,0]}")
-        ≡ Err (bad_field (codes "pg")) }
+    ensures group { command_of (codes "{\"op\":\"ask\",\"pg\":[1,0]}") ≡ Ok (Ask (record { pool = 1; pg = 0 })) }
+    ensures last_group { command_of (codes "{\"pg\":[255,1023],\"op\":\"ask\"}") ≡ Ok (Ask (record { pool = 255; pg = 1023 })) }
+    ensures unknown_key { command_of (codes "{\"op\":\"ask\",\"pg\":[1,0],\"z\":1,\"x\":1}") ≡ Err (unknown_key (codes "x")) }
+    ensures pool_0 { command_of (codes "{\"op\":\"ask\",\"pg\":[0,0]}") ≡ Err (bad_field (codes "pg")) }
+    ensures absent { command_of (codes "{\"op\":\"ask\"}") ≡ Err (bad_field (codes "pg")) }
 {}

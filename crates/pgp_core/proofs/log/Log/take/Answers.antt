@@ -1,6 +1,7 @@
 use Rattle.std.proofs.Common.{◌≡◌, ◌≤◌, [], ◌∷◌, ◌++◌, false, None, length, sym, ap, ◌∙◌, subst, arith, length-append}
 use Rattle.pgp_ids.specs.declared.entry.Entry.{Entry as AnyEntry}
 use Rattle.pgp_core.specs.Fits.{is_closed, fits}
+use Rattle.pgp_core.proofs.LogLemmas.{legal-snoc}
 use Rattle.pgp_core.proofs.TakeLemmas.{fits-open_log, fits-faultless, faultless-tree, checked-push, closed-push, room-push}
 use Rattle.pgp_core.proofs.log.Log.take.Goals as goal
 
@@ -15,6 +16,7 @@ invariant_of-self-2 c =
       map = c.in_ok-extend_map.ensures.ok log c.self.invariant.map (fits-faultless log c.args.entry fit);
       raw_sets = c.follow.ensures log c.self.invariant.raw_sets;
       checked = checked-push log c.args.entry c.self.invariant.checked (fits-faultless log c.args.entry fit);
+      legal = legal-snoc log c.args.entry c.self.invariant.legal fit;
       closed = c.is_close-self-inside.ensures ∙ sym (closed-push log c.args.entry opened);
       few = omega (arith, few, length-append log (c.args.entry ∷ []));
       room = λ other. room-push log c.args.entry fit (sym c.is_close-self-inside.ensures ∙ other);
