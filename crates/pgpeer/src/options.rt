@@ -10,8 +10,8 @@ use std::alloc::{AllocError, Global};
 /// What `pgpeer run --help` tells beyond its usage.
 const RUN_HELP: &str = "\
 A line is one JSON object, and its key op says what it is: inc, info, entries and
-close add to the log; locate and trace ask. Each line is answered by one line of
-JSON, a blank line by none. docs/FORMAT.md tells the keys of each and the answers.
+close add to the log; ask, locate and trace ask. Each line is answered by one line
+of JSON, a blank line by none. docs/FORMAT.md tells the keys of each and the answers.
 
 Exit status:
   0  the script was answered to its end
