@@ -1,5 +1,5 @@
 -- The answer to a line from what its buffer holds.
-use Rattle.std.proofs.Common.{Vec, Global, ◌≡◌, ◌≢◌, ℕ, ◌<◌, ◌≤◌, List, [], ◌∷◌, ◌++◌, Some, None, true, false, length, nat_lt, refl, sym, ap, ◌∙◌, subst, arith}
+use Rattle.std.proofs.Common.{Vec, Global, ◌≡◌, ℕ, ◌<◌, ◌≤◌, List, [], ◌∷◌, ◌++◌, Some, None, true, false, length, nat_lt, refl, sym, ◌∙◌, subst, arith}
 use Rattle.std.proofs.lemmas.Bool.Decides.{nat_tests}
 use Rattle.pgp_ids.specs.declared.entry.Entry.{Entry}
 use Rattle.std.specs.Prelude.{Result, Ok, Err, IfErr}
@@ -9,7 +9,7 @@ use Rattle.pgp_lines.specs.declared.command.Command.TheVariants.{Submit, Ask, Lo
 use Rattle.pgp_core.specs.Wants.{want_of}
 use Rattle.pgp_core.specs.Answer.{line_text, line_log, long_text}
 use Rattle.pgp_core.specs.Lines.{is_blank}
-use Rattle.pgp_core.specs.Script.{longest_line, MayMeet, answer, log_past}
+use Rattle.pgp_core.specs.Script.{longest_line, MayMeet}
 use Rattle.pgp_core.specs.Line.{KeptBy, Holds, IsAnswerTo}
 use Rattle.pgp_core.specs.declared.line.Fate.TheVariants.{Kept, TooLong, NoMemory}
 use Rattle.pgp_core.specs.declared.line.LineBuffer.{LineBuffer}

@@ -1,5 +1,5 @@
 -- Where an object lies by the map of a log: its pool has a group, the map has that group, and the reply says where it lies.
-use Rattle.std.proofs.Common.{◌≡◌, ℕ, ◌<◌, ◌&&◌, List, Bool, true, false, Option, Some, option_map, nat_lt, nat_le, refl, sym, ap, ap₂, ◌∙◌, arith}
+use Rattle.std.proofs.Common.{◌≡◌, ℕ, ◌<◌, ◌&&◌, List, Bool, true, false, Some, option_map, nat_lt, refl, sym, ap, ap₂, ◌∙◌, arith}
 use Rattle.std.proofs.lemmas.Bool.Decides.{nat_tests}
 use Rattle.std.specs.Option.{option_map_or}
 use Rattle.pgp_hash.specs.NameHash.{name_hash}
@@ -12,14 +12,13 @@ use Rattle.pgp_ids.specs.declared.pool.PoolSpec.{PoolSpec}
 use Rattle.pgp_map.specs.declared.map.OsdMap.{OsdMap}
 use Rattle.pgp_map.specs.Checked.{are_checked}
 use Rattle.pgp_map.specs.Held.{HasGroup}
-use Rattle.pgp_map.specs.MapFault.{is_within, is_pool}
+use Rattle.pgp_map.specs.MapFault.{is_within}
 use Rattle.pgp_map.specs.MapOf.{IsMapOf}
-use Rattle.pgp_map.specs.Pools.{pool, has_group}
+use Rattle.pgp_map.specs.Pools.{pool}
 use Rattle.pgp_sets.specs.Sets.{membership, pool_membership}
 use Rattle.pgp_group.specs.Entries.{incs_of}
 use Rattle.pgp_core.specs.Answer.{located_reply}
 use Rattle.pgp_core.specs.Log.{epoch_of}
-use Rattle.pgp_replies.specs.declared.reply.Reply.{Reply}
 use Rattle.pgp_replies.specs.declared.reply.Reply.TheVariants.{Located}
 use Rattle.pgp_map.proofs.CheckedLemmas.{pools-in_range, checked-has_group}
 

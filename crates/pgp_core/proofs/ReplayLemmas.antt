@@ -1,7 +1,6 @@
 -- What is kept of one group while its log is told again.
-use Rattle.std.proofs.Common.{◌≡◌, ℕ, ◌+◌, ◌<◌, List, [], ◌∷◌, ◌++◌, Option, Some, None, Bool, true, false, nat_eq, nat_lt, option_map, length, take, drop, get_or, refl, ap, sym, ◌∙◌, subst, inl, inr, arith, if◌then◌else◌}
-use Rattle.std.specs.Prelude.{Result, Ok, Err, OnOk, IfOk}
-use Rattle.std.specs.List.{filter, flat_map, list_any}
+use Rattle.std.proofs.Common.{◌≡◌, ℕ, ◌+◌, ◌<◌, List, [], ◌∷◌, ◌++◌, Option, Some, None, Bool, true, false, nat_eq, nat_lt, option_map, length, take, drop, get_or, refl, ap, sym, ◌∙◌, subst, inl, inr, arith}
+use Rattle.std.specs.List.{flat_map}
 use Rattle.std.specs.Option.{option_map_or}
 use Rattle.std.proofs.lemmas.Bool.{cases_Bool, true≢false}
 use Rattle.std.proofs.lemmas.List.{take-append-drop, take_more}
@@ -12,8 +11,6 @@ use Rattle.pgp_ids.specs.declared.member.Member.{Member}
 use Rattle.pgp_ids.specs.declared.pg_id.PgId.{PgId}
 use Rattle.pgp_ids.specs.declared.pool.PoolSizes.{PoolSizes}
 use Rattle.pgp_ids.specs.declared.pool.PoolSpec.{PoolSpec}
-use Rattle.pgp_ids.specs.declared.report.Info.{Info}
-use Rattle.pgp_ids.specs.declared.report.Report.{Report}
 use Rattle.pgp_ids.specs.declared.refusal.Refusal.{Refusal}
 use Rattle.pgp_map.proofs.CheckedLemmas.{checked-has_group, checked-more, front-checked, last-checked}
 use Rattle.pgp_map.specs.Checked.{are_checked}
@@ -22,7 +19,7 @@ use Rattle.pgp_map.specs.Last.{last_where}
 use Rattle.pgp_map.specs.Map.{epoch}
 use Rattle.pgp_map.specs.MapFault.{map_fault, then_with}
 use Rattle.pgp_map.specs.MapOf.{IsMapOf}
-use Rattle.pgp_map.specs.Pools.{pool, with_sizes, has_group, is_same_group}
+use Rattle.pgp_map.specs.Pools.{with_sizes, has_group, is_same_group}
 use Rattle.pgp_map.specs.declared.map.OsdMap.{OsdMap}
 use Rattle.pgp_group.proofs.GroupLemmas.{infos-other, infos-same, reports-other, reports-same}
 use Rattle.pgp_group.proofs.GrowthLemmas.{checked-numbered, epoch-snoc, has_group-grows, history-last, made_at-made, next_epoch}
@@ -34,12 +31,12 @@ use Rattle.pgp_group.specs.View.{scratch}
 use Rattle.pgp_group.specs.declared.group.Group.{Group}
 use Rattle.pgp_core.specs.Fits.{entry_fault}
 use Rattle.pgp_core.specs.Log.{is_legal}
-use Rattle.pgp_core.specs.Replay.{IsAbsent, IsKept, IsMidway, IsReplayOf, CanTake, IsAhead}
+use Rattle.pgp_core.specs.Replay.{IsAbsent, IsKept, IsMidway, IsReplayOf}
 use Rattle.pgp_core.specs.ReportFault.{has_unknown_group, report_fault}
 use Rattle.pgp_core.specs.declared.replay.Replay.{Replay}
 use Rattle.pgp_core.proofs.LogLemmas.{front-legal, legal-last}
 use Rattle.pgp_core.proofs.RawSetLemmas.{same_group}
-use Rattle.pgp_core.proofs.TakeLemmas.{checked-push, faultless-inc, faultless-tree, fits-faultless, incs-inc, incs-other}
+use Rattle.pgp_core.proofs.TakeLemmas.{fits-faultless, incs-inc, incs-other}
 
 -- ---- the group comes
 

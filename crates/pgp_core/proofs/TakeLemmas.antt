@@ -1,7 +1,7 @@
 -- What one entry more does to a log.
 use Rattle.std.proofs.lemmas.Bool.Decides.{leb_tells}
-use Rattle.std.proofs.Common.{◌≡◌, ◌≢◌, ℕ, ◌<◌, ◌≤◌, ◌||◌, inl, inr, length-append, List, [], ◌∷◌, ◌++◌, Bool, true, false, Option, Some, None, is_some, IfSome, length, nat_le, if◌then◌else◌, refl, sym, ap, ◌∙◌, append-nil, arith}
-use Rattle.std.specs.List.{list_any, last_or, filter_map}
+use Rattle.std.proofs.Common.{◌≡◌, ◌≢◌, ◌<◌, ◌≤◌, ◌||◌, inl, inr, length-append, List, [], ◌∷◌, ◌++◌, Bool, true, false, Option, Some, None, is_some, IfSome, length, nat_le, if◌then◌else◌, refl, sym, ap, ◌∙◌, arith}
+use Rattle.std.specs.List.{last_or}
 use Rattle.std.specs.Option.{option_map, option_or, option_map_or}
 use Rattle.pgp_ids.specs.declared.entry.Entry.{Entry}
 use Rattle.pgp_ids.specs.declared.entry.Entry.TheVariants as entry

@@ -1,6 +1,4 @@
-use Rattle.std.proofs.Common.{sym, ap, ◌∙◌}
 use Rattle.pgp_group.specs.Entries.{incs_of}
-use Rattle.pgp_core.specs.Fits.{entry_fault}
 use Rattle.pgp_core.proofs.TakeLemmas.{found-is}
 use Rattle.pgp_core.proofs.log.Log.fault_of.Goals as goal
 

@@ -1,5 +1,4 @@
-use Rattle.std.proofs.Common.{◌≡◌, ◌≤◌, [], ◌∷◌, ◌++◌, false, None, length, sym, ap, ◌∙◌, subst, arith, length-append}
-use Rattle.pgp_ids.specs.declared.entry.Entry.{Entry as AnyEntry}
+use Rattle.std.proofs.Common.{◌≡◌, ◌≤◌, [], ◌∷◌, ◌++◌, false, None, length, sym, ap, ◌∙◌, arith, length-append}
 use Rattle.pgp_core.specs.Fits.{is_closed, fits}
 use Rattle.pgp_core.proofs.LogLemmas.{legal-snoc}
 use Rattle.pgp_core.proofs.TakeLemmas.{fits-open_log, fits-faultless, faultless-tree, checked-push, closed-push, room-push}

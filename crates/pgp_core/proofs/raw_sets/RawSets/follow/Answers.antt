@@ -1,4 +1,4 @@
-use Rattle.std.proofs.Common.{◌≡◌, sym, ◌∙◌}
+use Rattle.std.proofs.Common.{sym, ◌∙◌}
 use Rattle.pgp_core.proofs.TakeLemmas.{incs-same}
 use Rattle.pgp_core.proofs.raw_sets.RawSets.follow.Goals as goal
 

@@ -1,8 +1,8 @@
-use Rattle.std.proofs.Common.{◌≡◌, List, Option, Some, ℕ, IfSome, sym, ◌∙◌, subst, rules}
+use Rattle.std.proofs.Common.{◌≡◌, Some, IfSome, rules}
 use Rattle.std.specs.HashMap as hash
 use Rattle.pgp_ids.specs.declared.pg_id.PgId.{PgId}
 use Rattle.pgp_map.specs.Pools.{is_same_group}
-use Rattle.pgp_core.specs.RawSets.{IsRawSet, AreRawSets}
+use Rattle.pgp_core.specs.RawSets.{IsRawSet}
 use Rattle.pgp_core.proofs.RawSetLemmas.{filtered, known-is, with-raw_set, either-way}
 use Rattle.pgp_core.proofs.raw_sets.RawSets.members.Goals as goal
 

@@ -1,7 +1,5 @@
-use Rattle.std.proofs.Common.{◌≡◌, ◌++◌, [], ◌∷◌, true, false, sym, subst, ◌∙◌}
+use Rattle.std.proofs.Common.{◌++◌, [], ◌∷◌, sym, ◌∙◌}
 use Rattle.pgp_ids.specs.declared.entry.Entry.TheVariants as entry
-use Rattle.pgp_map.specs.Held.{HasGroup}
-use Rattle.pgp_map.specs.Pools.{has_group}
 use Rattle.pgp_map.proofs.CheckedLemmas.{checked-has_group}
 use Rattle.pgp_group.specs.Entries.{incs_of}
 use Rattle.pgp_core.proofs.ReplayLemmas.{begun-kept, still-absent}
