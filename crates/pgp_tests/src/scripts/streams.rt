@@ -7,7 +7,7 @@ use std::alloc::Global;
 
 /// Three lines with answers, a blank one between them, and no line feed at the end.
 const SCRIPT: &[u8] =
-    b"{\"op\":\"trace\",\"code\":{\"kind\":\"erasure\",\"k\":2},\"epochs\":[]}\n \t\r\nno JSON\n{\"op\":\"ask\"}";
+    b"{\"op\":\"trace\",\"code\":{\"kind\":\"erasure\",\"k\":2},\"epochs\":[]}\n \t\r\nno JSON\n{\"op\":\"act\"}";
 
 const ANSWERS: &[u8] =
     b"{\"code\":34,\"key\":\"epochs\",\"refused\":\"BadField\"}\n{\"code\":31,\"refused\":\"NotJson\"}\n{\"code\":32,\"refused\":\"NoOp\"}\n";
