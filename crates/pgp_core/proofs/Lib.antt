@@ -1,16 +1,9 @@
-pub mod FitsLemmas
-pub mod LogLemmas
-pub mod EpochLemmas
-pub mod WorldLemmas
 pub mod ScriptLemmas
 pub mod OutputLemmas
 pub mod LineLemmas
 pub mod FeedLemmas
 pub mod CutLemmas
-pub mod TakeLemmas
 pub mod LocateLemmas
-pub mod RawSetLemmas
-pub mod ReplayLemmas
 pub mod RunLemmas
 pub mod TurnLemmas
 pub mod HistoryLemmas

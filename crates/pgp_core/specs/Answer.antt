@@ -25,9 +25,9 @@ use Rattle.pgp_lines.specs.declared.command.Command.TheVariants.{Submit, Ask, Lo
 use Rattle.pgp_replies.specs.declared.reply.Reply.{Reply}
 use Rattle.pgp_replies.specs.declared.reply.Reply.TheVariants.{Accepted, Asked, Located, Traced, Refused}
 use Rattle.pgp_replies.specs.declared.reply.refused.Refused.TheVariants as why
-use Rattle.pgp_core.specs.Fits.{fits}
-use Rattle.pgp_core.specs.Locate.{group_in_pool}
-use Rattle.pgp_core.specs.Log.{epoch_of}
+use Rattle.pgp_log.specs.Fits.{fits}
+use Rattle.pgp_log.specs.Locate.{group_in_pool}
+use Rattle.pgp_log.specs.Log.{epoch_of}
 use Rattle.pgp_core.specs.ToldHistory.{told_history}
 
 -- the reply to an entry, where this is why the log doesn't take it

@@ -1,13 +1,9 @@
--- Small worlds, and lines of small scripts.
+-- Lines of small scripts.
 use Rattle.std.specs.Prelude.{ℕ, List, ◌++◌, map, replicate, codes, Option, None}
 use Rattle.pgp_ids.specs.declared.entry.Entry.{Entry}
-use Rattle.pgp_core.specs.World.{Step}
-use Rattle.pgp_core.specs.World.Step.{Submit}
+use Rattle.pgp_log.specs.World.{Step}
+use Rattle.pgp_log.specs.World.Step.{Submit}
 use Rattle.pgp_core.specs.declared.want.Want.{Want}
-
--- each of these entries is submitted
-abbrev pub submits : List Entry → List Step
-submits log = map Submit log
 
 -- none of so many lines met want of memory
 abbrev pub without_want : ℕ → List (Option Want)

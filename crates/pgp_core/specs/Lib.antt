@@ -1,17 +1,9 @@
-pub mod ReportFault
-pub mod Fits
-pub mod Log
-pub mod World
-pub mod Touched
-pub mod Locate
 pub mod ToldHistory
 pub mod Answer
 pub mod Lines
 pub mod Script
 pub mod Line
 pub mod Output
-pub mod RawSets
-pub mod Replay
 pub mod Wants
 pub mod Run
 pub mod Examples

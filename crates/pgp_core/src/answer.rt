@@ -3,7 +3,7 @@ ghost use Rattle.std.specs.Prelude.{◌≡◌, ◌<◌, ◌≤◌, ◌++◌, ◌
 ghost use Rattle.pgp_text.specs.Command.{command_of, IsInRange};
 ghost use Rattle.pgp_text.specs.Reply.{reply_text};
 ghost use Rattle.pgp_core.specs.Answer.{reply_of, log_after, asked_reply, traced_reply, submitted_reply, log_with, line_text, line_log, long_text};
-ghost use Rattle.pgp_core.specs.Fits.{fits};
+ghost use Rattle.pgp_log.specs.Fits.{fits};
 ghost use Rattle.pgp_group.specs.View.{scratch};
 ghost use Rattle.pgp_core.specs.Script.{MayMeet};
 ghost use Rattle.pgp_core.specs.Wants.{want_of};

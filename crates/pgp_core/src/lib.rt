@@ -1,20 +1,12 @@
-//! The core of the engine: which entries the log takes, and what is answered of a front of it.
-//!
-//! The log holds all that monitor and devices told. This crate decides which entry may follow it, which groups an entry
-//! touches, and what a world of one log and several readers answers (the log and its order of refusals are this
-//! project's own choice). [`run_script`] answers a script, line by line, on one thread.
+//! The core of the engine: [`run_script`] answers a script, line by line, on one thread, by the log that its lines make.
 #![tactic(auto)]
 
 mod answer;
 mod history;
 pub mod laws;
 mod line;
-mod locate;
 mod log;
 mod output;
-mod raw_sets;
-mod replay;
-mod report;
 mod script;
 mod streams;
 mod want;

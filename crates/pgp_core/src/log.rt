@@ -1,5 +1,5 @@
 //! The log of a script, and what it takes next.
-ghost use Rattle.std.specs.Prelude.{◌≡◌, ◌≢◌, ◌≤◌, ℕ, List, [], ◌∷◌, ◌++◌, length, false, true, is_some, None, Some, Err, IfOk, IsOk, OnOk, OnErr, IfErr, IfSome, IfNone, option_map};
+ghost use Rattle.std.specs.Prelude.{◌≡◌, ◌≢◌, ◌≤◌, ℕ, List, [], ◌∷◌, ◌++◌, length, false, true, is_some, None, Some, Err, IfOk, IsOk, OnOk, OnErr, IfErr, IfSome, IfNone};
 ghost use Rattle.pgp_ids.specs.declared.entry.Entry.{Entry as AnyEntry};
 ghost use Rattle.pgp_ids.specs.declared.incremental.Incremental.{Incremental as Step};
 ghost use Rattle.pgp_ids.specs.declared.refusal.Refusal.TheVariants.{Memory};
@@ -8,16 +8,13 @@ ghost use Rattle.pgp_map.specs.MapFault.{given_fault};
 ghost use Rattle.pgp_map.specs.MapOf.{IsMapOf};
 ghost use Rattle.pgp_map.specs.Pools.{pool};
 ghost use Rattle.pgp_core.specs.Answer.{asked_reply, located_reply};
-ghost use Rattle.pgp_core.specs.RawSets.{AreRawSets};
+ghost use Rattle.pgp_log.specs.RawSets.{AreRawSets};
 ghost use Rattle.pgp_group.specs.Entries.{inc_of, incs_of};
 ghost use Rattle.pgp_group.specs.View.{scratch};
-ghost use Rattle.pgp_core.specs.Fits.{is_close, is_closed, entry_fault, fits};
-ghost use Rattle.pgp_core.specs.Log.{epoch_of, is_legal};
+ghost use Rattle.pgp_log.specs.Fits.{is_closed, entry_fault, fits};
+ghost use Rattle.pgp_log.specs.Log.{epoch_of, is_legal};
 
-use super::locate::group_of;
-use super::raw_sets::RawSets;
-use super::replay::replay_of;
-use super::report::{entries_fault, info_fault};
+use pgp_log::{RawSets, entries_fault, group_of, inc_of, info_fault, is_close, replay_of};
 use pgp_ids::{
     AskRefusal, Entry, Epoch, Incremental, LocateRefusal, ObjectName, PgId, PoolId, Refusal, View,
 };
@@ -186,20 +183,4 @@ fn asked(pg: PgId, view: Option<View>) -> Reply
         Some(view) => Reply::Asked(pg, view),
         None => Reply::Refused(Refused::Ask(AskRefusal::UnknownGroup)),
     }
-}
-
-/// The map incremental that the entry is.
-pub fn inc_of(entry: &Entry) -> Option<&Incremental>
-    ensures { option_map (λ inc. inc.now) result ≡ inc_of entry.now }
-{
-    match entry {
-        Entry::Inc(inc) => Some(inc),
-        _ => None,
-    }
-}
-
-fn is_close(entry: &Entry) -> bool
-    ensures { result ≡ is_close entry.now }
-{
-    matches!(entry, Entry::Close)
 }

@@ -3,8 +3,8 @@ use Rattle.std.proofs.lemmas.Result.{on_ok_weaker}
 use Rattle.pgp_ids.specs.declared.entry.Entry.{Entry}
 use Rattle.pgp_map.specs.MapOf.{IsMapOf}
 use Rattle.pgp_group.specs.Entries.{incs_of}
-use Rattle.pgp_core.specs.Fits.{entry_fault}
-use Rattle.pgp_core.proofs.TakeLemmas.{incs-inc, incs-other, faultless-inc}
+use Rattle.pgp_log.specs.Fits.{entry_fault}
+use Rattle.pgp_log.proofs.TakeLemmas.{incs-inc, incs-other, faultless-inc}
 use Rattle.pgp_core.proofs.log.extend_map.Goals as goal
 
 pub returns-in-Some-clause-ok : goal.returns-in-Some-clause-ok

@@ -1,7 +1,7 @@
 use Rattle.std.proofs.Common.{sym, ap, ◌∙◌}
 use Rattle.pgp_group.specs.Entries.{incs_of}
-use Rattle.pgp_core.specs.Log.{epoch_of}
-use Rattle.pgp_core.proofs.TakeLemmas.{epoch-inc, epoch-other}
+use Rattle.pgp_log.specs.Log.{epoch_of}
+use Rattle.pgp_log.proofs.TakeLemmas.{epoch-inc, epoch-other}
 use Rattle.pgp_core.proofs.log.Log.epoch_with.Goals as goal
 
 pub returns-in-Some : goal.returns-in-Some

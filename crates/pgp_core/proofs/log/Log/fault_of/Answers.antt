@@ -1,5 +1,5 @@
 use Rattle.pgp_group.specs.Entries.{incs_of}
-use Rattle.pgp_core.proofs.TakeLemmas.{found-is}
+use Rattle.pgp_log.proofs.TakeLemmas.{found-is}
 use Rattle.pgp_core.proofs.log.Log.fault_of.Goals as goal
 
 pub returns-in-Info-clause-some : goal.returns-in-Info-clause-some

@@ -1,7 +1,7 @@
 use Rattle.std.proofs.Common.{◌≡◌, ◌≤◌, [], ◌∷◌, ◌++◌, false, None, length, sym, ap, ◌∙◌, arith, length-append}
-use Rattle.pgp_core.specs.Fits.{is_closed, fits}
-use Rattle.pgp_core.proofs.LogLemmas.{legal-snoc}
-use Rattle.pgp_core.proofs.TakeLemmas.{fits-open_log, fits-faultless, faultless-tree, checked-push, closed-push, room-push}
+use Rattle.pgp_log.specs.Fits.{is_closed, fits}
+use Rattle.pgp_log.proofs.LogLemmas.{legal-snoc}
+use Rattle.pgp_log.proofs.TakeLemmas.{fits-open_log, fits-faultless, faultless-tree, checked-push, closed-push, room-push}
 use Rattle.pgp_core.proofs.log.Log.take.Goals as goal
 
 pub invariant_of-self-2 : goal.invariant_of-self-2

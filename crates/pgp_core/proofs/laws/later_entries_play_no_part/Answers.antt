@@ -1,5 +1,0 @@
-use Rattle.pgp_core.proofs.LogLemmas.{taken_in_front}
-use Rattle.pgp_core.proofs.laws.later_entries_play_no_part.Goals as goal
-
-pub returns : goal.returns
-returns c = taken_in_front

@@ -1,0 +1,52 @@
+-- The membership of a group from its raw set, and a table of raw sets with one more.
+use Rattle.std.specs.Prelude.{Result, Ok, Err, OnOk, OnErr}
+use Rattle.std.proofs.Common.{◌≡◌, ℕ, List, Bool, true, false, cond, Option, Some, None, IfSome, option_map, refl, sym, ap, ◌∙◌, subst}
+use Rattle.std.proofs.lemmas.Bool.{and_parts, eqb-true}
+use Rattle.std.specs.Prelude.{nat_eq}
+use Rattle.pgp_ids.specs.declared.incremental.Incremental.{Incremental}
+use Rattle.pgp_ids.specs.declared.membership.Membership.{Membership}
+use Rattle.pgp_ids.specs.declared.pg_id.PgId.{PgId}
+use Rattle.pgp_ids.specs.declared.pool.PoolSpec.{PoolSpec}
+use Rattle.pgp_map.specs.Pools.{pool, is_same_group}
+use Rattle.pgp_sets.specs.Sets.{membership, pool_membership, raw_set, without_down, members_from_up}
+use Rattle.pgp_log.specs.RawSets.{IsRawSet}
+
+some_is : {X : Type 0} (x y : X) → Some x ≡ Some y → x ≡ y
+some_is x y same = cc
+
+-- where the filter of the raw set is this membership, it is the group's
+pub filtered : (incs : List Incremental) (pg : PgId) (raw : List (Option ℕ)) (members : Membership) → IsRawSet incs pg raw
+    → option_map (λ made. members_from_up incs made pg (without_down incs made raw)) (pool incs pg.pool) ≡ Some members
+    → membership incs pg ≡ Some members
+filtered incs pg raw members is lies = at (pool incs pg.pool) is lies where
+  at : (found : Option PoolSpec) → option_map (λ made. raw_set incs made pg) found ≡ Some raw
+      → option_map (λ made. members_from_up incs made pg (without_down incs made raw)) found ≡ Some members
+      → option_map (pool_membership incs pg) found ≡ Some members
+  at None is lies = cc
+  at (Some made) is lies =
+      ap (λ (places : List (Option ℕ)). Some (members_from_up incs made pg (without_down incs made places))) (some_is _ _ is) ∙ lies
+
+-- the raw set of a group that is there
+pub known-is : (incs : List Incremental) (pg : PgId) (found : Option (List (Option ℕ))) (raw : List (Option ℕ)) → found ≡ Some raw
+    → IfSome found (IsRawSet incs pg) → IsRawSet incs pg raw
+known-is incs pg found raw same each = subst (λ (o : Option (List (Option ℕ))). IfSome o (IsRawSet incs pg)) same each
+
+-- groups with the same numbers are one
+pub same_group : (a b : PgId) → is_same_group a b ≡ true → a ≡ b
+same_group a b same =
+    let parts = and_parts (nat_eq a.pool b.pool) (nat_eq a.pg b.pg) same in
+    λ i. record { pool = eqb-true a.pool b.pool parts.0 i; pg = eqb-true a.pg b.pg parts.1 i }
+
+-- a table with one more raw set
+pub with-raw_set : (incs : List Incremental) (old new : PgId → Option (List (Option ℕ))) (pg : PgId) (raw : List (Option ℕ))
+    → ((q : PgId) → IfSome (old q) (IsRawSet incs q)) → IsRawSet incs pg raw
+    → ((q : PgId) → new q ≡ cond (is_same_group pg q) (Some raw) (old q)) → (q : PgId) → IfSome (new q) (IsRawSet incs q)
+with-raw_set incs old new pg raw each is step q = subst (λ (o : Option (List (Option ℕ))). IfSome o (IsRawSet incs q)) (sym (step q)) (at (is_same_group pg q) (same_group pg q)) where
+  at : (same : Bool) → (same ≡ true → pg ≡ q) → IfSome (cond same (Some raw) (old q)) (IsRawSet incs q)
+  at true law = subst (λ (g : PgId). IsRawSet incs g raw) (law refl) is
+  at false law = each q
+
+-- what follows from each of a call's ends
+pub either-way : {X Y : Type 0} (r : Result X Y) (P Q G : Type 0) → OnOk r P → OnErr r Q → (P → G) → (Q → G) → G
+either-way (Ok x) P Q G p q f g = f p
+either-way (Err e) P Q G p q f g = g q

@@ -1,0 +1,140 @@
+-- What one entry more does to a log.
+use Rattle.std.proofs.lemmas.Bool.Decides.{leb_tells}
+use Rattle.std.proofs.Common.{◌≡◌, ◌≢◌, ◌<◌, ◌≤◌, ◌||◌, inl, inr, length-append, List, [], ◌∷◌, ◌++◌, Bool, true, false, Option, Some, None, is_some, IfSome, length, nat_le, if◌then◌else◌, refl, sym, ap, ◌∙◌, arith}
+use Rattle.std.specs.List.{last_or}
+use Rattle.std.specs.Option.{option_map, option_or, option_map_or}
+use Rattle.pgp_ids.specs.declared.entry.Entry.{Entry}
+use Rattle.pgp_ids.specs.declared.entry.Entry.TheVariants as entry
+use Rattle.pgp_ids.specs.declared.incremental.Incremental.{Incremental}
+use Rattle.pgp_ids.specs.declared.refusal.Refusal.{Refusal}
+use Rattle.pgp_ids.specs.declared.refusal.Refusal.TheVariants as refusal
+use Rattle.pgp_map.proofs.CheckedLemmas.{checked-more}
+use Rattle.pgp_map.specs.Checked.{are_checked}
+use Rattle.pgp_map.specs.FaultNumber.{refusal_of}
+use Rattle.pgp_map.specs.Map.{epoch}
+use Rattle.pgp_map.proofs.FaultLemmas.{no_fault}
+use Rattle.pgp_map.specs.MapFault.{map_fault, given_fault}
+use Rattle.pgp_map.specs.declared.fault.MapFault.{MapFault}
+use Rattle.pgp_group.specs.Entries.{inc_of, incs_of}
+use Rattle.pgp_log.specs.Fits.{is_close, is_closed, entry_fault, full_fault, fits}
+use Rattle.pgp_log.specs.Log.{epoch_of}
+
+-- ---- its incrementals
+
+pub incs-inc : (log : List Entry) (new : Entry) (inc : Incremental) → inc_of new ≡ Some inc → incs_of (log ++ new ∷ []) ≡ incs_of log ++ inc ∷ []
+incs-inc [] new inc some = rw some refl
+incs-inc (entry.Inc other ∷ log) new inc some = ap (λ rest. other ∷ rest) (incs-inc log new inc some)
+incs-inc (entry.Info info ∷ log) new inc some = incs-inc log new inc some
+incs-inc (entry.Entries report ∷ log) new inc some = incs-inc log new inc some
+incs-inc (entry.Close ∷ log) new inc some = incs-inc log new inc some
+
+pub incs-other : (log : List Entry) (new : Entry) → inc_of new ≡ None → incs_of (log ++ new ∷ []) ≡ incs_of log
+incs-other [] new none = rw none refl
+incs-other (entry.Inc other ∷ log) new none = ap (λ rest. other ∷ rest) (incs-other log new none)
+incs-other (entry.Info info ∷ log) new none = incs-other log new none
+incs-other (entry.Entries report ∷ log) new none = incs-other log new none
+incs-other (entry.Close ∷ log) new none = incs-other log new none
+
+pub incs-same : (log : List Entry) (new : Entry) → is_some (inc_of new) ≡ false → incs_of (log ++ new ∷ []) ≡ incs_of log
+incs-same log (entry.Inc inc) none = cc
+incs-same log (entry.Info info) none = incs-other log (entry.Info info) refl
+incs-same log (entry.Entries report) none = incs-other log (entry.Entries report) refl
+incs-same log entry.Close none = incs-other log entry.Close refl
+
+last_of : (first : Incremental) (incs : List Incremental) (inc : Incremental) → last_or None (first ∷ (incs ++ inc ∷ [])) ≡ Some inc
+last_of first [] inc = refl
+last_of first (next ∷ incs) inc = last_of next incs inc
+
+epoch_of_last : (incs : List Incremental) (inc : Incremental) → epoch (incs ++ inc ∷ []) ≡ inc.epoch
+epoch_of_last [] inc = refl
+epoch_of_last (first ∷ incs) inc = ap (λ found. option_map_or (λ (inc : Incremental). inc.epoch) found 0) (last_of first incs inc)
+
+pub epoch-inc : (log : List Entry) (new : Entry) (inc : Incremental) → inc_of new ≡ Some inc → epoch_of (log ++ new ∷ []) ≡ inc.epoch
+epoch-inc log new inc some = ap epoch (incs-inc log new inc some) ∙ epoch_of_last (incs_of log) inc
+
+pub epoch-other : (log : List Entry) (new : Entry) → inc_of new ≡ None → epoch_of (log ++ new ∷ []) ≡ epoch_of log
+epoch-other log new none = ap epoch (incs-other log new none)
+
+-- ---- what fits
+
+none_left : (a b : Option Refusal) → option_or a b ≡ None → a ≡ None
+none_left None b none = refl
+none_left (Some r) b none = cc
+
+none_right : (a b : Option Refusal) → option_or a b ≡ None → b ≡ None
+none_right None b none = none
+none_right (Some r) b none = cc
+
+pub fits-open_log : (log : List Entry) (new : Entry) → fits log new ≡ None → is_closed log ≡ false
+fits-open_log log new fit = at (is_closed log) fit where
+  at : (closed : Bool) → (if closed then Some refusal.Closed else option_or (entry_fault log new) (full_fault log new)) ≡ None → closed ≡ false
+  at true fit = cc
+  at false fit = refl
+
+open_fits : (log : List Entry) (new : Entry) → fits log new ≡ None → option_or (entry_fault log new) (full_fault log new) ≡ None
+open_fits log new fit = at (is_closed log) fit where
+  at : (closed : Bool) → (if closed then Some refusal.Closed else option_or (entry_fault log new) (full_fault log new)) ≡ None → option_or (entry_fault log new) (full_fault log new) ≡ None
+  at true fit = cc
+  at false fit = fit
+
+pub fits-faultless : (log : List Entry) (new : Entry) → fits log new ≡ None → entry_fault log new ≡ None
+fits-faultless log new fit = none_left (entry_fault log new) (full_fault log new) (open_fits log new fit)
+
+no_map_fault : (fault : Option MapFault) → option_map refusal_of fault ≡ None → fault ≡ None
+no_map_fault None none = refl
+no_map_fault (Some fault) none = cc
+
+pub faultless-inc : (log : List Entry) (new : Entry) (inc : Incremental) → inc_of new ≡ Some inc → entry_fault log new ≡ None → map_fault (incs_of log) inc ≡ None
+faultless-inc log (entry.Inc other) inc some none =
+    let same : other ≡ inc = cc in
+    no_map_fault (map_fault (incs_of log) inc) (ap (λ inc. option_map refusal_of (map_fault (incs_of log) inc)) (sym same) ∙ none)
+faultless-inc log (entry.Info info) inc some none = cc
+faultless-inc log (entry.Entries report) inc some none = cc
+faultless-inc log entry.Close inc some none = cc
+
+-- what was found is why the log doesn't take the entry
+pub found-is : (found fault : Option Refusal) → found ≡ fault → IfSome found (λ r. r ≢ refusal.Memory → fault ≡ Some r)
+found-is None fault same = tt
+found-is (Some r) fault same = λ _. sym same
+
+-- ---- a log that takes an entry
+
+or_false : (b : Bool) → (b || false) ≡ b
+or_false true = refl
+or_false false = refl
+
+pub closed-push : (log : List Entry) (new : Entry) → is_closed log ≡ false → is_closed (log ++ new ∷ []) ≡ is_close new
+closed-push [] new opened = or_false (is_close new)
+closed-push (entry.Inc inc ∷ log) new opened = closed-push log new opened
+closed-push (entry.Info info ∷ log) new opened = closed-push log new opened
+closed-push (entry.Entries report ∷ log) new opened = closed-push log new opened
+closed-push (entry.Close ∷ log) new opened = cc
+
+not_full : (log : List Entry) (new : Entry) → full_fault log new ≡ None → is_close new ≡ false → nat_le 65535 (length log) ≡ false
+not_full log new none other = at (is_close new) (nat_le 65535 (length log)) other none where
+  at : (close full : Bool) → close ≡ false → (if close then None else (if full then Some refusal.LogFull else None)) ≡ None → full ≡ false
+  at true full other none = cc
+  at false true other none = cc
+  at false false other none = refl
+
+pub room-push : (log : List Entry) (new : Entry) → fits log new ≡ None → is_close new ≡ false → length (log ++ new ∷ []) ≤ 65535
+room-push log new fit other =
+    let few = not_full log new (none_right (entry_fault log new) (full_fault log new) (open_fits log new fit)) other in
+    let long = length-append log (new ∷ []) in
+    elim (leb_tells 65535 (length log)) [ inl full ↦ let is : nat_le 65535 (length log) ≡ true = full.0 in cc | inr less ↦ let other : length log < 65535 = omega (arith, less.1) in omega (arith, long, other) ]
+
+-- its incrementals were checked one by one
+pub checked-push : (log : List Entry) (new : Entry) → are_checked (incs_of log) ≡ true → entry_fault log new ≡ None
+    → are_checked (incs_of (log ++ new ∷ [])) ≡ true
+checked-push log (entry.Inc inc) checked none =
+    ap are_checked (incs-inc log (entry.Inc inc) inc refl) ∙ checked-more (incs_of log) inc checked (faultless-inc log (entry.Inc inc) inc refl none)
+checked-push log (entry.Info info) checked none = ap are_checked (incs-other log (entry.Info info) refl) ∙ checked
+checked-push log (entry.Entries report) checked none = ap are_checked (incs-other log (entry.Entries report) refl) ∙ checked
+checked-push log entry.Close checked none = ap are_checked (incs-other log entry.Close refl) ∙ checked
+
+-- the tree that the entry gives, if it is an incremental that gives one, has no fault
+pub faultless-tree : (log : List Entry) (new : Entry) → entry_fault log new ≡ None → IfSome (inc_of new) (λ inc. given_fault inc.crush ≡ None)
+faultless-tree log (entry.Inc inc) none = (no_fault (incs_of log) inc (faultless-inc log (entry.Inc inc) inc refl none)).tree
+faultless-tree log (entry.Info info) none = tt
+faultless-tree log (entry.Entries report) none = tt
+faultless-tree log entry.Close none = tt

@@ -1,0 +1,10 @@
+pub mod ReportFault
+pub mod Fits
+pub mod Log
+pub mod World
+pub mod Touched
+pub mod Locate
+pub mod RawSets
+pub mod Replay
+pub mod Examples
+pub mod Worked

@@ -1,0 +1,33 @@
+-- The log of all that monitor and devices told, and its fronts.
+use Rattle.std.specs.Prelude.{map, ◌≡◌, ℕ, List, length, ◌++◌, Bool, true, is_none, slice_get, take}
+use Rattle.std.specs.List.{list_all, range_with_len}
+use Rattle.std.specs.Option.{option_map_or}
+use Rattle.pgp_ids.specs.declared.entry.Entry.{Entry}
+use Rattle.pgp_map.specs.Map.{epoch}
+use Rattle.pgp_group.specs.Entries.{incs_of}
+use Rattle.pgp_log.specs.Fits.{fits}
+
+-- the epoch of the map that the log makes, 0 without an incremental
+abbrev pub epoch_of : List Entry → ℕ
+epoch_of log = epoch (incs_of log)
+
+-- the first n entries
+abbrev pub front : ℕ → List Entry → List Entry
+front n log = take n log
+
+-- the first list is a front of the second
+pub record IsFrontOf (front log : List Entry) : Type 0 where
+  pub rest : List Entry
+  pub whole : log ≡ front ++ rest
+
+-- the entry at this place was taken by the front before it
+abbrev pub is_taken_at : List Entry → ℕ → Bool
+is_taken_at log n = option_map_or (λ entry. is_none (fits (front n log) entry)) (slice_get log n) true
+
+-- each entry was taken by the front before it
+abbrev pub is_legal : List Entry → Bool
+is_legal log = list_all (is_taken_at log) (range_with_len 0 (length log))
+
+-- the epochs of the log's incrementals are 1, 2, and so on
+abbrev pub EpochsCount : List Entry → Type 0
+EpochsCount log = map (λ inc. inc.epoch) (incs_of log) ≡ range_with_len 1 (length (incs_of log))

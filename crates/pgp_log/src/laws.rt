@@ -1,0 +1,182 @@
+//! What holds of any log, and what the definitions say of small ones.
+#![tactic(auto, unfolding(crate::specs::Worked::logs_computed))]
+
+ghost use Rattle.std.specs.Prelude.{◌≡◌, ℕ, ◌<◌, ◌≤◌, List, [], ◌∷◌, ◌++◌, length, Some, None, true, false, Ok, Err, codes};
+ghost use Rattle.pgp_ids.specs.declared.ask_refusal.AskRefusal.TheVariants as ask;
+ghost use Rattle.pgp_ids.specs.declared.entry.Entry.{Entry};
+ghost use Rattle.pgp_ids.specs.declared.entry.Entry.TheVariants as entry;
+ghost use Rattle.pgp_ids.specs.declared.refusal.Refusal.{Refusal};
+ghost use Rattle.pgp_ids.specs.declared.refusal.Refusal.TheVariants as refusal;
+ghost use Rattle.pgp_map.specs.Examples.{empty_step, boot};
+ghost use Rattle.pgp_sets.specs.Examples.{copies_group, shards_group, of_weight, copies_on_three, take_down, resize};
+ghost use Rattle.pgp_sets.specs.Sets.{membership};
+ghost use Rattle.pgp_group.specs.View.{scratch};
+ghost use Rattle.pgp_group.specs.Examples.{at, in_slot, copy, copy_up_to, shard, known_up, maps, on_three, two_shards_down, entries_of_first, modify, before_serving, until_serving};
+ghost use Rattle.pgp_log.specs.Fits.{fits, entry_fault, is_close, is_closed};
+ghost use Rattle.pgp_log.specs.Log.{is_taken_at, is_legal, EpochsCount};
+ghost use Rattle.pgp_log.specs.World.{World, Step, opening, after, replies, view_reply};
+ghost use Rattle.pgp_log.specs.World.Step.{Submit, Absorb, Ask};
+ghost use Rattle.pgp_log.specs.World.Reply.{Submitted, Absorbed, Asked};
+ghost use Rattle.pgp_log.specs.Touched.{is_touched};
+ghost use Rattle.pgp_log.specs.Locate.{group_of_object};
+ghost use Rattle.pgp_log.specs.Examples.{submits};
+
+/// An entry is refused since the log is closed, or else for what is wrong with it, or else since the log is full, which
+/// it never is for a Close. A full log is too large for a worked row: this is of any log of that length, and a test of the
+/// program fills one.
+pub fn refusals_in_order()
+    ensures closed { (log : List Entry) (new : Entry) → is_closed log ≡ true
+        → fits log new ≡ Some refusal.Closed }
+    ensures own { (log : List Entry) (new : Entry) (why : Refusal) → is_closed log ≡ false
+        → entry_fault log new ≡ Some why → fits log new ≡ Some why }
+    ensures full { (log : List Entry) (new : Entry) → is_closed log ≡ false → entry_fault log new ≡ None
+        → is_close new ≡ false → 65535 ≤ length log → fits log new ≡ Some refusal.LogFull }
+    ensures room { (log : List Entry) (new : Entry) → is_closed log ≡ false → entry_fault log new ≡ None
+        → length log < 65535 → fits log new ≡ None }
+    ensures close { (log : List Entry) → is_closed log ≡ false → fits log entry.Close ≡ None }
+{}
+
+/// Whether an entry was taken depends on nothing after it.
+pub fn later_entries_play_no_part()
+    ensures { (log later : List Entry) (n : ℕ) → n < length log
+        → is_taken_at (log ++ later) n ≡ is_taken_at log n }
+{}
+
+/// Fronts of a legal log are legal, and a legal log with one more entry is legal exactly where that one fits.
+pub fn legal_logs_grow_by_entries_that_fit()
+    ensures front { (log later : List Entry) → is_legal (log ++ later) ≡ true → is_legal log ≡ true }
+    ensures last { (log : List Entry) (new : Entry) → is_legal (log ++ new ∷ []) ≡ true → fits log new ≡ None }
+    ensures longer { (log : List Entry) (new : Entry) → is_legal log ≡ true → fits log new ≡ None
+        → is_legal (log ++ new ∷ []) ≡ true }
+{}
+
+/// The incrementals of a legal log have the epochs 1, 2, and so on, so that those up to an epoch are the first ones.
+pub fn epochs_of_a_legal_log()
+    ensures { (log : List Entry) → is_legal log ≡ true → EpochsCount log }
+{}
+
+/// The log of a world stays legal.
+pub fn world_stays_legal()
+    ensures { (w : World) (step : Step) → is_legal w.log ≡ true → is_legal (after w step).log ≡ true }
+{}
+
+/// The first incremental leads to epoch 1.
+pub fn first_incremental()
+    ensures gap { fits [] (entry.Inc (empty_step 2)) ≡ Some refusal.EpochGap }
+    ensures next { fits [] (entry.Inc (empty_step 1)) ≡ None }
+{}
+
+/// A device is known to have been up through the incremental's own epoch at most, and through no earlier one than before.
+pub fn epochs_through_which_a_device_was_up()
+    ensures ahead { fits (maps (copies_on_three ∷ [])) (entry.Inc (known_up 2 0 3)) ≡ Some refusal.Ahead }
+    ensures exact { fits (maps (copies_on_three ∷ [])) (entry.Inc (known_up 2 0 2)) ≡ None }
+    ensures back { let log = maps (copies_on_three ∷ known_up 2 0 2 ∷ []) in
+        fits log (entry.Inc (known_up 3 0 1)) ≡ Some refusal.UpThruBack }
+    ensures up { let log = maps (copies_on_three ∷ known_up 2 0 2 ∷ []) in
+        fits log (entry.Inc (boot 3 (0 ∷ []))) ≡ Some refusal.AlreadyUp }
+    ensures up_and_down { let log = maps (copies_on_three ∷ known_up 2 0 2 ∷ []) in
+        fits log (entry.Inc (record (boot 3 (0 ∷ [])) { down = 0 ∷ [] })) ≡ Some refusal.Twice }
+{}
+
+/// An info has to be of a group and a member that the map has.
+pub fn infos_of_nobody()
+    ensures group { let info = record (copy 0 1) { pg = record copies_group { pg = 1 } } in
+        fits (maps (copies_on_three ∷ [])) (entry.Info info) ≡ Some refusal.UnknownGroup }
+    ensures device { fits (maps (copies_on_three ∷ [])) (entry.Info (copy 3 1)) ≡ Some refusal.UnknownMember }
+    ensures slot { let info = record (copy 0 1) { member = in_slot 0 1 } in
+        fits (maps (copies_on_three ∷ [])) (entry.Info info) ≡ Some refusal.UnknownMember }
+    ensures last_slot { fits (maps two_shards_down) (entry.Info (shard 5 2 3)) ≡ None }
+    ensures slot_beyond { fits (maps two_shards_down) (entry.Info (shard 5 3 3)) ≡ Some refusal.UnknownMember }
+{}
+
+/// A stamp may be the map's epoch, and none above.
+pub fn stamps()
+    ensures exact { fits (maps (copies_on_three ∷ resize 2 3 1 ∷ [])) (entry.Info (copy 0 2)) ≡ None }
+    ensures before { fits (maps (copies_on_three ∷ resize 2 3 1 ∷ [])) (entry.Info (copy 0 1)) ≡ None }
+    ensures ahead { fits (maps (copies_on_three ∷ resize 2 3 1 ∷ [])) (entry.Info (copy 0 3)) ≡ Some refusal.FutureStamp }
+    ensures first { fits (maps (copies_on_three ∷ [])) (entry.Info (copy 0 2)) ≡ Some refusal.FutureStamp }
+{}
+
+/// The epochs and versions of an info have to go together.
+pub fn infos_that_contradict_themselves()
+    ensures les { let info = record (copy 0 1) { les = 2 } in
+        fits (maps (copies_on_three ∷ [])) (entry.Info info) ≡ Some refusal.BadVersion }
+    ensures half_a_version { let info = copy_up_to 0 (at 1 0) in
+        fits (maps (copies_on_three ∷ [])) (entry.Info info) ≡ Some refusal.BadVersion }
+    ensures other_half { let info = copy_up_to 0 (at 0 1) in
+        fits (maps (copies_on_three ∷ [])) (entry.Info info) ≡ Some refusal.BadVersion }
+    ensures ahead { let info = copy_up_to 0 (at 2 1) in
+        fits (maps (copies_on_three ∷ [])) (entry.Info info) ≡ Some refusal.BadVersion }
+    ensures tail_beyond { let info = record (copy 0 1) { log_tail = at 1 1 } in
+        fits (maps (copies_on_three ∷ [])) (entry.Info info) ≡ Some refusal.BadVersion }
+    ensures one_number_twice { let info = record (copy 0 2) { last_update = at 2 1; log_tail = at 1 1 } in
+        fits (maps (copies_on_three ∷ resize 2 3 1 ∷ [])) (entry.Info info) ≡ Some refusal.BadVersion }
+    ensures together { let info = record (copy 0 2) { last_update = at 2 2; log_tail = at 1 1 } in
+        fits (maps (copies_on_three ∷ resize 2 3 1 ∷ [])) (entry.Info info) ≡ None }
+{}
+
+/// No log entry has the version before the first write, nor one of an epoch that is still to come.
+pub fn log_entries_without_a_version()
+    ensures zero { let entry = record (modify 0 (codes "a")) { version = at 0 0 } in
+        fits (maps (copies_on_three ∷ [])) (entries_of_first (entry ∷ [])) ≡ Some refusal.BadVersion }
+    ensures ahead { let entry = record (modify 1 (codes "a")) { version = at 2 1 } in
+        fits (maps (copies_on_three ∷ [])) (entries_of_first (entry ∷ [])) ≡ Some refusal.BadVersion }
+    ensures good { fits (maps (copies_on_three ∷ [])) (entries_of_first (modify 1 (codes "a") ∷ [])) ≡ None }
+{}
+
+/// Nothing follows a Close.
+pub fn closed_log()
+    ensures closed { fits (entry.Close ∷ []) (entry.Inc (empty_step 1)) ≡ Some refusal.Closed }
+    ensures twice { fits (entry.Close ∷ []) entry.Close ≡ Some refusal.Closed }
+    ensures open { fits [] entry.Close ≡ None }
+{}
+
+/// The log by which a group comes to serve is legal, and so is that by which one is down.
+pub fn legal_logs()
+    ensures serving { is_legal until_serving ≡ true }
+    ensures down { is_legal (maps two_shards_down) ≡ true }
+    ensures closed { is_legal (until_serving ++ entry.Close ∷ []) ≡ true }
+    ensures gap { is_legal (maps (empty_step 2 ∷ [])) ≡ false }
+{}
+
+/// An incremental with nothing but its epoch touches no group. One that tells of a device touches the groups that have to
+/// do with it, and one with weights touches all.
+pub fn groups_that_an_entry_touches()
+    ensures nothing { is_touched until_serving (entry.Inc (empty_step 3)) copies_group ≡ false }
+    ensures primary { is_touched before_serving (entry.Inc (known_up 2 0 1)) copies_group ≡ true }
+    ensures sender { is_touched before_serving (entry.Inc (take_down 2 (2 ∷ []))) copies_group ≡ true }
+    ensures of_the_past { is_touched (maps two_shards_down) (entry.Inc (boot 4 (1 ∷ []))) shards_group ≡ true }
+    ensures stranger { is_touched (maps two_shards_down) (entry.Inc (take_down 4 (5 ∷ []))) shards_group ≡ false }
+    ensures weights { let inc = record (empty_step 4) { weight = of_weight 5 0 ∷ [] } in
+        is_touched (maps two_shards_down) (entry.Inc inc) shards_group ≡ true }
+    ensures sizes { is_touched (maps (copies_on_three ∷ [])) (entry.Inc (resize 2 3 1)) copies_group ≡ true }
+    ensures another_pool { is_touched (maps (copies_on_three ∷ [])) (entry.Inc (resize 2 3 1)) shards_group ≡ false }
+    ensures report { is_touched (maps (copies_on_three ∷ [])) (entry.Info (copy 0 1)) copies_group ≡ true }
+    ensures of_another { is_touched (maps (copies_on_three ∷ [])) (entry.Info (copy 0 1)) shards_group ≡ false }
+    ensures close { is_touched until_serving entry.Close copies_group ≡ false }
+{}
+
+/// An object lies in the group to which its name hashes, and that group where its map puts it.
+pub fn object_is_located()
+    ensures group { group_of_object (copies_on_three ∷ []) 1 (codes "a") ≡ Some copies_group }
+    ensures members { membership (copies_on_three ∷ []) copies_group ≡ Some (on_three 2) }
+    ensures no_pool { group_of_object (copies_on_three ∷ []) 9 (codes "a") ≡ None }
+{}
+
+/// A shard answers by what it has read of the log, whatever was submitted since.
+pub fn shard_answers_by_what_it_read()
+    ensures nothing { replies (opening 1) (Submit (entry.Inc copies_on_three) ∷ Ask copies_group ∷ [])
+        ≡ Submitted (Ok 1) ∷ Asked (Err ask.UnknownGroup) ∷ [] }
+    ensures refused { replies (opening 1) (Submit (entry.Inc (empty_step 2)) ∷ Submit (entry.Inc (empty_step 1)) ∷ [])
+        ≡ Submitted (Err refusal.EpochGap) ∷ Submitted (Ok 1) ∷ [] }
+{}
+
+/// The entries by which a group comes to serve, submitted to a world of one shard: its answers follow what it has read.
+pub fn group_comes_to_serve()
+    ensures { replies (opening 1) (submits before_serving ++ Absorb 0 9 ∷ Ask copies_group
+        ∷ Submit (entry.Inc (known_up 2 0 1)) ∷ Ask copies_group ∷ Absorb 0 1 ∷ Ask copies_group ∷ [])
+        ≡ Submitted (Ok 1) ∷ Submitted (Ok 2) ∷ Submitted (Ok 3) ∷ Submitted (Ok 4) ∷ Submitted (Ok 5)
+        ∷ Absorbed ∷ Asked (view_reply (scratch before_serving copies_group))
+        ∷ Submitted (Ok 6) ∷ Asked (view_reply (scratch before_serving copies_group))
+        ∷ Absorbed ∷ Asked (view_reply (scratch until_serving copies_group)) ∷ [] }
+{}

@@ -1,0 +1,16 @@
+//! The log of all that monitor and devices told: which entry may follow it, which groups an entry touches, and what a
+//! world of one log and several readers answers (the log and its order of refusals are this project's own choice).
+#![tactic(auto)]
+
+mod entry;
+pub mod laws;
+mod locate;
+mod raw_sets;
+mod replay;
+mod report;
+
+pub use entry::{inc_of, is_close};
+pub use locate::group_of;
+pub use raw_sets::RawSets;
+pub use replay::{Replay, replay_of};
+pub use report::{entries_fault, info_fault};

@@ -1,0 +1,74 @@
+//! The raw sets of placement groups, kept from question to question.
+
+ghost use Rattle.std.specs.Prelude.{◌≡◌, List, [], ◌∷◌, ◌++◌, Some, is_some};
+ghost use Rattle.pgp_ids.specs.declared.entry.Entry.{Entry as AnyEntry};
+ghost use Rattle.pgp_ids.specs.declared.incremental.Incremental.{Incremental as Step};
+ghost use Rattle.pgp_group.specs.Entries.{inc_of, incs_of};
+ghost use Rattle.pgp_map.specs.Held.{HasGroup};
+ghost use Rattle.pgp_map.specs.MapOf.{IsMapOf};
+ghost use Rattle.pgp_sets.specs.Sets.{membership};
+ghost use Rattle.pgp_log.specs.RawSets.{AreRawSets};
+
+use pgp_ids::{Entry, Membership, Osds, PgId};
+use pgp_map::OsdMap;
+use pgp_sets::{filter, raw};
+use std::alloc::Global;
+use std::collections::HashMap;
+
+/// Where the tree of one map puts the groups that were asked for. Each is found once for a map, since a placement takes
+/// far more time than what is left of a question. At most one for each group of the map.
+#[derive(Debug, Drop)]
+pub struct RawSets {
+    known: HashMap<PgId, Osds>,
+}
+
+impl RawSets {
+    pub fn new(alloc: Global) -> Self
+        ensures { (incs : List Step) → AreRawSets incs result }
+    {
+        RawSets {
+            known: HashMap::new(alloc),
+        }
+    }
+
+    /// Stays true of the map after an entry that the log takes: where it is an incremental, it may move any group.
+    pub fn follow(&mut self, entry: &Entry)
+        ensures { (log : List AnyEntry) → AreRawSets (incs_of log) self.old → AreRawSets (incs_of (log ++ entry.now ∷ [])) self.new }
+    {
+        if may_move(entry) {
+            self.clear();
+        }
+    }
+
+    /// Forgets all of them.
+    fn clear(&mut self)
+        ensures { (incs : List Step) → AreRawSets incs self.new }
+    {
+        if !self.known.is_empty() {
+            self.known.clear();
+        }
+    }
+
+    /// Where the group lies by the map. Its raw set is kept, where there is memory for it.
+    pub fn members(&mut self, map: &OsdMap, pg: &PgId) -> Membership
+        requires { HasGroup map.now pg.now }
+        ensures members { (incs : List Step) → IsMapOf incs map.now → AreRawSets incs self.old
+            → membership incs pg.now ≡ Some result }
+        ensures kept { (incs : List Step) → IsMapOf incs map.now → AreRawSets incs self.old → AreRawSets incs self.new }
+    {
+        if let Some(known) = self.known.get(pg) {
+            return filter(map, pg, known);
+        }
+        let found = raw(map, pg);
+        let members = filter(map, pg, &found);
+        let _kept: Result<_, _> = self.known.insert(*pg, found);
+        members
+    }
+}
+
+/// The entry is an incremental, which may move any group.
+fn may_move(entry: &Entry) -> bool
+    ensures { result ≡ is_some (inc_of entry.now) }
+{
+    matches!(entry, Entry::Inc(_))
+}

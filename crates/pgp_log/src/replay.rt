@@ -1,0 +1,142 @@
+//! One group of a log, told again from the log's beginning.
+
+ghost use Rattle.std.specs.Prelude.{◌≡◌, ◌++◌, [], ◌∷◌, List, Some, None, true, length, IfOk, OnOk};
+ghost use Rattle.pgp_ids.specs.declared.entry.Entry.{Entry as Told};
+ghost use Rattle.pgp_ids.specs.declared.entry.Entry.TheVariants as entry;
+ghost use Rattle.pgp_ids.specs.declared.incremental.Incremental.{Incremental as Step};
+ghost use Rattle.pgp_ids.specs.declared.pg_id.PgId.{PgId as Id};
+ghost use Rattle.pgp_map.specs.MapFault.{map_fault};
+ghost use Rattle.pgp_map.specs.MapOf.{IsMapOf};
+ghost use Rattle.pgp_map.specs.Pools.{has_group};
+ghost use Rattle.pgp_group.specs.Entries.{inc_of, incs_of};
+ghost use Rattle.pgp_group.specs.View.{scratch};
+ghost use Rattle.pgp_log.specs.Fits.{entry_fault};
+ghost use Rattle.pgp_log.specs.Log.{is_legal};
+ghost use Rattle.pgp_log.specs.Replay.{IsKept, IsReplayOf, IsMidway, CanTake, IsAhead};
+
+use super::entry::inc_of;
+use pgp_group::Group;
+use pgp_ids::{Entry, Incremental, PgId, View};
+use pgp_map::OsdMap;
+use std::alloc::{AllocError, Global};
+
+/// A group, as the entries so far tell of it.
+///
+/// It has the map twice. Each incremental is applied to `after`, then shown to the group, which takes what the map before
+/// said of its primary, and then applied to `before`.
+#[derive(Debug, Drop)]
+pub struct Replay {
+    alloc: Global,
+    pg: PgId,
+    before: OsdMap,
+    after: OsdMap,
+    /// There from the incremental on that makes its pool.
+    group: Option<Group>,
+}
+
+/// The group in the log of these entries.
+pub fn replay_of(alloc: Global, entries: &[Entry], pg: &PgId) -> Result<Replay, AllocError>
+    requires { is_legal entries.now ≡ true }
+    ensures { IfOk result (IsReplayOf entries.now pg.now) }
+{
+    let mut replay = Replay::start(alloc, *pg);
+    for entry in entries {
+        replay.absorb(entry)?;
+    }
+    Ok(replay)
+}
+
+impl Replay {
+    /// The group before any entry. It takes no memory.
+    pub fn start(alloc: Global, pg: PgId) -> Self
+        ensures { IsReplayOf [] pg result }
+    {
+        Replay {
+            alloc,
+            pg,
+            before: OsdMap::empty(alloc),
+            after: OsdMap::empty(alloc),
+            group: None,
+        }
+    }
+
+    /// Takes the next entry of the log.
+    pub fn absorb(&mut self, entry: &Entry) -> Result<(), AllocError>
+        requires { CanTake self.old entry.now }
+        ensures { OnOk result ((log : List Told) (pg : Id) → IsReplayOf log pg self.old → entry_fault log entry.now ≡ None
+            → IsReplayOf (log ++ entry.now ∷ []) pg self.new) }
+    {
+        match inc_of(entry) {
+            Some(inc) => self.absorb_inc(inc),
+            None => self.absorb_report(entry),
+        }
+    }
+
+    fn absorb_inc(&mut self, inc: &Incremental) -> Result<(), AllocError>
+        requires { CanTake self.old (entry.Inc inc.now) }
+        ensures { OnOk result ((log : List Told) (pg : Id) → IsReplayOf log pg self.old
+            → map_fault (incs_of log) inc.now ≡ None → IsReplayOf (log ++ entry.Inc inc.now ∷ []) pg self.new) }
+    {
+        self.after.apply(inc)?;
+        self.absorb_map()?;
+        self.before.apply(inc)
+    }
+
+    /// Shows the group the map of the incremental that is being taken.
+    fn absorb_map(&mut self) -> Result<(), AllocError>
+        requires { IsAhead self.old }
+        ensures { OnOk result ((log : List Told) (inc : Step) (pg : Id) → map_fault (incs_of log) inc ≡ None
+            → IsMidway log (log ++ entry.Inc inc ∷ []) log pg self.old
+            → IsMidway log (log ++ entry.Inc inc ∷ []) (log ++ entry.Inc inc ∷ []) pg self.new) }
+    {
+        match &mut self.group {
+            Some(group) => group.absorb_map(&self.before, &self.after),
+            None => {
+                self.group = self.begun();
+                Ok(())
+            }
+        }
+    }
+
+    /// The group, where the map of the incremental that is being taken is the first that has it.
+    fn begun(&self) -> Option<Group>
+        requires { IsAhead self.now }
+        ensures { (log : List Told) (inc : Step) (pg : Id) → map_fault (incs_of log) inc ≡ None
+            → IsMidway log (log ++ entry.Inc inc ∷ []) log pg self.now → self.now.group ≡ None
+            → IsKept (log ++ entry.Inc inc ∷ []) pg result }
+    {
+        if has_group(&self.after, &self.pg) {
+            Some(Group::begin(self.alloc, &self.after, self.pg))
+        } else {
+            None
+        }
+    }
+
+    fn absorb_report(&mut self, entry: &Entry) -> Result<(), AllocError>
+        ensures { OnOk result ((log : List Told) (pg : Id) → inc_of entry.now ≡ None → entry_fault log entry.now ≡ None
+            → IsReplayOf log pg self.old → IsReplayOf (log ++ entry.now ∷ []) pg self.new) }
+    {
+        match &mut self.group {
+            Some(group) => group.absorb_report(entry),
+            None => Ok(()),
+        }
+    }
+
+    /// All that the entries say of the group, where the map that they make has it. `count` is their number.
+    pub fn view(&self, count: usize) -> Result<Option<View>, AllocError>
+        ensures { IfOk result (λ view. (log : List Told) (pg : Id) → IsReplayOf log pg self.now → length log ≡ count
+            → view ≡ scratch log pg) }
+    {
+        match &self.group {
+            Some(group) => Ok(Some(group.view(&self.after, count)?)),
+            None => Ok(None),
+        }
+    }
+}
+
+/// Whether the map has the group.
+fn has_group(map: &OsdMap, pg: &PgId) -> bool
+    ensures { (incs : List Step) → IsMapOf incs map.now → result ≡ has_group incs pg.now }
+{
+    map.pool(pg.pool).is_some_and(|pool| pg.pg < pool.pg_num)
+}

@@ -1,0 +1,124 @@
+//! Which reports of members the log refuses, by its map.
+ghost use Rattle.std.specs.Prelude.{◌≡◌, ◌≢◌, ◌||◌, List, Some};
+ghost use Rattle.std.specs.List.{list_any};
+ghost use Rattle.pgp_ids.specs.declared.incremental.Incremental.{Incremental as Step};
+ghost use Rattle.pgp_map.specs.MapOf.{IsMapOf};
+ghost use Rattle.pgp_map.specs.Pools.{has_group};
+ghost use Rattle.pgp_log.specs.ReportFault.{is_slot_of, has_unknown_member, is_half, is_bad_version, are_no_ends, is_zero, has_bad_info, has_bad_entries, report_fault, info_fault, entries_fault};
+
+use pgp_ids::{Epoch, Info, LogEntry, Member, PgId, PoolKind, PoolSpec, Refusal, Report, Version};
+use pgp_map::OsdMap;
+
+/// Why the log refuses an info, if it does.
+pub fn info_fault(map: &OsdMap, info: &Info) -> Option<Refusal>
+    ensures fault { (incs : List Step) → IsMapOf incs map.now → result ≡ info_fault incs info.now }
+    ensures told { result ≢ Some Refusal.Memory }
+{
+    report_fault(map, &info.pg, &info.member, info.stamp, has_bad_info(info))
+}
+
+/// Why the log refuses a report of log entries, if it does.
+pub fn entries_fault(map: &OsdMap, report: &Report) -> Option<Refusal>
+    ensures fault { (incs : List Step) → IsMapOf incs map.now → result ≡ entries_fault incs report.now }
+    ensures told { result ≢ Some Refusal.Memory }
+{
+    let bad = has_bad_entries(report.stamp, report.log.as_slice());
+    report_fault(map, &report.pg, &report.member, report.stamp, bad)
+}
+
+/// The first refusal of a report; `bad` says whether its versions are.
+fn report_fault(
+    map: &OsdMap,
+    pg: &PgId,
+    member: &Member,
+    stamp: Epoch,
+    bad: bool,
+) -> Option<Refusal>
+    ensures fault { (incs : List Step) → IsMapOf incs map.now → result ≡ report_fault incs pg.now member.now stamp bad }
+    ensures told { result ≢ Some Refusal.Memory }
+{
+    if !has_group(map, pg) {
+        Some(Refusal::UnknownGroup)
+    } else if has_unknown_member(map, pg, member) {
+        Some(Refusal::UnknownMember)
+    } else if map.epoch() < stamp {
+        Some(Refusal::FutureStamp)
+    } else if bad {
+        Some(Refusal::BadVersion)
+    } else {
+        None
+    }
+}
+
+fn has_group(map: &OsdMap, pg: &PgId) -> bool
+    ensures { (incs : List Step) → IsMapOf incs map.now → result ≡ has_group incs pg.now }
+{
+    match map.pool(pg.pool) {
+        Some(pool) => pg.pg < pool.pg_num,
+        None => false,
+    }
+}
+
+/// The device is absent, or the group can't have the slot.
+fn has_unknown_member(map: &OsdMap, pg: &PgId, member: &Member) -> bool
+    ensures { (incs : List Step) → IsMapOf incs map.now → result ≡ has_unknown_member incs pg.now member.now }
+{
+    let has_slot = match map.pool(pg.pool) {
+        Some(pool) => is_slot_of(member.slot, pool),
+        None => true,
+    };
+    !map.exists(member.osd) || !has_slot
+}
+
+/// A slot of an erasure pool is below its size, that of a replicated pool is 0.
+fn is_slot_of(slot: u8, pool: PoolSpec) -> bool
+    ensures { result ≡ is_slot_of slot pool }
+{
+    match pool.kind {
+        PoolKind::Replicated => slot == 0,
+        PoolKind::Erasure { .. } => slot < pool.size,
+    }
+}
+
+fn has_bad_info(info: &Info) -> bool
+    ensures { result ≡ has_bad_info info.now }
+{
+    is_bad_version(info.stamp, info.last_update)
+        || is_bad_version(info.stamp, info.log_tail)
+        || info.stamp < info.les
+        || info.stamp < info.history_les
+        || are_no_ends(info.log_tail, info.last_update)
+}
+
+fn has_bad_entries(stamp: Epoch, log: &[LogEntry]) -> bool
+    ensures { result ≡ list_any (λ entry. is_zero entry.version || is_bad_version stamp entry.version) log.now }
+{
+    log.iter().any(|entry| is_zero(entry.version) || is_bad_version(stamp, entry.version))
+}
+
+/// One part is 0 and the other not, or the epoch is above the stamp.
+fn is_bad_version(stamp: Epoch, version: Version) -> bool
+    ensures { result ≡ is_bad_version stamp version }
+{
+    is_half(version) || stamp < version.epoch
+}
+
+fn is_half(version: Version) -> bool
+    ensures { result ≡ is_half version }
+{
+    (version.epoch.number() != 0 && version.v == 0)
+        || (version.epoch.number() == 0 && version.v != 0)
+}
+
+fn is_zero(version: Version) -> bool
+    ensures { result ≡ is_zero version }
+{
+    version.epoch.number() == 0 && version.v == 0
+}
+
+/// The two versions can't be the ends of one log.
+fn are_no_ends(tail: Version, last: Version) -> bool
+    ensures { result ≡ are_no_ends tail last }
+{
+    last.is_older_than(tail) || last.v < tail.v || (tail.v == last.v && tail != last)
+}
