@@ -2,8 +2,8 @@
 use Rattle.std.specs.Prelude.{◌≡◌, ℕ, ◌<◌, ◌≤◌, List, [], ◌∷◌, ◌++◌, Option, Some, None, Ok, nat_lt, length, take, flat_map, slice_index_or, if◌then◌else◌}
 use Rattle.std.specs.List.{range_with_len}
 use Rattle.pgp_ids.specs.declared.entry.Entry.{Entry}
-use Rattle.pgp_ids.specs.declared.refusal.Refusal.TheVariants as refusal
-use Rattle.pgp_ids.specs.declared.text_fault.TextFault.TheVariants as fault
+use Rattle.pgp_refusals.specs.declared.refusal.Refusal.TheVariants as refusal
+use Rattle.pgp_refusals.specs.declared.text_fault.TextFault.TheVariants as fault
 use Rattle.pgp_text.specs.Command.{command_of}
 use Rattle.pgp_text.specs.Reply.{reply_text}
 use Rattle.pgp_lines.specs.declared.command.Command.TheVariants.{Submit}

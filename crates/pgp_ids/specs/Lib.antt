@@ -1,11 +1,7 @@
 pub mod Osds
 pub mod SlotSet
 pub mod SlotBits
-pub mod TextFault
 pub mod Bucket
 pub mod Version
 pub mod Names
-pub mod Refusal
-pub mod AskRefusal
-pub mod LocateRefusal
 pub mod Member

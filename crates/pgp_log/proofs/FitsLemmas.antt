@@ -3,8 +3,8 @@ use Rattle.std.proofs.Common.{◌≡◌, ◌<◌, ◌≤◌, List, Some, None, B
 use Rattle.std.proofs.lemmas.Bool.Decides.{nat_tests}
 use Rattle.pgp_ids.specs.declared.entry.Entry.{Entry}
 use Rattle.pgp_ids.specs.declared.entry.Entry.TheVariants as entry
-use Rattle.pgp_ids.specs.declared.refusal.Refusal.{Refusal}
-use Rattle.pgp_ids.specs.declared.refusal.Refusal.TheVariants as refusal
+use Rattle.pgp_refusals.specs.declared.refusal.Refusal.{Refusal}
+use Rattle.pgp_refusals.specs.declared.refusal.Refusal.TheVariants as refusal
 use Rattle.pgp_log.specs.Fits.{fits, entry_fault, is_close, is_closed}
 
 pub fits-closed : (log : List Entry) (new : Entry) → is_closed log ≡ true → fits log new ≡ Some refusal.Closed

@@ -5,7 +5,7 @@ use Rattle.std.specs.Option.{option_map_or}
 use Rattle.std.proofs.lemmas.Bool.{cases_lt}
 use Rattle.std.proofs.Math.ListN.{length-append}
 use Rattle.pgp_ids.specs.declared.entry.Entry.{Entry}
-use Rattle.pgp_ids.specs.declared.refusal.Refusal.{Refusal}
+use Rattle.pgp_refusals.specs.declared.refusal.Refusal.{Refusal}
 use Rattle.pgp_log.specs.Fits.{fits}
 use Rattle.pgp_log.specs.Log.{is_taken_at, is_legal}
 

@@ -1,7 +1,7 @@
 -- A world's log stays legal.
 use Rattle.std.proofs.Common.{◌≡◌, Option, Some, None, true, refl}
 use Rattle.pgp_ids.specs.declared.entry.Entry.{Entry}
-use Rattle.pgp_ids.specs.declared.refusal.Refusal.{Refusal}
+use Rattle.pgp_refusals.specs.declared.refusal.Refusal.{Refusal}
 use Rattle.pgp_log.specs.Fits.{fits}
 use Rattle.pgp_log.specs.Log.{is_legal}
 use Rattle.pgp_log.specs.World.{World, Step, after, after_submit}

@@ -1,11 +1,11 @@
 -- A world of one log and several shards, each of which has read a front of it and answers for some of the groups (this
 -- project's own choice).
 use Rattle.std.specs.Prelude.{ℕ, ◌+◌, ◌%◌, List, [], ◌∷◌, ◌++◌, length, min, replicate, slice_index, slice_set, Option, Some, None, Result, Ok, Err}
-use Rattle.pgp_ids.specs.declared.ask_refusal.AskRefusal.{AskRefusal}
-use Rattle.pgp_ids.specs.declared.ask_refusal.AskRefusal.TheVariants.{UnknownGroup}
+use Rattle.pgp_refusals.specs.declared.ask_refusal.AskRefusal.{AskRefusal}
+use Rattle.pgp_refusals.specs.declared.ask_refusal.AskRefusal.TheVariants.{UnknownGroup}
 use Rattle.pgp_ids.specs.declared.entry.Entry.{Entry}
 use Rattle.pgp_ids.specs.declared.pg_id.PgId.{PgId}
-use Rattle.pgp_ids.specs.declared.refusal.Refusal.{Refusal}
+use Rattle.pgp_refusals.specs.declared.refusal.Refusal.{Refusal}
 use Rattle.pgp_ids.specs.declared.view.View.{View}
 use Rattle.pgp_group.specs.View.{scratch}
 use Rattle.pgp_log.specs.Fits.{fits}

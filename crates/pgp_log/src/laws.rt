@@ -2,11 +2,11 @@
 #![tactic(auto, unfolding(crate::specs::Worked::logs_computed))]
 
 ghost use Rattle.std.specs.Prelude.{◌≡◌, ℕ, ◌<◌, ◌≤◌, List, [], ◌∷◌, ◌++◌, length, Some, None, true, false, Ok, Err, codes};
-ghost use Rattle.pgp_ids.specs.declared.ask_refusal.AskRefusal.TheVariants as ask;
+ghost use Rattle.pgp_refusals.specs.declared.ask_refusal.AskRefusal.TheVariants as ask;
 ghost use Rattle.pgp_ids.specs.declared.entry.Entry.{Entry};
 ghost use Rattle.pgp_ids.specs.declared.entry.Entry.TheVariants as entry;
-ghost use Rattle.pgp_ids.specs.declared.refusal.Refusal.{Refusal};
-ghost use Rattle.pgp_ids.specs.declared.refusal.Refusal.TheVariants as refusal;
+ghost use Rattle.pgp_refusals.specs.declared.refusal.Refusal.{Refusal};
+ghost use Rattle.pgp_refusals.specs.declared.refusal.Refusal.TheVariants as refusal;
 ghost use Rattle.pgp_map.specs.Examples.{empty_step, boot};
 ghost use Rattle.pgp_sets.specs.Examples.{copies_group, shards_group, of_weight, copies_on_three, take_down, resize};
 ghost use Rattle.pgp_sets.specs.Sets.{membership};

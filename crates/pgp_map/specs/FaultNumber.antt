@@ -1,8 +1,8 @@
 -- The numbers of the faults of a map incremental, and the refusals of entries that they are.
 use Rattle.std.specs.Prelude.{ℕ, Option, Some, None}
 use Rattle.pgp_crush.specs.TreeFault.{refusal_number, fault_number as tree_fault_number}
-use Rattle.pgp_ids.specs.declared.refusal.Refusal.{Refusal}
-use Rattle.pgp_ids.specs.declared.refusal.Refusal.TheVariants as refusal
+use Rattle.pgp_refusals.specs.declared.refusal.Refusal.{Refusal}
+use Rattle.pgp_refusals.specs.declared.refusal.Refusal.TheVariants as refusal
 use Rattle.pgp_map.specs.declared.fault.MapFault.{MapFault}
 use Rattle.pgp_map.specs.declared.fault.MapFault.TheVariants.{EpochGap, Twice, UnknownDevice, AlreadyUp, AlreadyDown, StillUp, UpThruBack, Ahead, BadPool, PoolKnown, BadTemp, TreeFault, Memory}
 

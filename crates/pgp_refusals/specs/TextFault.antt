@@ -1,7 +1,7 @@
 -- The numbers of the faults of a line.
 use Rattle.std.specs.Prelude.{ℕ}
-use Rattle.pgp_ids.specs.declared.text_fault.TextFault.{TextFault}
-use Rattle.pgp_ids.specs.declared.text_fault.TextFault.TheVariants.{LineTooLong, NotJson, NoOp, UnknownKey, BadField, Memory}
+use Rattle.pgp_refusals.specs.declared.text_fault.TextFault.{TextFault}
+use Rattle.pgp_refusals.specs.declared.text_fault.TextFault.TheVariants.{LineTooLong, NotJson, NoOp, UnknownKey, BadField, Memory}
 
 abbrev pub fault_number : TextFault → ℕ
 fault_number LineTooLong = 30

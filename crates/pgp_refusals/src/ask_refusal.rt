@@ -1,5 +1,5 @@
 ghost use Rattle.std.specs.Prelude.{◌≡◌};
-ghost use Rattle.pgp_ids.specs.AskRefusal.{ask_refusal_number, ask_refusal_name};
+ghost use Rattle.pgp_refusals.specs.AskRefusal.{ask_refusal_number, ask_refusal_name};
 
 use std::alloc::AllocError;
 use thiserror::Error;
@@ -38,7 +38,7 @@ impl AskRefusal {
 }
 
 impl From<AllocError> for AskRefusal {
-    ghost use Rattle.pgp_ids.specs.declared.ask_refusal.AskRefusal.TheVariants.{Memory};
+    ghost use Rattle.pgp_refusals.specs.declared.ask_refusal.AskRefusal.TheVariants.{Memory};
 
     ghost from_gives = { λ _ refusal. refusal ≡ Memory };
 

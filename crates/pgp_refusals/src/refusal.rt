@@ -1,5 +1,5 @@
 ghost use Rattle.std.specs.Prelude.{◌≡◌};
-ghost use Rattle.pgp_ids.specs.Refusal.{refusal_number, refusal_name, refusal_tree};
+ghost use Rattle.pgp_refusals.specs.Refusal.{refusal_number, refusal_name, refusal_tree};
 
 use std::alloc::AllocError;
 use std::error::Error;
@@ -150,7 +150,7 @@ impl fmt::Display for Refusal {
 impl Error for Refusal {}
 
 impl From<AllocError> for Refusal {
-    ghost use Rattle.pgp_ids.specs.declared.refusal.Refusal.TheVariants.{Memory};
+    ghost use Rattle.pgp_refusals.specs.declared.refusal.Refusal.TheVariants.{Memory};
 
     ghost from_gives = { λ _ refusal. refusal ≡ Memory };
 

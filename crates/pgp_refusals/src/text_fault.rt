@@ -1,5 +1,5 @@
 ghost use Rattle.std.specs.Prelude.{◌≡◌};
-ghost use Rattle.pgp_ids.specs.TextFault.{fault_number};
+ghost use Rattle.pgp_refusals.specs.TextFault.{fault_number};
 
 use std::alloc::AllocError;
 use thiserror::Error;
@@ -44,7 +44,7 @@ impl TextFault {
 }
 
 impl From<AllocError> for TextFault {
-    ghost use Rattle.pgp_ids.specs.declared.text_fault.TextFault.TheVariants.{Memory};
+    ghost use Rattle.pgp_refusals.specs.declared.text_fault.TextFault.TheVariants.{Memory};
 
     ghost from_gives = { λ _ fault. fault ≡ Memory };
 

@@ -1,7 +1,7 @@
 -- The numbers and names of the refusals of an entry.
 use Rattle.std.specs.Prelude.{ℕ, List, Option, Some, None, codes}
-use Rattle.pgp_ids.specs.declared.refusal.Refusal.{Refusal}
-use Rattle.pgp_ids.specs.declared.refusal.Refusal.TheVariants.{EpochGap, Twice, UnknownDevice, AlreadyUp, AlreadyDown, StillUp, UpThruBack, Ahead, BadPool, PoolKnown, BadTemp, TreeFault, LogFull, Memory, UnknownGroup, UnknownMember, FutureStamp, BadVersion, Closed}
+use Rattle.pgp_refusals.specs.declared.refusal.Refusal.{Refusal}
+use Rattle.pgp_refusals.specs.declared.refusal.Refusal.TheVariants.{EpochGap, Twice, UnknownDevice, AlreadyUp, AlreadyDown, StillUp, UpThruBack, Ahead, BadPool, PoolKnown, BadTemp, TreeFault, LogFull, Memory, UnknownGroup, UnknownMember, FutureStamp, BadVersion, Closed}
 
 -- the number of a refusal in answers
 abbrev pub refusal_number : Refusal → ℕ

@@ -1,7 +1,7 @@
 -- The numbers and names of the refusals of a question where an object lies.
 use Rattle.std.specs.Prelude.{ℕ, List, codes}
-use Rattle.pgp_ids.specs.declared.locate_refusal.LocateRefusal.{LocateRefusal}
-use Rattle.pgp_ids.specs.declared.locate_refusal.LocateRefusal.TheVariants.{UnknownPool, Memory}
+use Rattle.pgp_refusals.specs.declared.locate_refusal.LocateRefusal.{LocateRefusal}
+use Rattle.pgp_refusals.specs.declared.locate_refusal.LocateRefusal.TheVariants.{UnknownPool, Memory}
 
 -- the number of a refusal in answers
 abbrev pub locate_refusal_number : LocateRefusal → ℕ

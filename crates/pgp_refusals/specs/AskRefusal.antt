@@ -1,7 +1,7 @@
 -- The numbers and names of the refusals of a question.
 use Rattle.std.specs.Prelude.{ℕ, List, codes}
-use Rattle.pgp_ids.specs.declared.ask_refusal.AskRefusal.{AskRefusal}
-use Rattle.pgp_ids.specs.declared.ask_refusal.AskRefusal.TheVariants.{UnknownGroup, Memory}
+use Rattle.pgp_refusals.specs.declared.ask_refusal.AskRefusal.{AskRefusal}
+use Rattle.pgp_refusals.specs.declared.ask_refusal.AskRefusal.TheVariants.{UnknownGroup, Memory}
 
 -- the number of a refusal in answers
 abbrev pub ask_refusal_number : AskRefusal → ℕ

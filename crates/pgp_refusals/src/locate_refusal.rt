@@ -1,5 +1,5 @@
 ghost use Rattle.std.specs.Prelude.{◌≡◌};
-ghost use Rattle.pgp_ids.specs.LocateRefusal.{locate_refusal_number, locate_refusal_name};
+ghost use Rattle.pgp_refusals.specs.LocateRefusal.{locate_refusal_number, locate_refusal_name};
 
 use std::alloc::AllocError;
 use thiserror::Error;
@@ -38,7 +38,7 @@ impl LocateRefusal {
 }
 
 impl From<AllocError> for LocateRefusal {
-    ghost use Rattle.pgp_ids.specs.declared.locate_refusal.LocateRefusal.TheVariants.{Memory};
+    ghost use Rattle.pgp_refusals.specs.declared.locate_refusal.LocateRefusal.TheVariants.{Memory};
 
     ghost from_gives = { λ _ refusal. refusal ≡ Memory };
 

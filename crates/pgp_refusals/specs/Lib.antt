@@ -1,0 +1,4 @@
+pub mod Refusal
+pub mod AskRefusal
+pub mod LocateRefusal
+pub mod TextFault
