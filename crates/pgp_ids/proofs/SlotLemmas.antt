@@ -1,214 +1,115 @@
 -- What the set of a word's slots has, how many they are, and what one bit more does to it.
-use Rattle.std.proofs.Common.{◌≡◌, ◌≢◌, ℕ, zero, suc, ◌+◌, ◌-◌, ◌/◌, ◌%◌, ◌<◌, ◌≤◌, ◌^◌, List, [], ◌∷◌, ◌++◌, Bool, true, false, ◌||◌, nat_eq, nat_lt, length, refl, ap, sym, ◌∙◌, arith, cond, subst, inl, inr, bit_and, min}
-use Rattle.std.specs.List.{list_all}
+use Rattle.std.proofs.Common.{◌≡◌, ◌≢◌, ℕ, zero, suc, ◌+◌, ◌-◌, ◌/◌, ◌<◌, ◌≤◌, ◌^◌, List, ◌∷◌, Bool, true, false, ◌||◌, ◌&&◌, not, nat_eq, nat_lt, length, refl, ap, ap₂, sym, ◌∙◌, arith, add-one, inl, inr, bit_and, filter}
+use Rattle.std.specs.List.{list_all, range_with_len}
 use Rattle.std.specs.Int.{bit_at}
 use Rattle.std.specs.Int.RustNames.{count_ones}
 use Rattle.std.specs.Int.Count.{ones_step}
-use Rattle.std.proofs.lemmas.Nat.{ones-le, and_le_l}
-use Rattle.std.proofs.Math.Bool.{or-false}
-use Rattle.std.proofs.lemmas.Bool.{and_parts, eqb-true, false_from_ne_true}
-use Rattle.std.proofs.Math.Nat.{eq-or-lt_of_le, pow-suc}
-use Rattle.std.proofs.lemmas.List.Elements.{filter-append}
-use Rattle.std.proofs.lemmas.List.{length-append}
-use Rattle.std.proofs.lemmas.List.Folds.{list_any-append, list_all-append}
+use Rattle.std.proofs.lemmas.Nat.{ones-le, and_le_l, pow_pos}
+use Rattle.std.proofs.Math.Nat.{eq-or-lt_of_le, pow-suc, mod-one, mod-eq_of_lt}
+use Rattle.std.proofs.lemmas.Bool.{cases_Bool, eqb-true}
 use Rattle.std.proofs.lemmas.Bool.Decides.{nat_tests, eqb_tells}
-use Rattle.std.proofs.lemmas.Nat.Bits.{bit_at-lt, bit_at-suc, bit_at_lowest, bit_at_and, bit_at-zero, same_from_bits_below}
+use Rattle.std.proofs.lemmas.List.Folds.{list_any_at, sum_by-zero}
+use Rattle.std.proofs.lemmas.List.FromFn.{length-range_with_len, get_or-range_with_len}
+use Rattle.std.proofs.lemmas.Map.Views.{any-filter_same}
+use Rattle.std.proofs.lemmas.Nat.Bits.{bit_at-lt, bit_at-suc, bit_at_lowest, bit_at_and}
 use Rattle.pgp_ids.specs.SlotSet.{has_slot, with_slot, is_within}
-use Rattle.pgp_ids.specs.SlotBits.{slots_below, is_set, set_below}
+use Rattle.pgp_ids.specs.SlotBits.{is_set, bits_of, bits_of-range}
 
--- the slots below n + 1 are those below n, and n where its bit is set
-set_below-suc : (n bits : ℕ) → set_below (suc n) bits ≡ set_below n bits ++ cond (is_set bits n) (n ∷ []) []
-set_below-suc n bits = filter-append (is_set bits) (slots_below n) (n ∷ [])
+-- ---- the numbers from s on that pass a test
 
-has_one : (slot n : ℕ) (b : Bool) → has_slot slot (cond b (n ∷ []) []) ≡ cond b (nat_eq slot n) false
-has_one slot n true = elim (nat_eq slot n) as (λ e. (e || false) ≡ e) [ true ↦ refl | false ↦ refl ]
-has_one slot n false = refl
+-- a number of the range is among them if it passes
+pub has-range : (p : ℕ → Bool) (n k : ℕ) → k < n → has_slot k (filter p (range_with_len 0 n)) ≡ p k
+has-range p n k below =
+    let there : has_slot k (range_with_len 0 n) ≡ true =
+    list_any_at (nat_eq k) (range_with_len 0 n) k 0 (omega (arith, length-range_with_len 0 n)) (let at = get_or-range_with_len 0 n k 0 below in grind (arith, nat_tests)) in
+    any-filter_same (nat_eq k) p (p k) (λ i same. ap p (sym (eqb-true k i same))) (range_with_len 0 n) ∙ rw there (elim (p k) as (λ b. (b && true) ≡ b) [ true ↦ refl | false ↦ refl ])
 
-has-suc : (n bits slot : ℕ) → has_slot slot (set_below (suc n) bits) ≡ (has_slot slot (set_below n bits) || cond (is_set bits n) (nat_eq slot n) false)
-has-suc n bits slot =
-    ap (has_slot slot) (set_below-suc n bits) ∙ list_any-append (nat_eq slot) (set_below n bits) _
-    ∙ ap (λ b. has_slot slot (set_below n bits) || b) (has_one slot n (is_set bits n))
-
--- ---- members
-
-has-set_below_none : (n bits slot : ℕ) → n ≤ slot → has_slot slot (set_below n bits) ≡ false
-has-set_below_none zero bits slot above = refl
-has-set_below_none (suc n) bits slot above =
-    let rest : has_slot slot (set_below n bits) ≡ false = has-set_below_none n bits slot (omega arith) in
-    let other : nat_eq slot n ≡ false = grind (arith, nat_tests) in
-    has-suc n bits slot ∙ rw (rest, other) (elim (is_set bits n) as (λ b. cond b false false ≡ false) [ true ↦ refl | false ↦ refl ])
-
-pub has-set_below : (n bits slot : ℕ) → slot < n → has_slot slot (set_below n bits) ≡ is_set bits slot
-has-set_below zero bits slot below = absurd (omega arith)
-has-set_below (suc n) bits slot below =
-    let here : slot ≤ n = omega arith in
-    has-suc n bits slot ∙ elim (eq-or-lt_of_le here) [
-      | inl e ↦
-          let none : has_slot slot (set_below n bits) ≡ false = has-set_below_none n bits slot (omega arith) in
-          let same : nat_eq slot n ≡ true = grind (arith, nat_tests) in
-          rw (none, same, e) (elim (is_set bits n) as (λ b. cond b true false ≡ b) [ true ↦ refl | false ↦ refl ])
-      | inr lt ↦
-          let other : nat_eq slot n ≡ false = grind (arith, nat_tests) in
-          rw (has-set_below n bits slot lt, other) (elim (is_set bits n) as (λ b. (is_set bits slot || cond b false false) ≡ is_set bits slot) [ true ↦ or-false _ | false ↦ or-false _ ])
+-- one below the range goes to the front
+with-front : (p : ℕ → Bool) (n s k : ℕ) → k < s → with_slot k (filter p (range_with_len s n)) ≡ k ∷ filter p (range_with_len s n)
+with-front p zero s k below = refl
+with-front p (suc n) s k below =
+    let less : nat_lt k s ≡ true = grind (arith, nat_tests) in
+    elim (cases_Bool (p s)) [
+      | inl passes ↦ rw (passes, less) refl
+      | inr fails ↦ rw fails (with-front p n (s + 1) k (omega arith))
     ]
 
--- ---- how many
+-- a test that says more of k alone, which is below the range
+same-range : (p r : ℕ → Bool) (n s k : ℕ) → ((i : ℕ) → i ≢ k → r i ≡ p i) → k < s → filter r (range_with_len s n) ≡ filter p (range_with_len s n)
+same-range p r zero s k differs below = refl
+same-range p r (suc n) s k differs below =
+    rw (differs s (omega arith), same-range p r n (s + 1) k differs (omega arith)) refl
 
-length_one : (bits n : ℕ) → length (cond (is_set bits n) (n ∷ []) []) ≡ bit_at bits n
-length_one bits n = let below : bit_at bits n < 2 = bit_at-lt bits n in grind (arith, nat_tests)
+-- and in the range
+pub with-range : (p r : ℕ → Bool) (n s k : ℕ) → ((i : ℕ) → i ≢ k → r i ≡ p i) → r k ≡ true → s ≤ k → k < s + n → filter r (range_with_len s n) ≡ with_slot k (filter p (range_with_len s n))
+with-range p r zero s k differs set from to = absurd (omega arith)
+with-range p r (suc n) s k differs set from to = elim (eq-or-lt_of_le from) [
+  | inl e ↦
+      let not_less : nat_lt s s ≡ false = grind (arith, nat_tests) in
+      let same : nat_eq s s ≡ true = grind (arith, nat_tests) in
+      let here : r s ≡ true = ap r e ∙ set in
+      rw (← e, here, same-range p r n (s + 1) k differs (omega arith)) (elim (cases_Bool (p s)) [
+        | inl passes ↦ rw (passes, not_less, same) refl
+        | inr fails ↦ rw fails (sym (with-front p n (s + 1) s (omega arith)))
+      ])
+  | inr lt ↦
+      let not_less : nat_lt k s ≡ false = grind (arith, nat_tests) in
+      let other : nat_eq k s ≡ false = grind (arith, nat_tests) in
+      let rest = with-range p r n (s + 1) k differs set (omega arith) (omega arith) in
+      rw (differs s (omega arith)) (elim (cases_Bool (p s)) [
+        | inl passes ↦ rw (passes, not_less, other, rest) refl
+        | inr fails ↦ rw (fails, rest) refl
+      ])
+]
 
-length_suc : (n bits : ℕ) → length (set_below (suc n) bits) ≡ length (set_below n bits) + bit_at bits n
-length_suc n bits = ap length (set_below-suc n bits) ∙ length-append (set_below n bits) _ ∙ ap (λ m. length (set_below n bits) + m) (length_one bits n)
+all-kept : (p q : ℕ → Bool) (x : ℕ) (xs : List ℕ) → list_all q (filter p (x ∷ xs)) ≡ ((q x || not (p x)) && list_all q (filter p xs))
+all-kept p q x xs = elim (cases_Bool (p x)) [
+  | inl passes ↦ rw passes (elim (q x) as (λ b. (b && list_all q (filter p xs)) ≡ ((b || false) && list_all q (filter p xs))) [ true ↦ refl | false ↦ refl ])
+  | inr fails ↦ rw fails (elim (q x) as (λ b. list_all q (filter p xs) ≡ ((b || true) && list_all q (filter p xs))) [ true ↦ refl | false ↦ refl ])
+]
 
-length-halved : (n bits : ℕ) → length (set_below (suc n) bits) ≡ bits % 2 + length (set_below n (bits / 2))
-length-halved zero bits = omega (arith, length_suc 0 bits, bit_at_lowest bits)
-length-halved (suc n) bits = omega (arith, length_suc (suc n) bits, length-halved n bits, length_suc n (bits / 2), bit_at-suc bits n)
+-- two tests of those that pass, of which each number says the same
+all-range : (p q r t : ℕ → Bool) (n s : ℕ) → ((i : ℕ) → i < s + n → (q i || not (p i)) ≡ (t i || not (r i))) → list_all q (filter p (range_with_len s n)) ≡ list_all t (filter r (range_with_len s n))
+all-range p q r t zero s each = refl
+all-range p q r t (suc n) s each =
+    all-kept p q s _ ∙ ap₂ ◌&&◌ (each s (omega arith)) (all-range p q r t n (s + 1) (λ i below. each i (omega arith))) ∙ sym (all-kept r t s _)
 
-pub ones-set_below : (n bits : ℕ) → bits < 2 ^ n → length (set_below n bits) ≡ count_ones bits
-ones-set_below zero bits fits = omega (arith, ones-le 0 bits fits)
-ones-set_below (suc n) bits fits =
+-- ---- the slots of a word
+
+halved : (bits n s k : ℕ) → k ≡ s + 1 → length (filter (is_set bits) (range_with_len k n)) ≡ length (filter (is_set (bits / 2)) (range_with_len s n))
+halved bits zero s k next = refl
+halved bits (suc n) s k next =
+    let same : is_set bits k ≡ is_set (bits / 2) s = ap (is_set bits) next ∙ ap (λ b. nat_eq b 1) (ap (bit_at bits) (add-one s) ∙ bit_at-suc bits s) in
+    let rest = halved bits n (s + 1) (k + 1) (omega arith) in
+    elim (cases_Bool (is_set (bits / 2) s)) [
+      | inl on ↦ rw (same, on) (ap suc rest)
+      | inr off ↦ rw (same, off) rest
+    ]
+
+pub count-range : (n bits : ℕ) → bits < 2 ^ n → length (filter (is_set bits) (range_with_len 0 n)) ≡ count_ones bits
+count-range zero bits fits = omega (arith, ones-le 0 bits fits)
+count-range (suc n) bits fits =
     let half : bits / 2 < 2 ^ n = omega (arith, pow-suc 2 n) in
-    omega (arith, length-halved n bits, ones_step bits, ones-set_below n (bits / 2) half)
-
--- ---- one slot more
-
--- each slot of the list is below n
-abbrev AreBelow : ℕ → List ℕ → Type 0
-AreBelow n [] = Unit {0}
-AreBelow n (s ∷ slots) = (s < n) × AreBelow n slots
-
-AreBelow-suc : (n : ℕ) (slots : List ℕ) → AreBelow n slots → AreBelow (suc n) slots
-AreBelow-suc n [] below = tt
-AreBelow-suc n (s ∷ slots) below = (omega (arith, below.0), AreBelow-suc n slots below.1)
-
-AreBelow-push : (n : ℕ) (slots : List ℕ) (b : Bool) → AreBelow n slots → AreBelow (suc n) (slots ++ cond b (n ∷ []) [])
-AreBelow-push n [] true below = (omega arith, tt)
-AreBelow-push n [] false below = tt
-AreBelow-push n (s ∷ slots) b below = (omega (arith, below.0), AreBelow-push n slots b below.1)
-
-set_below-AreBelow : (n bits : ℕ) → AreBelow n (set_below n bits)
-set_below-AreBelow zero bits = tt
-set_below-AreBelow (suc n) bits =
-    subst (AreBelow (suc n)) (sym (set_below-suc n bits)) (AreBelow-push n (set_below n bits) (is_set bits n) (set_below-AreBelow n bits))
-
--- a slot above all others goes to the end
-with_slot-last : (n : ℕ) (slots : List ℕ) (b : Bool) → AreBelow n slots → with_slot n (slots ++ cond b (n ∷ []) []) ≡ slots ++ n ∷ []
-with_slot-last n [] true below =
-    let not_less : nat_lt n n ≡ false = grind (arith, nat_tests) in
-    let same : nat_eq n n ≡ true = grind (arith, nat_tests) in
-    rw (not_less, same) refl
-with_slot-last n [] false below = refl
-with_slot-last n (s ∷ slots) b below =
-    let less : s < n = below.0 in
-    let not_less : nat_lt n s ≡ false = grind (arith, nat_tests) in
-    let other : nat_eq n s ≡ false = grind (arith, nat_tests) in
-    rw (not_less, other) (ap (λ rest. s ∷ rest) (with_slot-last n slots b below.1))
-
--- and one below n goes before n
-with_slot-before : (k n : ℕ) (slots : List ℕ) (b : Bool) → k < n → with_slot k (slots ++ cond b (n ∷ []) []) ≡ with_slot k slots ++ cond b (n ∷ []) []
-with_slot-before k n [] true less = let test : nat_lt k n ≡ true = grind (arith, nat_tests) in rw test refl
-with_slot-before k n [] false less = refl
-with_slot-before k n (s ∷ slots) b less =
-    elim (nat_lt k s) as (λ t. cond t (k ∷ s ∷ (slots ++ cond b (n ∷ []) [])) (cond (nat_eq k s) (s ∷ (slots ++ cond b (n ∷ []) [])) (s ∷ with_slot k (slots ++ cond b (n ∷ []) [])))
-    ≡ cond t (k ∷ s ∷ slots) (cond (nat_eq k s) (s ∷ slots) (s ∷ with_slot k slots)) ++ cond b (n ∷ []) []) [
-      | true ↦ refl
-      | false ↦ elim (nat_eq k s) as (λ t. cond t (s ∷ (slots ++ cond b (n ∷ []) [])) (s ∷ with_slot k (slots ++ cond b (n ∷ []) []))
-          ≡ cond t (s ∷ slots) (s ∷ with_slot k slots) ++ cond b (n ∷ []) []) [
-            | true ↦ refl
-            | false ↦ ap (λ rest. s ∷ rest) (with_slot-before k n slots b less)
-          ]
+    let rest = halved bits n 0 1 refl ∙ count-range n (bits / 2) half in
+    elim (eqb_tells (bit_at bits 0) 1) [
+      | inl on ↦ rw on.0 (omega (arith, ones_step bits, bit_at_lowest bits))
+      | inr off ↦ rw off.0 (omega (arith, ones_step bits, bit_at_lowest bits))
     ]
 
--- the words differ at bit k at most
-abbrev DiffersAt : ℕ → ℕ → ℕ → Type 0
-DiffersAt k bits more = (i : ℕ) → i ≢ k → bit_at more i ≡ bit_at bits i
-
-same-set_below : (n k bits more : ℕ) → DiffersAt k bits more → n ≤ k → set_below n more ≡ set_below n bits
-same-set_below zero k bits more differs above = refl
-same-set_below (suc n) k bits more differs above =
-    let ne : n ≢ k = omega arith in
-    set_below-suc n more
-    ∙ rw (same-set_below n k bits more differs (omega arith), differs n ne) refl
-    ∙ sym (set_below-suc n bits)
-
-pub with-set_below : (n k bits more : ℕ) → DiffersAt k bits more → bit_at more k ≡ 1 → k < n → set_below n more ≡ with_slot k (set_below n bits)
-with-set_below zero k bits more differs set below = absurd (omega arith)
-with-set_below (suc n) k bits more differs set below =
-    let here : k ≤ n = omega arith in
-    set_below-suc n more ∙ elim (eq-or-lt_of_le here) [
-      | inl e ↦
-          let on : is_set more n ≡ true = rw (← e, set) refl in
-          rw (on, same-set_below n k bits more differs (omega arith))
-          (sym (ap (with_slot k) (set_below-suc n bits) ∙ rw e (with_slot-last n (set_below n bits) (is_set bits n) (set_below-AreBelow n bits))))
-      | inr lt ↦
-          let ne : n ≢ k = omega arith in
-          rw (with-set_below n k bits more differs set lt, differs n ne)
-          (sym (ap (with_slot k) (set_below-suc n bits) ∙ with_slot-before k n (set_below n bits) (is_set bits n) lt))
-    ]
-
--- ---- one set in another
-
-each_of_all : (q : ℕ → Bool) (i : ℕ) (slots : List ℕ) → list_all q slots ≡ true → has_slot i slots ≡ true → q i ≡ true
-each_of_all q i [] all member = cc
-each_of_all q i (s ∷ slots) all member =
-    elim (eqb_tells i s) [
-      | inl same ↦ rw same.1 (and_parts (q s) _ all).0
-      | inr other ↦ each_of_all q i slots (and_parts (q s) _ all).1 (rw other.0 at member)
-    ]
-
-pub all-set_below : (n bits : ℕ) (q : ℕ → Bool) → ((i : ℕ) → i < n → bit_at bits i ≡ 1 → q i ≡ true) → list_all q (set_below n bits) ≡ true
-all-set_below zero bits q each = refl
-all-set_below (suc n) bits q each =
-    let before : list_all q (set_below n bits) ≡ true = all-set_below n bits q (λ i below. each i (omega arith)) in
-    let last : list_all q (cond (is_set bits n) (n ∷ []) []) ≡ true =
-    elim (eqb_tells (bit_at bits n) 1) [
-      | inl on ↦ rw (on.0, each n (omega arith) on.1) refl
-      | inr off ↦ rw off.0 refl
-    ] in
-    ap (list_all q) (set_below-suc n bits) ∙ list_all-append q (set_below n bits) _ ∙ rw (before, last) refl
-
-pub each-set_below : (n bits : ℕ) (q : ℕ → Bool) → list_all q (set_below n bits) ≡ true → (i : ℕ) → i < n → bit_at bits i ≡ 1 → q i ≡ true
-each-set_below n bits q all i below set =
-    let member : has_slot i (set_below n bits) ≡ true = has-set_below n bits i below ∙ rw set refl in
-    each_of_all q i (set_below n bits) all member
-
--- the words have no bit in common below n
-abbrev AreApart : ℕ → ℕ → ℕ → Type 0
-AreApart n a b = (i : ℕ) → i < n → bit_at a i ≡ 1 → bit_at b i ≡ 0
-
-apart_of_zero : (n a b : ℕ) → bit_and a b ≡ 0 → AreApart n a b
-apart_of_zero n a b none i below set =
-    let both : min (bit_at a i) (bit_at b i) ≡ 0 = sym (bit_at_and a b i) ∙ ap (λ x. bit_at x i) none ∙ bit_at-zero i in
-    omega arith
-
-min_apart : (x y : ℕ) → x < 2 → (x ≡ 1 → y ≡ 0) → min x y ≡ 0
-min_apart x y digit apart =
-    elim (eqb_tells x 1) [
-      | inl on ↦ let none : y ≡ 0 = apart on.1 in omega arith
-      | inr off ↦ let ne : x ≢ 1 = off.1 in omega arith
-    ]
-
-zero_of_apart : (n a b : ℕ) → a < 2 ^ n → AreApart n a b → bit_and a b ≡ 0
-zero_of_apart n a b fits apart =
-    let small : bit_and a b < 2 ^ n = omega (arith, and_le_l a b) in
-    let positive : 0 < 2 ^ n = omega arith in
-    same_from_bits_below n (bit_and a b) 0 small positive (λ i below.
-    bit_at_and a b i ∙ min_apart (bit_at a i) (bit_at b i) (bit_at-lt a i) (apart i below) ∙ sym (bit_at-zero i))
-
--- where `off` has below n the bits that b lacks, `a & off` is 0 exactly where each slot of a is in b
-pub within-set_below : (n a b off : ℕ) → a < 2 ^ n → ((i : ℕ) → i < n → bit_at off i ≡ 1 - bit_at b i) → nat_eq (bit_and a off) 0 ≡ is_within (set_below n a) (set_below n b)
-within-set_below n a b off fits lacks =
-    elim (eqb_tells (bit_and a off) 0) [
-      | inl none ↦
-          let apart : AreApart n a off = apart_of_zero n a off none.1 in
-          let all : is_within (set_below n a) (set_below n b) ≡ true =
-          all-set_below n a (λ i. has_slot i (set_below n b)) (λ i below set.
-          let less : bit_at b i < 2 = bit_at-lt b i in
-          let there : bit_at b i ≡ 1 = omega (arith, apart i below set, lacks i below) in
-          has-set_below n b i below ∙ rw there refl) in
-          none.0 ∙ sym all
-      | inr some ↦ some.0 ∙ sym (false_from_ne_true _ (λ all. some.1 (zero_of_apart n a off fits (λ i below set.
-          let member : has_slot i (set_below n b) ≡ true = each-set_below n a (λ i. has_slot i (set_below n b)) all i below set in
-          let there : bit_at b i ≡ 1 = eqb-true (bit_at b i) 1 (sym (has-set_below n b i below) ∙ member) in
-          omega (arith, lacks i below)))))
-    ]
+-- where `off` has the bits that b lacks, `a & off` is 0 exactly where each slot of a is in b
+pub within-range : (n a b off : ℕ) → a < 2 ^ n → ((i : ℕ) → i < n → bit_at off i ≡ 1 - bit_at b i)
+    → nat_eq (bit_and a off) 0 ≡ is_within (filter (is_set a) (range_with_len 0 n)) (filter (is_set b) (range_with_len 0 n))
+within-range n a b off fits lacks =
+    let both = bit_and a off in
+    let small : both < 2 ^ n = omega (arith, and_le_l a off) in
+    let word : bits_of (filter (is_set both) (range_with_len 0 n)) ≡ both = omega (arith, bits_of-range n 0 n both (omega arith), mod-one both, mod-eq_of_lt small) in
+    ap (λ k. nat_eq k 0) (sym word) ∙ sum_by-zero (λ slot. 2 ^ slot) (filter (is_set both) (range_with_len 0 n))
+    ∙ all-range (is_set both) (λ slot. nat_eq (2 ^ slot) 0) (is_set a) (λ slot. has_slot slot (filter (is_set b) (range_with_len 0 n))) n 0 (λ i within.
+    let below : i < n = omega arith in
+    let positive = pow_pos i in
+    let has = has-range (is_set b) n i below in
+    let shared = bit_at_and a off i in
+    let mine = bit_at-lt a i in
+    let other = bit_at-lt b i in
+    let lack = lacks i below in
+    grind (arith, nat_tests))

@@ -28,6 +28,7 @@ impl Model for SlotSet {
 }
 
 impl SlotSet {
+    #[tactic(auto, unfolding(crate::specs::SlotBits::slots_of))]
     pub fn empty() -> Self
         ensures { result ≡ [] }
     {
@@ -36,7 +37,7 @@ impl SlotSet {
 
     /// The set with this slot too.
     pub fn with(self, slot: u8) -> Self
-        requires { slot < 32 }
+        requires { slot < SLOT_LIMIT }
         ensures { result ≡ with_slot slot self }
     {
         SlotSet {
@@ -45,7 +46,7 @@ impl SlotSet {
     }
 
     pub fn has(self, slot: u8) -> bool
-        requires { slot < 32 }
+        requires { slot < SLOT_LIMIT }
         ensures { result ≡ has_slot slot self }
     {
         self.bits >> slot & 1 == 1
