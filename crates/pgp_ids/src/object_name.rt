@@ -28,7 +28,7 @@ impl ObjectName {
 
     /// The name of this text, where it is neither empty nor too long.
     pub fn new(text: String) -> Option<Self>
-        ensures in_range { IsSome result ↔ ((1 ≤ length (string_bytes text)) × (length (string_bytes text) ≤ 255)) }
+        ensures in_range { IsSome result ↔ ((1 ≤ length (string_bytes text)) × (length (string_bytes text) ≤ Self.MAX_LEN)) }
         ensures value { IfSome result (λ name. name ≡ string_bytes text) }
     {
         if text.len() >= 1 && text.len() <= Self::MAX_LEN {
@@ -41,7 +41,7 @@ impl ObjectName {
     pub fn as_str(&self) -> &str
         ensures value { result.now ≡ self.now }
         ensures some { 1 ≤ length result.now }
-        ensures within { length result.now ≤ 255 }
+        ensures within { length result.now ≤ Self.MAX_LEN }
     {
         self.text.as_str()
     }

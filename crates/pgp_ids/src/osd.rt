@@ -24,7 +24,7 @@ impl OsdId {
 
     /// The device of this number, where it is in range.
     pub fn new(number: u16) -> Option<Self>
-        ensures in_range { IsSome result ↔ (number ≤ 4095) }
+        ensures in_range { IsSome result ↔ (number ≤ Self.MAX) }
         ensures value { IfSome result (λ osd. osd ≡ number) }
     {
         if number <= Self::MAX {
@@ -36,7 +36,7 @@ impl OsdId {
 
     pub fn number(self) -> u16
         ensures value { result ≡ self }
-        ensures in_range { result ≤ 4095 }
+        ensures in_range { result ≤ Self.MAX }
     {
         self.number
     }

@@ -38,7 +38,7 @@ impl Osds {
 
     pub fn len(&self) -> usize
         ensures value { result ≡ length self.now }
-        ensures within { result ≤ 16 }
+        ensures within { result ≤ MAX_OSDS }
     {
         self.places.len()
     }
@@ -50,14 +50,14 @@ impl Osds {
     }
 
     pub fn is_full(&self) -> bool
-        ensures { result ≡ (length self.now == 16) }
+        ensures { result ≡ (length self.now == MAX_OSDS) }
     {
         self.places.is_full()
     }
 
     /// Appends a place.
     pub fn push(&mut self, place: Option<OsdId>)
-        requires { length self.old < 16 }
+        requires { length self.old < MAX_OSDS }
         ensures { self.new ≡ self.old ++ place ∷ [] }
     {
         self.places.push(place);
@@ -66,7 +66,7 @@ impl Osds {
     /// The places in order.
     pub fn as_slice(&self) -> &[Option<OsdId>]
         ensures value { result.now ≡ self.now }
-        ensures within { length result.now ≤ 16 }
+        ensures within { length result.now ≤ MAX_OSDS }
     {
         self.places.as_slice()
     }
