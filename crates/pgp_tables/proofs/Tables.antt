@@ -9,7 +9,11 @@ use Rattle.std.proofs.Common.{arith}
 use Rattle.pgp_ids.specs.declared.pg_id.PgId.{PgId}
 use Rattle.pgp_tables.specs.TempTable.{is_same_group}
 use Rattle.pgp_tables.specs.declared.device.Device.{Device}
-use Rattle.pgp_tables.specs.DeviceTable.{booted, downed, with_up_thru, with_lost_at}
+use Rattle.pgp_tables.specs.DeviceTable.{booted, downed, after_event, with_told}
+use Rattle.pgp_tables.specs.declared.devices.Event.{Event}
+use Rattle.pgp_tables.specs.declared.devices.Event.TheVariants.{Boots, GoesDown, IsDestroyed}
+use Rattle.pgp_tables.specs.declared.devices.Told.{Told}
+use Rattle.pgp_tables.specs.declared.devices.Told.TheVariants.{UpThru, LostAt}
 use Rattle.pgp_ids.specs.declared.incremental.DeviceEpoch.{DeviceEpoch}
 
 pub nat_eq-sym : (a b : ℕ) → nat_eq a b ≡ nat_eq b a
@@ -76,16 +80,13 @@ same_group a b e =
     both true false pool pg e = cc
     both false g pool pg e = cc
 
-pub booted-twice : (epoch : ℕ) (device : Device) → booted epoch (booted epoch device) ≡ booted epoch device
-booted-twice epoch device = ap (λ (n : ℕ). record (booted epoch device) { up_from = n }) (omega arith)
+pub event-twice : (event : Event) (device : Device) → after_event event (after_event event device) ≡ after_event event device
+event-twice (Boots epoch) device = ap (λ (n : ℕ). record (booted epoch device) { up_from = n }) (omega arith)
+event-twice (GoesDown epoch) device = ap (λ (n : ℕ). record (downed epoch device) { down_at = n }) (omega arith)
+event-twice IsDestroyed device = refl
 
-pub downed-twice : (epoch : ℕ) (device : Device) → downed epoch (downed epoch device) ≡ downed epoch device
-downed-twice epoch device = ap (λ (n : ℕ). record (downed epoch device) { down_at = n }) (omega arith)
-
-pub with_up_thru-again : (told : DeviceEpoch) (o : Option DeviceEpoch) (d : Device) → with_up_thru (Some told) (with_up_thru o d) ≡ with_up_thru (Some told) d
-with_up_thru-again told None d = refl
-with_up_thru-again told (Some other) d = refl
-
-pub with_lost_at-again : (told : DeviceEpoch) (o : Option DeviceEpoch) (d : Device) → with_lost_at (Some told) (with_lost_at o d) ≡ with_lost_at (Some told) d
-with_lost_at-again told None d = refl
-with_lost_at-again told (Some other) d = refl
+pub with_told-again : (said : Told) (entry : DeviceEpoch) (o : Option DeviceEpoch) (d : Device) → with_told said (Some entry) (with_told said o d) ≡ with_told said (Some entry) d
+with_told-again UpThru entry None d = refl
+with_told-again UpThru entry (Some other) d = refl
+with_told-again LostAt entry None d = refl
+with_told-again LostAt entry (Some other) d = refl

@@ -1,5 +1,5 @@
 -- The table of devices of a map.
-use Rattle.std.specs.Prelude.{ℕ, List, Bool, true, false, max, Option, Some, None, unwrap_or, is_some, if◌then◌else◌}
+use Rattle.std.specs.Prelude.{ℕ, Bool, true, false, max, Option, Some, None, unwrap_or, is_some, if◌then◌else◌}
 use Rattle.std.specs.HashMap as hash
 use Rattle.std.specs.HashMap.{HashMap}
 use Rattle.std.specs.Prelude.{nat_eq, ◌≡◌}
@@ -8,6 +8,10 @@ use Rattle.pgp_lists.specs.Last.{last_where}
 use Rattle.pgp_ids.specs.declared.incremental.DeviceEpoch.{DeviceEpoch}
 use Rattle.pgp_ids.specs.declared.incremental.Incremental.{Incremental}
 use Rattle.pgp_tables.specs.declared.device.Device.{Device}
+use Rattle.pgp_tables.specs.declared.devices.Event.{Event}
+use Rattle.pgp_tables.specs.declared.devices.Event.TheVariants.{Boots, GoesDown, IsDestroyed}
+use Rattle.pgp_tables.specs.declared.devices.Told.{Told}
+use Rattle.pgp_tables.specs.declared.devices.Told.TheVariants.{UpThru, LostAt}
 
 -- a device of which nothing was told
 abbrev pub absent : Device
@@ -39,6 +43,17 @@ with_up_thru (Some told) device = record device { up_thru = told.epoch }
 abbrev pub with_lost_at : Option DeviceEpoch → Device → Device
 with_lost_at None device = device
 with_lost_at (Some told) device = record device { lost_at = told.epoch }
+
+-- the device after the event
+abbrev pub after_event : Event → Device → Device
+after_event (Boots epoch) = booted epoch
+after_event (GoesDown epoch) = downed epoch
+after_event IsDestroyed = destroyed
+
+-- the device with what is told, where something is
+abbrev pub with_told : Told → Option DeviceEpoch → Device → Device
+with_told UpThru = with_up_thru
+with_told LostAt = with_lost_at
 
 abbrev pub after_down : Bool → ℕ → Device → Device
 after_down is_named epoch device = if is_named then downed epoch device else device

@@ -3,7 +3,7 @@
 ghost use Rattle.std.specs.Prelude.{◌≡◌, ℕ, true, max, nat_eq, OnOk, if◌then◌else◌};
 ghost use Rattle.std.specs.List.{list_any};
 ghost use Rattle.pgp_lists.specs.Last.{last_where};
-ghost use Rattle.pgp_tables.specs.DeviceTable.{absent, device_at, has_place, booted, downed, destroyed, with_up_thru, with_lost_at, changed, HasPlaces};
+ghost use Rattle.pgp_tables.specs.DeviceTable.{absent, device_at, has_place, after_event, with_told, changed, HasPlaces};
 
 use super::device::Device;
 use pgp_ids::{DeviceEpoch, Epoch, Incremental, OsdId};
@@ -91,71 +91,80 @@ fn later(a: Epoch, b: Epoch) -> Epoch
     Epoch::new(a.number().max(b.number()))
 }
 
-/// Boots these devices, each of which has a place.
-pub fn boot_all(table: &mut HashMap<OsdId, Device>, osds: &[OsdId], epoch: Epoch)
+/// What an incremental makes of a device that it names.
+#[derive(Clone, Copy)]
+enum Event {
+    /// It boots in this epoch.
+    Boots(Epoch),
+    /// It is taken down in this epoch.
+    GoesDown(Epoch),
+    IsDestroyed,
+}
+
+/// The device after the event.
+fn after(event: &Event, before: Device) -> Device
+    ensures { result ≡ after_event event.now before }
+{
+    let mut device = before;
+    match event {
+        Event::Boots(epoch) => {
+            device.exists = true;
+            device.is_up = true;
+            device.up_from = later(device.up_from, *epoch);
+        }
+        Event::GoesDown(epoch) => {
+            device.is_up = false;
+            device.down_at = later(device.down_at, *epoch);
+        }
+        Event::IsDestroyed => {
+            device.exists = false;
+            device.is_up = false;
+        }
+    }
+    device
+}
+
+/// Changes these devices, each of which has a place, by the event.
+fn change_all(table: &mut HashMap<OsdId, Device>, osds: &[OsdId], event: &Event)
     requires { (q : ℕ) → list_any (nat_eq q) osds.now ≡ true → has_place table.old q ≡ true }
-    ensures after { (q : ℕ) → device_at table.new q ≡ (if list_any (nat_eq q) osds.now then booted epoch (device_at table.old q) else device_at table.old q) }
+    ensures after { (q : ℕ) → device_at table.new q ≡ (if list_any (nat_eq q) osds.now then after_event event.now (device_at table.old q) else device_at table.old q) }
     ensures kept { (q : ℕ) → has_place table.new q ≡ has_place table.old q }
 {
     for osd in osds {
-        let mut device = device_at(table, *osd);
-        device.exists = true;
-        device.is_up = true;
-        device.up_from = later(device.up_from, epoch);
+        let device = after(event, device_at(table, *osd));
         put(table, *osd, device);
     }
 }
 
-/// Takes these devices down, each of which has a place.
-pub fn take_down_all(table: &mut HashMap<OsdId, Device>, osds: &[OsdId], epoch: Epoch)
-    requires { (q : ℕ) → list_any (nat_eq q) osds.now ≡ true → has_place table.old q ≡ true }
-    ensures after { (q : ℕ) → device_at table.new q ≡ (if list_any (nat_eq q) osds.now then downed epoch (device_at table.old q) else device_at table.old q) }
-    ensures kept { (q : ℕ) → has_place table.new q ≡ has_place table.old q }
-{
-    for osd in osds {
-        let mut device = device_at(table, *osd);
-        device.is_up = false;
-        device.down_at = later(device.down_at, epoch);
-        put(table, *osd, device);
-    }
+/// What an epoch that is told of a device says.
+#[derive(Clone, Copy)]
+enum Told {
+    /// Through which epoch it was up.
+    UpThru,
+    /// At which epoch it was given up for lost.
+    LostAt,
 }
 
-/// Destroys these devices, each of which has a place.
-pub fn destroy_all(table: &mut HashMap<OsdId, Device>, osds: &[OsdId])
-    requires { (q : ℕ) → list_any (nat_eq q) osds.now ≡ true → has_place table.old q ≡ true }
-    ensures after { (q : ℕ) → device_at table.new q ≡ (if list_any (nat_eq q) osds.now then destroyed (device_at table.old q) else device_at table.old q) }
-    ensures kept { (q : ℕ) → has_place table.new q ≡ has_place table.old q }
+/// The device of which the epoch is told.
+fn with_told(said: Told, entry: &DeviceEpoch, before: Device) -> Device
+    ensures { result ≡ with_told said (Some entry.now) before }
 {
-    for osd in osds {
-        let mut device = device_at(table, *osd);
-        device.exists = false;
-        device.is_up = false;
-        put(table, *osd, device);
+    let mut device = before;
+    match said {
+        Told::UpThru => device.up_thru = entry.epoch,
+        Told::LostAt => device.lost_at = entry.epoch,
     }
+    device
 }
 
-/// Says of these devices, each of which has a place, through which epoch they were up.
-pub fn tell_up_thru(table: &mut HashMap<OsdId, Device>, told: &[DeviceEpoch])
+/// Tells these epochs of devices, each of which has a place.
+fn tell_all(table: &mut HashMap<OsdId, Device>, told: &[DeviceEpoch], said: Told)
     requires { (q : ℕ) → list_any (λ entry. nat_eq entry.osd q) told.now ≡ true → has_place table.old q ≡ true }
-    ensures after { (q : ℕ) → device_at table.new q ≡ with_up_thru (last_where (λ entry. nat_eq entry.osd q) told.now) (device_at table.old q) }
+    ensures after { (q : ℕ) → device_at table.new q ≡ with_told said (last_where (λ entry. nat_eq entry.osd q) told.now) (device_at table.old q) }
     ensures kept { (q : ℕ) → has_place table.new q ≡ has_place table.old q }
 {
     for entry in told {
-        let mut device = device_at(table, entry.osd);
-        device.up_thru = entry.epoch;
-        put(table, entry.osd, device);
-    }
-}
-
-/// Says of these devices, each of which has a place, at which epoch they are lost.
-pub fn tell_lost_at(table: &mut HashMap<OsdId, Device>, told: &[DeviceEpoch])
-    requires { (q : ℕ) → list_any (λ entry. nat_eq entry.osd q) told.now ≡ true → has_place table.old q ≡ true }
-    ensures after { (q : ℕ) → device_at table.new q ≡ with_lost_at (last_where (λ entry. nat_eq entry.osd q) told.now) (device_at table.old q) }
-    ensures kept { (q : ℕ) → has_place table.new q ≡ has_place table.old q }
-{
-    for entry in told {
-        let mut device = device_at(table, entry.osd);
-        device.lost_at = entry.epoch;
+        let device = with_told(said, entry, device_at(table, entry.osd));
         put(table, entry.osd, device);
     }
 }
@@ -177,9 +186,9 @@ pub fn change(table: &mut HashMap<OsdId, Device>, inc: &Incremental)
     requires { HasPlaces inc.now table.old }
     ensures { (q : ℕ) → device_at table.new q ≡ changed inc.now q (device_at table.old q) }
 {
-    take_down_all(table, inc.down.as_slice(), inc.epoch);
-    destroy_all(table, inc.gone.as_slice());
-    boot_all(table, inc.up.as_slice(), inc.epoch);
-    tell_up_thru(table, inc.up_thru.as_slice());
-    tell_lost_at(table, inc.lost.as_slice());
+    change_all(table, inc.down.as_slice(), &Event::GoesDown(inc.epoch));
+    change_all(table, inc.gone.as_slice(), &Event::IsDestroyed);
+    change_all(table, inc.up.as_slice(), &Event::Boots(inc.epoch));
+    tell_all(table, inc.up_thru.as_slice(), Told::UpThru);
+    tell_all(table, inc.lost.as_slice(), Told::LostAt);
 }
