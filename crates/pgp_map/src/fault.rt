@@ -6,49 +6,37 @@ ghost use Rattle.pgp_map.specs.FaultNumber.{fault_number, refusal_of};
 use pgp_crush::TreeFault;
 use pgp_ids::Refusal;
 use std::alloc::AllocError;
-use thiserror::Error;
+use std::error::Error;
+use std::fmt;
 
 /// Why a map incremental isn't taken. One with several faults has the first in this order.
-#[derive(Clone, Copy, Debug, PartialEq, Eq, Error)]
+#[derive(Clone, Copy, Debug, PartialEq, Eq)]
 pub enum MapFault {
     /// Its epoch isn't the one after the map's.
-    #[error("the epoch does not follow that of the map")]
     EpochGap,
     /// A device, pool or group is named twice where it may be named once.
-    #[error("a device, pool or group is named twice")]
     Twice,
     /// A device is named that neither exists nor boots.
-    #[error("unknown device")]
     UnknownDevice,
     /// A device boots that is up.
-    #[error("the device is already up")]
     AlreadyUp,
     /// A device is taken down that is down.
-    #[error("the device is already down")]
     AlreadyDown,
     /// A device is destroyed or given up for lost that is up.
-    #[error("the device is still up")]
     StillUp,
     /// A device's up_thru would fall.
-    #[error("up_thru goes back")]
     UpThruBack,
     /// An epoch lies ahead of the incremental's.
-    #[error("an epoch is ahead of the map")]
     Ahead,
     /// A pool's numbers are out of range, or the pool isn't one whose sizes can change so.
-    #[error("bad pool")]
     BadPool,
     /// A pool is made that exists.
-    #[error("the pool is already known")]
     PoolKnown,
     /// A pg_temp list is none that its group can have.
-    #[error("bad pg_temp")]
     BadTemp,
     /// The placement tree has this fault.
-    #[error("{0}")]
     TreeFault(TreeFault),
     /// There was no memory to look at the incremental.
-    #[error("out of memory")]
     Memory,
 }
 
@@ -73,7 +61,37 @@ impl MapFault {
             MapFault::Memory => 51,
         }
     }
+
+    /// What it says to a person, a tree's fault aside.
+    fn text(self) -> &'static str {
+        match self {
+            MapFault::EpochGap => "the epoch does not follow that of the map",
+            MapFault::Twice => "a device, pool or group is named twice",
+            MapFault::UnknownDevice => "unknown device",
+            MapFault::AlreadyUp => "the device is already up",
+            MapFault::AlreadyDown => "the device is already down",
+            MapFault::StillUp => "the device is still up",
+            MapFault::UpThruBack => "up_thru goes back",
+            MapFault::Ahead => "an epoch is ahead of the map",
+            MapFault::BadPool => "bad pool",
+            MapFault::PoolKnown => "the pool is already known",
+            MapFault::BadTemp => "bad pg_temp",
+            MapFault::TreeFault(_) => "the placement tree has a fault",
+            MapFault::Memory => "out of memory",
+        }
+    }
 }
+
+impl fmt::Display for MapFault {
+    fn fmt<W: fmt::Write>(&self, f: &mut fmt::Formatter<W>) -> fmt::Result {
+        match self {
+            MapFault::TreeFault(fault) => fault.fmt(f),
+            _ => f.write_str(self.text()),
+        }
+    }
+}
+
+impl Error for MapFault {}
 
 impl From<AllocError> for MapFault {
     ghost use Rattle.pgp_map.specs.declared.fault.MapFault.TheVariants.{Memory};
