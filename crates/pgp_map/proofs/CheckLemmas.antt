@@ -1,7 +1,5 @@
 -- What the tests of a map's tables say of the incrementals that made it.
-use Rattle.std.proofs.Common.{◌≡◌, ◌+◌, ◌-◌, ◌^◌, ℕ, List, ◌++◌, Bool, true, false, ◌||◌, ◌&&◌, not, cond, refl, ap, sym, ◌∙◌, min, arith}
-use Rattle.std.proofs.lemmas.Bool.Decides.{nat_tests}
-use Rattle.std.specs.Prelude.{Result, Ok, Err, OnOk, IfErr}
+use Rattle.std.proofs.Common.{◌≡◌, ℕ, List, ◌++◌, Bool, true, false, ◌||◌, ◌&&◌, not, cond, refl, ap, sym, ◌∙◌}
 use Rattle.std.proofs.Common.{◌⊎◌, inl, inr}
 use Rattle.std.specs.Prelude.{Option, Some, None, is_some, nat_eq, nat_lt, option_map}
 use Rattle.std.specs.List.{list_any}
@@ -154,14 +152,6 @@ pub none-found : (incs : List Incremental) (inc : Incremental) (f : Findings) �
 unfolding either_fault
 none-found incs inc f are e = sym (same_first incs inc f are) ∙ ap (λ (o : Option MapFault). either_fault o (given_fault inc.crush)) e
 
-pub or-first : (a b : Bool) → a ≡ true → true ≡ (a || b)
-or-first true b e = refl
-or-first false b e = cc
-
-pub or-second : (a b r : Bool) → a ≡ false → r ≡ b → r ≡ (a || b)
-or-second true b r e is = cc
-or-second false b r e is = is
-
 pub temps-are : (incs : List Incremental) (inc : Incremental) (m : OsdMap) (found : ℕ → Option PoolSpec) → IsMapOf incs m → has_pool_known incs inc ≡ false
     → ((id : ℕ) → found id ≡ option_map (with_sizes (last_where (λ sizes. nat_eq sizes.pool id) inc.sizes)) (or_made (last_where (λ made. nat_eq made.id id) inc.pools) (hash.get nat_eq m.pools id)))
     → list_any (λ given. is_bad_list (found given.pg.pool) given) inc.temp ≡ has_bad_temp incs inc
@@ -171,32 +161,6 @@ temps-are incs inc m found is known are =
     (are given.pg.pool
     ∙ ap (λ (o : Option PoolSpec). option_map (with_sizes (last_where (λ sizes. nat_eq sizes.pool given.pg.pool) inc.sizes)) (or_made (last_where (λ made. nat_eq made.id given.pg.pool) inc.pools) o)) (is.pools_are given.pg.pool)
     ∙ sym (pool-push incs inc given.pg.pool known (is.sizes_are given.pg.pool))))
-
-pub or3-first : (a b c : Bool) → a ≡ true → true ≡ (a || b || c)
-or3-first true b c e = refl
-or3-first false b c e = cc
-
-pub or3-second : (a b c : Bool) → a ≡ false → b ≡ true → true ≡ (a || b || c)
-or3-second true b c first e = cc
-or3-second false true c first e = refl
-or3-second false false c first e = cc
-
-pub or3-third : (a b c r : Bool) → a ≡ false → b ≡ false → r ≡ c → r ≡ (a || b || c)
-or3-third true b c r first second is = cc
-or3-third false true c r first second is = cc
-or3-third false false c r first second is = is
-
--- a sum that stops at the greatest word is above a bound just where the sum is
-pub as_far_as_fits : (a s : ℕ) → nat_lt 16384 (min (a + min s (2 ^ 32 - 1)) (2 ^ 32 - 1)) ≡ nat_lt 16384 (a + s)
-as_far_as_fits a s = grind (arith, nat_tests)
-
-pub on_ok : {T E : Type 0} (r : Result T E) (P Q : Type 0) → OnOk r P → (P → Q) → OnOk r Q
-on_ok (Ok x) P Q p f = f p
-on_ok (Err e) P Q p f = tt
-
-pub if_err : {T E : Type 0} (r : Result T E) (P Q : E → Type 0) → IfErr r P → ((e : E) → P e → Q e) → IfErr r Q
-if_err (Ok x) P Q p f = tt
-if_err (Err e) P Q p f = f e p
 
 pub or_else : {A B C : Type 0} → A ⊎ B → (B → C) → A ⊎ C
 or_else (inl a) f = inl a

@@ -1,6 +1,5 @@
 -- What holds of a list of incrementals, each of which was checked when it came.
 use Rattle.std.proofs.Common.{◌≡◌, ℕ, ◌≤◌, List, [], ◌++◌, Option, Some, None, is_none, is_some, Bool, true, false, not, ◌&&◌, nat_eq, refl, ap, sym, ◌∙◌, subst, arith}
-use Rattle.std.specs.List.{list_any}
 use Rattle.std.specs.Option.{option_map, option_map_or}
 use Rattle.std.specs.Prelude.{flat_map, nat_lt, nat_le}
 use Rattle.std.proofs.lemmas.Bool.{and_parts, eqb-true, ltb-false, not-false, or_parts}
@@ -18,17 +17,17 @@ use Rattle.pgp_map.specs.Devices.{up_thru}
 use Rattle.pgp_map.specs.Held.{is_group_of, HasGroup}
 use Rattle.pgp_map.specs.HeldLaws.{held_pool-is}
 use Rattle.pgp_lists.specs.Last.{last_where}
-use Rattle.pgp_map.specs.MapFault.{map_fault, then_with, is_pool, is_within, is_kind, is_erasure, are_sizes, are_bad_sizes, has_bad_pool}
+use Rattle.pgp_map.specs.MapFault.{map_fault, then_with, is_pool, is_within, is_kind, is_erasure, are_sizes, are_bad_sizes}
 use Rattle.pgp_map.specs.MapOf.{IsMapOf}
 use Rattle.pgp_map.specs.Pools.{pool, with_sizes, has_group}
 use Rattle.pgp_tables.specs.PoolTable.{or_made}
-use Rattle.pgp_lists.proofs.Bools.{and3_parts, or3_parts}
+use Rattle.pgp_lists.proofs.Bools.{and3_parts}
 use Rattle.pgp_lists.proofs.Last.{last_found}
 use Rattle.pgp_lists.proofs.Options.{none_is}
 use Rattle.pgp_lists.proofs.Taken.{taken-along, taken-front, taken-induction, taken-last, taken-more}
 use Rattle.pgp_map.proofs.DeviceLemmas.{told-push}
 use Rattle.pgp_map.proofs.FaultLemmas.{NoFault, no_fault}
-use Rattle.pgp_map.proofs.MapLemmas.{pool-push, sizes-push}
+use Rattle.pgp_map.proofs.MapLemmas.{pool-push, pools_fine, sizes-push}
 
 -- ---- lists that grow
 
@@ -69,18 +68,12 @@ resized made sizes fits good kept =
     let all = pool_fits made fits in
     rw (all.0, good, same_kind made.kind made.size sizes.size all.2 kept) refl
 
-pools_fine : (incs : List Incremental) (inc : Incremental) → has_bad_pool incs inc ≡ false
-    → (list_any (λ made. not (is_pool made)) inc.pools ≡ false) × (list_any (are_bad_sizes incs) inc.sizes ≡ false)
-pools_fine incs inc e =
-    let all = or3_parts (list_any (λ made. not (is_pool made)) inc.pools) (list_any (are_bad_sizes incs) inc.sizes) _ e in
-    (all.0, all.1)
-
 -- what a pool's sizes can't be, by the pool that is there
 bad_for : PoolSizes → Option PoolSpec → Bool
 bad_for sizes before = option_map_or (λ made. is_erasure made.kind && not (nat_eq made.size sizes.size)) before true
 
 module _ (incs : List Incremental) (inc : Incremental) (id : ℕ) (fine : NoFault incs inc) where
-  made_fine : (made : PoolSpec) → last_where (λ made. nat_eq made.id id) inc.pools ≡ Some made
+  pub made_fine : (made : PoolSpec) → last_where (λ made. nat_eq made.id id) inc.pools ≡ Some made
       → (is_pool made ≡ true) × (is_some (pool incs id) ≡ false)
   made_fine made e =
       let good = last_found (λ made. not (is_pool made)) (λ made. nat_eq made.id id) inc.pools made (pools_fine incs inc fine.pools).0 e in

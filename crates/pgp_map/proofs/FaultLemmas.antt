@@ -6,6 +6,7 @@ use Rattle.pgp_lists.proofs.Options.{if_none}
 use Rattle.pgp_map.specs.MapFault.{map_fault, given_fault, has_epoch_gap, has_twice, has_unknown_device, has_already_up, has_already_down, has_still_up, has_up_thru_back, has_ahead, has_bad_pool, has_pool_known, has_bad_temp}
 
 pub record NoFault (incs : List Incremental) (inc : Incremental) : Type 0 where
+  pub gap : has_epoch_gap incs inc ≡ false
   pub up_thru : has_up_thru_back incs inc ≡ false
   pub pools : has_bad_pool incs inc ≡ false
   pub known : has_pool_known incs inc ≡ false
@@ -26,4 +27,4 @@ no_fault incs inc e =
     let j = if_none (has_bad_pool incs inc) _ _ i.1 in
     let k = if_none (has_pool_known incs inc) _ _ j.1 in
     let l = if_none (has_bad_temp incs inc) _ _ k.1 in
-    record { up_thru = h.0; pools = j.0; known = k.0; temps = l.0; tree = l.1 }
+    record { gap = a.0; up_thru = h.0; pools = j.0; known = k.0; temps = l.0; tree = l.1 }

@@ -30,7 +30,7 @@ use Rattle.pgp_lists.proofs.Bools.{or3_parts}
 use Rattle.pgp_lists.proofs.Lists.{flat_map-push}
 use Rattle.pgp_lists.specs.Repeats.{has_repeat}
 use Rattle.pgp_map.proofs.FaultLemmas.{NoFault}
-use Rattle.pgp_lists.proofs.Last.{last_or-append, last_where-append, last_found}
+use Rattle.pgp_lists.proofs.Last.{last_or-append, last_where-append, last_where-some, last_found}
 
 pub epoch-push : (incs : List Incremental) (inc : Incremental) → epoch (then_with incs inc) ≡ inc.epoch
 epoch-push incs inc = ap (λ (o : Option Incremental). option_map_or (λ i. i.epoch) o 0) (last_or-append None incs (inc ∷ []))
@@ -66,6 +66,14 @@ sizes_of incs id = last_where (λ sizes. nat_eq sizes.pool id) (flat_map (λ inc
 made_of : List Incremental → ℕ → Option PoolSpec
 made_of incs id = last_where (λ made. nat_eq made.id id) (flat_map (λ inc. inc.pools) incs)
 
+-- what isn't some is none
+nothing : {X : Type 0} (o : Option X) → is_some o ≡ false → o ≡ None
+nothing None e = refl
+nothing (Some x) e = cc
+
+pub last_none : {X : Type 0} (test : X → Bool) (xs : List X) → list_any test xs ≡ false → last_where test xs ≡ None
+last_none test xs none = nothing (last_where test xs) (last_where-some test xs ∙ none)
+
 pub pool-push : (incs : List Incremental) (inc : Incremental) (id : ℕ) → has_pool_known incs inc ≡ false
     → (pool incs id ≡ None → last_where (λ sizes. nat_eq sizes.pool id) (flat_map (λ inc. inc.sizes) incs) ≡ None)
     → pool (then_with incs inc) id
@@ -76,12 +84,8 @@ pool-push incs inc id known unsized =
     ∙ joined (last_where (λ sizes. nat_eq sizes.pool id) inc.sizes) (sizes_of incs id) (last_where (λ made. nat_eq made.id id) inc.pools) (made_of incs id)
     (λ (made : PoolSpec) (e : last_where (λ made. nat_eq made.id id) inc.pools ≡ Some made).
     let is = last_found (λ made. is_some (pool incs made.id)) (λ made. nat_eq made.id id) inc.pools made known e in
-    unsized (none (pool incs id) (ap (λ (n : ℕ). is_some (pool incs n)) (sym (eqb-true made.id id is.0)) ∙ is.1)))
+    unsized (nothing (pool incs id) (ap (λ (n : ℕ). is_some (pool incs n)) (sym (eqb-true made.id id is.0)) ∙ is.1)))
   where
-    none : (o : Option PoolSpec) → is_some o ≡ false → o ≡ None
-    none None e = refl
-    none (Some x) e = cc
-
     joined : (z s : Option PoolSizes) (m p : Option PoolSpec) → ((made : PoolSpec) → m ≡ Some made → s ≡ None)
         → option_map (with_sizes (option_or z s)) (option_or m p) ≡ option_map (with_sizes z) (or_made m (option_map (with_sizes s) p))
     joined None None (Some m) p unsized = refl
@@ -111,7 +115,7 @@ temp-push incs inc pg fine =
     is None d whole = refl
     is (Some given) d whole = sym (whole given refl)
 
-pools_fine : (incs : List Incremental) (inc : Incremental) → has_bad_pool incs inc ≡ false
+pub pools_fine : (incs : List Incremental) (inc : Incremental) → has_bad_pool incs inc ≡ false
     → (list_any (λ made. not (is_pool made)) inc.pools ≡ false) × (list_any (are_bad_sizes incs) inc.sizes ≡ false)
     × (nat_lt 16384 (group_count incs + sum_by (λ made. made.pg_num) inc.pools) ≡ false)
 pools_fine incs inc e =

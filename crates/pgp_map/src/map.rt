@@ -1,6 +1,6 @@
 //! The cluster map.
 
-ghost use Rattle.std.specs.Prelude.{◌≡◌, ◌≤◌, ℕ, List, [], Some, None, OnOk, OnErr, IfOk, IfErr, ◌⊎◌, option_copied, option_map, map, length, nat_eq, ◌++◌};
+ghost use Rattle.std.specs.Prelude.{◌≡◌, ◌≤◌, ℕ, List, [], Some, None, OnOk, OnErr, IfOk, IfErr, ◌⊎◌, option_copied, option_map, map, length, false};
 ghost use Rattle.pgp_crush.specs.Bucket.{bucket_of};
 ghost use Rattle.pgp_map.specs.Room.{HasRoom};
 ghost use Rattle.pgp_map.specs.MapOf.{IsMapOf, Says};
@@ -8,9 +8,7 @@ ghost use Rattle.pgp_map.specs.Held.{held_exists, held_up, held_lost_at, held_po
 ghost use Rattle.pgp_map.specs.Devices.{exists, is_up, up_from, down_at, up_thru, lost_at, weight, weights};
 ghost use Rattle.pgp_map.specs.Pools.{pool, temp};
 ghost use Rattle.pgp_map.specs.Map.{epoch, tree};
-ghost use Rattle.pgp_map.specs.MapFault.{map_fault, given_fault, then_with, has_epoch_gap, has_unknown_device, has_already_up, has_already_down, has_still_up, has_up_thru_back, has_ahead, has_bad_pool, has_pool_known, told_devices};
-ghost use Rattle.std.specs.HashSet as bag;
-ghost use Rattle.std.specs.List.{list_any};
+ghost use Rattle.pgp_map.specs.MapFault.{map_fault, given_fault, then_with, has_epoch_gap, has_unknown_device, has_still_up, has_ahead, has_bad_pool, has_pool_known, has_bad_temp};
 ghost use Rattle.pgp_map.specs.Findings.{AreFindings};
 
 use super::fault::MapFault;
@@ -22,7 +20,7 @@ use pgp_crush::Tree;
 use pgp_ids::{Epoch, Incremental, OsdId, Osds, PgId, PoolId, PoolSpec};
 use pgp_tables::{Device, devices, pools, temps};
 use std::alloc::{AllocError, Global};
-use std::collections::{HashMap, HashSet};
+use std::collections::HashMap;
 
 /// How many groups the pools have at most, in all.
 const MAX_GROUPS: u32 = 16384;
@@ -65,41 +63,31 @@ impl OsdMap {
         ensures tree { OnOk result (given_fault inc.now.crush ≡ None) }
         ensures fault { IfErr result (λ fault. (fault ≡ MapFault.Memory) ⊎ Says self.now (λ incs. map_fault incs inc.now ≡ Some fault)) }
     {
-        let findings = self.findings(inc)?;
-        if let Some(fault) = findings.first() {
-            return Err(fault);
+        match self.findings(inc)?.first() {
+            Some(fault) => Err(fault),
+            None => check_tree(self.alloc, &inc.crush),
         }
-        check_tree(self.alloc, &inc.crush)
     }
 
     /// The tests that the incremental fails, its tree aside.
     fn findings(&self, inc: &Incremental) -> Result<Findings, AllocError>
         ensures { IfOk result (λ findings. Says self.now (λ incs. AreFindings incs inc.now findings)) }
     {
-        let boots = repeats::set_of(self.alloc, inc.up.as_slice())?;
-        let falls = repeats::falling_devices(self.alloc, inc)?;
-        let told = repeats::told_devices(self.alloc, inc)?;
-        let made = temp_check::made_by_id(self.alloc, inc.pools.as_slice())?;
-        let sizes = temp_check::sizes_by_pool(self.alloc, inc.sizes.as_slice())?;
         let twice = repeats::has_twice(self.alloc, inc)?;
-        let bad_temp = temp_check::has_bad_temp(
-            self.alloc,
-            &self.pools,
-            &made,
-            &sizes,
-            inc.temp.as_slice(),
-        )?;
+        let unknown_device = self.has_unknown_device(inc)?;
+        let still_up = self.has_still_up(inc)?;
+        let bad_temp = self.has_bad_temp(inc)?;
         Ok(Findings {
             epoch_gap: self.has_epoch_gap(inc),
             twice,
-            unknown_device: self.has_unknown_device(inc, &boots, &told),
-            already_up: self.has_already_up(inc),
-            already_down: self.has_already_down(inc),
-            still_up: self.has_still_up(inc, &boots, &falls),
-            up_thru_back: self.has_up_thru_back(inc),
+            unknown_device,
+            already_up: standing::has_up(&self.devices, inc.up.as_slice()),
+            already_down: standing::has_down(&self.devices, inc.down.as_slice()),
+            still_up,
+            up_thru_back: standing::has_up_thru_back(&self.devices, inc.up_thru.as_slice()),
             ahead: has_ahead(inc),
             bad_pool: self.has_bad_pool(inc),
-            pool_known: self.has_pool_known(inc),
+            pool_known: ranges::has_known(&self.pools, inc.pools.as_slice()),
             bad_temp,
         })
     }
@@ -111,72 +99,44 @@ impl OsdMap {
         u64::from(inc.epoch.number()) != u64::from(self.epoch.number()) + 1
     }
 
-    /// A device of `told`, which down, gone, weight, up_thru and lost name, is absent and isn't one of those that boot.
-    fn has_unknown_device(&self, inc: &Incremental, boots: &HashSet<OsdId>, told: &[OsdId]) -> bool
-        requires boots { (q : ℕ) → bag.contains nat_eq boots.now q ≡ list_any (nat_eq q) inc.now.up }
-        requires told { told.now ≡ told_devices inc.now }
-        ensures { Says self.now (λ incs. result ≡ has_unknown_device incs inc.now) }
+    /// Down, gone, weight, up_thru or lost names a device that is absent and doesn't boot.
+    fn has_unknown_device(&self, inc: &Incremental) -> Result<bool, AllocError>
+        ensures { IfOk result (λ unknown. Says self.now (λ incs. unknown ≡ has_unknown_device incs inc.now)) }
     {
-        standing::has_unknown(&self.devices, boots, told)
-    }
-
-    /// A device boots that is up.
-    fn has_already_up(&self, inc: &Incremental) -> bool
-        ensures { Says self.now (λ incs. result ≡ has_already_up incs inc.now) }
-    {
-        standing::has_up(&self.devices, inc.up.as_slice())
-    }
-
-    /// A device is taken down that is there and down.
-    fn has_already_down(&self, inc: &Incremental) -> bool
-        ensures { Says self.now (λ incs. result ≡ has_already_down incs inc.now) }
-    {
-        standing::has_down(&self.devices, inc.down.as_slice())
+        let boots = repeats::set_of(self.alloc, inc.up.as_slice())?;
+        let told = repeats::told_devices(self.alloc, inc)?;
+        Ok(standing::has_unknown(&self.devices, &boots, &told))
     }
 
     /// A device is destroyed that is up, or given up for lost that is up in the new map.
-    fn has_still_up(
-        &self,
-        inc: &Incremental,
-        boots: &HashSet<OsdId>,
-        falls: &HashSet<OsdId>,
-    ) -> bool
-        requires boots { (q : ℕ) → bag.contains nat_eq boots.now q ≡ list_any (nat_eq q) inc.now.up }
-        requires falls { (q : ℕ) → bag.contains nat_eq falls.now q ≡ list_any (nat_eq q) (inc.now.down ++ inc.now.gone) }
-        ensures { Says self.now (λ incs. result ≡ has_still_up incs inc.now) }
+    fn has_still_up(&self, inc: &Incremental) -> Result<bool, AllocError>
+        ensures { IfOk result (λ up. Says self.now (λ incs. up ≡ has_still_up incs inc.now)) }
     {
-        if standing::has_up(&self.devices, inc.gone.as_slice()) {
-            return true;
-        }
-        standing::has_lost_up(&self.devices, boots, falls, inc.lost.as_slice())
+        let boots = repeats::set_of(self.alloc, inc.up.as_slice())?;
+        let falls = repeats::falling_set(self.alloc, inc)?;
+        let destroyed = standing::has_up(&self.devices, inc.gone.as_slice());
+        let lost = standing::has_lost_up(&self.devices, &boots, &falls, inc.lost.as_slice());
+        Ok(destroyed || lost)
     }
 
-    /// An up_thru is below that of its device.
-    fn has_up_thru_back(&self, inc: &Incremental) -> bool
-        ensures { Says self.now (λ incs. result ≡ has_up_thru_back incs inc.now) }
+    /// A group is given a list that it can't have in the new map, by pools that aren't known.
+    fn has_bad_temp(&self, inc: &Incremental) -> Result<bool, AllocError>
+        ensures { IfOk result (λ bad. Says self.now (λ incs. has_pool_known incs inc.now ≡ false → bad ≡ has_bad_temp incs inc.now)) }
     {
-        standing::has_up_thru_back(&self.devices, inc.up_thru.as_slice())
-    }
-
-    /// A pool is made that is there.
-    fn has_pool_known(&self, inc: &Incremental) -> bool
-        ensures { Says self.now (λ incs. result ≡ has_pool_known incs inc.now) }
-    {
-        ranges::has_known(&self.pools, inc.pools.as_slice())
+        let made = temp_check::made_by_id(self.alloc, inc.pools.as_slice())?;
+        let sizes = temp_check::sizes_by_pool(self.alloc, inc.sizes.as_slice())?;
+        let temps = inc.temp.as_slice();
+        temp_check::has_bad_temp(self.alloc, &self.pools, &made, &sizes, temps)
     }
 
     /// A pool is made of numbers out of range or given sizes to which it can't change, or there are too many groups.
     fn has_bad_pool(&self, inc: &Incremental) -> bool
         ensures { Says self.now (λ incs. result ≡ has_bad_pool incs inc.now) }
     {
-        if ranges::has_bad_spec(inc.pools.as_slice()) {
-            return true;
-        }
-        if ranges::has_bad_sizes(&self.pools, inc.sizes.as_slice()) {
-            return true;
-        }
         let made = pools::group_sum(inc.pools.as_slice());
-        self.group_count.saturating_add(made) > MAX_GROUPS
+        ranges::has_bad_spec(inc.pools.as_slice())
+            || ranges::has_bad_sizes(&self.pools, inc.sizes.as_slice())
+            || self.group_count.saturating_add(made) > MAX_GROUPS
     }
 
     /// Makes this the map after the incremental, which [`OsdMap::check`] doesn't refuse. After an error the map says what
@@ -295,10 +255,7 @@ impl OsdMap {
         ensures held { result ≡ held_pool self.now id }
         ensures value { Says self.now (λ incs. result ≡ pool incs id) }
     {
-        match self.pools.get(&id) {
-            Some(pool) => Some(*pool),
-            None => None,
-        }
+        self.pools.get(&id).copied()
     }
 
     /// The group's pg_temp list; empty if it has none.
@@ -321,8 +278,6 @@ impl OsdMap {
 fn has_ahead(inc: &Incremental) -> bool
     ensures { result ≡ has_ahead inc.now }
 {
-    if standing::has_ahead(inc.epoch, inc.up_thru.as_slice()) {
-        return true;
-    }
-    standing::has_ahead(inc.epoch, inc.lost.as_slice())
+    standing::has_ahead(inc.epoch, inc.up_thru.as_slice())
+        || standing::has_ahead(inc.epoch, inc.lost.as_slice())
 }

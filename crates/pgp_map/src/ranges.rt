@@ -63,41 +63,19 @@ fn are_bad_sizes(table: &HashMap<PoolId, PoolSpec>, given: &PoolSizes) -> bool
 pub(crate) fn has_bad_spec(made: &[PoolSpec]) -> bool
     ensures { result ≡ list_any (λ pool. not (is_pool pool)) made.now }
 {
-    for pool in made {
-        if !is_pool(pool) {
-            return true;
-        }
-    }
-    false
+    made.iter().any(|pool| !is_pool(pool))
 }
 
 /// A pool is given sizes to which it can't change.
 pub(crate) fn has_bad_sizes(table: &HashMap<PoolId, PoolSpec>, sizes: &[PoolSizes]) -> bool
     ensures { result ≡ list_any (λ given. not (are_sizes given.size given.min_size) || option_map_or (λ made. is_erasure made.kind && not (nat_eq made.size given.size)) (hash.get nat_eq table.now given.pool) true) sizes.now }
 {
-    for given in sizes {
-        if are_bad_sizes(table, given) {
-            return true;
-        }
-    }
-    false
-}
-
-/// The pool is there.
-fn is_known(table: &HashMap<PoolId, PoolSpec>, made: &PoolSpec) -> bool
-    ensures { result ≡ is_some (hash.get nat_eq table.now made.now.id) }
-{
-    table.contains_key(&made.id)
+    sizes.iter().any(|given| are_bad_sizes(table, given))
 }
 
 /// A pool is made that is there.
 pub(crate) fn has_known(table: &HashMap<PoolId, PoolSpec>, made: &[PoolSpec]) -> bool
     ensures { result ≡ list_any (λ pool. is_some (hash.get nat_eq table.now pool.id)) made.now }
 {
-    for pool in made {
-        if is_known(table, pool) {
-            return true;
-        }
-    }
-    false
+    made.iter().any(|pool| table.contains_key(&pool.id))
 }

@@ -1,6 +1,6 @@
 //! Lists in which an item stands twice.
 
-ghost use Rattle.std.specs.Prelude.{◌≡◌, ℕ, ◌++◌, map, nat_eq, IfOk};
+ghost use Rattle.std.specs.Prelude.{◌≡◌, ℕ, ◌++◌, map, nat_eq, IfOk, OnOk};
 ghost use Rattle.std.specs.List.{list_any};
 ghost use Rattle.std.specs.HashSet as bag;
 ghost use Rattle.pgp_lists.specs.Repeats.{has_repeat};
@@ -42,7 +42,8 @@ fn changes_twice(alloc: Global, inc: &Incremental) -> Result<bool, AllocError>
 fn weighs_twice(alloc: Global, weights: &[DeviceWeight]) -> Result<bool, AllocError>
     ensures { IfOk result (λ twice. twice ≡ has_repeat nat_eq (map (λ entry. entry.osd) weights.now)) }
 {
-    let osds = weighed_devices(alloc, weights)?;
+    let mut osds = Vec::new(alloc);
+    push_weighed(&mut osds, weights)?;
     has_repeat(alloc, &osds)
 }
 
@@ -50,7 +51,8 @@ fn weighs_twice(alloc: Global, weights: &[DeviceWeight]) -> Result<bool, AllocEr
 fn tells_twice(alloc: Global, told: &[DeviceEpoch]) -> Result<bool, AllocError>
     ensures { IfOk result (λ twice. twice ≡ has_repeat nat_eq (map (λ entry. entry.osd) told.now)) }
 {
-    let osds = named_devices(alloc, told)?;
+    let mut osds = Vec::new(alloc);
+    push_told(&mut osds, told)?;
     has_repeat(alloc, &osds)
 }
 
@@ -58,7 +60,10 @@ fn tells_twice(alloc: Global, told: &[DeviceEpoch]) -> Result<bool, AllocError>
 fn sizes_twice(alloc: Global, made: &[PoolSpec], sizes: &[PoolSizes]) -> Result<bool, AllocError>
     ensures { IfOk result (λ twice. twice ≡ has_repeat nat_eq (map (λ pool. pool.id) made.now ++ map (λ given. given.pool) sizes.now)) }
 {
-    let pools = named_pools(alloc, made, sizes)?;
+    let mut pools = made_pools(alloc, made)?;
+    for given in sizes {
+        pools.push(given.pool)?;
+    }
     has_repeat(alloc, &pools)
 }
 
@@ -77,52 +82,31 @@ fn lists_twice(alloc: Global, temps: &[TempList]) -> Result<bool, AllocError>
 pub(crate) fn told_devices(alloc: Global, inc: &Incremental) -> Result<Vec<OsdId>, AllocError>
     ensures { IfOk result (λ osds. osds.items ≡ told_devices inc.now) }
 {
-    let weighed = weighed_devices(alloc, inc.weight.as_slice())?;
-    let seen = named_devices(alloc, inc.up_thru.as_slice())?;
-    let lost = named_devices(alloc, inc.lost.as_slice())?;
-    let mut osds = Vec::from_slice(alloc, inc.down.as_slice())?;
-    osds.extend_from_slice(inc.gone.as_slice())?;
-    osds.extend_from_slice(&weighed)?;
-    osds.extend_from_slice(&seen)?;
-    osds.extend_from_slice(&lost)?;
+    let mut osds = falling(alloc, inc)?;
+    push_weighed(&mut osds, inc.weight.as_slice())?;
+    push_told(&mut osds, inc.up_thru.as_slice())?;
+    push_told(&mut osds, inc.lost.as_slice())?;
     Ok(osds)
 }
 
-/// The devices that are given weights.
-fn weighed_devices(alloc: Global, weights: &[DeviceWeight]) -> Result<Vec<OsdId>, AllocError>
-    ensures { IfOk result (λ osds. osds.items ≡ map (λ entry. entry.osd) weights.now) }
+/// Appends the devices that are given weights.
+fn push_weighed(osds: &mut Vec<OsdId>, weights: &[DeviceWeight]) -> Result<(), AllocError>
+    ensures { OnOk result (osds.new.items ≡ osds.old.items ++ map (λ entry. entry.osd) weights.now) }
 {
-    let mut osds = Vec::new(alloc);
     for entry in weights {
         osds.push(entry.osd)?;
     }
-    Ok(osds)
+    Ok(())
 }
 
-/// The devices of which epochs are told.
-fn named_devices(alloc: Global, told: &[DeviceEpoch]) -> Result<Vec<OsdId>, AllocError>
-    ensures { IfOk result (λ osds. osds.items ≡ map (λ entry. entry.osd) told.now) }
+/// Appends the devices of which epochs are told.
+fn push_told(osds: &mut Vec<OsdId>, told: &[DeviceEpoch]) -> Result<(), AllocError>
+    ensures { OnOk result (osds.new.items ≡ osds.old.items ++ map (λ entry. entry.osd) told.now) }
 {
-    let mut osds = Vec::new(alloc);
     for entry in told {
         osds.push(entry.osd)?;
     }
-    Ok(osds)
-}
-
-/// The pools that are made or given sizes.
-fn named_pools(
-    alloc: Global,
-    made: &[PoolSpec],
-    sizes: &[PoolSizes],
-) -> Result<Vec<PoolId>, AllocError>
-    ensures { IfOk result (λ pools. pools.items ≡ map (λ pool. pool.id) made.now ++ map (λ given. given.pool) sizes.now) }
-{
-    let mut pools = made_pools(alloc, made)?;
-    for given in sizes {
-        pools.push(given.pool)?;
-    }
-    Ok(pools)
+    Ok(())
 }
 
 /// The pools that are made.
@@ -136,15 +120,20 @@ fn made_pools(alloc: Global, made: &[PoolSpec]) -> Result<Vec<PoolId>, AllocErro
     Ok(pools)
 }
 
-/// The set of the devices that are taken down or destroyed.
-pub(crate) fn falling_devices(
-    alloc: Global,
-    inc: &Incremental,
-) -> Result<HashSet<OsdId>, AllocError>
-    ensures { IfOk result (λ set. (q : ℕ) → bag.contains nat_eq set q ≡ list_any (nat_eq q) (inc.now.down ++ inc.now.gone)) }
+/// The devices that are taken down or destroyed.
+fn falling(alloc: Global, inc: &Incremental) -> Result<Vec<OsdId>, AllocError>
+    ensures { IfOk result (λ osds. osds.items ≡ inc.now.down ++ inc.now.gone) }
 {
     let mut osds = Vec::from_slice(alloc, inc.down.as_slice())?;
     osds.extend_from_slice(inc.gone.as_slice())?;
+    Ok(osds)
+}
+
+/// The set of the devices that are taken down or destroyed.
+pub(crate) fn falling_set(alloc: Global, inc: &Incremental) -> Result<HashSet<OsdId>, AllocError>
+    ensures { IfOk result (λ set. (q : ℕ) → bag.contains nat_eq set q ≡ list_any (nat_eq q) (inc.now.down ++ inc.now.gone)) }
+{
+    let osds = falling(alloc, inc)?;
     set_of(alloc, &osds)
 }
 

@@ -18,37 +18,24 @@ pub(crate) fn has_unknown(
 ) -> bool
     ensures { result ≡ list_any (λ osd. not ((device_at table.now osd).exists || bag.contains nat_eq boots.now osd)) osds.now }
 {
-    for osd in osds {
-        if !(device_at(table, *osd).exists || boots.contains(osd)) {
-            return true;
-        }
-    }
-    false
+    osds.iter().any(|osd| !(device_at(table, *osd).exists || boots.contains(osd)))
 }
 
 /// A device is up.
 pub(crate) fn has_up(table: &HashMap<OsdId, Device>, osds: &[OsdId]) -> bool
     ensures { result ≡ list_any (λ osd. (device_at table.now osd).is_up) osds.now }
 {
-    for osd in osds {
-        if device_at(table, *osd).is_up {
-            return true;
-        }
-    }
-    false
+    osds.iter().any(|osd| device_at(table, *osd).is_up)
 }
 
 /// A device exists and is down.
 pub(crate) fn has_down(table: &HashMap<OsdId, Device>, osds: &[OsdId]) -> bool
     ensures { result ≡ list_any (λ osd. (device_at table.now osd).exists && not (device_at table.now osd).is_up) osds.now }
 {
-    for osd in osds {
+    osds.iter().any(|osd| {
         let device = device_at(table, *osd);
-        if device.exists && !device.is_up {
-            return true;
-        }
-    }
-    false
+        device.exists && !device.is_up
+    })
 }
 
 /// A device is given up for lost that is up after some boot and others fall.
@@ -60,36 +47,23 @@ pub(crate) fn has_lost_up(
 ) -> bool
     ensures { result ≡ list_any (λ entry. bag.contains nat_eq boots.now entry.osd || not (bag.contains nat_eq falls.now entry.osd) && (device_at table.now entry.osd).is_up) told.now }
 {
-    for entry in told {
-        if boots.contains(&entry.osd)
+    told.iter().any(|entry| {
+        boots.contains(&entry.osd)
             || !falls.contains(&entry.osd) && device_at(table, entry.osd).is_up
-        {
-            return true;
-        }
-    }
-    false
+    })
 }
 
 /// An up_thru is below that of its device.
 pub(crate) fn has_up_thru_back(table: &HashMap<OsdId, Device>, told: &[DeviceEpoch]) -> bool
     ensures { result ≡ list_any (λ entry. nat_lt entry.epoch (device_at table.now entry.osd).up_thru) told.now }
 {
-    for entry in told {
-        if entry.epoch.number() < device_at(table, entry.osd).up_thru.number() {
-            return true;
-        }
-    }
-    false
+    told.iter()
+        .any(|entry| entry.epoch < device_at(table, entry.osd).up_thru)
 }
 
 /// An epoch is above this one.
 pub(crate) fn has_ahead(epoch: Epoch, told: &[DeviceEpoch]) -> bool
     ensures { result ≡ list_any (λ entry. nat_lt epoch entry.epoch) told.now }
 {
-    for entry in told {
-        if entry.epoch.number() > epoch.number() {
-            return true;
-        }
-    }
-    false
+    told.iter().any(|entry| entry.epoch > epoch)
 }

@@ -79,12 +79,7 @@ fn devices_of(alloc: Global, places: &[Option<OsdId>]) -> Result<Vec<OsdId>, All
 fn has_empty_place(places: &[Option<OsdId>]) -> bool
     ensures { result ≡ list_any is_none places.now }
 {
-    for place in places {
-        if place.is_none() {
-            return true;
-        }
-    }
-    false
+    places.iter().any(|place| place.is_none())
 }
 
 /// The pool can't have such a list.

@@ -27,7 +27,7 @@ pub(crate) struct Weights {
 impl Weights {
     /// All devices are fully in.
     pub fn new(alloc: Global) -> Self
-        ensures { (q : ℕ) → weight_in result.table.items q ≡ 65536 }
+        ensures { (q : ℕ) → weight_in result.table.items q ≡ FULL }
     {
         Weights {
             alloc,
@@ -37,8 +37,8 @@ impl Weights {
 
     /// The weights of the devices 0 to 4095.
     pub fn as_slice(&self) -> &[u32]
-        ensures long { length result.now ≡ 4096 }
-        ensures value { (q : ℕ) → q < 4096 → slice_index_or result.now q 65536 ≡ weight_in self.now.table.items q }
+        ensures long { length result.now ≡ DEVICES }
+        ensures value { (q : ℕ) → q < DEVICES → slice_index_or result.now q FULL ≡ weight_in self.now.table.items q }
     {
         if self.table.is_empty() {
             &ALL_FULL
@@ -51,16 +51,14 @@ impl Weights {
     pub fn weight(&self, osd: OsdId) -> u32
         ensures { result ≡ weight_in self.now.table.items osd }
     {
-        match self.table.get(usize::from(osd.number())) {
-            Some(weight) => *weight,
-            None => FULL,
-        }
+        let weight = self.table.get(usize::from(osd.number()));
+        weight.copied().unwrap_or(FULL)
     }
 
     /// Takes the memory for the table, if it has none and will need it for these weights.
     pub fn place(&mut self, given: &[DeviceWeight]) -> Result<(), AllocError>
         ensures same { (q : ℕ) → weight_in self.new.table.items q ≡ weight_in self.old.table.items q }
-        ensures placed { OnOk result (0 < length given.now → length self.new.table.items ≡ 4096) }
+        ensures placed { OnOk result (0 < length given.now → length self.new.table.items ≡ DEVICES) }
     {
         if self.table.is_empty() && !given.is_empty() {
             self.table = vec![in self.alloc; FULL; DEVICES]?;
@@ -70,7 +68,7 @@ impl Weights {
 
     /// Gives these weights. The table is there, if there are any.
     pub fn set_all(&mut self, given: &[DeviceWeight])
-        requires { 0 < length given.now → length self.old.table.items ≡ 4096 }
+        requires { 0 < length given.now → length self.old.table.items ≡ DEVICES }
         ensures { (q : ℕ) → weight_in self.new.table.items q ≡ with_weight (last_where (λ entry. nat_eq entry.osd q) given.now) (weight_in self.old.table.items q) }
     {
         for entry in given {

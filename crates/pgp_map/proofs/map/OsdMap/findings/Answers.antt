@@ -1,25 +1,18 @@
-use Rattle.std.proofs.Common.{◌∙◌, nat_eq}
-use Rattle.std.specs.HashMap as hash
-use Rattle.std.specs.Prelude.{option_map}
-use Rattle.pgp_map.specs.Pools.{with_sizes}
-use Rattle.pgp_tables.specs.PoolTable.{or_made, new_pool}
-use Rattle.pgp_map.proofs.CheckLemmas.{temps-are}
+use Rattle.std.proofs.Common.{◌∙◌}
+use Rattle.pgp_map.proofs.CheckLemmas.{has_up-is, has_down-is, has_back-is, has_known-is}
 use Rattle.pgp_map.proofs.map.OsdMap.findings.Goals as goal
 
 pub returns : goal.returns
 returns c = λ incs is. record {
   epoch_gap_is = c.has_epoch_gap.ensures incs is;
   twice_is = c.in_ok-twice.ensures;
-  unknown_device_is = c.has_unknown_device.ensures incs is;
-  already_up_is = c.has_already_up.ensures incs is;
-  already_down_is = c.has_already_down.ensures incs is;
-  still_up_is = c.has_still_up.ensures incs is;
-  up_thru_back_is = c.has_up_thru_back.ensures incs is;
+  unknown_device_is = c.in_ok-unknown_device.ensures incs is;
+  already_up_is = simp c.as_slice.ensures at c.has_up.ensures ∙ has_up-is incs c.args.self.now is c.args.inc.now.up;
+  already_down_is = simp c.as_slice-2.ensures at c.has_down.ensures ∙ has_down-is incs c.args.self.now is c.args.inc.now.down;
+  still_up_is = c.in_ok-still_up.ensures incs is;
+  up_thru_back_is = simp c.as_slice-3.ensures at c.has_up_thru_back.ensures ∙ has_back-is incs c.args.self.now is c.args.inc.now.up_thru;
   ahead_is = c.has_ahead.ensures;
   bad_pool_is = c.has_bad_pool.ensures incs is;
-  pool_known_is = c.has_pool_known.ensures incs is;
-  bad_temp_is = λ known. simp c.as_slice-4.ensures at c.in_ok-bad_temp.ensures
-      ∙ temps-are incs c.args.inc.now c.args.self.now (new_pool c.args.self.now.pools c.in_ok-made.made c.in_ok-sizes.sizes) is known
-      (λ id. λ i. option_map (with_sizes ((simp c.as_slice-3.ensures at (c.in_ok-sizes.ensures id)) i))
-      (or_made ((simp c.as_slice-2.ensures at (c.in_ok-made.ensures id)) i) (hash.get nat_eq c.args.self.now.pools id)));
+  pool_known_is = simp c.as_slice-4.ensures at c.has_known.ensures ∙ has_known-is incs c.args.self.now is c.args.inc.now.pools;
+  bad_temp_is = c.in_ok-bad_temp.ensures incs is;
 }

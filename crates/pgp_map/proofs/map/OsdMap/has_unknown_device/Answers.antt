@@ -5,5 +5,6 @@ use Rattle.pgp_map.proofs.CheckLemmas.{has_unknown-is}
 use Rattle.pgp_map.proofs.map.OsdMap.has_unknown_device.Goals as goal
 
 pub returns : goal.returns
-returns c = λ incs is. simp c.requires.told at c.has_unknown.ensures
-    ∙ has_unknown-is incs c.args.self.now is c.args.inc.now (bag.contains nat_eq c.args.boots.now) (told_devices c.args.inc.now) c.requires.boots
+returns c = λ incs is. simp (c.deref.ensures.value, c.in_ok-told.ensures) at c.has_unknown.ensures
+    ∙ has_unknown-is incs c.args.self.now is c.args.inc.now (bag.contains nat_eq c.in_ok-boots.boots) (told_devices c.args.inc.now)
+    (λ q. simp c.as_slice.ensures at (c.in_ok-boots.ensures q))
