@@ -1,10 +1,11 @@
 -- The tests of a list of buckets.
-use Rattle.std.proofs.Common.{◌≡◌, ◌<◌, ℕ, ◌+◌, ◌-◌, zero, suc, ℤ, List, [], ◌∷◌, ◌++◌, length, map, drop, get_or, slice_get, Bool, true, false, cond, not, ◌||◌, nat_lt, nat_eq, refl, arith, ap, sym, ◌∙◌, add-one, Option, Some, None}
+use Rattle.std.proofs.Common.{◌≡◌, ◌<◌, ℕ, ◌+◌, ◌-◌, zero, suc, ℤ, List, [], ◌∷◌, ◌++◌, length, map, drop, get_or, slice_get, Bool, true, false, cond, not, ◌||◌, nat_lt, nat_eq, inl, inr, refl, arith, ap, sym, ◌∙◌, add-one, Option, Some, None}
 use Rattle.std.specs.List.{list_any, find, flat_map, filter, count_by}
 use Rattle.std.specs.Ordering.{int_eq}
 use Rattle.std.proofs.lemmas.List.Elements.{filter_agree}
 use Rattle.std.proofs.lemmas.List.Folds.{list_any-append}
 use Rattle.std.proofs.lemmas.List.Sums.{sum_by-cons}
+use Rattle.std.proofs.lemmas.Bool.{cases_Bool}
 use Rattle.std.proofs.lemmas.Bool.Decides.{nat_tests}
 use Rattle.pgp_ids.specs.declared.bucket.BucketSpec.{BucketSpec}
 use Rattle.pgp_crush.specs.declared.fault.TreeFault.{TreeFault}
@@ -12,46 +13,23 @@ use Rattle.pgp_crush.specs.declared.fault.TreeFault.TheVariants.{NoRoot}
 use Rattle.pgp_crush.specs.Bucket.{Bucket, bucket_of, is_held, root_of}
 use Rattle.pgp_crush.specs.TreeFault.{items_of, has_no_root, below_levels, is_too_deep, fault_below_root, tree_fault}
 
-pub items_of-map : (buckets : List BucketSpec) → flat_map (λ b. b.items) buckets ≡ items_of (map bucket_of buckets)
-items_of-map [] = refl
-items_of-map (b ∷ buckets) = ap (λ (items : List ℤ). b.items ++ items) (items_of-map buckets)
-
-pub ids-map : (buckets : List BucketSpec) → map (λ b. b.id) buckets ≡ map (λ b. b.id) (map bucket_of buckets)
-ids-map [] = refl
-ids-map (b ∷ buckets) = ap (λ (ids : List ℤ). b.id ∷ ids) (ids-map buckets)
-
 -- an item is held exactly if it is an item of some bucket
 pub is_held_is : (tree : List Bucket) (item : ℤ) → is_held tree item ≡ list_any (int_eq item) (items_of tree)
 is_held_is [] item = refl
 is_held_is (b ∷ tree) item =
     ap (λ (t : Bool). list_any (int_eq item) b.items || t) (is_held_is tree item) ∙ sym (list_any-append (int_eq item) b.items (items_of tree))
 
--- a search down a list has come to one that passes
-pub find-here : (test : Bucket → Bool) (buckets : List BucketSpec) (k : ℕ) (b : BucketSpec) → k < length buckets → b ≡ get_or buckets k b →
-    test (bucket_of b) ≡ true → find test (map bucket_of (drop k buckets)) ≡ slice_get (map bucket_of buckets) k
-find-here test [] k b h is pass = absurd (omega arith)
-find-here test (x ∷ buckets) zero b h is pass =
-    ap (λ (t : Bool). cond t (Some (bucket_of x)) (find test (map bucket_of buckets))) (ap (λ (y : BucketSpec). test (bucket_of y)) (sym is) ∙ pass)
-find-here test (x ∷ buckets) (suc k) b h is pass = find-here test buckets k b (omega arith) is pass
+-- where none passes the count is 0
+pub none-counted : {X : Type 0} (test : X → Bool) (xs : List X) → find test xs ≡ None → count_by test xs ≡ 0
+none-counted test [] h = refl
+none-counted test (x ∷ xs) h = sum_by-cons (λ x. cond (test x) 1 0) x xs ∙ elim (cases_Bool (test x)) [
+  | inl passes ↦ (let never : Some x ≡ None = rw passes at h in cc)
+  | inr fails ↦ (let none : count_by test xs ≡ 0 = none-counted test xs (rw fails at h) in rw fails (omega arith))
+]
 
--- none passes
-pub find-none : (test : Bucket → Bool) (tree : List Bucket) → find test tree ≡ None → count_by test tree ≡ 0
-find-none test [] h = refl
-find-none test (b ∷ tree) h =
-    sum_by-cons (λ x. cond (test x) 1 0) b tree ∙ by_test (test b) h (find-none test tree)
-  where
-    by_test : (t : Bool) → cond t (Some b) (find test tree) ≡ None → (find test tree ≡ None → count_by test tree ≡ 0) → cond t 1 0 + count_by test tree ≡ 0
-    by_test true h rest = cc
-    by_test false h rest = let none : count_by test tree ≡ 0 = rest h in omega arith
-
-pub any-filter : (test : Bucket → Bool) (tree : List Bucket) → nat_lt 0 (length (filter test tree)) ≡ list_any test tree
+pub any-filter : {X : Type 0} (test : X → Bool) (xs : List X) → nat_lt 0 (length (filter test xs)) ≡ list_any test xs
 any-filter test [] = refl
-any-filter test (b ∷ tree) = by_test (test b) (any-filter test tree)
-  where
-    by_test : (t : Bool) → nat_lt 0 (length (filter test tree)) ≡ list_any test tree →
-        nat_lt 0 (length (cond t (b ∷ filter test tree) (filter test tree))) ≡ (t || list_any test tree)
-    by_test true h = grind (arith, nat_tests)
-    by_test false h = h
+any-filter test (x ∷ xs) = elim (cases_Bool (test x)) [ inl passes ↦ rw passes (grind (arith, nat_tests)) | inr fails ↦ rw fails (any-filter test xs) ]
 
 pub below_levels-zero : (tree : List Bucket) → below_levels tree 0 ≡ tree
 unfolding below_levels
@@ -90,10 +68,6 @@ pub not_too_deep : (tree : List Bucket) (k : ℕ) → k < 10 → items_of (below
 not_too_deep tree k h none =
     let level : 10 ≡ suc (9 - k) + k = omega arith in
     ap (λ (below : List Bucket). nat_lt 0 (length below)) (ap (below_levels tree) level ∙ below_levels-none tree k (9 - k) none)
-
-pub no_root_found : (tree : List Bucket) (at : Option Bucket) → root_of tree ≡ at → at ≡ None → has_no_root tree ≡ true
-no_root_found tree at e none =
-    ap (λ (k : ℕ). not (nat_eq k 1)) (find-none (λ b. not (is_held tree b.id)) tree (e ∙ none))
 
 -- The first fault of a list.
 

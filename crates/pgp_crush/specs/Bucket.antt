@@ -1,6 +1,6 @@
 -- The buckets of a placement tree as plain data, and how an item names one of them.
 use Rattle.std.specs.Prelude.{ℕ, ℤ, List, Bool, false, not, Option, nat_eq, if◌then◌else◌}
-use Rattle.std.specs.List.{find, list_any}
+use Rattle.std.specs.List.{find, list_any, position_from}
 use Rattle.std.specs.Option.{option_map_or}
 use Rattle.std.specs.Int.{is_negative}
 use Rattle.std.specs.Ordering.{int_eq}
@@ -22,6 +22,10 @@ bucket_of b = record { id = b.id; kind = b.kind; alg = b.alg; items = b.items; w
 -- the bucket of this id
 abbrev pub bucket_at : List Bucket → ℤ → Option Bucket
 bucket_at tree id = find (λ b. int_eq b.id id) tree
+
+-- the place of the first bucket of this id, the places counted from `first` on
+abbrev pub place_of : List Bucket → ℤ → ℕ → Option ℕ
+place_of tree id first = position_from (λ b. int_eq b.id id) first tree
 
 -- the item is a device
 abbrev pub is_device : ℤ → Bool

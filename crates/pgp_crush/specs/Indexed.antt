@@ -4,8 +4,7 @@ use Rattle.std.specs.Ordering.{int_eq}
 use Rattle.std.specs.HashMap as hash
 use Rattle.std.specs.HashMap.{HashMap}
 use Rattle.pgp_ids.specs.declared.bucket.BucketSpec.{BucketSpec}
-use Rattle.pgp_crush.specs.Bucket.{bucket_of, root_of}
-use Rattle.pgp_crush.specs.Place.{place_of}
+use Rattle.pgp_crush.specs.Bucket.{bucket_of, root_of, place_of}
 use Rattle.pgp_crush.specs.TreeFault.{tree_fault}
 
 -- they have no fault, their root is the bucket at its place, and the index leads to each bucket from its id

@@ -13,6 +13,5 @@ pub mod Worked
 pub mod Examples
 pub mod Chosen
 pub mod TreeFault
-pub mod Place
 pub mod Indexed
 pub mod Tree

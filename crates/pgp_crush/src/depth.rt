@@ -52,12 +52,7 @@ fn items_within(
 
 /// The id of some bucket is in the set.
 fn any_within(buckets: &[BucketSpec], ids: &HashSet<i32>) -> bool
-    ensures { result ≡ list_any (λ b. bag.contains int_eq ids.now b.id) (map bucket_of buckets.now) }
+    ensures { result ≡ list_any (λ b. bag.contains int_eq ids.now b.id) buckets.now }
 {
-    for bucket in buckets {
-        if ids.contains(&bucket.id) {
-            return true;
-        }
-    }
-    false
+    buckets.iter().any(|bucket| ids.contains(&bucket.id))
 }

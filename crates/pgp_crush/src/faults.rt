@@ -1,12 +1,11 @@
 //! The tests that make a list of buckets a tree.
 
 ghost use Rattle.std.specs.Prelude.{◌≡◌, ℤ, ℕ, ◌<◌, ◌-◌, ◌^◌, None, map, length, sum, nat_lt, slice_get, true, false, IfOk, IfSome, IfNone, OnSome, count_by, not};
-ghost use Rattle.std.specs.List.{list_any};
+ghost use Rattle.std.specs.List.{list_any, position_from};
 ghost use Rattle.std.specs.Ordering.{int_eq};
 ghost use Rattle.std.specs.HashSet as bag;
 ghost use Rattle.std.specs.HashMap as hash;
-ghost use Rattle.pgp_crush.specs.Bucket.{bucket_of, is_held, root_of};
-ghost use Rattle.pgp_crush.specs.Place.{place_of};
+ghost use Rattle.pgp_crush.specs.Bucket.{bucket_of, is_held, root_of, place_of};
 ghost use Rattle.pgp_crush.specs.TreeFault.{items_of, fault_below_root, has_no_root, has_twice_held, reaches_kind, has_wrong_type, is_known, has_too_many, has_weight_sum};
 
 use super::depth::is_too_deep;
@@ -95,7 +94,6 @@ fn ids_of(alloc: Global, buckets: &[BucketSpec]) -> Result<Vec<i32>, AllocError>
 }
 
 /// The place of the one bucket that isn't held, where there is just one.
-#[tactic(auto, using(crate::proofs::FaultLemmas::no_root_found))]
 pub(crate) fn find_root(buckets: &[BucketSpec], held: &HashSet<i32>) -> Option<usize>
     requires { (q : ℤ) → bag.contains int_eq held.now q ≡ is_held (map bucket_of buckets.now) q }
     ensures none { IfNone result (has_no_root (map bucket_of buckets.now) ≡ true) }
@@ -114,16 +112,10 @@ pub(crate) fn find_root(buckets: &[BucketSpec], held: &HashSet<i32>) -> Option<u
 /// The place of the first bucket that isn't held.
 fn root_place(buckets: &[BucketSpec], held: &HashSet<i32>) -> Option<usize>
     requires { (q : ℤ) → bag.contains int_eq held.now q ≡ is_held (map bucket_of buckets.now) q }
-    ensures none { IfNone result (root_of (map bucket_of buckets.now) ≡ None) }
-    ensures place { IfSome result (λ place. root_of (map bucket_of buckets.now) ≡ slice_get (map bucket_of buckets.now) place) }
+    ensures first { result ≡ position_from (λ b. not (is_held (map bucket_of buckets.now) b.id)) 0 buckets.now }
     ensures within { IfSome result (λ place. place < length buckets.now) }
 {
-    for (place, bucket) in buckets.iter().enumerate() {
-        if !held.contains(&bucket.id) {
-            return Some(place);
-        }
-    }
-    None
+    buckets.iter().position(|bucket| !held.contains(&bucket.id))
 }
 
 /// How many buckets aren't held.
@@ -131,13 +123,10 @@ fn root_count(buckets: &[BucketSpec], held: &HashSet<i32>) -> usize
     requires { (q : ℤ) → bag.contains int_eq held.now q ≡ is_held (map bucket_of buckets.now) q }
     ensures { result ≡ count_by (λ b. not (is_held (map bucket_of buckets.now) b.id)) (map bucket_of buckets.now) }
 {
-    let mut count = 0;
-    for bucket in buckets {
-        if !held.contains(&bucket.id) {
-            count += 1;
-        }
-    }
-    count
+    buckets
+        .iter()
+        .filter(|bucket| !held.contains(&bucket.id))
+        .count()
 }
 
 /// A bucket's type is 0, or not above that of each bucket in it.
@@ -158,12 +147,9 @@ fn any_reaches(buckets: &[BucketSpec], index: &HashMap<i32, usize>, kind: u8, it
     requires { (q : ℤ) → hash.get int_eq index.now q ≡ place_of (map bucket_of buckets.now) q 0 }
     ensures { result ≡ list_any (reaches_kind (map bucket_of buckets.now) kind) items.now }
 {
-    for item in items {
-        if reaches_kind(buckets, index, kind, *item) {
-            return true;
-        }
-    }
-    false
+    items
+        .iter()
+        .any(|item| reaches_kind(buckets, index, kind, *item))
 }
 
 /// The item is a bucket of this type or of one above it.
@@ -182,12 +168,7 @@ fn has_unknown(buckets: &[BucketSpec], index: &HashMap<i32, usize>, items: &[i32
     requires { (q : ℤ) → hash.get int_eq index.now q ≡ place_of (map bucket_of buckets.now) q 0 }
     ensures { result ≡ list_any (λ item. not (is_known (map bucket_of buckets.now) item)) items.now }
 {
-    for item in items {
-        if !is_known(buckets, index, *item) {
-            return true;
-        }
-    }
-    false
+    items.iter().any(|item| !is_known(buckets, index, *item))
 }
 
 /// The item is a bucket of the list, or a device.

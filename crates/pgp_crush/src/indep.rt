@@ -30,6 +30,15 @@ impl Cell {
             _ => false,
         }
     }
+
+    fn holds(self, item: i32) -> bool
+        ensures { result ≡ holds item self }
+    {
+        match self {
+            Cell::Held(pick) => pick.item == item,
+            _ => false,
+        }
+    }
 }
 
 impl Input<'_> {
@@ -85,26 +94,14 @@ impl Input<'_> {
 fn any_open(cells: &[Cell]) -> bool
     ensures { result ≡ list_any is_open cells.now }
 {
-    for cell in cells {
-        if cell.is_open() {
-            return true;
-        }
-    }
-    false
+    cells.iter().any(|cell| cell.is_open())
 }
 
 /// Some position holds this item.
 fn holds_item(cells: &[Cell], item: i32) -> bool
     ensures { result ≡ list_any (holds item) cells.now }
 {
-    for cell in cells {
-        if let Cell::Held(pick) = cell
-            && pick.item == item
-        {
-            return true;
-        }
-    }
-    false
+    cells.iter().any(|cell| cell.holds(item))
 }
 
 /// The leaves that the positions hold.

@@ -6,8 +6,7 @@ ghost use Rattle.std.specs.Ordering.{int_eq};
 ghost use Rattle.std.specs.HashSet as bag;
 ghost use Rattle.std.specs.HashMap as hash;
 ghost use Rattle.std.specs.Option.{option_copied, option_map};
-ghost use Rattle.pgp_crush.specs.Bucket.{bucket_of, bucket_at};
-ghost use Rattle.pgp_crush.specs.Place.{place_of};
+ghost use Rattle.pgp_crush.specs.Bucket.{bucket_of, bucket_at, place_of};
 
 use pgp_ids::BucketSpec;
 use std::alloc::{AllocError, Global};

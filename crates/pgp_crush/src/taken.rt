@@ -63,12 +63,5 @@ impl Taken {
 fn has_leaf(leaves: &[Option<OsdId>], osd: OsdId) -> bool
     ensures { result ≡ has_leaf leaves.now osd }
 {
-    for place in leaves {
-        if let Some(leaf) = place
-            && leaf.number() == osd.number()
-        {
-            return true;
-        }
-    }
-    false
+    leaves.contains(&Some(osd))
 }

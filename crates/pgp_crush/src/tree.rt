@@ -8,7 +8,7 @@ ghost use Rattle.pgp_crush.specs.TreeFault.{tree_fault};
 
 use super::fault::TreeFault;
 use super::faults::{fault_below_root, find_root, items_of};
-use super::index::{index_of, set_of};
+use super::index::{find_bucket, index_of, set_of};
 use pgp_ids::BucketSpec;
 use std::alloc::Global;
 use std::collections::HashMap;
@@ -67,8 +67,7 @@ impl Tree {
         ensures value { option_map bucket_of (option_copied result) ≡ bucket_at self.now id }
         ensures weighed { IfSome result (λ b. sum b.now.weights < 2 ^ 32) }
     {
-        let place = *self.index.get(&id)?;
-        Some(&self.buckets[place])
+        find_bucket(&self.buckets, &self.index, id)
     }
 }
 

@@ -7,6 +7,7 @@ use Rattle.std.specs.HashSet as bag
 use Rattle.pgp_crush.specs.Bucket.{Bucket, bucket_of, is_held}
 use Rattle.pgp_crush.specs.TreeFault.{items_of, below_levels}
 use Rattle.pgp_crush.proofs.FaultLemmas.{not_too_deep, is_held_is, any-filter, below_levels-zero, below_levels-more}
+use Rattle.pgp_crush.proofs.TreeLemmas.{any_mapped}
 use Rattle.pgp_crush.proofs.depth.is_too_deep.Goals as goal
 
 pub loop-level-init : goal.loop-level-init
@@ -27,7 +28,7 @@ pub returns : goal.returns
 returns c =
     let tree = map bucket_of c.args.buckets.now in
     let level : c.loop-level._level - 1 + 1 ≡ 10 = omega arith in
-    c.any_within.ensures
+    any_mapped bucket_of _ c.args.buckets.now _ c.any_within.ensures
     ∙ sym (any-filter (λ b. bag.contains int_eq c.loop-level.below b.id) tree)
     ∙ ap (λ (t : List Bucket). nat_lt 0 (length t))
     (below_levels-more tree (c.loop-level._level - 1) (bag.contains int_eq c.loop-level.below) c.loop-level.invariant ∙ ap (below_levels tree) level)

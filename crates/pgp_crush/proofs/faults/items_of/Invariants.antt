@@ -1,6 +1,7 @@
-use Rattle.std.proofs.Common.{◌≡◌, take}
-use Rattle.std.specs.List.{flat_map}
+use Rattle.std.proofs.Common.{◌≡◌, map, take}
+use Rattle.pgp_crush.specs.Bucket.{bucket_of}
+use Rattle.pgp_crush.specs.TreeFault.{items_of}
 use Rattle.pgp_crush.proofs.faults.items_of.Given as goal
 
 abbrev pub invariant-loop-bucket : goal.invariant-loop-bucket
-invariant-loop-bucket l = l.items.items ≡ flat_map (λ b. b.items) (take l.bucket-index l.buckets)
+invariant-loop-bucket l = l.items.items ≡ items_of (map bucket_of (take l.bucket-index l.buckets))

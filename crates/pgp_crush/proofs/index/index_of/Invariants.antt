@@ -1,8 +1,7 @@
 use Rattle.std.proofs.Common.{◌≡◌, ◌≤◌, ℤ, drop, map, length}
 use Rattle.std.specs.Ordering.{int_eq}
 use Rattle.std.specs.HashMap as hash
-use Rattle.pgp_crush.specs.Bucket.{bucket_of}
-use Rattle.pgp_crush.specs.Place.{place_of}
+use Rattle.pgp_crush.specs.Bucket.{bucket_of, place_of}
 use Rattle.pgp_crush.proofs.index.index_of.Given as goal
 
 abbrev pub invariant-loop-place : goal.invariant-loop-place
