@@ -1,6 +1,8 @@
 -- What buckets choose, place by place.
-use Rattle.std.proofs.Common.{◌≡◌, ℕ, cond, zero, suc, ◌+◌, ◌*◌, ◌/◌, ◌%◌, ◌^◌, ◌<◌, Bool, true, false, ℤ, pos, List, [], ◌∷◌, length, take, nat_lt, sum, slice_get, slice_index, slice_index_or, refl, arith, ap, sym, ◌∙◌, add-one, Option, Some, None}
+use Rattle.std.proofs.Common.{◌≡◌, ℕ, cond, zero, suc, ◌+◌, ◌*◌, ◌/◌, ◌%◌, ◌^◌, ◌<◌, ◌≤◌, Bool, true, false, ℤ, pos, List, [], ◌∷◌, length, take, nat_lt, sum, slice_get, slice_index, slice_index_or, Contains, inl, inr, refl, arith, ap, sym, ◌∙◌, add-one, Option, Some, None}
+use Rattle.std.proofs.lemmas.Bool.{cases_Bool}
 use Rattle.std.proofs.lemmas.Bool.Decides.{nat_tests}
+use Rattle.std.proofs.lemmas.Option.{slice_get-get_or, slice_get_past}
 use Rattle.std.specs.List.{All}
 use Rattle.std.specs.Option.{unwrap_or}
 use Rattle.pgp_ids.specs.declared.bucket.BucketAlg.{BucketAlg}
@@ -14,12 +16,9 @@ use Rattle.pgp_crush.specs.Choice.{word_of, place_before, traced_back, uniform_p
 -- ---- uniform buckets
 
 -- the last exchange is traced back first
-traced_back-suc : (x id n p place : ℕ) → traced_back x id n (suc p) place ≡ traced_back x id n p (place_before x id n p place)
-unfolding traced_back
-traced_back-suc x id n p place = refl
-
 pub traced_back-more : (x id n p q place : ℕ) → p ≡ q + 1 → traced_back x id n p place ≡ traced_back x id n q (place_before x id n q place)
-traced_back-more x id n p q place e = ap (λ (k : ℕ). traced_back x id n k place) (e ∙ add-one q) ∙ traced_back-suc x id n q place
+unfolding traced_back
+traced_back-more x id n p q place e = ap (λ (k : ℕ). traced_back x id n k place) (e ∙ add-one q)
 
 pub traced_back-zero : (x id n place : ℕ) → traced_back x id n 0 place ≡ place
 unfolding traced_back
@@ -29,16 +28,9 @@ pub uniform_place_is : (x r id n : ℕ) → uniform_place x r id n ≡ traced_ba
 unfolding uniform_place
 uniform_place_is x r id n = refl
 
--- ---- list buckets
+pub ruleset shuffle_steps = (traced_back-more, traced_back-zero, uniform_place_is)
 
-greatest_below-at : (test : ℕ → Bool) (n m : ℕ) (passes : Bool) → n ≡ m + 1 → test m ≡ passes → greatest_below test n ≡ cond passes (Some m) (greatest_below test m)
-unfolding greatest_below
-greatest_below-at test n m passes e h =
-    ap (greatest_below test) (e ∙ add-one m) ∙ ap (λ (b : Bool). elim b as (λ _. Option ℕ) [ true ↦ Some m | false ↦ greatest_below test m ]) h ∙ by_test passes
-  where
-    by_test : (b : Bool) → elim b as (λ _. Option ℕ) [ true ↦ Some m | false ↦ greatest_below test m ] ≡ cond b (Some m) (greatest_below test m)
-    by_test true = refl
-    by_test false = refl
+-- ---- list buckets
 
 -- the last of the first i places whose item passes, else the first
 abbrev pub place_below : ℕ → ℕ → ℕ → List ℤ → List ℕ → ℕ → ℕ
@@ -57,25 +49,18 @@ pub place_below-more : (x r id : ℕ) (items : List ℤ) (weights : List ℕ) (i
     word ≡ word_of (slice_index_or items m (pos 0)) → hash ≡ hash4 x word r id → total ≡ sum (take i weights) →
     nat_lt (((hash % 2 ^ 16) * total) / 2 ^ 16) (slice_index weights m) ≡ passes →
     place_below x r id items weights i ≡ cond passes m (place_below x r id items weights m)
+unfolding greatest_below
 place_below-more x r id items weights i m passes word hash total e w h t is =
     let hash_is : hash ≡ hash4 x (word_of (slice_index_or items m (pos 0))) r id = h ∙ ap (λ (v : ℕ). hash4 x v r id) w in
     let total_is : total ≡ sum (take (m + 1) weights) = t ∙ ap (λ (k : ℕ). sum (take k weights)) e in
     let test : weight_passes x r id items weights m ≡ passes = sym (λ j. nat_lt (((hash_is j % 2 ^ 16) * total_is j) / 2 ^ 16) (slice_index weights m)) ∙ is in
-    ap (λ (o : Option ℕ). unwrap_or o 0) (greatest_below-at (weight_passes x r id items weights) i m passes e test) ∙ by_test passes
+    ap (place_below x r id items weights) (e ∙ add-one m) ∙ by_test (weight_passes x r id items weights m) ∙ ap (λ (b : Bool). cond b m (place_below x r id items weights m)) test
   where
     by_test : (b : Bool) → unwrap_or (cond b (Some m) (greatest_below (weight_passes x r id items weights) m)) 0 ≡ cond b m (place_below x r id items weights m)
     by_test true = refl
     by_test false = refl
 
--- The chosen item is an item.
-
-pub ruleset shuffle_steps = (traced_back-more, traced_back-zero, uniform_place_is)
-
 -- ---- a bucket that is empty, and one that isn't
-
-none_at : (items : List ℤ) (k : ℕ) → length items ≡ 0 → slice_get items k ≡ None
-none_at [] k h = refl
-none_at (item ∷ items) k h = absurd (omega arith)
 
 pub choice-empty : (x r : ℕ) (b : Bucket) → length b.items ≡ 0 → choice x r b ≡ None
 unfolding choice
@@ -84,40 +69,27 @@ choice-empty x r b none =
       | Uniform ↦ slice_get b.items (uniform_place x r (word_of b.id) (length b.items))
       | Weighed ↦ slice_get b.items (list_place x r (word_of b.id) b.items b.weights)
     ] ≡ None) [
-      | Uniform ↦ none_at b.items _ none
-      | Weighed ↦ none_at b.items _ none
+      | Uniform ↦ slice_get_past b.items _ (omega arith)
+      | Weighed ↦ slice_get_past b.items _ (omega arith)
     ]
-
-at_within : (items : List ℤ) (k : ℕ) → k < length items → slice_get items k ≡ Some (slice_index_or items k (pos 0))
-at_within [] k h = absurd (omega arith)
-at_within (item ∷ items) zero h = refl
-at_within (item ∷ items) (suc k) h = at_within items k (omega arith)
 
 pub choice-uniform : (x r : ℕ) (b : Bucket) → b.alg ≡ Uniform → 0 < length b.items →
     choice x r b ≡ Some (slice_index_or b.items (uniform_place x r (word_of b.id) (length b.items)) (pos 0))
 unfolding choice
-choice-uniform x r b alg some =
-    rw alg (at_within b.items (uniform_place x r (word_of b.id) (length b.items)) (uniform_place_within x r (word_of b.id) (length b.items) some))
+choice-uniform x r b alg some = rw alg (slice_get-get_or b.items _ (pos 0) (uniform_place_within x r (word_of b.id) (length b.items) some))
 
 pub choice-list : (x r : ℕ) (b : Bucket) → b.alg ≡ Weighed → 0 < length b.items →
     choice x r b ≡ Some (slice_index_or b.items (list_place x r (word_of b.id) b.items b.weights) (pos 0))
 unfolding choice
-choice-list x r b alg some =
-    rw alg (at_within b.items (list_place x r (word_of b.id) b.items b.weights) (list_place_within x r (word_of b.id) b.items b.weights some))
+choice-list x r b alg some = rw alg (slice_get-get_or b.items _ (pos 0) (list_place_within x r (word_of b.id) b.items b.weights some))
 
 -- ---- a list bucket of whose weights all but the first are 0
 
 first_passes : (test : ℕ → Bool) → ((k : ℕ) → test (suc k) ≡ false) → (n : ℕ) → unwrap_or (greatest_below test n) 0 ≡ 0
 unfolding greatest_below
 first_passes test later zero = refl
-first_passes test later (suc zero) = by_test (test 0)
-  where
-    by_test : (b : Bool) → unwrap_or (elim b as (λ _. Option ℕ) [ true ↦ Some 0 | false ↦ None ]) 0 ≡ 0
-    by_test true = refl
-    by_test false = refl
-first_passes test later (suc (suc n)) =
-    ap (λ (b : Bool). unwrap_or (elim b as (λ _. Option ℕ) [ true ↦ Some (suc n) | false ↦ greatest_below test (suc n) ]) 0) (later n)
-    ∙ first_passes test later (suc n)
+first_passes test later (suc zero) = elim (cases_Bool (test 0)) [ inl passes ↦ rw passes refl | inr fails ↦ rw fails refl ]
+first_passes test later (suc (suc n)) = rw (later n) (first_passes test later (suc n))
 
 no_weight : (weights : List ℕ) → All (λ w. w ≡ 0) weights → (k : ℕ) → slice_index weights k ≡ 0
 no_weight [] none k = refl

@@ -1,11 +1,13 @@
 -- What the positions hold, cell by cell, is what any table of the placement says, and there is one table.
-use Rattle.std.proofs.Common.{◌≡◌, ◌<◌, ◌≤◌, ℕ, ◌+◌, zero, suc, ℤ, List, [], ◌∷◌, length, map, replicate, take, get_or, set, slice_set, Bool, true, false, not, cond, ◌&&◌, nat_lt, inl, inr, refl, arith, ap, sym, ◌∙◌, subst, add-one, Option, Some, None}
+use Rattle.std.proofs.Common.{◌≡◌, ◌<◌, ◌≤◌, ℕ, ◌+◌, zero, suc, ℤ, List, [], ◌∷◌, length, map, replicate, take, get_or, set, Bool, true, false, not, cond, ◌&&◌, nat_lt, inl, inr, refl, arith, ap, sym, ◌∙◌, subst, add-one, Option, Some, None}
 use Rattle.std.specs.List.{list_any, range_with_len}
 use Rattle.std.specs.Option.{option_map_or, option_and_then}
-use Rattle.std.proofs.lemmas.List.{get_or-set_same, get_or-set_other, length-set, length-map, get_or-map, take-replicate, get_or-replicate, length-replicate, ext_get_or}
+use Rattle.std.proofs.lemmas.List.{get_or-set_same, get_or-set_other, set-get_or, length-set, length-map, get_or-map, take-replicate, get_or-replicate, length-replicate, ext_get_or}
 use Rattle.std.proofs.lemmas.List.FromFn.{length-map-range_with_len, get_or-map-range_with_len, fill_by_all}
-use Rattle.std.proofs.lemmas.Bool.{cases_eq}
+use Rattle.std.proofs.lemmas.Bool.{cases_Bool, cases_eq, cases_lt}
 use Rattle.std.proofs.lemmas.Bool.Decides.{nat_tests}
+use Rattle.std.proofs.lemmas.Option.{slice_get-get_or}
+use Rattle.pgp_lists.proofs.Lists.{none-at}
 use Rattle.pgp_lists.proofs.Ranges.{list_any-range}
 use Rattle.pgp_crush.specs.declared.candidate.Candidate.{Candidate}
 use Rattle.pgp_crush.specs.declared.candidate.Candidate.TheVariants.{Early, Unfit, Fit}
@@ -14,67 +16,57 @@ use Rattle.pgp_crush.specs.declared.indep.Cell.TheVariants.{Open, Gone, Held}
 use Rattle.pgp_crush.specs.Candidate.{Input}
 use Rattle.pgp_crush.specs.Least.{least_from}
 use Rattle.pgp_crush.specs.Indep.{cell, round_of, stands_before, has_item, has_before, settled_by, settles, IsTable, leaf_in, place_at, IsIndep}
-use Rattle.pgp_crush.specs.Cells.{is_open, holds, after_try, cells_with, cells_row, cells_after, leaf_held, indep}
-use Rattle.pgp_crush.proofs.LeastLemmas.{next_least, least_from-nil, least_from-more, least_from-same, least_from-found, least_from-below}
+use Rattle.pgp_crush.specs.Cells.{is_open, holds, after_try, after_look, cells_with, cells_row, cells_after, leaf_held, indep}
+use Rattle.pgp_crush.proofs.LeastLemmas.{next_least, least_from-more, least_from-same, least_from-found, least_from-below}
 
 -- ---- one cell after the other
 
-pub cells_row-zero : (i : Input) (n round : ℕ) (cells : List Cell) → cells_row i n round cells 0 ≡ cells
-unfolding cells_row
-cells_row-zero i n round cells = refl
-
-cells_row-suc : (i : Input) (n round : ℕ) (cells : List Cell) (p : ℕ) → cells_row i n round cells (suc p) ≡ cells_with i n round (cells_row i n round cells p) p
-unfolding cells_row
-cells_row-suc i n round cells p = refl
-
 pub cells_row-more : (i : Input) (n round : ℕ) (cells : List Cell) (p : ℕ) → cells_row i n round cells (p + 1) ≡ cells_with i n round (cells_row i n round cells p) p
-cells_row-more i n round cells p = ap (cells_row i n round cells) (add-one p) ∙ cells_row-suc i n round cells p
-
-cells_after-zero : (i : Input) (n : ℕ) → cells_after i n 0 ≡ replicate n Open
-unfolding cells_after
-cells_after-zero i n = refl
-
-cells_after-suc : (i : Input) (n round : ℕ) → cells_after i n (suc round) ≡ cells_row i n round (cells_after i n round) n
-unfolding cells_after
-cells_after-suc i n round = refl
+unfolding cells_row
+cells_row-more i n round cells p = ap (cells_row i n round cells) (add-one p)
 
 pub cells_after-more : (i : Input) (n round : ℕ) → cells_after i n (round + 1) ≡ cells_row i n round (cells_after i n round) n
-cells_after-more i n round = ap (cells_after i n) (add-one round) ∙ cells_after-suc i n round
+unfolding cells_after
+cells_after-more i n round = ap (cells_after i n) (add-one round)
 
 pub cells_after-start : (i : Input) (n : ℕ) → n ≤ 16 → take n (replicate 16 Open) ≡ cells_after i n 0
-cells_after-start i n h = take-replicate n 16 Open h ∙ sym (cells_after-zero i n)
+unfolding cells_after
+cells_after-start i n h = take-replicate n 16 Open h
 
-module _ (i : Input) (n round : ℕ) where
-  -- what the positions have after one of them was looked at
-  with-size : (cells : List Cell) (p : ℕ) → length (cells_with i n round cells p) ≡ length cells
-  with-size cells p = by_test (is_open (get_or cells p Open))
-    where
-      by_test : (b : Bool) → length (cond b (set cells p (after_try cells (cell i n round p))) cells) ≡ length cells
-      by_test true = length-set cells p _
-      by_test false = refl
-
-  with-here : (cells : List Cell) (p : ℕ) → p < length cells
-      → get_or (cells_with i n round cells p) p Open ≡ cond (is_open (get_or cells p Open)) (after_try cells (cell i n round p)) (get_or cells p Open)
-  with-here cells p h = by_test (is_open (get_or cells p Open))
-    where
-      by_test : (b : Bool) → get_or (cond b (set cells p (after_try cells (cell i n round p))) cells) p Open ≡ cond b (after_try cells (cell i n round p)) (get_or cells p Open)
-      by_test true = get_or-set_same cells p _ Open h
-      by_test false = refl
-
-  with-other : (cells : List Cell) (p q : ℕ) → (q ≡ p → ⊥) → get_or (cells_with i n round cells p) q Open ≡ get_or cells q Open
-  with-other cells p q other = by_test (is_open (get_or cells p Open))
-    where
-      by_test : (b : Bool) → get_or (cond b (set cells p (after_try cells (cell i n round p))) cells) q Open ≡ get_or cells q Open
-      by_test true = get_or-set_other cells p q _ Open other
-      by_test false = refl
-
-  row-size : (cells : List Cell) (p : ℕ) → length (cells_row i n round cells p) ≡ length cells
-  row-size cells zero = ap (λ (c : List Cell). length c) (cells_row-zero i n round cells)
-  row-size cells (suc p) = ap (λ (c : List Cell). length c) (cells_row-suc i n round cells p) ∙ with-size (cells_row i n round cells p) p ∙ row-size cells p
+row-size : (i : Input) (n round : ℕ) (cells : List Cell) (p : ℕ) → length (cells_row i n round cells p) ≡ length cells
+unfolding cells_row
+row-size i n round cells zero = refl
+row-size i n round cells (suc p) = length-set (cells_row i n round cells p) p _ ∙ row-size i n round cells p
 
 pub after-size : (i : Input) (n round : ℕ) → length (cells_after i n round) ≡ n
-after-size i n zero = ap (λ (c : List Cell). length c) (cells_after-zero i n) ∙ length-replicate n Open
-after-size i n (suc round) = ap (λ (c : List Cell). length c) (cells_after-suc i n round) ∙ row-size i n round (cells_after i n round) n ∙ after-size i n round
+unfolding cells_after
+after-size i n zero = length-replicate n Open
+after-size i n (suc round) = row-size i n round (cells_after i n round) n ∙ after-size i n round
+
+-- ---- once no position is open, the rounds that are left change nothing
+
+kept : (cells : List Cell) (c : Cell) (try : Candidate) → is_open c ≡ false → after_look cells c try ≡ c
+kept cells Open try h = cc
+kept cells Gone try h = refl
+kept cells (Held pick) try h = refl
+
+row-settled : (i : Input) (n round : ℕ) (cells : List Cell) (p : ℕ) → list_any is_open cells ≡ false → p ≤ length cells → cells_row i n round cells p ≡ cells
+unfolding cells_row
+row-settled i n round cells zero none h = refl
+row-settled i n round cells (suc p) none h =
+    let shut = none-at is_open cells p (get_or cells p Open) none (slice_get-get_or cells p Open (omega arith)) in
+    ap (λ (c : List Cell). cells_with i n round c p) (row-settled i n round cells p none (omega arith))
+    ∙ ap (set cells p) (kept cells (get_or cells p Open) _ shut) ∙ set-get_or cells p Open
+
+pub cells_after-settled : (i : Input) (n round m : ℕ) → list_any is_open (cells_after i n round) ≡ false →
+    cells_after i n (m + round) ≡ cells_after i n round
+unfolding cells_after
+cells_after-settled i n round zero none = let same : zero + round ≡ round = omega arith in ap (cells_after i n) same
+cells_after-settled i n round (suc m) none =
+    let more : suc m + round ≡ suc (m + round) = omega arith in
+    ap (cells_after i n) more
+    ∙ ap (λ (cells : List Cell). cells_row i n (m + round) cells n) (cells_after-settled i n round m none)
+    ∙ row-settled i n (m + round) (cells_after i n round) n none (omega (arith, after-size i n round))
 
 -- ---- what a position holds
 
@@ -89,19 +81,15 @@ holds_is item Early = refl
 holds_is item Unfit = refl
 holds_is item (Fit pick) = refl
 
-open-is : (c : Cell) → is_open c ≡ true → c ≡ Open
-open-is Open h = refl
-open-is Gone h = cc
-open-is (Held pick) h = cc
+tried : (cells : List Cell) (c : Candidate) → after_try cells c ≡ cond (not (is_open (after_try cells c))) (cell_held c) Open
+tried cells Early = refl
+tried cells Unfit = refl
+tried cells (Fit pick) = elim (cases_Bool (list_any (holds pick.item) cells)) [ inl held ↦ rw held refl | inr free ↦ rw free refl ]
 
-try-held : (cells : List Cell) (c : Candidate) → is_open (after_try cells c) ≡ false → after_try cells c ≡ cell_held c
-try-held cells Early h = refl
-try-held cells Unfit h = refl
-try-held cells (Fit pick) h = by_test (list_any (holds pick.item) cells) h
-  where
-    by_test : (b : Bool) → is_open (cond b Open (Held pick)) ≡ false → cond b Open (Held pick) ≡ Held pick
-    by_test true h = cc
-    by_test false h = refl
+shut : (cells : List Cell) (c : Candidate) → not (is_open (after_try cells c)) ≡ true → is_open (cell_held c) ≡ false
+shut cells Early h = refl
+shut cells Unfit h = cc
+shut cells (Fit pick) h = refl
 
 -- in how many rounds position q was looked at, once the first p positions of a round were
 abbrev looked_at : ℕ → ℕ → ℕ → ℕ
@@ -128,58 +116,44 @@ module _ (i : Input) (n : ℕ) where
 
   -- what an open position takes, and what one that isn't open keeps
   step : (round p : ℕ) (o : Option ℕ) → ((own : ℕ) → o ≡ Some own → ends p own ≡ true)
-      → cond (is_open (held_by p o)) (after_try (before_cell round p) (cell i n round p)) (held_by p o) ≡ held_by p (next_least o (ends p round) round)
-  step round p None closed = by_open (is_open (after_try (before_cell round p) (cell i n round p))) refl
+      → after_look (before_cell round p) (held_by p o) (cell i n round p) ≡ held_by p (next_least o (ends p round) round)
+  step round p None closed = tried (before_cell round p) (cell i n round p) ∙ by_test (ends p round)
     where
-      by_open : (b : Bool) → is_open (after_try (before_cell round p) (cell i n round p)) ≡ b
-          → after_try (before_cell round p) (cell i n round p) ≡ held_by p (cond (not b) (Some round) None)
-      by_open true e = open-is _ e
-      by_open false e = try-held (before_cell round p) (cell i n round p) e
-  step round p (Some own) closed =
-      ap (λ (b : Bool). cond b (after_try (before_cell round p) (cell i n round p)) (cell_held (cell i n own p)))
-      (shut (is_open (after_try (before_cell own p) (cell i n own p))) refl (closed own refl))
-    where
-      shut : (b : Bool) → is_open (after_try (before_cell own p) (cell i n own p)) ≡ b → not b ≡ true → is_open (cell_held (cell i n own p)) ≡ false
-      shut true e h = cc
-      shut false e h = ap is_open (sym (try-held (before_cell own p) (cell i n own p) e)) ∙ e
+      by_test : (b : Bool) → cond b (cell_held (cell i n round p)) Open ≡ held_by p (cond b (Some round) None)
+      by_test true = refl
+      by_test false = refl
+  step round p (Some own) closed = kept (before_cell round p) _ (cell i n round p) (shut (before_cell own p) (cell i n own p) (closed own refl))
 
   -- a position holds what the first of its cells gives that ended its search
   row : (round : ℕ) → ((q : ℕ) → q < n → get_or (cells_after i n round) q Open ≡ held_by q (least_from (ends q) 0 round))
       → (p q : ℕ) → p ≤ n → q < n → get_or (before_cell round p) q Open ≡ held_by q (least_from (ends q) 0 (looked_at round p q))
+  unfolding cells_row
   row round start zero q h within =
       let none : round ≡ looked_at round 0 q = grind (arith, nat_tests) in
-      ap (λ (c : List Cell). get_or c q Open) (cells_row-zero i n round (cells_after i n round)) ∙ start q within
-      ∙ ap (λ (k : ℕ). held_by q (least_from (ends q) 0 k)) none
-  row round start (suc p) q h within = ap (λ (c : List Cell). get_or c q Open) (cells_row-suc i n round (cells_after i n round) p) ∙ elim (cases_eq q p) [
+      start q within ∙ ap (λ (k : ℕ). held_by q (least_from (ends q) 0 k)) none
+  row round start (suc p) q h within = elim (cases_eq q p) [
     | inl e ↦
+        let here : looked_at round p p ≡ round = grind (arith, nat_tests) in
+        let done : suc round ≡ looked_at round (suc p) q = grind (arith, nat_tests) in
         let one : get_or (cells_with i n round (before_cell round p) p) p Open ≡ held_by p (least_from (ends p) 0 (suc round)) =
-        with-here i n round (before_cell round p) p (omega (arith, before_cell-size round p))
-        ∙ ap (λ (c : Cell). cond (is_open c) (after_try (before_cell round p) (cell i n round p)) c) (row round start p p (omega arith) (omega arith) ∙ ap (λ (k : ℕ). held_by p (least_from (ends p) 0 k)) (here p))
+        get_or-set_same (before_cell round p) p _ Open (omega (arith, before_cell-size round p))
+        ∙ ap (λ (c : Cell). after_look (before_cell round p) c (cell i n round p)) (row round start p p (omega arith) (omega arith) ∙ ap (λ (k : ℕ). held_by p (least_from (ends p) 0 k)) here)
         ∙ step round p (least_from (ends p) 0 round) (λ own is. (least_from-found (ends p) 0 round own is).0)
         ∙ ap (held_by p) (sym (least_from-more (ends p) round)) in
         subst (λ (k : ℕ). get_or (cells_with i n round (before_cell round p) p) k Open ≡ held_by k (least_from (ends k) 0 (suc round))) (sym e) one
-        ∙ ap (λ (k : ℕ). held_by q (least_from (ends q) 0 k)) (done e)
+        ∙ ap (λ (k : ℕ). held_by q (least_from (ends q) 0 k)) done
     | inr other ↦
-        with-other i n round (before_cell round p) p q other ∙ row round start p q (omega arith) within
-        ∙ ap (λ (k : ℕ). held_by q (least_from (ends q) 0 k)) (apart other)
+        let apart : looked_at round p q ≡ looked_at round (suc p) q = grind (arith, nat_tests) in
+        get_or-set_other (before_cell round p) p q _ Open other ∙ row round start p q (omega arith) within
+        ∙ ap (λ (k : ℕ). held_by q (least_from (ends q) 0 k)) apart
   ]
-    where
-      here : (p : ℕ) → looked_at round p p ≡ round
-      here p = grind (arith, nat_tests)
-
-      done : q ≡ p → suc round ≡ looked_at round (suc p) q
-      done e = grind (arith, nat_tests)
-
-      apart : (q ≡ p → ⊥) → looked_at round p q ≡ looked_at round (suc p) q
-      apart other = grind (arith, nat_tests)
 
   after : (round q : ℕ) → q < n → get_or (cells_after i n round) q Open ≡ held_by q (least_from (ends q) 0 round)
-  after zero q h =
-      ap (λ (c : List Cell). get_or c q Open) (cells_after-zero i n) ∙ get_or-replicate n q Open Open h ∙ sym (ap (held_by q) (least_from-nil (ends q) 0))
+  unfolding cells_after least_from
+  after zero q h = get_or-replicate n q Open Open h
   after (suc round) q h =
       let all : looked_at round n q ≡ suc round = grind (arith, nat_tests) in
-      ap (λ (c : List Cell). get_or c q Open) (cells_after-suc i n round) ∙ row round (after round) n q (omega arith) h
-      ∙ ap (λ (k : ℕ). held_by q (least_from (ends q) 0 k)) all
+      row round (after round) n q (omega arith) h ∙ ap (λ (k : ℕ). held_by q (least_from (ends q) 0 k)) all
 
   -- ---- tables
 
@@ -237,15 +211,13 @@ module _ (i : Input) (n : ℕ) where
 
   -- ---- the table that is there
 
-  found_table : List (Option ℕ)
+  abbrev found_table : List (Option ℕ)
   found_table = map (λ q. least_from (ends q) 0 51) (range_with_len 0 n)
 
   found-at : (q : ℕ) → q < n → round_of found_table q ≡ least_from (ends q) 0 51
-  unfolding found_table
   found-at q h = get_or-map-range_with_len (λ q. least_from (ends q) 0 51) 0 n q q None h (omega arith)
 
   found-is : IsTable i n found_table
-  unfolding found_table
   found-is = record {
     size = length-map-range_with_len (λ q. least_from (ends q) 0 51) 0 n;
     least = λ p h. found-at p h ∙ least_from-same (ends p) (settles i n found_table p) 0 51 (λ round early. sym (settles-is found_table ends found-at round p (omega arith) h (λ q within. refl)));
@@ -258,38 +230,30 @@ module _ (i : Input) (n : ℕ) where
   -- ---- no other table
 
   module _ (table : List (Option ℕ)) (is : IsTable i n table) where
-    same-row : (round : ℕ) → round < 51 → ((q : ℕ) → q < n → least_from (settles i n table q) 0 round ≡ least_from (ends q) 0 round)
-        → (p q : ℕ) → p ≤ n → q < n → least_from (settles i n table q) 0 (looked_at round p q) ≡ least_from (ends q) 0 (looked_at round p q)
-    same-row round early start zero q h within =
-        let none : looked_at round 0 q ≡ round = grind (arith, nat_tests) in
-        subst (λ (k : ℕ). least_from (settles i n table q) 0 k ≡ least_from (ends q) 0 k) (sym none) (start q within)
-    same-row round early start (suc p) q h within = elim (cases_eq q p) [
-      | inl e ↦
-          let one : least_from (settles i n table p) 0 (suc round) ≡ least_from (ends p) 0 (suc round) =
-          least_from-more (settles i n table p) round
-          ∙ (λ j. next_least (start p (omega arith) j) (settles-is table (settles i n table) is.least round p early (omega arith) (λ q inside. same-row round early start p q (omega arith) inside) j) round)
-          ∙ sym (least_from-more (ends p) round) in
-          subst (λ (k : ℕ). least_from (settles i n table q) 0 k ≡ least_from (ends q) 0 k) (done e)
-          (subst (λ (k : ℕ). least_from (settles i n table k) 0 (suc round) ≡ least_from (ends k) 0 (suc round)) (sym e) one)
-      | inr other ↦
-          subst (λ (k : ℕ). least_from (settles i n table q) 0 k ≡ least_from (ends q) 0 k) (apart other) (same-row round early start p q (omega arith) within)
+    agree-in : (round : ℕ) → round < 51 → ((own q : ℕ) → own < round → q < n → settles i n table q own ≡ ends q own)
+        → (p q : ℕ) → q < p → q < n → settles i n table q round ≡ ends q round
+    agree-in round early earlier zero q below within = absurd (omega arith)
+    agree-in round early earlier (suc p) q below within =
+        settles-is table (settles i n table) is.least round q early within
+        (λ o inside. least_from-same (settles i n table o) (ends o) 0 (looked_at round q o) (λ own low. elim (cases_lt own round) [
+          | inl before ↦ earlier own o before inside
+          | inr late ↦
+              let now : round ≡ own = grind (arith, nat_tests) in
+              let left : o < p = grind (arith, nat_tests) in
+              subst (λ (k : ℕ). settles i n table o k ≡ ends o k) now (agree-in round early earlier p o left inside)
+        ]))
+
+    agree : (round : ℕ) → round ≤ 51 → (own q : ℕ) → own < round → q < n → settles i n table q own ≡ ends q own
+    agree zero h own q low within = absurd (omega arith)
+    agree (suc round) h own q low within = elim (cases_lt own round) [
+      | inl before ↦ agree round (omega arith) own q before within
+      | inr late ↦
+          let now : round ≡ own = omega arith in
+          subst (λ (k : ℕ). settles i n table q k ≡ ends q k) now (agree-in round (omega arith) (agree round (omega arith)) (suc q) q (omega arith) within)
     ]
-      where
-        done : q ≡ p → suc round ≡ looked_at round (suc p) q
-        done e = grind (arith, nat_tests)
-
-        apart : (q ≡ p → ⊥) → looked_at round p q ≡ looked_at round (suc p) q
-        apart other = grind (arith, nat_tests)
-
-    same-after : (round : ℕ) → round ≤ 51 → (q : ℕ) → q < n → least_from (settles i n table q) 0 round ≡ least_from (ends q) 0 round
-    same-after zero h q within = least_from-nil (settles i n table q) 0 ∙ sym (least_from-nil (ends q) 0)
-    same-after (suc round) h q within =
-        let all : looked_at round n q ≡ suc round = grind (arith, nat_tests) in
-        subst (λ (k : ℕ). least_from (settles i n table q) 0 k ≡ least_from (ends q) 0 k) all
-        (same-row round (omega arith) (same-after round (omega arith)) n q (omega arith) within)
 
     rounds-are : (q : ℕ) → q < n → round_of table q ≡ least_from (ends q) 0 51
-    rounds-are q h = is.least q h ∙ same-after 51 (omega arith) q h
+    rounds-are q h = is.least q h ∙ least_from-same (settles i n table q) (ends q) 0 51 (λ own low. agree 51 (omega arith) own q low h)
 
     table-is : table ≡ found_table
     table-is = ext_get_or None table found_table (is.size ∙ sym found-is.size) (λ q h. rounds-are q (omega (arith, is.size)) ∙ sym (found-at q (omega (arith, is.size))))
@@ -299,26 +263,3 @@ module _ (i : Input) (n : ℕ) where
 
   pub one_table : (table other : List (Option ℕ)) → IsTable i n table → IsTable i n other → table ≡ other
   one_table table other is also = table-is table is ∙ sym (table-is other also)
-
--- ---- once no position is open, the rounds that are left change nothing
-
-pub cells_row-settled : (i : Input) (n round : ℕ) (cells : List Cell) (p : ℕ) → list_any is_open cells ≡ false → p ≤ length cells → cells_row i n round cells p ≡ cells
-cells_row-settled i n round cells zero none h = cells_row-zero i n round cells
-cells_row-settled i n round cells (suc p) none h =
-    cells_row-suc i n round cells p
-    ∙ ap (λ (c : List Cell). cells_with i n round c p) (cells_row-settled i n round cells p none (omega arith))
-    ∙ ap (λ (t : Bool). cond t (slice_set cells p (after_try cells (cell i n round p))) cells) (settled-at cells p none (omega arith))
-  where
-    settled-at : (cells : List Cell) (p : ℕ) → list_any is_open cells ≡ false → p < length cells → is_open (get_or cells p Open) ≡ false
-    settled-at [] p none h = absurd (omega arith)
-    settled-at (c ∷ cells) zero none h = grind arith
-    settled-at (c ∷ cells) (suc p) none h = settled-at cells p (grind arith) (omega arith)
-
-pub cells_after-settled : (i : Input) (n round m : ℕ) → list_any is_open (cells_after i n round) ≡ false →
-    cells_after i n (m + round) ≡ cells_after i n round
-cells_after-settled i n round zero none = let same : zero + round ≡ round = omega arith in ap (cells_after i n) same
-cells_after-settled i n round (suc m) none =
-    let more : suc m + round ≡ suc (m + round) = omega arith in
-    ap (cells_after i n) more ∙ cells_after-suc i n (m + round)
-    ∙ ap (λ (cells : List Cell). cells_row i n (m + round) cells n) (cells_after-settled i n round m none)
-    ∙ cells_row-settled i n (m + round) (cells_after i n round) n none (omega (arith, after-size i n round))

@@ -28,10 +28,16 @@ after_try cells Early = Gone
 after_try cells Unfit = Open
 after_try cells (Fit pick) = if list_any (holds pick.item) cells then Open else Held pick
 
+-- what a position has after it was looked at: one that is still open is tried
+abbrev pub after_look : List Cell → Cell → Candidate → Cell
+after_look cells Open try = after_try cells try
+after_look cells Gone try = Gone
+after_look cells (Held pick) try = Held pick
+
 -- the positions after one of them was looked at
 abbrev pub cells_with : Input → ℕ → ℕ → List Cell → ℕ → List Cell
 cells_with i n round cells position =
-    if is_open (slice_index_or cells position Open) then slice_set cells position (after_try cells (cell i n round position)) else cells
+    slice_set cells position (after_look cells (slice_index_or cells position Open) (cell i n round position))
 
 -- after the first positions of a round were
 unfoldable pub cells_row : Input → ℕ → ℕ → List Cell → ℕ → List Cell

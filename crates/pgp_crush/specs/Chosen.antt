@@ -1,5 +1,6 @@
 -- A bucket chooses one of its items: what the law of the trait `Chooser` rests on.
-use Rattle.std.proofs.Common.{ℕ, zero, suc, ◌+◌, ◌%◌, ◌<◌, ◌≤◌, Bool, true, false, ℤ, pos, List, length, slice_index_or, Contains, arith, rules, Some}
+use Rattle.std.proofs.Common.{ℕ, zero, suc, ◌+◌, ◌%◌, ◌<◌, ◌≤◌, Bool, true, false, ℤ, pos, List, length, slice_index_or, Contains, inl, inr, arith, rules, Some}
+use Rattle.std.proofs.lemmas.Bool.{cases_Bool}
 use Rattle.std.proofs.lemmas.Bool.Decides.{nat_tests}
 use Rattle.std.proofs.lemmas.Grind.{common_steps}
 use Rattle.std.specs.Option.{unwrap_or}
@@ -28,10 +29,7 @@ unfolding greatest_below
 greatest_below_within test zero k h g = g
 greatest_below_within test (suc n) k h g =
     let below : unwrap_or (greatest_below test n) 0 < k = greatest_below_within test n k (omega arith) g in
-    elim (test n) as (λ (b : Bool). unwrap_or (elim b [ true ↦ Some n | false ↦ greatest_below test n ]) 0 < k) [
-      | true ↦ omega arith
-      | false ↦ below
-    ]
+    elim (cases_Bool (test n)) [ inl passes ↦ rw passes (omega arith) | inr fails ↦ rw fails below ]
 
 pub list_place_within : (x r id : ℕ) (items : List ℤ) (weights : List ℕ) → 0 < length items → list_place x r id items weights < length items
 unfolding list_place

@@ -1,10 +1,10 @@
 -- Least and greatest numbers that pass a test.
-use Rattle.std.specs.Prelude.{ℕ, zero, suc, Bool, true, false, Option, Some, None}
+use Rattle.std.specs.Prelude.{ℕ, zero, suc, Bool, true, false, Option, Some, None, if◌then◌else◌}
 
 -- the least of the n numbers from k on that passes
 unfoldable pub least_from : (ℕ → Bool) → ℕ → ℕ → Option ℕ
 least_from test k zero = None
-least_from test k (suc n) = elim (test k) [ true ↦ Some k | false ↦ least_from test (suc k) n ]
+least_from test k (suc n) = if test k then Some k else least_from test (suc k) n
 
 -- the least number below n that passes
 abbrev pub least_below : (ℕ → Bool) → ℕ → Option ℕ
@@ -13,4 +13,4 @@ least_below test n = least_from test 0 n
 -- the greatest number below n that passes
 unfoldable pub greatest_below : (ℕ → Bool) → ℕ → Option ℕ
 greatest_below test zero = None
-greatest_below test (suc n) = elim (test n) [ true ↦ Some n | false ↦ greatest_below test n ]
+greatest_below test (suc n) = if test n then Some n else greatest_below test n

@@ -4,7 +4,7 @@ ghost use Rattle.std.specs.Prelude.{◌≡◌, ◌+◌, ◌≤◌, ◌<◌, ◌^
 ghost use Rattle.std.specs.List.{list_any};
 ghost use Rattle.pgp_crush.specs.Descent.{rank_limit};
 ghost use Rattle.pgp_crush.specs.Candidate.{input_of, candidate};
-ghost use Rattle.pgp_crush.specs.Cells.{is_open, holds, after_try, cells_row, leaf_held, indep};
+ghost use Rattle.pgp_crush.specs.Cells.{is_open, holds, after_try, after_look, cells_row, leaf_held, indep};
 
 use super::candidate::{Candidate, Input, Pick};
 use super::descent::Rank;
@@ -59,15 +59,27 @@ impl Input<'_> {
     }
 
     /// Tries the open ones of `n` positions in this round, in order.
+    #[tactic(auto, unfolding(crate::specs::Cells::cells_row))]
     fn try_row(&self, cells: &mut [Cell], round: u8, n: u8)
         requires { length cells.old ≡ n }
         ensures { cells.new ≡ cells_row (input_of self.now.tree.now self.now.weights.now self.now.x self.now.kind) n round cells.old n }
     {
         for position in 0..n {
             let place = usize::from(position);
-            if cells[place].is_open() {
-                cells[place] = self.try_cell(cells, Rank::Spread(position, round, n), position);
-            }
+            let rank = Rank::Spread(position, round, n);
+            cells[place] = self.look_at(cells, cells[place], rank, position);
+        }
+    }
+
+    /// What a position has after it was looked at: one that is still open is tried.
+    fn look_at(&self, cells: &[Cell], cell: Cell, rank: Rank, position: u8) -> Cell
+        requires { rank_limit rank + position < 2 ^ 32 }
+        ensures { result ≡ after_look cells.now cell (candidate (input_of self.now.tree.now self.now.weights.now self.now.x self.now.kind) rank position) }
+    {
+        match cell {
+            Cell::Open => self.try_cell(cells, rank, position),
+            Cell::Gone => Cell::Gone,
+            Cell::Held(pick) => Cell::Held(pick),
         }
     }
 
