@@ -35,16 +35,12 @@ pub below_levels-zero : (tree : List Bucket) → below_levels tree 0 ≡ tree
 unfolding below_levels
 below_levels-zero tree = refl
 
-pub below_levels-suc : (tree : List Bucket) (k : ℕ) → below_levels tree (suc k) ≡ filter (λ b. is_held (below_levels tree k) b.id) tree
-unfolding below_levels
-below_levels-suc tree k = refl
-
 -- the next level, by a test that tells which ids the level before holds
 pub below_levels-more : (tree : List Bucket) (k : ℕ) (held : ℤ → Bool) → ((q : ℤ) → held q ≡ is_held (below_levels tree k) q) →
     filter (λ b. held b.id) tree ≡ below_levels tree (k + 1)
+unfolding below_levels
 below_levels-more tree k held h =
-    filter_agree (λ (b : Bucket). held b.id) (λ b. is_held (below_levels tree k) b.id) (λ b. h b.id) tree
-    ∙ sym (below_levels-suc tree k) ∙ ap (below_levels tree) (sym (add-one k))
+    filter_agree (λ (b : Bucket). held b.id) (λ b. is_held (below_levels tree k) b.id) (λ b. h b.id) tree ∙ ap (below_levels tree) (sym (add-one k))
 
 -- no bucket stands below what holds nothing
 
@@ -56,12 +52,13 @@ none-held above (b ∷ tree) h =
     ∙ none-held above tree h
 
 below_levels-none : (tree : List Bucket) (k m : ℕ) → items_of (below_levels tree k) ≡ [] → below_levels tree (suc m + k) ≡ []
+unfolding below_levels
 below_levels-none tree k zero h =
     let level : suc zero + k ≡ suc k = omega arith in
-    ap (below_levels tree) level ∙ below_levels-suc tree k ∙ none-held (below_levels tree k) tree h
+    ap (below_levels tree) level ∙ none-held (below_levels tree k) tree h
 below_levels-none tree k (suc m) h =
     let level : suc (suc m) + k ≡ suc (suc m + k) = omega arith in
-    ap (below_levels tree) level ∙ below_levels-suc tree (suc m + k)
+    ap (below_levels tree) level
     ∙ none-held (below_levels tree (suc m + k)) tree (ap items_of (below_levels-none tree k m h))
 
 pub not_too_deep : (tree : List Bucket) (k : ℕ) → k < 10 → items_of (below_levels tree k) ≡ [] → is_too_deep tree ≡ false

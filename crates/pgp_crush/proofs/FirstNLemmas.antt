@@ -7,7 +7,6 @@ use Rattle.pgp_crush.specs.Least.{least_from}
 use Rattle.pgp_crush.specs.Picks.{Picks, no_picks, with_pick}
 use Rattle.pgp_crush.specs.Candidate.{Input}
 use Rattle.pgp_crush.specs.FirstN.{is_failure, taken_by, try_of, is_good_try, pick_of, first_picks}
-use Rattle.pgp_crush.proofs.LeastLemmas.{least_from-nil, least_from-cons}
 
 -- ---- one replica
 
@@ -22,11 +21,12 @@ pick_of-tries i taken rep = refl
 -- one try, and those after it if it is a failure
 pub from_try-more : (i : Input) (taken : Picks) (rep f : ℕ) (c : Candidate) (fails : Bool) → f < 51 → c ≡ try_of i rep f → is_failure taken c ≡ fails
     → from_try i taken rep f (51 - f) ≡ cond fails (from_try i taken rep (f + 1) (51 - (f + 1))) (taken_by c)
+unfolding least_from
 from_try-more i taken rep f c fails within is e =
     let left : 51 - f ≡ suc (51 - (f + 1)) = omega arith in
     ap (from_try i taken rep f) left
-    ∙ ap (option_and_then (λ f. taken_by (try_of i rep f))) (least_from-cons (is_good_try i taken rep) f (51 - (f + 1))
-    ∙ ap (λ (b : Bool). cond (not b) (Some f) (least_from (is_good_try i taken rep) (suc f) (51 - (f + 1)))) (ap (is_failure taken) (sym is) ∙ e))
+    ∙ ap (λ (b : Bool). option_and_then (λ f. taken_by (try_of i rep f)) (cond (not b) (Some f) (least_from (is_good_try i taken rep) (suc f) (51 - (f + 1)))))
+    (ap (is_failure taken) (sym is) ∙ e)
     ∙ by_test fails
   where
     by_test : (b : Bool) → option_and_then (λ f. taken_by (try_of i rep f)) (cond (not b) (Some f) (least_from (is_good_try i taken rep) (suc f) (51 - (f + 1))))
@@ -35,8 +35,8 @@ from_try-more i taken rep f c fails within is e =
     by_test false = ap taken_by (sym is)
 
 pub from_try-end : (i : Input) (taken : Picks) (rep f left : ℕ) → left ≡ 0 → from_try i taken rep f left ≡ None
-from_try-end i taken rep f left e =
-    ap (option_and_then (λ f. taken_by (try_of i rep f))) (ap (least_from (is_good_try i taken rep) f) e ∙ least_from-nil (is_good_try i taken rep) f)
+unfolding least_from
+from_try-end i taken rep f left e = ap (from_try i taken rep f) e
 
 -- ---- the replicas
 
@@ -44,14 +44,10 @@ pub first_picks-zero : (i : Input) → first_picks i 0 ≡ no_picks
 unfolding first_picks
 first_picks-zero i = refl
 
-pub first_picks-suc : (i : Input) (rep : ℕ) → first_picks i (suc rep) ≡ with_pick (first_picks i rep) (pick_of i (first_picks i rep) rep)
-unfolding first_picks
-first_picks-suc i rep = refl
-
 pub first_picks-more : (i : Input) (rep : ℕ) (taken : Picks) → taken ≡ first_picks i rep → first_picks i (rep + 1) ≡ with_pick taken (pick_of i taken rep)
+unfolding first_picks
 first_picks-more i rep taken e =
-    ap (first_picks i) (add-one rep) ∙ first_picks-suc i rep
-    ∙ ap (λ (t : Picks). with_pick t (pick_of i t rep)) (sym e)
+    ap (first_picks i) (add-one rep) ∙ ap (λ (t : Picks). with_pick t (pick_of i t rep)) (sym e)
 
 pub with_pick-room : (taken : Picks) (pick : Option Pick) → length (with_pick taken pick).leaves ≤ length taken.leaves + 1
 with_pick-room taken None = omega arith

@@ -7,7 +7,7 @@ use Rattle.pgp_crush.specs.Candidate.{Input, input_of}
 use Rattle.pgp_crush.specs.Cells.{cells_after, leaf_held, indep}
 use Rattle.pgp_crush.specs.FirstN.{pick_of, first_picks, first_n}
 use Rattle.pgp_crush.specs.Placement.{IsPlacedBy, IsPlacement, placement}
-use Rattle.pgp_crush.proofs.FirstNLemmas.{first_picks-zero, first_picks-suc, with_pick-room}
+use Rattle.pgp_crush.proofs.FirstNLemmas.{with_pick-room}
 use Rattle.pgp_crush.proofs.IndepLemmas.{after-size, indep-is, indep-by_table}
 
 placed-is : (b : Bool) (i : Input) (n : ℕ) → IsPlacedBy b i n (if b then indep i n else first_n i n)
@@ -34,9 +34,9 @@ placement-only (Some tree) rule weights x n places is = placed-only rule.indep (
 -- ---- sizes
 
 picks-size : (i : Input) (n : ℕ) → length (first_n i n) ≤ n
-picks-size i zero = omega (arith, ap (λ t. length t.leaves) (first_picks-zero i))
-picks-size i (suc n) =
-    omega (arith, picks-size i n, with_pick-room (first_picks i n) (pick_of i (first_picks i n) n), ap (λ t. length t.leaves) (first_picks-suc i n))
+unfolding first_picks
+picks-size i zero = omega arith
+picks-size i (suc n) = omega (arith, picks-size i n, with_pick-room (first_picks i n) (pick_of i (first_picks i n) n))
 
 indep-size : (i : Input) (n : ℕ) → length (indep i n) ≡ n
 indep-size i n = length-map (cells_after i n 51) leaf_held ∙ after-size i n 51

@@ -1,6 +1,7 @@
 -- The way down from a bucket: the item chosen in it, the item chosen in that bucket, and so on.
 use Rattle.std.specs.Prelude.{ℕ, ℤ, zero, suc, ◌+◌, ◌*◌, ◌%◌, List, [], ◌∷◌, length, Bool, false, ◌||◌, Option, Some, None, nat_eq, if◌then◌else◌}
 use Rattle.std.specs.List.{find}
+use Rattle.std.specs.Option.{option_map_or}
 use Rattle.pgp_ids.specs.declared.bucket.BucketAlg.{BucketAlg}
 use Rattle.pgp_ids.specs.declared.bucket.BucketAlg.TheVariants.{Uniform, List as Weighed}
 use Rattle.pgp_crush.specs.declared.descent.Rank.{Rank}
@@ -8,7 +9,9 @@ use Rattle.pgp_crush.specs.declared.descent.Rank.TheVariants.{Same, Spread}
 use Rattle.pgp_crush.specs.declared.descent.Step.{Step}
 use Rattle.pgp_crush.specs.declared.descent.Descent.{Descent}
 use Rattle.pgp_crush.specs.declared.descent.Descent.TheVariants.{Found, Early, Empty}
-use Rattle.pgp_crush.specs.Bucket.{Bucket, bucket_at, has_kind, is_device}
+use Rattle.pgp_crush.specs.declared.level.Level.{Level}
+use Rattle.pgp_crush.specs.declared.level.Level.TheVariants.{End, On}
+use Rattle.pgp_crush.specs.Bucket.{Bucket, bucket_of, bucket_at, has_kind, is_device}
 use Rattle.pgp_crush.specs.Choice.{choice}
 
 -- a uniform bucket whose number of items is a multiple of n
@@ -51,6 +54,16 @@ stop_at tree kind (Some s) = if has_kind tree kind s.item then Found s else Earl
 -- what comes first among the steps of a way down
 unfoldable pub first_stop : List Bucket → ℕ → List Step → Descent
 first_stop tree kind steps = stop_at tree kind (find (λ s. has_kind tree kind s.item || is_device s.item) steps)
+
+-- what the way down comes to at a step, where `below` says what it comes to from each bucket
+abbrev pub at_step : List Bucket → ℕ → Step → (Bucket → Descent) → Descent
+at_step tree kind s below =
+    if has_kind tree kind s.item then Found s else (if is_device s.item then Early else option_map_or below (bucket_at tree s.item) Empty)
+
+-- what a level comes to: the end of the way down, or what `below` says of the bucket into which it leads on
+abbrev pub end_of : (Bucket → Descent) → Level → Descent
+end_of below (End descent) = descent
+end_of below (On next) = below (bucket_of next.now)
 
 -- what the way down from a bucket comes to first
 abbrev pub descent : List Bucket → ℕ → Rank → ℕ → Option Bucket → Descent

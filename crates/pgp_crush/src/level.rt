@@ -1,13 +1,12 @@
 //! One level of a way down.
 
 ghost use Rattle.std.specs.Prelude.{◌≡◌, ℕ, ◌+◌, ◌<◌, ◌≤◌, ◌^◌, Contains, length, sum, Some};
-ghost use Rattle.pgp_crush.specs.declared.descent.Rank.{Rank};
 ghost use Rattle.pgp_crush.specs.declared.descent.Step.{Step};
 ghost use Rattle.pgp_crush.specs.declared.descent.Descent.{Descent};
 ghost use Rattle.pgp_crush.specs.declared.descent.Descent.TheVariants.{Found};
 ghost use Rattle.pgp_crush.specs.declared.level.Level.TheVariants.{End, On};
-ghost use Rattle.pgp_crush.specs.Bucket.{bucket_of};
-ghost use Rattle.pgp_crush.specs.Descent.{rank_limit, path, path_by, step_of, first_stop};
+ghost use Rattle.pgp_crush.specs.Bucket.{Bucket, bucket_of};
+ghost use Rattle.pgp_crush.specs.Descent.{rank_limit, path, step_of, first_stop, at_step, end_of};
 
 use super::chooser::Chooser;
 use super::descent::{Descent, Rank, Step};
@@ -34,8 +33,8 @@ pub(crate) fn level_at<'a>(
     bucket: &BucketSpec,
 ) -> Level<'a>
     requires { sum bucket.now.weights < 2 ^ 32 }
-    ensures end { (d : Descent) (m : ℕ) → result ≡ End d → first_stop tree.now kind (path tree.now x rank (m + 1) (Some (bucket_of bucket.now))) ≡ d }
-    ensures on { (next : _) (m : ℕ) → result ≡ On next → first_stop tree.now kind (path tree.now x rank (m + 1) (Some (bucket_of bucket.now))) ≡ first_stop tree.now kind (path tree.now x rank m (Some (bucket_of next.now))) }
+    ensures value { (m : ℕ) → first_stop tree.now kind (path tree.now x rank (m + 1) (Some (bucket_of bucket.now)))
+        ≡ end_of (λ b. first_stop tree.now kind (path tree.now x rank m (Some b))) result }
     ensures within { (step : Step) → result ≡ End (Found step) → step.r ≤ rank_limit rank }
     ensures weighed { (next : _) → result ≡ On next → sum next.now.weights < 2 ^ 32 }
 {
@@ -57,24 +56,30 @@ pub(crate) fn level_at<'a>(
 /// The level at a bucket that has items and chooses one of them as `chooser` does, with the number `r`.
 fn level_by<'a, C: Chooser>(tree: &'a Tree, chooser: &C, x: u32, r: u32, kind: u8) -> Level<'a>
     requires { 0 < length (C.items chooser.now) }
-    ensures end { (d : Descent) (rank : Rank) (m : ℕ) → result ≡ End d → first_stop tree.now kind (path_by tree.now x rank m (step_of (C.choice chooser.now x r) r)) ≡ d }
-    ensures on { (next : _) (rank : Rank) (m : ℕ) → result ≡ On next → first_stop tree.now kind (path_by tree.now x rank m (step_of (C.choice chooser.now x r) r)) ≡ first_stop tree.now kind (path tree.now x rank m (Some (bucket_of next.now))) }
+    ensures value { (below : Bucket → Descent) → at_step tree.now kind (step_of (C.choice chooser.now x r) r) below ≡ end_of below result }
     ensures found { (step : Step) → result ≡ End (Found step) → step.r ≡ r }
     ensures item { (step : Step) → result ≡ End (Found step) → Contains (C.items chooser.now) step.item }
     ensures next { (next : _) → result ≡ On next → Contains (C.items chooser.now) next.now.id }
     ensures weighed { (next : _) → result ≡ On next → sum next.now.weights < 2 ^ 32 }
 {
     let item = chooser.choose(x, r);
-    let step = Step { item, r };
-    if item >= 0 {
-        let descent = if kind == 0 {
-            Descent::Found(step)
-        } else {
-            Descent::Early
-        };
-        return Level::End(descent);
+    level_of(tree, Step { item, r }, kind)
+}
+
+/// The level whose bucket chose the item of this step.
+fn level_of(tree: &Tree, step: Step, kind: u8) -> Level<'_>
+    ensures value { (below : Bucket → Descent) → at_step tree.now kind step below ≡ end_of below result }
+    ensures found { (s : Step) → result ≡ End (Found s) → s ≡ step }
+    ensures next { (next : _) → result ≡ On next → next.now.id ≡ step.item }
+    ensures weighed { (next : _) → result ≡ On next → sum next.now.weights < 2 ^ 32 }
+{
+    if step.item >= 0 && kind == 0 {
+        return Level::End(Descent::Found(step));
     }
-    match tree.bucket(item) {
+    if step.item >= 0 {
+        return Level::End(Descent::Early);
+    }
+    match tree.bucket(step.item) {
         None => Level::End(Descent::Empty),
         Some(next) if next.kind == kind => Level::End(Descent::Found(step)),
         Some(next) => Level::On(next),

@@ -1,7 +1,7 @@
 //! The rule of a pool.
 
 /// How a pool places its groups.
-#[derive(Clone, Copy, Debug, PartialEq, Eq, Hash)]
+#[derive(Clone, Copy, Debug, PartialEq, Eq)]
 pub struct Rule {
     /// Each position keeps its place (erasure pools), or the first devices are listed (replicated pools).
     pub indep: bool,

@@ -1,6 +1,6 @@
 use Rattle.std.proofs.Common.{◌≡◌, ℕ, ◌+◌, ◌-◌, Some, arith, sym, ap, ◌∙◌}
-use Rattle.pgp_crush.specs.Bucket.{bucket_of}
-use Rattle.pgp_crush.specs.Descent.{path, first_stop}
+use Rattle.pgp_crush.specs.Bucket.{Bucket, bucket_of}
+use Rattle.pgp_crush.specs.Descent.{path, first_stop, end_of}
 use Rattle.pgp_crush.proofs.DescentLemmas.{down-end}
 use Rattle.pgp_crush.proofs.descent.descend.Goals as goal
 
@@ -9,7 +9,8 @@ returns-in-End-clause-value c =
     let left : 10 - c.loop-level._level ≡ 10 - (c.loop-level._level + 1) + 1 = omega arith in
     sym (c.loop-level.invariant.same
     ∙ ap (λ (k : ℕ). first_stop c.args.tree.now c.args.kind (path c.args.tree.now c.args.x c.args.rank k (Some (bucket_of c.loop-level.bucket.now)))) left
-    ∙ c.level_at.ensures.end c.in-End.descent (10 - (c.loop-level._level + 1)) c.in-End.is)
+    ∙ c.level_at.ensures.value (10 - (c.loop-level._level + 1))
+    ∙ ap (end_of (λ (b : Bucket). first_stop c.args.tree.now c.args.kind (path c.args.tree.now c.args.x c.args.rank (10 - (c.loop-level._level + 1)) (Some b)))) c.in-End.is)
 
 pub returns-clause-value : goal.returns-clause-value
 returns-clause-value c =
@@ -23,5 +24,6 @@ loop-level-preserved c =
       weighed = c.level_at.ensures.weighed c.in-On.next c.in-On.is;
       same = c.loop-level.invariant.same
           ∙ ap (λ (k : ℕ). first_stop c.args.tree.now c.args.kind (path c.args.tree.now c.args.x c.args.rank k (Some (bucket_of c.loop-level.bucket.now)))) left
-          ∙ c.level_at.ensures.on c.in-On.next (10 - (c.loop-level._level + 1)) c.in-On.is;
+          ∙ c.level_at.ensures.value (10 - (c.loop-level._level + 1))
+          ∙ ap (end_of (λ (b : Bucket). first_stop c.args.tree.now c.args.kind (path c.args.tree.now c.args.x c.args.rank (10 - (c.loop-level._level + 1)) (Some b)))) c.in-On.is;
     }
