@@ -2,10 +2,12 @@
 -- finds it.
 use Rattle.std.proofs.Common.{◌≡◌, ◌≢◌, ℕ, zero, suc, ◌+◌, ◌<◌, ◌⊎◌, List, [], ◌∷◌, ◌++◌, Option, Some, None, Bool, true, false, not, cond, length, take, get_or, filter, unwrap_or, option_map, append-nil, refl, ap, sym, ◌∙◌, subst, inl, inr, arith}
 use Rattle.std.specs.List.{All, Contains, find}
-use Rattle.std.proofs.lemmas.Bool.{false_from_ne_true}
+use Rattle.std.proofs.lemmas.Bool.{false_from_ne_true, not-true, not-false}
 use Rattle.std.proofs.lemmas.Bool.Decides.{nat_tests}
+use Rattle.std.proofs.lemmas.List.{get_or-take, get_or_append_left, get_or_push, length-take, length_push}
 use Rattle.std.proofs.lemmas.List.Elements.{All-contains, All-contains_itself, All-weaker, All-take, All-push, Contains-push, Contains-append_left, Contains-push_cases, filter_more, filter_passes}
 use Rattle.std.proofs.lemmas.List.Kept.{AllPairs-filter, AllPairs-cons}
+use Rattle.std.proofs.lemmas.List.Quantifiers.{all_pairs_push}
 use Rattle.std.proofs.lemmas.List.Sums.{AllPass-from_list_all, list_all-from_AllPass}
 use Rattle.pgp_ids.specs.Member.{is_same_member}
 use Rattle.pgp_lists.proofs.Lists.{take-front}
@@ -40,14 +42,6 @@ same_or_distinct (x ∷ infos) distinct a b in_a in_b =
 abbrev Unbeaten : (Info → Info → Bool) → List Info → Info → Type 0
 Unbeaten better infos info = (other : Info) → Contains infos other → better other info ≡ false
 
-not_both : (b c : Bool) → b ≡ not c → b ≡ true → c ≡ true → ⊥
-not_both b true is left right = cc
-not_both b false is left right = cc
-
-not_neither : (b c : Bool) → b ≡ not c → b ≡ false → c ≡ false → ⊥
-not_neither b true is left right = cc
-not_neither b false is left right = cc
-
 -- what was unbeaten stays so beside an info that is not preferred to it
 unbeaten_more : (better : Info → Info → Bool) (x : Info) (infos : List Info) (m : Info) → Unbeaten better infos m → better x m ≡ false → Unbeaten better (x ∷ infos) m
 unbeaten_more better x infos m unbeaten less other in' =
@@ -60,7 +54,7 @@ unbeaten_more better x infos m unbeaten less other in' =
 unbeaten_above : (better : Info → Info → Bool) → IsPreference better → (x : Info) (infos : List Info) → HasDistinctMembers infos → ((y : Info) → Contains infos y → x.member ≢ y.member) → (m : Info) → Contains infos m → Unbeaten better infos m → better x m ≡ true → Unbeaten better infos x
 unbeaten_above better laws x infos distinct differ m in_m unbeaten above other in' =
     elim (same_or_distinct infos distinct other m in' in_m) [
-      | inl same ↦ ap (λ y. better y x) same ∙ false_from_ne_true (better m x) (λ back. not_both (better x m) (better m x) (laws.one_of_two x m (differ m in_m)) above back)
+      | inl same ↦ ap (λ y. better y x) same ∙ not-true (better m x) (sym (laws.one_of_two x m (differ m in_m)) ∙ above)
       | inr apart ↦ false_from_ne_true (better other x) (λ back.
           let still : better other m ≡ true = laws.transitive other x m (λ same. differ other in' (sym same)) (differ m in_m) apart back above in
           let none : better other m ≡ false = unbeaten other in' in
@@ -121,7 +115,10 @@ one_unbeaten : (better : Info → Info → Bool) → IsPreference better → (in
 one_unbeaten better laws infos distinct a b in_a in_b best_a best_b =
     elim (same_or_distinct infos distinct a b in_a in_b) [
       | inl same ↦ same
-      | inr apart ↦ absurd (not_neither (better a b) (better b a) (laws.one_of_two a b apart) (best_b a in_a) (best_a b in_b))
+      | inr apart ↦
+          let less : better b a ≡ false = best_a b in_b in
+          let more : better b a ≡ true = not-false (better b a) (sym (laws.one_of_two a b apart) ∙ best_b a in_a) in
+          cc
     ]
 
 -- the search in a whole list
@@ -162,23 +159,15 @@ none-best_info better infos empty = ap (λ (kept : List Info). find (is_unbeaten
 
 -- the last of infos of distinct members is of another member than the others
 differ_last : (infos : List Info) (x : Info) → HasDistinctMembers (infos ++ x ∷ []) → (y : Info) → Contains infos y → x.member ≢ y.member
-differ_last [] x distinct y in' = absurd (Contains-nil y in')
-differ_last (z ∷ infos) x distinct y in' =
-    let differ : z.member ≢ x.member = differ_first z (infos ++ x ∷ []) distinct x (Contains-push infos x) in
-    let rest : HasDistinctMembers (infos ++ x ∷ []) = AllPairs-rest (λ a b. a.member ≢ b.member) z (infos ++ x ∷ []) distinct in
-    elim (Contains-cases z infos y in') [
-      | inl here ↦ λ same. differ (ap (λ (i : Info). i.member) here ∙ sym same)
-      | inr later ↦ differ_last infos x rest y later
-    ]
+differ_last infos x distinct y in' same =
+    distinct in'.0 (length infos) y in'.1 (omega (arith, length_push infos x))
+    (ap (λ (i : Info). i.member) (get_or_append_left infos (x ∷ []) y in'.0 in'.1 ∙ in'.2) ∙ sym same
+    ∙ ap (λ (i : Info). i.member) (sym (get_or_push infos x y (length infos) refl)))
 
 distinct_take : (infos : List Info) (n : ℕ) → HasDistinctMembers infos → HasDistinctMembers (take n infos)
-distinct_take [] zero distinct = distinct
-distinct_take [] (suc n) distinct = distinct
-distinct_take (x ∷ infos) zero distinct = AllPairs-nil (λ a b. a.member ≢ b.member)
-distinct_take (x ∷ infos) (suc n) distinct =
-    AllPairs-cons (λ a b. a.member ≢ b.member) x (take n infos)
-    (All-weaker (Contains infos) (λ y. x.member ≢ y.member) (λ y in'. differ_first x infos distinct y in') (take n infos) (All-take (Contains infos) n infos (All-contains_itself infos)))
-    (distinct_take infos n (AllPairs-rest (λ a b. a.member ≢ b.member) x infos distinct))
+distinct_take infos n distinct = λ i j d less below.
+    let low : j < n = omega (arith, length-take n infos) in
+    rw (get_or-take n infos i d (omega arith), get_or-take n infos j d low) (distinct i j d less (omega (arith, length-take n infos)))
 
 distinct_before : (infos : List Info) (x : Info) → HasDistinctMembers (infos ++ x ∷ []) → HasDistinctMembers infos
 distinct_before infos x distinct = subst HasDistinctMembers (take-front infos (x ∷ [])) (distinct_take (infos ++ x ∷ []) (length infos) distinct)
@@ -213,15 +202,10 @@ behind better laws infos x distinct (Some m) found is =
 -- ---- one step of the search
 
 -- the ones that pass among the first infos, with one more
-more_passes : (test : Info → Bool) (infos : List Info) (i : ℕ) (x : Info) → i < length infos → x ≡ get_or infos i x → test x ≡ true → filter test (take (i + 1) infos) ≡ filter test (take i infos) ++ x ∷ []
-more_passes test infos i x below at passes =
+more : (test : Info → Bool) (infos : List Info) (i : ℕ) (x : Info) (passes : Bool) → i < length infos → x ≡ get_or infos i x → test x ≡ passes → filter test (take (i + 1) infos) ≡ filter test (take i infos) ++ cond passes (x ∷ []) []
+more test infos i x passes below at is =
     filter_more test infos i x below ∙ ap (λ y. filter test (take i infos) ++ cond (test y) (y ∷ []) []) (sym at)
-    ∙ ap (λ b. filter test (take i infos) ++ cond b (x ∷ []) []) passes
-
-more_fails : (test : Info → Bool) (infos : List Info) (i : ℕ) (x : Info) → i < length infos → x ≡ get_or infos i x → test x ≡ false → filter test (take (i + 1) infos) ≡ filter test (take i infos)
-more_fails test infos i x below at fails =
-    filter_more test infos i x below ∙ ap (λ y. filter test (take i infos) ++ cond (test y) (y ∷ []) []) (sym at)
-    ∙ ap (λ b. filter test (take i infos) ++ cond b (x ∷ []) []) fails ∙ append-nil _
+    ∙ ap (λ b. filter test (take i infos) ++ cond b (x ∷ []) []) is
 
 distinct_passing : (test : Info → Bool) (infos : List Info) (i : ℕ) → HasDistinctMembers infos → HasDistinctMembers (filter test (take i infos))
 distinct_passing test infos i distinct = AllPairs-filter (λ a b. a.member ≢ b.member) test (take i infos) (distinct_take infos i distinct)
@@ -229,20 +213,20 @@ distinct_passing test infos i distinct = AllPairs-filter (λ a b. a.member ≢ b
 -- a passing info that is ahead is the best one so far
 pub step-ahead : (better : Info → Info → Bool) → IsPreference better → (test : Info → Bool) (infos : List Info) (i : ℕ) (x : Info) (best : Option Info) → HasDistinctMembers infos → i < length infos → x ≡ get_or infos i x → best ≡ unbeaten_of_all better (filter test (take i infos)) → test x ≡ true → is_ahead better x best ≡ true → Some x ≡ unbeaten_of_all better (filter test (take (i + 1) infos))
 step-ahead better laws test infos i x best distinct below at so_far passes is =
-    let more : filter test (take (i + 1) infos) ≡ filter test (take i infos) ++ x ∷ [] = more_passes test infos i x below at passes in
-    let all : HasDistinctMembers (filter test (take i infos) ++ x ∷ []) = subst HasDistinctMembers more (distinct_passing test infos (i + 1) distinct) in
-    sym (ap (unbeaten_of_all better) more ∙ ahead better laws (filter test (take i infos)) x all best (sym so_far) is)
+    let grown : filter test (take (i + 1) infos) ≡ filter test (take i infos) ++ x ∷ [] = more test infos i x true below at passes in
+    let all : HasDistinctMembers (filter test (take i infos) ++ x ∷ []) = subst HasDistinctMembers grown (distinct_passing test infos (i + 1) distinct) in
+    sym (ap (unbeaten_of_all better) grown ∙ ahead better laws (filter test (take i infos)) x all best (sym so_far) is)
 
 -- a passing info that is behind leaves the best one so far
 pub step-behind : (better : Info → Info → Bool) → IsPreference better → (test : Info → Bool) (infos : List Info) (i : ℕ) (x : Info) (best : Option Info) → HasDistinctMembers infos → i < length infos → x ≡ get_or infos i x → best ≡ unbeaten_of_all better (filter test (take i infos)) → test x ≡ true → is_ahead better x best ≡ false → best ≡ unbeaten_of_all better (filter test (take (i + 1) infos))
 step-behind better laws test infos i x best distinct below at so_far passes is =
-    let more : filter test (take (i + 1) infos) ≡ filter test (take i infos) ++ x ∷ [] = more_passes test infos i x below at passes in
-    let all : HasDistinctMembers (filter test (take i infos) ++ x ∷ []) = subst HasDistinctMembers more (distinct_passing test infos (i + 1) distinct) in
-    sym (ap (unbeaten_of_all better) more ∙ behind better laws (filter test (take i infos)) x all best (sym so_far) is)
+    let grown : filter test (take (i + 1) infos) ≡ filter test (take i infos) ++ x ∷ [] = more test infos i x true below at passes in
+    let all : HasDistinctMembers (filter test (take i infos) ++ x ∷ []) = subst HasDistinctMembers grown (distinct_passing test infos (i + 1) distinct) in
+    sym (ap (unbeaten_of_all better) grown ∙ behind better laws (filter test (take i infos)) x all best (sym so_far) is)
 
 -- so does one that doesn't pass
 pub step-fails : (better : Info → Info → Bool) (test : Info → Bool) (infos : List Info) (i : ℕ) (x : Info) (best : Option Info) → i < length infos → x ≡ get_or infos i x → best ≡ unbeaten_of_all better (filter test (take i infos)) → test x ≡ false → best ≡ unbeaten_of_all better (filter test (take (i + 1) infos))
-step-fails better test infos i x best below at so_far fails = so_far ∙ ap (unbeaten_of_all better) (sym (more_fails test infos i x below at fails))
+step-fails better test infos i x best below at so_far fails = so_far ∙ ap (unbeaten_of_all better) (sym (more test infos i x false below at fails ∙ append-nil _))
 
 -- ---- infos that are put and dropped
 
@@ -262,11 +246,7 @@ differ_kept member infos =
     (without member infos) (filter_passes (λ info. not (is_same_member info.member member)) infos)
 
 distinct_push : (infos : List Info) (x : Info) → HasDistinctMembers infos → All (λ y. y.member ≢ x.member) infos → HasDistinctMembers (infos ++ x ∷ [])
-distinct_push [] x distinct differ = AllPairs-cons (λ a b. a.member ≢ b.member) x [] (λ k d below. absurd (omega arith)) (AllPairs-nil (λ a b. a.member ≢ b.member))
-distinct_push (y ∷ infos) x distinct differ =
-    AllPairs-cons (λ a b. a.member ≢ b.member) y (infos ++ x ∷ [])
-    (All-push (λ z. y.member ≢ z.member) infos x (AllPairs-first (λ a b. a.member ≢ b.member) y infos distinct) (differ 0 y (omega arith)))
-    (distinct_push infos x (AllPairs-rest (λ a b. a.member ≢ b.member) y infos distinct) (λ k d below. differ (suc k) d (omega arith)))
+distinct_push infos x distinct differ = all_pairs_push (λ a b. a.member ≢ b.member) infos x distinct differ
 
 pub distinct_with : (info : Info) (infos : List Info) → HasDistinctMembers infos → HasDistinctMembers (with_info info infos)
 distinct_with info infos distinct = distinct_push (without info.member infos) info (distinct_without info.member infos distinct) (differ_kept info.member infos)
