@@ -1,6 +1,6 @@
 -- What a copy lacks by a log: the objects whose entry of the greatest number is a modify, in the order of their names.
-use Rattle.std.proofs.Common.{◌≡◌, ℕ, ◌<◌, ◌≤◌, List, [], ◌∷◌, ◌++◌, Bool, true, false, ◌&&◌, ◌||◌, nat_lt, nat_le, Option, Some, refl, ap, ap₂, sym, ◌∙◌, subst, inl, inr, arith, ltb-true, lt-ltb}
-use Rattle.std.specs.List.{AllPairs, Contains, filter_map}
+use Rattle.std.proofs.Common.{◌≡◌, ℕ, ◌<◌, ◌≤◌, List, [], ◌∷◌, ◌++◌, Bool, true, false, ◌&&◌, ◌||◌, nat_lt, nat_le, map, refl, ap, ap₂, sym, ◌∙◌, subst, inl, inr, arith, ltb-true, lt-ltb}
+use Rattle.std.specs.List.{AllPairs, Contains, filter}
 use Rattle.std.specs.Cmp.Lexicographic.{slice_cmp}
 use Rattle.std.specs.Ordering.{nat_cmp, is_lt}
 use Rattle.std.specs.declared.cmp.Ordering.TheVariants.{Less}
@@ -18,13 +18,13 @@ use Rattle.pgp_ids.specs.declared.peer.MissingObject.{MissingObject}
 use Rattle.pgp_ids.specs.declared.peer.PeerState.TheVariants.{Missing}
 use Rattle.pgp_ids.specs.declared.report.Info.{Info}
 use Rattle.pgp_ids.specs.declared.version.Version.{Version}
-use Rattle.pgp_lists.proofs.Members.{Contains-here, Contains-cases, Contains-later, filter-contains, contains-filter}
-use Rattle.pgp_lists.proofs.Pairs.{AllPairs-weaker}
+use Rattle.pgp_lists.proofs.Members.{Contains-here, Contains-cases, Contains-later, filter-contains, contains-filter, map-contains, contains-map}
+use Rattle.pgp_lists.proofs.Pairs.{AllPairs-mapped, AllPairs-weaker}
 use Rattle.pgp_missing.specs.Last.{IsLast}
 use Rattle.pgp_missing.specs.Log.{number_of, by_number, IsByNumber, is_in_log, within, log_of, has_version, is_full, is_rising_from, is_whole}
-use Rattle.pgp_missing.specs.Missing.{object_of, by_object, entries_above, made_by, missing_by, missing_above, IsByName, IsMissing, peer_state}
+use Rattle.pgp_missing.specs.Missing.{object_of, by_object, entries_above, is_modify, missing_by, missing_above, IsByName, IsMissing, peer_state}
 use Rattle.pgp_missing.proofs.LastLemmas.{last_of_each-ordered, last_of_each-IsLast, IsLast-last_of_each}
-use Rattle.pgp_missing.proofs.Lists.{Contains-split, AllPairs-after, AllPairs-before, contains-filter_map, filter_map-contains, AllPairs-filter_map}
+use Rattle.pgp_missing.proofs.Lists.{Contains-split, AllPairs-after, AllPairs-before}
 
 -- ---- the log by number
 
@@ -58,21 +58,27 @@ last-log_of info reported entry is =
 
 -- ---- the objects by their last entries
 
-made_is : (change : Change) (entry : LogEntry) (missing : MissingObject) → made_by change entry ≡ Some missing → (change ≡ Modify) × (missing_by entry ≡ missing)
-made_is Modify entry missing is = (refl, cc)
-made_is Delete entry missing is = cc
+modify_is : (change : Change) → is_modify change ≡ true → change ≡ Modify
+modify_is Modify is = refl
+modify_is Delete is = cc
+
+-- the last entries of the objects, and those that are modifies
+abbrev modified : ℕ → List LogEntry → List LogEntry
+modified v entries = filter (λ (entry : LogEntry). is_modify entry.change) (by_object (entries_above v entries))
 
 pub missing_above-last : (v : ℕ) (entries : List LogEntry) (missing : MissingObject) → Contains (missing_above v entries) missing
-    → (entry : LogEntry) × IsLast object_of (entries_above v entries) entry × (made_by entry.change entry ≡ Some missing)
+    → (entry : LogEntry) × IsLast object_of (entries_above v entries) entry × (entry.change ≡ Modify) × (missing_by entry ≡ missing)
 missing_above-last v entries missing in' =
-    let found = filter_map-contains (λ (entry : LogEntry). made_by entry.change entry) (by_object (entries_above v entries)) missing in' in
-    (found.0, last_of_each-IsLast object_of (slice_cmp nat_cmp) nat_list_cmp_total exact_bytes (entries_above v entries) found.0 found.1, found.2)
+    let made = map-contains missing_by (modified v entries) missing in' in
+    let kept = filter-contains (λ (entry : LogEntry). is_modify entry.change) (by_object (entries_above v entries)) made.0 made.1.0 in
+    (made.0, last_of_each-IsLast object_of (slice_cmp nat_cmp) nat_list_cmp_total exact_bytes (entries_above v entries) made.0 kept.0, modify_is _ kept.1, made.1.1)
 
 pub last-missing_above : (v : ℕ) (entries : List LogEntry) (missing : MissingObject)
-    → (entry : LogEntry) × IsLast object_of (entries_above v entries) entry × (made_by entry.change entry ≡ Some missing) → Contains (missing_above v entries) missing
+    → (entry : LogEntry) × IsLast object_of (entries_above v entries) entry × (entry.change ≡ Modify) × (missing_by entry ≡ missing) → Contains (missing_above v entries) missing
 last-missing_above v entries missing found =
-    contains-filter_map (λ (entry : LogEntry). made_by entry.change entry) (by_object (entries_above v entries)) found.0 missing
-    (IsLast-last_of_each object_of (slice_cmp nat_cmp) nat_list_cmp_total exact_bytes (entries_above v entries) found.0 found.1) found.2
+    subst (Contains (missing_above v entries)) found.3 (contains-map missing_by (modified v entries) found.0
+    (contains-filter (λ (entry : LogEntry). is_modify entry.change) (by_object (entries_above v entries)) found.0
+    (IsLast-last_of_each object_of (slice_cmp nat_cmp) nat_list_cmp_total exact_bytes (entries_above v entries) found.0 found.1) (ap is_modify found.2)))
 
 -- ---- in a log the last entry is the one of the greatest number
 
@@ -97,7 +103,7 @@ module _ (v : ℕ) (log : List LogEntry) (ascends : IsByNumber log) where
         ]
       ]
 
-  pub last-IsMissing : (missing : MissingObject) → (entry : LogEntry) × IsLast object_of (entries_above v log) entry × (made_by entry.change entry ≡ Some missing)
+  pub last-IsMissing : (missing : MissingObject) → (entry : LogEntry) × IsLast object_of (entries_above v log) entry × (entry.change ≡ Modify) × (missing_by entry ≡ missing)
       → (entry : LogEntry) × IsMissing v log missing entry
   last-IsMissing missing found =
       let entry : LogEntry = found.0 in
@@ -105,15 +111,14 @@ module _ (v : ℕ) (log : List LogEntry) (ascends : IsByNumber log) where
       let there : Contains (entries_above v log) entry =
       subst (λ es. Contains es entry) (sym last.split) (Contains-append_right last.before (entry ∷ last.after) entry (Contains-here entry last.after)) in
       let kept = filter-contains test log entry there in
-      let above : v < entry.version.v = ltb-true v entry.version.v kept.1 in
-      let is = made_is entry.change entry missing found.2 in (
+      let above : v < entry.version.v = ltb-true v entry.version.v kept.1 in (
         entry,
         record {
           there = kept.0;
           above = above;
-          modify = is.0;
-          object = ap (λ (m : MissingObject). m.object) is.1;
-          version = ap (λ (m : MissingObject). m.version) is.1;
+          modify = found.2;
+          object = ap (λ (m : MissingObject). m.object) found.3;
+          version = ap (λ (m : MissingObject). m.version) found.3;
           newest = λ other in' same. elim (cases_lt v other.version.v) [
             | inl high ↦ newest_at entry other last (contains-filter test log other in' (lt-ltb v other.version.v high)) same
             | inr low ↦ omega arith
@@ -122,13 +127,13 @@ module _ (v : ℕ) (log : List LogEntry) (ascends : IsByNumber log) where
       )
 
   pub IsMissing-last : (missing : MissingObject) → (entry : LogEntry) × IsMissing v log missing entry
-      → (entry : LogEntry) × IsLast object_of (entries_above v log) entry × (made_by entry.change entry ≡ Some missing)
+      → (entry : LogEntry) × IsLast object_of (entries_above v log) entry × (entry.change ≡ Modify) × (missing_by entry ≡ missing)
   IsMissing-last missing found =
       let entry : LogEntry = found.0 in
       let is = found.1 in
       let split = Contains-split (entries_above v log) entry (contains-filter test log entry is.there (lt-ltb v entry.version.v is.above)) in
       let ordered : AllPairs Less_number (split.0 ++ entry ∷ split.1) = subst (AllPairs Less_number) split.2 above_ascends in
-      let object : List ℕ → Version → Option MissingObject = λ o version. Some (record { object = o; version = version }) in (
+      let lacks : List ℕ → Version → MissingObject = λ object version. record { object = object; version = version } in (
         entry,
         record {
           before = split.0;
@@ -141,21 +146,18 @@ module _ (v : ℕ) (log : List LogEntry) (ascends : IsByNumber log) where
               let most : other.version.v ≤ entry.version.v = is.newest other ((filter-contains test log other in').0) same in
               omega arith;
         },
-        rw is.modify (ap₂ object is.object is.version),
+        is.modify,
+        ap₂ lacks is.object is.version,
       )
 
 -- ---- in the order of the names
 
 pub missing_above-by_name : (v : ℕ) (entries : List LogEntry) → IsByName (missing_above v entries)
 missing_above-by_name v entries =
-    AllPairs-filter_map (λ (entry : LogEntry). made_by entry.change entry) (λ (a b : LogEntry). slice_cmp nat_cmp a.object b.object ≡ Less)
-    (λ (a b : MissingObject). is_lt (slice_cmp nat_cmp a.object b.object) ≡ true)
-    (λ a b x y less made_x made_y.
-    let is_x : a.object ≡ x.object = ap (λ (m : MissingObject). m.object) (made_is a.change a x made_x).1 in
-    let is_y : b.object ≡ y.object = ap (λ (m : MissingObject). m.object) (made_is b.change b y made_y).1 in
-    ap is_lt (ap₂ (slice_cmp nat_cmp) (sym is_x) (sym is_y) ∙ less))
-    (by_object (entries_above v entries))
-    (last_of_each-ordered object_of (slice_cmp nat_cmp) nat_list_cmp_total exact_bytes (entries_above v entries))
+    AllPairs-mapped missing_by (λ (a b : LogEntry). slice_cmp nat_cmp a.object b.object ≡ Less)
+    (λ (a b : MissingObject). is_lt (slice_cmp nat_cmp a.object b.object) ≡ true) (λ a b less. ap is_lt less) (modified v entries)
+    (AllPairs-filter (λ (a b : LogEntry). slice_cmp nat_cmp a.object b.object ≡ Less) (λ (entry : LogEntry). is_modify entry.change) (by_object (entries_above v entries))
+    (last_of_each-ordered object_of (slice_cmp nat_cmp) nat_list_cmp_total exact_bytes (entries_above v entries)))
 
 -- ---- a peer that has the last write
 
@@ -179,7 +181,7 @@ empty_or_ended false false ended rising whole = cc
 pub equal_peer : (best : Info) (reported : List LogEntry) (peer : Info) → is_whole best reported ≡ true → is_older best.last_update best.log_tail ≡ false → peer.complete ≡ true → peer.last_update ≡ best.last_update → peer_state best reported peer ≡ Missing []
 equal_peer best reported peer whole valid complete same =
     let none : missing_above best.last_update.v (log_of best reported) ≡ [] =
-    ap (λ (entries : List LogEntry). filter_map (λ (entry : LogEntry). made_by entry.change entry) (by_object entries)) (none_above best (by_number reported)) in
+    ap (λ (entries : List LogEntry). map missing_by (filter (λ (entry : LogEntry). is_modify entry.change) (by_object entries))) (none_above best (by_number reported)) in
     let ended : (is_same_version best.last_update best.log_tail || has_version best.last_update (log_of best reported)) ≡ true =
     empty_or_ended _ (is_full best (log_of best reported)) _ (is_rising_from best.log_tail.epoch (log_of best reported)) whole in
     rw (complete, same, valid, ended, none) refl

@@ -1,5 +1,5 @@
 -- What a member's copy lacks, by the log of the best one (Ceph's developer documentation on peering).
-use Rattle.std.specs.Prelude.{◌≡◌, ℕ, ◌<◌, ◌≤◌, List, Option, Some, None, true, not, ◌||◌, nat_lt, filter, filter_map, Contains, AllPairs, if◌then◌else◌}
+use Rattle.std.specs.Prelude.{◌≡◌, ℕ, ◌<◌, ◌≤◌, List, Bool, true, false, not, ◌||◌, nat_lt, map, filter, Contains, AllPairs, if◌then◌else◌}
 use Rattle.std.specs.Cmp.Lexicographic.{slice_cmp}
 use Rattle.std.specs.Ordering.{nat_cmp, is_lt}
 use Rattle.pgp_ids.specs.Version.{is_older, is_same_version}
@@ -28,14 +28,13 @@ entries_above v entries = filter (λ entry. nat_lt v entry.version.v) entries
 abbrev pub missing_by : LogEntry → MissingObject
 missing_by entry = record { object = entry.object; version = entry.version }
 
--- what a copy without this entry lacks, where no other of the object comes after it
-abbrev pub made_by : Change → LogEntry → Option MissingObject
-made_by Modify entry = Some (missing_by entry)
-made_by Delete entry = None
+abbrev pub is_modify : Change → Bool
+is_modify Modify = true
+is_modify Delete = false
 
 -- what a copy lacks that has the writes up to this number: the objects whose last entry above it is a modify
 abbrev pub missing_above : ℕ → List LogEntry → List MissingObject
-missing_above v entries = filter_map (λ entry. made_by entry.change entry) (by_object (entries_above v entries))
+missing_above v entries = map missing_by (filter (λ entry. is_modify entry.change) (by_object (entries_above v entries)))
 
 -- the objects are in ascending order of their names, each once
 abbrev pub IsByName : List MissingObject → Type 0

@@ -1,10 +1,10 @@
 //! Log entries by their numbers.
 
-ghost use Rattle.std.specs.Prelude.{◌≡◌, List, [], map, filter_map, IfOk, OnOk, OnErr};
+ghost use Rattle.std.specs.Prelude.{◌≡◌, List, [], map, filter, IfOk, OnOk, OnErr};
 ghost use Rattle.std.specs.Ordering.{nat_cmp};
 ghost use Rattle.pgp_missing.specs.Last.{put_in};
 ghost use Rattle.pgp_missing.specs.Log.{number_of, is_in_log, within, is_full, has_version, is_rising_from};
-ghost use Rattle.pgp_missing.specs.Missing.{entries_above, by_object, made_by, missing_above};
+ghost use Rattle.pgp_missing.specs.Missing.{entries_above, by_object, is_modify, missing_by, missing_above};
 ghost use Rattle.pgp_missing.specs.Kept.{named};
 
 use pgp_ids::{Change, Epoch, Info, LogEntry, MissingObject, ObjectName, Seq, Version};
@@ -168,16 +168,14 @@ fn modified(
     newest: BTreeMap<ObjectName, Newest>,
 ) -> Result<Vec<MissingObject>, AllocError>
     ensures { IfOk result (λ objects.
-        objects.items ≡ filter_map (λ e. made_by e.1.change (named e)) newest.entries) }
+        objects.items ≡ map (λ e. missing_by (named e)) (filter (λ e. is_modify e.1.change) newest.entries)) }
 {
     newest
         .into_iter()
-        .filter_map(|(object, last)| match last.change {
-            Change::Modify => Some(MissingObject {
-                object,
-                version: last.version,
-            }),
-            Change::Delete => None,
+        .filter(|(_, last)| matches!(last.change, Change::Modify))
+        .map(|(object, last)| MissingObject {
+            object,
+            version: last.version,
         })
         .collect(alloc)
 }

@@ -1,6 +1,7 @@
 //! What the definitions say of small logs, and of a peer that has all writes.
 ghost use Rattle.std.specs.Prelude.{◌≡◌, ℕ, All, AllPairs, Contains, ◌≤◌, ◌↔◌, List, [], ◌∷◌, Some, true, false, codes};
 ghost use Rattle.pgp_ids.specs.Version.{is_older};
+ghost use Rattle.pgp_ids.specs.declared.log_entry.Change.TheVariants.{Modify};
 ghost use Rattle.pgp_ids.specs.declared.log_entry.LogEntry.{LogEntry};
 ghost use Rattle.pgp_ids.specs.declared.peer.MissingObject.{MissingObject};
 ghost use Rattle.pgp_ids.specs.declared.peer.PeerState.TheVariants.{Missing, Backfill, Diverged};
@@ -8,7 +9,7 @@ ghost use Rattle.pgp_ids.specs.declared.report.Info.{Info};
 ghost use Rattle.pgp_missing.specs.Last.{IsLast};
 ghost use Rattle.pgp_missing.specs.Log.{number_of, IsByNumber, is_in_log, log_of, has_each_number, HasEachNumber, is_rising_from, is_whole};
 ghost use Rattle.pgp_missing.specs.Kept.{KeptLog, IsLogOf};
-ghost use Rattle.pgp_missing.specs.Missing.{object_of, entries_above, made_by, IsByName, missing_above, IsMissing, peer_state};
+ghost use Rattle.pgp_missing.specs.Missing.{object_of, entries_above, missing_by, IsByName, missing_above, IsMissing, peer_state};
 ghost use Rattle.pgp_missing.specs.Examples.{at, modify, delete, lacks, copy, copy_at, two_writes};
 
 /// A complete peer that has the best copy's last write misses nothing.
@@ -46,7 +47,7 @@ pub fn rising_epochs_never_fall()
 pub fn missing_objects_are_those_modified_last()
     ensures last { (v : ℕ) (entries : List LogEntry) (missing : MissingObject)
         → Contains (missing_above v entries) missing
-        ↔ ((entry : LogEntry) × IsLast object_of (entries_above v entries) entry × (made_by entry.change entry ≡ Some missing)) }
+        ↔ ((entry : LogEntry) × IsLast object_of (entries_above v entries) entry × (entry.change ≡ Modify) × (missing_by entry ≡ missing)) }
     ensures newest { (best : Info) (reported : List LogEntry) (v : ℕ) (missing : MissingObject)
         → Contains (missing_above v (log_of best reported)) missing
         ↔ ((entry : LogEntry) × IsMissing v (log_of best reported) missing entry) }
