@@ -1,2 +1,2 @@
-pub mod Sends
-pub mod Floats
+pub mod Tokens
+pub mod Versions

@@ -4,6 +4,7 @@ pub mod Refused
 pub mod EntryOp
 pub mod Asked
 pub mod Reply
-pub mod Sent
+pub mod Written
+pub mod Versions
 pub mod Parts
 pub mod WorkedReplies

@@ -1,6 +1,7 @@
 -- The fields of long answers, in the runs that are written one after the other.
 use Rattle.std.specs.Prelude.{ℕ, List, [], ◌∷◌, codes, Option}
 use Rattle.serde_json.specs.Data.{string, boolean}
+use Rattle.pgp_ids.specs.Names.{verdict_name}
 use Rattle.pgp_ids.specs.declared.past.Past.{Past}
 use Rattle.pgp_ids.specs.declared.pg_id.PgId.{PgId}
 use Rattle.pgp_ids.specs.declared.view.View.{View}
@@ -49,4 +50,12 @@ peer_fields pg v =
     ∷ (codes "ok", string (codes "ask"))
     ∷ (codes "pg", group_data pg)
     ∷ (codes "probe", list_data member_data v.probe)
+    ∷ []
+
+-- the up set, and whether the group may serve
+abbrev pub verdict_fields : View → List Field
+verdict_fields v =
+    (codes "up", osds_data v.up)
+    ∷ (codes "up_primary", place_data v.up_primary)
+    ∷ (codes "verdict", string (verdict_name v.verdict))
     ∷ []

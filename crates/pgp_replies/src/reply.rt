@@ -1,25 +1,27 @@
 //! The answers to lines, and their text.
-ghost use Rattle.std.specs.Prelude.{◌≡◌, IfOk, OnOk};
-ghost use Rattle.serde_json.specs.Events.{SendsValue};
+ghost use Rattle.std.specs.Prelude.{◌≡◌, ◌++◌, IfOk, OnOk, OnErr};
 ghost use Rattle.pgp_replies.specs.Reply.{accepted_data, located_data, traced_data, reply_data, reply_text};
+ghost use Rattle.pgp_replies.specs.Written.{tokens_of};
 
 mod asked;
 mod devices;
 mod entry_op;
 mod intervals;
-mod json;
 mod members;
+mod names;
+mod parts;
 mod peers;
 mod refused;
 
-use asked::send_asked;
-use devices::{send_acting, send_up};
+use asked::write_asked;
+use devices::{write_acting, write_up};
 pub use entry_op::EntryOp;
-use json::{Json, field};
+use json::Writer;
+use parts::{Json, write_field};
 use pgp_ids::{Epoch, Membership, Past, PgId, Seq, View};
 pub use refused::Refused;
-use serde::{Described, Serialize, Serializer};
 use std::alloc::{AllocError, Global};
+use std::mem;
 
 /// What a line is answered.
 #[derive(Debug, Drop)]
@@ -51,92 +53,94 @@ pub enum Reply {
 pub fn write_reply(alloc: Global, reply: &Reply) -> Result<Vec<u8>, AllocError>
     ensures { IfOk result (λ text. text.items ≡ reply_text reply.now) }
 {
-    // A writer has no other error at numbers, texts, lists and objects whose keys are texts.
-    match serde_json::to_vec(alloc, &Sent { alloc, reply }) {
-        Ok(text) => Ok(text),
-        Err(_) => Err(AllocError),
+    let mut text = Vec::new(alloc);
+    write_reply_to(alloc, &mut text, reply)?;
+    Ok(text)
+}
+
+/// Puts the text of a reply, without a line feed, behind what `text` has. Where memory is wanting, `text` stays as it
+/// was.
+pub fn write_reply_to(alloc: Global, text: &mut Vec<u8>, reply: &Reply) -> Result<(), AllocError>
+    ensures ok { OnOk result (text.new.items ≡ text.old.items ++ reply_text reply.now) }
+    ensures err { OnErr result (text.new.items ≡ text.old.items) }
+{
+    let before = text.len();
+    let mut out = Writer::new(mem::replace(text, Vec::new(alloc)));
+    let written = reply.write(alloc, &mut out);
+    *text = out.into_inner();
+    if written.is_err() {
+        text.truncate(before);
     }
-}
-
-/// A reply with the memory to send it.
-#[derive(Drop)]
-struct Sent<'a> {
-    alloc: Global,
-    reply: &'a Reply,
-}
-
-impl Described for Sent<'_> {
-    ghost writes = { λ sent. SendsValue (reply_data sent.reply.now) };
-}
-
-impl Serialize for Sent<'_> {
-    fn serialize<S: Serializer>(&self, out: &mut S) -> Result<(), S::Error> {
-        self.reply.send(self.alloc, out)
-    }
+    written
 }
 
 impl Json for Reply {
     ghost value = { reply_data };
 
-    fn send<S: Serializer>(&self, alloc: Global, out: &mut S) -> Result<(), S::Error> {
+    fn write(&self, alloc: Global, out: &mut Writer) -> Result<(), AllocError> {
         match self {
-            Reply::Accepted { op, count, epoch } => send_accepted(alloc, out, *op, *count, *epoch),
-            Reply::Asked(pg, view) => send_asked(alloc, out, *pg, view),
-            Reply::Located { pg, members, epoch } => send_located(alloc, out, *pg, members, *epoch),
-            Reply::Traced { first, past } => send_traced(alloc, out, *first, past),
-            Reply::Refused(refused) => refused.send(alloc, out),
+            Reply::Accepted { op, count, epoch } => write_accepted(alloc, out, *op, *count, *epoch),
+            Reply::Asked(pg, view) => write_asked(alloc, out, *pg, view),
+            Reply::Located { pg, members, epoch } => write_located(
+                alloc, out, *pg, members, *epoch,
+            ),
+            Reply::Traced { first, past } => write_traced(alloc, out, *first, past),
+            Reply::Refused(refused) => refused.write(alloc, out),
         }
     }
 }
 
-fn send_accepted<S: Serializer>(
+fn write_accepted(
     alloc: Global,
-    out: &mut S,
+    out: &mut Writer,
     op: EntryOp,
     count: usize,
     epoch: Epoch,
-) -> Result<(), S::Error>
-    ensures { OnOk result
-        (SendsValue (accepted_data op count epoch) (S.written out.old) (S.written out.new)) }
+) -> Result<(), AllocError>
+    ensures ok { OnOk result
+        (out.new.tokens ≡ out.old.tokens ++ tokens_of (accepted_data op count epoch)) }
+    ensures before { out.new.before ≡ out.old.before }
 {
-    out.begin_map(Some(3))?;
-    field(alloc, out, "count", &(count as u64))?;
-    field(alloc, out, "epoch", &epoch)?;
-    field(alloc, out, "ok", &op.name())?;
-    out.end_map()
+    out.begin_object()?;
+    write_field(alloc, out, "count", &count)?;
+    write_field(alloc, out, "epoch", &epoch)?;
+    write_field(alloc, out, "ok", &op)?;
+    out.end_object()
 }
 
-fn send_located<S: Serializer>(
+fn write_located(
     alloc: Global,
-    out: &mut S,
+    out: &mut Writer,
     pg: PgId,
     members: &Membership,
     epoch: Epoch,
-) -> Result<(), S::Error>
-    ensures { OnOk result
-        (SendsValue (located_data pg members.now epoch) (S.written out.old) (S.written out.new)) }
+) -> Result<(), AllocError>
+    ensures ok { OnOk result
+        (out.new.tokens ≡ out.old.tokens ++ tokens_of (located_data pg members.now epoch)) }
+    ensures before { out.new.before ≡ out.old.before }
 {
-    out.begin_map(Some(7))?;
-    send_acting(alloc, out, &members.acting, members.acting_primary)?;
-    field(alloc, out, "epoch", &epoch)?;
-    field(alloc, out, "ok", &"locate")?;
-    field(alloc, out, "pg", &pg)?;
-    send_up(alloc, out, &members.up, members.up_primary)?;
-    out.end_map()
+    out.begin_object()?;
+    write_acting(alloc, out, &members.acting, members.acting_primary)?;
+    write_field(alloc, out, "epoch", &epoch)?;
+    write_field(alloc, out, "ok", &"locate")?;
+    write_field(alloc, out, "pg", &pg)?;
+    write_up(alloc, out, &members.up, members.up_primary)?;
+    out.end_object()
 }
 
-fn send_traced<S: Serializer>(
+fn write_traced(
     alloc: Global,
-    out: &mut S,
+    out: &mut Writer,
     first: Epoch,
     past: &Seq<Past>,
-) -> Result<(), S::Error>
-    ensures { OnOk result
-        (SendsValue (traced_data first past.now) (S.written out.old) (S.written out.new)) }
+) -> Result<(), AllocError>
+    ensures ok { OnOk result
+        (out.new.tokens ≡ out.old.tokens ++ tokens_of (traced_data first past.now)) }
+    ensures before { out.new.before ≡ out.old.before }
 {
-    out.begin_map(Some(3))?;
-    field(alloc, out, "first", &first)?;
-    field(alloc, out, "intervals", past)?;
-    field(alloc, out, "ok", &"trace")?;
-    out.end_map()
+    out.begin_object()?;
+    write_field(alloc, out, "first", &first)?;
+    write_field(alloc, out, "intervals", past)?;
+    write_field(alloc, out, "ok", &"trace")?;
+    out.end_object()
 }

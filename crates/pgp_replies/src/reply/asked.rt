@@ -1,68 +1,75 @@
 //! All that is known of a group as JSON.
-ghost use Rattle.std.specs.Prelude.{OnOk};
-ghost use Rattle.serde_json.specs.Events.{SendsValue};
+ghost use Rattle.std.specs.Prelude.{◌≡◌, ◌++◌, OnOk};
 ghost use Rattle.pgp_replies.specs.Asked.{asked_data};
-ghost use Rattle.pgp_replies.specs.Parts.{best_fields, history_fields, peer_fields};
-ghost use Rattle.pgp_replies.specs.Sent.{SendsFields};
+ghost use Rattle.pgp_replies.specs.Parts.{best_fields, history_fields, peer_fields, verdict_fields};
+ghost use Rattle.pgp_replies.specs.Written.{tokens_of, fields_tokens};
 
-use super::devices::{send_acting, send_up};
-use super::json::field;
+use super::devices::{write_acting, write_up};
+use super::parts::write_field;
+use json::Writer;
 use pgp_ids::{PgId, View};
-use serde::Serializer;
-use std::alloc::Global;
+use std::alloc::{AllocError, Global};
 
-pub(super) fn send_asked<S: Serializer>(
+pub(super) fn write_asked(
     alloc: Global,
-    out: &mut S,
+    out: &mut Writer,
     pg: PgId,
     known: &View,
-) -> Result<(), S::Error>
-    ensures { OnOk result
-        (SendsValue (asked_data pg known.now) (S.written out.old) (S.written out.new)) }
+) -> Result<(), AllocError>
+    ensures ok { OnOk result
+        (out.new.tokens ≡ out.old.tokens ++ tokens_of (asked_data pg known.now)) }
+    ensures before { out.new.before ≡ out.old.before }
 {
-    out.begin_map(Some(16))?;
-    send_acting(alloc, out, &known.acting, known.acting_primary)?;
-    send_best(alloc, out, known)?;
-    send_history(alloc, out, known)?;
-    send_peers(alloc, out, pg, known)?;
-    send_up(alloc, out, &known.up, known.up_primary)?;
-    field(alloc, out, "verdict", &known.verdict.name())?;
-    out.end_map()
+    out.begin_object()?;
+    write_acting(alloc, out, &known.acting, known.acting_primary)?;
+    write_best(alloc, out, known)?;
+    write_history(alloc, out, known)?;
+    write_peers(alloc, out, pg, known)?;
+    write_verdict(alloc, out, known)?;
+    out.end_object()
 }
 
 /// Whose copy is the best, and who stands in the way.
-fn send_best<S: Serializer>(alloc: Global, out: &mut S, known: &View) -> Result<(), S::Error>
-    ensures { OnOk result
-        (SendsFields (best_fields known.now) (S.written out.old) (S.written out.new)) }
+fn write_best(alloc: Global, out: &mut Writer, known: &View) -> Result<(), AllocError>
+    ensures ok { OnOk result
+        (out.new.tokens ≡ out.old.tokens ++ fields_tokens (best_fields known.now)) }
+    ensures before { out.new.before ≡ out.old.before }
 {
-    field(alloc, out, "best", &known.best)?;
-    field(alloc, out, "blocked_by", &known.blocked_by)
+    write_field(alloc, out, "best", &known.best)?;
+    write_field(alloc, out, "blocked_by", &known.blocked_by)
 }
 
 /// What the log had come to, and what was before.
-fn send_history<S: Serializer>(alloc: Global, out: &mut S, known: &View) -> Result<(), S::Error>
-    ensures { OnOk result
-        (SendsFields (history_fields known.now) (S.written out.old) (S.written out.new)) }
+fn write_history(alloc: Global, out: &mut Writer, known: &View) -> Result<(), AllocError>
+    ensures ok { OnOk result
+        (out.new.tokens ≡ out.old.tokens ++ fields_tokens (history_fields known.now)) }
+    ensures before { out.new.before ≡ out.old.before }
 {
-    field(alloc, out, "count", &(known.count as u64))?;
-    field(alloc, out, "epoch", &known.epoch)?;
-    field(alloc, out, "first", &known.first)?;
-    field(alloc, out, "intervals", &known.intervals)?;
-    field(alloc, out, "les", &known.les)
+    write_field(alloc, out, "count", &known.count)?;
+    write_field(alloc, out, "epoch", &known.epoch)?;
+    write_field(alloc, out, "first", &known.first)?;
+    write_field(alloc, out, "intervals", &known.intervals)?;
+    write_field(alloc, out, "les", &known.les)
 }
 
 /// What the peers lack, and who has to be heard.
-fn send_peers<S: Serializer>(
-    alloc: Global,
-    out: &mut S,
-    pg: PgId,
-    known: &View,
-) -> Result<(), S::Error>
-    ensures { OnOk result
-        (SendsFields (peer_fields pg known.now) (S.written out.old) (S.written out.new)) }
+fn write_peers(alloc: Global, out: &mut Writer, pg: PgId, known: &View) -> Result<(), AllocError>
+    ensures ok { OnOk result
+        (out.new.tokens ≡ out.old.tokens ++ fields_tokens (peer_fields pg known.now)) }
+    ensures before { out.new.before ≡ out.old.before }
 {
-    field(alloc, out, "missing", &known.missing)?;
-    field(alloc, out, "ok", &"ask")?;
-    field(alloc, out, "pg", &pg)?;
-    field(alloc, out, "probe", &known.probe)
+    write_field(alloc, out, "missing", &known.missing)?;
+    write_field(alloc, out, "ok", &"ask")?;
+    write_field(alloc, out, "pg", &pg)?;
+    write_field(alloc, out, "probe", &known.probe)
+}
+
+/// The up set, and whether the group may serve.
+fn write_verdict(alloc: Global, out: &mut Writer, known: &View) -> Result<(), AllocError>
+    ensures ok { OnOk result
+        (out.new.tokens ≡ out.old.tokens ++ fields_tokens (verdict_fields known.now)) }
+    ensures before { out.new.before ≡ out.old.before }
+{
+    write_up(alloc, out, &known.up, known.up_primary)?;
+    write_field(alloc, out, "verdict", &known.verdict)
 }

@@ -1,35 +1,37 @@
 //! The lists of devices of an answer, each with its primary.
-ghost use Rattle.std.specs.Prelude.{OnOk};
+ghost use Rattle.std.specs.Prelude.{◌≡◌, ◌++◌, OnOk};
 ghost use Rattle.pgp_replies.specs.Parts.{acting_fields, up_fields};
-ghost use Rattle.pgp_replies.specs.Sent.{SendsFields};
+ghost use Rattle.pgp_replies.specs.Written.{fields_tokens};
 
-use super::json::field;
+use super::parts::write_field;
+use json::Writer;
 use pgp_ids::{OsdId, Osds};
-use serde::Serializer;
-use std::alloc::Global;
+use std::alloc::{AllocError, Global};
 
-pub(super) fn send_acting<S: Serializer>(
+pub(super) fn write_acting(
     alloc: Global,
-    out: &mut S,
+    out: &mut Writer,
     acting: &Osds,
     primary: Option<OsdId>,
-) -> Result<(), S::Error>
-    ensures { OnOk result
-        (SendsFields (acting_fields acting.now primary) (S.written out.old) (S.written out.new)) }
+) -> Result<(), AllocError>
+    ensures ok { OnOk result
+        (out.new.tokens ≡ out.old.tokens ++ fields_tokens (acting_fields acting.now primary)) }
+    ensures before { out.new.before ≡ out.old.before }
 {
-    field(alloc, out, "acting", acting)?;
-    field(alloc, out, "acting_primary", &primary)
+    write_field(alloc, out, "acting", acting)?;
+    write_field(alloc, out, "acting_primary", &primary)
 }
 
-pub(super) fn send_up<S: Serializer>(
+pub(super) fn write_up(
     alloc: Global,
-    out: &mut S,
+    out: &mut Writer,
     up: &Osds,
     primary: Option<OsdId>,
-) -> Result<(), S::Error>
-    ensures { OnOk result
-        (SendsFields (up_fields up.now primary) (S.written out.old) (S.written out.new)) }
+) -> Result<(), AllocError>
+    ensures ok { OnOk result
+        (out.new.tokens ≡ out.old.tokens ++ fields_tokens (up_fields up.now primary)) }
+    ensures before { out.new.before ≡ out.old.before }
 {
-    field(alloc, out, "up", up)?;
-    field(alloc, out, "up_primary", &primary)
+    write_field(alloc, out, "up", up)?;
+    write_field(alloc, out, "up_primary", &primary)
 }

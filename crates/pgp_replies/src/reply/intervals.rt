@@ -1,36 +1,37 @@
 //! Past intervals as JSON.
-ghost use Rattle.std.specs.Prelude.{OnOk};
+ghost use Rattle.std.specs.Prelude.{◌≡◌, ◌++◌, OnOk};
 ghost use Rattle.pgp_replies.specs.Answered.{interval_data};
 ghost use Rattle.pgp_replies.specs.Parts.{past_fields};
-ghost use Rattle.pgp_replies.specs.Sent.{SendsFields};
+ghost use Rattle.pgp_replies.specs.Written.{fields_tokens};
 
-use super::devices::{send_acting, send_up};
-use super::json::{Json, field};
+use super::devices::{write_acting, write_up};
+use super::parts::{Json, write_field};
+use json::Writer;
 use pgp_ids::Past;
-use serde::Serializer;
-use std::alloc::Global;
+use std::alloc::{AllocError, Global};
 
 impl Json for Past {
     ghost value = { interval_data };
 
-    fn send<S: Serializer>(&self, alloc: Global, out: &mut S) -> Result<(), S::Error> {
+    fn write(&self, alloc: Global, out: &mut Writer) -> Result<(), AllocError> {
         let members = &self.members;
-        out.begin_map(Some(9))?;
-        send_acting(alloc, out, &members.acting, members.acting_primary)?;
-        send_past(alloc, out, self)?;
-        send_up(alloc, out, &members.up, members.up_primary)?;
-        out.end_map()
+        out.begin_object()?;
+        write_acting(alloc, out, &members.acting, members.acting_primary)?;
+        write_past(alloc, out, self)?;
+        write_up(alloc, out, &members.up, members.up_primary)?;
+        out.end_object()
     }
 }
 
-/// When it was, and with what sizes.
-fn send_past<S: Serializer>(alloc: Global, out: &mut S, past: &Past) -> Result<(), S::Error>
-    ensures { OnOk result
-        (SendsFields (past_fields past.now) (S.written out.old) (S.written out.new)) }
+/// When it was, whether it may have gone read-write, and with what sizes.
+fn write_past(alloc: Global, out: &mut Writer, past: &Past) -> Result<(), AllocError>
+    ensures ok { OnOk result
+        (out.new.tokens ≡ out.old.tokens ++ fields_tokens (past_fields past.now)) }
+    ensures before { out.new.before ≡ out.old.before }
 {
-    field(alloc, out, "first", &past.first)?;
-    field(alloc, out, "last", &past.last)?;
-    field(alloc, out, "min_size", &u64::from(past.members.min_size))?;
-    field(alloc, out, "rw", &past.rw)?;
-    field(alloc, out, "size", &u64::from(past.members.size))
+    write_field(alloc, out, "first", &past.first)?;
+    write_field(alloc, out, "last", &past.last)?;
+    write_field(alloc, out, "min_size", &past.members.min_size)?;
+    write_field(alloc, out, "rw", &past.rw)?;
+    write_field(alloc, out, "size", &past.members.size)
 }

@@ -1,14 +1,14 @@
 //! Refusals, and how they are written.
-ghost use Rattle.std.specs.Prelude.{◌≡◌, ◌+◌, length, codes, option_map, OnOk};
+ghost use Rattle.std.specs.Prelude.{◌≡◌, [], ◌∷◌, ◌++◌, codes, option_map, OnOk};
 ghost use Rattle.serde_json.specs.Data.{string};
 ghost use Rattle.pgp_replies.specs.Json.{number_data};
 ghost use Rattle.pgp_replies.specs.Refused.{fault_name, fault_key, field_if, refused_number, refused_name, refused_key, refused_tree, refused_data};
-ghost use Rattle.pgp_replies.specs.Sent.{SendsFields};
+ghost use Rattle.pgp_replies.specs.Written.{fields_tokens};
 
-use super::json::{Json, field};
+use super::parts::{Json, write_field};
+use json::Writer;
 use pgp_ids::{AskRefusal, LocateRefusal, Refusal, TextFault};
-use serde::Serializer;
-use std::alloc::Global;
+use std::alloc::{AllocError, Global};
 
 /// Why a line had no effect.
 #[derive(Debug, Drop)]
@@ -96,50 +96,54 @@ fn fault_key(fault: &TextFault) -> Option<&str>
 impl Json for Refused {
     ghost value = { refused_data };
 
-    fn send<S: Serializer>(&self, alloc: Global, out: &mut S) -> Result<(), S::Error> {
-        let key = self.key();
-        let tree = self.tree();
-        out.begin_map(Some(refusal_len(key, tree)))?;
-        field(alloc, out, "code", &u64::from(self.number()))?;
-        send_key(alloc, out, key)?;
-        field(alloc, out, "refused", &self.name())?;
-        send_tree(alloc, out, tree)?;
-        out.end_map()
+    fn write(&self, alloc: Global, out: &mut Writer) -> Result<(), AllocError> {
+        out.begin_object()?;
+        write_code(alloc, out, self)?;
+        write_key(alloc, out, self)?;
+        write_name(alloc, out, self)?;
+        write_tree(alloc, out, self)?;
+        out.end_object()
     }
 }
 
-/// How many fields a refusal has.
-fn refusal_len(key: Option<&str>, tree: Option<u8>) -> usize
-    ensures { result ≡ 2
-        + length (field_if (codes "key") string (option_map (λ key. key.now) key.entry))
-        + length (field_if (codes "tree") number_data tree) }
+fn write_code(alloc: Global, out: &mut Writer, refused: &Refused) -> Result<(), AllocError>
+    ensures ok { OnOk result (out.new.tokens ≡ out.old.tokens
+        ++ fields_tokens ((codes "code", number_data (refused_number refused.now)) ∷ [])) }
+    ensures before { out.new.before ≡ out.old.before }
 {
-    match (key, tree) {
-        (Some(_), Some(_)) => 4,
-        (None, None) => 2,
-        _ => 3,
-    }
+    write_field(alloc, out, "code", &refused.number())
 }
 
-/// Sends the key, where one is named.
-fn send_key<S: Serializer>(alloc: Global, out: &mut S, key: Option<&str>) -> Result<(), S::Error>
-    ensures { OnOk result
-        (SendsFields (field_if (codes "key") string (option_map (λ key. key.now) key.entry))
-        (S.written out.old) (S.written out.new)) }
+/// Writes the key, where one is named.
+#[tactic(auto, unfolding(crate::specs::Written::fields_tokens))]
+fn write_key(alloc: Global, out: &mut Writer, refused: &Refused) -> Result<(), AllocError>
+    ensures ok { OnOk result (out.new.tokens ≡ out.old.tokens
+        ++ fields_tokens (field_if (codes "key") string (refused_key refused.now))) }
+    ensures before { out.new.before ≡ out.old.before }
 {
-    match key {
-        Some(key) => field(alloc, out, "key", &key),
+    match refused.key() {
+        Some(key) => write_field(alloc, out, "key", &key),
         None => Ok(()),
     }
 }
 
-/// Sends the tree's fault, where that is the refusal.
-fn send_tree<S: Serializer>(alloc: Global, out: &mut S, tree: Option<u8>) -> Result<(), S::Error>
-    ensures { OnOk result (SendsFields (field_if (codes "tree") number_data tree)
-        (S.written out.old) (S.written out.new)) }
+fn write_name(alloc: Global, out: &mut Writer, refused: &Refused) -> Result<(), AllocError>
+    ensures ok { OnOk result (out.new.tokens ≡ out.old.tokens
+        ++ fields_tokens ((codes "refused", string (refused_name refused.now)) ∷ [])) }
+    ensures before { out.new.before ≡ out.old.before }
 {
-    match tree {
-        Some(tree) => field(alloc, out, "tree", &u64::from(tree)),
+    write_field(alloc, out, "refused", &refused.name())
+}
+
+/// Writes the tree's fault, where that is the refusal.
+#[tactic(auto, unfolding(crate::specs::Written::fields_tokens))]
+fn write_tree(alloc: Global, out: &mut Writer, refused: &Refused) -> Result<(), AllocError>
+    ensures ok { OnOk result (out.new.tokens ≡ out.old.tokens
+        ++ fields_tokens (field_if (codes "tree") number_data (refused_tree refused.now))) }
+    ensures before { out.new.before ≡ out.old.before }
+{
+    match refused.tree() {
+        Some(tree) => write_field(alloc, out, "tree", &tree),
         None => Ok(()),
     }
 }
