@@ -13,6 +13,11 @@ Writes into FOLDER (by default bench/out) these files, which are the same at eve
                   16,384 groups in all, each with a pg_temp list
   steps.jsonl     the same, and then 2,000 incrementals as the later ones of incs.jsonl
   traces.jsonl    500 traces, each as long as a line of at most 1,048,576 bytes may be, with lists of 16 places
+  full.jsonl      65,535 incrementals as those of incs.jsonl, which fill the log
+  peering.jsonl   an outage of 8 devices of 64: the infos and log entries of all 256 groups of a pool, and then a
+                  question about each group
+  churn.jsonl     400 incrementals as those of incs.jsonl, with a question about a group after each
+  asks.jsonl      an outage of one group in seven entries, and then 20,000 questions about it with nothing between
   empty.jsonl     nothing, for what a start takes
 
 and beside each NAME.jsonl a NAME.tenth.jsonl with the first tenth of its lines.
@@ -115,6 +120,65 @@ def steps(rng, count):
     yield from falls_and_boots(rng, list(range(4096)), range(257, count + 1))
 
 
+def peering(rng, _count):
+    """Gives an outage, what the members of each group report, and a question about each group."""
+    devices, groups = list(range(64)), range(256)
+    acting = [rng.sample(devices, 3) for _ in groups]
+    temps = [[1, pg, acting[pg]] for pg in groups]
+    told = [[osd, 1] for osd in devices]
+    first = {"op": "inc", "epoch": 1, "up": devices, "up_thru": told, "pools": [copies(1, len(groups))]}
+    yield compact({**first, "temp": temps, "crush": tree(4, 4, 4)})
+    down = rng.sample(devices, 8)
+    yield compact({"op": "inc", "epoch": 2, "down": down})
+    for pg in groups:
+        yield from reports(rng, pg, [osd for osd in acting[pg] if osd not in down])
+    yield compact({"op": "inc", "epoch": 3, "up_thru": [[osd, 2] for osd in devices if osd not in down]})
+    for pg in groups:
+        yield compact({"op": "ask", "pg": [1, pg]})
+
+
+def reports(rng, pg, members):
+    """Gives an info of each of these members, the first of which is ahead, and the log entries of that one."""
+    writes = 16
+    for place, osd in enumerate(members):
+        last = writes if place == 0 else rng.randint(1, writes)
+        yield compact(info(pg, osd, [1, last]))
+    if members:
+        log = [[1, 1 + n, rng.choice(["modify", "delete"]), f"object-{rng.randrange(8)}"] for n in range(writes)]
+        yield compact({"op": "entries", "pg": [1, pg], "from": [members[0], 0], "stamp": 2, "log": log})
+
+
+def info(pg, osd, last):
+    """Gives the info of a member of a group of pool 1, whose last write has this version."""
+    progress = {"les": 0, "history_les": 0, "last_update": last, "log_tail": [0, 0], "complete": True}
+    return {"op": "info", "pg": [1, pg], "from": [osd, 0], "stamp": 2, **progress}
+
+
+def churn(rng, count):
+    """Gives incrementals as incs does, with a question about a group after each."""
+    for line in incs(rng, count // 2):
+        yield line
+        yield compact({"op": "ask", "pg": [1, rng.randrange(256)]})
+
+
+def asks(_rng, count):
+    """Gives an outage of one group, and then questions about it."""
+    devices = [0, 1, 2]
+    outs = {"weight": [[1, 0], [2, 0]], "up_thru": [[0, 1]], "temp": [[1, 0, devices]]}
+    root = {"id": -1, "type": HOST, "alg": "uniform", "items": devices}
+    pool = {**copies(1, 1), "leaf": DEVICE}
+    yield compact({"op": "inc", "epoch": 1, "up": devices, **outs, "pools": [pool], "crush": [root]})
+    yield compact({"op": "inc", "epoch": 2, "down": [0]})
+    yield compact(info(0, 1, [1, 2]))
+    yield compact(info(0, 2, [1, 1]))
+    log = [[1, 1, "modify", "a"], [1, 2, "modify", "b"]]
+    yield compact({"op": "entries", "pg": [1, 0], "from": [1, 0], "stamp": 2, "log": log})
+    yield compact({"op": "inc", "epoch": 3, "up_thru": [[1, 2]]})
+    yield compact({"op": "inc", "epoch": 4, "weight": [[1, IN]]})
+    for _ in range(count):
+        yield compact({"op": "ask", "pg": [1, 0]})
+
+
 def traces(rng, count):
     """Gives traces, by turns of a replicated and of an erasure pool."""
     for number in range(count):
@@ -164,6 +228,10 @@ INPUTS = {
     "incs": (incs, 2_000),
     "map": (largest_map, 256),
     "steps": (steps, 2_256),
+    "full": (incs, 65_535),
+    "peering": (peering, 1_185),
+    "churn": (churn, 800),
+    "asks": (asks, 20_000),
     "traces": (traces, 500),
     "empty": (empty, 0),
 }

@@ -1,12 +1,13 @@
 #!/usr/bin/env python3
-"""Measures pgpeer on large scripts, beside jq on the same ones.
+"""Measures pgpeer on large scripts, beside two yardsticks on the same ones.
 
     bench/measure.py [--program PATH] [--inputs FOLDER] [--runs N] [NAME...]
 
 PATH is the built program (by default crates/pgpeer/out/pgpeer) and FOLDER what make_inputs.py wrote (by default
-bench/out). NAME is one of locate, incs, map, steps, traces and empty; without one all are run. The yardstick is `jq -c .`, which
-reads and prints the same lines. The two run N times each (by default 5), by turns, one at a time, and print to nowhere.
-Prints two tables in Markdown, of time and of memory. Needs jq and GNU time (Debian: jq and time).
+bench/out). NAME is one of those that make_inputs.py names; without one all are run. The yardsticks are `jq -c .` and
+bench/read_and_write.py, which read and print the same lines. The three run N times each (by default 5), by turns, one at
+a time, and print to nowhere. Prints two tables in Markdown, of time and of memory. Needs jq and GNU time (Debian: jq and
+time).
 
 Seconds are of the processor, in the program and in the system on its behalf, since those change least with what else
 the machine does. A script to whose lines the program doesn't answer `ok`, each in turn, is told of and not measured.
@@ -23,7 +24,7 @@ import time
 from typing import NamedTuple
 
 HERE = os.path.dirname(os.path.abspath(__file__))
-NAMES = ("locate", "incs", "map", "steps", "traces", "empty")
+NAMES = ("locate", "incs", "map", "steps", "full", "peering", "churn", "asks", "traces", "empty")
 
 
 class Run(NamedTuple):
@@ -86,23 +87,24 @@ def ratio(ours, theirs, part):
     return f"{min(ours) / min(theirs):.2f} / {pairs:.2f}"
 
 
-def time_row(name, script, ours, theirs):
+def time_row(name, script, ours, jq, python):
     """Gives the row of the first table."""
     return [
         name,
         f"{line_count(script):,}",
         f"{os.path.getsize(script):,}",
         seconds(ours),
-        seconds(theirs),
-        ratio(ours, theirs, "cpu"),
-        ratio(ours, theirs, "elapsed"),
+        seconds(jq),
+        seconds(python),
+        ratio(ours, jq, "cpu"),
+        ratio(ours, python, "cpu"),
         f"{line_count(script) / min(it.cpu for it in ours):,.0f}",
     ]
 
 
-def memory_row(name, ours, theirs, tenth):
+def memory_row(name, ours, jq, tenth):
     """Gives the row of the second table: the greatest peaks."""
-    return [name] + [f"{max(it.peak for it in runs):.1f}" for runs in (ours, *tenth, theirs)]
+    return [name] + [f"{max(it.peak for it in runs):.1f}" for runs in (ours, *tenth, jq)]
 
 
 def table(head, rows):
@@ -122,7 +124,8 @@ def lacking(options):
 def main(options):
     if lacking(options):
         sys.exit(lacking(options))
-    ours, yardstick = [os.path.abspath(options.program), "run"], ["jq", "-c", "."]
+    ours, jq = [os.path.abspath(options.program), "run"], ["jq", "-c", "."]
+    python = [sys.executable, "-S", "-E", f"{HERE}/read_and_write.py"]
     times, memory = [], []
     for name in options.names or NAMES:
         script, tenth = f"{options.inputs}/{name}.jsonl", f"{options.inputs}/{name}.tenth.jsonl"
@@ -130,12 +133,11 @@ def main(options):
         if fault:
             print(f"{name} isn't measured: {fault}\n")
             continue
-        runs = alternate([ours, yardstick], script, options.runs)
+        runs = alternate([ours, jq, python], script, options.runs)
         times.append(time_row(name, script, *runs))
-        memory.append(memory_row(name, *runs, alternate([ours], tenth, 1)))
-    pair = "least / median"
-    head = ["script", "lines", "bytes", f"pgpeer, s ({pair})", f"jq, s ({pair})", f"ratio ({pair})"]
-    print(table([*head, f"ratio of elapsed time ({pair})", "lines a second"], times), end="\n\n")
+        memory.append(memory_row(name, *runs[:2], alternate([ours], tenth, 1)))
+    head = ["script", "lines", "bytes", "pgpeer, s", "jq, s", "Python, s", "ratio to jq", "ratio to Python"]
+    print(table([*head, "lines a second"], times), end="\n\n")
     print(table(["script", "pgpeer, MiB", "pgpeer on a tenth, MiB", "jq, MiB"], memory))
 
 

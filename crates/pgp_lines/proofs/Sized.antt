@@ -21,8 +21,8 @@ use Rattle.pgp_lines.specs.Shapes.{is_between, number_in, pair_in, items_list, e
 use Rattle.pgp_lines.specs.Trace.{replicated_in, erasure_in, code_of_kind, code_in, has_empty_places, epochs_in}
 use Rattle.pgp_lines.specs.Ids.{osd_in, pool_id_in, word_in, group_in}
 use Rattle.pgp_lines.specs.Incremental.{inc_of}
-use Rattle.pgp_lines.specs.ReportParts.{pg_in, member_in, version_in, name_in, log_entry_in}
-use Rattle.pgp_lines.specs.Reports.{info_of, entries_of, ask_of, locate_of}
+use Rattle.pgp_lines.specs.ReportParts.{pg_in, member_in, name_in, log_entry_in}
+use Rattle.pgp_lines.specs.Reports.{reach_of, info_of, entries_of, ask_of, locate_of}
 use Rattle.pgp_lines.specs.Command.{op_in, op_keys, trace_of, command_with, known, command_in, IsTraceCode, IsGroup, IsMember, IsEntry, IsInRange}
 use Rattle.pgp_lines.specs.declared.command.Command.{Command}
 use Rattle.pgp_lines.specs.declared.command.Command.TheVariants.{Submit, Ask, Locate, Trace}
@@ -149,11 +149,8 @@ info_ok : (d : Data) (info : Info) → info_of d ≡ Ok info → IsGroup info.pg
 info_ok d info is =
     let complete = bind_ok (required (codes "complete") as_bool d) _ info is in
     let member = bind_ok (required (codes "from") member_in d) _ info complete.2 in
-    let history_les = bind_ok (required (codes "history_les") word_in d) _ info member.2 in
-    let last_update = bind_ok (required (codes "last_update") version_in d) _ info history_les.2 in
-    let les = bind_ok (required (codes "les") word_in d) _ info last_update.2 in
-    let log_tail = bind_ok (required (codes "log_tail") version_in d) _ info les.2 in
-    let pg = bind_ok (required (codes "pg") pg_in d) _ info log_tail.2 in
+    let reach = bind_ok (reach_of d) _ info member.2 in
+    let pg = bind_ok (required (codes "pg") pg_in d) _ info reach.2 in
     let stamp = bind_ok (required (codes "stamp") word_in d) _ info pg.2 in
     let of_pg = required_some (codes "pg") pg_in d pg.0 pg.1 in
     let of_member = required_some (codes "from") member_in d member.0 member.1 in

@@ -9,6 +9,7 @@ use Rattle.pgp_ids.specs.declared.bucket.BucketSpec.{BucketSpec}
 use Rattle.pgp_lines.specs.Shapes.{integer_in, list_of, has_only, field, ◌>>=◌}
 use Rattle.pgp_lines.specs.Ids.{byte_in, word_in}
 use Rattle.pgp_lines.specs.MadeBucket.{bucket_of}
+use Rattle.pgp_lines.specs.declared.command.buckets.Head.{Head}
 
 -- the bucket's id, from -65536 to -1
 abbrev pub bucket_id_in : Data → Option ℤ
@@ -36,21 +37,27 @@ abbrev pub weights_in : BucketAlg → Data → Option (List ℕ)
 weights_in Uniform d = Some []
 weights_in Weighed d = field (codes "weights") (list_of word_in) d
 
--- the fields of a bucket that chooses so
-abbrev pub bucket_fields_in : BucketAlg → Data → Option BucketSpec
-bucket_fields_in alg d = do
+-- what a bucket is, its lists aside
+abbrev pub head_fields_in : BucketAlg → Data → Option Head
+head_fields_in alg d = do
   id ← field (codes "id") bucket_id_in d
   kind ← field (codes "type") byte_in d
-  items ← field (codes "items") (list_of bucket_item_in) d
-  weights ← weights_in alg d
-  bucket_of id kind alg items weights
+  Some (record { alg = alg; id = id; kind = kind })
 
-abbrev pub bucket_with : Data → BucketAlg → Option BucketSpec
-bucket_with d alg = if has_only (bucket_keys alg) d then bucket_fields_in alg d else None
+abbrev pub head_with : Data → BucketAlg → Option Head
+head_with d alg = if has_only (bucket_keys alg) d then head_fields_in alg d else None
 
--- a bucket's object: the fields of its kind, and no other; a list bucket has as many weights as items
+-- an object with the keys of its kind, and no other
+abbrev pub head_in : Data → Option Head
+head_in d = option_and_then (head_with d) (field (codes "alg") alg_in d)
+
+-- a bucket's object: its head and its lists; a list bucket has as many weights as items
 abbrev pub bucket_in : Data → Option BucketSpec
-bucket_in d = option_and_then (bucket_with d) (field (codes "alg") alg_in d)
+bucket_in d = do
+  head ← head_in d
+  items ← field (codes "items") (list_of bucket_item_in) d
+  weights ← weights_in head.alg d
+  bucket_of head.id head.kind head.alg items weights
 
 -- the buckets of a tree; an empty list is a tree without buckets
 abbrev pub tree_in : Data → Option (Option (List BucketSpec))

@@ -1,6 +1,7 @@
 -- The line of a map incremental, in this project's own format over JSON.
 use Rattle.std.specs.Prelude.{ℕ, List, [], ◌∷◌, codes, Option, None, Result, Ok}
 use Rattle.serde_json.specs.Data.{Data}
+use Rattle.pgp_ids.specs.declared.bucket.BucketSpec.{BucketSpec}
 use Rattle.pgp_ids.specs.declared.incremental.Incremental.{Incremental}
 use Rattle.pgp_lines.specs.LineFault.{LineFault, ◌>>=◌}
 use Rattle.pgp_lines.specs.Shapes.{list_of, required, optional}
@@ -58,6 +59,22 @@ coming_of d = do
   weight ← list_at (codes "weight") device_weight_in d
   Ok (record { up = up; up_thru = up_thru; weight = weight })
 
+-- the incremental of these parts
+abbrev pub joined : Option (List BucketSpec) → Going → Pools → Coming → Incremental
+joined crush going pools coming = record {
+  epoch = going.epoch;
+  up = coming.up;
+  down = going.down;
+  gone = going.gone;
+  weight = coming.weight;
+  up_thru = coming.up_thru;
+  lost = going.lost;
+  pools = pools.pools;
+  sizes = pools.sizes;
+  temp = pools.temp;
+  crush = crush;
+}
+
 -- the line of an incremental: its keys are judged in ascending byte order, so the least bad one is named
 abbrev pub inc_of : Data → Result Incremental LineFault
 inc_of d = do
@@ -65,16 +82,4 @@ inc_of d = do
   going ← going_of d
   pools ← pools_of d
   coming ← coming_of d
-  Ok (record {
-    epoch = going.epoch;
-    up = coming.up;
-    down = going.down;
-    gone = going.gone;
-    weight = coming.weight;
-    up_thru = coming.up_thru;
-    lost = going.lost;
-    pools = pools.pools;
-    sizes = pools.sizes;
-    temp = pools.temp;
-    crush = crush;
-  })
+  Ok (joined crush going pools coming)

@@ -10,4 +10,3 @@ pub mod Trace
 pub mod ReportParts
 pub mod Reports
 pub mod Command
-pub mod WorkedLines

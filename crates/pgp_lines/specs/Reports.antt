@@ -5,6 +5,7 @@ use Rattle.serde_json.specs.Find.{as_bool}
 use Rattle.pgp_ids.specs.declared.pg_id.PgId.{PgId}
 use Rattle.pgp_ids.specs.declared.report.Info.{Info}
 use Rattle.pgp_ids.specs.declared.report.Report.{Report}
+use Rattle.pgp_lines.specs.declared.command.info.Reach.{Reach}
 use Rattle.pgp_lines.specs.LineFault.{LineFault, ◌>>=◌}
 use Rattle.pgp_lines.specs.Shapes.{list_in, required}
 use Rattle.pgp_lines.specs.Ids.{pool_id_in, word_in}
@@ -24,25 +25,31 @@ info_keys =
     ∷ codes "stamp"
     ∷ []
 
+-- how far a member's copy has come, and from where on its log tells it
+abbrev pub reach_of : Data → Result Reach LineFault
+reach_of d = do
+  history_les ← required (codes "history_les") word_in d
+  last_update ← required (codes "last_update") version_in d
+  les ← required (codes "les") word_in d
+  log_tail ← required (codes "log_tail") version_in d
+  Ok (record { history_les = history_les; last_update = last_update; les = les; log_tail = log_tail })
+
 -- the line of an info: its keys are judged in ascending byte order, so the least bad one is named
 abbrev pub info_of : Data → Result Info LineFault
 info_of d = do
   complete ← required (codes "complete") as_bool d
   member ← required (codes "from") member_in d
-  history_les ← required (codes "history_les") word_in d
-  last_update ← required (codes "last_update") version_in d
-  les ← required (codes "les") word_in d
-  log_tail ← required (codes "log_tail") version_in d
+  reach ← reach_of d
   pg ← required (codes "pg") pg_in d
   stamp ← required (codes "stamp") word_in d
   Ok (record {
     pg = pg;
     member = member;
     stamp = stamp;
-    les = les;
-    history_les = history_les;
-    last_update = last_update;
-    log_tail = log_tail;
+    les = reach.les;
+    history_les = reach.history_les;
+    last_update = reach.last_update;
+    log_tail = reach.log_tail;
     complete = complete;
   })
 

@@ -8,6 +8,7 @@ use Rattle.serde_json.specs.Find.{as_str}
 use Rattle.pgp_ids.specs.Osds.{first_osd}
 use Rattle.pgp_ids.specs.declared.history.EpochState.{EpochState}
 use Rattle.pgp_ids.specs.declared.history.PrimaryFacts.{PrimaryFacts}
+use Rattle.pgp_ids.specs.declared.membership.Membership.{Membership}
 use Rattle.pgp_lines.specs.Ids.{place_in, word_in}
 use Rattle.pgp_lines.specs.Shapes.{number_in, list_in, has_only, field, ◌>>=◌}
 
@@ -51,19 +52,29 @@ facts_in d = do
   up_thru ← field (codes "up_thru") word_in d
   Some (record { up_from = up_from; up_thru = up_thru })
 
--- an epoch's state: each primary is the first device of its list
-abbrev pub epoch_state : List (Option ℕ) → List (Option ℕ) → ℕ → ℕ → ℕ → ℕ → EpochState
-epoch_state up acting size min_size up_from up_thru = record {
-  members = record {
-    up = up;
-    up_primary = first_osd up;
-    acting = acting;
-    acting_primary = first_osd acting;
-    size = size;
-    min_size = min_size;
-  };
-  facts = record { up_from = up_from; up_thru = up_thru };
+-- whom a group has: each primary is the first device of its list
+abbrev pub membership : List (Option ℕ) → List (Option ℕ) → ℕ → ℕ → Membership
+membership up acting size min_size = record {
+  up = up;
+  up_primary = first_osd up;
+  acting = acting;
+  acting_primary = first_osd acting;
+  size = size;
+  min_size = min_size;
 }
+
+-- an epoch's state
+abbrev pub epoch_state : List (Option ℕ) → List (Option ℕ) → ℕ → ℕ → ℕ → ℕ → EpochState
+epoch_state up acting size min_size up_from up_thru =
+    record { members = membership up acting size min_size; facts = record { up_from = up_from; up_thru = up_thru } }
+
+-- whom a group has
+abbrev pub members_in : Bool → Data → Option Membership
+members_in nulls d = do
+  sizes ← sizes_in d
+  up ← field (codes "up") (osds_in nulls) d
+  acting ← field (codes "acting") (osds_in nulls) d
+  Some (membership up acting sizes.0 sizes.1)
 
 -- the keys that an epoch's object must have
 abbrev pub epoch_keys : List (List ℕ)
@@ -72,11 +83,9 @@ epoch_keys = codes "acting" ∷ codes "min_size" ∷ codes "size" ∷ codes "up"
 -- the fields of an epoch's object
 abbrev pub epoch_fields_in : Bool → Data → Option EpochState
 epoch_fields_in nulls d = do
-  sizes ← sizes_in d
   facts ← facts_in d
-  up ← field (codes "up") (osds_in nulls) d
-  acting ← field (codes "acting") (osds_in nulls) d
-  Some (epoch_state up acting sizes.0 sizes.1 facts.up_from facts.up_thru)
+  members ← members_in nulls d
+  Some (record { members = members; facts = facts })
 
 -- an object with these fields and no other
 abbrev pub epoch_state_in : Bool → Data → Option EpochState

@@ -4,7 +4,6 @@ ghost use Rattle.serde_json.specs.View.{view};
 ghost use Rattle.pgp_lines.specs.LineFault.{told, not_json};
 ghost use Rattle.pgp_lines.specs.Command.{op_in, op_keys, trace_of, command_with, command_in, data_of, command_of, IsInRange};
 
-mod ask;
 mod buckets;
 mod devices;
 mod entries;
@@ -20,9 +19,9 @@ mod objects;
 mod pools;
 mod trace;
 
-use ask::read_ask;
 use entries::read_entries;
 use faults::{bad_field_fault, unknown_key_fault};
+use fields::read_required;
 use incremental::read_inc;
 use info::read_info;
 use locate::read_locate;
@@ -116,7 +115,7 @@ fn read_values(alloc: Global, op: Op, value: &Value) -> Result<Command, TextFaul
 {
     match op {
         Op::Ask => {
-            let pg = read_ask(alloc, value)?;
+            let pg = read_required(alloc, value, "pg")?;
             Ok(Command::Ask(pg))
         }
         Op::Close => Ok(Command::Submit(Entry::Close)),

@@ -7,6 +7,5 @@
 #![tactic(auto)]
 
 mod command;
-pub mod laws;
 
 pub use command::{Command, read_line};

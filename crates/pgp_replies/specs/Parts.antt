@@ -59,3 +59,11 @@ verdict_fields v =
     ∷ (codes "up_primary", place_data v.up_primary)
     ∷ (codes "verdict", string (verdict_name v.verdict))
     ∷ []
+
+-- the group of an object, and the epoch of the map that says where it lies
+abbrev pub place_fields : PgId → ℕ → List Field
+place_fields pg epoch =
+    (codes "epoch", number_data epoch)
+    ∷ (codes "ok", string (codes "locate"))
+    ∷ (codes "pg", group_data pg)
+    ∷ []

@@ -1,7 +1,8 @@
 //! The answers to lines, and their text.
 ghost use Rattle.std.specs.Prelude.{◌≡◌, ◌++◌, IfOk, OnOk, OnErr};
 ghost use Rattle.pgp_replies.specs.Reply.{accepted_data, located_data, traced_data, reply_data, reply_text};
-ghost use Rattle.pgp_replies.specs.Written.{tokens_of};
+ghost use Rattle.pgp_replies.specs.Parts.{place_fields};
+ghost use Rattle.pgp_replies.specs.Written.{tokens_of, fields_tokens};
 
 mod asked;
 mod devices;
@@ -121,11 +122,20 @@ fn write_located(
 {
     out.begin_object()?;
     write_acting(alloc, out, &members.acting, members.acting_primary)?;
-    write_field(alloc, out, "epoch", &epoch)?;
-    write_field(alloc, out, "ok", &"locate")?;
-    write_field(alloc, out, "pg", &pg)?;
+    write_place(alloc, out, pg, epoch)?;
     write_up(alloc, out, &members.up, members.up_primary)?;
     out.end_object()
+}
+
+/// The group, and the epoch of the map that says where it lies.
+fn write_place(alloc: Global, out: &mut Writer, pg: PgId, epoch: Epoch) -> Result<(), AllocError>
+    ensures ok { OnOk result
+        (out.new.tokens ≡ out.old.tokens ++ fields_tokens (place_fields pg epoch)) }
+    ensures before { out.new.before ≡ out.old.before }
+{
+    write_field(alloc, out, "epoch", &epoch)?;
+    write_field(alloc, out, "ok", &"locate")?;
+    write_field(alloc, out, "pg", &pg)
 }
 
 fn write_traced(

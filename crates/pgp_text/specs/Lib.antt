@@ -1,5 +1,5 @@
 pub use Rattle.pgp_lines.specs.Command
 pub use Rattle.pgp_lines.specs.LineFault
-pub use Rattle.pgp_lines.specs.WorkedLines
 pub use Rattle.pgp_replies.specs.EntryOp
 pub mod Reply
+pub mod WorkedLines

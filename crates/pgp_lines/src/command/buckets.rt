@@ -4,7 +4,7 @@ ghost use Rattle.serde_json.specs.View.{view};
 ghost use Rattle.pgp_ids.specs.Bucket.{weight_count};
 ghost use Rattle.pgp_lines.specs.Ids.{word_in};
 ghost use Rattle.pgp_lines.specs.MadeBucket.{bucket_of};
-ghost use Rattle.pgp_lines.specs.Buckets.{bucket_id_in, bucket_item_in, alg_in, bucket_keys, weights_in, bucket_in};
+ghost use Rattle.pgp_lines.specs.Buckets.{bucket_id_in, bucket_item_in, alg_in, bucket_keys, head_in, weights_in, bucket_in};
 
 use super::lists::{Shape, read_list_at};
 use super::numbers::{read_byte, read_integer, read_word};
@@ -17,11 +17,21 @@ const LEAST_ID: i32 = -65536;
 
 const GREATEST_ITEM: i64 = 65535;
 
+/// A bucket: its head and its lists. A list bucket has as many weights as items.
 impl Shape for BucketSpec {
     ghost shape = { bucket_in };
 
     fn read(alloc: Global, value: &Value) -> Result<Option<BucketSpec>, AllocError> {
-        read_bucket(alloc, value)
+        let Some(head) = read_head(value) else {
+            return Ok(None);
+        };
+        let Some(items) = read_list_at(alloc, value, "items")? else {
+            return Ok(None);
+        };
+        match read_weights(alloc, value, head.alg)? {
+            Some(weights) => Ok(bucket_of(head.id, head.kind, head.alg, items, weights)),
+            None => Ok(None),
+        }
     }
 }
 
@@ -30,7 +40,10 @@ impl Shape for i32 {
     ghost shape = { bucket_item_in };
 
     fn read(_alloc: Global, value: &Value) -> Result<Option<i32>, AllocError> {
-        Ok(read_item(value))
+        match read_integer(value, i64::from(LEAST_ID), GREATEST_ITEM) {
+            Some(item) => Ok(Some(item as i32)),
+            None => Ok(None),
+        }
     }
 }
 
@@ -41,13 +54,6 @@ impl Shape for u32 {
     fn read(_alloc: Global, value: &Value) -> Result<Option<u32>, AllocError> {
         Ok(read_word(value))
     }
-}
-
-fn read_item(value: &Value) -> Option<i32>
-    ensures { result ≡ bucket_item_in (view value.now) }
-{
-    let item = read_integer(value, i64::from(LEAST_ID), GREATEST_ITEM)?;
-    Some(item as i32)
 }
 
 /// The id of a bucket, -65536 to -1.
@@ -78,29 +84,25 @@ fn bucket_keys(alg: BucketAlg) -> &'static [&'static str]
     }
 }
 
-/// A bucket: an object with all keys of its kind and no other. A list bucket has as many weights as items.
-fn read_bucket(alloc: Global, value: &Value) -> Result<Option<BucketSpec>, AllocError>
-    ensures { IfOk result (λ found. found ≡ bucket_in (view value.now)) }
+/// What a bucket is, its lists aside.
+#[derive(Clone, Copy)]
+struct Head {
+    alg: BucketAlg,
+    id: i32,
+    kind: u8,
+}
+
+/// The head of a bucket: an object with all keys of its kind and no other.
+fn read_head(value: &Value) -> Option<Head>
+    ensures { result ≡ head_in (view value.now) }
 {
-    let Some(alg) = value.get("alg").and_then(read_alg) else {
-        return Ok(None);
-    };
+    let alg = read_alg(value.get("alg")?)?;
     if !has_only(value, bucket_keys(alg)) {
-        return Ok(None);
+        return None;
     }
-    let Some(id) = value.get("id").and_then(read_id) else {
-        return Ok(None);
-    };
-    let Some(kind) = value.get("type").and_then(read_byte) else {
-        return Ok(None);
-    };
-    let Some(items) = read_list_at(alloc, value, "items")? else {
-        return Ok(None);
-    };
-    match read_weights(alloc, value, alg)? {
-        Some(weights) => Ok(bucket_of(id, kind, alg, items, weights)),
-        None => Ok(None),
-    }
+    let id = read_id(value.get("id")?)?;
+    let kind = read_byte(value.get("type")?)?;
+    Some(Head { alg, id, kind })
 }
 
 /// The weights of a list bucket; any other has none.

@@ -8,28 +8,41 @@ ghost use Rattle.pgp_lines.specs.Reports.{entries_of};
 
 use super::fields::read_required;
 use super::lists::{Shape, read_each};
-use super::locate::read_name;
 use super::members::version_of;
-use pgp_ids::{Change, LogEntry, Report, Seq, TextFault};
+use pgp_ids::{Change, LogEntry, ObjectName, Report, Seq, TextFault};
 use serde_json::Value;
 use std::alloc::{AllocError, Global};
 
 /// How many log entries a line has at most.
 const MAX_LOG_ENTRIES: usize = 256;
 
+/// 1 to 256 log entries.
 impl Shape for Seq<LogEntry> {
     ghost shape = { list_in 1 256 log_entry_in };
 
     fn read(alloc: Global, value: &Value) -> Result<Option<Seq<LogEntry>>, AllocError> {
-        read_log(alloc, value)
+        let Some(entries) = value.as_array() else {
+            return Ok(None);
+        };
+        if entries.is_empty() || entries.len() > MAX_LOG_ENTRIES {
+            return Ok(None);
+        }
+        read_each(alloc, entries)
     }
 }
 
+/// `[epoch, v, "modify" or "delete", name]`.
 impl Shape for LogEntry {
     ghost shape = { log_entry_in };
 
     fn read(alloc: Global, value: &Value) -> Result<Option<LogEntry>, AllocError> {
-        read_log_entry(alloc, value)
+        let Some(parts) = value.as_array() else {
+            return Ok(None);
+        };
+        match parts.as_slice() {
+            [epoch, v, change, name] => log_entry_of(alloc, epoch, v, change, name),
+            _ => Ok(None),
+        }
     }
 }
 
@@ -52,32 +65,6 @@ pub(super) fn read_entries(alloc: Global, value: &Value) -> Result<Report, TextF
     })
 }
 
-/// 1 to 256 log entries.
-fn read_log(alloc: Global, value: &Value) -> Result<Option<Seq<LogEntry>>, AllocError>
-    ensures { IfOk result (λ found. found ≡ list_in 1 256 log_entry_in (view value.now)) }
-{
-    let Some(entries) = value.as_array() else {
-        return Ok(None);
-    };
-    if entries.is_empty() || entries.len() > MAX_LOG_ENTRIES {
-        return Ok(None);
-    }
-    read_each(alloc, entries)
-}
-
-/// `[epoch, v, "modify" or "delete", name]`.
-fn read_log_entry(alloc: Global, value: &Value) -> Result<Option<LogEntry>, AllocError>
-    ensures { IfOk result (λ found. found ≡ log_entry_in (view value.now)) }
-{
-    let Some(parts) = value.as_array() else {
-        return Ok(None);
-    };
-    match parts.as_slice() {
-        [epoch, v, change, name] => log_entry_of(alloc, epoch, v, change, name),
-        _ => Ok(None),
-    }
-}
-
 /// The log entry of these parts.
 fn log_entry_of(
     alloc: Global,
@@ -95,7 +82,7 @@ fn log_entry_of(
     let Some(change) = read_change(change) else {
         return Ok(None);
     };
-    match read_name(alloc, name)? {
+    match ObjectName::read(alloc, name)? {
         Some(object) => Ok(Some(LogEntry {
             version,
             change,

@@ -4,7 +4,7 @@ ghost use Rattle.serde_json.specs.View.{view};
 ghost use Rattle.pgp_lines.specs.LineFault.{told};
 ghost use Rattle.pgp_lines.specs.Shapes.{optional};
 ghost use Rattle.pgp_lines.specs.Buckets.{tree_in};
-ghost use Rattle.pgp_lines.specs.Incremental.{list_at, going_of, pools_of, coming_of, inc_of};
+ghost use Rattle.pgp_lines.specs.Incremental.{list_at, going_of, pools_of, coming_of, joined, inc_of};
 
 use super::faults::bad_field_fault;
 use super::fields::read_required;
@@ -27,7 +27,14 @@ pub(super) fn read_inc(alloc: Global, value: &Value) -> Result<Incremental, Text
     let going = read_going(alloc, value)?;
     let pools = read_pools(alloc, value)?;
     let coming = read_coming(alloc, value)?;
-    Ok(Incremental {
+    Ok(joined(crush, going, pools, coming))
+}
+
+/// The incremental of these parts.
+fn joined(crush: Option<Seq<BucketSpec>>, going: Going, pools: Pools, coming: Coming) -> Incremental
+    ensures { result ≡ joined crush going pools coming }
+{
+    Incremental {
         epoch: going.epoch,
         up: coming.up,
         down: going.down,
@@ -39,7 +46,7 @@ pub(super) fn read_inc(alloc: Global, value: &Value) -> Result<Incremental, Text
         sizes: pools.sizes,
         temp: pools.temp,
         crush,
-    })
+    }
 }
 
 /// The devices that go, and the epoch, whose key stands among theirs.

@@ -2,10 +2,10 @@
 ghost use Rattle.std.specs.Prelude.{◌≡◌, Ok, Err, IfOk, IfErr, IfSome};
 ghost use Rattle.serde_json.specs.View.{view};
 ghost use Rattle.pgp_lines.specs.LineFault.{told};
-ghost use Rattle.pgp_lines.specs.Reports.{info_of};
+ghost use Rattle.pgp_lines.specs.Reports.{reach_of, info_of};
 
 use super::fields::read_required;
-use pgp_ids::{Info, TextFault};
+use pgp_ids::{Epoch, Info, TextFault, Version};
 use serde_json::Value;
 use std::alloc::Global;
 
@@ -17,20 +17,43 @@ pub(super) fn read_info(alloc: Global, value: &Value) -> Result<Info, TextFault>
 {
     let complete = read_required(alloc, value, "complete")?;
     let member = read_required(alloc, value, "from")?;
-    let history_les = read_required(alloc, value, "history_les")?;
-    let last_update = read_required(alloc, value, "last_update")?;
-    let les = read_required(alloc, value, "les")?;
-    let log_tail = read_required(alloc, value, "log_tail")?;
+    let reach = read_reach(alloc, value)?;
     let pg = read_required(alloc, value, "pg")?;
     let stamp = read_required(alloc, value, "stamp")?;
     Ok(Info {
         pg,
         member,
         stamp,
-        les,
+        les: reach.les,
+        history_les: reach.history_les,
+        last_update: reach.last_update,
+        log_tail: reach.log_tail,
+        complete,
+    })
+}
+
+/// How far a member's copy has come, and from where on its log tells it.
+#[derive(Clone, Copy)]
+struct Reach {
+    history_les: Epoch,
+    last_update: Version,
+    les: Epoch,
+    log_tail: Version,
+}
+
+fn read_reach(alloc: Global, value: &Value) -> Result<Reach, TextFault>
+    ensures ok { IfOk result (λ reach. reach_of (view value.now) ≡ Ok reach) }
+    ensures err { IfErr result
+        (λ fault. IfSome (told fault) (λ f. reach_of (view value.now) ≡ Err f)) }
+{
+    let history_les = read_required(alloc, value, "history_les")?;
+    let last_update = read_required(alloc, value, "last_update")?;
+    let les = read_required(alloc, value, "les")?;
+    let log_tail = read_required(alloc, value, "log_tail")?;
+    Ok(Reach {
         history_les,
         last_update,
+        les,
         log_tail,
-        complete,
     })
 }

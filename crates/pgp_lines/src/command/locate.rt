@@ -21,26 +21,20 @@ impl Shape for PoolId {
     }
 }
 
+/// The name of an object: 1 to 255 bytes of UTF-8.
 impl Shape for ObjectName {
     ghost shape = { name_in };
 
     fn read(alloc: Global, value: &Value) -> Result<Option<ObjectName>, AllocError> {
-        read_name(alloc, value)
+        let Some(name) = value.as_str() else {
+            return Ok(None);
+        };
+        if name.is_empty() || name.len() > ObjectName::MAX_LEN {
+            return Ok(None);
+        }
+        let text = String::from_str(alloc, name)?;
+        Ok(ObjectName::new(text))
     }
-}
-
-/// The name of an object: 1 to 255 bytes of UTF-8.
-pub(super) fn read_name(alloc: Global, value: &Value) -> Result<Option<ObjectName>, AllocError>
-    ensures { IfOk result (λ found. found ≡ name_in (view value.now)) }
-{
-    let Some(name) = value.as_str() else {
-        return Ok(None);
-    };
-    if name.is_empty() || name.len() > ObjectName::MAX_LEN {
-        return Ok(None);
-    }
-    let text = String::from_str(alloc, name)?;
-    Ok(ObjectName::new(text))
 }
 
 /// The pool and the name of an object. The keys are read in ascending byte order, so that the least bad one is told.

@@ -3,7 +3,7 @@ ghost use Rattle.std.specs.Prelude.{◌≡◌, map, codes, IfOk};
 ghost use Rattle.serde_json.specs.View.{view};
 ghost use Rattle.pgp_lines.specs.Shapes.{number_in, field};
 ghost use Rattle.pgp_lines.specs.Ids.{byte_in};
-ghost use Rattle.pgp_lines.specs.Pools.{pool_keys, pool_kind_in, pool_in, pool_sizes_in, temp_in};
+ghost use Rattle.pgp_lines.specs.Pools.{pool_keys, pool_kind_in, spread_in, pool_in, pool_sizes_in, temp_in};
 
 use super::lists::{Shape, read_list, read_triple};
 use super::numbers::{read_byte, read_group, read_number, read_pool_id};
@@ -28,11 +28,21 @@ impl Shape for PoolSizes {
     }
 }
 
+/// `[pool, pg, list of devices or null]`, of any length.
 impl Shape for TempList {
     ghost shape = { temp_in };
 
     fn read(alloc: Global, value: &Value) -> Result<Option<TempList>, AllocError> {
-        read_temp(alloc, value)
+        let Some((pool, pg, places)) = read_triple(value) else {
+            return Ok(None);
+        };
+        let Some(pg) = read_group(pool, pg) else {
+            return Ok(None);
+        };
+        match read_list(alloc, places)? {
+            Some(osds) => Ok(Some(TempList { pg, osds })),
+            None => Ok(None),
+        }
     }
 }
 
@@ -45,13 +55,36 @@ fn read_pool(value: &Value) -> Option<PoolSpec>
         return None;
     }
     let id = read_pool_id(value.get("id")?)?;
+    let pg_num = pg_num_at(value)?;
+    let spread = read_spread(value)?;
     Some(PoolSpec {
         id,
-        pg_num: pg_num_at(value)?,
+        pg_num,
         kind,
-        size: byte_at(value, "size")?,
-        min_size: byte_at(value, "min_size")?,
-        leaf: byte_at(value, "leaf")?,
+        size: spread.size,
+        min_size: spread.min_size,
+        leaf: spread.leaf,
+    })
+}
+
+/// On how many devices a group lies, with how many of them it may serve, and the type of bucket that keeps them apart.
+#[derive(Clone, Copy)]
+struct Spread {
+    size: u8,
+    min_size: u8,
+    leaf: u8,
+}
+
+fn read_spread(value: &Value) -> Option<Spread>
+    ensures { result ≡ spread_in (view value.now) }
+{
+    let size = byte_at(value, "size")?;
+    let min_size = byte_at(value, "min_size")?;
+    let leaf = byte_at(value, "leaf")?;
+    Some(Spread {
+        size,
+        min_size,
+        leaf,
     })
 }
 
@@ -104,20 +137,4 @@ fn read_sizes(value: &Value) -> Option<PoolSizes>
         size: read_byte(size)?,
         min_size: read_byte(min_size)?,
     })
-}
-
-/// `[pool, pg, list of devices or null]`, of any length.
-fn read_temp(alloc: Global, value: &Value) -> Result<Option<TempList>, AllocError>
-    ensures { IfOk result (λ found. found ≡ temp_in (view value.now)) }
-{
-    let Some((pool, pg, places)) = read_triple(value) else {
-        return Ok(None);
-    };
-    let Some(pg) = read_group(pool, pg) else {
-        return Ok(None);
-    };
-    match read_list(alloc, places)? {
-        Some(osds) => Ok(Some(TempList { pg, osds })),
-        None => Ok(None),
-    }
 }

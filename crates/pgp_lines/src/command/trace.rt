@@ -3,7 +3,7 @@ ghost use Rattle.std.specs.Prelude.{◌≡◌, ◌≤◌, length, map, IfOk, IfE
 ghost use Rattle.serde_json.specs.View.{view};
 ghost use Rattle.pgp_lines.specs.Ids.{place_in};
 ghost use Rattle.pgp_lines.specs.Shapes.{each};
-ghost use Rattle.pgp_lines.specs.Trace.{code_in, erasure_in, has_empty_places, osds_in, sizes_in, facts_in, epoch_state_in, epochs_in};
+ghost use Rattle.pgp_lines.specs.Trace.{code_in, erasure_in, has_empty_places, osds_in, sizes_in, facts_in, members_in, epoch_state_in, epochs_in};
 
 use super::numbers::{read_epoch, read_number, read_place};
 use super::objects::has_only;
@@ -70,26 +70,33 @@ fn read_places(places: &[Value], nulls: bool) -> Option<Osds>
     Some(osds)
 }
 
-/// One epoch: an object with all of [`EPOCH_KEYS`] and no other key. Each primary is the first device of its list.
+/// One epoch: an object with all of [`EPOCH_KEYS`] and no other key.
 fn read_epoch_state(value: &Value, nulls: bool) -> Option<EpochState>
     ensures { result ≡ epoch_state_in nulls (view value.now) }
 {
     if !has_only(value, &EPOCH_KEYS) {
         return None;
     }
-    let (size, min_size) = read_sizes(value)?;
     let facts = read_facts(value)?;
+    let members = read_members(value, nulls)?;
+    Some(EpochState { members, facts })
+}
+
+/// Whom the group has. Each primary is the first device of its list.
+fn read_members(value: &Value, nulls: bool) -> Option<Membership>
+    ensures { result ≡ members_in nulls (view value.now) }
+{
+    let (size, min_size) = read_sizes(value)?;
     let up = read_osds(value.get("up")?, nulls)?;
     let acting = read_osds(value.get("acting")?, nulls)?;
-    let members = Membership {
+    Some(Membership {
         up_primary: up.first(),
         up,
         acting_primary: acting.first(),
         acting,
         size,
         min_size,
-    };
-    Some(EpochState { members, facts })
+    })
 }
 
 /// How many members a group has, 1 to 16, and with how many of them it may serve.

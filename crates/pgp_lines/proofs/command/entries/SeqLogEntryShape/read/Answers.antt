@@ -3,8 +3,8 @@ use Rattle.std.proofs.lemmas.Bool.{eqb-true}
 use Rattle.std.proofs.lemmas.Bool.Decides.{nat_tests}
 use Rattle.pgp_lines.specs.ReportParts.{log_entry_in}
 use Rattle.pgp_lines.proofs.Values.{is_between-true, is_between-above, is_between-below, list_in-array}
-use Rattle.pgp_lines.proofs.command.entries.read_log.Goals as goal
-use Rattle.pgp_lines.proofs.command.entries.read_log.Goals.{then-is_empty-via-then-is_empty, then-is_empty-via-else-is_empty+then-len-gt-MAX_LOG_ENTRIES}
+use Rattle.pgp_lines.proofs.command.entries.SeqLogEntryShape.read.Goals as goal
+use Rattle.pgp_lines.proofs.command.entries.SeqLogEntryShape.read.Goals.{then-is_empty-via-then-is_empty, then-is_empty-via-else-is_empty+then-len-gt-MAX_LOG_ENTRIES}
 
 pub returns-then-is_empty : goal.returns-then-is_empty
 returns-then-is_empty c =

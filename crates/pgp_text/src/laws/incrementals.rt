@@ -5,7 +5,7 @@ ghost use Rattle.std.specs.Prelude.{◌≡◌, [], ◌∷◌, codes, Ok, Err, So
 ghost use Rattle.pgp_ids.specs.declared.entry.Entry.TheVariants.{Inc, Close};
 ghost use Rattle.pgp_lines.specs.LineFault.{bad_field};
 ghost use Rattle.pgp_lines.specs.Command.{command_of};
-ghost use Rattle.pgp_lines.specs.WorkedLines.{inc_with, empty_inc, replicated_line, replicated_command, first_three, replicated_line_without_temp, erasure_pool_line, erasure_pool_command, edges_line, edges_command};
+ghost use Rattle.pgp_text.specs.WorkedLines.{inc_with, empty_inc, replicated_line, replicated_command, first_three, replicated_line_without_temp, erasure_pool_line, erasure_pool_command, edges_line, edges_command};
 ghost use Rattle.pgp_lines.specs.declared.command.Command.TheVariants.{Submit};
 
 /// The end of the log.

@@ -6,7 +6,7 @@ ghost use Rattle.std.proofs.Math.ListN.{replicate};
 ghost use Rattle.pgp_lines.specs.LineFault.{not_json, no_op, unknown_key, bad_field};
 ghost use Rattle.pgp_ids.specs.declared.entry.Entry.TheVariants.{Info, Entries};
 ghost use Rattle.pgp_lines.specs.Command.{command_of};
-ghost use Rattle.pgp_lines.specs.WorkedLines.{nested, close_with, trace_line, trace_command, erasure_line, erasure_command, info_line, first_info, edges_of_info_line, edges_of_info, entries_line, two_entries};
+ghost use Rattle.pgp_text.specs.WorkedLines.{nested, close_with, trace_line, trace_command, erasure_line, erasure_command, info_line, first_info, edges_of_info_line, edges_of_info, entries_line, two_entries};
 ghost use Rattle.pgp_lines.specs.declared.command.Command.TheVariants.{Submit, Ask, Locate};
 
 /// What is no JSON text: one that is cut short, one with bytes behind it, a number that overflows, and no text at all.

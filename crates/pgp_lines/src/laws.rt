@@ -1,4 +1,0 @@
-//! Worked lines, which the definitions compute.
-
-pub mod incrementals;
-pub mod lines;
