@@ -37,19 +37,19 @@ abbrev pub weights_in : BucketAlg → Data → Option (List ℕ)
 weights_in Uniform d = Some []
 weights_in Weighed d = field (codes "weights") (list_of word_in) d
 
+-- how a bucket chooses: an object with no keys but those of its kind
+abbrev pub alg_of : Data → Option BucketAlg
+alg_of d = do
+  alg ← field (codes "alg") alg_in d
+  if has_only (bucket_keys alg) d then Some alg else None
+
 -- what a bucket is, its lists aside
-abbrev pub head_fields_in : BucketAlg → Data → Option Head
-head_fields_in alg d = do
+abbrev pub head_in : Data → Option Head
+head_in d = do
+  alg ← alg_of d
   id ← field (codes "id") bucket_id_in d
   kind ← field (codes "type") byte_in d
   Some (record { alg = alg; id = id; kind = kind })
-
-abbrev pub head_with : Data → BucketAlg → Option Head
-head_with d alg = if has_only (bucket_keys alg) d then head_fields_in alg d else None
-
--- an object with the keys of its kind, and no other
-abbrev pub head_in : Data → Option Head
-head_in d = option_and_then (head_with d) (field (codes "alg") alg_in d)
 
 -- a bucket's object: its head and its lists; a list bucket has as many weights as items
 abbrev pub bucket_in : Data → Option BucketSpec

@@ -59,27 +59,28 @@ coming_of d = do
   weight ← list_at (codes "weight") device_weight_in d
   Ok (record { up = up; up_thru = up_thru; weight = weight })
 
--- the incremental of these parts
-abbrev pub joined : Option (List BucketSpec) → Going → Pools → Coming → Incremental
-joined crush going pools coming = record {
-  epoch = going.epoch;
-  up = coming.up;
-  down = going.down;
-  gone = going.gone;
-  weight = coming.weight;
-  up_thru = coming.up_thru;
-  lost = going.lost;
-  pools = pools.pools;
-  sizes = pools.sizes;
-  temp = pools.temp;
-  crush = crush;
-}
+-- the incremental of a line whose tree and going devices are these
+abbrev pub rest_of : Option (List BucketSpec) → Going → Data → Result Incremental LineFault
+rest_of crush going d = do
+  pools ← pools_of d
+  coming ← coming_of d
+  Ok (record {
+    epoch = going.epoch;
+    up = coming.up;
+    down = going.down;
+    gone = going.gone;
+    weight = coming.weight;
+    up_thru = coming.up_thru;
+    lost = going.lost;
+    pools = pools.pools;
+    sizes = pools.sizes;
+    temp = pools.temp;
+    crush = crush;
+  })
 
 -- the line of an incremental: its keys are judged in ascending byte order, so the least bad one is named
 abbrev pub inc_of : Data → Result Incremental LineFault
 inc_of d = do
   crush ← optional (codes "crush") tree_in None d
   going ← going_of d
-  pools ← pools_of d
-  coming ← coming_of d
-  Ok (joined crush going pools coming)
+  rest_of crush going d

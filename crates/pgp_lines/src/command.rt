@@ -191,7 +191,7 @@ fn read_trace(alloc: Global, value: &Value) -> Result<Command, TextFault>
     ensures err { IfErr result
         (λ fault. IfSome (told fault) (λ f. trace_of (view value.now) ≡ Err f)) }
 {
-    let Some(code) = value.get("code").and_then(read_code) else {
+    let Some(code) = read_code(value) else {
         return Err(bad_field_fault(alloc, "code"));
     };
     let found = match value.get("epochs") {

@@ -4,7 +4,7 @@ ghost use Rattle.serde_json.specs.View.{view};
 ghost use Rattle.pgp_ids.specs.Bucket.{weight_count};
 ghost use Rattle.pgp_lines.specs.Ids.{word_in};
 ghost use Rattle.pgp_lines.specs.MadeBucket.{bucket_of};
-ghost use Rattle.pgp_lines.specs.Buckets.{bucket_id_in, bucket_item_in, alg_in, bucket_keys, head_in, weights_in, bucket_in};
+ghost use Rattle.pgp_lines.specs.Buckets.{bucket_id_in, bucket_item_in, alg_in, bucket_keys, alg_of, head_in, weights_in, bucket_in};
 
 use super::lists::{Shape, read_list_at};
 use super::numbers::{read_byte, read_integer, read_word};
@@ -92,14 +92,18 @@ struct Head {
     kind: u8,
 }
 
-/// The head of a bucket: an object with all keys of its kind and no other.
+/// How a bucket chooses: an object with no keys but those of its kind.
+fn alg_of(value: &Value) -> Option<BucketAlg>
+    ensures { result ≡ alg_of (view value.now) }
+{
+    let alg = read_alg(value.get("alg")?)?;
+    has_only(value, bucket_keys(alg)).then_some(alg)
+}
+
 fn read_head(value: &Value) -> Option<Head>
     ensures { result ≡ head_in (view value.now) }
 {
-    let alg = read_alg(value.get("alg")?)?;
-    if !has_only(value, bucket_keys(alg)) {
-        return None;
-    }
+    let alg = alg_of(value)?;
     let id = read_id(value.get("id")?)?;
     let kind = read_byte(value.get("type")?)?;
     Some(Head { alg, id, kind })

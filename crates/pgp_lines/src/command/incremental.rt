@@ -4,7 +4,7 @@ ghost use Rattle.serde_json.specs.View.{view};
 ghost use Rattle.pgp_lines.specs.LineFault.{told};
 ghost use Rattle.pgp_lines.specs.Shapes.{optional};
 ghost use Rattle.pgp_lines.specs.Buckets.{tree_in};
-ghost use Rattle.pgp_lines.specs.Incremental.{list_at, going_of, pools_of, coming_of, joined, inc_of};
+ghost use Rattle.pgp_lines.specs.Incremental.{list_at, going_of, pools_of, coming_of, rest_of, inc_of};
 
 use super::faults::bad_field_fault;
 use super::fields::read_required;
@@ -25,16 +25,23 @@ pub(super) fn read_inc(alloc: Global, value: &Value) -> Result<Incremental, Text
 {
     let crush = tree_at(alloc, value)?;
     let going = read_going(alloc, value)?;
-    let pools = read_pools(alloc, value)?;
-    let coming = read_coming(alloc, value)?;
-    Ok(joined(crush, going, pools, coming))
+    read_rest(alloc, value, crush, going)
 }
 
-/// The incremental of these parts.
-fn joined(crush: Option<Seq<BucketSpec>>, going: Going, pools: Pools, coming: Coming) -> Incremental
-    ensures { result ≡ joined crush going pools coming }
+/// The incremental of a line whose tree and going devices were read.
+fn read_rest(
+    alloc: Global,
+    value: &Value,
+    crush: Option<Seq<BucketSpec>>,
+    going: Going,
+) -> Result<Incremental, TextFault>
+    ensures ok { IfOk result (λ inc. rest_of crush going (view value.now) ≡ Ok inc) }
+    ensures err { IfErr result
+        (λ fault. IfSome (told fault) (λ f. rest_of crush going (view value.now) ≡ Err f)) }
 {
-    Incremental {
+    let pools = read_pools(alloc, value)?;
+    let coming = read_coming(alloc, value)?;
+    Ok(Incremental {
         epoch: going.epoch,
         up: coming.up,
         down: going.down,
@@ -46,7 +53,7 @@ fn joined(crush: Option<Seq<BucketSpec>>, going: Going, pools: Pools, coming: Co
         sizes: pools.sizes,
         temp: pools.temp,
         crush,
-    }
+    })
 }
 
 /// The devices that go, and the epoch, whose key stands among theirs.

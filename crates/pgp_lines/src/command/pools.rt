@@ -1,7 +1,7 @@
 //! What a map incremental says of pools and of groups.
-ghost use Rattle.std.specs.Prelude.{◌≡◌, map, codes, IfOk};
+ghost use Rattle.std.specs.Prelude.{◌≡◌, map, IfOk};
 ghost use Rattle.serde_json.specs.View.{view};
-ghost use Rattle.pgp_lines.specs.Shapes.{number_in, field};
+ghost use Rattle.pgp_lines.specs.Shapes.{field};
 ghost use Rattle.pgp_lines.specs.Ids.{byte_in};
 ghost use Rattle.pgp_lines.specs.Pools.{pool_keys, pool_kind_in, spread_in, pool_in, pool_sizes_in, temp_in};
 
@@ -55,11 +55,11 @@ fn read_pool(value: &Value) -> Option<PoolSpec>
         return None;
     }
     let id = read_pool_id(value.get("id")?)?;
-    let pg_num = pg_num_at(value)?;
+    let pg_num = read_number(value.get("pg_num")?, 0, u64::from(u16::MAX))?;
     let spread = read_spread(value)?;
     Some(PoolSpec {
         id,
-        pg_num,
+        pg_num: pg_num as u16,
         kind,
         size: spread.size,
         min_size: spread.min_size,
@@ -86,14 +86,6 @@ fn read_spread(value: &Value) -> Option<Spread>
         min_size,
         leaf,
     })
-}
-
-/// How many groups a pool is to have, 0 to 65535.
-fn pg_num_at(value: &Value) -> Option<u16>
-    ensures { result ≡ field (codes "pg_num") (number_in 0 65535) (view value.now) }
-{
-    let number = read_number(value.get("pg_num")?, 0, u64::from(u16::MAX))?;
-    Some(number as u16)
 }
 
 /// The number of one byte at a key.

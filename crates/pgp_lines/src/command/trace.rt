@@ -1,8 +1,8 @@
 //! The values of a trace line: a code, and the epochs of one group.
-ghost use Rattle.std.specs.Prelude.{◌≡◌, ◌≤◌, length, map, IfOk, IfErr, IfSome};
+ghost use Rattle.std.specs.Prelude.{◌≡◌, ◌≤◌, codes, length, map, IfOk, IfErr, IfSome};
 ghost use Rattle.serde_json.specs.View.{view};
 ghost use Rattle.pgp_lines.specs.Ids.{place_in};
-ghost use Rattle.pgp_lines.specs.Shapes.{each};
+ghost use Rattle.pgp_lines.specs.Shapes.{each, field};
 ghost use Rattle.pgp_lines.specs.Trace.{code_in, erasure_in, has_empty_places, osds_in, sizes_in, facts_in, members_in, epoch_state_in, epochs_in};
 
 use super::numbers::{read_epoch, read_number, read_place};
@@ -19,13 +19,14 @@ const MAX_SHARDS: u64 = 16;
 
 const MAX_SIZE: u64 = 16;
 
-/// A pool's code: `{"kind":"replicated"}`, or `{"k":1,"kind":"erasure"}` with 1 to 16 data shards.
+/// The code of a trace: `{"kind":"replicated"}`, or `{"k":1,"kind":"erasure"}` with 1 to 16 data shards.
 pub(super) fn read_code(value: &Value) -> Option<PoolKind>
-    ensures { result ≡ code_in (view value.now) }
+    ensures { result ≡ field (codes "code") code_in (view value.now) }
 {
-    match value.get("kind")?.as_str()? {
-        "replicated" => has_only(value, &["kind"]).then_some(PoolKind::Replicated),
-        "erasure" => read_erasure(value),
+    let code = value.get("code")?;
+    match code.get("kind")?.as_str()? {
+        "replicated" => has_only(code, &["kind"]).then_some(PoolKind::Replicated),
+        "erasure" => read_erasure(code),
         _ => None,
     }
 }
