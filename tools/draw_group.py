@@ -356,8 +356,8 @@ class Picture:
         self.has_empty = any(None in span.acting for span in self.spans)
         self.waited = sorted({osd for column in self.columns for osd in waited_by(column.step())})
         self.strip_y = TOP + ROW * (len(self.rows) + self.has_empty) + 28
-        self.waits_y = self.strip_y + STRIP + 22
-        self.legend_y = self.waits_y + WAIT * len(self.waited) + (26 if self.waited else 6)
+        self.waits_y = self.strip_y + STRIP + (40 if self.waited else 22)
+        self.legend_y = self.waits_y + WAIT * len(self.waited) + 16
         self.width = max(LEAST_WIDTH, self.x(len(self.columns)) + RIGHT)
 
     def x(self, column: float) -> float:
@@ -465,14 +465,10 @@ class Picture:
         """The strip of verdicts: runs of one verdict, with its name, or its letter where there is no room."""
         yield text(LEFT - 10, self.strip_y + 16, "verdict", "end")
         yield text(LEFT - 10, self.strip_y + STRIP + 12, "entry", "end soft")
-        runs = itertools.groupby(range(len(self.columns)), lambda at: (self.columns[at].is_mixed(), self.columns[at].step().view["verdict"]))
-        for (mixed, verdict), run in runs:
-            if mixed:
-                continue
-            places = list(run)
-            x, wide = self.x(places[0]), self.wide * len(places)
+        for first, count, verdict in self.verdict_runs():
+            x, wide = self.x(first), self.wide * count
             yield rect(x + 0.5, self.strip_y, wide - 1, STRIP, verdict, "", 2)
-            words = verdict if room_for(verdict, 11) < wide - 4 else LETTERS[verdict]
+            words = verdict if self.has_room(verdict, count) else LETTERS[verdict]
             yield text(x + wide / 2, self.strip_y + 16, words, "mid on-verdict")
         for at, column in enumerate(self.columns):
             if column.is_mixed():
@@ -481,6 +477,18 @@ class Picture:
             yield f'<rect x="{self.x(at):.1f}" y="{self.strip_y}" width="{self.wide:.1f}" height="{STRIP}" fill-opacity="0"><title>{escape(tip)}</title></rect>'
             mark = MARKS[column.step().op] if len(column.steps) == 1 else "\u2026"
             yield text(self.x(at + 0.5), self.strip_y + STRIP + 12, mark, "small mid soft")
+
+    def verdict_runs(self) -> Iterator[Tuple[int, int, str]]:
+        """The runs of columns of one verdict: the first column, how many they are, the verdict."""
+        runs = itertools.groupby(range(len(self.columns)), lambda at: (self.columns[at].is_mixed(), self.columns[at].step().view["verdict"]))
+        for (mixed, verdict), run in runs:
+            places = list(run)
+            if not mixed:
+                yield places[0], len(places), verdict
+
+    def has_room(self, verdict: str, count: int) -> bool:
+        """Tells whether the verdict's name has room in so many columns."""
+        return room_for(verdict) < self.wide * count - 4
 
     def waits(self) -> Iterator[str]:
         """For each device for which the group ever waited, where it did."""
@@ -496,7 +504,7 @@ class Picture:
                 elif kind == "unheard":
                     yield rect(x, y + 4.5, wide, 6, kind, f"osd.{osd} has yet to be heard", 3)
         if self.waited:
-            yield text(LEFT, self.waits_y + WAIT * len(self.waited) + 13, "waits for", "soft small")
+            yield text(LEFT - 10, self.waits_y - 5, "waits for", "end soft")
 
     def wait_of(self, place: int, osd: int) -> str:
         column = self.columns[place]
@@ -507,7 +515,7 @@ class Picture:
         for at, column in enumerate(self.columns):
             if column.is_mixed():
                 first, last = column.epochs()
-                top, bottom = TOP + 6, self.legend_y - 26
+                top, bottom = TOP + 6, self.legend_y - 14
                 x = self.x(at)
                 yield rect(x + 1, top, self.wide - 2, bottom - top, "fold", f"epochs {first} to {last}: {len(column.steps)} entries")
                 middle = x + self.wide / 2 + 4, (top + bottom) / 2
@@ -547,8 +555,9 @@ class Picture:
             yield lambda x, y: rect(x + 1, y + 3, 15, 6, "unheard", "", 3), "has yet to be heard"
         if "blocks" in waits:
             yield lambda x, y: rect(x + 1, y + 2, 15, 9, "blocks", "", 1), "down, and blocks the group"
+        short = {verdict for _, count, verdict in self.verdict_runs() if not self.has_room(verdict, count)}
         for verdict in LETTERS:
-            if any(step.view["verdict"] == verdict for step in self.group.steps):
+            if verdict in short:
                 yield self.letter(verdict), verdict
         for op, mark in MARKS.items():
             if any(step.op == op for step in self.group.steps):
