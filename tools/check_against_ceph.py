@@ -120,30 +120,32 @@ class Row(NamedTuple):
     temps: int
     same: int
     other: List[str]
+    left_out: int
     told: str
 
 
 def compared(program: str, name: str, dumps: Dumps, folder: str) -> Row:
     script, told = script_of(dumps, folder)
     ours, theirs = pgpeer_says(program, script), ceph_says(dumps.groups)
-    missing = [f"{pool}.{group:x} is asked for by one side alone" for pool, group in ours.keys() ^ theirs.keys()]
-    other = [f"{p}.{g:x}: pgpeer {ours[p, g]}, Ceph {theirs[p, g]}" for p, g in sorted(ours.keys() & theirs.keys()) if ours[p, g] != theirs[p, g]]
+    if ours.keys() - theirs.keys():
+        raise RuntimeError(f"{name}: Ceph has no groups {sorted(ours.keys() - theirs.keys())}")
+    other = [f"{p}.{g:x}: pgpeer {ours[p, g]}, Ceph {theirs[p, g]}" for p, g in sorted(ours) if ours[p, g] != theirs[p, g]]
     osdmap = from_ceph.parsed(dumps.osdmap, name).value
     erasure = {pool["pool"] for pool in osdmap["pools"] if pool["type"] == from_ceph.ERASURE}
     in_erasure = sum(pool in erasure for pool, _ in theirs)
     osds = osdmap["osds"]
     return Row(
         name, len(theirs) - in_erasure, in_erasure, sum(not osd["up"] for osd in osds), sum(osd["weight"] == 0 for osd in osds),
-        sum(0 < osd["weight"] < 1 for osd in osds), len(osdmap["pg_temp"]), len(theirs) - len(other) - len(missing), missing + other, told,
+        sum(0 < osd["weight"] < 1 for osd in osds), len(osdmap["pg_temp"]), len(ours) - len(other), other, len(theirs) - len(ours), told,
     )
 
 
 def table(rows: List[Row]) -> str:
     """The rows in Markdown, and their sum."""
-    lines = ["| Map | replicated groups | erasure groups | devices down | out | reweighted | pg_temp | agree | differ |",
-             "|---|---:|---:|---:|---:|---:|---:|---:|---:|"]
-    cells = [[row.name, *row[1:8], len(row.other)] for row in rows]
-    sums = [sum(cell[at] for cell in cells) for at in range(1, 9)]
+    lines = ["| Map | replicated groups | erasure groups | devices down | out | reweighted | pg_temp | agree | differ | left out |",
+             "|---|---:|---:|---:|---:|---:|---:|---:|---:|---:|"]
+    cells = [[row.name, *row[1:8], len(row.other), row.left_out] for row in rows]
+    sums = [sum(cell[at] for cell in cells) for at in range(1, 10)]
     for cell in [*cells, ["all", *sums[:2], "", "", "", *sums[5:]]]:
         lines.append("| " + " | ".join(str(value) for value in cell) + " |")
     return "\n".join(lines)
@@ -452,8 +454,17 @@ def straw2(cluster: Cluster) -> None:
 
 def tries(cluster: Cluster) -> None:
     """The rule that Ceph makes for erasure pools by itself, with other numbers of tries."""
-    indep = "set_chooseleaf_tries 5; set_choose_tries 100; chooseleaf indep 0 type host"
-    cluster.tree(even_tree(8, 0, "uniform list list", ["chooseleaf firstn 0 type host", indep]))
+    pools_of_tries(cluster, 5, 100)
+
+
+def own_tries(cluster: Cluster) -> None:
+    """The same map, but for the numbers of tries, which are those of the profile."""
+    pools_of_tries(cluster, 1, 51)
+
+
+def pools_of_tries(cluster: Cluster, leaf: int, total: int) -> None:
+    indep = f"set_chooseleaf_tries {leaf}; set_choose_tries {total}; chooseleaf indep 0 type host"
+    cluster.tree(even_tree(8, 0, "list list list", ["chooseleaf firstn 0 type host", indep]))
     cluster.replicated("rep", 64, 3, 2, "rule0")
     cluster.erasure("ec", 64, 4, 2, "rule1")
     cluster.each("out", [0, 1, 4, 7, 10, 13])
@@ -469,11 +480,32 @@ def upmaps(cluster: Cluster) -> None:
     cluster.each("primary-affinity", [1, 2, 12], "0.0")
 
 
+def classes(cluster: Cluster) -> None:
+    """A rule for one class of devices: the tree of its rule is the one that Ceph keeps for the class."""
+    cluster.tree(even_tree(8, 0, "list list list", BY_HOST))
+    cluster.ceph("osd", "crush", "set-device-class", "ssd", *(str(osd) for osd in range(DEVICES) if osd % 3))
+    cluster.ceph("osd", "crush", "set-device-class", "hdd", *(str(osd) for osd in range(0, DEVICES, 3)))
+    cluster.ceph("osd", "crush", "rule", "create-replicated", "fast", "all", "host", "ssd")
+    cluster.replicated("rep", 64, 3, 2, "fast")
+
+
+def roots(cluster: Cluster) -> None:
+    """Two roots, each with the rule of a pool."""
+    half = DEVICES // 2
+    tree = {f"h{host}": ("host", "list", {f"osd.{3 * host + at}": 1.0 for at in range(3)}) for host in range(8)}
+    tops = [{f"h{host}": 3.0 for host in hosts} for hosts in (range(4), range(4, 8))]
+    text = tree_text({**tree, "left": ("root", "list", tops[0]), "right": ("root", "list", tops[1])}, BY_HOST)
+    cluster.tree(text.replace("step take right\nstep chooseleaf", "step take left\nstep chooseleaf"))
+    cluster.replicated("rep", 64, 3, 2, "rule0")
+    cluster.erasure("ec", 64, 4, 2, "rule1")
+    cluster.each("down", [1, half])
+
+
 AGREE: Dict[str, Callable[[Cluster], None]] = {
-    "whole": whole, "down": down, "out": out, "temps": temps, "racks": racks, "uneven": uneven, "rounds": rounds,
+    "whole": whole, "down": down, "out": out, "temps": temps, "racks": racks, "uneven": uneven, "rounds": rounds, "own-tries": own_tries,
 }
 LAST: Dict[str, Callable[[Cluster], None]] = {"removed": removed}  # since its devices don't come back
-DIFFER: Dict[str, Callable[[Cluster], None]] = {"straw2": straw2, "tries": tries, "upmaps": upmaps}
+TOLD: Dict[str, Callable[[Cluster], None]] = {"straw2": straw2, "tries": tries, "upmaps": upmaps, "roots": roots, "classes": classes}
 BUILT = {
     "built-uniform": ("host uniform 4 rack uniform 3 root uniform 0", [5]),
     "built-list": ("host list 2 rack list 4 root list 0", [11]),
@@ -493,7 +525,7 @@ def made(names: List[str]) -> Iterator[Tuple[str, Dumps]]:
         for name, (layers, out_of_it) in BUILT.items():
             if name in names:
                 yield name, built(folder, name, layers, out_of_it)
-        recipes = {name: recipe for name, recipe in {**AGREE, **DIFFER, **LAST}.items() if name in names}
+        recipes = {name: recipe for name, recipe in {**AGREE, **TOLD, **LAST}.items() if name in names}
         if not recipes:
             return
         cluster = Cluster(folder)
@@ -514,7 +546,7 @@ def keep(folder: str, name: str, dumps: Dumps) -> None:
 
 
 def main() -> int:
-    known = [*BUILT, *AGREE, *LAST, *DIFFER]
+    known = [*BUILT, *AGREE, *LAST, *TOLD]
     about, _, more = (__doc__ or "").partition("\n\n")
     parser = argparse.ArgumentParser(prog="check_against_ceph", description=about, epilog=more,
                                      formatter_class=argparse.RawDescriptionHelpFormatter)
@@ -533,15 +565,15 @@ def main() -> int:
         with room() as folder:
             rows.append(compared(options.program, name, dumps, folder))
         print(f"{name}: {rows[-1].same} groups agree, {len(rows[-1].other)} differ", file=sys.stderr)
-    first = [row for row in rows if row.name not in DIFFER]
-    second = [row for row in rows if row.name in DIFFER]
+    first = [row for row in rows if row.name not in TOLD]
+    second = [row for row in rows if row.name in TOLD]
     print(run("osdmaptool", "--version").strip())
     for part in (first, second):
         if part:
             print(f"\n{table(part)}")
     for row in rows:
-        print(f"\n{row.name}:\n{row.told}" + "\n".join(row.other[:5] if row.name in DIFFER else row.other))
-    return 1 if any(row.other for row in first) else 0
+        print(f"\n{row.name}:\n{row.told}" + "\n".join(row.other[:5] if row.name in TOLD else row.other))
+    return 1 if any(row.other or row.left_out for row in first) else 0
 
 
 if __name__ == "__main__":

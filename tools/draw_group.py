@@ -252,15 +252,17 @@ class Column(NamedTuple):
 
 
 def folded(steps: List[Step], most: int = MOST_COLUMNS) -> List[Column]:
-    """A column for each step; where they are too many, one for each run in which nothing changes, and one for the oldest."""
-    columns = [Column([step]) for step in steps]
-    if len(columns) <= most:
-        return columns
+    """A column for each step. Where they are too many, the longest runs in which nothing changes become two columns, their
+    first step and the others; and where that isn't enough, the oldest columns become one."""
+    runs = [list(run) for _, run in itertools.groupby(steps, Step.state)]
+    count, short = len(steps), set()
+    for at in sorted(range(len(runs)), key=lambda at: -len(runs[at])):
+        if count > most and len(runs[at]) > 2:
+            short.add(at)
+            count -= len(runs[at]) - 2
     columns = []
-    for _, run in itertools.groupby(steps, Step.state):
-        first, *rest = run
-        columns.append(Column([first]))
-        columns += [Column(rest)] if rest else []
+    for at, run in enumerate(runs):
+        columns += [Column(run[:1]), Column(run[1:])] if at in short else [Column([step]) for step in run]
     if len(columns) <= most:
         return columns
     oldest = columns[: len(columns) - most + 1]
@@ -278,14 +280,14 @@ MARKS = {"inc": "m", "info": "i", "entries": "e", "close": "c"}
 
 LIGHT = {
     "page": "#ffffff", "text": "#1b2128", "soft": "#56616d", "line": "#dfe4ea", "axis": "#9aa4af",
-    "wrote": "#2f6fb5", "on-wrote": "#ffffff", "idle": "#c3cad2", "on-idle": "#1b2128", "now": "#d9c8f2", "now-edge": "#6d3fb0",
+    "wrote": "#2f6fb5", "on-wrote": "#ffffff", "idle": "#aeb7c1", "on-idle": "#1b2128", "now": "#d9c8f2", "now-edge": "#6d3fb0",
     "on-now": "#2b1650", "band": "#f6f1fd", "Serve": "#1f7a4a", "NeedUpThru": "#3f7f9f", "NeedLog": "#776a12", "Short": "#a85400",
     "Incomplete": "#a8321c", "Waiting": "#8a6100", "Down": "#b3202c", "NoPrimary": "#555e68", "on-verdict": "#ffffff",
     "blocks": "#b3202c", "unheard": "#c98f12", "boots": "#1f7a4a", "falls": "#b3202c",
 }
 DARK = {
     "page": "#14181d", "text": "#e8ecf1", "soft": "#a4afbb", "line": "#2a313a", "axis": "#66717d",
-    "wrote": "#5b9be0", "on-wrote": "#0b1622", "idle": "#4c5763", "on-idle": "#f0f3f6", "now": "#4a3670", "now-edge": "#b692f0",
+    "wrote": "#5b9be0", "on-wrote": "#0b1622", "idle": "#596573", "on-idle": "#f0f3f6", "now": "#4a3670", "now-edge": "#b692f0",
     "on-now": "#f3ebff", "band": "#1d1828", "Serve": "#4cc38a", "NeedUpThru": "#6fb7d8", "NeedLog": "#cdbb4a", "Short": "#f0a050",
     "Incomplete": "#f08a6c", "Waiting": "#e8b64c", "Down": "#f2727c", "NoPrimary": "#9aa4af", "on-verdict": "#0f1317",
     "blocks": "#f2727c", "unheard": "#e8b64c", "boots": "#4cc38a", "falls": "#f2727c",
@@ -351,7 +353,7 @@ class Picture:
 
     def __init__(self, group: Group):
         self.group, self.spans, self.columns = group, group.spans(), folded(group.steps)
-        self.wide = max(11.0, min(84.0, 700 / len(self.columns)))
+        self.wide = max(12.0, min(84.0, 700 / len(self.columns)))
         self.rows = sorted({osd for span in self.spans for osd in span.devices()})
         self.has_empty = any(None in span.acting for span in self.spans)
         self.waited = sorted({osd for column in self.columns for osd in waited_by(column.step())})
@@ -562,7 +564,13 @@ class Picture:
         for op, mark in MARKS.items():
             if any(step.op == op for step in self.group.steps):
                 words = {"inc": "map", "info": "info", "entries": "log entries", "close": "close"}[op]
-                yield lambda x, y, mark=mark: text(x + 8, y + 10, mark, "mid soft"), words
+                yield self.mark(mark), words
+        if any(len(column.steps) > 1 and not column.is_mixed() for column in self.columns):
+            yield self.mark("\u2026"), "entries that change nothing here"
+
+    @staticmethod
+    def mark(words: str) -> Any:
+        return lambda x, y: text(x + 8, y + 10, words, "mid soft")
 
     @staticmethod
     def letter(verdict: str) -> Any:

@@ -1,0 +1,270 @@
+"""Tests of from_ceph.py, on dumps that Ceph's tools printed."""
+
+import contextlib
+import copy
+import io
+import json
+import os
+import pathlib
+import sys
+import tempfile
+import unittest
+
+HERE = pathlib.Path(__file__).resolve().parent
+sys.path.insert(0, str(HERE.parent))
+
+import check_against_ceph  # noqa: E402
+import from_ceph  # noqa: E402
+
+MAPS = HERE / "maps"
+PROGRAM = os.environ.get("PGPEER", str(check_against_ceph.PROGRAM))
+HAS_PROGRAM = os.access(PROGRAM, os.X_OK)
+
+
+def dump(name, kind):
+    return from_ceph.parsed((MAPS / f"{name}.{kind}.json").read_text(), name).value
+
+
+def written(words):
+    """The status of a call, and what it wrote to standard output and to standard error."""
+    out, err = io.StringIO(), io.StringIO()
+    with contextlib.redirect_stdout(out), contextlib.redirect_stderr(err):
+        try:
+            status = from_ceph.main(words)
+        except SystemExit as ended:
+            status = ended.code
+    return status, out.getvalue(), err.getvalue()
+
+
+class Case(unittest.TestCase):
+    """A case with a real map that it may change before it is taken over."""
+
+    name = "temps"
+
+    def setUp(self):
+        folder = tempfile.TemporaryDirectory()
+        self.addCleanup(folder.cleanup)
+        self.folder = pathlib.Path(folder.name)
+        self.osdmap, self.crush = copy.deepcopy(dump(self.name, "osdmap")), copy.deepcopy(dump(self.name, "crush"))
+
+    def file(self, name, value):
+        path = self.folder / name
+        path.write_text(value if isinstance(value, str) else json.dumps(value))
+        return str(path)
+
+    def run_tool(self, *words):
+        return written([*words, self.file("osdmap.json", self.osdmap), self.file("crush.json", self.crush)])
+
+    def lines(self, *words):
+        status, out, _ = self.run_tool(*words)
+        self.assertEqual(status, 0)
+        return [json.loads(line) for line in out.splitlines()]
+
+    def told(self, *words):
+        """What is told of the map, which --strict takes for an error."""
+        status, _, err = self.run_tool(*words)
+        self.assertEqual(status, 0)
+        strict, out, err_of_strict = self.run_tool("--strict", *words)
+        self.assertEqual((strict, out), (2 if err else 0, "" if err else out))
+        self.assertTrue(err_of_strict.startswith(err))
+        return err
+
+    def assert_error(self, text, status_and_texts):
+        status, out, err = status_and_texts
+        self.assertEqual((status, out), (2, ""))
+        self.assertTrue(err.splitlines()[-1].startswith("from_ceph: error: "), err)
+        self.assertIn(text, err)
+
+
+class Lines(Case):
+    def test_devices_boot_go_down_and_get_their_weights(self):
+        first, second, third = self.lines()
+        self.assertEqual([first["epoch"], second["epoch"], third["epoch"]], [1, 2, 3])
+        self.assertEqual(first["up"], list(range(24)))
+        self.assertEqual(first["weight"], [[1, 45875], [8, 45875], [12, 0], [17, 0]])
+        self.assertEqual(second, {"op": "inc", "epoch": 2, "down": [0, 1, 2, 3, 9, 16]})
+
+    def test_pools_have_their_rules_failure_domain(self):
+        replicated, erasure = self.lines()[-1]["pools"]
+        numbers = [pool["pool"] for pool in self.osdmap["pools"]]
+        self.assertEqual(replicated, {"id": numbers[0], "pg_num": 64, "kind": "replicated", "size": 3, "min_size": 2, "leaf": 1})
+        self.assertEqual(erasure, {"id": numbers[1], "pg_num": 64, "kind": "erasure", "k": 2, "size": 4, "min_size": 3, "leaf": 0})
+
+    def test_pg_temp_lists_keep_their_order(self):
+        temps = {(pool, pg): osds for pool, pg, osds in self.lines()[-1]["temp"]}
+        self.assertEqual(len(temps), len(self.osdmap["pg_temp"]))
+        for entry in self.osdmap["pg_temp"]:
+            pool, pg = entry["pgid"].split(".")
+            self.assertEqual(temps[int(pool), int(pg, 16)], entry["osds"])
+
+    def test_empty_places_of_pg_temp_are_null(self):
+        temp = next(entry for entry in self.osdmap["pg_temp"] if len(entry["osds"]) == 4)
+        temp["osds"][1] = from_ceph.NONE
+        pool, pg = temp["pgid"].split(".")
+        lists = {(it[0], it[1]): it[2] for it in self.lines()[-1]["temp"]}
+        self.assertEqual(lists[int(pool), int(pg, 16)][1], None)
+
+    def test_an_up_thru_since_the_boot_is_that_of_the_last_epoch(self):
+        for osd in self.osdmap["osds"]:
+            osd.update(up_from=10, up_thru=12 if osd["osd"] in (0, 5) else 9)
+        self.assertEqual(self.lines()[-1]["up_thru"], [[5, 3]])  # 0 is down
+
+    def test_the_tree_keeps_ids_types_and_order(self):
+        buckets = {it["id"]: it for it in self.lines()[0]["crush"]}
+        for bucket in self.crush["buckets"]:
+            ours = buckets[bucket["id"]]
+            self.assertEqual((ours["type"], ours["alg"]), (bucket["type_id"], bucket["alg"]))
+            self.assertEqual(ours["items"], [item["id"] for item in bucket["items"]])
+            if bucket["alg"] == "list":
+                self.assertEqual(ours["weights"], [item["weight"] for item in bucket["items"]])
+
+    def test_one_pool_of_several(self):
+        number = self.osdmap["pools"][1]["pool"]
+        last = self.lines("--pool", str(number))[-1]
+        self.assertEqual([pool["id"] for pool in last["pools"]], [number])
+        self.assertEqual({temp[0] for temp in last["temp"]}, {number})
+
+    def test_questions_for_each_group(self):
+        asked = [line["pg"] for line in self.lines("--ask") if line["op"] == "ask"]
+        self.assertEqual(asked, [[pool["pool"], pg] for pool in self.osdmap["pools"] for pg in range(64)])
+
+    def test_a_map_of_list_and_uniform_buckets_is_carried_whole(self):
+        self.assertEqual(self.told(), "")
+
+    def test_text_before_a_dump_is_passed_over(self):
+        text = "marking all OSDs up and in\n" + json.dumps(self.osdmap)
+        status, out, _ = written([self.file("osdmap.json", text), self.file("crush.json", self.crush)])
+        self.assertEqual((status, out), self.run_tool()[:2])
+
+
+class Removed(Case):
+    name = "removed"
+
+    def test_a_device_of_the_tree_that_does_not_exist_is_destroyed(self):
+        lines = self.lines()
+        self.assertEqual([line for line in lines if "gone" in line], [{"op": "inc", "epoch": 3, "gone": [20, 21]}])
+        self.assertTrue({20, 21} <= set(lines[1]["down"]))
+        self.assertTrue([20, 0] in lines[0]["weight"] and [21, 0] in lines[0]["weight"])
+        self.assertIn("don't exist, taken for 0: osd 20-21", self.told())
+
+
+class NotCarried(Case):
+    def test_straw2_buckets(self):
+        self.osdmap, self.crush = dump("straw2", "osdmap"), dump("straw2", "crush")
+        self.assertIn("straw2 buckets, carried as list buckets of the same weights, so places differ: -9 'all', -1 'h0'", self.told())
+        self.assertEqual({bucket["alg"] for bucket in self.lines()[0]["crush"]}, {"list"})
+
+    def test_device_classes_and_the_tree_of_their_rule(self):
+        self.osdmap, self.crush = dump("classes", "osdmap"), dump("classes", "crush")
+        self.assertIn("device classes: hdd of osd 0 3 6", self.told())
+        root = next(it["id"] for it in self.crush["buckets"] if it["name"] == "all~ssd")
+        self.assertEqual(self.lines()[0]["crush"][0]["id"], root)
+
+    def test_several_roots(self):
+        host = self.crush["buckets"][0]["id"]
+        self.crush["rules"][1]["steps"][0]["item"] = host
+        other = self.osdmap["pools"][1]
+        told = self.told()
+        self.assertIn(f"several roots: pools of others than -7 are left out: pool {other['pool']} 'ec' of rule 1 'rule1', which takes {host}", told)
+        self.assertEqual(len(self.lines()[-1]["pools"]), 1)
+        self.assertEqual(self.lines("--pool", str(other["pool"]))[0]["crush"][0]["id"], host)
+
+    def test_other_tunables(self):
+        self.crush["tunables"]["chooseleaf_stable"] = 0
+        self.crush["rules"][1]["steps"].insert(0, {"op": "set_choose_tries", "num": 100})
+        told = self.told()
+        self.assertIn("chooseleaf_stable 0 (for 1)", told)
+        self.assertIn("set_choose_tries 100 (for 51) of rule 1 'rule1'", told)
+
+    def test_pg_num_above_the_limit(self):
+        self.osdmap["pools"][0].update(pg_num=4096, pg_placement_num=4096)
+        self.assertIn(f"pool {self.osdmap['pools'][0]['pool']} 'rep' has 4096", self.told())
+        self.assertEqual(self.lines()[-1]["pools"][0]["pg_num"], 1024)
+
+    def test_groups_in_all_above_the_limit(self):
+        pool = self.osdmap["pools"].pop(0)
+        self.osdmap["pools"] = [{**pool, "pool": number, "pg_num": 1024, "pg_placement_num": 1024} for number in range(1, 19)]
+        self.assertIn("pools beyond 16384 groups in all, left out: pool 17 'rep' of 1024, pool 18 'rep' of 1024", self.told())
+
+    def test_pools_and_sizes_above_their_limits(self):
+        self.osdmap["pools"][0]["size"] = 17
+        self.osdmap["pools"][1]["pool"] = 256
+        told = self.told()
+        self.assertIn("pools whose size isn't 1 to 16, left out", told)
+        self.assertIn("pools above 255, left out: pool 256 'ec'", told)
+
+    def test_upmaps_affinities_and_primary_temp(self):
+        group = f"{self.osdmap['pools'][0]['pool']}.1f"
+        self.osdmap["pg_upmap_items"] = [{"pgid": group, "mappings": [{"from": 1, "to": 2}]}]
+        self.osdmap["primary_temp"] = [{"pgid": group, "osd": 3}]
+        self.osdmap["osds"][4]["primary_affinity"] = 0.5
+        told = self.told()
+        for text in (f"upmaps: {group}", f"primary_temp: {group}", "primary affinities: osd.4 has 0.5"):
+            self.assertIn(text, told)
+
+    def test_a_rule_of_two_choices_and_one_of_the_other_mode(self):
+        steps = self.crush["rules"][0]["steps"]
+        steps.insert(1, {"op": "choose_firstn", "num": 2, "type": "rack"})
+        self.osdmap["pools"][1]["crush_rule"] = 0
+        told = self.told()
+        self.assertIn("rule 0 'rule0' with 1 takes and 2 choices", told)
+        self.assertIn("rules of the other mode, so places differ: chooseleaf_firstn of rule 0 'rule0' in pool", told)
+
+    def test_a_bucket_of_too_many_items(self):
+        bucket = self.crush["buckets"][0]
+        bucket["items"] = [{"id": osd, "weight": 1, "pos": osd} for osd in range(100, 400)]
+        self.assertIn("has 300 items, more than 256", self.told())
+        self.assertTrue(all("crush" not in line for line in self.lines()))
+
+    def test_no_crush_dump(self):
+        status, out, err = written([self.file("osdmap.json", self.osdmap)])
+        self.assertEqual(status, 0)
+        self.assertIn("no CRUSH dump was given", err)
+        self.assertNotIn('"crush"', out)
+
+
+class BadInput(Case):
+    def test_a_file_that_is_not_there(self):
+        self.assert_error("nowhere.json: No such file", written([str(self.folder / "nowhere.json")]))
+
+    def test_no_json(self):
+        self.assert_error("osdmap.json is not JSON", written([self.file("osdmap.json", '{"epoch":')]))
+        self.assert_error("osdmap.json is not JSON", written([self.file("osdmap.json", "epoch 12\nfsid 0\n")]))
+
+    def test_a_key_that_is_missing(self):
+        del self.osdmap["pools"][1]["size"]
+        self.assert_error("osdmap.json.pools[1] has no key 'size'", self.run_tool())
+        self.assert_error("crush.json has no key 'types'", written([self.file("osdmap.json", dump("temps", "osdmap")), self.file("crush.json", {})]))
+
+    def test_values_of_another_shape(self):
+        self.osdmap["osds"] = 3
+        self.assert_error("osdmap.json.osds is no list", self.run_tool())
+
+    def test_an_unknown_pool(self):
+        self.assert_error("osdmap.json has no pool 99", self.run_tool("--pool", "99"))
+
+    def test_a_rule_and_a_profile_that_are_not_there(self):
+        self.osdmap["pools"][0]["crush_rule"] = 7
+        self.assert_error("has the rule 7, which CRUSH doesn't have", self.run_tool())
+        self.osdmap["erasure_code_profiles"] = {}
+        self.assert_error("osdmap.json.erasure_code_profiles has no key 'ec-2-2'", self.run_tool())
+
+    def test_a_command_line_without_a_file(self):
+        self.assert_error("required", written([]))
+
+
+@unittest.skipUnless(HAS_PROGRAM, f"no program {PROGRAM}")
+class Agreement(unittest.TestCase):
+    """The groups of each kept map lie where `osdmaptool` said, but for those of straw2 buckets."""
+
+    def test_groups_agree_as_recorded(self):
+        recorded = json.loads((MAPS / "agreement.json").read_text())
+        for name, (same, other, left_out) in recorded.items():
+            with self.subTest(name), tempfile.TemporaryDirectory() as folder:
+                texts = ((MAPS / f"{name}.{kind}").read_text() for kind in ("osdmap.json", "crush.json", "groups.txt"))
+                row = check_against_ceph.compared(PROGRAM, name, check_against_ceph.Dumps(*texts), folder)
+                self.assertEqual((row.same, len(row.other), row.left_out), (same, other, left_out), row.other[:3])
+
+
+if __name__ == "__main__":
+    unittest.main()
