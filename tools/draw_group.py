@@ -280,14 +280,14 @@ MARKS = {"inc": "m", "info": "i", "entries": "e", "close": "c"}
 
 LIGHT = {
     "page": "#ffffff", "text": "#1b2128", "soft": "#56616d", "line": "#dfe4ea", "axis": "#9aa4af",
-    "wrote": "#2f6fb5", "on-wrote": "#ffffff", "idle": "#aeb7c1", "on-idle": "#1b2128", "now": "#d9c8f2", "now-edge": "#6d3fb0",
-    "on-now": "#2b1650", "band": "#f6f1fd", "Serve": "#1f7a4a", "NeedUpThru": "#3f7f9f", "NeedLog": "#776a12", "Short": "#a85400",
+    "wrote": "#2f6fb5", "on-wrote": "#ffffff", "idle": "#8a95a2", "on-idle": "#1b2128", "now": "#d9c8f2", "now-edge": "#6d3fb0",
+    "on-now": "#2b1650", "band": "#f6f1fd", "Serve": "#1f7a4a", "NeedUpThru": "#37738f", "NeedLog": "#776a12", "Short": "#a85400",
     "Incomplete": "#a8321c", "Waiting": "#8a6100", "Down": "#b3202c", "NoPrimary": "#555e68", "on-verdict": "#ffffff",
-    "blocks": "#b3202c", "unheard": "#c98f12", "boots": "#1f7a4a", "falls": "#b3202c",
+    "blocks": "#b3202c", "unheard": "#b37d0a", "boots": "#1f7a4a", "falls": "#b3202c",
 }
 DARK = {
     "page": "#14181d", "text": "#e8ecf1", "soft": "#a4afbb", "line": "#2a313a", "axis": "#66717d",
-    "wrote": "#5b9be0", "on-wrote": "#0b1622", "idle": "#596573", "on-idle": "#f0f3f6", "now": "#4a3670", "now-edge": "#b692f0",
+    "wrote": "#5b9be0", "on-wrote": "#0b1622", "idle": "#5f6c7a", "on-idle": "#ffffff", "now": "#4a3670", "now-edge": "#b692f0",
     "on-now": "#f3ebff", "band": "#1d1828", "Serve": "#4cc38a", "NeedUpThru": "#6fb7d8", "NeedLog": "#cdbb4a", "Short": "#f0a050",
     "Incomplete": "#f08a6c", "Waiting": "#e8b64c", "Down": "#f2727c", "NoPrimary": "#9aa4af", "on-verdict": "#0f1317",
     "blocks": "#f2727c", "unheard": "#e8b64c", "boots": "#4cc38a", "falls": "#f2727c",

@@ -1,0 +1,237 @@
+"""Tests of draw_group.py."""
+
+import contextlib
+import io
+import json
+import os
+import pathlib
+import re
+import sys
+import tempfile
+import unittest
+import xml.etree.ElementTree as xml
+
+HERE = pathlib.Path(__file__).resolve().parent
+ROOT = HERE.parent.parent
+sys.path.insert(0, str(HERE.parent))
+
+import draw_group  # noqa: E402
+
+PROGRAM = os.environ.get("PGPEER", str(draw_group.PROGRAM))
+HAS_PROGRAM = os.access(PROGRAM, os.X_OK)
+POOL = draw_group.Pool("replicated", None, 3, 2)
+SVG = "{http://www.w3.org/2000/svg}"
+
+
+def step(epoch, first=1, acting=(0, 1, 2), verdict="Serve", blocked=(), unheard=(), intervals=(), op="inc"):
+    """A step with such an answer."""
+    view = {"epoch": epoch, "first": first, "acting": list(acting), "up": list(acting), "acting_primary": next((it for it in acting if it is not None), None),
+            "verdict": verdict, "blocked_by": list(blocked), "intervals": list(intervals), "missing": [], "best": None}
+    return draw_group.Step(op, [], view, list(unheard))
+
+
+def interval(first, last, acting, rw):
+    return {"first": first, "last": last, "up": list(acting), "acting": list(acting), "acting_primary": acting[0], "rw": rw}
+
+
+def picture(steps, pool=POOL):
+    return draw_group.Picture(draw_group.Group("1.0", pool, steps))
+
+
+def drawn(steps, pool=POOL):
+    return xml.fromstring(picture(steps, pool).svg())
+
+
+def written(words):
+    """The status of a call, and what it wrote to standard output and to standard error."""
+    out, err = io.StringIO(), io.StringIO()
+    with contextlib.redirect_stdout(out), contextlib.redirect_stderr(err):
+        try:
+            status = draw_group.main(words)
+        except SystemExit as ended:
+            status = ended.code
+    return status, out.getvalue(), err.getvalue()
+
+
+class Heard(unittest.TestCase):
+    def history(self, *stamps):
+        history = draw_group.History(1, 0)
+        history.take({"op": "inc", "epoch": 3, "up": [0, 1]})
+        for stamp in stamps:
+            history.take({"op": "info", "pg": [1, 0], "from": [0, 0], "stamp": stamp})
+        return history
+
+    def test_a_report_of_the_current_interval_counts(self):
+        self.assertTrue(self.history(3).heard((0, 0), 2))
+        self.assertTrue(self.history(5, 2).heard((0, 0), 5))
+        self.assertFalse(self.history(4).heard((0, 0), 5))
+
+    def test_a_report_from_before_the_boot_does_not_count(self):
+        self.assertFalse(self.history(2).heard((0, 0), 1))
+
+    def test_a_report_of_a_device_that_is_down_or_of_another_slot_does_not_count(self):
+        history = self.history(4)
+        self.assertFalse(history.heard((0, 1), 3))
+        history.take({"op": "inc", "epoch": 5, "down": [0]})
+        self.assertFalse(history.heard((0, 0), 3))
+
+    def test_a_report_of_another_group_does_not_count(self):
+        history = self.history()
+        history.take({"op": "info", "pg": [1, 1], "from": [0, 0], "stamp": 4})
+        self.assertFalse(history.heard((0, 0), 1))
+
+
+class Columns(unittest.TestCase):
+    def test_few_steps_have_a_column_each(self):
+        self.assertEqual([len(it.steps) for it in draw_group.folded([step(e) for e in range(1, 201)])], [1] * 200)
+
+    def test_the_longest_run_is_folded_first(self):
+        steps = [step(e, first=1 if e < 150 else 150) for e in range(1, 202)]
+        columns = draw_group.folded(steps)
+        self.assertEqual([len(it.steps) for it in columns], [1, 148] + [1] * 52)
+        self.assertFalse(any(it.is_mixed() for it in columns))
+
+    def test_where_each_step_changes_the_oldest_are_folded(self):
+        columns = draw_group.folded([step(e, first=e) for e in range(1, 301)])
+        self.assertEqual(len(columns), 200)
+        self.assertEqual([len(it.steps) for it in columns[:2]], [101, 1])
+        self.assertTrue(columns[0].is_mixed())
+
+    def test_no_step_is_lost(self):
+        for change in (1, 2, 3, 7, 50):
+            steps = [step(e, first=e // change) for e in range(1000)]
+            columns = draw_group.folded(steps)
+            self.assertLessEqual(len(columns), 200)
+            self.assertEqual([it for column in columns for it in column.steps], steps)
+
+
+class Bars(unittest.TestCase):
+    PAST = [interval(1, 2, [0, 1, 2], True), interval(3, 3, [1, 2], False)]
+    STEPS = [step(1), step(2), step(3, 3, [1, 2]), step(4, 4, [2], "Down", blocked=[0, 1], intervals=PAST)]
+
+    def test_each_member_of_an_interval_has_a_bar_of_its_kind(self):
+        root = drawn(self.STEPS)
+        bars = {kind: [node for node in root.iter(f"{SVG}rect") if node.get("class") == kind and node.find(f"{SVG}title") is not None] for kind in ("wrote", "idle", "now")}
+        self.assertEqual({kind: len(found) for kind, found in bars.items()}, {"wrote": 3, "idle": 2, "now": 1})
+        self.assertEqual(float(bars["wrote"][0].get("x")), draw_group.LEFT + 0.5)
+
+    def test_bars_follow_each_other(self):
+        drawing = picture(self.STEPS)
+        self.assertEqual([drawing.columns_of(span) for span in drawing.spans], [(0, 2), (2, 3), (3, 4)])
+
+    def test_the_devices_that_block_are_marked(self):
+        marks = [node for node in drawn(self.STEPS).iter(f"{SVG}rect") if node.get("class") == "blocks" and node.find(f"{SVG}title") is not None]
+        self.assertEqual([node.find(f"{SVG}title").text for node in marks], [f"osd.{osd} is down and may come back" for osd in (0, 1)])
+
+    def test_who_has_to_be_heard_is_marked_while_the_group_waits(self):
+        self.assertEqual(draw_group.waited_by(step(1, verdict="Waiting", unheard=[(3, 0)])), {3: "unheard"})
+        self.assertEqual(draw_group.waited_by(step(1, verdict="NoPrimary", unheard=[(3, 0)])), {})
+
+    def test_shards_and_empty_places_are_told(self):
+        erasure = draw_group.Pool("erasure", 2, 3, 2)
+        words = [node.text for node in drawn([step(1, acting=[4, None, 5])], erasure).iter(f"{SVG}text")]
+        for text in ("0", "2", "no device", "erasure pool, size 3, min_size 2, any 2 shards are enough"):
+            self.assertIn(text, words)
+
+    def test_it_has_both_colour_schemes_and_no_script(self):
+        text = picture(self.STEPS).svg()
+        self.assertIn("prefers-color-scheme:dark", text)
+        self.assertNotIn("<script", text)
+        self.assertIsNone(re.search(r"\son\w+=|href", text))
+
+    def test_labels_of_epochs_keep_apart(self):
+        for count in (3, 12, 60, 200):
+            root = drawn([step(e, first=e) for e in range(1000, 1000 + count)])
+            places = [(float(it.get("x")), it.text) for it in root.iter(f"{SVG}text") if it.get("class") == "small soft"]
+            ends = [x + draw_group.room_for(text, 10) for x, text in places]
+            self.assertTrue(all(end < x for end, (x, _) in zip(ends, places[1:])))
+
+    def test_the_colours_have_contrast(self):
+        for scheme in (draw_group.LIGHT, draw_group.DARK):
+            pairs = [("text", "page"), ("soft", "page"), ("text", "band"), ("on-wrote", "wrote"), ("on-idle", "idle"), ("on-now", "now")]
+            for ink, ground in pairs + [("on-verdict", verdict) for verdict in draw_group.LETTERS]:
+                self.assertGreaterEqual(contrast(scheme[ink], scheme[ground]), 4.5, (ink, ground))
+            for shape in ("wrote", "idle", "now-edge", "blocks", "unheard", "boots", "falls"):
+                self.assertGreaterEqual(contrast(scheme[shape], scheme["page"]), 3, shape)
+
+
+def contrast(ink, ground):
+    """The contrast ratio of two colours (WCAG 2)."""
+    def light(colour):
+        parts = [int(colour[at : at + 2], 16) / 255 for at in (1, 3, 5)]
+        red, green, blue = (it / 12.92 if it <= 0.04045 else ((it + 0.055) / 1.055) ** 2.4 for it in parts)
+        return 0.2126 * red + 0.7152 * green + 0.0722 * blue
+
+    lights = sorted((light(ink), light(ground)))
+    return (lights[1] + 0.05) / (lights[0] + 0.05)
+
+
+class BadInput(unittest.TestCase):
+    def setUp(self):
+        folder = tempfile.TemporaryDirectory()
+        self.addCleanup(folder.cleanup)
+        self.folder = pathlib.Path(folder.name)
+
+    def script(self, text):
+        path = self.folder / "script.jsonl"
+        path.write_text(text)
+        return str(path)
+
+    def assert_error(self, text, status_and_texts):
+        status, out, err = status_and_texts
+        self.assertEqual((status, out), (2, ""))
+        self.assertTrue(err.splitlines()[-1].startswith("draw_group: error: "), err)
+        self.assertIn(text, err)
+
+    def test_no_group(self):
+        for words in ("1", "1.", "x.0", "1.g", "0.0", "256.0", "1.400"):
+            self.assert_error(f"'{words}'", written([self.script(""), words]))
+
+    def test_no_file_and_no_program(self):
+        self.assert_error("nowhere: No such file", written([str(self.folder / "nowhere"), "1.0"]))
+        self.assert_error("none: No such file", written(["--program", str(self.folder / "none"), self.script('{"op":"inc","epoch":1}'), "1.0"]))
+
+    def test_a_line_that_is_not_json(self):
+        self.assert_error("script.jsonl, line 2 is not JSON", written([self.script('{"op":"inc","epoch":1}\n{"op"\n'), "1.0"]))
+        self.assert_error("script.jsonl, line 1 is no object with a key 'op'", written([self.script("[]\n"), "1.0"]))
+
+    @unittest.skipUnless(HAS_PROGRAM, f"no program {PROGRAM}")
+    def test_a_group_that_is_not_in_the_map(self):
+        self.assert_error("makes no group 9.0", written(["--program", PROGRAM, str(ROOT / "examples/outage.jsonl"), "9.0"]))
+
+
+@unittest.skipUnless(HAS_PROGRAM, f"no program {PROGRAM}")
+class Examples(unittest.TestCase):
+    def group(self, name, pool, pg):
+        with contextlib.redirect_stderr(io.StringIO()):
+            return draw_group.followed(PROGRAM, str(ROOT / f"examples/{name}.jsonl"), pool, pg)
+
+    def test_a_group_waits_just_while_someone_is_unheard(self):
+        for name, pool, pg in (("outage", 1, 0), ("blocked", 1, 0), ("lost_shard", 2, 3), ("reports", 1, 0), ("map", 1, 5)):
+            for it in self.group(name, pool, pg).steps:
+                if it.view["verdict"] not in ("NoPrimary", "Down"):
+                    self.assertEqual(it.view["verdict"] == "Waiting", bool(it.unheard), (name, it))
+
+    def test_a_refused_entry_is_told_and_not_drawn(self):
+        status, out, err = written(["--program", PROGRAM, str(ROOT / "examples/map.jsonl"), "1.5"])
+        self.assertEqual(status, 0)
+        self.assertIn("map.jsonl, line 3 was refused: AlreadyUp\n", err)
+        self.assertIn("map.jsonl, line 8 was refused: UnknownKey (leaf)\n", err)
+        self.assertEqual(len(self.group("map", 1, 5).steps), 4)
+
+    def test_the_pictures_of_the_documents_are_those_of_the_examples(self):
+        for name, group in (("blocked", "1.0"), ("lost_shard", "2.3")):
+            status, out, _ = written(["--program", PROGRAM, str(ROOT / f"examples/{name}.jsonl"), group])
+            self.assertEqual(status, 0)
+            self.assertEqual(out, (ROOT / f"docs/{name}.svg").read_text())
+
+    def test_the_answers_beside_the_examples_are_the_programs(self):
+        for name in ("blocked", "lost_shard"):
+            lines = (ROOT / f"examples/{name}.jsonl").read_text().splitlines()
+            said = draw_group.answers(PROGRAM, lines)
+            kept = (ROOT / f"examples/{name}.answers.jsonl").read_text().splitlines()
+            self.assertEqual(said, [json.loads(line) for line in kept])
+
+
+if __name__ == "__main__":
+    unittest.main()
