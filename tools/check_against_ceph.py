@@ -90,8 +90,8 @@ def pgpeer_says(program: str, script: str) -> Dict[Tuple[int, int], Where]:
         if "ok" not in answer:
             raise RuntimeError(f"{text} is the answer to {line[:200]}")
         if answer["ok"] == "ask":
-            pool, group = answer["pg"]
-            found[pool, group] = Where(tuple(answer["up"]), answer["up_primary"], tuple(answer["acting"]), answer["acting_primary"])
+            up, acting = tuple(answer["up"]), tuple(answer["acting"])
+            found[tuple(answer["pg"])] = Where(up, answer["up_primary"], acting, answer["acting_primary"])
     return found
 
 
@@ -135,15 +135,16 @@ def compared(program: str, name: str, dumps: Dumps, folder: str) -> Row:
     in_erasure = sum(pool in erasure for pool, _ in theirs)
     osds = osdmap["osds"]
     return Row(
-        name, len(theirs) - in_erasure, in_erasure, sum(not osd["up"] for osd in osds), sum(osd["weight"] == 0 for osd in osds),
-        sum(0 < osd["weight"] < 1 for osd in osds), len(osdmap["pg_temp"]), len(ours) - len(other), other, len(theirs) - len(ours), told,
+        name=name, replicated=len(theirs) - in_erasure, erasure=in_erasure, down=sum(not osd["up"] for osd in osds),
+        out=sum(osd["weight"] == 0 for osd in osds), reweighted=sum(0 < osd["weight"] < 1 for osd in osds),
+        temps=len(osdmap["pg_temp"]), same=len(ours) - len(other), other=other, left_out=len(theirs) - len(ours), told=told,
     )
 
 
 def table(rows: List[Row]) -> str:
     """The rows in Markdown, and their sum."""
-    lines = ["| Map | replicated groups | erasure groups | devices down | out | reweighted | pg_temp | agree | differ | left out |",
-             "|---|---:|---:|---:|---:|---:|---:|---:|---:|---:|"]
+    titles = ("Map", "replicated", "erasure", "down", "out", "reweighted", "pg_temp", "agree", "differ", "left out")
+    lines = [f"| {' | '.join(titles)} |", "|---" + "|---:" * (len(titles) - 1) + "|"]
     cells = [[row.name, *row[1:8], len(row.other), row.left_out] for row in rows]
     sums = [sum(cell[at] for cell in cells) for at in range(1, 10)]
     for cell in [*cells, ["all", *sums[:2], "", "", "", *sums[5:]]]:
@@ -502,10 +503,13 @@ def roots(cluster: Cluster) -> None:
 
 
 AGREE: Dict[str, Callable[[Cluster], None]] = {
-    "whole": whole, "down": down, "out": out, "temps": temps, "racks": racks, "uneven": uneven, "rounds": rounds, "own-tries": own_tries,
+    "whole": whole, "down": down, "out": out, "temps": temps, "racks": racks, "uneven": uneven, "rounds": rounds,
+    "own-tries": own_tries,
 }
 LAST: Dict[str, Callable[[Cluster], None]] = {"removed": removed}  # since its devices don't come back
-TOLD: Dict[str, Callable[[Cluster], None]] = {"straw2": straw2, "tries": tries, "upmaps": upmaps, "roots": roots, "classes": classes}
+TOLD: Dict[str, Callable[[Cluster], None]] = {
+    "straw2": straw2, "tries": tries, "upmaps": upmaps, "roots": roots, "classes": classes,
+}
 BUILT = {
     "built-uniform": ("host uniform 4 rack uniform 3 root uniform 0", [5]),
     "built-list": ("host list 2 rack list 4 root list 0", [11]),

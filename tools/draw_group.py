@@ -213,7 +213,7 @@ def reason(step: Step, pool: Pool) -> str:
         "Waiting": f"not heard yet: {', '.join(member_text(it, pool) for it in step.unheard)}",
         "Incomplete": "no copy that was heard is complete and new enough",
         "Short": "the acting set has too few members",
-        "NeedLog": "the log of the best copy has gaps" + (f", that of {member_text(tuple(view['best']), pool)}" if view["best"] else ""),
+        "NeedLog": f"the log of {member_text(tuple(view['best'] or (0, 0)), pool)}, the best copy, has gaps",
         "NeedUpThru": f"the map doesn't say yet that osd.{primary} was up in this interval",
         "Serve": behind(view, pool),
     }
@@ -275,7 +275,8 @@ LEFT, RIGHT, TOP = 84, 24, 66
 ROW, BAR = 26, 14  # heights
 STRIP, WAIT = 24, 16
 LEAST_WIDTH = 760
-LETTERS = {"Serve": "S", "NeedUpThru": "U", "NeedLog": "L", "Short": "F", "Incomplete": "I", "Waiting": "W", "Down": "D", "NoPrimary": "N"}
+LETTERS = {"Serve": "S", "NeedUpThru": "U", "NeedLog": "L", "Short": "F", "Incomplete": "I", "Waiting": "W", "Down": "D",
+           "NoPrimary": "N"}
 MARKS = {"inc": "m", "info": "i", "entries": "e", "close": "c"}
 
 LIGHT = {
@@ -315,7 +316,7 @@ def style() -> str:
     return f"""<style>
 text{{font-family:system-ui,"DejaVu Sans",Arial,sans-serif;font-size:12px}}
 .title{{font-size:16px;font-weight:600}} .small{{font-size:10px}} .mid{{text-anchor:middle}} .end{{text-anchor:end}}
-.now{{stroke-width:1.5}} .alone,.unheard{{fill:none;stroke-width:1.5}} .alone{{stroke-dasharray:3 2}}
+.clear{{fill-opacity:0}} .now{{stroke-width:1.5}} .alone,.unheard{{fill:none;stroke-width:1.5}} .alone{{stroke-dasharray:3 2}}
 .edge{{stroke-width:1.5;stroke-dasharray:5 3}}
 {rules(LIGHT)}
 @media (prefers-color-scheme:dark){{
@@ -329,7 +330,8 @@ def text(x: float, y: float, words: str, kind: str = "") -> str:
 
 
 def rect(x: float, y: float, width: float, height: float, kind: str, tip: str = "", round_by: int = 0) -> str:
-    head = f'<rect x="{x:.1f}" y="{y:.1f}" width="{width:.1f}" height="{height:.1f}" class="{kind}"' + (f' rx="{round_by}"' if round_by else "")
+    corners = f' rx="{round_by}"' if round_by else ""
+    head = f'<rect x="{x:.1f}" y="{y:.1f}" width="{width:.1f}" height="{height:.1f}" class="{kind}"{corners}'
     return f"{head}><title>{escape(tip)}</title></rect>" if tip else f"{head}/>"
 
 
@@ -375,10 +377,11 @@ class Picture:
         legend, end = self.legend()
         height = end + 20
         about = f"Group {self.group.name}: its acting sets, epoch by epoch, and its verdicts, entry by entry"
-        head = f'<svg xmlns="http://www.w3.org/2000/svg" viewBox="0 0 {self.width:.0f} {height:.0f}" width="{self.width:.0f}" height="{height:.0f}" role="img">'
-        parts = [head, f"<title>{escape(about)}</title>", style(), rect(0, 0, self.width, height, "page"), *self.titles(), *self.band(), *self.grid(),
-                 *self.epochs(), *self.bars(), *self.events(), *self.verdicts(), *self.waits(), *self.folds(), *legend, "</svg>"]
-        return "\n".join(parts) + "\n"
+        size = f'viewBox="0 0 {self.width:.0f} {height:.0f}" width="{self.width:.0f}" height="{height:.0f}"'
+        head = [f'<svg xmlns="http://www.w3.org/2000/svg" {size} role="img">', f"<title>{escape(about)}</title>", style()]
+        ground = [rect(0, 0, self.width, height, "page"), *self.titles(), *self.band(), *self.grid(), *self.epochs()]
+        body = [*self.bars(), *self.events(), *self.verdicts(), *self.waits(), *self.folds()]
+        return "\n".join([*head, *ground, *body, *legend, "</svg>"]) + "\n"
 
     def titles(self) -> Iterator[str]:
         last = self.group.steps[-1]
@@ -476,17 +479,18 @@ class Picture:
             if column.is_mixed():
                 continue
             tip = f"epoch {column.epochs()[1]}, {reason(column.step(), self.group.pool)}"
-            yield f'<rect x="{self.x(at):.1f}" y="{self.strip_y}" width="{self.wide:.1f}" height="{STRIP}" fill-opacity="0"><title>{escape(tip)}</title></rect>'
+            yield rect(self.x(at), self.strip_y, self.wide, STRIP, "clear", tip)
             mark = MARKS[column.step().op] if len(column.steps) == 1 else "\u2026"
             yield text(self.x(at + 0.5), self.strip_y + STRIP + 12, mark, "small mid soft")
 
     def verdict_runs(self) -> Iterator[Tuple[int, int, str]]:
         """The runs of columns of one verdict: the first column, how many they are, the verdict."""
-        runs = itertools.groupby(range(len(self.columns)), lambda at: (self.columns[at].is_mixed(), self.columns[at].step().view["verdict"]))
-        for (mixed, verdict), run in runs:
-            places = list(run)
-            if not mixed:
-                yield places[0], len(places), verdict
+        at = 0
+        for verdict, run in itertools.groupby("" if it.is_mixed() else it.step().view["verdict"] for it in self.columns):
+            count = len(list(run))
+            if verdict:
+                yield at, count, verdict
+            at += count
 
     def has_room(self, verdict: str, count: int) -> bool:
         """Tells whether the verdict's name has room in so many columns."""
@@ -519,10 +523,10 @@ class Picture:
                 first, last = column.epochs()
                 top, bottom = TOP + 6, self.legend_y - 14
                 x = self.x(at)
-                yield rect(x + 1, top, self.wide - 2, bottom - top, "fold", f"epochs {first} to {last}: {len(column.steps)} entries")
+                words = f"{len(column.steps)} entries"
+                yield rect(x + 1, top, self.wide - 2, bottom - top, "fold", f"epochs {first} to {last}: {words}")
                 middle = x + self.wide / 2 + 4, (top + bottom) / 2
                 place = f'transform="rotate(-90 {middle[0]:.1f} {middle[1]:.1f})"'
-                words = f"{len(column.steps)} entries"
                 yield f'<text x="{middle[0]:.1f}" y="{middle[1]:.1f}" class="small mid soft" {place}>{words}</text>'
 
     def legend(self) -> Tuple[List[str], float]:
@@ -541,8 +545,9 @@ class Picture:
             return lambda x, y: rect(x + 1, y + 1, 15, 10, kind, "", 2)
 
         kinds = {span.rw for span in self.spans}
-        for rw, kind, words in ((True, "wrote", "interval that may have gone read-write"), (False, "idle", "interval that did not"),
-                                (None, "now", "current interval")):
+        samples = ((True, "wrote", "interval that may have gone read-write"), (False, "idle", "interval that did not"),
+                   (None, "now", "current interval"))
+        for rw, kind, words in samples:
             if rw in kinds:
                 yield box(kind), words
         if any(set(span.up) - set(span.acting) - {None} for span in self.spans) or self.has_empty:

@@ -295,7 +295,7 @@ def read_pool(osdmap: Node, pool: Node, notes: Notes) -> Optional[Pool]:
         notes.tell("min_size that isn't 1 to size, carried as the nearest that is", f"{label} has {min_size}")
         min_size = max(1, min(min_size, size))
     if pg_num > MOST_GROUPS:
-        notes.tell(f"pg_num above {MOST_GROUPS}, of which the first {MOST_GROUPS} groups are carried and objects fall into others",
+        notes.tell(f"pg_num above {MOST_GROUPS}, of which the first {MOST_GROUPS} are carried, so objects fall into others",
                    f"{label} has {pg_num}")
     tell_pool(pool, label, notes)
     return Pool(number, name, min(pg_num, MOST_GROUPS), size, min_size, pool.key("crush_rule").whole(), k)
@@ -652,8 +652,9 @@ def main(words: Optional[List[str]] = None) -> int:
     parser = argparse.ArgumentParser(prog="from_ceph", description=about, epilog=more,
                                      formatter_class=argparse.RawDescriptionHelpFormatter)
     parser.add_argument("osdmap", metavar="OSDMAP.json", help="the map, as JSON")
-    parser.add_argument("crush", metavar="CRUSH.json", nargs="?", help="its CRUSH tree, as JSON; without it the script has no tree")
-    parser.add_argument("--pool", type=int, action="append", default=[], metavar="ID", help="carry this pool, and others only where named so too")
+    parser.add_argument("crush", metavar="CRUSH.json", nargs="?", help="its CRUSH tree, as JSON; without it there is no tree")
+    parser.add_argument("--pool", type=int, action="append", default=[], metavar="ID",
+                        help="carry this pool, and others only where they are named so too")
     parser.add_argument("--ask", action="store_true", help="append a question for each group")
     parser.add_argument("--strict", action="store_true", help="what can't be carried over is an error")
     options = parser.parse_args(words)

@@ -25,8 +25,8 @@ SVG = "{http://www.w3.org/2000/svg}"
 
 def step(epoch, first=1, acting=(0, 1, 2), verdict="Serve", blocked=(), unheard=(), intervals=(), op="inc"):
     """A step with such an answer."""
-    view = {"epoch": epoch, "first": first, "acting": list(acting), "up": list(acting), "acting_primary": next((it for it in acting if it is not None), None),
-            "verdict": verdict, "blocked_by": list(blocked), "intervals": list(intervals), "missing": [], "best": None}
+    primary = next((it for it in acting if it is not None), None)
+    view = {"epoch": epoch, "first": first, "acting": list(acting), "up": list(acting), "acting_primary": primary, "verdict": verdict, "blocked_by": list(blocked), "intervals": list(intervals), "missing": [], "best": None}
     return draw_group.Step(op, [], view, list(unheard))
 
 
@@ -40,6 +40,11 @@ def picture(steps, pool=POOL):
 
 def drawn(steps, pool=POOL):
     return xml.fromstring(picture(steps, pool).svg())
+
+
+def marks(root, kind):
+    """The rectangles of a kind, but for the sample in the legend."""
+    return [node for node in root.iter(f"{SVG}rect") if node.get("class") == kind and node.find(f"{SVG}title") is not None]
 
 
 def written(words):
@@ -111,7 +116,7 @@ class Bars(unittest.TestCase):
 
     def test_each_member_of_an_interval_has_a_bar_of_its_kind(self):
         root = drawn(self.STEPS)
-        bars = {kind: [node for node in root.iter(f"{SVG}rect") if node.get("class") == kind and node.find(f"{SVG}title") is not None] for kind in ("wrote", "idle", "now")}
+        bars = {kind: marks(root, kind) for kind in ("wrote", "idle", "now")}
         self.assertEqual({kind: len(found) for kind, found in bars.items()}, {"wrote": 3, "idle": 2, "now": 1})
         self.assertEqual(float(bars["wrote"][0].get("x")), draw_group.LEFT + 0.5)
 
@@ -120,8 +125,8 @@ class Bars(unittest.TestCase):
         self.assertEqual([drawing.columns_of(span) for span in drawing.spans], [(0, 2), (2, 3), (3, 4)])
 
     def test_the_devices_that_block_are_marked(self):
-        marks = [node for node in drawn(self.STEPS).iter(f"{SVG}rect") if node.get("class") == "blocks" and node.find(f"{SVG}title") is not None]
-        self.assertEqual([node.find(f"{SVG}title").text for node in marks], [f"osd.{osd} is down and may come back" for osd in (0, 1)])
+        tips = [node.find(f"{SVG}title").text for node in marks(drawn(self.STEPS), "blocks")]
+        self.assertEqual(tips, [f"osd.{osd} is down and may come back" for osd in (0, 1)])
 
     def test_who_has_to_be_heard_is_marked_while_the_group_waits(self):
         self.assertEqual(draw_group.waited_by(step(1, verdict="Waiting", unheard=[(3, 0)])), {3: "unheard"})
@@ -148,7 +153,8 @@ class Bars(unittest.TestCase):
 
     def test_the_colours_have_contrast(self):
         for scheme in (draw_group.LIGHT, draw_group.DARK):
-            pairs = [("text", "page"), ("soft", "page"), ("text", "band"), ("on-wrote", "wrote"), ("on-idle", "idle"), ("on-now", "now")]
+            pairs = [("text", "page"), ("soft", "page"), ("text", "band")]
+            pairs += [(f"on-{kind}", kind) for kind in ("wrote", "idle", "now")]
             for ink, ground in pairs + [("on-verdict", verdict) for verdict in draw_group.LETTERS]:
                 self.assertGreaterEqual(contrast(scheme[ink], scheme[ground]), 4.5, (ink, ground))
             for shape in ("wrote", "idle", "now-edge", "blocks", "unheard", "boots", "falls"):
@@ -189,7 +195,8 @@ class BadInput(unittest.TestCase):
 
     def test_no_file_and_no_program(self):
         self.assert_error("nowhere: No such file", written([str(self.folder / "nowhere"), "1.0"]))
-        self.assert_error("none: No such file", written(["--program", str(self.folder / "none"), self.script('{"op":"inc","epoch":1}'), "1.0"]))
+        script, program = self.script('{"op":"inc","epoch":1}'), str(self.folder / "none")
+        self.assert_error("none: No such file", written(["--program", program, script, "1.0"]))
 
     def test_a_line_that_is_not_json(self):
         self.assert_error("script.jsonl, line 2 is not JSON", written([self.script('{"op":"inc","epoch":1}\n{"op"\n'), "1.0"]))
