@@ -551,7 +551,7 @@ def keep(folder: str, name: str, dumps: Dumps) -> None:
 
 def main() -> int:
     known = [*BUILT, *AGREE, *LAST, *TOLD]
-    about, _, more = (__doc__ or "").partition("\n\n")
+    about, _, more = (__doc__ or "").split("\n\n", 2)
     parser = argparse.ArgumentParser(prog="check_against_ceph", description=about, epilog=more,
                                      formatter_class=argparse.RawDescriptionHelpFormatter)
     parser.add_argument("names", metavar="NAME", nargs="*", help=f"one of {', '.join(known)}")

@@ -604,7 +604,7 @@ def group_of(words: str) -> Tuple[int, int]:
 
 
 def main(words: Optional[List[str]] = None) -> int:
-    about, _, more = (__doc__ or "").partition("\n\n")
+    about, _, more = (__doc__ or "").split("\n\n", 2)
     parser = argparse.ArgumentParser(prog="draw_group", description=about, epilog=more,
                                      formatter_class=argparse.RawDescriptionHelpFormatter)
     parser.add_argument("script", metavar="SCRIPT", help="a file of lines for pgpeer")

@@ -586,7 +586,7 @@ def device_parts(devices: List[Device], tree: List[Bucket], notes: Notes) -> Lis
         notes.tell("weights of devices that stand in the tree and don't exist, taken for 0", f"osd {ranges(absent)}")
     weights = [[device.id, device.weight] for device in devices if device.weight != IN] + [[osd, 0] for osd in absent]
     down = sorted([device.id for device in devices if not device.up] + absent)
-    first = {"up": sorted(known) + absent, "weight": sorted(weights), "crush": [bucket_object(it) for it in tree]}
+    first = {"up": sorted([*known, *absent]), "weight": sorted(weights), "crush": [bucket_object(it) for it in tree]}
     return [part for part in (first, {"down": down}, {"gone": absent}) if any(part.values())]
 
 
@@ -648,7 +648,7 @@ def questions(pools: List[Pool]) -> Iterator[Dict[str, Any]]:
 
 
 def main(words: Optional[List[str]] = None) -> int:
-    about, _, more = (__doc__ or "").partition("\n\n")
+    about, _, more = (__doc__ or "").split("\n\n", 2)
     parser = argparse.ArgumentParser(prog="from_ceph", description=about, epilog=more,
                                      formatter_class=argparse.RawDescriptionHelpFormatter)
     parser.add_argument("osdmap", metavar="OSDMAP.json", help="the map, as JSON")

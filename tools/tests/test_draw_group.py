@@ -138,6 +138,13 @@ class Bars(unittest.TestCase):
         for text in ("0", "2", "no device", "erasure pool, size 3, min_size 2, any 2 shards are enough"):
             self.assertIn(text, words)
 
+    def test_the_oldest_columns_are_veiled_where_they_are_one(self):
+        past = [interval(e, e, [0, 1, 2], False) for e in range(1, 300)]
+        steps = [step(e, first=e, intervals=past[: e - 1]) for e in range(1, 301)]
+        root = drawn(steps)
+        self.assertEqual([node.find(f"{SVG}title").text for node in marks(root, "fold")], ["epochs 1 to 101: 101 entries"])
+        self.assertEqual(len(marks(root, "idle")), 198 * 3)
+
     def test_it_has_both_colour_schemes_and_no_script(self):
         text = picture(self.STEPS).svg()
         self.assertIn("prefers-color-scheme:dark", text)
