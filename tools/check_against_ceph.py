@@ -37,7 +37,9 @@ HERE = pathlib.Path(__file__).resolve().parent
 PROGRAM = HERE.parent / "crates/pgpeer/out/pgpeer"
 DEVICES = 24
 NONE = 2147483647
+TOOLS = ("osdmaptool", "crushtool", "monmaptool", "ceph", "ceph-authtool", "ceph-mon", "ceph-osd")
 MOST_SECONDS = 60  # for one command
+MOST_SHOWN = 5  # differences of a map that has to differ
 
 Places = Tuple[Optional[int], ...]
 
@@ -562,6 +564,9 @@ def main() -> int:
         parser.error(f"no map is called {', '.join(sorted(set(options.names) - set(known)))}")
     if not os.access(options.program, os.X_OK):
         parser.error(f"no program {options.program}; README.md says how to build it")
+    absent = [tool for tool in TOOLS if not shutil.which(tool)]
+    if absent:
+        parser.error(f"no {', '.join(absent)}; they are in Debian's ceph-base, ceph-common, ceph-mon and ceph-osd")
     rows = []
     for name, dumps in made(options.names or known):
         if options.keep:
@@ -576,7 +581,9 @@ def main() -> int:
         if part:
             print(f"\n{table(part)}")
     for row in rows:
-        print(f"\n{row.name}:\n{row.told}" + "\n".join(row.other[:5] if row.name in TOLD else row.other))
+        shown = row.other[:MOST_SHOWN] if row.name in TOLD else row.other
+        if row.told or shown:
+            print(f"\n{row.name}:\n{row.told}" + "\n".join(shown))
     return 1 if any(row.other or row.left_out for row in first) else 0
 
 
