@@ -92,8 +92,8 @@ def pgpeer_says(program: str, script: str) -> Dict[Tuple[int, int], Where]:
         if "ok" not in answer:
             raise RuntimeError(f"{text} is the answer to {line[:200]}")
         if answer["ok"] == "ask":
-            up, acting = tuple(answer["up"]), tuple(answer["acting"])
-            found[tuple(answer["pg"])] = Where(up, answer["up_primary"], acting, answer["acting_primary"])
+            (pool, pg), up, acting = answer["pg"], tuple(answer["up"]), tuple(answer["acting"])
+            found[pool, pg] = Where(up, answer["up_primary"], acting, answer["acting_primary"])
     return found
 
 
@@ -147,7 +147,7 @@ def table(rows: List[Row]) -> str:
     """The rows in Markdown, and their sum."""
     titles = ("Map", "replicated", "erasure", "down", "out", "reweighted", "pg_temp", "agree", "differ", "left out")
     lines = [f"| {' | '.join(titles)} |", "|---" + "|---:" * (len(titles) - 1) + "|"]
-    cells = [[row.name, *row[1:8], len(row.other), row.left_out] for row in rows]
+    cells: List[List[Any]] = [[row.name, *row[1:8], len(row.other), row.left_out] for row in rows]
     sums = [sum(cell[at] for cell in cells) for at in range(1, 10)]
     for cell in [*cells, ["all", *sums[:2], "", "", "", *sums[5:]]]:
         lines.append("| " + " | ".join(str(value) for value in cell) + " |")
@@ -521,8 +521,11 @@ BUILT = {
 @contextlib.contextmanager
 def room() -> Iterator[str]:
     """A folder that is gone afterwards."""
-    with tempfile.TemporaryDirectory(prefix="pgpeer-ceph-", ignore_cleanup_errors=True) as folder:
+    folder = tempfile.mkdtemp(prefix="pgpeer-ceph-")
+    try:
         yield folder
+    finally:
+        shutil.rmtree(folder, ignore_errors=True)
 
 
 def made(names: List[str]) -> Iterator[Tuple[str, Dumps]]:

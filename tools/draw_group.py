@@ -19,12 +19,11 @@ Status 0: the picture was written. Status 2: the command line or the script is w
 import argparse
 import itertools
 import json
-import os
 import pathlib
 import subprocess
 import sys
 from html import escape
-from typing import Any, Dict, Iterable, Iterator, List, NamedTuple, Optional, Tuple
+from typing import Any, Dict, Iterable, Iterator, List, NamedTuple, Optional, Sequence, Tuple
 
 PROGRAM = pathlib.Path(__file__).resolve().parent.parent / "crates/pgpeer/out/pgpeer"
 ENTRIES = ("inc", "info", "entries", "close")
@@ -199,7 +198,7 @@ def osds_text(osds: Iterable[int]) -> str:
     return " and ".join([", ".join(names[:-1]), names[-1]] if len(names) > 1 else names)
 
 
-def member_text(member: Member, pool: Pool) -> str:
+def member_text(member: Sequence[int], pool: Pool) -> str:
     return f"osd.{member[0]}" + (f" (shard {member[1]})" if pool.k else "")
 
 
@@ -213,7 +212,7 @@ def reason(step: Step, pool: Pool) -> str:
         "Waiting": f"not heard yet: {', '.join(member_text(it, pool) for it in step.unheard)}",
         "Incomplete": "no copy that was heard is complete and new enough",
         "Short": "the acting set has too few members",
-        "NeedLog": f"the log of {member_text(tuple(view['best'] or (0, 0)), pool)}, the best copy, has gaps",
+        "NeedLog": f"the log of {member_text(view['best'] or (0, 0), pool)}, the best copy, has gaps",
         "NeedUpThru": f"the map doesn't say yet that osd.{primary} was up in this interval",
         "Serve": behind(view, pool),
     }
@@ -224,7 +223,7 @@ def behind(view: Dict[str, Any], pool: Pool) -> str:
     """Which members lack something."""
     lacks = []
     for peer in view["missing"]:
-        name, count = member_text(tuple(peer["member"]), pool), len(peer.get("objects", ()))
+        name, count = member_text(peer["member"], pool), len(peer.get("objects", ()))
         if peer["state"] != "missing":
             lacks.append(f"{name} {'needs a backfill' if peer['state'] == 'backfill' else 'has diverged'}")
         elif count:

@@ -541,10 +541,10 @@ def carried_tree(crush: Crush, root: Optional[int], notes: Notes) -> List[Bucket
 
 def within_all_groups(pools: List[Pool], notes: Notes) -> List[Pool]:
     """The pools, in order, that fit into the number of groups in all."""
-    kept, groups = [], 0
+    kept: List[Pool] = []
     for pool in pools:
-        if groups + pool.pg_num <= MOST_GROUPS_IN_ALL:
-            kept, groups = kept + [pool], groups + pool.pg_num
+        if sum(it.pg_num for it in kept) + pool.pg_num <= MOST_GROUPS_IN_ALL:
+            kept.append(pool)
         else:
             notes.tell(f"pools beyond {MOST_GROUPS_IN_ALL} groups in all, left out", f"{pool.label()} of {pool.pg_num}")
     return kept
@@ -574,7 +574,7 @@ def bucket_object(bucket: Bucket) -> Dict[str, Any]:
 
 
 def pool_object(pool: Pool, leaf: int) -> Dict[str, Any]:
-    kind = {"kind": "replicated"} if pool.k is None else {"kind": "erasure", "k": pool.k}
+    kind: Dict[str, Any] = {"kind": "replicated"} if pool.k is None else {"kind": "erasure", "k": pool.k}
     return {"id": pool.id, "pg_num": pool.pg_num, **kind, "size": pool.size, "min_size": pool.min_size, "leaf": leaf}
 
 
@@ -587,7 +587,8 @@ def device_parts(devices: List[Device], tree: List[Bucket], notes: Notes) -> Lis
     weights = [[device.id, device.weight] for device in devices if device.weight != IN] + [[osd, 0] for osd in absent]
     down = sorted([device.id for device in devices if not device.up] + absent)
     first = {"up": sorted([*known, *absent]), "weight": sorted(weights), "crush": [bucket_object(it) for it in tree]}
-    return [part for part in (first, {"down": down}, {"gone": absent}) if any(part.values())]
+    parts: List[Dict[str, Any]] = [first, {"down": down}, {"gone": absent}]
+    return [part for part in parts if any(part.values())]
 
 
 def pool_parts(pools: List[Pool], temps: List[Temp], leaves: Dict[int, int]) -> Iterator[Dict[str, Any]]:
@@ -665,8 +666,8 @@ def main(words: Optional[List[str]] = None) -> int:
     except Unusable as fault:
         print(f"from_ceph: error: {fault}", file=sys.stderr)
         return 2
-    for line in notes.lines():
-        print(f"from_ceph: not carried: {line}", file=sys.stderr)
+    for told in notes.lines():
+        print(f"from_ceph: not carried: {told}", file=sys.stderr)
     if options.strict and notes.things:
         print(f"from_ceph: error: {len(notes.things)} kinds of things can't be carried over", file=sys.stderr)
         return 2
