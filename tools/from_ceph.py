@@ -669,7 +669,7 @@ def main(words: Optional[List[str]] = None) -> int:
     for told in notes.lines():
         print(f"from_ceph: not carried: {told}", file=sys.stderr)
     if options.strict and notes.things:
-        print(f"from_ceph: error: {len(notes.things)} kinds of things can't be carried over", file=sys.stderr)
+        print("from_ceph: error: the map can't be carried over whole, and --strict was given", file=sys.stderr)
         return 2
     for line in [*lines, *(questions(pools) if options.ask else ())]:
         print(compact(line))
