@@ -3,7 +3,7 @@ use Rattle.std.proofs.Common.{◌≡◌, ℕ, List, ◌++◌, Bool, true, false,
 use Rattle.std.proofs.Common.{◌⊎◌, inl, inr}
 use Rattle.std.specs.Prelude.{Option, Some, None, is_some, nat_eq, nat_lt, option_map}
 use Rattle.std.specs.List.{list_any}
-use Rattle.std.specs.Option.{option_map_or}
+use Rattle.std.specs.Option.{option_map_or, option_or}
 use Rattle.std.specs.HashMap as hash
 use Rattle.std.proofs.lemmas.List.Folds.{list_any-append}
 use Rattle.pgp_ids.specs.declared.incremental.DeviceEpoch.{DeviceEpoch}
@@ -88,69 +88,34 @@ module _ (incs : List Incremental) (m : OsdMap) (is : IsMapOf incs m) where
       (λ given. ap (λ (o : Option PoolSpec). not (are_sizes given.size given.min_size) || option_map_or (λ made. is_erasure made.kind && not (nat_eq made.size given.size)) o true) (is.pools_are given.pool))
 
 -- the first of the findings is the incremental's first fault, or the tree's where there is none
-either_fault : Option MapFault → Option MapFault → Option MapFault
-either_fault None o = o
-either_fault (Some fault) o = Some fault
-
-chain : (a b c d e f g h i j k l : Bool) (tree : Option MapFault) → (j ≡ false → k ≡ l) →
-    let r : Findings = record {
-      epoch_gap = a;
-      twice = b;
-      unknown_device = c;
-      already_up = d;
-      already_down = e;
-      still_up = f;
-      up_thru_back = g;
-      ahead = h;
-      bad_pool = i;
-      pool_known = j;
-      bad_temp = k;
-    } in
-    either_fault (first_of r) tree ≡ cond a (Some EpochGap) (cond b (Some Twice) (cond c (Some UnknownDevice) (cond d (Some AlreadyUp) (cond e (Some AlreadyDown) (cond f (Some StillUp) (cond g (Some UpThruBack) (cond h (Some Ahead) (cond i (Some BadPool) (cond j (Some PoolKnown) (cond l (Some BadTemp) tree))))))))))
-unfolding either_fault
-chain true b c d e f g h i j k l tree same = refl
-chain false true c d e f g h i j k l tree same = refl
-chain false false true d e f g h i j k l tree same = refl
-chain false false false true e f g h i j k l tree same = refl
-chain false false false false true f g h i j k l tree same = refl
-chain false false false false false true g h i j k l tree same = refl
-chain false false false false false false true h i j k l tree same = refl
-chain false false false false false false false true i j k l tree same = refl
-chain false false false false false false false false true j k l tree same = refl
-chain false false false false false false false false false true k l tree same = refl
-chain false false false false false false false false false false true true tree same = refl
-chain false false false false false false false false false false true false tree same = let no_such : true ≡ false = same refl in cc
-chain false false false false false false false false false false false true tree same = let no_such : false ≡ true = same refl in cc
-chain false false false false false false false false false false false false tree same = refl
+pass : (b same : Bool) (fault : MapFault) (rest others tree : Option MapFault) → b ≡ same → (same ≡ false → option_or rest tree ≡ others)
+    → option_or (cond b (Some fault) rest) tree ≡ cond same (Some fault) others
+pass true true fault rest others tree is next = refl
+pass true false fault rest others tree is next = cc
+pass false true fault rest others tree is next = cc
+pass false false fault rest others tree is next = next refl
 
 same_first : (incs : List Incremental) (inc : Incremental) (f : Findings) → AreFindings incs inc f
-    → either_fault (first_of f) (given_fault inc.crush) ≡ map_fault incs inc
+    → option_or (first_of f) (given_fault inc.crush) ≡ map_fault incs inc
 unfolding map_fault
 same_first incs inc f are =
-    (λ i. let r : Findings = record {
-      epoch_gap = are.epoch_gap_is i;
-      twice = are.twice_is i;
-      unknown_device = are.unknown_device_is i;
-      already_up = are.already_up_is i;
-      already_down = are.already_down_is i;
-      still_up = are.still_up_is i;
-      up_thru_back = are.up_thru_back_is i;
-      ahead = are.ahead_is i;
-      bad_pool = are.bad_pool_is i;
-      pool_known = are.pool_known_is i;
-      bad_temp = f.bad_temp;
-    } in either_fault (first_of r) (given_fault inc.crush))
-    ∙ chain (has_epoch_gap incs inc) (has_twice inc) (has_unknown_device incs inc) (has_already_up incs inc) (has_already_down incs inc)
-    (has_still_up incs inc) (has_up_thru_back incs inc) (has_ahead inc) (has_bad_pool incs inc) (has_pool_known incs inc)
-    f.bad_temp (has_bad_temp incs inc) (given_fault inc.crush) are.bad_temp_is
+    pass f.epoch_gap (has_epoch_gap incs inc) EpochGap _ _ _ are.epoch_gap_is (λ _.
+    pass f.twice (has_twice inc) Twice _ _ _ are.twice_is (λ _.
+    pass f.unknown_device (has_unknown_device incs inc) UnknownDevice _ _ _ are.unknown_device_is (λ _.
+    pass f.already_up (has_already_up incs inc) AlreadyUp _ _ _ are.already_up_is (λ _.
+    pass f.already_down (has_already_down incs inc) AlreadyDown _ _ _ are.already_down_is (λ _.
+    pass f.still_up (has_still_up incs inc) StillUp _ _ _ are.still_up_is (λ _.
+    pass f.up_thru_back (has_up_thru_back incs inc) UpThruBack _ _ _ are.up_thru_back_is (λ _.
+    pass f.ahead (has_ahead inc) Ahead _ _ _ are.ahead_is (λ _.
+    pass f.bad_pool (has_bad_pool incs inc) BadPool _ _ _ are.bad_pool_is (λ _.
+    pass f.pool_known (has_pool_known incs inc) PoolKnown _ _ _ are.pool_known_is (λ known.
+    pass f.bad_temp (has_bad_temp incs inc) BadTemp _ _ _ (are.bad_temp_is known) (λ _. refl)))))))))))
 
 pub first-found : (incs : List Incremental) (inc : Incremental) (f : Findings) (fault : MapFault) → AreFindings incs inc f → first_of f ≡ Some fault → map_fault incs inc ≡ Some fault
-unfolding either_fault
-first-found incs inc f fault are e = sym (same_first incs inc f are) ∙ ap (λ (o : Option MapFault). either_fault o (given_fault inc.crush)) e
+first-found incs inc f fault are e = sym (same_first incs inc f are) ∙ ap (λ (o : Option MapFault). option_or o (given_fault inc.crush)) e
 
 pub none-found : (incs : List Incremental) (inc : Incremental) (f : Findings) → AreFindings incs inc f → first_of f ≡ None → map_fault incs inc ≡ given_fault inc.crush
-unfolding either_fault
-none-found incs inc f are e = sym (same_first incs inc f are) ∙ ap (λ (o : Option MapFault). either_fault o (given_fault inc.crush)) e
+none-found incs inc f are e = sym (same_first incs inc f are) ∙ ap (λ (o : Option MapFault). option_or o (given_fault inc.crush)) e
 
 pub temps-are : (incs : List Incremental) (inc : Incremental) (m : OsdMap) (found : ℕ → Option PoolSpec) → IsMapOf incs m → has_pool_known incs inc ≡ false
     → ((id : ℕ) → found id ≡ option_map (with_sizes (last_where (λ sizes. nat_eq sizes.pool id) inc.sizes)) (or_made (last_where (λ made. nat_eq made.id id) inc.pools) (hash.get nat_eq m.pools id)))
