@@ -42,6 +42,7 @@ pub fn members_stay_distinct()
 {}
 
 /// Infos that are put in their order leave the last of each member.
+#[tactic(auto, using(crate::proofs::PutLemmas::put_in_order))]
 pub fn infos_put_in_their_order()
     ensures { (infos : List Info) → with_infos infos [] ≡ last_of_each_member infos }
 {}
