@@ -1,5 +1,5 @@
 -- What a copy lacks by a log: the objects whose entry of the greatest number is a modify, in the order of their names.
-use Rattle.std.proofs.Common.{◌≡◌, ℕ, ◌<◌, ◌≤◌, List, [], ◌∷◌, ◌++◌, Bool, true, false, ◌&&◌, ◌||◌, nat_lt, nat_le, map, refl, ap, ap₂, sym, ◌∙◌, subst, inl, inr, arith, ltb-true, lt-ltb}
+use Rattle.std.proofs.Common.{◌≡◌, ℕ, ◌<◌, ◌≤◌, List, [], ◌∷◌, ◌++◌, Bool, true, false, ◌&&◌, ◌||◌, nat_lt, nat_le, map, refl, ap, ap₂, sym, subst, inl, inr, arith, ltb-true, lt-ltb}
 use Rattle.std.specs.List.{AllPairs, Contains, filter}
 use Rattle.std.specs.Cmp.Lexicographic.{slice_cmp}
 use Rattle.std.specs.Ordering.{nat_cmp, is_lt}

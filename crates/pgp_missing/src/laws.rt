@@ -13,6 +13,7 @@ ghost use Rattle.pgp_missing.specs.Missing.{object_of, entries_above, missing_by
 ghost use Rattle.pgp_missing.specs.Examples.{at, modify, delete, lacks, copy, copy_at, two_writes};
 
 /// A complete peer that has the best copy's last write misses nothing.
+#[tactic(auto, using(crate::proofs::MissingLemmas::equal_peer))]
 pub fn equal_peers_miss_nothing()
     ensures { (best : Info) (reported : List LogEntry) (peer : Info)
         → is_whole best reported ≡ true → is_older best.last_update best.log_tail ≡ false
