@@ -1,13 +1,14 @@
 -- The intervals by their definition are the maximal runs, and lie end to end.
-use Rattle.std.proofs.Common.{◌≡◌, ◌≢◌, ℕ, zero, suc, ◌+◌, ◌<◌, ◌≤◌, List, [], ◌∷◌, Bool, true, false, not, map, filter, refl, ap, sym, ◌∙◌, subst, arith, add-one, inl, inr, All, Contains}
+use Rattle.std.proofs.Common.{◌≡◌, ◌≢◌, ℕ, zero, suc, ◌+◌, ◌<◌, ◌≤◌, List, Bool, true, false, not, map, filter, refl, ap, sym, ◌∙◌, subst, arith, add-one, inl, inr, Contains}
 use Rattle.std.specs.List.{range_with_len}
 use Rattle.std.proofs.lemmas.Bool.{cases_Bool, cases_lt, true≢false, not-true, not-false}
-use Rattle.std.proofs.lemmas.List.Elements.{All-nil, All-cons, Contains-append_right}
+use Rattle.std.proofs.lemmas.List.FromFn.{length-range_with_len, get_or-range_with_len}
 use Rattle.std.proofs.Math.ListN.{get_or-eq_default}
 use Rattle.pgp_ids.specs.declared.history.EpochState.{EpochState}
 use Rattle.pgp_ids.specs.declared.past.Past.{Past}
+use Rattle.pgp_lists.proofs.Members.{All-members, map-contains, contains-map, filter-contains, contains-filter}
 use Rattle.pgp_interval.specs.History.{History, last_place, current_state, state_at, members_at}
-use Rattle.pgp_interval.specs.Runs.{ends_at, opens_at, opening_of, past_ending, past_intervals}
+use Rattle.pgp_interval.specs.Runs.{ends_at, opens_at, opening_of, past_ending, past_ends, past_intervals}
 use Rattle.pgp_interval.specs.Interval.{IsInterval, TellsOf, EachIsOver, HasEachOver, next_members, LieEndToEnd}
 use Rattle.pgp_interval.proofs.Same.{is_same-eq, eq-is_same}
 use Rattle.pgp_interval.proofs.Openings.{opening_of-opens, opening_of-stays, opening_of-le, opens_at-next}
@@ -105,40 +106,28 @@ TellsOf-past_ending enough by_place h last over ends =
 
 -- ---- the past intervals are those that are over
 
-all_kept : {X : Type 0} (P : X → Type 0) (f : ℕ → X) (test : ℕ → Bool) (a n : ℕ) → ((k : ℕ) → k < a + n → test k ≡ true → P (f k)) → All P (map f (filter test (range_with_len a n)))
-all_kept P f test a zero each = All-nil P
-all_kept P f test a (suc n) each =
-    let rest : All P (map f (filter test (range_with_len (a + 1) n))) = all_kept P f test (a + 1) n (λ k below passes. each k (omega arith) passes) in
-    elim (cases_Bool (test a)) [
-      | inl passes ↦ rw passes (All-cons P (f a) _ (each a (omega arith) passes) rest)
-      | inr fails ↦ rw fails rest
-    ]
+range-below : (n k : ℕ) → Contains (range_with_len 0 n) k → k < n
+range-below n k in' =
+    let at : in'.0 < n = omega (arith, in'.1, length-range_with_len 0 n) in
+    omega (arith, at, in'.2, get_or-range_with_len 0 n in'.0 k at)
 
-contains_kept : {X : Type 0} (f : ℕ → X) (test : ℕ → Bool) (a n k : ℕ) → a ≤ k → k < a + n → test k ≡ true → Contains (map f (filter test (range_with_len a n))) (f k)
-contains_kept f test a zero k from below passes = absurd (omega arith)
-contains_kept f test a (suc n) k from below passes = elim (cases_lt a k) [
-  | inl after ↦
-      let rest : Contains (map f (filter test (range_with_len (a + 1) n))) (f k) = contains_kept f test (a + 1) n k (omega arith) (omega arith) passes in
-      elim (cases_Bool (test a)) [
-        | inl also ↦ rw also (Contains-append_right (f a ∷ []) _ _ rest)
-        | inr fails ↦ rw fails rest
-      ]
-  | inr here ↦
-      let e : a ≡ k = omega arith in
-      rw (ap test e ∙ passes) (0, omega arith, ap f e)
-]
+below-range : (n k : ℕ) → k < n → Contains (range_with_len 0 n) k
+below-range n k below = (k, omega (arith, length-range_with_len 0 n), omega (arith, get_or-range_with_len 0 n k k below))
 
 pub EachIsOver-past_intervals : {C : Type 0} (enough : C → List ℕ → Bool) (by_place : C → Bool) (h : History C) → EachIsOver enough by_place h (past_intervals enough by_place h)
 EachIsOver-past_intervals enough by_place h =
-    all_kept (λ p. (first : ℕ) × ((last : ℕ) × TellsOf enough by_place h p first last)) (past_ending enough by_place h) (ends_at h) 0 (last_place h)
-    (λ last below ends. (opening_of h last, (last, TellsOf-past_ending enough by_place h last (omega arith) ends)))
+    All-members (λ p. (first : ℕ) × ((last : ℕ) × TellsOf enough by_place h p first last)) (past_intervals enough by_place h) (λ p in'.
+    let made = map-contains (past_ending enough by_place h) (past_ends h) p in' in
+    let kept = filter-contains (ends_at h) (range_with_len 0 (last_place h)) made.0 made.1.0 in
+    let below : made.0 < last_place h = range-below (last_place h) made.0 kept.0 in
+    (opening_of h made.0, (made.0, subst (λ q. TellsOf enough by_place h q (opening_of h made.0) made.0) made.1.1 (TellsOf-past_ending enough by_place h made.0 below kept.1))))
 
 pub HasEachOver-past_intervals : {C : Type 0} (enough : C → List ℕ → Bool) (by_place : C → Bool) (h : History C) → HasEachOver enough by_place h (past_intervals enough by_place h)
 HasEachOver-past_intervals enough by_place h first last run over =
     let ends : ends_at h last ≡ true = differ-ends h last (λ same. run.after over (sym same)) in
     let opens : opening_of h last ≡ first = opening_of-interval h first last run in (
       past_ending enough by_place h last,
-      contains_kept (past_ending enough by_place h) (ends_at h) 0 (last_place h) last (omega arith) (omega arith) ends,
+      contains-map (past_ending enough by_place h) (past_ends h) last (contains-filter (ends_at h) (range_with_len 0 (last_place h)) last (below-range (last_place h) last over) ends),
       subst (λ a. TellsOf enough by_place h (past_ending enough by_place h last) a last) opens (TellsOf-past_ending enough by_place h last over ends),
     )
 

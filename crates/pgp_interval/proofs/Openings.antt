@@ -1,7 +1,7 @@
 -- Where intervals open: the greatest opening place, met from below.
-use Rattle.std.proofs.Common.{◌≡◌, ℕ, zero, suc, ◌+◌, ◌-◌, ◌≤◌, [], ◌∷◌, Bool, true, false, cond, filter, fold, max, ap, sym, ◌∙◌, arith, add-one, inl, inr}
+use Rattle.std.proofs.Common.{◌≡◌, ℕ, zero, suc, ◌+◌, ◌≤◌, [], ◌∷◌, Bool, true, false, cond, filter, fold, max, ap, sym, ◌∙◌, arith, add-one, inl, inr}
 use Rattle.std.specs.List.{range_with_len}
-use Rattle.std.proofs.lemmas.Bool.{cases_Bool, true≢false}
+use Rattle.std.proofs.lemmas.Bool.{cases_Bool}
 use Rattle.std.proofs.lemmas.List.Sums.{fold-append}
 use Rattle.std.proofs.Math.Nat.{max-eq_right}
 use Rattle.pgp_lists.proofs.Ranges.{filter_range-suc}
@@ -41,13 +41,6 @@ opening_of-le h (suc place) = elim (cases_Bool (ends_at h place)) [
   | inl ends ↦ omega (arith, opening_of-opens h (suc place) ends)
   | inr stays ↦ omega (arith, opening_of-stays h place stays, opening_of-le h place)
 ]
-
--- one place further down from a place that opens nothing
-pub opening_of-before : {C : Type 0} (h : History C) (place : ℕ) → opens_at h place ≡ false → opening_of h (place - 1) ≡ opening_of h place
-opening_of-before h zero fails = absurd (true≢false fails)
-opening_of-before h (suc place) fails =
-    let same : suc place - 1 ≡ place = omega arith in
-    ap (opening_of h) same ∙ sym (opening_of-stays h place fails)
 
 pub opens_at-next : {C : Type 0} (h : History C) (place : ℕ) → opens_at h (place + 1) ≡ ends_at h place
 opens_at-next h place = ap (opens_at h) (add-one place)

@@ -11,7 +11,7 @@ use Rattle.pgp_interval.specs.SameMembers.{is_same}
 use Rattle.pgp_interval.specs.History.{History, stepped, last_place, current_state, state_at, members_at}
 use Rattle.pgp_interval.specs.Runs.{ends_at, opens_at, opening_of, past_of, past_ending, past_intervals, current_first, current_ending}
 use Rattle.pgp_interval.proofs.Openings.{opening_of-opens, opening_of-stays, opens_at-next}
-use Rattle.pgp_lists.proofs.Ranges.{filter_range-suc, map_filter_range-passes, map_filter_range-fails}
+use Rattle.pgp_lists.proofs.Ranges.{map_filter_range-passes, map_filter_range-fails}
 use Rattle.pgp_interval.proofs.IntervalLemmas.{members_at-last_place, same-stays, differ-ends}
 
 -- ---- the epochs before the step stay
@@ -53,13 +53,11 @@ opens_at-stepped h members facts (suc place) within = ends_at-stepped h members 
 
 -- ---- tests that agree below a limit
 
-filter_range-agree : (p q : ℕ → Bool) (n : ℕ) → ((k : ℕ) → k < n → p k ≡ q k) → filter p (range_with_len 0 n) ≡ filter q (range_with_len 0 n)
-filter_range-agree p q zero same = refl
-filter_range-agree p q (suc n) same =
-    let rest : filter p (range_with_len 0 n) ≡ filter q (range_with_len 0 n) = filter_range-agree p q n (λ k below. same k (omega arith)) in
-    filter_range-suc p n ∙ ap (λ xs. xs ++ cond (p n) (n ∷ []) []) rest
-    ∙ ap (λ b. filter q (range_with_len 0 n) ++ cond b (n ∷ []) []) (same n (omega arith))
-    ∙ sym (filter_range-suc q n)
+filter_range-agree : (p q : ℕ → Bool) (a n : ℕ) → ((k : ℕ) → k < a + n → p k ≡ q k) → filter p (range_with_len a n) ≡ filter q (range_with_len a n)
+filter_range-agree p q a zero same = refl
+filter_range-agree p q a (suc n) same =
+    let rest : filter p (range_with_len (a + 1) n) ≡ filter q (range_with_len (a + 1) n) = filter_range-agree p q (a + 1) n (λ k below. same k (omega arith)) in
+    λ i. cond (same a (omega arith) i) (a ∷ rest i) (rest i)
 
 map_kept-agree : {X : Type 0} (f g : ℕ → X) (test : ℕ → Bool) (a n : ℕ) → ((k : ℕ) → k < a + n → f k ≡ g k) → map f (filter test (range_with_len a n)) ≡ map g (filter test (range_with_len a n))
 map_kept-agree f g test a zero same = refl
@@ -72,7 +70,7 @@ map_kept-agree f g test a (suc n) same =
 
 opening_of-stepped : {C : Type 0} (h : History C) (members : Membership) (facts : PrimaryFacts) (place : ℕ) → place ≤ last_place h → opening_of (stepped h members facts) place ≡ opening_of h place
 opening_of-stepped h members facts place within =
-    ap (fold max 0) (filter_range-agree (opens_at (stepped h members facts)) (opens_at h) (place + 1)
+    ap (fold max 0) (filter_range-agree (opens_at (stepped h members facts)) (opens_at h) 0 (place + 1)
     (λ k below. opens_at-stepped h members facts k (omega arith)))
 
 -- ---- the past intervals
@@ -84,7 +82,7 @@ past_ending-at enough by_place h members facts place state within at =
 past-stepped : {C : Type 0} (enough : C → List ℕ → Bool) (by_place : C → Bool) (h : History C) (members : Membership) (facts : PrimaryFacts) → map (past_ending enough by_place (stepped h members facts)) (filter (ends_at (stepped h members facts)) (range_with_len 0 (last_place h))) ≡ past_intervals enough by_place h
 past-stepped enough by_place h members facts =
     ap (map (past_ending enough by_place (stepped h members facts)))
-    (filter_range-agree (ends_at (stepped h members facts)) (ends_at h) (last_place h) (λ k below. ends_at-stepped h members facts k below))
+    (filter_range-agree (ends_at (stepped h members facts)) (ends_at h) 0 (last_place h) (λ k below. ends_at-stepped h members facts k (omega arith)))
     ∙ map_kept-agree (past_ending enough by_place (stepped h members facts)) (past_ending enough by_place h) (ends_at h) 0 (last_place h)
     (λ k below. past_ending-at enough by_place h members facts k (state_at h k) (omega arith) (state_at-stepped h members facts k (omega arith)))
 
@@ -131,3 +129,5 @@ current_first-ends h members facts differ =
     let after : History _ = stepped h members facts in
     let opens : opening_of after (last_place h + 1) ≡ last_place h + 1 = opening_of-opens after (last_place h + 1) (opens_at-next after (last_place h) ∙ ends h members facts differ) in
     ap (λ k. h.first + opening_of after k) (length_push h.lived _) ∙ omega arith
+
+pub ruleset step_laws = (past_intervals-continues, current_first-continues, past_intervals-ends)

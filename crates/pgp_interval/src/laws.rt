@@ -38,6 +38,7 @@ pub fn intervals_lie_end_to_end<R: Recoverable>()
 
 /// A step to the same membership continues the current interval. A step to another one makes a past interval of it, and
 /// opens the next. The past intervals stay as they were.
+#[tactic(auto, using(crate::proofs::StepLemmas::step_laws))]
 pub fn a_step_continues_or_ends_the_current_interval<R: Recoverable>()
     ensures continues { (h : History R) (facts : PrimaryFacts)
         → past_intervals R.enough R.by_place (stepped h h.current facts)
