@@ -20,15 +20,15 @@ pub traced_back-more : (x id n p q place : ℕ) → p ≡ q + 1 → traced_back 
 unfolding traced_back
 traced_back-more x id n p q place e = ap (λ (k : ℕ). traced_back x id n k place) (e ∙ add-one q)
 
-pub traced_back-zero : (x id n place : ℕ) → traced_back x id n 0 place ≡ place
+pub traced_back-none : (x id n p place : ℕ) → p ≡ 0 → traced_back x id n p place ≡ place
 unfolding traced_back
-traced_back-zero x id n place = refl
+traced_back-none x id n p place e = ap (λ (k : ℕ). traced_back x id n k place) e
 
 pub uniform_place_is : (x r id n : ℕ) → uniform_place x r id n ≡ traced_back x id n (r % n + 1) (r % n)
 unfolding uniform_place
 uniform_place_is x r id n = refl
 
-pub ruleset shuffle_steps = (traced_back-more, traced_back-zero, uniform_place_is)
+pub ruleset shuffle_steps = (traced_back-more, traced_back-none, uniform_place_is)
 
 -- ---- list buckets
 

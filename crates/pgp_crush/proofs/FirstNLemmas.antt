@@ -4,7 +4,7 @@ use Rattle.std.specs.Option.{option_and_then}
 use Rattle.pgp_crush.specs.declared.candidate.Pick.{Pick}
 use Rattle.pgp_crush.specs.declared.candidate.Candidate.{Candidate}
 use Rattle.pgp_crush.specs.Least.{least_from}
-use Rattle.pgp_crush.specs.Picks.{Picks, no_picks, with_pick}
+use Rattle.pgp_crush.specs.Picks.{Picks, with_pick}
 use Rattle.pgp_crush.specs.Candidate.{Input}
 use Rattle.pgp_crush.specs.FirstN.{is_failure, taken_by, try_of, is_good_try, pick_of, first_picks}
 
@@ -13,10 +13,6 @@ use Rattle.pgp_crush.specs.FirstN.{is_failure, taken_by, try_of, is_good_try, pi
 -- what the tries of a replica from the f-th on give
 abbrev pub from_try : Input → Picks → ℕ → ℕ → ℕ → Option Pick
 from_try i taken rep f left = option_and_then (λ f. taken_by (try_of i rep f)) (least_from (is_good_try i taken rep) f left)
-
-pub pick_of-tries : (i : Input) (taken : Picks) (rep : ℕ) → pick_of i taken rep ≡ from_try i taken rep 0 51
-unfolding pick_of
-pick_of-tries i taken rep = refl
 
 -- one try, and those after it if it is a failure
 pub from_try-more : (i : Input) (taken : Picks) (rep f : ℕ) (c : Candidate) (fails : Bool) → f < 51 → c ≡ try_of i rep f → is_failure taken c ≡ fails
@@ -39,10 +35,6 @@ unfolding least_from
 from_try-end i taken rep f left e = ap (from_try i taken rep f) e
 
 -- ---- the replicas
-
-pub first_picks-zero : (i : Input) → first_picks i 0 ≡ no_picks
-unfolding first_picks
-first_picks-zero i = refl
 
 pub first_picks-more : (i : Input) (rep : ℕ) (taken : Picks) → taken ≡ first_picks i rep → first_picks i (rep + 1) ≡ with_pick taken (pick_of i taken rep)
 unfolding first_picks

@@ -53,3 +53,5 @@ placement-at_most tree rule weights x n = by_rule tree rule.indep
 pub placement-size : (tree : Option (List Bucket)) (rule : Rule) (weights : List ℕ) (x n : ℕ) → rule.indep ≡ true → length (placement tree rule weights x n) ≡ n
 placement-size None rule weights x n e = rw e (length-replicate n None)
 placement-size (Some tree) rule weights x n e = rw e (indep-size (input_of tree weights x rule.leaf) n)
+
+pub ruleset placement_sizes = (placement-at_most, placement-size)

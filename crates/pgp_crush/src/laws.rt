@@ -47,6 +47,7 @@ pub fn list_of_little_weight()
 {}
 
 /// A list bucket whose weights are all 0 but the first always chooses its first item.
+#[tactic(auto, using(crate::proofs::ChoiceLemmas::first_of_all_weight))]
 pub fn first_item_of_all_weight()
     ensures { (x r : ℕ) (b : Bucket) (item : ℤ) (items : List ℤ) (weight : ℕ) (weights : List ℕ) → b.alg ≡ Weighed → b.items ≡ item ∷ items
         → b.weights ≡ weight ∷ weights → All (λ w. w ≡ 0) weights → choice x r b ≡ Some item }
@@ -67,6 +68,7 @@ pub fn placements_are_the_only_ones()
 {}
 
 /// A group has at most as many places as its pool has copies, and in an erasure pool exactly one for each shard.
+#[tactic(auto, using(crate::proofs::PlacementLemmas::placement_sizes))]
 pub fn placements_have_their_size()
     ensures at_most { (tree : Option (List Bucket)) (rule : Rule) (weights : List ℕ) (x n : ℕ)
         → length (placement tree rule weights x n) ≤ n }
@@ -111,6 +113,7 @@ pub fn one_table()
 
 /// In a tree without fault, a way down from any of its buckets comes only to buckets and devices that are there, and more
 /// levels than a way has would lead it no further.
+#[tactic(auto, using(crate::proofs::ReachLemmas::ways_end))]
 pub fn ways_down_end_in_the_tree()
     ensures there { (tree : List Bucket) (x : ℕ) (rank : Rank) (levels : ℕ) (b : Bucket) (s : Step) → tree_fault tree ≡ None → Contains tree b → Contains (path tree x rank levels (Some b)) s → is_known tree s.item ≡ true }
     ensures end { (tree : List Bucket) (x : ℕ) (rank : Rank) (more : ℕ) (b : Bucket) → tree_fault tree ≡ None → Contains tree b → path tree x rank (10 + more) (Some b) ≡ path tree x rank 10 (Some b) }

@@ -44,12 +44,15 @@ impl Taken {
         self.items.contains(&pick.item) || has_leaf(self.leaves.as_slice(), pick.leaf)
     }
 
-    pub(crate) fn push(&mut self, pick: Pick)
+    /// Takes what was found, if something was.
+    pub(crate) fn push(&mut self, found: Option<Pick>)
         requires { length self.old.leaves < 16 }
-        ensures { self.new ≡ with_pick self.old (Some pick) }
+        ensures { self.new ≡ with_pick self.old found }
     {
-        self.items.push(pick.item);
-        self.leaves.push(Some(pick.leaf));
+        if let Some(pick) = found {
+            self.items.push(pick.item);
+            self.leaves.push(Some(pick.leaf));
+        }
     }
 
     pub(crate) fn into_leaves(self) -> Osds

@@ -1,8 +1,8 @@
-use Rattle.std.proofs.Common.{◌≡◌, Option, Some, None, ℕ, map, slice_get, FitsSigned, rules, sym, ap, ◌∙◌, int_eq}
+use Rattle.std.proofs.Common.{map, slice_get, FitsSigned, rules, sym, ap, ◌∙◌}
 use Rattle.std.specs.Int.{w32}
 use Rattle.std.specs.Option.{option_map, option_copied, option_and_then}
 use Rattle.std.proofs.lemmas.Int.{to_z-of_z}
-use Rattle.pgp_crush.specs.Bucket.{bucket_of, place_of}
+use Rattle.pgp_crush.specs.Bucket.{bucket_of}
 use Rattle.pgp_crush.proofs.TreeLemmas.{found_at, got_mapped}
 use Rattle.pgp_crush.proofs.index.find_bucket.Goals as goal
 

@@ -1,4 +1,4 @@
-use Rattle.std.proofs.Common.{◌≡◌, ℕ, List, get_or, set, rules, sym, ap, ◌∙◌}
+use Rattle.std.proofs.Common.{ℕ, List, get_or, set, rules, sym, ap, ◌∙◌}
 use Rattle.std.proofs.lemmas.List.{get_or_read}
 use Rattle.pgp_crush.specs.declared.indep.Cell.{Cell}
 use Rattle.pgp_crush.specs.declared.indep.Cell.TheVariants.{Open}

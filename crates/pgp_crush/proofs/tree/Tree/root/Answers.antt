@@ -1,4 +1,4 @@
-use Rattle.std.proofs.Common.{Some, rules, refl, sym, ap, ◌∙◌}
+use Rattle.std.proofs.Common.{Some, refl, sym, ap, ◌∙◌}
 use Rattle.std.proofs.lemmas.Option.{slice_get-map, slice_get_read}
 use Rattle.std.specs.Option.{option_map}
 use Rattle.pgp_crush.specs.Bucket.{bucket_of}
