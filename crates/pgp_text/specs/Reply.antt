@@ -1,8 +1,5 @@
 -- The text of an answer, and of the answer to a line by what its fault is.
-use Rattle.std.specs.Prelude.{ℕ, List, codes, Some, None, ⊤}
-use Rattle.std.specs.Fmt.{digits}
-use Rattle.std.specs.Str.{is_utf8, chars}
-use Rattle.serde_json.proofs.OnLiterals.{serde_json_on_literals}
+use Rattle.std.specs.Prelude.{ℕ, List, codes, Some, None}
 use Rattle.serde_json.specs.Data.{Data}
 use Rattle.serde_json.specs.Written.{compact_text}
 use Rattle.pgp_lines.specs.LineFault.{LineFault, line_too_long, not_json, no_op, unknown_key, bad_field}
@@ -20,8 +17,3 @@ line_fault_data (bad_field key) = refusal_data 34 (Some key) (codes "BadField") 
 -- the bytes of the answer to a line that has this fault, without a line feed
 abbrev pub fault_text : LineFault → List ℕ
 fault_text fault = compact_text (line_fault_data fault)
-
--- nothing but a name for the list below: a proof that unfolds it sees the answers to faults computed
-unfoldable pub faults_computed : ⊤
-unfolding is_utf8 chars digits serde_json_on_literals
-faults_computed = tt

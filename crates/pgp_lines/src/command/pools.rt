@@ -55,11 +55,10 @@ fn read_pool(value: &Value) -> Option<PoolSpec>
         return None;
     }
     let id = read_pool_id(value.get("id")?)?;
-    let pg_num = read_number(value.get("pg_num")?, 0, u64::from(u16::MAX))?;
     let spread = read_spread(value)?;
     Some(PoolSpec {
         id,
-        pg_num: pg_num as u16,
+        pg_num: spread.pg_num,
         kind,
         size: spread.size,
         min_size: spread.min_size,
@@ -67,9 +66,11 @@ fn read_pool(value: &Value) -> Option<PoolSpec>
     })
 }
 
-/// On how many devices a group lies, with how many of them it may serve, and the type of bucket that keeps them apart.
+/// How many groups a pool is to have, on how many devices each lies, with how many of them it may serve, and the type of
+/// bucket that keeps them apart.
 #[derive(Clone, Copy)]
 struct Spread {
+    pg_num: u16,
     size: u8,
     min_size: u8,
     leaf: u8,
@@ -78,10 +79,12 @@ struct Spread {
 fn read_spread(value: &Value) -> Option<Spread>
     ensures { result ≡ spread_in (view value.now) }
 {
+    let pg_num = read_number(value.get("pg_num")?, 0, u64::from(u16::MAX))?;
     let size = byte_at(value, "size")?;
     let min_size = byte_at(value, "min_size")?;
     let leaf = byte_at(value, "leaf")?;
     Some(Spread {
+        pg_num: pg_num as u16,
         size,
         min_size,
         leaf,
