@@ -1,96 +1,80 @@
--- Fronts of a legal log are legal, and a legal log grows by an entry that fits.
-use Rattle.std.proofs.Common.{◌≡◌, ℕ, zero, suc, ◌+◌, ◌<◌, ◌≤◌, List, [], ◌∷◌, ◌++◌, Option, Some, None, is_none, Bool, true, false, ◌&&◌, length, take, refl, ap, ap₂, sym, ◌∙◌, inl, inr, arith}
-use Rattle.std.specs.List.{list_all, range_with_len, slice_get}
+-- What holds of legal logs.
+use Rattle.std.proofs.Common.{◌≡◌, ℕ, ◌<◌, ◌≤◌, List, [], ◌∷◌, ◌++◌, Option, None, is_none, Bool, true, false, length, take, refl, ap, ap₂, sym, ◌∙◌, inl, inr, arith, length-append}
 use Rattle.std.specs.Option.{option_map_or}
-use Rattle.std.proofs.lemmas.Bool.{cases_lt}
-use Rattle.std.proofs.Math.ListN.{length-append}
+use Rattle.std.proofs.lemmas.Bool.{cases_Bool, true≢false}
+use Rattle.std.proofs.lemmas.List.{take-append-le}
+use Rattle.pgp_lists.proofs.Lists.{get-append}
+use Rattle.pgp_lists.proofs.Options.{none_is}
+use Rattle.pgp_lists.proofs.Taken.{taken-front, taken-induction, taken-last, taken-more, taken-take}
 use Rattle.pgp_ids.specs.declared.entry.Entry.{Entry}
-use Rattle.pgp_refusals.specs.declared.refusal.Refusal.{Refusal}
-use Rattle.pgp_log.specs.Fits.{fits}
-use Rattle.pgp_log.specs.Log.{is_taken_at, is_legal}
+use Rattle.pgp_ids.specs.declared.incremental.Incremental.{Incremental}
+use Rattle.pgp_map.proofs.CheckedLemmas.{front-checked, last-checked}
+use Rattle.pgp_map.specs.Checked.{are_checked}
+use Rattle.pgp_group.proofs.GrowthLemmas.{checked-numbered}
+use Rattle.pgp_group.specs.Entries.{incs_of}
+use Rattle.pgp_group.specs.GroupHistory.{AreNumbered}
+use Rattle.pgp_log.specs.Fits.{fits, is_close, is_closed}
+use Rattle.pgp_log.specs.Log.{is_accepted, is_taken_at, is_legal, EpochsCount}
+use Rattle.pgp_log.proofs.TakeLemmas.{checked-push, closed-push, fits-faultless, fits-open_log, room-push}
 
--- ---- lists
-
-get-append : {X : Type 0} (xs ys : List X) (n : ℕ) → n < length xs → slice_get (xs ++ ys) n ≡ slice_get xs n
-get-append [] ys n below = absurd (omega arith)
-get-append (x ∷ xs) ys zero below = refl
-get-append (x ∷ xs) ys (suc n) below = get-append xs ys n (omega arith)
-
-take-append : {X : Type 0} (xs ys : List X) (n : ℕ) → n ≤ length xs → take n (xs ++ ys) ≡ take n xs
-take-append xs ys zero below = refl
-take-append [] ys (suc n) below = absurd (omega arith)
-take-append (x ∷ xs) ys (suc n) below = ap (λ l. x ∷ l) (take-append xs ys n (omega arith))
-
-take-all : {X : Type 0} (xs ys : List X) → take (length xs) (xs ++ ys) ≡ xs
-take-all [] ys = refl
-take-all (x ∷ xs) ys = ap (λ l. x ∷ l) (take-all xs ys)
-
-get-last : {X : Type 0} (xs : List X) (x : X) → slice_get (xs ++ x ∷ []) (length xs) ≡ Some x
-get-last [] x = refl
-get-last (y ∷ xs) x = get-last xs x
-
-pub length-snoc : {X : Type 0} (xs : List X) (x : X) → length (xs ++ x ∷ []) ≡ suc (length xs)
-length-snoc [] x = refl
-length-snoc (y ∷ xs) x = ap suc (length-snoc xs x)
-
-and_left : (a b : Bool) → (a && b) ≡ true → a ≡ true
-and_left true b both = refl
-and_left false b both = both
-
-and_right : (a b : Bool) → (a && b) ≡ true → b ≡ true
-and_right true b both = both
-and_right false b both = cc
-
-each-range : (test : ℕ → Bool) (a n k : ℕ) → list_all test (range_with_len a n) ≡ true → a ≤ k → k < a + n → test k ≡ true
-each-range test a zero k all from to = absurd (omega arith)
-each-range test a (suc n) k all from to = elim (cases_lt a k) [
-  | inl after ↦ each-range test (a + 1) n k (and_right (test a) _ all) (omega arith) (omega arith)
-  | inr here ↦ let same : a ≡ k = omega arith in ap test (sym same) ∙ and_left (test a) _ all
-]
-
-range-each : (test : ℕ → Bool) (a n : ℕ) → ((k : ℕ) → a ≤ k → k < a + n → test k ≡ true) → list_all test (range_with_len a n) ≡ true
-range-each test a zero each = refl
-range-each test a (suc n) each =
-    rw (each a (omega arith) (omega arith), range-each test (a + 1) n (λ k from to. each k (omega arith) (omega arith))) refl
-
--- ---- what was taken
+-- ---- fronts, and one entry more
 
 pub taken_in_front : (log later : List Entry) (n : ℕ) → n < length log → is_taken_at (log ++ later) n ≡ is_taken_at log n
 taken_in_front log later n below =
-    ap₂ (λ (before : List Entry) (found : Option Entry). option_map_or (λ entry. is_none (fits before entry)) found true)
-    (take-append log later n (omega arith)) (get-append log later n below)
-
-taken_last : (log : List Entry) (new : Entry) → is_taken_at (log ++ new ∷ []) (length log) ≡ is_none (fits log new)
-taken_last log new =
-    ap₂ (λ (before : List Entry) (found : Option Entry). option_map_or (λ entry. is_none (fits before entry)) found true)
-    (take-all log (new ∷ [])) (get-last log new)
-
-pub legal-each : (log : List Entry) → is_legal log ≡ true → (n : ℕ) → n < length log → is_taken_at log n ≡ true
-legal-each log legal n below = each-range (is_taken_at log) 0 (length log) n legal (omega arith) (omega arith)
-
-pub each-legal : (log : List Entry) → ((n : ℕ) → n < length log → is_taken_at log n ≡ true) → is_legal log ≡ true
-each-legal log each = range-each (is_taken_at log) 0 (length log) (λ n from to. each n (omega arith))
+    ap₂ (λ (before : List Entry) (found : Option Entry). option_map_or (is_accepted before) found true)
+    (take-append-le n log later (omega arith)) (get-append log later n below)
 
 pub front-legal : (log later : List Entry) → is_legal (log ++ later) ≡ true → is_legal log ≡ true
-front-legal log later legal =
-    each-legal log (λ n below.
-    let within : n < length (log ++ later) = omega (arith, length-append log later) in
-    sym (taken_in_front log later n below) ∙ legal-each (log ++ later) legal n within)
+front-legal = taken-front is_accepted
 
-none_is : (found : Option Refusal) → is_none found ≡ true → found ≡ None
-none_is None is = refl
-none_is (Some why) is = cc
+pub legal-take : (n : ℕ) (log : List Entry) → is_legal log ≡ true → is_legal (take n log) ≡ true
+legal-take = taken-take is_accepted
 
 pub legal-last : (log : List Entry) (new : Entry) → is_legal (log ++ new ∷ []) ≡ true → fits log new ≡ None
-legal-last log new legal =
-    let within : length log < length (log ++ new ∷ []) = omega (arith, length-snoc log new) in
-    none_is _ (sym (taken_last log new) ∙ legal-each (log ++ new ∷ []) legal (length log) within)
+legal-last log new legal = none_is (fits log new) (taken-last is_accepted log new legal)
 
 pub legal-snoc : (log : List Entry) (new : Entry) → is_legal log ≡ true → fits log new ≡ None → is_legal (log ++ new ∷ []) ≡ true
-legal-snoc log new legal fit =
-    each-legal (log ++ new ∷ []) (λ n below. elim (cases_lt n (length log)) [
-      | inl before ↦ taken_in_front log (new ∷ []) n before ∙ legal-each log legal n before
-      | inr last ↦
-          let here : n ≡ length log = omega (arith, length-snoc log new) in
-          ap (is_taken_at (log ++ new ∷ [])) here ∙ taken_last log new ∙ ap is_none fit
-    ])
+legal-snoc log new legal fit = taken-more is_accepted log new legal (ap is_none fit)
+
+-- what holds of no entries and goes on with each that fits holds of a legal log
+pub legal-induction : (P : List Entry → Type 0) → P []
+    → ((log : List Entry) (new : Entry) → fits log new ≡ None → P log → P (log ++ new ∷ []))
+    → (log : List Entry) → is_legal log ≡ true → P log
+legal-induction P none step =
+    taken-induction is_accepted P none (λ log new legal fit before. step log new (none_is (fits log new) fit) before)
+
+-- ---- its incrementals
+
+pub legal-checked : (log : List Entry) → is_legal log ≡ true → are_checked (incs_of log) ≡ true
+legal-checked = legal-induction (λ log. are_checked (incs_of log) ≡ true) refl
+    (λ log new fit before. checked-push log new before (fits-faultless log new fit))
+
+pub numbered : (incs : List Incremental) → are_checked incs ≡ true → AreNumbered incs
+numbered = checked-numbered front-checked last-checked
+
+pub legal-counts : (log : List Entry) → is_legal log ≡ true → EpochsCount log
+legal-counts log legal = numbered (incs_of log) (legal-checked log legal)
+
+-- ---- its length
+
+-- a log is short, and has room while it is open
+record IsShort (log : List Entry) : Type 0 where
+  few : length log ≤ 65536
+  room : is_closed log ≡ false → length log ≤ 65535
+
+short-push : (log : List Entry) (new : Entry) → fits log new ≡ None → IsShort log → IsShort (log ++ new ∷ [])
+short-push log new fit short =
+    let opened : is_closed log ≡ false = fits-open_log log new fit in
+    let few : length log ≤ 65535 = short.room opened in record {
+      few = omega (arith, few, length-append log (new ∷ []));
+      room = λ still. room-push log new fit (sym (closed-push log new opened) ∙ still);
+    }
+
+legal_short : (log : List Entry) → is_legal log ≡ true → IsShort log
+legal_short = legal-induction IsShort (record { few = omega arith; room = λ opened. omega arith }) short-push
+
+pub legal-short : (log : List Entry) → is_legal log ≡ true → length log ≤ 65536
+legal-short log legal = (legal_short log legal).few
+
+pub open-short : (log : List Entry) → is_legal log ≡ true → is_closed log ≡ false → length log ≤ 65535
+open-short log legal = (legal_short log legal).room

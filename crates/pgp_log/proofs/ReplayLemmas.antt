@@ -1,9 +1,9 @@
 -- What is kept of one group while its log is told again.
-use Rattle.std.proofs.Common.{◌≡◌, ℕ, ◌+◌, ◌<◌, List, [], ◌∷◌, ◌++◌, Option, Some, None, Bool, true, false, nat_eq, nat_lt, option_map, length, take, drop, get_or, refl, ap, sym, ◌∙◌, subst, inl, inr, arith}
+use Rattle.std.proofs.Common.{◌≡◌, ℕ, ◌+◌, ◌<◌, List, [], ◌∷◌, ◌++◌, Option, Some, None, Bool, true, false, nat_eq, nat_lt, option_map, length, map, take, get_or, refl, ap, sym, ◌∙◌, subst, inl, inr, arith}
 use Rattle.std.specs.List.{flat_map}
 use Rattle.std.specs.Option.{option_map_or}
 use Rattle.std.proofs.lemmas.Bool.{cases_Bool, true≢false}
-use Rattle.std.proofs.lemmas.List.{take-append-drop, take_more}
+use Rattle.std.proofs.lemmas.List.{map_more, take_more, take-map}
 use Rattle.pgp_ids.specs.declared.entry.Entry.{Entry}
 use Rattle.pgp_ids.specs.declared.entry.Entry.TheVariants as entry
 use Rattle.pgp_ids.specs.declared.incremental.Incremental.{Incremental}
@@ -11,30 +11,31 @@ use Rattle.pgp_ids.specs.declared.member.Member.{Member}
 use Rattle.pgp_ids.specs.declared.pg_id.PgId.{PgId}
 use Rattle.pgp_ids.specs.declared.pool.PoolSizes.{PoolSizes}
 use Rattle.pgp_ids.specs.declared.pool.PoolSpec.{PoolSpec}
-use Rattle.pgp_refusals.specs.declared.refusal.Refusal.{Refusal}
-use Rattle.pgp_map.proofs.CheckedLemmas.{checked-has_group, checked-more, front-checked, last-checked}
+use Rattle.pgp_ids.specs.declared.refusal.Refusal.{Refusal}
+use Rattle.pgp_map.proofs.CheckedLemmas.{checked-has_group, checked-more}
 use Rattle.pgp_map.specs.Checked.{are_checked}
 use Rattle.pgp_map.specs.Held.{HasGroup}
 use Rattle.pgp_map.specs.Last.{last_where}
 use Rattle.pgp_map.specs.Map.{epoch}
 use Rattle.pgp_map.specs.MapFault.{map_fault, then_with}
 use Rattle.pgp_map.specs.MapOf.{IsMapOf}
-use Rattle.pgp_map.specs.Pools.{with_sizes, has_group, is_same_group}
+use Rattle.pgp_map.specs.Pools.{pool, with_sizes, has_group, is_same_group}
 use Rattle.pgp_map.specs.declared.map.OsdMap.{OsdMap}
 use Rattle.pgp_group.proofs.GroupLemmas.{infos-other, infos-same, reports-other, reports-same}
-use Rattle.pgp_group.proofs.GrowthLemmas.{checked-numbered, epoch-snoc, has_group-grows, history-last, made_at-made, next_epoch}
+use Rattle.pgp_group.proofs.GrowthLemmas.{epoch-snoc, has_group-grows, history-last, made_at-made, next_epoch}
 use Rattle.pgp_group.proofs.Lists.{flat_map-snoc, last_where-none}
 use Rattle.pgp_group.specs.Entries.{inc_of, incs_of}
-use Rattle.pgp_group.specs.GroupHistory.{AreNumbered, makes, made_at}
+use Rattle.pgp_group.specs.GroupHistory.{AreNumbered, history_of, makes, made_at}
 use Rattle.pgp_group.specs.GroupOf.{IsGroupOf, IsSilent, Follows}
-use Rattle.pgp_group.specs.View.{scratch}
+use Rattle.pgp_group.specs.GroupLog.{group_with}
+use Rattle.pgp_group.specs.View.{scratch, view_of}
 use Rattle.pgp_group.specs.declared.group.Group.{Group}
-use Rattle.pgp_log.specs.Fits.{entry_fault}
+use Rattle.pgp_log.specs.Fits.{entry_fault, fits}
 use Rattle.pgp_log.specs.Log.{is_legal}
 use Rattle.pgp_log.specs.Replay.{IsAbsent, IsKept, IsMidway, IsReplayOf}
 use Rattle.pgp_log.specs.ReportFault.{has_unknown_group, report_fault}
 use Rattle.pgp_log.specs.declared.replay.Replay.{Replay}
-use Rattle.pgp_log.proofs.LogLemmas.{front-legal, legal-last}
+use Rattle.pgp_log.proofs.LogLemmas.{legal-take, legal-last, numbered}
 use Rattle.pgp_log.proofs.RawSetLemmas.{same_group}
 use Rattle.pgp_log.proofs.TakeLemmas.{fits-faultless, incs-inc, incs-other}
 
@@ -69,9 +70,6 @@ comes-with_pool incs inc pg absent there = elim (cases_Bool (makes pg.pool inc))
 
 pub made-now : (incs : List Incremental) (inc : Incremental) (pg : PgId) → has_group incs pg ≡ false → has_group (then_with incs inc) pg ≡ true → made_at (then_with incs inc) pg.pool ≡ epoch (then_with incs inc)
 made-now incs inc pg absent there = made_at-made incs inc pg.pool (comes-with_pool incs inc pg absent there) ∙ sym (epoch-snoc incs inc)
-
-pub numbered : (incs : List Incremental) → are_checked incs ≡ true → AreNumbered incs
-numbered = checked-numbered front-checked last-checked
 
 -- ---- the group is absent
 
@@ -236,7 +234,31 @@ take-next {X = X} xs i x within item = take_more xs i x within ∙ ap (λ (y : X
 -- the next entry of a legal log has no fault
 pub next-fits : (log : List Entry) (i : ℕ) (new : Entry) → is_legal log ≡ true → i < length log → new ≡ get_or log i new → entry_fault (take i log) new ≡ None
 next-fits log i new legal within item =
-    let parts : take (i + 1) log ++ drop (i + 1) log ≡ log = take-append-drop (i + 1) log in
-    let front : is_legal (take (i + 1) log) ≡ true = front-legal (take (i + 1) log) (drop (i + 1) log) (ap is_legal parts ∙ legal) in
-    let whole : is_legal (take i log ++ new ∷ []) ≡ true = ap is_legal (sym (take-next log i new within item)) ∙ front in
+    let whole : is_legal (take i log ++ new ∷ []) ≡ true = ap is_legal (sym (take-next log i new within item)) ∙ legal-take (i + 1) log legal in
     fits-faultless (take i log) new (legal-last (take i log) new whole)
+
+-- the same, where each element stands for an entry
+pub map-next : {X : Type 0} (f : X → Entry) (xs : List X) (i : ℕ) (x : X) → i < length xs → x ≡ get_or xs i x → map f (take (i + 1) xs) ≡ map f (take i xs) ++ f x ∷ []
+map-next {X = X} f xs i x within item = map_more f xs i x within ∙ ap (λ (y : X). map f (take i xs) ++ f y ∷ []) (sym item)
+
+pub stands-for-next : {X : Type 0} (f : X → Entry) (xs : List X) (i : ℕ) (x : X) → is_legal (map f xs) ≡ true → i < length xs → x ≡ get_or xs i x → fits (map f (take i xs)) (f x) ≡ None
+stands-for-next f xs i x legal within item =
+    legal-last (map f (take i xs)) (f x)
+    (ap is_legal (sym (map-next f xs i x within item)) ∙ ap is_legal (sym (take-map f (i + 1) xs)) ∙ legal-take (i + 1) (map f xs) legal)
+
+-- ---- there is no view
+
+pooled : (pg : PgId) (incs : List Incremental) (found : Option PoolSpec) → option_map_or (λ made. nat_lt pg.pg made.pg_num) found false ≡ true → option_map (history_of incs pg) found ≡ None → ⊥
+pooled pg incs None has none = cc
+pooled pg incs (Some made) has none = cc
+
+-- a group of which nothing can be said isn't there
+pub scratch-none : (log : List Entry) (pg : PgId) → scratch log pg ≡ None → has_group (incs_of log) pg ≡ false
+scratch-none log pg none = elim (cases_Bool (has_group (incs_of log) pg)) [
+  | inl there ↦ absurd (pooled pg (incs_of log) (pool (incs_of log) pg.pool) there (unmapped (group_with log pg) _ (unmapped view_of _ (rw there at none))))
+  | inr absent ↦ absent
+]
+  where
+    unmapped : {X Y : Type 0} (f : X → Y) (found : Option X) → option_map f found ≡ None → found ≡ None
+    unmapped f None same = refl
+    unmapped f (Some x) same = cc

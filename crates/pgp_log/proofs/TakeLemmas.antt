@@ -1,20 +1,22 @@
 -- What one entry more does to a log.
+use Rattle.std.proofs.Common.{◌≡◌, ◌≢◌, ◌<◌, ◌≤◌, ◌||◌, inl, inr, length-append, append-nil, List, [], ◌∷◌, ◌++◌, Bool, true, false, Option, Some, None, is_some, IfSome, length, nat_le, if◌then◌else◌, refl, sym, ap, ◌∙◌, arith}
+use Rattle.std.specs.Option.{option_map, option_or}
 use Rattle.std.proofs.lemmas.Bool.Decides.{leb_tells}
-use Rattle.std.proofs.Common.{◌≡◌, ◌≢◌, ◌<◌, ◌≤◌, ◌||◌, inl, inr, length-append, List, [], ◌∷◌, ◌++◌, Bool, true, false, Option, Some, None, is_some, IfSome, length, nat_le, if◌then◌else◌, refl, sym, ap, ◌∙◌, arith}
-use Rattle.std.specs.List.{last_or}
-use Rattle.std.specs.Option.{option_map, option_or, option_map_or}
+use Rattle.std.proofs.lemmas.List.Elements.{filter_map-append}
+use Rattle.pgp_lists.proofs.Options.{if_none}
 use Rattle.pgp_ids.specs.declared.entry.Entry.{Entry}
 use Rattle.pgp_ids.specs.declared.entry.Entry.TheVariants as entry
 use Rattle.pgp_ids.specs.declared.incremental.Incremental.{Incremental}
 use Rattle.pgp_refusals.specs.declared.refusal.Refusal.{Refusal}
 use Rattle.pgp_refusals.specs.declared.refusal.Refusal.TheVariants as refusal
 use Rattle.pgp_map.proofs.CheckedLemmas.{checked-more}
+use Rattle.pgp_map.proofs.FaultLemmas.{no_fault}
 use Rattle.pgp_map.specs.Checked.{are_checked}
 use Rattle.pgp_map.specs.FaultNumber.{refusal_of}
 use Rattle.pgp_map.specs.Map.{epoch}
-use Rattle.pgp_map.proofs.FaultLemmas.{no_fault}
 use Rattle.pgp_map.specs.MapFault.{map_fault, given_fault}
 use Rattle.pgp_map.specs.declared.fault.MapFault.{MapFault}
+use Rattle.pgp_group.proofs.GrowthLemmas.{epoch-snoc}
 use Rattle.pgp_group.specs.Entries.{inc_of, incs_of}
 use Rattle.pgp_log.specs.Fits.{is_close, is_closed, entry_fault, full_fault, fits}
 use Rattle.pgp_log.specs.Log.{epoch_of}
@@ -22,35 +24,13 @@ use Rattle.pgp_log.specs.Log.{epoch_of}
 -- ---- its incrementals
 
 pub incs-inc : (log : List Entry) (new : Entry) (inc : Incremental) → inc_of new ≡ Some inc → incs_of (log ++ new ∷ []) ≡ incs_of log ++ inc ∷ []
-incs-inc [] new inc some = rw some refl
-incs-inc (entry.Inc other ∷ log) new inc some = ap (λ rest. other ∷ rest) (incs-inc log new inc some)
-incs-inc (entry.Info info ∷ log) new inc some = incs-inc log new inc some
-incs-inc (entry.Entries report ∷ log) new inc some = incs-inc log new inc some
-incs-inc (entry.Close ∷ log) new inc some = incs-inc log new inc some
+incs-inc log new inc some = filter_map-append inc_of log (new ∷ []) ∙ rw some refl
 
 pub incs-other : (log : List Entry) (new : Entry) → inc_of new ≡ None → incs_of (log ++ new ∷ []) ≡ incs_of log
-incs-other [] new none = rw none refl
-incs-other (entry.Inc other ∷ log) new none = ap (λ rest. other ∷ rest) (incs-other log new none)
-incs-other (entry.Info info ∷ log) new none = incs-other log new none
-incs-other (entry.Entries report ∷ log) new none = incs-other log new none
-incs-other (entry.Close ∷ log) new none = incs-other log new none
-
-pub incs-same : (log : List Entry) (new : Entry) → is_some (inc_of new) ≡ false → incs_of (log ++ new ∷ []) ≡ incs_of log
-incs-same log (entry.Inc inc) none = cc
-incs-same log (entry.Info info) none = incs-other log (entry.Info info) refl
-incs-same log (entry.Entries report) none = incs-other log (entry.Entries report) refl
-incs-same log entry.Close none = incs-other log entry.Close refl
-
-last_of : (first : Incremental) (incs : List Incremental) (inc : Incremental) → last_or None (first ∷ (incs ++ inc ∷ [])) ≡ Some inc
-last_of first [] inc = refl
-last_of first (next ∷ incs) inc = last_of next incs inc
-
-epoch_of_last : (incs : List Incremental) (inc : Incremental) → epoch (incs ++ inc ∷ []) ≡ inc.epoch
-epoch_of_last [] inc = refl
-epoch_of_last (first ∷ incs) inc = ap (λ found. option_map_or (λ (inc : Incremental). inc.epoch) found 0) (last_of first incs inc)
+incs-other log new none = filter_map-append inc_of log (new ∷ []) ∙ rw none (append-nil (incs_of log))
 
 pub epoch-inc : (log : List Entry) (new : Entry) (inc : Incremental) → inc_of new ≡ Some inc → epoch_of (log ++ new ∷ []) ≡ inc.epoch
-epoch-inc log new inc some = ap epoch (incs-inc log new inc some) ∙ epoch_of_last (incs_of log) inc
+epoch-inc log new inc some = ap epoch (incs-inc log new inc some) ∙ epoch-snoc (incs_of log) inc
 
 pub epoch-other : (log : List Entry) (new : Entry) → inc_of new ≡ None → epoch_of (log ++ new ∷ []) ≡ epoch_of log
 epoch-other log new none = ap epoch (incs-other log new none)
@@ -66,16 +46,10 @@ none_right None b none = none
 none_right (Some r) b none = cc
 
 pub fits-open_log : (log : List Entry) (new : Entry) → fits log new ≡ None → is_closed log ≡ false
-fits-open_log log new fit = at (is_closed log) fit where
-  at : (closed : Bool) → (if closed then Some refusal.Closed else option_or (entry_fault log new) (full_fault log new)) ≡ None → closed ≡ false
-  at true fit = cc
-  at false fit = refl
+fits-open_log log new fit = (if_none (is_closed log) refusal.Closed _ fit).0
 
 open_fits : (log : List Entry) (new : Entry) → fits log new ≡ None → option_or (entry_fault log new) (full_fault log new) ≡ None
-open_fits log new fit = at (is_closed log) fit where
-  at : (closed : Bool) → (if closed then Some refusal.Closed else option_or (entry_fault log new) (full_fault log new)) ≡ None → option_or (entry_fault log new) (full_fault log new) ≡ None
-  at true fit = cc
-  at false fit = fit
+open_fits log new fit = (if_none (is_closed log) refusal.Closed _ fit).1
 
 pub fits-faultless : (log : List Entry) (new : Entry) → fits log new ≡ None → entry_fault log new ≡ None
 fits-faultless log new fit = none_left (entry_fault log new) (full_fault log new) (open_fits log new fit)

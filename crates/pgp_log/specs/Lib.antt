@@ -1,6 +1,7 @@
 pub mod ReportFault
 pub mod Fits
 pub mod Log
+pub mod Judge
 pub mod World
 pub mod Touched
 pub mod Locate

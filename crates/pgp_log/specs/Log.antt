@@ -1,8 +1,8 @@
 -- The log of all that monitor and devices told, and its fronts.
-use Rattle.std.specs.Prelude.{map, ◌≡◌, ℕ, List, length, ◌++◌, Bool, true, is_none, slice_get, take}
-use Rattle.std.specs.List.{list_all, range_with_len}
-use Rattle.std.specs.Option.{option_map_or}
+use Rattle.std.specs.Prelude.{map, ◌≡◌, ℕ, List, length, ◌++◌, Bool, is_none, take}
+use Rattle.std.specs.List.{range_with_len}
 use Rattle.pgp_ids.specs.declared.entry.Entry.{Entry}
+use Rattle.pgp_lists.specs.Taken as taken
 use Rattle.pgp_map.specs.Map.{epoch}
 use Rattle.pgp_group.specs.Entries.{incs_of}
 use Rattle.pgp_log.specs.Fits.{fits}
@@ -20,13 +20,17 @@ pub record IsFrontOf (front log : List Entry) : Type 0 where
   pub rest : List Entry
   pub whole : log ≡ front ++ rest
 
+-- the log takes the entry
+abbrev pub is_accepted : List Entry → Entry → Bool
+is_accepted log entry = is_none (fits log entry)
+
 -- the entry at this place was taken by the front before it
 abbrev pub is_taken_at : List Entry → ℕ → Bool
-is_taken_at log n = option_map_or (λ entry. is_none (fits (front n log) entry)) (slice_get log n) true
+is_taken_at log n = taken.is_taken_at is_accepted log n
 
 -- each entry was taken by the front before it
 abbrev pub is_legal : List Entry → Bool
-is_legal log = list_all (is_taken_at log) (range_with_len 0 (length log))
+is_legal log = taken.are_taken is_accepted log
 
 -- the epochs of the log's incrementals are 1, 2, and so on
 abbrev pub EpochsCount : List Entry → Type 0

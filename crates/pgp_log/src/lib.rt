@@ -3,6 +3,7 @@
 #![tactic(auto)]
 
 mod entry;
+mod judge;
 pub mod laws;
 mod locate;
 mod raw_sets;
@@ -10,6 +11,7 @@ mod replay;
 mod report;
 
 pub use entry::{inc_of, is_close};
+pub use judge::Judge;
 pub use locate::group_of;
 pub use raw_sets::RawSets;
 pub use replay::{Replay, replay_of};

@@ -1,4 +1,4 @@
-use Rattle.pgp_log.proofs.EpochLemmas.{legal-counts}
+use Rattle.pgp_log.proofs.LogLemmas.{legal-counts}
 use Rattle.pgp_log.proofs.laws.epochs_of_a_legal_log.Goals as goal
 
 pub returns : goal.returns
