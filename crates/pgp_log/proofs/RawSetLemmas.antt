@@ -1,15 +1,27 @@
 -- The membership of a group from its raw set, and a table of raw sets with one more.
-use Rattle.std.specs.Prelude.{Result, Ok, Err, OnOk, OnErr}
-use Rattle.std.proofs.Common.{◌≡◌, ℕ, List, Bool, true, false, cond, Option, Some, None, IfSome, option_map, refl, sym, ap, ◌∙◌, subst}
-use Rattle.std.proofs.lemmas.Bool.{and_parts, eqb-true}
-use Rattle.std.specs.Prelude.{nat_eq}
+use Rattle.std.specs.HashMap as hash
+use Rattle.std.specs.List.{list_any}
+use Rattle.std.specs.Option.{option_map_or}
+use Rattle.std.specs.Prelude.{Result, Ok, Err, OnOk, OnErr, is_some, length, nat_eq, nat_lt}
+use Rattle.std.proofs.Common.{◌≡◌, ℕ, List, [], ◌∷◌, ◌++◌, Bool, true, false, ◌||◌, cond, Option, Some, None, IfSome, option_map, refl, sym, ap, ◌∙◌, subst, arith}
+use Rattle.std.proofs.lemmas.Bool.{and_parts, or_parts, eqb-true}
+use Rattle.std.proofs.lemmas.Bool.Decides.{nat_tests}
+use Rattle.pgp_ids.specs.declared.entry.Entry.{Entry}
+use Rattle.pgp_ids.specs.declared.entry.Entry.TheVariants as entry
 use Rattle.pgp_ids.specs.declared.incremental.Incremental.{Incremental}
 use Rattle.pgp_ids.specs.declared.membership.Membership.{Membership}
 use Rattle.pgp_ids.specs.declared.pg_id.PgId.{PgId}
+use Rattle.pgp_ids.specs.declared.pool.PoolSizes.{PoolSizes}
 use Rattle.pgp_ids.specs.declared.pool.PoolSpec.{PoolSpec}
+use Rattle.pgp_group.specs.Entries.{inc_of, incs_of}
+use Rattle.pgp_map.specs.MapFault.{then_with}
 use Rattle.pgp_map.specs.Pools.{pool, is_same_group}
-use Rattle.pgp_sets.specs.Sets.{membership, pool_membership, raw_set, without_down, members_from_up}
-use Rattle.pgp_log.specs.RawSets.{IsRawSet}
+use Rattle.pgp_sets.proofs.RawSetLemmas.{raw_set-stays}
+use Rattle.pgp_sets.specs.Sets.{membership, moves, pool_membership, raw_set, without_down, members_from_up}
+use Rattle.pgp_log.specs.Fits.{fits}
+use Rattle.pgp_log.specs.RawSets.{AreRawSets, IsRawSet, moves_any}
+use Rattle.pgp_log.specs.declared.raw_sets.RawSets.{RawSets}
+use Rattle.pgp_log.proofs.TakeLemmas.{faultless-inc, fits-faultless, incs-inc, incs-other}
 
 some_is : {X : Type 0} (x y : X) → Some x ≡ Some y → x ≡ y
 some_is x y same = cc
@@ -45,6 +57,36 @@ with-raw_set incs old new pg raw each is step q = subst (λ (o : Option (List (O
   at : (same : Bool) → (same ≡ true → pg ≡ q) → IfSome (cond same (Some raw) (old q)) (IsRawSet incs q)
   at true law = subst (λ (g : PgId). IsRawSet incs g raw) (law refl) is
   at false law = each q
+
+-- ---- an entry more
+
+-- without sizes no pool has sizes
+unsized : (sizes : List PoolSizes) (id : ℕ) → nat_lt 0 (length sizes) ≡ false → list_any (λ given. nat_eq given.pool id) sizes ≡ false
+unsized [] id none = refl
+unsized (given ∷ sizes) id none = grind (arith, nat_tests)
+
+-- an incremental that moves no group moves none of this pool
+moves_none : (inc : Incremental) (id : ℕ) → moves_any inc ≡ false → moves inc id ≡ false
+moves_none inc id still =
+    let parts = or_parts (is_some inc.crush || nat_lt 0 (length inc.weight)) (nat_lt 0 (length inc.sizes)) still in
+    rw (parts.0, unsized inc.sizes id parts.1) refl
+
+if_some : {X : Type 0} (found : Option X) (P Q : X → Type 0) → ((x : X) → P x → Q x) → IfSome found P → IfSome found Q
+if_some None P Q step here = tt
+if_some (Some x) P Q step here = step x here
+
+-- the raw sets stay those of the map, unless the entry is an incremental that may move groups
+pub sets-stay : (log : List Entry) (new : Entry) (sets : RawSets) → fits log new ≡ None → option_map_or moves_any (inc_of new) false ≡ false
+    → AreRawSets (incs_of log) sets → AreRawSets (incs_of (log ++ new ∷ [])) sets
+sets-stay log (entry.Inc inc) sets fit still are =
+    let fine = faultless-inc log (entry.Inc inc) inc refl (fits-faultless log (entry.Inc inc) fit) in
+    rw (incs-inc log (entry.Inc inc) inc refl) (record {
+      each = λ pg. if_some (hash.get is_same_group sets.known pg) (IsRawSet (incs_of log) pg) (IsRawSet (then_with (incs_of log) inc) pg)
+          (λ places is. raw_set-stays (incs_of log) inc pg places fine (moves_none inc pg.pool still) is) (are.each pg);
+    })
+sets-stay log (entry.Info info) sets fit still are = rw (incs-other log (entry.Info info) refl) are
+sets-stay log (entry.Entries report) sets fit still are = rw (incs-other log (entry.Entries report) refl) are
+sets-stay log entry.Close sets fit still are = rw (incs-other log entry.Close refl) are
 
 -- what follows from each of a call's ends
 pub either-way : {X Y : Type 0} (r : Result X Y) (P Q G : Type 0) → OnOk r P → OnErr r Q → (P → G) → (Q → G) → G

@@ -5,14 +5,14 @@
 mod entry;
 mod judge;
 pub mod laws;
-mod locate;
+mod place;
 mod raw_sets;
 mod replay;
 mod report;
 
 pub use entry::{inc_of, is_close};
 pub use judge::Judge;
-pub use locate::group_of;
+pub use place::{Place, group_of, locate};
 pub use raw_sets::RawSets;
 pub use replay::{Replay, replay_of};
 pub use report::{entries_fault, info_fault};

@@ -1,15 +1,20 @@
 //! The raw sets of placement groups, kept from question to question.
 
-ghost use Rattle.std.specs.Prelude.{◌≡◌, List, [], ◌∷◌, ◌++◌, Some, is_some};
+ghost use Rattle.std.specs.Prelude.{◌≡◌, List, [], ◌∷◌, ◌++◌, Some, None, false};
+ghost use Rattle.std.specs.Option.{option_map_or};
 ghost use Rattle.pgp_ids.specs.declared.entry.Entry.{Entry as AnyEntry};
 ghost use Rattle.pgp_ids.specs.declared.incremental.Incremental.{Incremental as Step};
 ghost use Rattle.pgp_group.specs.Entries.{inc_of, incs_of};
 ghost use Rattle.pgp_map.specs.Held.{HasGroup};
 ghost use Rattle.pgp_map.specs.MapOf.{IsMapOf};
 ghost use Rattle.pgp_sets.specs.Sets.{membership};
-ghost use Rattle.pgp_log.specs.RawSets.{AreRawSets};
+ghost use Rattle.pgp_log.specs.Fits.{fits};
+ghost use Rattle.pgp_log.specs.Locate.{place_of_object, IsCheckedMap};
+ghost use Rattle.pgp_log.specs.RawSets.{AreRawSets, moves_any};
 
-use pgp_ids::{Entry, Membership, Osds, PgId};
+use super::entry::inc_of;
+use super::place::{Place, group_of_object};
+use pgp_ids::{Entry, Membership, ObjectName, Osds, PgId, PoolId};
 use pgp_map::OsdMap;
 use pgp_sets::{filter, raw};
 use std::alloc::Global;
@@ -31,9 +36,10 @@ impl RawSets {
         }
     }
 
-    /// Stays true of the map after an entry that the log takes: where it is an incremental, it may move any group.
+    /// Stays true of the map after an entry that fits. What is kept is given up where the entry may move groups.
     pub fn follow(&mut self, entry: &Entry)
-        ensures { (log : List AnyEntry) → AreRawSets (incs_of log) self.old → AreRawSets (incs_of (log ++ entry.now ∷ [])) self.new }
+        ensures { (log : List AnyEntry) → fits log entry.now ≡ None → AreRawSets (incs_of log) self.old
+            → AreRawSets (incs_of (log ++ entry.now ∷ [])) self.new }
     {
         if may_move(entry) {
             self.clear();
@@ -47,6 +53,19 @@ impl RawSets {
         if !self.known.is_empty() {
             self.known.clear();
         }
+    }
+
+    /// Where the object of this name lies by the map, if the map has the pool. The raw set of its group is kept, where there
+    /// is memory for it.
+    pub fn locate(&mut self, map: &OsdMap, id: PoolId, name: &ObjectName) -> Option<Place>
+        requires { IsCheckedMap map.now }
+        ensures place { (incs : List Step) → IsMapOf incs map.now → AreRawSets incs self.old
+            → result ≡ place_of_object incs id name.now }
+        ensures kept { (incs : List Step) → IsMapOf incs map.now → AreRawSets incs self.old → AreRawSets incs self.new }
+    {
+        let pg = group_of_object(map, id, name)?;
+        let members = self.members(map, &pg);
+        Some(Place { pg, members })
     }
 
     /// Where the group lies by the map. Its raw set is kept, where there is memory for it.
@@ -66,9 +85,12 @@ impl RawSets {
     }
 }
 
-/// The entry is an incremental, which may move any group.
+/// The entry is an incremental that may move groups: it gives a tree, weights, or sizes.
 fn may_move(entry: &Entry) -> bool
-    ensures { result ≡ is_some (inc_of entry.now) }
+    ensures { result ≡ option_map_or moves_any (inc_of entry.now) false }
 {
-    matches!(entry, Entry::Inc(_))
+    match inc_of(entry) {
+        Some(inc) => inc.crush.is_some() || !inc.weight.is_empty() || !inc.sizes.is_empty(),
+        None => false,
+    }
 }

@@ -1,0 +1,65 @@
+//! Where an object lies.
+
+ghost use Rattle.std.specs.Prelude.{◌≡◌, ◌<◌, Some, IfSome, option_map};
+ghost use Rattle.pgp_hash.specs.NameHash.{name_hash};
+ghost use Rattle.pgp_hash.specs.StableMod.{stable_mod};
+ghost use Rattle.pgp_map.specs.Held.{HasGroup};
+ghost use Rattle.pgp_map.specs.MapOf.{Says};
+ghost use Rattle.pgp_log.specs.Locate.{group_of_object, place_with, place_of_object, IsCheckedMap};
+ghost use Rattle.pgp_sets.specs.Sets.{membership};
+
+use pgp_hash::{mask_of, name_hash, stable_mod};
+use pgp_ids::{Membership, ObjectName, PgId, PoolId, PoolSpec};
+use pgp_map::OsdMap;
+use pgp_sets::up_acting;
+
+/// Where an object lies: its group, and where the map puts the group.
+#[derive(Debug, PartialEq, Eq, Drop)]
+pub struct Place {
+    pub pg: PgId,
+    pub members: Membership,
+}
+
+/// Where the object of this name lies by the map, if the map has the pool. It takes no memory.
+pub fn locate(map: &OsdMap, id: PoolId, name: &ObjectName) -> Option<Place>
+    requires { IsCheckedMap map.now }
+    ensures { Says map.now (λ incs. result ≡ place_of_object incs id name.now) }
+{
+    let pg = group_of_object(map, id, name)?;
+    Some(place_of(map, &pg))
+}
+
+/// What lies in the group lies here.
+fn place_of(map: &OsdMap, pg: &PgId) -> Place
+    requires { HasGroup map.now pg.now }
+    ensures { Says map.now (λ incs. option_map (place_with pg.now) (membership incs pg.now) ≡ Some result) }
+{
+    Place {
+        pg: *pg,
+        members: up_acting(map, *pg),
+    }
+}
+
+/// The group in which the object of this name lies, if the map has the pool.
+pub(crate) fn group_of_object(map: &OsdMap, id: PoolId, name: &ObjectName) -> Option<PgId>
+    requires { IsCheckedMap map.now }
+    ensures group { Says map.now (λ incs. result ≡ group_of_object incs id name.now) }
+    ensures there { IfSome result (λ pg. HasGroup map.now pg) }
+{
+    let pool = map.pool(id)?;
+    Some(PgId {
+        pool: id,
+        pg: group_of(name, &pool),
+    })
+}
+
+/// The group, of this pool, in which the object of this name lies.
+pub fn group_of(name: &ObjectName, pool: &PoolSpec) -> u16
+    requires { 0 < pool.now.pg_num }
+    ensures value { result ≡ stable_mod (name_hash name.now) pool.now.pg_num }
+    ensures within { result < pool.now.pg_num }
+{
+    let groups = u32::from(pool.pg_num);
+    let hash = name_hash(name.as_str().as_bytes());
+    stable_mod(hash, groups, mask_of(groups)) as u16
+}
