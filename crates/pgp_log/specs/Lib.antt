@@ -2,6 +2,7 @@ pub mod ReportFault
 pub mod Fits
 pub mod Log
 pub mod Judge
+pub mod Shard
 pub mod World
 pub mod Touched
 pub mod Locate

@@ -1,8 +1,8 @@
 -- A world of one log and several shards, each of which has read a front of it and answers for some of the groups (this
 -- project's own choice).
-use Rattle.std.specs.Prelude.{ℕ, ◌+◌, ◌%◌, List, [], ◌∷◌, ◌++◌, length, min, replicate, slice_index, slice_set, Option, Some, None, Result, Ok, Err}
-use Rattle.pgp_refusals.specs.declared.ask_refusal.AskRefusal.{AskRefusal}
-use Rattle.pgp_refusals.specs.declared.ask_refusal.AskRefusal.TheVariants.{UnknownGroup}
+use Rattle.std.specs.Prelude.{ℕ, ◌+◌, List, [], ◌∷◌, ◌++◌, length, min, replicate, slice_index, slice_set, Option, Some, None, Result, Ok, Err}
+use Rattle.pgp_ids.specs.declared.ask_refusal.AskRefusal.{AskRefusal}
+use Rattle.pgp_ids.specs.declared.ask_refusal.AskRefusal.TheVariants.{UnknownGroup}
 use Rattle.pgp_ids.specs.declared.entry.Entry.{Entry}
 use Rattle.pgp_ids.specs.declared.pg_id.PgId.{PgId}
 use Rattle.pgp_refusals.specs.declared.refusal.Refusal.{Refusal}
@@ -10,6 +10,7 @@ use Rattle.pgp_ids.specs.declared.view.View.{View}
 use Rattle.pgp_group.specs.View.{scratch}
 use Rattle.pgp_log.specs.Fits.{fits}
 use Rattle.pgp_log.specs.Log.{front}
+use Rattle.pgp_log.specs.Shard.{shard_of}
 
 -- the log, and of each shard how many of its entries the shard has read
 pub record World : Type 0 where
@@ -37,10 +38,6 @@ after_submit w entry (Some refusal) = w
 abbrev pub after_absorb : World → ℕ → ℕ → World
 after_absorb w shard count =
     record w { read = slice_set w.read shard (min (slice_index w.read shard + count) (length w.log)) }
-
--- the shard that answers for a group
-abbrev pub shard_of : ℕ → PgId → ℕ
-shard_of shards pg = (pg.pool + pg.pg) % shards
 
 -- what the group's shard has read of the log
 abbrev pub front_of : World → PgId → List Entry

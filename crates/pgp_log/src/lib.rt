@@ -9,6 +9,7 @@ mod place;
 mod raw_sets;
 mod replay;
 mod report;
+mod shard;
 
 pub use entry::{inc_of, is_close};
 pub use judge::Judge;
@@ -16,3 +17,4 @@ pub use place::{Place, group_of, locate};
 pub use raw_sets::RawSets;
 pub use replay::{Replay, replay_of};
 pub use report::{entries_fault, info_fault};
+pub use shard::{ShardState, shard_of};

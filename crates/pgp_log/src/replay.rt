@@ -1,6 +1,7 @@
 //! One group of a log, told again from the log's beginning.
 
-ghost use Rattle.std.specs.Prelude.{◌≡◌, ◌++◌, [], ◌∷◌, List, Some, None, true, length, IfOk, OnOk};
+ghost use Rattle.std.specs.Prelude.{◌≡◌, ◌++◌, [], ◌∷◌, List, Some, None, true, length, map, IfOk, OnOk};
+ghost use Rattle.std.specs.Arc.{arc_value};
 ghost use Rattle.pgp_ids.specs.declared.entry.Entry.{Entry as Told};
 ghost use Rattle.pgp_ids.specs.declared.entry.Entry.TheVariants as entry;
 ghost use Rattle.pgp_ids.specs.declared.incremental.Incremental.{Incremental as Step};
@@ -19,6 +20,7 @@ use pgp_group::Group;
 use pgp_ids::{Entry, Incremental, PgId, View};
 use pgp_map::OsdMap;
 use std::alloc::{AllocError, Global};
+use std::sync::Arc;
 
 /// A group, as the entries so far tell of it.
 ///
@@ -38,6 +40,31 @@ pub struct Replay {
 pub fn replay_of(alloc: Global, entries: &[Entry], pg: &PgId) -> Result<Replay, AllocError>
     requires { is_legal entries.now ≡ true }
     ensures { IfOk result (IsReplayOf entries.now pg.now) }
+{
+    let mut replay = Replay::start(alloc, *pg);
+    for entry in entries {
+        replay.absorb(entry)?;
+    }
+    Ok(replay)
+}
+
+/// All that these entries say of the group, where the map that they make has it.
+pub(crate) fn view_of(
+    alloc: Global,
+    entries: &[Arc<Entry>],
+    pg: &PgId,
+) -> Result<Option<View>, AllocError>
+    requires { is_legal (map arc_value entries.now) ≡ true }
+    ensures { IfOk result (λ view. view ≡ scratch (map arc_value entries.now) pg.now) }
+{
+    let replay = replay_front(alloc, entries, pg)?;
+    replay.view(entries.len())
+}
+
+/// The group in the log of these entries.
+fn replay_front(alloc: Global, entries: &[Arc<Entry>], pg: &PgId) -> Result<Replay, AllocError>
+    requires { is_legal (map arc_value entries.now) ≡ true }
+    ensures { IfOk result (IsReplayOf (map arc_value entries.now) pg.now) }
 {
     let mut replay = Replay::start(alloc, *pg);
     for entry in entries {

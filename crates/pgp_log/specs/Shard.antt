@@ -1,0 +1,22 @@
+-- A shard: the front of the log that it has read, and for which groups it answers (this project's own choice).
+use Rattle.std.specs.Prelude.{ℕ, ◌+◌, ◌%◌, List, [], ◌∷◌, ◌++◌}
+use Rattle.pgp_ids.specs.declared.entry.Entry.{Entry}
+use Rattle.pgp_ids.specs.declared.pg_id.PgId.{PgId}
+
+-- the entries that the shard has read, its number, and how many shards there are
+pub record Shard : Type 0 where
+  pub front : List Entry
+  pub shard : ℕ
+  pub shards : ℕ
+
+-- the shard before it has read anything
+abbrev pub opening_shard : ℕ → ℕ → Shard
+opening_shard shard shards = record { front = []; shard = shard; shards = shards }
+
+-- the shard that has read one entry more
+abbrev pub having_read : Shard → Entry → Shard
+having_read s new = record s { front = s.front ++ new ∷ [] }
+
+-- the number of the shard that answers for a group
+abbrev pub shard_of : ℕ → PgId → ℕ
+shard_of shards pg = (pg.pool + pg.pg) % shards

@@ -1,0 +1,100 @@
+//! One shard: what it has read of the log, and what it answers by that.
+
+ghost use Rattle.std.specs.Prelude.{◌≡◌, ◌<◌, List, [], ◌∷◌, ◌++◌, length, false, None, Some, Err, IfOk, OnOk, OnErr};
+ghost use Rattle.std.specs.Arc.{arc_value};
+ghost use Rattle.pgp_ids.specs.declared.entry.Entry.{Entry as Told};
+ghost use Rattle.pgp_ids.specs.declared.ask_refusal.AskRefusal.TheVariants.{UnknownGroup};
+ghost use Rattle.pgp_map.specs.Pools.{has_group};
+ghost use Rattle.pgp_group.specs.Entries.{incs_of};
+ghost use Rattle.pgp_group.specs.View.{scratch};
+ghost use Rattle.pgp_log.specs.Fits.{fits};
+ghost use Rattle.pgp_log.specs.Shard.{opening_shard, having_read, shard_of};
+
+use super::replay::view_of;
+use pgp_ids::{AskRefusal, Entry, PgId, View};
+use std::alloc::{AllocError, Global};
+use std::marker::Model;
+use std::sync::Arc;
+
+/// The front of the log that one of several shards has read. It answers for its own groups alone.
+#[derive(Debug, Drop)]
+pub struct ShardState {
+    alloc: Global,
+    shard: usize,
+    shards: usize,
+    front: Vec<Arc<Entry>>,
+}
+
+impl Model for ShardState {
+    ghost use Rattle.std.specs.Prelude.{◌≡◌, true, map};
+    ghost use Rattle.std.specs.Arc.{arc_value};
+    ghost use Rattle.pgp_log.specs.Log.{is_legal};
+    ghost use Rattle.pgp_log.specs.Shard.{Shard};
+
+    ghost Value = { Shard };
+
+    ghost view = { λ s. record { front = map arc_value s.front.items; shard = s.shard; shards = s.shards } };
+
+    ghost invariant = { λ s. is_legal (map arc_value s.front.items) ≡ true };
+}
+
+impl ShardState {
+    /// A shard that has read nothing. It takes no memory.
+    pub fn start(alloc: Global, shard: usize, shards: usize) -> Self
+        ensures { result ≡ opening_shard shard shards }
+    {
+        ShardState {
+            alloc,
+            shard,
+            shards,
+            front: Vec::new(alloc),
+        }
+    }
+
+    /// How many entries it has read.
+    pub fn count(&self) -> usize
+        ensures { result ≡ length self.now.front }
+    {
+        self.front.len()
+    }
+
+    /// Reads the next entry. Without memory for it, the shard has read what it had before.
+    pub fn absorb(&mut self, entry: &Arc<Entry>) -> Result<(), AllocError>
+        requires { fits self.old.front (arc_value entry.now) ≡ None }
+        ensures ok { OnOk result (self.new ≡ having_read self.old (arc_value entry.now)) }
+        ensures err { OnErr result (self.new ≡ self.old) }
+    {
+        self.front.push(Arc::try_clone(entry)?)?;
+        Ok(())
+    }
+
+    /// Gives the last entry up, where its reader had no memory for what goes with it.
+    pub fn retract(&mut self)
+        ensures { (before : List Told) (last : Told) → self.old.front ≡ before ++ last ∷ [] → self.new ≡ record self.old { front = before } }
+    {
+        let _last = self.front.pop();
+    }
+
+    /// All that the shard has read says of one of its groups. `UnknownGroup` comes only where it has no such group, else
+    /// `Memory`. What the shard has read stays.
+    pub fn ask(&mut self, pg: PgId) -> Result<View, AskRefusal>
+        requires { shard_of self.old.shards pg ≡ self.old.shard }
+        ensures ok { IfOk result (λ view. scratch self.old.front pg ≡ Some view) }
+        ensures unknown { result ≡ Err UnknownGroup → has_group (incs_of self.old.front) pg ≡ false }
+        ensures same { self.new ≡ self.old }
+    {
+        match view_of(self.alloc, self.front.as_slice(), &pg)? {
+            Some(view) => Ok(view),
+            None => Err(AskRefusal::UnknownGroup),
+        }
+    }
+}
+
+/// The shard, of this many, that answers for the group.
+pub fn shard_of(shards: usize, pg: &PgId) -> usize
+    requires { 0 < shards }
+    ensures number { result ≡ shard_of shards pg.now }
+    ensures within { result < shards }
+{
+    (usize::from(pg.pool.number()) + usize::from(pg.pg)) % shards
+}
