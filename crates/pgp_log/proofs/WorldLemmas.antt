@@ -1,11 +1,15 @@
--- A world's log stays legal.
-use Rattle.std.proofs.Common.{◌≡◌, Option, Some, None, true, refl}
+-- What becomes of a world's log.
+use Rattle.std.proofs.Common.{◌≡◌, List, [], ◌∷◌, ◌++◌, ◌⊎◌, inl, inr, Option, Some, None, Bool, true, false, ◌||◌, refl, sym, ap, ap₂, ◌∙◌, append-nil, append_assoc, subst}
+use Rattle.std.specs.List.{list_any}
+use Rattle.std.proofs.lemmas.Bool.{or_parts, true≢false}
 use Rattle.pgp_ids.specs.declared.entry.Entry.{Entry}
 use Rattle.pgp_refusals.specs.declared.refusal.Refusal.{Refusal}
 use Rattle.pgp_log.specs.Fits.{fits}
 use Rattle.pgp_log.specs.Log.{is_legal}
-use Rattle.pgp_log.specs.World.{World, Step, after, after_submit}
+use Rattle.pgp_log.specs.World.{World, Step, Reply, after, after_all, after_submit, replies, reply_to, submit_reply}
 use Rattle.pgp_log.specs.World.Step.{Submit, Absorb, Ask}
+use Rattle.pgp_log.specs.World.Reply.{Submitted, Absorbed, Asked}
+use Rattle.pgp_log.specs.WorldRun.{IsTaken, IsWanting, MayReply, MayRun, is_want, taken_at, taken_of}
 use Rattle.pgp_log.proofs.LogLemmas.{legal-snoc}
 
 submit-legal : (w : World) (new : Entry) (why : Option Refusal) → fits w.log new ≡ why → is_legal w.log ≡ true → is_legal (after_submit w new why).log ≡ true
@@ -16,3 +20,72 @@ pub step-legal : (w : World) (step : Step) → is_legal w.log ≡ true → is_le
 step-legal w (Submit new) legal = submit-legal w new (fits w.log new) refl legal
 step-legal w (Absorb shard count) legal = legal
 step-legal w (Ask pg) legal = legal
+
+-- ---- a step that may want memory
+
+wanting-legal : (w next : World) (step : Step) (reply : Reply) → IsWanting w step reply next → is_legal w.log ≡ true → is_legal next.log ≡ true
+wanting-legal w next (Submit new) reply is legal = ap (λ (v : World). is_legal v.log) is.1 ∙ legal
+wanting-legal w next (Absorb shard count) reply is legal = ap (λ (v : World). is_legal v.log) is.1.next_is ∙ legal
+wanting-legal w next (Ask pg) reply is legal = ap (λ (v : World). is_legal v.log) is.1 ∙ legal
+
+reply-legal : (w next : World) (step : Step) (reply : Reply) → MayReply w step reply next → is_legal w.log ≡ true → is_legal next.log ≡ true
+reply-legal w next step reply (inl is) legal = ap (λ (v : World). is_legal v.log) is.next_is ∙ step-legal w step legal
+reply-legal w next step reply (inr is) legal = wanting-legal w next step reply is legal
+
+-- what it wants of memory, it says
+wanting-says : (w next : World) (step : Step) (reply : Reply) → IsWanting w step reply next → is_want reply ≡ true
+wanting-says w next (Submit new) reply is = ap is_want is.0
+wanting-says w next (Absorb shard count) reply is = ap is_want is.0
+wanting-says w next (Ask pg) reply is = ap is_want is.0
+
+-- the log grows by what it says to have taken
+submit-log : (w : World) (new : Entry) (why : Option Refusal) → (after_submit w new why).log ≡ w.log ++ taken_at (Submit new) (Submitted (submit_reply w why))
+submit-log w new None = refl
+submit-log w new (Some refused) = sym (append-nil w.log)
+
+step-log : (w : World) (step : Step) → (after w step).log ≡ w.log ++ taken_at step (reply_to w step)
+step-log w (Submit new) = submit-log w new (fits w.log new)
+step-log w (Absorb shard count) = sym (append-nil w.log)
+step-log w (Ask pg) = sym (append-nil w.log)
+
+wanting-log : (w next : World) (step : Step) (reply : Reply) → IsWanting w step reply next → next.log ≡ w.log ++ taken_at step reply
+wanting-log w next (Submit new) reply is = ap (λ (v : World). v.log) is.1 ∙ sym (append-nil w.log) ∙ ap (λ r. w.log ++ taken_at (Submit new) r) (sym is.0)
+wanting-log w next (Absorb shard count) reply is = ap (λ (v : World). v.log) is.1.next_is ∙ sym (append-nil w.log)
+wanting-log w next (Ask pg) reply is = ap (λ (v : World). v.log) is.1 ∙ sym (append-nil w.log)
+
+reply-log : (w next : World) (step : Step) (reply : Reply) → MayReply w step reply next → next.log ≡ w.log ++ taken_at step reply
+reply-log w next step reply (inl is) = ap (λ (v : World). v.log) is.next_is ∙ step-log w step ∙ ap (λ r. w.log ++ taken_at step r) (sym is.reply_is)
+reply-log w next step reply (inr is) = wanting-log w next step reply is
+
+-- ---- runs
+
+pub run-legal : (w last : World) (steps : List Step) (given : List Reply) → MayRun w steps given last → is_legal w.log ≡ true → is_legal last.log ≡ true
+run-legal w last [] [] is legal = ap (λ (v : World). is_legal v.log) is ∙ legal
+run-legal w last [] (reply ∷ given) is legal = absurd is
+run-legal w last (step ∷ steps) [] is legal = absurd is
+run-legal w last (step ∷ steps) (reply ∷ given) is legal = run-legal is.0 last steps given is.1.1 (reply-legal w is.0 step reply is.1.0 legal)
+
+pub run-log : (w last : World) (steps : List Step) (given : List Reply) → MayRun w steps given last → last.log ≡ w.log ++ taken_of steps given
+run-log w last [] [] is = ap (λ (v : World). v.log) is ∙ sym (append-nil w.log)
+run-log w last [] (reply ∷ given) is = absurd is
+run-log w last (step ∷ steps) [] is = absurd is
+run-log w last (step ∷ steps) (reply ∷ given) is =
+    run-log is.0 last steps given is.1.1 ∙ ap (λ l. l ++ taken_of steps given) (reply-log w is.0 step reply is.1.0)
+    ∙ append_assoc w.log (taken_at step reply) (taken_of steps given)
+
+taken_if : (w next : World) (step : Step) (reply : Reply) → MayReply w step reply next → is_want reply ≡ false → IsTaken w step reply next
+taken_if w next step reply (inl is) other = is
+taken_if w next step reply (inr is) other = absurd (true≢false (sym (wanting-says w next step reply is) ∙ other))
+
+pub run-answers : (w last : World) (steps : List Step) (given : List Reply) → MayRun w steps given last → list_any is_want given ≡ false
+    → (given ≡ replies w steps) × (last ≡ after_all w steps)
+run-answers w last [] [] is other = (refl, is)
+run-answers w last [] (reply ∷ given) is other = absurd is
+run-answers w last (step ∷ steps) [] is other = absurd is
+run-answers w last (step ∷ steps) (reply ∷ given) is other =
+    let parts = or_parts (is_want reply) (list_any is_want given) other in
+    let first : IsTaken w step reply is.0 = taken_if w is.0 step reply is.1.0 parts.0 in
+    let rest = run-answers is.0 last steps given is.1.1 parts.1 in (
+      ap₂ (λ (r : Reply) (l : List Reply). r ∷ l) first.reply_is (rest.0 ∙ ap (λ (v : World). replies v steps) first.next_is),
+      rest.1 ∙ ap (λ (v : World). after_all v steps) first.next_is,
+    )

@@ -4,6 +4,7 @@ pub mod Log
 pub mod Judge
 pub mod Shard
 pub mod World
+pub mod WorldRun
 pub mod Touched
 pub mod Locate
 pub mod RawSets

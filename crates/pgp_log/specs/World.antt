@@ -1,6 +1,7 @@
 -- A world of one log and several shards, each of which has read a front of it and answers for some of the groups (this
 -- project's own choice).
 use Rattle.std.specs.Prelude.{ℕ, ◌+◌, List, [], ◌∷◌, ◌++◌, length, min, replicate, slice_index, slice_set, Option, Some, None, Result, Ok, Err}
+use Rattle.std.specs.declared.alloc.AllocError.{AllocError}
 use Rattle.pgp_ids.specs.declared.ask_refusal.AskRefusal.{AskRefusal}
 use Rattle.pgp_ids.specs.declared.ask_refusal.AskRefusal.TheVariants.{UnknownGroup}
 use Rattle.pgp_ids.specs.declared.entry.Entry.{Entry}
@@ -58,15 +59,15 @@ pub data Step : Type 0 where
   Absorb : (shard count : ℕ) → Step
   Ask : PgId → Step
 
--- what a step is answered: the new length of the log or a refusal, nothing, or a view or a refusal
+-- what a step is answered: the new length of the log or a refusal, that the shard has read, or a view or a refusal
 pub data Reply : Type 0 where
   Submitted : Result ℕ Refusal → Reply
-  Absorbed : Reply
+  Absorbed : Result (Unit {0}) AllocError → Reply
   Asked : Result View AskRefusal → Reply
 
 abbrev pub reply_to : World → Step → Reply
 reply_to w (Submit entry) = Submitted (submit_reply w (fits w.log entry))
-reply_to w (Absorb shard count) = Absorbed
+reply_to w (Absorb shard count) = Absorbed (Ok tt)
 reply_to w (Ask pg) = Asked (ask_reply w pg)
 
 abbrev pub after : World → Step → World
@@ -78,3 +79,8 @@ after w (Ask pg) = w
 abbrev pub replies : World → List Step → List Reply
 replies w [] = []
 replies w (step ∷ steps) = reply_to w step ∷ replies (after w step) steps
+
+-- the world after a list of steps
+abbrev pub after_all : World → List Step → World
+after_all w [] = w
+after_all w (step ∷ steps) = after_all (after w step) steps

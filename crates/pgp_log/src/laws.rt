@@ -9,12 +9,17 @@ ghost use Rattle.pgp_refusals.specs.declared.refusal.Refusal.{Refusal};
 ghost use Rattle.pgp_refusals.specs.declared.refusal.Refusal.TheVariants as refusal;
 ghost use Rattle.pgp_map.specs.Examples.{empty_step, boot};
 ghost use Rattle.pgp_sets.specs.Examples.{copies_group, shards_group, of_weight, copies_on_three, take_down, resize};
+ghost use Rattle.std.specs.List.{list_any};
+ghost use Rattle.pgp_map.specs.Checked.{are_checked};
 ghost use Rattle.pgp_sets.specs.Sets.{membership};
+ghost use Rattle.pgp_group.specs.Entries.{incs_of};
 ghost use Rattle.pgp_group.specs.View.{scratch};
 ghost use Rattle.pgp_group.specs.Examples.{at, in_slot, copy, copy_up_to, shard, known_up, maps, on_three, two_shards_down, entries_of_first, modify, before_serving, until_serving};
 ghost use Rattle.pgp_log.specs.Fits.{fits, entry_fault, is_close, is_closed};
 ghost use Rattle.pgp_log.specs.Log.{is_taken_at, is_legal, EpochsCount};
-ghost use Rattle.pgp_log.specs.World.{World, Step, opening, after, replies, view_reply};
+ghost use Rattle.pgp_log.specs.Shard.{shard_of};
+ghost use Rattle.pgp_log.specs.World.{World, Step, Reply, opening, after, after_all, replies, view_reply};
+ghost use Rattle.pgp_log.specs.WorldRun.{MayRun, is_want, taken_of};
 ghost use Rattle.pgp_log.specs.World.Step.{Submit, Absorb, Ask};
 ghost use Rattle.pgp_log.specs.World.Reply.{Submitted, Absorbed, Asked};
 ghost use Rattle.pgp_log.specs.Touched.{is_touched};
@@ -55,9 +60,27 @@ pub fn epochs_of_a_legal_log()
     ensures { (log : List Entry) → is_legal log ≡ true → EpochsCount log }
 {}
 
+/// A legal log is of checked incrementals, and has at most one entry more than it takes before a Close.
+pub fn legal_logs_are_checked_and_short()
+    ensures checked { (log : List Entry) → is_legal log ≡ true → are_checked (incs_of log) ≡ true }
+    ensures short { (log : List Entry) → is_legal log ≡ true → length log ≤ 65536 }
+    ensures room { (log : List Entry) → is_legal log ≡ true → is_closed log ≡ false → length log ≤ 65535 }
+{}
+
 /// The log of a world stays legal.
 pub fn world_stays_legal()
     ensures { (w : World) (step : Step) → is_legal w.log ≡ true → is_legal (after w step).log ≡ true }
+{}
+
+/// A run in which no step wants memory is answered as the definition says. In each run the log grows by the entries whose
+/// submit was answered with a length, in their order, and by nothing else; and it stays legal.
+pub fn runs_of_a_world()
+    ensures answers { (w last : World) (steps : List Step) (given : List Reply) → MayRun w steps given last
+        → list_any is_want given ≡ false → (given ≡ replies w steps) × (last ≡ after_all w steps) }
+    ensures log { (w last : World) (steps : List Step) (given : List Reply) → MayRun w steps given last
+        → last.log ≡ w.log ++ taken_of steps given }
+    ensures legal { (w last : World) (steps : List Step) (given : List Reply) → MayRun w steps given last
+        → is_legal w.log ≡ true → is_legal last.log ≡ true }
 {}
 
 /// The first incremental leads to epoch 1.
@@ -176,7 +199,18 @@ pub fn group_comes_to_serve()
     ensures { replies (opening 1) (submits before_serving ++ Absorb 0 9 ∷ Ask copies_group
         ∷ Submit (entry.Inc (known_up 2 0 1)) ∷ Ask copies_group ∷ Absorb 0 1 ∷ Ask copies_group ∷ [])
         ≡ Submitted (Ok 1) ∷ Submitted (Ok 2) ∷ Submitted (Ok 3) ∷ Submitted (Ok 4) ∷ Submitted (Ok 5)
-        ∷ Absorbed ∷ Asked (view_reply (scratch before_serving copies_group))
+        ∷ Absorbed (Ok tt) ∷ Asked (view_reply (scratch before_serving copies_group))
         ∷ Submitted (Ok 6) ∷ Asked (view_reply (scratch before_serving copies_group))
-        ∷ Absorbed ∷ Asked (view_reply (scratch until_serving copies_group)) ∷ [] }
+        ∷ Absorbed (Ok tt) ∷ Asked (view_reply (scratch until_serving copies_group)) ∷ [] }
+{}
+
+/// The same in a world of two shards: the group's shard, the second one, has read nothing where the first alone has read.
+pub fn group_asks_its_own_shard()
+    ensures number { shard_of 2 copies_group ≡ 1 }
+    ensures replies { replies (opening 2) (submits before_serving ++ Absorb 0 9 ∷ Ask copies_group ∷ Absorb 1 9 ∷ Ask copies_group
+        ∷ Submit (entry.Inc (known_up 2 0 1)) ∷ Absorb 0 1 ∷ Ask copies_group ∷ Absorb 1 1 ∷ Ask copies_group ∷ [])
+        ≡ Submitted (Ok 1) ∷ Submitted (Ok 2) ∷ Submitted (Ok 3) ∷ Submitted (Ok 4) ∷ Submitted (Ok 5)
+        ∷ Absorbed (Ok tt) ∷ Asked (Err ask.UnknownGroup) ∷ Absorbed (Ok tt) ∷ Asked (view_reply (scratch before_serving copies_group))
+        ∷ Submitted (Ok 6) ∷ Absorbed (Ok tt) ∷ Asked (view_reply (scratch before_serving copies_group))
+        ∷ Absorbed (Ok tt) ∷ Asked (view_reply (scratch until_serving copies_group)) ∷ [] }
 {}
