@@ -1,4 +1,5 @@
 pub mod FitsLemmas
+pub mod SharedLemmas
 pub mod WorldLemmas
 pub mod TakeLemmas
 pub mod LogLemmas

@@ -1,9 +1,9 @@
 -- What is kept of one group while its log is told again.
-use Rattle.std.proofs.Common.{◌≡◌, ℕ, ◌+◌, ◌<◌, List, [], ◌∷◌, ◌++◌, Option, Some, None, Bool, true, false, nat_eq, nat_lt, option_map, length, map, take, get_or, refl, ap, sym, ◌∙◌, subst, inl, inr, arith}
+use Rattle.std.proofs.Common.{◌≡◌, ℕ, ◌+◌, ◌<◌, List, [], ◌∷◌, ◌++◌, Option, Some, None, Bool, true, false, nat_eq, nat_lt, option_map, length, take, get_or, refl, ap, sym, ◌∙◌, subst, inl, inr, arith}
 use Rattle.std.specs.List.{flat_map}
 use Rattle.std.specs.Option.{option_map_or}
 use Rattle.std.proofs.lemmas.Bool.{cases_Bool, true≢false}
-use Rattle.std.proofs.lemmas.List.{map_more, take_more, take-map}
+use Rattle.std.proofs.lemmas.List.{take_more}
 use Rattle.pgp_ids.specs.declared.entry.Entry.{Entry}
 use Rattle.pgp_ids.specs.declared.entry.Entry.TheVariants as entry
 use Rattle.pgp_ids.specs.declared.incremental.Incremental.{Incremental}
@@ -30,7 +30,7 @@ use Rattle.pgp_group.specs.GroupOf.{IsGroupOf, IsSilent, Follows}
 use Rattle.pgp_group.specs.GroupLog.{group_with}
 use Rattle.pgp_group.specs.View.{scratch, view_of}
 use Rattle.pgp_group.specs.declared.group.Group.{Group}
-use Rattle.pgp_log.specs.Fits.{entry_fault, fits}
+use Rattle.pgp_log.specs.Fits.{entry_fault}
 use Rattle.pgp_log.specs.Log.{is_legal}
 use Rattle.pgp_log.specs.Replay.{IsAbsent, IsKept, IsMidway, IsReplayOf}
 use Rattle.pgp_log.specs.ReportFault.{has_unknown_group, report_fault}
@@ -236,15 +236,6 @@ pub next-fits : (log : List Entry) (i : ℕ) (new : Entry) → is_legal log ≡ 
 next-fits log i new legal within item =
     let whole : is_legal (take i log ++ new ∷ []) ≡ true = ap is_legal (sym (take-next log i new within item)) ∙ legal-take (i + 1) log legal in
     fits-faultless (take i log) new (legal-last (take i log) new whole)
-
--- the same, where each element stands for an entry
-pub map-next : {X : Type 0} (f : X → Entry) (xs : List X) (i : ℕ) (x : X) → i < length xs → x ≡ get_or xs i x → map f (take (i + 1) xs) ≡ map f (take i xs) ++ f x ∷ []
-map-next {X = X} f xs i x within item = map_more f xs i x within ∙ ap (λ (y : X). map f (take i xs) ++ f y ∷ []) (sym item)
-
-pub stands-for-next : {X : Type 0} (f : X → Entry) (xs : List X) (i : ℕ) (x : X) → is_legal (map f xs) ≡ true → i < length xs → x ≡ get_or xs i x → fits (map f (take i xs)) (f x) ≡ None
-stands-for-next f xs i x legal within item =
-    legal-last (map f (take i xs)) (f x)
-    (ap is_legal (sym (map-next f xs i x within item)) ∙ ap is_legal (sym (take-map f (i + 1) xs)) ∙ legal-take (i + 1) (map f xs) legal)
 
 -- ---- there is no view
 

@@ -1,5 +1,5 @@
 -- A shard: the front of the log that it has read, and for which groups it answers (this project's own choice).
-use Rattle.std.specs.Prelude.{ℕ, ◌+◌, ◌%◌, List, [], ◌∷◌, ◌++◌}
+use Rattle.std.specs.Prelude.{◌≡◌, ℕ, ◌+◌, ◌%◌, ◌<◌, List, [], ◌∷◌, ◌++◌, length, take}
 use Rattle.pgp_ids.specs.declared.entry.Entry.{Entry}
 use Rattle.pgp_ids.specs.declared.pg_id.PgId.{PgId}
 
@@ -16,6 +16,16 @@ opening_shard shard shards = record { front = []; shard = shard; shards = shards
 -- the shard that has read one entry more
 abbrev pub having_read : Shard → Entry → Shard
 having_read s new = record s { front = s.front ++ new ∷ [] }
+
+-- the shard that has read these entries more
+abbrev pub having_read_all : Shard → List Entry → Shard
+having_read_all s news = record s { front = s.front ++ news }
+
+-- the shard has read some of these entries more, and not all
+pub record HasReadSome (s : Shard) (news : List Entry) (after : Shard) : Type 0 where
+  pub read : ℕ
+  pub fewer : read < length news
+  pub after_is : after ≡ having_read_all s (take read news)
 
 -- the number of the shard that answers for a group
 abbrev pub shard_of : ℕ → PgId → ℕ

@@ -1,6 +1,6 @@
 //! One shard: what it has read of the log, and what it answers by that.
 
-ghost use Rattle.std.specs.Prelude.{◌≡◌, ◌<◌, List, [], ◌∷◌, ◌++◌, length, false, None, Some, Err, IfOk, OnOk, OnErr};
+ghost use Rattle.std.specs.Prelude.{◌≡◌, ◌<◌, List, [], ◌∷◌, ◌++◌, length, map, false, true, None, Some, Err, IfOk, OnOk, OnErr};
 ghost use Rattle.std.specs.Arc.{arc_value};
 ghost use Rattle.pgp_ids.specs.declared.entry.Entry.{Entry as Told};
 ghost use Rattle.pgp_ids.specs.declared.ask_refusal.AskRefusal.TheVariants.{UnknownGroup};
@@ -8,7 +8,8 @@ ghost use Rattle.pgp_map.specs.Pools.{has_group};
 ghost use Rattle.pgp_group.specs.Entries.{incs_of};
 ghost use Rattle.pgp_group.specs.View.{scratch};
 ghost use Rattle.pgp_log.specs.Fits.{fits};
-ghost use Rattle.pgp_log.specs.Shard.{opening_shard, having_read, shard_of};
+ghost use Rattle.pgp_log.specs.Log.{is_legal};
+ghost use Rattle.pgp_log.specs.Shard.{opening_shard, having_read, having_read_all, HasReadSome, shard_of};
 
 use super::replay::view_of;
 use pgp_ids::{AskRefusal, Entry, PgId, View};
@@ -65,6 +66,18 @@ impl ShardState {
         ensures err { OnErr result (self.new ≡ self.old) }
     {
         self.front.push(Arc::try_clone(entry)?)?;
+        Ok(())
+    }
+
+    /// Reads these entries, which come next. Without memory for one of them, the shard has read those before it.
+    pub fn absorb_all(&mut self, entries: &[Arc<Entry>]) -> Result<(), AllocError>
+        requires { is_legal (self.old.front ++ map arc_value entries.now) ≡ true }
+        ensures ok { OnOk result (self.new ≡ having_read_all self.old (map arc_value entries.now)) }
+        ensures err { OnErr result (HasReadSome self.old (map arc_value entries.now) self.new) }
+    {
+        for entry in entries {
+            self.absorb(entry)?;
+        }
         Ok(())
     }
 

@@ -1,8 +1,8 @@
-use Rattle.std.proofs.Common.{map, take, sym, subst}
+use Rattle.std.proofs.Common.{[], map, take, sym, subst}
 use Rattle.std.specs.Arc.{arc_value}
 use Rattle.pgp_log.specs.Fits.{entry_fault}
 use Rattle.pgp_log.specs.Replay.{CanTake, IsReplayOf}
-use Rattle.pgp_log.proofs.ReplayLemmas.{map-next, stands-for-next}
+use Rattle.pgp_log.proofs.SharedLemmas.{map-next, next-of-legal}
 use Rattle.pgp_log.proofs.TakeLemmas.{fits-faultless}
 use Rattle.pgp_log.proofs.replay.replay_front.Goals as goal
 
@@ -15,7 +15,7 @@ absorb-requires c =
       pg = c.args.pg.now;
       is = c.loop-entry.invariant;
       fits = fits-faultless (map arc_value (take i shared)) (arc_value c.entry-item.result)
-          (stands-for-next arc_value shared i c.entry-item.result c.requires c.loop-entry-test.true c.entry-item.is);
+          (next-of-legal [] arc_value shared i c.entry-item.result c.requires c.loop-entry-test.true c.entry-item.is);
     })
 
 pub loop-entry-preserved : goal.loop-entry-preserved
@@ -24,6 +24,6 @@ loop-entry-preserved c =
     let i = c.loop-entry.entry-index in
     let new = c.entry-item.result in
     let log = map arc_value (take i shared) in
-    let fine = fits-faultless log (arc_value new) (stands-for-next arc_value shared i new c.requires c.loop-entry-test.true c.entry-item.is) in
+    let fine = fits-faultless log (arc_value new) (next-of-legal [] arc_value shared i new c.requires c.loop-entry-test.true c.entry-item.is) in
     rw (map-next arc_value shared i new c.loop-entry-test.true c.entry-item.is, ← c.deref.ensures)
     (c.in_ok-absorb.ensures log c.args.pg.now c.loop-entry.invariant (rw c.deref.ensures fine))

@@ -1,0 +1,32 @@
+-- Logs whose entries have other owners too: each element of a list stands for an entry.
+use Rattle.std.proofs.Common.{◌≡◌, ℕ, ◌+◌, ◌<◌, List, [], ◌∷◌, ◌++◌, Result, Ok, Err, OnErr, None, true, length, map, take, drop, get_or, ap, sym, ◌∙◌, append_assoc}
+use Rattle.std.proofs.lemmas.List.{map-append, map_more, take-append-drop}
+use Rattle.pgp_ids.specs.declared.entry.Entry.{Entry}
+use Rattle.pgp_log.specs.Fits.{fits}
+use Rattle.pgp_log.specs.Log.{is_legal}
+use Rattle.pgp_log.proofs.LogLemmas.{front-legal, legal-last}
+
+pub map-next : {X : Type 0} (f : X → Entry) (xs : List X) (i : ℕ) (x : X) → i < length xs → x ≡ get_or xs i x
+    → map f (take (i + 1) xs) ≡ map f (take i xs) ++ f x ∷ []
+map-next {X = X} f xs i x within item = map_more f xs i x within ∙ ap (λ (y : X). map f (take i xs) ++ f y ∷ []) (sym item)
+
+-- the same after a front
+pub next-after : {X : Type 0} (front : List Entry) (f : X → Entry) (xs : List X) (i : ℕ) (x : X) → i < length xs → x ≡ get_or xs i x
+    → front ++ map f (take (i + 1) xs) ≡ (front ++ map f (take i xs)) ++ f x ∷ []
+next-after front f xs i x within item =
+    ap (λ l. front ++ l) (map-next f xs i x within item) ∙ sym (append_assoc front (map f (take i xs)) (f x ∷ []))
+
+-- the next entry of a legal log fits
+pub next-of-legal : {X : Type 0} (front : List Entry) (f : X → Entry) (xs : List X) (i : ℕ) (x : X) → is_legal (front ++ map f xs) ≡ true
+    → i < length xs → x ≡ get_or xs i x → fits (front ++ map f (take i xs)) (f x) ≡ None
+next-of-legal front f xs i x legal within item =
+    let parts : map f (take (i + 1) xs) ++ map f (drop (i + 1) xs) ≡ map f xs = sym (map-append f (take (i + 1) xs) (drop (i + 1) xs)) ∙ ap (map f) (take-append-drop (i + 1) xs) in
+    let whole : is_legal ((front ++ map f (take (i + 1) xs)) ++ map f (drop (i + 1) xs)) ≡ true =
+    ap is_legal (append_assoc front (map f (take (i + 1) xs)) (map f (drop (i + 1) xs)) ∙ ap (λ l. front ++ l) parts) ∙ legal in
+    legal-last (front ++ map f (take i xs)) (f x)
+    (ap is_legal (sym (next-after front f xs i x within item)) ∙ front-legal (front ++ map f (take (i + 1) xs)) (map f (drop (i + 1) xs)) whole)
+
+-- what holds anyway holds where a call fails
+pub on_err : {T E : Type 0} (r : Result T E) (P : Type 0) → P → OnErr r P
+on_err (Ok x) P here = tt
+on_err (Err e) P here = here
