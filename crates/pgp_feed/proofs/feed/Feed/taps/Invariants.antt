@@ -1,0 +1,14 @@
+use Rattle.std.proofs.Common.{◌≡◌, ◌≤◌, ◌-◌, length, All}
+use Rattle.pgp_feed.specs.Feeds.{told_of}
+use Rattle.pgp_feed.specs.Taps.{last_of}
+use Rattle.pgp_feed.proofs.feed.Feed.taps.Given as goal
+
+abbrev pub invariant-loop-self : goal.invariant-loop-self
+invariant-loop-self l = record {
+  told : told_of l.self ≡ told_of l.initial.self;
+  few : length l.taps.items ≤ l.count;
+  each : All (λ tap. last_of tap ≡ told_of l.initial.self) l.taps.items;
+}
+
+abbrev pub decreases-loop-self : goal.decreases-loop-self
+decreases-loop-self l = l.count - length l.taps.items

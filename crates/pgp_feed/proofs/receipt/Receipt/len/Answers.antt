@@ -1,0 +1,5 @@
+use Rattle.pgp_feed.proofs.Fronts.{take_legal}
+use Rattle.pgp_feed.proofs.receipt.Receipt.len.Goals as goal
+
+pub returns-clause-legal : goal.returns-clause-legal
+returns-clause-legal c = let r = c.args.self.now in take_legal r.len r.seen.log r.legal

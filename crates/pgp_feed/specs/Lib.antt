@@ -1,0 +1,10 @@
+pub mod Book
+pub mod Receipts
+pub mod Stores
+pub mod OneLog
+pub mod Seats
+pub mod Taps
+pub mod Feeds
+pub mod Puts
+pub mod Appends
+pub mod Faults

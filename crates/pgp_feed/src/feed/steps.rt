@@ -1,0 +1,96 @@
+//! What the writer does.
+ghost use Rattle.std.specs.Prelude.{◌≡◌, [], ◌∷◌, ◌++◌, None, Some, drop, MatchResult};
+ghost use Rattle.std.specs.Arc.{arc_value};
+ghost use Rattle.left_right.specs.Sides.{view};
+ghost use Rattle.pgp_log.specs.Fits.{fits};
+ghost use Rattle.pgp_feed.specs.Receipts.{entries_of, feed_of};
+ghost use Rattle.pgp_feed.specs.Feeds.{told_of};
+ghost use Rattle.pgp_feed.specs.Puts.{IsPut};
+
+use super::{Feed, LogWriter};
+use crate::receipt::Receipt;
+use crate::rule::Sees;
+use crate::store::Operation;
+use core::mem::replace_with;
+use pgp_ids::Entry;
+use std::sync::{Arc, Wait};
+
+// Keeps the operation until there is room for it. The queue has room since the feed was made, so the first try does.
+fn queued<R: Wait>(rt: &R, writer: LogWriter, operation: Operation) -> LogWriter
+    requires { drop writer.behind writer.log.items ≡ [] }
+    ensures desk { result.desk ≡ writer.desk }
+    ensures queued { drop result.behind result.log.items ≡ operation ∷ [] }
+{
+    let mut writer = writer;
+    let mut operation = operation;
+    for _ in rt.forever() {
+        match writer.append(operation) {
+            Ok(()) => return writer,
+            Err(back) => operation = back,
+        }
+    }
+    unreachable!()
+}
+
+// Publishes what is queued. Both copies have room since the feed was made, so the first try does.
+pub(super) fn shown<R: Wait>(rt: &R, writer: LogWriter, told: &Receipt) -> LogWriter
+    requires { IsPut writer.desk.shown.value.told told.now (drop writer.behind writer.log.items) }
+    ensures told { result.desk.shown.value.told ≡ told.now }
+    ensures seen { view result.desk.place ≡ Some told.now }
+    ensures settled { drop result.behind result.log.items ≡ [] }
+{
+    let mut writer = writer;
+    for _ in rt.forever() {
+        let (next, done) = writer.publish_as::<Sees, R>(rt);
+        writer = next;
+        if done.is_ok() {
+            return writer;
+        }
+    }
+    unreachable!()
+}
+
+impl Feed {
+    /// The receipt of the whole log.
+    pub fn told(&self) -> Receipt
+        ensures { result ≡ told_of self.now }
+    {
+        self.told.again()
+    }
+
+    /// Adds an entry that the log takes next. It waits for the readers that still read the copy to be changed.
+    /// Refused for want of memory, the entry comes back.
+    pub fn publish<R: Wait>(&mut self, rt: &R, entry: Arc<Entry>) -> Result<Receipt, Arc<Entry>>
+        requires { fits (entries_of (told_of self.old)) (arc_value entry) ≡ None }
+        ensures feed { feed_of (told_of self.new) ≡ feed_of (told_of self.old) }
+        ensures published { MatchResult result (λ receipt. (receipt ≡ told_of self.new) × (entries_of receipt ≡ entries_of (told_of self.old) ++ arc_value entry ∷ [])) (λ back. (back ≡ entry) × (told_of self.new ≡ told_of self.old)) }
+    {
+        let Ok(copy) = Arc::try_clone(&entry) else {
+            return Err(entry);
+        };
+        let Some(told) = self.told.grow(&self.word, &entry) else {
+            return Err(entry);
+        };
+        let operation = Operation::Put(copy, told.again());
+        replace_with(
+            &mut self.writer,
+            operation,
+            |writer: LogWriter, operation: Operation| -> (LogWriter, ())
+                requires { (drop writer.behind writer.log.items ≡ []) × IsPut writer.desk.shown.value.told told (operation ∷ []) }
+                ensures { (result.0.desk.shown.value.told ≡ told) × (view result.0.desk.place ≡ Some told) × (drop result.0.behind result.0.log.items ≡ []) }
+            { (shown(rt, queued(rt, writer, operation), &told), ()) },
+        );
+        self.told = told.again();
+        Ok(told)
+    }
+
+    /// Ends the feed. Its taps find no copy from then on.
+    pub fn give_up(self, rt: &impl Wait) {
+        let Self {
+            word: _,
+            told: _,
+            writer,
+        } = self;
+        writer.take(rt);
+    }
+}

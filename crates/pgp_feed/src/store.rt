@@ -1,0 +1,29 @@
+//! The published value: the entries, each kept once and shared, and the receipt that names them.
+use crate::receipt::Receipt;
+use pgp_ids::Entry;
+use std::sync::Arc;
+
+mod absorb;
+mod read;
+
+/// What readers take.
+#[derive(Drop)]
+pub struct Store {
+    pub entries: Vec<Arc<Entry>>,
+    pub told: Receipt,
+}
+
+/// What the two copies have in common. No value of it is made.
+pub struct Content {
+    pub entries: [Entry; 0],
+    pub told: Receipt,
+}
+
+/// What is done to both copies.
+#[derive(Drop)]
+pub enum Operation {
+    /// Leaves the copy as it is.
+    Rest,
+    /// Adds an entry, with the receipt that names the log with it.
+    Put(Arc<Entry>, Receipt),
+}
