@@ -1,9 +1,9 @@
 -- Runs of a world in which a step may find no memory. Then nothing has changed, but that of the entries which a shard was to
 -- read it may have read some (this project's own choice).
 use Rattle.std.specs.Prelude.{◌≡◌, ℕ, ◌<◌, List, [], ◌∷◌, ◌++◌, ◌⊎◌, Bool, true, false, Result, Ok, Err, alloc_error}
-use Rattle.pgp_ids.specs.declared.ask_refusal.AskRefusal.TheVariants as ask
+use Rattle.pgp_refusals.specs.declared.ask_refusal.AskRefusal.TheVariants as ask
 use Rattle.pgp_ids.specs.declared.entry.Entry.{Entry}
-use Rattle.pgp_ids.specs.declared.refusal.Refusal.TheVariants as refusal
+use Rattle.pgp_refusals.specs.declared.refusal.Refusal.TheVariants as refusal
 use Rattle.pgp_log.specs.World.{World, Step, Reply, reply_to, after, after_absorb}
 use Rattle.pgp_log.specs.World.Step.{Submit, Absorb, Ask}
 use Rattle.pgp_log.specs.World.Reply.{Submitted, Absorbed, Asked}

@@ -3,7 +3,7 @@
 ghost use Rattle.std.specs.Prelude.{◌≡◌, ◌≢◌, ◌≤◌, List, ◌∷◌, ◌++◌, [], length, true, false, is_some, None, Some, Err, IsOk, OnOk, OnErr, IfErr, IfSome, IfNone};
 ghost use Rattle.pgp_ids.specs.declared.entry.Entry.{Entry as AnyEntry};
 ghost use Rattle.pgp_ids.specs.declared.incremental.Incremental.{Incremental as Step};
-ghost use Rattle.pgp_ids.specs.declared.refusal.Refusal.TheVariants.{Memory};
+ghost use Rattle.pgp_refusals.specs.declared.refusal.Refusal.TheVariants.{Memory};
 ghost use Rattle.pgp_map.specs.MapFault.{given_fault};
 ghost use Rattle.pgp_map.specs.MapOf.{IsMapOf};
 ghost use Rattle.pgp_group.specs.Entries.{inc_of, incs_of};
