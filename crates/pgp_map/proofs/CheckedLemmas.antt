@@ -1,5 +1,6 @@
 -- What holds of a list of incrementals, each of which was checked when it came.
 use Rattle.std.proofs.Common.{◌≡◌, ℕ, ◌≤◌, List, [], ◌++◌, Option, Some, None, is_none, is_some, Bool, true, false, not, ◌&&◌, nat_eq, refl, ap, sym, ◌∙◌, subst, arith}
+use Rattle.std.specs.List.{list_any}
 use Rattle.std.specs.Option.{option_map, option_map_or}
 use Rattle.std.specs.Prelude.{flat_map, nat_lt, nat_le}
 use Rattle.std.proofs.lemmas.Bool.{and_parts, eqb-true, ltb-false, not-false, or_parts}
@@ -27,7 +28,7 @@ use Rattle.pgp_lists.proofs.Options.{none_is}
 use Rattle.pgp_lists.proofs.Taken.{taken-along, taken-front, taken-induction, taken-last, taken-more}
 use Rattle.pgp_map.proofs.DeviceLemmas.{told-push}
 use Rattle.pgp_map.proofs.FaultLemmas.{NoFault, no_fault}
-use Rattle.pgp_map.proofs.MapLemmas.{pool-push, pools_fine, sizes-push}
+use Rattle.pgp_map.proofs.MapLemmas.{last_none, pool-push, pools_fine, sizes-push}
 
 -- ---- lists that grow
 
@@ -73,7 +74,7 @@ bad_for : PoolSizes → Option PoolSpec → Bool
 bad_for sizes before = option_map_or (λ made. is_erasure made.kind && not (nat_eq made.size sizes.size)) before true
 
 module _ (incs : List Incremental) (inc : Incremental) (id : ℕ) (fine : NoFault incs inc) where
-  pub made_fine : (made : PoolSpec) → last_where (λ made. nat_eq made.id id) inc.pools ≡ Some made
+  made_fine : (made : PoolSpec) → last_where (λ made. nat_eq made.id id) inc.pools ≡ Some made
       → (is_pool made ≡ true) × (is_some (pool incs id) ≡ false)
   made_fine made e =
       let good = last_found (λ made. not (is_pool made)) (λ made. nat_eq made.id id) inc.pools made (pools_fine incs inc fine.pools).0 e in
@@ -160,6 +161,21 @@ up_thru-rises incs later osd checked =
     taken-along is_faultless (λ now. up_thru incs osd ≤ up_thru now osd)
     (λ front inc taken fine before. let more = up_thru-more front inc osd (none_is (map_fault front inc) fine) in omega (arith, before, more))
     incs later checked (omega arith)
+
+-- a pool that is there stays, where it is given no sizes
+pub pool-stays : (incs : List Incremental) (inc : Incremental) (id : ℕ) → map_fault incs inc ≡ None → is_some (pool incs id) ≡ true
+    → list_any (λ sizes. nat_eq sizes.pool id) inc.sizes ≡ false → pool (then_with incs inc) id ≡ pool incs id
+pool-stays incs inc id fine there unsized =
+    let none = no_fault incs inc fine in
+    pool-push incs inc id none.known (λ absent. let no : is_some (pool incs id) ≡ false = ap is_some absent in cc)
+    ∙ (λ i. option_map (with_sizes (last_none (λ sizes. nat_eq sizes.pool id) inc.sizes unsized i)) (or_made (last_where (λ made. nat_eq made.id id) inc.pools) (pool incs id)))
+    ∙ by_made (last_where (λ made. nat_eq made.id id) inc.pools) (pool incs id) there (λ made found. (made_fine incs inc id none made found).1)
+  where
+    by_made : (made before : Option PoolSpec) → is_some before ≡ true → ((m : PoolSpec) → made ≡ Some m → is_some before ≡ false)
+        → option_map (with_sizes None) (or_made made before) ≡ before
+    by_made None None there new = refl
+    by_made None (Some p) there new = refl
+    by_made (Some m) before there new = let absent : is_some before ≡ false = new m refl in cc
 
 -- an erasure pool is there, of this size
 record IsShards (k size : ℕ) (found : Option PoolSpec) : Type 0 where
