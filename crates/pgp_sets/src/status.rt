@@ -1,5 +1,5 @@
 /// What has become of a device of a past interval.
-#[derive(Clone, Copy, Debug, PartialEq, Eq, Hash)]
+#[derive(Clone, Copy, Debug, PartialEq, Eq)]
 pub enum Status {
     /// It is up, so that it can be asked.
     Up,
