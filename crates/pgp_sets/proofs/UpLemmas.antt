@@ -1,6 +1,7 @@
 -- Each device of a group's up set and acting set is up, and the up set has at most the pool's size of places.
-use Rattle.std.proofs.Common.{◌≡◌, ◌≤◌, ℕ, List, [], ◌∷◌, length, Option, Some, None, Bool, true, false, cond, refl, arith, ap, sym, ◌∙◌, subst, inl, inr, if◌then◌else◌}
+use Rattle.std.proofs.Common.{◌≡◌, ◌≤◌, ℕ, List, [], ◌∷◌, length, Option, Some, None, Bool, true, false, refl, arith, nat_eq, ap, sym, ◌∙◌, subst, inl, inr, if◌then◌else◌}
 use Rattle.std.proofs.lemmas.List.{length-map}
+use Rattle.std.proofs.lemmas.List.Sums.{length-filter, count_by-le-length}
 use Rattle.std.specs.List.{filter}
 use Rattle.std.specs.Prelude.{map}
 use Rattle.std.specs.Option.{option_map, option_map_or}
@@ -37,23 +38,23 @@ left_out incs (place ∷ places) = elim (cases_Bool (option_map_or (is_up incs) 
   | inr down ↦ rw down (left_out incs places)
 ]
 
-up_by_kind : (incs : List Incremental) (places : List (Option ℕ)) (b : Bool) → are_up incs (if b then map (if_up incs) places else filter (λ place. option_map_or (is_up incs) place false) places) ≡ true
-up_by_kind incs places true = emptied incs places
-up_by_kind incs places false = left_out incs places
-
 pub are_up-without_down : (incs : List Incremental) (pool : PoolSpec) (places : List (Option ℕ)) → are_up incs (without_down incs pool places) ≡ true
-are_up-without_down incs pool places = up_by_kind incs places (is_erasure pool.kind)
-
-one_of_both : (incs : List Incremental) (up given : List (Option ℕ)) (b : Bool) → are_up incs up ≡ true → are_up incs given ≡ true → are_up incs (if b then up else given) ≡ true
-one_of_both incs up given true is also = is
-one_of_both incs up given false is also = also
+are_up-without_down incs pool places =
+    elim (is_erasure pool.kind) as (λ b. are_up incs (if b then map (if_up incs) places else filter (λ place. option_map_or (is_up incs) place false) places) ≡ true) [
+      | true ↦ emptied incs places
+      | false ↦ left_out incs places
+    ]
 
 are_up-up : (incs : List Incremental) (pg : PgId) (pool : PoolSpec) → are_up incs (pool_membership incs pg pool).up ≡ true
 are_up-up incs pg pool = are_up-without_down incs pool (raw_set incs pool pg)
 
 are_up-acting : (incs : List Incremental) (pg : PgId) (pool : PoolSpec) → are_up incs (pool_membership incs pg pool).acting ≡ true
 are_up-acting incs pg pool =
-    one_of_both incs (up_set incs pool pg) (without_down incs pool (temp incs pg)) _ (are_up-up incs pg pool) (are_up-without_down incs pool (temp incs pg))
+    let given = without_down incs pool (temp incs pg) in
+    elim (nat_eq (length given) 0) as (λ b. are_up incs (if b then up_set incs pool pg else given) ≡ true) [
+      | true ↦ are_up-up incs pg pool
+      | false ↦ are_up-without_down incs pool (temp incs pg)
+    ]
 
 of_pool : (incs : List Incremental) (pg : PgId) (found : Option PoolSpec) (members : Membership) → option_map (pool_membership incs pg) found ≡ Some members → (made : PoolSpec) × (pool_membership incs pg made ≡ members)
 of_pool incs pg None members is = absurd (none-some members is)
@@ -71,14 +72,6 @@ acting-are_up incs pg members is =
 
 -- ---- sizes
 
-left_out-size : (test : Option ℕ → Bool) (places : List (Option ℕ)) → length (filter test places) ≤ length places
-left_out-size test [] = omega arith
-left_out-size test (place ∷ places) = by_test (test place) (left_out-size test places)
-  where
-    by_test : (b : Bool) → length (filter test places) ≤ length places → length (cond b (place ∷ filter test places) (filter test places)) ≤ length (place ∷ places)
-    by_test true rest = omega arith
-    by_test false rest = omega arith
-
 up_set-at_most : (incs : List Incremental) (pg : PgId) (pool : PoolSpec) → length (up_set incs pool pg) ≤ pool.size
 up_set-at_most incs pg pool =
     by_kind (is_erasure pool.kind) (placement-at_most (tree incs) (rule_of pool) (weights incs) (placement_input pool pg) pool.size)
@@ -86,7 +79,9 @@ up_set-at_most incs pg pool =
     by_kind : (b : Bool) → length (raw_set incs pool pg) ≤ pool.size
         → length (if b then map (if_up incs) (raw_set incs pool pg) else filter (λ place. option_map_or (is_up incs) place false) (raw_set incs pool pg)) ≤ pool.size
     by_kind true most = omega (arith, length-map (raw_set incs pool pg) (if_up incs))
-    by_kind false most = omega (arith, left_out-size (λ place. option_map_or (is_up incs) place false) (raw_set incs pool pg))
+    by_kind false most =
+        let up = λ (place : Option ℕ). option_map_or (is_up incs) place false in
+        omega (arith, length-filter up (raw_set incs pool pg), count_by-le-length up (raw_set incs pool pg))
 
 pub up-at_most : (incs : List Incremental) (pg : PgId) (members : Membership) → membership incs pg ≡ Some members → length members.up ≤ members.size
 up-at_most incs pg members is =
