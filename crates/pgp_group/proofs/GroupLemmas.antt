@@ -1,10 +1,9 @@
 -- What a group keeps as its log grows.
-use Rattle.std.proofs.Common.{◌≡◌, List, [], ◌∷◌, ◌++◌, Option, Some, None, Bool, true, false, refl, ap, sym, ◌∙◌, subst, append-nil}
-use Rattle.std.specs.List.{filter, filter_map}
+use Rattle.std.proofs.Common.{◌≡◌, List, [], ◌∷◌, ◌++◌, Option, Some, None, true, false, refl, ap, sym, ◌∙◌, subst}
+use Rattle.std.specs.List.{filter}
 use Rattle.std.specs.Option.{option_map}
 use Rattle.std.specs.Prelude.{Result, Ok, Err}
 use Rattle.std.specs.Result.{IfOk, OnOk, OnErr}
-use Rattle.std.proofs.lemmas.List.Elements.{filter-append, filter_map-append}
 use Rattle.pgp_code.specs.AnyCode.{enough_of, is_by_place}
 use Rattle.pgp_code.specs.Pool.{code_of}
 use Rattle.pgp_code.specs.declared.any.AnyCode.{AnyCode}
@@ -28,28 +27,7 @@ use Rattle.pgp_group.specs.GroupHistory.{AreNumbered, made_at, primary_facts, gr
 use Rattle.pgp_group.specs.GroupOf.{IsGroupOf, IsSilent}
 use Rattle.pgp_group.specs.declared.group.Group.{Group}
 use Rattle.pgp_group.proofs.GrowthLemmas.{history-begins, history-grows, numbered-more}
-
--- ---- the parts of a longer log
-
-nothing_new : {X Y : Type 0} (f : X → Option Y) (xs : List X) (x : X) → f x ≡ None → filter_map f (xs ++ x ∷ []) ≡ filter_map f xs
-nothing_new {X = X} {Y = Y} f xs x none =
-    let new : filter_map f (x ∷ []) ≡ [] = rw none refl in
-    filter_map-append f xs (x ∷ []) ∙ ap (λ (l : List Y). filter_map f xs ++ l) new ∙ append-nil (filter_map f xs)
-
-one_new : {X Y : Type 0} (f : X → Option Y) (xs : List X) (x : X) (y : Y) → f x ≡ Some y → filter_map f (xs ++ x ∷ []) ≡ filter_map f xs ++ y ∷ []
-one_new {X = X} {Y = Y} f xs x y is =
-    let new : filter_map f (x ∷ []) ≡ y ∷ [] = rw is refl in
-    filter_map-append f xs (x ∷ []) ∙ ap (λ (l : List Y). filter_map f xs ++ l) new
-
-kept_new : {X : Type 0} (test : X → Bool) (xs : List X) (x : X) → test x ≡ true → filter test (xs ++ x ∷ []) ≡ filter test xs ++ x ∷ []
-kept_new {X = X} test xs x passes =
-    let new : filter test (x ∷ []) ≡ x ∷ [] = rw passes refl in
-    filter-append test xs (x ∷ []) ∙ ap (λ (l : List X). filter test xs ++ l) new
-
-left_new : {X : Type 0} (test : X → Bool) (xs : List X) (x : X) → test x ≡ false → filter test (xs ++ x ∷ []) ≡ filter test xs
-left_new {X = X} test xs x fails =
-    let new : filter test (x ∷ []) ≡ [] = rw fails refl in
-    filter-append test xs (x ∷ []) ∙ ap (λ (l : List X). filter test xs ++ l) new ∙ append-nil (filter test xs)
+use Rattle.pgp_group.proofs.Lists.{nothing_new, one_new, kept_new, left_new}
 
 -- ---- an entry that brings no map
 

@@ -10,3 +10,6 @@ pub mod FoundLemmas
 pub mod RiseLemmas
 pub mod FirstLemmas
 pub mod LaterLemmas
+pub mod UntoldLemmas
+pub mod SameViewLemmas
+pub mod UntouchedLemmas

@@ -1,9 +1,11 @@
 -- Lists that grow, ranges, and last elements that pass a test.
-use Rattle.std.proofs.Common.{◌≡◌, ℕ, zero, suc, ◌+◌, ◌<◌, List, [], ◌∷◌, ◌++◌, Option, Some, None, Bool, true, false, ◌&&◌, length, refl, ap, ap₂, sym, ◌∙◌, inl, inr, arith, append-nil, append_assoc, get_or, take}
-use Rattle.std.specs.List.{All, cons_option, filter, filter_map, flat_map, last_or, list_any, range_with_len}
+use Rattle.std.proofs.Common.{◌≡◌, ℕ, zero, suc, ◌+◌, ◌<◌, List, [], ◌∷◌, ◌++◌, Option, Some, None, Bool, true, false, ◌&&◌, ◌||◌, cond, length, map, refl, ap, ap₂, sym, ◌∙◌, inl, inr, arith, append-nil, append_assoc, get_or, take}
+use Rattle.std.specs.List.{All, Contains, cons_option, filter, filter_map, flat_map, last_or, list_any, range_with_len, slice_index_or}
 use Rattle.std.proofs.lemmas.Bool.{cases_Bool, or_parts, true≢false}
 use Rattle.std.proofs.lemmas.List.{take_more}
-use Rattle.std.proofs.lemmas.List.Elements.{filter-append, All-head, All-tail}
+use Rattle.std.proofs.lemmas.List.Elements.{filter-append, filter_map-append, All-head, All-tail}
+use Rattle.std.proofs.lemmas.List.Folds.{list_any-append}
+use Rattle.pgp_lists.proofs.Members.{Contains-nil, Contains-here, Contains-later, Contains-first, Contains-cases}
 use Rattle.pgp_map.specs.Last.{last_where}
 
 -- ---- elements that don't pass
@@ -48,12 +50,80 @@ pub last_where-none : {X : Type 0} (test : X → Bool) (xs ys : List X) → list
 last_where-none {X = X} test xs ys none =
     ap (last_or None) (filter-append test xs ys ∙ ap (λ (l : List X). filter test xs ++ l) (filter-none test ys none) ∙ append-nil (filter test xs))
 
+-- what is kept of a list, with one element more
+pub nothing_new : {X Y : Type 0} (f : X → Option Y) (xs : List X) (x : X) → f x ≡ None → filter_map f (xs ++ x ∷ []) ≡ filter_map f xs
+nothing_new {X = X} {Y = Y} f xs x none =
+    let new : filter_map f (x ∷ []) ≡ [] = rw none refl in
+    filter_map-append f xs (x ∷ []) ∙ ap (λ (l : List Y). filter_map f xs ++ l) new ∙ append-nil (filter_map f xs)
+
+pub one_new : {X Y : Type 0} (f : X → Option Y) (xs : List X) (x : X) (y : Y) → f x ≡ Some y → filter_map f (xs ++ x ∷ []) ≡ filter_map f xs ++ y ∷ []
+one_new {X = X} {Y = Y} f xs x y is =
+    let new : filter_map f (x ∷ []) ≡ y ∷ [] = rw is refl in
+    filter_map-append f xs (x ∷ []) ∙ ap (λ (l : List Y). filter_map f xs ++ l) new
+
+pub kept_new : {X : Type 0} (test : X → Bool) (xs : List X) (x : X) → test x ≡ true → filter test (xs ++ x ∷ []) ≡ filter test xs ++ x ∷ []
+kept_new {X = X} test xs x passes =
+    let new : filter test (x ∷ []) ≡ x ∷ [] = rw passes refl in
+    filter-append test xs (x ∷ []) ∙ ap (λ (l : List X). filter test xs ++ l) new
+
+pub left_new : {X : Type 0} (test : X → Bool) (xs : List X) (x : X) → test x ≡ false → filter test (xs ++ x ∷ []) ≡ filter test xs
+left_new {X = X} test xs x fails =
+    let new : filter test (x ∷ []) ≡ [] = rw fails refl in
+    filter-append test xs (x ∷ []) ∙ ap (λ (l : List X). filter test xs ++ l) new ∙ append-nil (filter test xs)
+
 -- ---- ranges
 
 pub filter_map-agree : {Y : Type 0} (f g : ℕ → Option Y) (a n : ℕ) → ((k : ℕ) → k < a + n → f k ≡ g k) → filter_map f (range_with_len a n) ≡ filter_map g (range_with_len a n)
 filter_map-agree f g a zero same = refl
 filter_map-agree f g a (suc n) same =
     ap₂ cons_option (same a (omega arith)) (filter_map-agree f g (a + 1) n (λ k below. same k (omega arith)))
+
+-- ---- functions and tests that agree at each element
+
+pub map-agree : {X Y : Type 0} (f g : X → Y) (xs : List X) → ((x : X) → Contains xs x → f x ≡ g x) → map f xs ≡ map g xs
+map-agree f g [] same = refl
+map-agree f g (x ∷ xs) same =
+    ap₂ (λ y ys. y ∷ ys) (same x (Contains-here x xs)) (map-agree f g xs (λ y there. same y (Contains-later x xs y there)))
+
+pub filter-agree : {X : Type 0} (f g : X → Bool) (xs : List X) → ((x : X) → Contains xs x → f x ≡ g x) → filter f xs ≡ filter g xs
+filter-agree {X = X} f g [] same = refl
+filter-agree {X = X} f g (x ∷ xs) same =
+    ap₂ (λ (b : Bool) (l : List X). cond b (x ∷ l) l) (same x (Contains-here x xs)) (filter-agree f g xs (λ y there. same y (Contains-later x xs y there)))
+
+pub flat_map-agree : {X Y : Type 0} (f g : X → List Y) (xs : List X) → ((x : X) → Contains xs x → f x ≡ g x) → flat_map f xs ≡ flat_map g xs
+flat_map-agree f g [] same = refl
+flat_map-agree f g (x ∷ xs) same =
+    ap₂ (λ l r. l ++ r) (same x (Contains-here x xs)) (flat_map-agree f g xs (λ y there. same y (Contains-later x xs y there)))
+
+pub any-agree : {X : Type 0} (f g : X → Bool) (xs : List X) → ((x : X) → Contains xs x → f x ≡ g x) → list_any f xs ≡ list_any g xs
+any-agree f g [] same = refl
+any-agree f g (x ∷ xs) same =
+    ap₂ (λ a b. a || b) (same x (Contains-here x xs)) (any-agree f g xs (λ y there. same y (Contains-later x xs y there)))
+
+-- ---- elements of lists that are made of others
+
+pub none-append : {X : Type 0} (test : X → Bool) (xs ys : List X) → list_any test (xs ++ ys) ≡ false → (list_any test xs ≡ false) × (list_any test ys ≡ false)
+none-append test xs ys none = or_parts (list_any test xs) (list_any test ys) (sym (list_any-append test xs ys) ∙ none)
+
+pub any-mapped : {X Y : Type 0} (f : X → Y) (test : Y → Bool) (xs : List X) → list_any test (map f xs) ≡ list_any (λ x. test (f x)) xs
+any-mapped f test [] = refl
+any-mapped f test (x ∷ xs) = ap (λ b. test (f x) || b) (any-mapped f test xs)
+
+pub filter_map-contains : {X Y : Type 0} (f : X → Option Y) (xs : List X) (y : Y) → Contains (filter_map f xs) y → (x : X) × (f x ≡ Some y)
+filter_map-contains f [] y there = absurd (Contains-nil y there)
+filter_map-contains {X = X} {Y = Y} f (x ∷ xs) y there = by_found (f x) refl there (filter_map-contains f xs y)
+  where
+    by_found : (found : Option Y) → f x ≡ found → Contains (cons_option found (filter_map f xs)) y → (Contains (filter_map f xs) y → (x : X) × (f x ≡ Some y)) → (x : X) × (f x ≡ Some y)
+    by_found None is there' later = later there'
+    by_found (Some z) is there' later = elim (Contains-cases z (filter_map f xs) y there') [
+      | inl here ↦ (x, is ∙ ap Some here)
+      | inr rest ↦ later rest
+    ]
+
+pub index-contains : {X : Type 0} (places : List (Option X)) (k : ℕ) (x : X) → slice_index_or places k None ≡ Some x → Contains places (Some x)
+index-contains [] k x is = cc
+index-contains (place ∷ places) zero x is = Contains-first place places (Some x) is
+index-contains (place ∷ places) (suc k) x is = Contains-later place places (Some x) (index-contains places k x is)
 
 -- ---- parts of a list, up to one more element
 

@@ -13,3 +13,4 @@ pub mod Causes
 pub mod GroupOf
 pub mod Found
 pub mod Later
+pub mod Touched

@@ -4,6 +4,7 @@
 pub mod causes;
 pub mod growth;
 pub mod later;
+pub mod touched;
 
 ghost use Rattle.std.specs.Prelude.{ℕ, ◌+◌, ◌-◌, ◌<◌, length, slice_get, ◌≡◌, ◌↔◌, List, [], ◌∷◌, ◌++◌, Some, None, is_some, true, false, option_map, codes, Contains};
 ghost use Rattle.pgp_code.specs.AnyCode.{enough_of, is_by_place};

@@ -5,7 +5,6 @@ pub mod Judge
 pub mod Shard
 pub mod World
 pub mod WorldRun
-pub mod Touched
 pub mod Locate
 pub mod RawSets
 pub mod Replay

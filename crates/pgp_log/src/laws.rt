@@ -22,7 +22,6 @@ ghost use Rattle.pgp_log.specs.World.{World, Step, Reply, opening, after, after_
 ghost use Rattle.pgp_log.specs.WorldRun.{MayRun, is_want, taken_of};
 ghost use Rattle.pgp_log.specs.World.Step.{Submit, Absorb, Ask};
 ghost use Rattle.pgp_log.specs.World.Reply.{Submitted, Absorbed, Asked};
-ghost use Rattle.pgp_log.specs.Touched.{is_touched};
 ghost use Rattle.pgp_log.specs.Locate.{group_of_object};
 ghost use Rattle.pgp_log.specs.Examples.{submits};
 
@@ -160,23 +159,6 @@ pub fn legal_logs()
     ensures down { is_legal (maps two_shards_down) ≡ true }
     ensures closed { is_legal (until_serving ++ entry.Close ∷ []) ≡ true }
     ensures gap { is_legal (maps (empty_step 2 ∷ [])) ≡ false }
-{}
-
-/// An incremental with nothing but its epoch touches no group. One that tells of a device touches the groups that have to
-/// do with it, and one with weights touches all.
-pub fn groups_that_an_entry_touches()
-    ensures nothing { is_touched until_serving (entry.Inc (empty_step 3)) copies_group ≡ false }
-    ensures primary { is_touched before_serving (entry.Inc (known_up 2 0 1)) copies_group ≡ true }
-    ensures sender { is_touched before_serving (entry.Inc (take_down 2 (2 ∷ []))) copies_group ≡ true }
-    ensures of_the_past { is_touched (maps two_shards_down) (entry.Inc (boot 4 (1 ∷ []))) shards_group ≡ true }
-    ensures stranger { is_touched (maps two_shards_down) (entry.Inc (take_down 4 (5 ∷ []))) shards_group ≡ false }
-    ensures weights { let inc = record (empty_step 4) { weight = of_weight 5 0 ∷ [] } in
-        is_touched (maps two_shards_down) (entry.Inc inc) shards_group ≡ true }
-    ensures sizes { is_touched (maps (copies_on_three ∷ [])) (entry.Inc (resize 2 3 1)) copies_group ≡ true }
-    ensures another_pool { is_touched (maps (copies_on_three ∷ [])) (entry.Inc (resize 2 3 1)) shards_group ≡ false }
-    ensures report { is_touched (maps (copies_on_three ∷ [])) (entry.Info (copy 0 1)) copies_group ≡ true }
-    ensures of_another { is_touched (maps (copies_on_three ∷ [])) (entry.Info (copy 0 1)) shards_group ≡ false }
-    ensures close { is_touched until_serving entry.Close copies_group ≡ false }
 {}
 
 /// An object lies in the group to which its name hashes, and that group where its map puts it.

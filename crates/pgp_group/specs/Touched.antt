@@ -7,6 +7,7 @@ use Rattle.pgp_ids.specs.declared.entry.Entry.TheVariants as entry
 use Rattle.pgp_ids.specs.declared.incremental.Incremental.{Incremental}
 use Rattle.pgp_ids.specs.declared.past.Past.{Past}
 use Rattle.pgp_ids.specs.declared.pg_id.PgId.{PgId}
+use Rattle.pgp_ids.specs.declared.view.View.{View}
 use Rattle.pgp_map.specs.Pools.{pool, temp, is_same_group}
 use Rattle.pgp_sets.specs.Sets.{raw_set}
 use Rattle.pgp_group.specs.Entries.{incs_of}
@@ -67,3 +68,7 @@ is_touched log (entry.Inc inc) pg =
 is_touched log (entry.Info info) pg = is_same_group info.pg pg
 is_touched log (entry.Entries report) pg = is_same_group report.pg pg
 is_touched log entry.Close pg = false
+
+-- the view with another count and epoch
+abbrev pub told_at : ℕ → ℕ → View → View
+told_at count epoch view = record view { count = count; epoch = epoch }

@@ -1,0 +1,211 @@
+-- What an incremental leaves as it was: devices that it doesn't name, and a group that it doesn't touch.
+use Rattle.std.proofs.Common.{◌≡◌, ℕ, arith, List, [], ◌∷◌, ◌++◌, Option, Some, None, is_some, Bool, true, false, ◌||◌, nat_eq, nat_lt, map, length, refl, ap, ap₂, sym, ◌∙◌, subst, inl, inr, ◌⊎◌, if◌then◌else◌}
+use Rattle.std.specs.List.{Contains, filter, flat_map, list_any}
+use Rattle.std.specs.Option.{option_eq, option_map, option_map_or}
+use Rattle.std.proofs.lemmas.Bool.{or_parts, eqb-true}
+use Rattle.std.proofs.lemmas.Bool.Decides.{nat_tests}
+use Rattle.std.proofs.lemmas.Option.{same_Some}
+use Rattle.pgp_ids.specs.Osds.{first_osd}
+use Rattle.pgp_ids.specs.declared.incremental.DeviceEpoch.{DeviceEpoch}
+use Rattle.pgp_ids.specs.declared.incremental.Incremental.{Incremental}
+use Rattle.pgp_ids.specs.declared.incremental.TempList.{TempList}
+use Rattle.pgp_ids.specs.declared.membership.Membership.{Membership}
+use Rattle.pgp_ids.specs.declared.pg_id.PgId.{PgId}
+use Rattle.pgp_ids.specs.declared.pool.PoolSizes.{PoolSizes}
+use Rattle.pgp_ids.specs.declared.pool.PoolSpec.{PoolSpec}
+use Rattle.pgp_lists.proofs.Lists.{flat_map-push}
+use Rattle.pgp_lists.proofs.Members.{Contains-first, Contains-later, contains-any, filter-contains, map-contains}
+use Rattle.pgp_lists.proofs.Options.{if_some}
+use Rattle.pgp_map.specs.Devices.{boots, takes_down, destroys, device, greatest_epoch, is_up}
+use Rattle.pgp_map.specs.Last.{last_where}
+use Rattle.pgp_map.specs.MapFault.{map_fault, then_with, is_erasure}
+use Rattle.pgp_map.specs.Pools.{pool, temp, is_same_group, with_sizes}
+use Rattle.pgp_sets.specs.Sets.{moves, raw_set, raw_set_of, members_with, pool_membership}
+use Rattle.pgp_group.specs.Touched.{has_osd, changed_devices, moves_all, changes_pool, changes_temp}
+use Rattle.pgp_group.proofs.Lists.{none-narrower, none-append, any-mapped, last_where-none, left_new, map-agree, filter-agree}
+
+-- ---- devices
+
+-- what was told last stays, where the incremental tells nothing of it
+told-stays : {E : Type 0} (test : E → Bool) (f : Incremental → List E) (incs : List Incremental) (inc : Incremental)
+    → list_any test (f inc) ≡ false → last_where test (flat_map f (then_with incs inc)) ≡ last_where test (flat_map f incs)
+told-stays test f incs inc none = ap (last_where test) (flat_map-push f incs inc) ∙ last_where-none test (flat_map f incs) (f inc) none
+
+-- the incremental doesn't name the device
+record IsUntold (inc : Incremental) (osd : ℕ) : Type 0 where
+  booted : boots osd inc ≡ false
+  downed : takes_down osd inc ≡ false
+  gone : destroys osd inc ≡ false
+  thru : list_any (λ told. nat_eq told.osd osd) inc.up_thru ≡ false
+  lost : list_any (λ told. nat_eq told.osd osd) inc.lost ≡ false
+
+-- no device of the incremental passes the test, but this one does
+untold : (test : ℕ → Bool) (inc : Incremental) (osd : ℕ) → list_any test (changed_devices inc) ≡ false → test osd ≡ true → IsUntold inc osd
+untold test inc osd none passes =
+    let thru : List ℕ = map (λ (told : DeviceEpoch). told.osd) inc.up_thru in
+    let lost : List ℕ = map (λ (told : DeviceEpoch). told.osd) inc.lost in
+    let a = none-append test (inc.up ++ inc.down ++ inc.gone ++ thru) lost none in
+    let b = none-append test (inc.up ++ inc.down ++ inc.gone) thru a.0 in
+    let c = none-append test (inc.up ++ inc.down) inc.gone b.0 in
+    let d = none-append test inc.up inc.down c.0 in
+    let is : (x : ℕ) → nat_eq osd x ≡ true → test x ≡ true = λ x same. ap test (sym (eqb-true osd x same)) ∙ passes in
+    let told_is : (told : DeviceEpoch) → nat_eq told.osd osd ≡ true → test told.osd ≡ true = λ told same. ap test (eqb-true told.osd osd same) ∙ passes in
+    let each : (told : List DeviceEpoch) → list_any test (map (λ t. t.osd) told) ≡ false → list_any (λ t. nat_eq t.osd osd) told ≡ false =
+    λ told silent. none-narrower (λ (t : DeviceEpoch). nat_eq t.osd osd) (λ (t : DeviceEpoch). test t.osd) told_is told (sym (any-mapped (λ (t : DeviceEpoch). t.osd) test told) ∙ silent) in
+    record {
+      booted = none-narrower (nat_eq osd) test is inc.up d.0;
+      downed = none-narrower (nat_eq osd) test is inc.down d.1;
+      gone = none-narrower (nat_eq osd) test is inc.gone c.1;
+      thru = each inc.up_thru b.1;
+      lost = each inc.lost a.1;
+    }
+
+-- such a device stays as it was
+device-stays : (incs : List Incremental) (inc : Incremental) (osd : ℕ) → IsUntold inc osd → device (then_with incs inc) osd ≡ device incs osd
+device-stays incs inc osd silent =
+    let changes : list_any (λ i. boots osd i || destroys osd i) (inc ∷ []) ≡ false = rw (silent.booted, silent.gone) refl in
+    let moves' : list_any (λ i. boots osd i || takes_down osd i || destroys osd i) (inc ∷ []) ≡ false = rw (silent.booted, silent.downed, silent.gone) refl in
+    let there = last_where-none (λ (i : Incremental). boots osd i || destroys osd i) incs (inc ∷ []) changes in
+    let up = last_where-none (λ (i : Incremental). boots osd i || takes_down osd i || destroys osd i) incs (inc ∷ []) moves' in
+    let from = left_new (boots osd) incs inc silent.booted in
+    let downs = left_new (takes_down osd) incs inc silent.downed in
+    let thru = told-stays (λ (told : DeviceEpoch). nat_eq told.osd osd) (λ (i : Incremental). i.up_thru) incs inc silent.thru in
+    let lost = told-stays (λ (told : DeviceEpoch). nat_eq told.osd osd) (λ (i : Incremental). i.lost) incs inc silent.lost in
+    λ i. record {
+      exists = option_map_or (boots osd) (there i) false;
+      is_up = option_map_or (boots osd) (up i) false;
+      up_from = greatest_epoch (from i);
+      down_at = greatest_epoch (downs i);
+      up_thru = option_map_or (λ told. told.epoch) (thru i) 0;
+      lost_at = option_map_or (λ told. told.epoch) (lost i) 0;
+    }
+
+pub same_device : (test : ℕ → Bool) (incs : List Incremental) (inc : Incremental) (osd : ℕ) → list_any test (changed_devices inc) ≡ false → test osd ≡ true → device (then_with incs inc) osd ≡ device incs osd
+same_device test incs inc osd none passes = device-stays incs inc osd (untold test inc osd none passes)
+
+-- ---- pools and pg_temp lists
+
+pub pool-same : (incs : List Incremental) (inc : Incremental) (id : ℕ) → changes_pool inc id ≡ false → pool (then_with incs inc) id ≡ pool incs id
+pool-same incs inc id none =
+    let parts = or_parts (list_any (λ made. nat_eq made.id id) inc.pools) (list_any (λ sizes. nat_eq sizes.pool id) inc.sizes) none in
+    let made = told-stays (λ (made : PoolSpec). nat_eq made.id id) (λ (i : Incremental). i.pools) incs inc parts.0 in
+    let sizes = told-stays (λ (sizes : PoolSizes). nat_eq sizes.pool id) (λ (i : Incremental). i.sizes) incs inc parts.1 in
+    λ i. option_map (with_sizes (sizes i)) (made i)
+
+temp-same : (incs : List Incremental) (inc : Incremental) (pg : PgId) → changes_temp inc pg ≡ false → temp (then_with incs inc) pg ≡ temp incs pg
+temp-same incs inc pg none = ap (λ (o : Option TempList). option_map_or (λ given. given.osds) o []) (told-stays (λ (given : TempList). is_same_group given.pg pg) (λ (i : Incremental). i.temp) incs inc none)
+
+-- ---- devices that stand in a list
+
+pub osd-there : (places : List (Option ℕ)) (osd : ℕ) → Contains places (Some osd) → has_osd osd places ≡ true
+osd-there places osd there =
+    let same : nat_eq osd osd ≡ true = grind (arith, nat_tests) in
+    contains-any (option_eq nat_eq (Some osd)) places (Some osd) there same
+
+first_osd-there : (places : List (Option ℕ)) (osd : ℕ) → first_osd places ≡ Some osd → Contains places (Some osd)
+first_osd-there [] osd is = cc
+first_osd-there (Some x ∷ places) osd is = Contains-first (Some x) places (Some osd) is
+first_osd-there (None ∷ places) osd is = Contains-later None places (Some osd) (first_osd-there places osd is)
+
+-- ---- the membership
+
+-- the list without devices that aren't up
+without : (ℕ → Bool) → Bool → List (Option ℕ) → List (Option ℕ)
+without up erasure places =
+    if erasure then map (λ place. if option_map_or up place false then place else None) places else filter (λ place. option_map_or up place false) places
+
+-- it is the same by another test that agrees on the devices of the list
+without-same : (up now : ℕ → Bool) (erasure : Bool) (places : List (Option ℕ)) → ((osd : ℕ) → Contains places (Some osd) → now osd ≡ up osd) → without now erasure places ≡ without up erasure places
+unfolding without
+without-same up now true places same =
+    map-agree (λ (place : Option ℕ). if option_map_or now place false then place else None) (λ (place : Option ℕ). if option_map_or up place false then place else None) places
+    (λ place there. ap (λ (b : Bool). if b then place else None) (tests place there))
+  where
+    tests : (place : Option ℕ) → Contains places place → option_map_or now place false ≡ option_map_or up place false
+    tests None there = refl
+    tests (Some osd) there = same osd there
+without-same up now false places same = filter-agree (λ (place : Option ℕ). option_map_or now place false) (λ (place : Option ℕ). option_map_or up place false) places tests
+  where
+    tests : (place : Option ℕ) → Contains places place → option_map_or now place false ≡ option_map_or up place false
+    tests None there = refl
+    tests (Some osd) there = same osd there
+
+-- its devices are those of the list
+without-there : (up : ℕ → Bool) (erasure : Bool) (places : List (Option ℕ)) (osd : ℕ) → Contains (without up erasure places) (Some osd) → Contains places (Some osd)
+unfolding without
+without-there up true places osd there =
+    let m = map-contains (λ (place : Option ℕ). if option_map_or up place false then place else None) places (Some osd) there in
+    subst (λ (place : Option ℕ). Contains places place) ((if_some (option_map_or up m.0 false) m.0 osd m.1.1).1) m.1.0
+without-there up false places osd there = (filter-contains (λ (place : Option ℕ). option_map_or up place false) places (Some osd) there).0
+
+-- the membership of a pool where the tree gives the first list and pg_temp the second
+lies : (ℕ → Bool) → PoolSpec → List (Option ℕ) → List (Option ℕ) → Membership
+lies up made raw given =
+    let rest = without up (is_erasure made.kind) given in
+    let placed = without up (is_erasure made.kind) raw in
+    members_with made placed (if nat_eq (length rest) 0 then placed else rest)
+
+membership-lies : (incs : List Incremental) (made : PoolSpec) (pg : PgId) → pool_membership incs pg made ≡ lies (is_up incs) made (raw_set incs made pg) (temp incs pg)
+unfolding without lies
+membership-lies incs made pg = refl
+
+lies-same : (up now : ℕ → Bool) (made : PoolSpec) (raw given : List (Option ℕ)) → ((osd : ℕ) → Contains raw (Some osd) → now osd ≡ up osd) → ((osd : ℕ) → Contains given (Some osd) → now osd ≡ up osd)
+    → lies now made raw given ≡ lies up made raw given
+unfolding lies
+lies-same up now made raw given placed chosen =
+    ap₂ (λ (p r : List (Option ℕ)). members_with made p (if nat_eq (length r) 0 then p else r))
+    (without-same up now (is_erasure made.kind) raw placed) (without-same up now (is_erasure made.kind) given chosen)
+
+-- the devices of acting stand in one of the two lists
+lies-there : (up : ℕ → Bool) (made : PoolSpec) (raw given : List (Option ℕ)) (osd : ℕ) → (lies up made raw given).acting_primary ≡ Some osd → (Contains raw (Some osd)) ⊎ (Contains given (Some osd))
+unfolding lies
+lies-there up made raw given osd is = by_rest (nat_eq (length (without up (is_erasure made.kind) given)) 0) is
+  where
+    by_rest : (b : Bool) → first_osd (if b then without up (is_erasure made.kind) raw else without up (is_erasure made.kind) given) ≡ Some osd → (Contains raw (Some osd)) ⊎ (Contains given (Some osd))
+    by_rest true first = inl (without-there up (is_erasure made.kind) raw osd (first_osd-there (without up (is_erasure made.kind) raw) osd first))
+    by_rest false first = inr (without-there up (is_erasure made.kind) given osd (first_osd-there (without up (is_erasure made.kind) given) osd first))
+
+-- ---- a group of which the incremental tells nothing
+
+-- what is known of raw sets
+abbrev pub RawSetsStay : Type 0
+RawSetsStay = (incs : List Incremental) (inc : Incremental) (pg : PgId) (places : List (Option ℕ)) → map_fault incs inc ≡ None → moves inc pg.pool ≡ false → raw_set_of incs pg ≡ Some places → raw_set_of (then_with incs inc) pg ≡ Some places
+
+-- the incremental moves no group at large, and changes neither pool nor pg_temp of this one
+pub record IsLeft (inc : Incremental) (pg : PgId) : Type 0 where
+  pub still : moves_all inc ≡ false
+  pub pool : changes_pool inc pg.pool ≡ false
+  pub temp : changes_temp inc pg ≡ false
+
+raw-same : RawSetsStay → (incs : List Incremental) (inc : Incremental) (pg : PgId) (made : PoolSpec) → map_fault incs inc ≡ None → IsLeft inc pg → pool incs pg.pool ≡ Some made → raw_set (then_with incs inc) made pg ≡ raw_set incs made pg
+raw-same raws incs inc pg made fine left is =
+    let large = or_parts (nat_lt 0 (length inc.weight)) (is_some inc.crush) left.still in
+    let own = or_parts (list_any (λ (made : PoolSpec). nat_eq made.id pg.pool) inc.pools) (list_any (λ (sizes : PoolSizes). nat_eq sizes.pool pg.pool) inc.sizes) left.pool in
+    let moved : moves inc pg.pool ≡ false = rw (large.1, large.0, own.1) refl in
+    let now : pool (then_with incs inc) pg.pool ≡ Some made = pool-same incs inc pg.pool left.pool ∙ is in
+    let before : raw_set_of incs pg ≡ Some (raw_set incs made pg) = ap (option_map (λ m. raw_set incs m pg)) is in
+    same_Some _ _ (ap (option_map (λ m. raw_set (then_with incs inc) m pg)) (sym now) ∙ raws incs inc pg (raw_set incs made pg) fine moved before)
+
+-- the devices on which the group lies, or may lie by pg_temp, stay as they were
+pub record DevicesStay (incs : List Incremental) (inc : Incremental) (pg : PgId) (made : PoolSpec) : Type 0 where
+  pub placed : (osd : ℕ) → has_osd osd (raw_set incs made pg) ≡ true → device (then_with incs inc) osd ≡ device incs osd
+  pub given : (osd : ℕ) → has_osd osd (temp incs pg) ≡ true → device (then_with incs inc) osd ≡ device incs osd
+
+pub members-same : RawSetsStay → (incs : List Incremental) (inc : Incremental) (pg : PgId) (made : PoolSpec) → map_fault incs inc ≡ None → IsLeft inc pg → pool incs pg.pool ≡ Some made → DevicesStay incs inc pg made
+    → pool_membership (then_with incs inc) pg made ≡ pool_membership incs pg made
+members-same raws incs inc pg made fine left is stay =
+    membership-lies (then_with incs inc) made pg
+    ∙ ap₂ (lies (is_up (then_with incs inc)) made) (raw-same raws incs inc pg made fine left is) (temp-same incs inc pg left.temp)
+    ∙ lies-same (is_up incs) (is_up (then_with incs inc)) made (raw_set incs made pg) (temp incs pg)
+    (λ osd there. let dev = stay.placed osd (osd-there (raw_set incs made pg) osd there) in λ i. (dev i).is_up)
+    (λ osd there. let dev = stay.given osd (osd-there (temp incs pg) osd there) in λ i. (dev i).is_up)
+    ∙ sym (membership-lies incs made pg)
+
+-- who leads is one of these devices
+pub leader-same : (incs : List Incremental) (inc : Incremental) (pg : PgId) (made : PoolSpec) (osd : ℕ) → DevicesStay incs inc pg made → (pool_membership incs pg made).acting_primary ≡ Some osd → device (then_with incs inc) osd ≡ device incs osd
+leader-same incs inc pg made osd stay leads =
+    let leads' : (lies (is_up incs) made (raw_set incs made pg) (temp incs pg)).acting_primary ≡ Some osd = ap (λ (m : Membership). m.acting_primary) (sym (membership-lies incs made pg)) ∙ leads in
+    elim (lies-there (is_up incs) made (raw_set incs made pg) (temp incs pg) osd leads') [
+      | inl placed ↦ stay.placed osd (osd-there (raw_set incs made pg) osd placed)
+      | inr given ↦ stay.given osd (osd-there (temp incs pg) osd given)
+    ]

@@ -1,0 +1,182 @@
+-- An entry that doesn't touch a group leaves its view as it was, but for count and epoch.
+use Rattle.std.proofs.Common.{◌≡◌, ℕ, List, [], ◌∷◌, ◌++◌, Option, Some, None, is_some, Bool, true, false, ◌||◌, nat_lt, length, refl, ap, sym, ◌∙◌}
+use Rattle.std.specs.List.{filter, list_any}
+use Rattle.std.specs.Option.{option_map, option_map_or}
+use Rattle.std.proofs.Math.Bool.{or-true}
+use Rattle.std.proofs.lemmas.Bool.{or_parts}
+use Rattle.pgp_code.specs.AnyCode.{enough_of, is_by_place}
+use Rattle.pgp_code.specs.declared.any.AnyCode.{AnyCode}
+use Rattle.pgp_ids.specs.declared.entry.Entry.{Entry}
+use Rattle.pgp_ids.specs.declared.entry.Entry.TheVariants as entry
+use Rattle.pgp_ids.specs.declared.history.EpochState.{EpochState}
+use Rattle.pgp_ids.specs.declared.history.PrimaryFacts.{PrimaryFacts}
+use Rattle.pgp_ids.specs.declared.incremental.Incremental.{Incremental}
+use Rattle.pgp_ids.specs.declared.pg_id.PgId.{PgId}
+use Rattle.pgp_ids.specs.declared.pool.PoolSpec.{PoolSpec}
+use Rattle.pgp_ids.specs.declared.report.Info.{Info}
+use Rattle.pgp_ids.specs.declared.report.Report.{Report}
+use Rattle.pgp_interval.specs.History.{History, stepped}
+use Rattle.pgp_interval.specs.Runs.{current_first, past_intervals}
+use Rattle.pgp_map.specs.Checked.{are_checked}
+use Rattle.pgp_map.specs.Devices.{device}
+use Rattle.pgp_map.specs.Map.{epoch}
+use Rattle.pgp_map.specs.MapFault.{map_fault, then_with}
+use Rattle.pgp_map.specs.Pools.{pool, temp, has_group, is_same_group}
+use Rattle.pgp_sets.specs.Sets.{membership, pool_membership, raw_set}
+use Rattle.pgp_group.specs.Entries.{inc_of, incs_of, infos_of, reports_of}
+use Rattle.pgp_group.specs.GroupHistory.{primary_facts, group_history}
+use Rattle.pgp_group.specs.GroupLog.{group_in, group_with}
+use Rattle.pgp_group.specs.Touched.{has_osd, is_placed, names, has_to_do_with, changed_devices, moves_all, changes_pool, changes_temp, is_touched, told_at}
+use Rattle.pgp_group.specs.View.{view_of, scratch}
+use Rattle.pgp_group.proofs.GroupLemmas.{infos-other, infos-same, reports-other, reports-same}
+use Rattle.pgp_group.proofs.GrowthLemmas.{Shortens, EndsWell, checked-numbered, history-grows}
+use Rattle.pgp_group.proofs.HistoryLemmas.{history_if, history-current}
+use Rattle.pgp_group.proofs.Lists.{nothing_new, one_new}
+use Rattle.pgp_group.proofs.SameViewLemmas.{view-same}
+use Rattle.pgp_group.proofs.UntoldLemmas.{DevicesStay, IsLeft, RawSetsStay, leader-same, members-same, pool-same, same_device}
+use Rattle.pgp_group.proofs.ViewLemmas.{history_there}
+
+-- the view with the entry is that of the log before, but for count and epoch
+abbrev pub Stays : List Entry → Entry → PgId → Type 0
+Stays log new pg = scratch (log ++ new ∷ []) pg ≡ option_map (told_at (length (log ++ new ∷ [])) (epoch (incs_of (log ++ new ∷ [])))) (scratch log pg)
+
+-- ---- an entry that brings no map, and nothing of the group
+
+quiet : (log : List Entry) (new : Entry) (pg : PgId) → inc_of new ≡ None → filter (λ (i : Info). is_same_group i.pg pg) (infos_of (log ++ new ∷ [])) ≡ filter (λ (i : Info). is_same_group i.pg pg) (infos_of log)
+    → filter (λ (r : Report). is_same_group r.pg pg) (reports_of (log ++ new ∷ [])) ≡ filter (λ (r : Report). is_same_group r.pg pg) (reports_of log) → Stays log new pg
+quiet log new pg no_map told reported =
+    ap (λ (l : List Incremental). option_map view_of (option_map (group_with (log ++ new ∷ []) pg) (group_history l pg))) incs_are
+    ∙ by_history (group_history (incs_of log) pg)
+  where
+    incs_are : incs_of (log ++ new ∷ []) ≡ incs_of log
+    incs_are = nothing_new inc_of log new no_map
+
+    by_history : (found : Option (History AnyCode)) → option_map view_of (option_map (group_with (log ++ new ∷ []) pg) found) ≡ option_map (told_at (length (log ++ new ∷ [])) (epoch (incs_of (log ++ new ∷ [])))) (option_map view_of (option_map (group_with log pg) found))
+    by_history None = refl
+    by_history (Some h) = ap Some (view-same log (log ++ new ∷ []) pg h h.lived (record {
+      first = refl;
+      past = refl;
+      infos = told;
+      reports = reported;
+      named = λ osd named. ap (λ (l : List Incremental). device l osd) incs_are;
+      leads = λ osd leads. ap (λ (l : List Incremental). device l osd) incs_are;
+    }))
+
+-- ---- an incremental that doesn't touch the group
+
+-- what a step to the same membership does to the intervals
+pub record GoesOn : Type 0 where
+  pub past : (h : History AnyCode) (facts : PrimaryFacts) → past_intervals enough_of is_by_place (stepped h h.current facts) ≡ past_intervals enough_of is_by_place h
+  pub first : (h : History AnyCode) (facts : PrimaryFacts) → current_first (stepped h h.current facts) ≡ current_first h
+
+-- no device that the incremental changes has to do with the group
+record IsApart (log : List Entry) (inc : Incremental) (pg : PgId) : Type 0 where
+  left : IsLeft inc pg
+  devices : list_any (has_to_do_with log pg) (changed_devices inc) ≡ false
+
+apart : (log : List Entry) (inc : Incremental) (pg : PgId) → is_touched log (entry.Inc inc) pg ≡ false → IsApart log inc pg
+apart log inc pg untouched =
+    let a = or_parts (moves_all inc || changes_pool inc pg.pool || changes_temp inc pg) (list_any (has_to_do_with log pg) (changed_devices inc)) untouched in
+    let b = or_parts (moves_all inc || changes_pool inc pg.pool) (changes_temp inc pg) a.0 in
+    let c = or_parts (moves_all inc) (changes_pool inc pg.pool) b.0 in
+    record { left = record { still = c.0; pool = c.1; temp = b.1 }; devices = a.1 }
+
+-- one of three tests passes
+first_of_three : (a b c : Bool) → a ≡ true → (a || b || c) ≡ true
+first_of_three a b c passes = rw passes refl
+
+second_of_three : (a b c : Bool) → b ≡ true → (a || b || c) ≡ true
+second_of_three a b c passes = rw (passes, or-true) refl
+
+third_of_three : (a b c : Bool) → c ≡ true → (a || b || c) ≡ true
+third_of_three a b c passes = rw (passes, or-true) refl
+
+-- devices on which the group lies, or may lie by pg_temp
+devices-stay : (log : List Entry) (inc : Incremental) (pg : PgId) (made : PoolSpec) → IsApart log inc pg → pool (incs_of log) pg.pool ≡ Some made → DevicesStay (incs_of log) inc pg made
+devices-stay log inc pg made is there = record {
+  placed = λ osd stands.
+      let placed : is_placed (incs_of log) pg osd ≡ true = ap (λ (o : Option PoolSpec). option_map_or (λ p. has_osd osd (raw_set (incs_of log) p pg)) o false) there ∙ stands in
+      let near : has_to_do_with log pg osd ≡ true = first_of_three (is_placed (incs_of log) pg osd) (has_osd osd (temp (incs_of log) pg)) (option_map_or (names osd) (group_in log pg) false) placed in
+      same_device (has_to_do_with log pg) (incs_of log) inc osd is.devices near;
+  given = λ osd stands.
+      let near : has_to_do_with log pg osd ≡ true = second_of_three (is_placed (incs_of log) pg osd) (has_osd osd (temp (incs_of log) pg)) (option_map_or (names osd) (group_in log pg) false) stands in
+      same_device (has_to_do_with log pg) (incs_of log) inc osd is.devices near;
+}
+
+-- devices of which the group speaks
+named-stay : (log : List Entry) (inc : Incremental) (pg : PgId) (h : History AnyCode) (osd : ℕ) → IsApart log inc pg → group_history (incs_of log) pg ≡ Some h → names osd (group_with log pg h) ≡ true → device (then_with (incs_of log) inc) osd ≡ device (incs_of log) osd
+named-stay log inc pg h osd is there named =
+    let near' : option_map_or (names osd) (group_in log pg) false ≡ true = ap (λ (o : Option (History AnyCode)). option_map_or (names osd) (option_map (group_with log pg) o) false) there ∙ named in
+    let near : has_to_do_with log pg osd ≡ true = third_of_three (is_placed (incs_of log) pg osd) (has_osd osd (temp (incs_of log) pg)) (option_map_or (names osd) (group_in log pg) false) near' in
+    same_device (has_to_do_with log pg) (incs_of log) inc osd is.devices near
+
+-- the current interval goes on
+history-goes_on : Shortens → EndsWell → RawSetsStay → (log : List Entry) (inc : Incremental) (pg : PgId) (h : History AnyCode) (made : PoolSpec) → are_checked (then_with (incs_of log) inc) ≡ true → IsApart log inc pg
+    → group_history (incs_of log) pg ≡ Some h → pool (incs_of log) pg.pool ≡ Some made
+    → group_history (then_with (incs_of log) inc) pg ≡ Some (stepped h h.current (primary_facts (incs_of log) h.current.acting_primary))
+history-goes_on shorten fine raws log inc pg h made checked is there found =
+    let incs : List Incremental = incs_of log in
+    let facts : PrimaryFacts = primary_facts incs h.current.acting_primary in
+    let unrefused : map_fault incs inc ≡ None = fine incs inc checked in
+    let stays : membership (then_with incs inc) pg ≡ membership incs pg =
+    ap (option_map (pool_membership (then_with incs inc) pg)) (pool-same incs inc pg.pool is.left.pool ∙ found)
+    ∙ ap Some (members-same raws incs inc pg made unrefused is.left found (devices-stay log inc pg made is found))
+    ∙ ap (option_map (pool_membership incs pg)) (sym found) in
+    history-grows incs inc pg h (checked-numbered shorten fine incs (shorten incs (inc ∷ []) checked)) unrefused there
+    ∙ ap (option_map (λ members. stepped h members facts)) (stays ∙ history-current incs pg h there)
+
+view-stays : Shortens → EndsWell → RawSetsStay → GoesOn → (log : List Entry) (inc : Incremental) (pg : PgId) (h : History AnyCode) → are_checked (then_with (incs_of log) inc) ≡ true → IsApart log inc pg
+    → group_history (incs_of log) pg ≡ Some h → Stays log (entry.Inc inc) pg
+view-stays shorten fine raws on log inc pg h checked is there =
+    let made = history_if (incs_of log) pg (pool (incs_of log) pg.pool) h (has_group (incs_of log) pg) there in
+    let facts : PrimaryFacts = primary_facts (incs_of log) h.current.acting_primary in
+    let lived : List EpochState = (stepped h h.current facts).lived in
+    let grown : incs_of (log ++ entry.Inc inc ∷ []) ≡ then_with (incs_of log) inc = one_new inc_of log (entry.Inc inc) inc refl in
+    let after : group_history (incs_of (log ++ entry.Inc inc ∷ [])) pg ≡ Some (stepped h h.current facts) =
+    ap (λ (l : List Incremental). group_history l pg) grown ∙ history-goes_on shorten fine raws log inc pg h made.0 checked is there made.1.0 in
+    let leads : (osd : ℕ) → h.current.acting_primary ≡ Some osd → device (incs_of (log ++ entry.Inc inc ∷ [])) osd ≡ device (incs_of log) osd = λ osd first.
+    let first' : (pool_membership (incs_of log) pg made.0).acting_primary ≡ Some osd = ap (λ (t : History AnyCode). t.current.acting_primary) made.1.1 ∙ first in
+    ap (λ (l : List Incremental). device l osd) grown ∙ leader-same (incs_of log) inc pg made.0 osd (devices-stay log inc pg made.0 is made.1.0) first' in
+    ap (λ (o : Option (History AnyCode)). option_map view_of (option_map (group_with (log ++ entry.Inc inc ∷ []) pg) o)) after
+    ∙ ap Some (view-same log (log ++ entry.Inc inc ∷ []) pg h lived (record {
+      first = on.first h facts;
+      past = on.past h facts;
+      infos = infos-same log (entry.Inc inc) pg refl;
+      reports = reports-same log (entry.Inc inc) pg refl;
+      named = λ osd named. ap (λ (l : List Incremental). device l osd) grown ∙ named-stay log inc pg h osd is there named;
+      leads = leads;
+    }))
+    ∙ ap (λ (o : Option (History AnyCode)). option_map (told_at (length (log ++ entry.Inc inc ∷ [])) (epoch (incs_of (log ++ entry.Inc inc ∷ [])))) (option_map view_of (option_map (group_with log pg) o))) (sym there)
+
+-- a group that isn't there doesn't come
+none-stays : (log : List Entry) (inc : Incremental) (pg : PgId) → IsApart log inc pg → group_history (incs_of log) pg ≡ None → Stays log (entry.Inc inc) pg
+none-stays log inc pg is none =
+    let grown : incs_of (log ++ entry.Inc inc ∷ []) ≡ then_with (incs_of log) inc = one_new inc_of log (entry.Inc inc) inc refl in
+    let same : has_group (then_with (incs_of log) inc) pg ≡ has_group (incs_of log) pg = ap (λ (o : Option PoolSpec). option_map_or (λ made. nat_lt pg.pg made.pg_num) o false) (pool-same (incs_of log) inc pg.pool is.left.pool) in
+    let absent : is_some (group_history (then_with (incs_of log) inc) pg) ≡ false = history_there (then_with (incs_of log) inc) pg ∙ same ∙ sym (history_there (incs_of log) pg) ∙ ap is_some none in
+    ap (λ (l : List Incremental). option_map view_of (option_map (group_with (log ++ entry.Inc inc ∷ []) pg) (group_history l pg))) grown
+    ∙ ap (λ (o : Option (History AnyCode)). option_map view_of (option_map (group_with (log ++ entry.Inc inc ∷ []) pg) o)) (not_there (group_history (then_with (incs_of log) inc) pg) absent)
+    ∙ ap (λ (o : Option (History AnyCode)). option_map (told_at (length (log ++ entry.Inc inc ∷ [])) (epoch (incs_of (log ++ entry.Inc inc ∷ [])))) (option_map view_of (option_map (group_with log pg) o))) (sym none)
+  where
+    not_there : (found : Option (History AnyCode)) → is_some found ≡ false → found ≡ None
+    not_there None absent = refl
+    not_there (Some h) absent = cc
+
+inc-stays : Shortens → EndsWell → RawSetsStay → GoesOn → (log : List Entry) (inc : Incremental) (pg : PgId) → are_checked (then_with (incs_of log) inc) ≡ true → is_touched log (entry.Inc inc) pg ≡ false → Stays log (entry.Inc inc) pg
+inc-stays shorten fine raws on log inc pg checked untouched = by_history (group_history (incs_of log) pg) refl
+  where
+    by_history : (found : Option (History AnyCode)) → group_history (incs_of log) pg ≡ found → Stays log (entry.Inc inc) pg
+    by_history None none = none-stays log inc pg (apart log inc pg untouched) none
+    by_history (Some h) there = view-stays shorten fine raws on log inc pg h checked (apart log inc pg untouched) there
+
+-- ---- any entry
+
+pub untouched-stays : Shortens → EndsWell → RawSetsStay → GoesOn → (log : List Entry) (new : Entry) (pg : PgId) → are_checked (incs_of (log ++ new ∷ [])) ≡ true → is_touched log new pg ≡ false → Stays log new pg
+untouched-stays shorten fine raws on log (entry.Inc inc) pg checked untouched =
+    inc-stays shorten fine raws on log inc pg (sym (ap are_checked (one_new inc_of log (entry.Inc inc) inc refl)) ∙ checked) untouched
+untouched-stays shorten fine raws on log (entry.Info info) pg checked untouched =
+    quiet log (entry.Info info) pg refl (infos-other log info pg untouched) (reports-same log (entry.Info info) pg refl)
+untouched-stays shorten fine raws on log (entry.Entries report) pg checked untouched =
+    quiet log (entry.Entries report) pg refl (infos-same log (entry.Entries report) pg refl) (reports-other log report pg untouched)
+untouched-stays shorten fine raws on log entry.Close pg checked untouched =
+    quiet log entry.Close pg refl (infos-same log entry.Close pg refl) (reports-same log entry.Close pg refl)
