@@ -27,7 +27,7 @@ use Rattle.pgp_sets.specs.StatusLaws.{held_status-is}
 use Rattle.pgp_group.specs.Found.{AreHeard, IsFound}
 use Rattle.pgp_group.specs.GroupLog.{GroupLog, incs}
 use Rattle.pgp_group.specs.Heard.{les, heard, has_member}
-use Rattle.pgp_group.specs.Peering.{past, prior, leader, best, has_whole_log, if_whole, whole_best, present_members, peers, peer_missing}
+use Rattle.pgp_group.specs.Peering.{past, prior, leader, best, has_whole_log, if_whole, whole_best, present_members, peers, peer_missing, peer_states}
 use Rattle.pgp_group.specs.Prefers.{prefers}
 use Rattle.pgp_group.specs.Verdict.{is_waiting}
 use Rattle.pgp_group.specs.declared.found.Found.{Found}
@@ -62,10 +62,15 @@ found-no_log g found info is log best' whole states =
     let none : if_whole g info ≡ None = rw log refl in
     found_with g found (Some info) None is none best' whole states
 
-pub found-whole : (g : GroupLog) (found : Found) (info : Info) → best g ≡ Some info → has_whole_log g info ≡ true → found.best ≡ Some info.member → found.whole ≡ true → found.states ≡ map (peer_missing g info) (peers g info) → IsFound g found
+pub states-whole : (g : GroupLog) (info : Info) → best g ≡ Some info → has_whole_log g info ≡ true → peer_states g ≡ map (peer_missing g info) (peers g info)
+states-whole g info is log =
+    let there : if_whole g info ≡ Some info = rw log refl in
+    ap (states_by g) (ap (option_and_then (if_whole g)) is ∙ there)
+
+pub found-whole : (g : GroupLog) (found : Found) (info : Info) → best g ≡ Some info → has_whole_log g info ≡ true → found.best ≡ Some info.member → found.whole ≡ true → found.states ≡ peer_states g → IsFound g found
 found-whole g found info is log best' whole states =
     let there : if_whole g info ≡ Some info = rw log refl in
-    found_with g found (Some info) (Some info) is there best' whole states
+    found_with g found (Some info) (Some info) is there best' whole (states ∙ states-whole g info is log)
 
 -- the members of up and acting, by the same code and membership
 pub present-is : (g : GroupLog) (c : AnyCode) (current : Membership) → c ≡ g.history.code → current ≡ g.history.current → ascending is_before (members_of (is_by_place c) current.up ++ members_of (is_by_place c) current.acting) ≡ present_members g

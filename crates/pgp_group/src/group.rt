@@ -13,18 +13,24 @@ ghost use Rattle.pgp_sets.specs.Sets.{membership};
 ghost use Rattle.pgp_ids.specs.declared.entry.Entry.{Entry as Told};
 ghost use Rattle.pgp_ids.specs.declared.entry.Entry.TheVariants as entry;
 ghost use Rattle.pgp_ids.specs.declared.incremental.Incremental.{Incremental};
+ghost use Rattle.pgp_ids.specs.declared.log_entry.LogEntry.{LogEntry};
 ghost use Rattle.pgp_ids.specs.declared.pg_id.PgId.{PgId as Id};
+ghost use Rattle.pgp_ids.specs.declared.report.Info.{Info as Sent};
 ghost use Rattle.pgp_map.specs.Held.{HasGroup};
 ghost use Rattle.pgp_map.specs.Map.{epoch as epoch_of};
 ghost use Rattle.pgp_map.specs.MapFault.{map_fault, then_with};
 ghost use Rattle.pgp_map.specs.MapOf.{IsMapOf};
 ghost use Rattle.pgp_map.specs.Pools.{pool, has_group};
+ghost use Rattle.pgp_missing.specs.Kept.{IsLogOf};
+ghost use Rattle.pgp_missing.specs.Log.{is_whole};
 ghost use Rattle.pgp_group.specs.Entries.{inc_of, incs_of};
 ghost use Rattle.pgp_group.specs.GroupHistory.{AreNumbered, made_at};
 ghost use Rattle.pgp_group.specs.Causes.{AreCauses};
 ghost use Rattle.pgp_group.specs.Found.{AreHeard, IsFound, AreNeeds};
 ghost use Rattle.pgp_group.specs.GroupLog.{GroupLog, incs};
 ghost use Rattle.pgp_group.specs.GroupOf.{Keeps, IsGroupOf, IsSilent, Follows};
+ghost use Rattle.pgp_group.specs.Heard.{reported};
+ghost use Rattle.pgp_group.specs.Peering.{best as best_of, peer_states};
 ghost use Rattle.pgp_group.specs.Present.{IsPresent};
 ghost use Rattle.pgp_group.specs.Verdict.{verdict as verdict_of};
 ghost use Rattle.pgp_group.specs.View.{view_of, scratch};
@@ -38,10 +44,13 @@ use super::peers::states;
 use super::reported::member_log;
 use super::standing::{is_short, needs_up_thru};
 use pgp_code::{AnyCode, Recoverable};
-use pgp_ids::{Entry, Epoch, Info, Member, Membership, PgId, PoolKind, Report, Seq, Verdict, View};
+use pgp_ids::{
+    Entry, Epoch, Info, Member, Membership, PeerMissing, PgId, PoolKind, Report, Seq, Verdict, View,
+};
 use pgp_info::{Best, Preference};
 use pgp_interval::Intervals;
 use pgp_map::OsdMap;
+use pgp_missing::MemberLog;
 use pgp_prior::prior;
 use pgp_sets::up_acting;
 use std::alloc::{AllocError, Global};
@@ -187,13 +196,30 @@ impl Group {
         if !log.whole() {
             return Ok(nothing_to_go_by(self.alloc, Some(best.member)));
         }
-        let members = present_members(self.alloc, self.intervals.code(), map, current)?;
-        let states = states(self.alloc, &log, best.member, members.as_slice(), heard)?;
         Ok(Found {
             best: Some(best.member),
             whole: true,
-            states: Seq::from_vec(states),
+            states: self.states(map, current, &log, best.member, heard)?,
         })
+    }
+
+    /// The states of the members of up and acting that were heard, but for the best one, by its log, which is whole.
+    fn states(
+        &self,
+        map: &OsdMap,
+        current: &Membership,
+        log: &MemberLog,
+        best: Member,
+        heard: &Best<Preference>,
+    ) -> Result<Seq<PeerMissing>, AllocError>
+        requires { (info : Sent) (told : List LogEntry) → IsLogOf info told log.now → is_whole info told ≡ true }
+        ensures { IfOk result (λ states. (g : GroupLog) (info : Sent) → Keeps g self.now → current.now ≡ g.history.current
+            → AreHeard g heard.now → best_of g ≡ Some info → info.member ≡ best
+            → IsLogOf info (reported g info.member) log.now → states ≡ peer_states g) }
+    {
+        let members = present_members(self.alloc, self.intervals.code(), map, current)?;
+        let states = states(self.alloc, log, best, members.as_slice(), heard)?;
+        Ok(Seq::from_vec(states))
     }
 
     /// Whom the group has to hear, and whether it was.
