@@ -20,12 +20,13 @@ use Rattle.pgp_map.specs.Map.{epoch, up_to}
 use Rattle.pgp_map.specs.MapFault.{map_fault, then_with, has_epoch_gap, has_twice, has_unknown_device, has_already_up, has_already_down, has_still_up, has_up_thru_back, has_ahead, has_bad_pool, has_pool_known}
 use Rattle.pgp_map.specs.Pools.{pool, with_sizes, has_group}
 use Rattle.pgp_sets.specs.Sets.{pool_membership, membership}
+use Rattle.pgp_lists.proofs.Lists.{flat_map-push}
 use Rattle.pgp_lists.proofs.Members.{filter-contains}
 use Rattle.pgp_lists.proofs.Options.{if_none}
 use Rattle.pgp_lists.proofs.Ranges.{range_with_len-suc}
 use Rattle.pgp_group.specs.GroupHistory.{makes, made_at, AreNumbered, primary_facts, state_with, state_at_epoch, states_from, history_of, group_history}
 use Rattle.pgp_group.proofs.HistoryLemmas.{maker_of, history_if, history-length}
-use Rattle.pgp_group.proofs.Lists.{none-narrower, flat_map-snoc, last_or-snoc, last_where-passes, last_where-none, filter_map-agree}
+use Rattle.pgp_group.proofs.Lists.{none-narrower, last_or-snoc, last_where-passes, last_where-none, filter_map-agree}
 
 -- ---- an incremental that isn't refused
 
@@ -143,11 +144,14 @@ unmade incs inc id fine there =
     none-narrower (λ (made : PoolSpec). nat_eq made.id id) (λ (made : PoolSpec). is_some (pool incs made.id))
     (λ made same. ap (λ (k : ℕ). is_some (pool incs k)) (eqb-true made.id id same) ∙ there) inc.pools (next_of incs inc fine).known
 
+-- what was told last stays, where the incremental tells nothing of it
+pub told-stays : {E : Type 0} (test : E → Bool) (f : Incremental → List E) (incs : List Incremental) (inc : Incremental)
+    → list_any test (f inc) ≡ false → last_where test (flat_map f (then_with incs inc)) ≡ last_where test (flat_map f incs)
+told-stays test f incs inc none = ap (last_where test) (flat_map-push f incs inc) ∙ last_where-none test (flat_map f incs) (f inc) none
+
 made_of-stays : (incs : List Incremental) (inc : Incremental) (id : ℕ) → makes id inc ≡ false → made_of (then_with incs inc) id ≡ made_of incs id
 unfolding made_of
-made_of-stays incs inc id unmade =
-    ap (last_where (λ (made : PoolSpec). nat_eq made.id id)) (flat_map-snoc (λ (i : Incremental). i.pools) incs inc)
-    ∙ last_where-none (λ (made : PoolSpec). nat_eq made.id id) (flat_map (λ (i : Incremental). i.pools) incs) inc.pools unmade
+made_of-stays incs inc id unmade = told-stays (λ (made : PoolSpec). nat_eq made.id id) (λ (i : Incremental). i.pools) incs inc unmade
 
 made_at-stays : (incs : List Incremental) (inc : Incremental) (id : ℕ) → makes id inc ≡ false → made_at (then_with incs inc) id ≡ made_at incs id
 made_at-stays incs inc id unmade =

@@ -32,10 +32,6 @@ and_fails false b fails = refl
 
 -- ---- lists that grow by one
 
-pub flat_map-snoc : {X Y : Type 0} (f : X → List Y) (xs : List X) (x : X) → flat_map f (xs ++ x ∷ []) ≡ flat_map f xs ++ f x
-flat_map-snoc f [] x = append-nil (f x)
-flat_map-snoc f (y ∷ xs) x = ap (λ l. f y ++ l) (flat_map-snoc f xs x) ∙ sym (append_assoc (f y) (flat_map f xs) (f x))
-
 pub last_or-snoc : {X : Type 0} (o : Option X) (xs : List X) (x : X) → last_or o (xs ++ x ∷ []) ≡ Some x
 last_or-snoc o [] x = refl
 last_or-snoc o (y ∷ xs) x = last_or-snoc (Some y) xs x

@@ -13,7 +13,6 @@ use Rattle.pgp_ids.specs.declared.membership.Membership.{Membership}
 use Rattle.pgp_ids.specs.declared.pg_id.PgId.{PgId}
 use Rattle.pgp_ids.specs.declared.pool.PoolSizes.{PoolSizes}
 use Rattle.pgp_ids.specs.declared.pool.PoolSpec.{PoolSpec}
-use Rattle.pgp_lists.proofs.Lists.{flat_map-push}
 use Rattle.pgp_lists.proofs.Members.{Contains-first, Contains-later, contains-any, filter-contains, map-contains}
 use Rattle.pgp_lists.proofs.Options.{if_some}
 use Rattle.pgp_map.specs.Devices.{boots, takes_down, destroys, device, greatest_epoch, is_up}
@@ -22,14 +21,10 @@ use Rattle.pgp_map.specs.MapFault.{map_fault, then_with, is_erasure}
 use Rattle.pgp_map.specs.Pools.{pool, temp, is_same_group, with_sizes}
 use Rattle.pgp_sets.specs.Sets.{moves, raw_set, raw_set_of, members_with, pool_membership}
 use Rattle.pgp_group.specs.Touched.{has_osd, changed_devices, moves_all, changes_pool, changes_temp}
+use Rattle.pgp_group.proofs.GrowthLemmas.{told-stays}
 use Rattle.pgp_group.proofs.Lists.{none-narrower, none-append, any-mapped, last_where-none, left_new, map-agree, filter-agree}
 
 -- ---- devices
-
--- what was told last stays, where the incremental tells nothing of it
-told-stays : {E : Type 0} (test : E → Bool) (f : Incremental → List E) (incs : List Incremental) (inc : Incremental)
-    → list_any test (f inc) ≡ false → last_where test (flat_map f (then_with incs inc)) ≡ last_where test (flat_map f incs)
-told-stays test f incs inc none = ap (last_where test) (flat_map-push f incs inc) ∙ last_where-none test (flat_map f incs) (f inc) none
 
 -- the incremental doesn't name the device
 record IsUntold (inc : Incremental) (osd : ℕ) : Type 0 where

@@ -9,6 +9,7 @@ use Rattle.pgp_ids.specs.declared.incremental.Incremental.{Incremental}
 use Rattle.pgp_ids.specs.declared.pg_id.PgId.{PgId}
 use Rattle.pgp_info.specs.Preference.{IsPreference}
 use Rattle.pgp_info.specs.PreferenceLaws.{newest_is_preference, oldest_is_preference}
+use Rattle.pgp_lists.proofs.Options.{some_mapped}
 use Rattle.pgp_map.specs.Pools.{pool, has_group}
 use Rattle.pgp_group.specs.Entries.{incs_of}
 use Rattle.pgp_group.specs.GroupLog.{group_in, group_with}
@@ -25,10 +26,6 @@ prefers_is_preference (code.Erasure c) leader = oldest_is_preference leader
 there_if : {X : Type 0} (b : Bool) (x : X) → is_some (if b then Some x else None) ≡ b
 there_if true x = refl
 there_if false x = refl
-
-some_mapped : {X Y : Type 0} (f : X → Y) (found : Option X) → is_some (option_map f found) ≡ is_some found
-some_mapped f None = refl
-some_mapped f (Some x) = refl
 
 there_with : {X Y : Type 0} (found : Option X) (test : X → Bool) (make : X → Y) → is_some (if option_map_or test found false then option_map make found else None) ≡ option_map_or test found false
 there_with None test make = refl

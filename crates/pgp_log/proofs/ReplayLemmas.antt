@@ -22,8 +22,7 @@ use Rattle.pgp_map.specs.MapOf.{IsMapOf}
 use Rattle.pgp_map.specs.Pools.{pool, with_sizes, has_group, is_same_group}
 use Rattle.pgp_map.specs.declared.map.OsdMap.{OsdMap}
 use Rattle.pgp_group.proofs.GroupLemmas.{infos-other, infos-same, reports-other, reports-same}
-use Rattle.pgp_group.proofs.GrowthLemmas.{epoch-snoc, has_group-grows, history-last, made_at-made, next_epoch}
-use Rattle.pgp_group.proofs.Lists.{flat_map-snoc, last_where-none}
+use Rattle.pgp_group.proofs.GrowthLemmas.{checked-numbered, epoch-snoc, has_group-grows, history-last, made_at-made, next_epoch, told-stays}
 use Rattle.pgp_group.specs.Entries.{inc_of, incs_of}
 use Rattle.pgp_group.specs.GroupHistory.{AreNumbered, history_of, makes, made_at}
 use Rattle.pgp_group.specs.GroupOf.{IsGroupOf, IsSilent, Follows}
@@ -55,9 +54,7 @@ groups-sized pg (Some sizes) (Some other) (Some made) = refl
 has_group-same : (incs : List Incremental) (inc : Incremental) (pg : PgId) → makes pg.pool inc ≡ false → has_group (then_with incs inc) pg ≡ has_group incs pg
 has_group-same incs inc pg unmade =
     let sizes : List Incremental → Option PoolSizes = λ l. last_where (λ given. nat_eq given.pool pg.pool) (flat_map (λ i. i.sizes) l) in
-    let base : last_where (λ made. nat_eq made.id pg.pool) (flat_map (λ i. i.pools) (then_with incs inc)) ≡ last_where (λ made. nat_eq made.id pg.pool) (flat_map (λ i. i.pools) incs) =
-    ap (last_where (λ (made : PoolSpec). nat_eq made.id pg.pool)) (flat_map-snoc (λ (i : Incremental). i.pools) incs inc)
-    ∙ last_where-none (λ (made : PoolSpec). nat_eq made.id pg.pool) (flat_map (λ (i : Incremental). i.pools) incs) inc.pools unmade in
+    let base = told-stays (λ (made : PoolSpec). nat_eq made.id pg.pool) (λ (i : Incremental). i.pools) incs inc unmade in
     ap (λ (o : Option PoolSpec). option_map_or (λ made. nat_lt pg.pg made.pg_num) (option_map (with_sizes (sizes (then_with incs inc))) o) false) base
     ∙ groups-sized pg (sizes (then_with incs inc)) (sizes incs) (last_where (λ made. nat_eq made.id pg.pool) (flat_map (λ i. i.pools) incs))
 

@@ -3,16 +3,19 @@
 
 ghost use Rattle.std.specs.Prelude.{◌≡◌, [], ◌∷◌, ◌++◌, Some, None, true, false, option_map, codes};
 ghost use Rattle.pgp_code.specs.AnyCode.{enough_of, is_by_place};
+ghost use Rattle.pgp_code.specs.Pool.{code_of};
 ghost use Rattle.pgp_ids.specs.declared.entry.Entry.TheVariants as entry;
 ghost use Rattle.pgp_ids.specs.declared.peer.PeerState.TheVariants.{Missing};
+ghost use Rattle.pgp_ids.specs.declared.pool.PoolKind.TheVariants.{Replicated};
 ghost use Rattle.pgp_ids.specs.declared.verdict.Verdict.TheVariants as the;
+ghost use Rattle.pgp_interval.specs.History.{begun, stepped};
 ghost use Rattle.pgp_interval.specs.Runs.{past_intervals};
 ghost use Rattle.pgp_sets.specs.Examples.{copies_group, shards_group, stands_on, copies_placed, copies_on_three, shards_on_three, take_down, resize, lies_on};
 ghost use Rattle.pgp_group.specs.GroupHistory.{group_history};
 ghost use Rattle.pgp_group.specs.GroupLog.{group_in};
 ghost use Rattle.pgp_group.specs.Heard.{les, heard};
 ghost use Rattle.pgp_group.specs.View.{scratch};
-ghost use Rattle.pgp_group.specs.Examples.{in_slot, at, known_up, was, maps, two_shards_down, copy, copy_up_to, shard, infos_sent, entries_of, entries_of_first, three_writes, peer};
+ghost use Rattle.pgp_group.specs.Examples.{in_slot, at, on_three, known_up, was, maps, two_shards_down, copy, copy_up_to, shard, infos_sent, entries_of, entries_of_first, three_writes, peer};
 
 /// A group is short of members where acting has fewer than min_size, or where their slots aren't enough for the code.
 pub fn short_groups()
@@ -117,4 +120,15 @@ pub fn too_few_to_go_read_write()
     ensures { option_map (past_intervals enough_of is_by_place)
         (group_history (copies_placed ∷ known_up 2 0 1 ∷ resize 3 3 1 ∷ []) copies_group)
         ≡ Some (was 1 2 (lies_on 3 2 (Some 0 ∷ []) (Some 0 ∷ [])) false ∷ []) }
+{}
+
+/// A primary that booted after the interval opened wasn't up all through it. In a log it would open an interval; a trace may
+/// tell so.
+pub fn primary_that_booted_later()
+    ensures later { let opening = begun (code_of Replicated) 1 (on_three 2) in
+        past_intervals enough_of is_by_place (stepped opening (on_three 1) (record { up_from = 2; up_thru = 2 }))
+        ≡ was 1 1 (on_three 2) false ∷ [] }
+    ensures before { let opening = begun (code_of Replicated) 1 (on_three 2) in
+        past_intervals enough_of is_by_place (stepped opening (on_three 1) (record { up_from = 1; up_thru = 2 }))
+        ≡ was 1 1 (on_three 2) true ∷ [] }
 {}

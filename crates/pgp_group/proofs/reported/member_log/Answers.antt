@@ -6,7 +6,8 @@ use Rattle.pgp_ids.specs.declared.log_entry.LogEntry.{LogEntry}
 use Rattle.pgp_ids.specs.declared.report.Report.{Report}
 use Rattle.pgp_missing.specs.Kept.{IsLogOf}
 use Rattle.pgp_group.specs.Heard.{is_counted}
-use Rattle.pgp_group.proofs.Lists.{filter-passes, filter-fails, flat_map-snoc}
+use Rattle.pgp_lists.proofs.Lists.{flat_map-push}
+use Rattle.pgp_group.proofs.Lists.{filter-passes, filter-fails}
 use Rattle.pgp_group.proofs.reported.member_log.Goals as goal
 use Rattle.pgp_group.proofs.reported.member_log.Goals.{then-is_told_by+in_ok-add_all, else-is_told_by}
 
@@ -24,7 +25,7 @@ loop-report-preserved c = λ g here told.
       | then-is_told_by+in_ok-add_all w ↦
           let more : flat_map entries (filter counted (take (i + 1) all)) ≡ flat_map entries (filter counted (take i all)) ++ entries x =
           ap (flat_map entries) (filter-passes counted all i x c.loop-report-test.true c.report-item.is (sym test ∙ w.if-is_told_by.true))
-          ∙ flat_map-snoc entries (filter counted (take i all)) x in
+          ∙ flat_map-push entries (filter counted (take i all)) x in
           subst (λ (l : List LogEntry). IsLogOf info l c.if-is_told_by.log) (sym more)
           (rw (w.log-is, ← w.as_slice.ensures) (w.in_ok-add_all.ensures info (flat_map entries (filter counted (take i all))) before))
       | else-is_told_by w ↦
