@@ -1,22 +1,24 @@
 //! What holds of any log, and what the definitions say of small ones.
 #![tactic(auto, unfolding(crate::specs::Worked::logs_computed))]
 
-ghost use Rattle.std.specs.Prelude.{◌≡◌, ℕ, ◌<◌, ◌≤◌, List, [], ◌∷◌, ◌++◌, length, Some, None, true, false, Ok, Err, codes};
+ghost use Rattle.std.specs.Prelude.{◌≡◌, ℕ, ◌<◌, ◌≤◌, List, [], ◌∷◌, ◌++◌, length, Some, None, true, false, option_map, Ok, Err, codes};
 ghost use Rattle.pgp_refusals.specs.declared.ask_refusal.AskRefusal.TheVariants as ask;
 ghost use Rattle.pgp_ids.specs.declared.entry.Entry.{Entry};
 ghost use Rattle.pgp_ids.specs.declared.entry.Entry.TheVariants as entry;
+ghost use Rattle.pgp_ids.specs.declared.pg_id.PgId.{PgId};
 ghost use Rattle.pgp_refusals.specs.declared.refusal.Refusal.{Refusal};
 ghost use Rattle.pgp_refusals.specs.declared.refusal.Refusal.TheVariants as refusal;
 ghost use Rattle.pgp_map.specs.Examples.{empty_step, boot};
-ghost use Rattle.pgp_sets.specs.Examples.{copies_group, shards_group, of_weight, copies_on_three, take_down, resize};
+ghost use Rattle.pgp_sets.specs.Examples.{copies_group, copies_on_three, resize};
 ghost use Rattle.std.specs.List.{list_any};
 ghost use Rattle.pgp_map.specs.Checked.{are_checked};
 ghost use Rattle.pgp_sets.specs.Sets.{membership};
 ghost use Rattle.pgp_group.specs.Entries.{incs_of};
+ghost use Rattle.pgp_group.specs.Touched.{is_touched, told_at};
 ghost use Rattle.pgp_group.specs.View.{scratch};
 ghost use Rattle.pgp_group.specs.Examples.{at, in_slot, copy, copy_up_to, shard, known_up, maps, on_three, two_shards_down, entries_of_first, modify, before_serving, until_serving};
 ghost use Rattle.pgp_log.specs.Fits.{fits, entry_fault, is_close, is_closed};
-ghost use Rattle.pgp_log.specs.Log.{is_taken_at, is_legal, EpochsCount};
+ghost use Rattle.pgp_log.specs.Log.{epoch_of, is_taken_at, is_legal, EpochsCount};
 ghost use Rattle.pgp_log.specs.Shard.{shard_of};
 ghost use Rattle.pgp_log.specs.World.{World, Step, Reply, opening, after, after_all, replies, view_reply};
 ghost use Rattle.pgp_log.specs.WorldRun.{MayRun, is_want, taken_of};
@@ -24,6 +26,8 @@ ghost use Rattle.pgp_log.specs.World.Step.{Submit, Absorb, Ask};
 ghost use Rattle.pgp_log.specs.World.Reply.{Submitted, Absorbed, Asked};
 ghost use Rattle.pgp_log.specs.Locate.{group_of_object};
 ghost use Rattle.pgp_log.specs.Examples.{submits};
+
+use pgp_group::laws::touched as group_laws;
 
 /// An entry is refused since the log is closed, or else for what is wrong with it, or else since the log is full, which
 /// it never is for a Close. A full log is too large for a worked row: this is of any log of that length, and a test of the
@@ -65,6 +69,19 @@ pub fn legal_logs_are_checked_and_short()
     ensures short { (log : List Entry) → is_legal log ≡ true → length log ≤ 65536 }
     ensures room { (log : List Entry) → is_legal log ≡ true → is_closed log ≡ false → length log ≤ 65535 }
 {}
+
+/// An entry that a legal log takes changes the view of a group that it doesn't touch in count and epoch alone. A group that
+/// isn't there doesn't come.
+pub fn untouched_groups_stay_as_they_were()
+    ensures { (log : List Entry) (new : Entry) (pg : PgId) → is_legal log ≡ true → fits log new ≡ None
+        → is_touched log new pg ≡ false
+        → scratch (log ++ new ∷ []) pg
+        ≡ option_map (told_at (length (log ++ new ∷ [])) (epoch_of (log ++ new ∷ []))) (scratch log pg) }
+{
+    group_laws::untouched_groups_stay_as_they_were();
+    legal_logs_grow_by_entries_that_fit();
+    legal_logs_are_checked_and_short();
+}
 
 /// The log of a world stays legal.
 pub fn world_stays_legal()
