@@ -1,6 +1,7 @@
 pub mod FitsLemmas
 pub mod SharedLemmas
 pub mod WorldLemmas
+pub mod RunningLemmas
 pub mod TakeLemmas
 pub mod LogLemmas
 pub mod LocateLemmas

@@ -10,6 +10,7 @@ mod raw_sets;
 mod replay;
 mod report;
 mod shard;
+mod world;
 
 pub use entry::{inc_of, is_close};
 pub use judge::Judge;
@@ -18,3 +19,4 @@ pub use raw_sets::RawSets;
 pub use replay::{Replay, replay_of};
 pub use report::{entries_fault, info_fault};
 pub use shard::{ShardState, shard_of};
+pub use world::World;

@@ -1,0 +1,210 @@
+-- What the code of a world keeps of it.
+use Rattle.std.proofs.Common.{◌≡◌, ℕ, zero, suc, ◌+◌, ◌<◌, ◌≤◌, List, [], ◌∷◌, ◌++◌, ◌⊎◌, inl, inr, Result, Ok, Err, OnOk, OnErr, IfOk, Option, Some, None, true, false, length, map, min, take, drop, get_or, set, replicate, refl, ap, sym, ◌∙◌, subst, add-one, zero-add, arith, length-append}
+use Rattle.std.specs.List.{range_with_len}
+use Rattle.std.specs.declared.alloc.AllocError.{AllocError}
+use Rattle.std.proofs.Math.Seq.{drop-append_seam, map-set_same, take-append-add}
+use Rattle.std.proofs.lemmas.Bool.{cases_eq}
+use Rattle.std.proofs.lemmas.List.{drop-map, get_or-map, get_or-set_other, get_or-set_same, length-map, length-set, length-take, map-append, map-set, take-append-drop, take-map, take-take}
+use Rattle.std.proofs.lemmas.List.FromFn.{get_or-map-range_with_len}
+use Rattle.pgp_lists.proofs.Lists.{take-front}
+use Rattle.pgp_lists.proofs.Ranges.{range_with_len-suc}
+use Rattle.pgp_ids.specs.declared.ask_refusal.AskRefusal.{AskRefusal}
+use Rattle.pgp_ids.specs.declared.ask_refusal.AskRefusal.TheVariants.{UnknownGroup, Memory}
+use Rattle.pgp_ids.specs.declared.entry.Entry.{Entry}
+use Rattle.pgp_ids.specs.declared.pg_id.PgId.{PgId}
+use Rattle.pgp_ids.specs.declared.view.View.{View}
+use Rattle.pgp_map.specs.Pools.{has_group}
+use Rattle.pgp_group.specs.Entries.{incs_of}
+use Rattle.pgp_group.specs.View.{scratch}
+use Rattle.pgp_log.specs.Judge.{IsJudgeOf}
+use Rattle.pgp_log.specs.Log.{IsFrontOf, is_legal}
+use Rattle.pgp_log.specs.Running.{IsReading, IsRunning}
+use Rattle.pgp_log.specs.Shard.{Shard, HasReadSome, having_read_all, opening_shard, shard_of}
+use Rattle.pgp_log.specs.World.{World, front_of, view_reply}
+use Rattle.pgp_log.specs.World.Step.{Absorb, Ask}
+use Rattle.pgp_log.specs.World.Reply.{Absorbed, Asked}
+use Rattle.pgp_log.specs.WorldRun.{MayReply}
+use Rattle.pgp_log.specs.declared.judge.Judge.{Judge}
+use Rattle.pgp_log.proofs.LogLemmas.{legal-take}
+
+-- ---- the start
+
+pub openings-more : (k n : ℕ) → map (λ i. opening_shard i k) (range_with_len 0 (n + 1)) ≡ map (λ i. opening_shard i k) (range_with_len 0 n) ++ opening_shard n k ∷ []
+openings-more k n =
+    rw add-one (ap (map (λ i. opening_shard i k)) (range_with_len-suc 0 n)
+    ∙ map-append (λ i. opening_shard i k) (range_with_len 0 n) ((0 + n) ∷ [])
+    ∙ ap (λ j. map (λ i. opening_shard i k) (range_with_len 0 n) ++ opening_shard j k ∷ []) (zero-add n))
+
+pub openings-read : (a n k : ℕ) → map (λ s. length s.front) (map (λ i. opening_shard i k) (range_with_len a n)) ≡ replicate n 0
+openings-read a zero k = refl
+openings-read a (suc n) k = ap (λ l. 0 ∷ l) (openings-read (a + 1) n k)
+
+openings-length : (a n k : ℕ) → length (map (λ i. opening_shard i k) (range_with_len a n)) ≡ n
+openings-length a zero k = refl
+openings-length a (suc n) k = ap suc (openings-length (a + 1) n k)
+
+opening-reads : (log : List Entry) (k n : ℕ) → IsReading log k n (opening_shard n k)
+opening-reads log k n = record { front_is = record { rest = log; whole = refl }; shard_is = refl; shards_are = refl }
+
+pub openings-each : (log : List Entry) (k : ℕ) (all : List Shard) → all ≡ map (λ i. opening_shard i k) (range_with_len 0 k) → (length all ≡ k)
+    × ((n : ℕ) → n < length all → IsReading log (length all) n (get_or all n (opening_shard 0 0)))
+openings-each log k all are =
+    let long : length all ≡ k = ap length are ∙ openings-length 0 k k in (
+      long,
+      λ n below.
+          let here : get_or all n (opening_shard 0 0) ≡ opening_shard n k =
+          ap (λ (l : List Shard). get_or l n (opening_shard 0 0)) are
+          ∙ get_or-map-range_with_len (λ i. opening_shard i k) 0 k n n (opening_shard 0 0) (omega (arith, below, long)) (zero-add n) in
+          rw (here, long) (opening-reads log k n),
+    )
+
+pub openings-running : (k : ℕ) (judge : Judge) (all : List Shard) → all ≡ map (λ i. opening_shard i k) (range_with_len 0 k) → 0 < k → IsJudgeOf [] judge → IsRunning [] judge all
+openings-running k judge all are some is =
+    let each = openings-each [] k all are in
+    record { judge_is = is; some = omega (arith, some, each.0); each = each.1 }
+
+-- ---- a shard reads on
+
+-- what follows the front in the log, so many entries of it
+read-on : {X : Type 0} (f : X → Entry) (xs : List X) (front : List Entry) (m : ℕ) → IsFrontOf front (map f xs)
+    → front ++ map f (take m (drop (length front) xs)) ≡ take (length front + m) (map f xs)
+read-on f xs front m is =
+    ap (λ l. front ++ l) (sym (take-map f m (drop (length front) xs)) ∙ ap (take m) (sym (drop-map f (length front) xs) ∙ ap (drop (length front)) is.whole ∙ drop-append_seam front is.rest))
+    ∙ sym (take-append-add front is.rest m) ∙ ap (take (length front + m)) (sym is.whole)
+
+-- and fewer of these
+read-fewer : {X : Type 0} (f : X → Entry) (xs : List X) (front : List Entry) (m r : ℕ) → IsFrontOf front (map f xs) → r ≤ m
+    → front ++ take r (map f (take m (drop (length front) xs))) ≡ take (length front + r) (map f xs)
+read-fewer f xs front m r is fewer =
+    ap (λ l. front ++ l) (take-map f r (take m (drop (length front) xs)) ∙ ap (map f) (take-take r m (drop (length front) xs) fewer))
+    ∙ read-on f xs front r is
+
+few : {X : Type 0} (f : X → Entry) (ys : List X) (m r : ℕ) → r < length (map f (take m ys)) → r < m
+few f ys m r below = omega (arith, below, length-map (take m ys) f, length-take m ys)
+
+reading-on : (log : List Entry) (count i p : ℕ) (old new : Shard) → IsReading log count i old → new ≡ record old { front = take p log } → IsReading log count i new
+reading-on log count i p old new is same =
+    subst (IsReading log count i) (sym same) (record {
+      front_is = record { rest = drop p log; whole = sym (take-append-drop p log) };
+      shard_is = is.shard_is;
+      shards_are = is.shards_are;
+    })
+
+still-running : (log : List Entry) (judge : Judge) (shards : List Shard) (i p : ℕ) (new : Shard) → IsRunning log judge shards → i < length shards
+    → new ≡ record (get_or shards i (opening_shard 0 0)) { front = take p log } → IsRunning log judge (set shards i new)
+still-running log judge shards i p new is there same = record {
+  judge_is = is.judge_is;
+  some = omega (arith, is.some, length-set shards i new);
+  each = λ n below. subst (λ k. IsReading log k n (get_or (set shards i new) n (opening_shard 0 0))) (sym (length-set shards i new)) (at n (omega (arith, below, length-set shards i new)) (cases_eq n i));
+}
+  where
+    at : (n : ℕ) → n < length shards → (n ≡ i) ⊎ (n ≡ i → ⊥) → IsReading log (length shards) n (get_or (set shards i new) n (opening_shard 0 0))
+    at n below (inl here) =
+        subst (λ k. IsReading log (length shards) k (get_or (set shards i new) k (opening_shard 0 0))) (sym here)
+        (subst (IsReading log (length shards) i) (sym (get_or-set_same shards i new (opening_shard 0 0) there))
+        (reading-on log (length shards) i p (get_or shards i (opening_shard 0 0)) new (is.each i there) same))
+    at n below (inr other) =
+        subst (IsReading log (length shards) n) (sym (get_or-set_other shards i n new (opening_shard 0 0) other)) (is.each n below)
+
+-- what each shard has read
+read-set : (log : List Entry) (shards : List Shard) (i p : ℕ) (s new : Shard) → new ≡ record s { front = take p log }
+    → map (λ s. length s.front) (set shards i new) ≡ set (map (λ s. length s.front) shards) i (min p (length log))
+read-set log shards i p s new same =
+    map-set (λ (s : Shard). length s.front) shards i new
+    ∙ ap (set (map (λ (s : Shard). length s.front) shards) i) (ap (λ (s : Shard). length s.front) same ∙ length-take p log)
+
+-- the front of the shard at this place
+front-at : (log : List Entry) (judge : Judge) (shards : List Shard) (i : ℕ) (s : Shard) → IsRunning log judge shards → i < length shards → s ≡ get_or shards i (opening_shard 0 0) → IsFrontOf s.front log
+front-at log judge shards i s is there here = subst (λ (o : Shard). IsFrontOf o.front log) (sym here) (is.each i there).front_is
+
+-- a call that reads, as far as it came
+pub absorbed : {X E : Type 0} (f : X → Entry) (xs : List X) (judge : Judge) (shards : List Shard) (i count : ℕ) (s new : Shard) (r : Result (Unit {0}) E)
+    → IsRunning (map f xs) judge shards → i < length shards → s ≡ get_or shards i (opening_shard 0 0)
+    → OnOk r (new ≡ having_read_all s (map f (take count (drop (length s.front) xs))))
+    → OnErr r (HasReadSome s (map f (take count (drop (length s.front) xs))) new)
+    → IsRunning (map f xs) judge (set shards i new)
+absorbed f xs judge shards i count s new (Ok x) is there here ok err =
+    still-running (map f xs) judge shards i (length s.front + count) new is there
+    (ok ∙ ap (λ (l : List Entry). record s { front = l }) (read-on f xs s.front count (front-at (map f xs) judge shards i s is there here))
+    ∙ ap (λ (o : Shard). record o { front = take (length s.front + count) (map f xs) }) here)
+absorbed f xs judge shards i count s new (Err e) is there here ok err =
+    let fewer : err.read < count = few f (drop (length s.front) xs) count err.read err.fewer in
+    still-running (map f xs) judge shards i (length s.front + err.read) new is there
+    (err.after_is ∙ ap (λ (l : List Entry). record s { front = l }) (read-fewer f xs s.front count err.read (front-at (map f xs) judge shards i s is there here) (omega arith))
+    ∙ ap (λ (o : Shard). record o { front = take (length s.front + err.read) (map f xs) }) here)
+
+-- how many entries a shard has read
+read-at : (shards : List Shard) (i : ℕ) (s : Shard) → i < length shards → s ≡ get_or shards i (opening_shard 0 0) → length s.front ≡ get_or (map (λ s. length s.front) shards) i 0
+read-at shards i s there here = ap (λ (o : Shard). length o.front) here ∙ sym (get_or-map (λ (o : Shard). length o.front) shards i (opening_shard 0 0) 0 there)
+
+pub absorbed-reply : {X : Type 0} (f : X → Entry) (xs : List X) (judge : Judge) (shards : List Shard) (i count : ℕ) (s new : Shard) (r : Result (Unit {0}) AllocError)
+    → IsRunning (map f xs) judge shards → i < length shards → s ≡ get_or shards i (opening_shard 0 0)
+    → OnOk r (new ≡ having_read_all s (map f (take count (drop (length s.front) xs))))
+    → OnErr r (HasReadSome s (map f (take count (drop (length s.front) xs))) new)
+    → MayReply (record { log = map f xs; read = map (λ s. length s.front) shards }) (Absorb i count) (Absorbed r) (record { log = map f xs; read = map (λ s. length s.front) (set shards i new) })
+absorbed-reply f xs judge shards i count s new (Ok x) is there here ok err =
+    let same : new ≡ record s { front = take (length s.front + count) (map f xs) } =
+    ok ∙ ap (λ (l : List Entry). record s { front = l }) (read-on f xs s.front count (front-at (map f xs) judge shards i s is there here)) in
+    inl (record {
+      reply_is = refl;
+      next_is = ap (λ (l : List ℕ). record { log = map f xs; read = l }) (read-set (map f xs) shards i (length s.front + count) s new same
+          ∙ ap (λ n. set (map (λ (s : Shard). length s.front) shards) i (min (n + count) (length (map f xs)))) (read-at shards i s there here));
+    })
+absorbed-reply f xs judge shards i count s new (Err e) is there here ok err =
+    let fewer : err.read < count = few f (drop (length s.front) xs) count err.read err.fewer in
+    let same : new ≡ record s { front = take (length s.front + err.read) (map f xs) } =
+    err.after_is ∙ ap (λ (l : List Entry). record s { front = l }) (read-fewer f xs s.front count err.read (front-at (map f xs) judge shards i s is there here) (omega arith)) in
+    inr (
+      refl,
+      record {
+        read = err.read;
+        fewer = fewer;
+        next_is = ap (λ (l : List ℕ). record { log = map f xs; read = l }) (read-set (map f xs) shards i (length s.front + err.read) s new same
+            ∙ ap (λ n. set (map (λ (s : Shard). length s.front) shards) i (min (n + err.read) (length (map f xs)))) (read-at shards i s there here));
+      },
+    )
+
+-- a shard has read no more than there is
+pub reads-within : {X : Type 0} (f : X → Entry) (xs : List X) (judge : Judge) (shards : List Shard) (i : ℕ) (s : Shard) → IsRunning (map f xs) judge shards → i < length shards
+    → s ≡ get_or shards i (opening_shard 0 0) → length s.front ≤ length xs
+reads-within f xs judge shards i s is there here =
+    let front = front-at (map f xs) judge shards i s is there here in
+    omega (arith, ap length front.whole, length-append s.front front.rest, length-map xs f)
+
+-- the entries that a shard is to read come next in the log
+pub next-legal : {X : Type 0} (f : X → Entry) (xs : List X) (judge : Judge) (shards : List Shard) (i count : ℕ) (s : Shard)
+    → IsRunning (map f xs) judge shards → i < length shards → s ≡ get_or shards i (opening_shard 0 0)
+    → is_legal (s.front ++ map f (take count (drop (length s.front) xs))) ≡ true
+next-legal f xs judge shards i count s is there here =
+    ap is_legal (read-on f xs s.front count (front-at (map f xs) judge shards i s is there here))
+    ∙ legal-take (length s.front + count) (map f xs) is.judge_is.legal
+
+-- ---- a shard is asked
+
+-- what the group's shard has read
+asked-front : (log : List Entry) (judge : Judge) (shards : List Shard) (pg : PgId) (k : ℕ) (s : Shard) → IsRunning log judge shards → k ≡ shard_of (length shards) pg → k < length shards
+    → s ≡ get_or shards k (opening_shard 0 0) → front_of (record { log = log; read = map (λ s. length s.front) shards }) pg ≡ s.front
+asked-front log judge shards pg k s is number there here =
+    let front = front-at log judge shards k s is there here in
+    ap (λ n. take (get_or (map (λ (s : Shard). length s.front) shards) (shard_of n pg) 0) log) (length-map shards (λ (s : Shard). length s.front))
+    ∙ ap (λ j. take (get_or (map (λ (s : Shard). length s.front) shards) j 0) log) (sym number)
+    ∙ ap (λ n. take n log) (sym (read-at shards k s there here))
+    ∙ ap (take (length s.front)) front.whole ∙ take-front s.front front.rest
+
+asked : (w : World) (pg : PgId) (front : List Entry) (r : Result View AskRefusal) → front_of w pg ≡ front → IfOk r (λ view. scratch front pg ≡ Some view)
+    → (r ≡ Err UnknownGroup → has_group (incs_of front) pg ≡ false) → MayReply w (Ask pg) (Asked r) w
+asked w pg front (Ok view) is ok unknown =
+    inl (record { reply_is = ap Asked (sym (ap (λ (l : List Entry). view_reply (scratch l pg)) is ∙ ap view_reply ok)); next_is = refl })
+asked w pg front (Err UnknownGroup) is ok unknown =
+    let none : scratch front pg ≡ None = rw (unknown refl) refl in
+    inl (record { reply_is = ap Asked (sym (ap (λ (l : List Entry). view_reply (scratch l pg)) is ∙ ap view_reply none)); next_is = refl })
+asked w pg front (Err Memory) is ok unknown = inr (refl, refl)
+
+pub asked-reply : (log : List Entry) (judge : Judge) (shards : List Shard) (pg : PgId) (k : ℕ) (s new : Shard) (r : Result View AskRefusal) → IsRunning log judge shards
+    → k ≡ shard_of (length shards) pg → k < length shards → s ≡ get_or shards k (opening_shard 0 0) → new ≡ s
+    → IfOk r (λ view. scratch s.front pg ≡ Some view) → (r ≡ Err UnknownGroup → has_group (incs_of s.front) pg ≡ false)
+    → MayReply (record { log = log; read = map (λ s. length s.front) shards }) (Ask pg) (Asked r) (record { log = log; read = map (λ s. length s.front) (set shards k new) })
+asked-reply log judge shards pg k s new r is number there here same ok unknown =
+    let kept : map (λ (s : Shard). length s.front) (set shards k new) ≡ map (λ (s : Shard). length s.front) shards =
+    map-set_same (λ (s : Shard). length s.front) shards k new (opening_shard 0 0) (ap (λ (o : Shard). length o.front) (same ∙ here)) in
+    rw kept (asked (record { log = log; read = map (λ s. length s.front) shards }) pg s.front r (asked-front log judge shards pg k s is number there here) ok unknown)

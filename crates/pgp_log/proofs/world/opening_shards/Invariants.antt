@@ -1,0 +1,7 @@
+use Rattle.std.proofs.Common.{◌≡◌, map}
+use Rattle.std.specs.List.{range_with_len}
+use Rattle.pgp_log.specs.Shard.{opening_shard}
+use Rattle.pgp_log.proofs.world.opening_shards.Given as goal
+
+abbrev pub invariant-loop-shard : goal.invariant-loop-shard
+invariant-loop-shard l = l.all.items ≡ map (λ n. opening_shard n l.shards) (range_with_len 0 l.shard)

@@ -1,0 +1,122 @@
+//! A world of one log and several shards, in one thread.
+
+ghost use Rattle.std.specs.Prelude.{◌≡◌, ◌<◌, ◌≤◌, length, map, take, drop, None, IfOk, OnOk, OnErr};
+ghost use Rattle.std.specs.List.{range_with_len};
+ghost use Rattle.pgp_log.specs.Fits.{fits};
+ghost use Rattle.pgp_log.specs.Shard.{opening_shard};
+ghost use Rattle.pgp_log.specs.World.{opening, with_entry};
+ghost use Rattle.pgp_log.specs.World.Step.{Submit, Absorb, Ask};
+ghost use Rattle.pgp_log.specs.World.Reply.{Submitted, Absorbed, Asked};
+ghost use Rattle.pgp_log.specs.WorldRun.{MayReply};
+
+use super::judge::Judge;
+use super::shard::{ShardState, shard_of};
+use pgp_ids::{AskRefusal, Entry, PgId, Refusal, View};
+use std::alloc::{AllocError, Global};
+use std::marker::Model;
+use std::sync::Arc;
+
+/// One log, a judge of what it takes next, and shards that read it one entry after another.
+#[derive(Debug, Drop)]
+pub struct World {
+    alloc: Global,
+    entries: Vec<Arc<Entry>>,
+    judge: Judge,
+    shards: Vec<ShardState>,
+}
+
+impl Model for World {
+    ghost use Rattle.std.specs.Prelude.{map, length};
+    ghost use Rattle.std.specs.Arc.{arc_value};
+    ghost use Rattle.pgp_log.specs.World.{World};
+    ghost use Rattle.pgp_log.specs.Running.{IsRunning};
+
+    ghost Value = { World };
+
+    ghost view = { λ w. record { log = map arc_value w.entries.items; read = map (λ s. length s.front) w.shards.items } };
+
+    ghost invariant = { λ w. IsRunning (map arc_value w.entries.items) w.judge w.shards.items };
+}
+
+impl World {
+    /// The world of so many shards at its start.
+    pub fn start(alloc: Global, shards: usize) -> Result<Self, AllocError>
+        requires { 0 < shards }
+        ensures { IfOk result (λ world. world ≡ opening shards) }
+    {
+        let all = opening_shards(alloc, shards)?;
+        let world = World {
+            alloc,
+            entries: Vec::new(alloc),
+            judge: Judge::start(alloc),
+            shards: all,
+        };
+        Ok(world)
+    }
+
+    /// Adds the entry to the log, if it fits, and answers how long the log is then.
+    pub fn submit(&mut self, entry: Entry) -> Result<usize, Refusal>
+        ensures { MayReply self.old (Submit entry) (Submitted result) self.new }
+    {
+        self.judge.fits(&entry)?;
+        self.take(entry)?;
+        Ok(self.entries.len())
+    }
+
+    /// Adds an entry that fits. Without memory for it, the world stays as it was.
+    fn take(&mut self, entry: Entry) -> Result<(), AllocError>
+        requires { fits self.old.log entry ≡ None }
+        ensures ok { OnOk result (self.new ≡ with_entry self.old entry) }
+        ensures err { OnErr result (self.new ≡ self.old) }
+    {
+        self.entries.reserve(1)?;
+        let entry = Arc::new(self.alloc, entry)?;
+        self.judge.take(&entry)?;
+        self.entries.push_reserved(entry);
+        Ok(())
+    }
+
+    /// Lets a shard read at most so many further entries. Without memory it may have read some of them.
+    pub fn absorb(&mut self, shard: usize, count: usize) -> Result<(), AllocError>
+        requires { shard < length self.old.read }
+        ensures { MayReply self.old (Absorb shard count) (Absorbed result) self.new }
+    {
+        let state = &mut self.shards[shard];
+        let read = state.count();
+        let next = unread(self.entries.as_slice(), read, count);
+        state.absorb_all(next)
+    }
+
+    /// All that its shard has read of the group.
+    pub fn ask(&mut self, pg: PgId) -> Result<View, AskRefusal>
+        ensures { MayReply self.old (Ask pg) (Asked result) self.new }
+    {
+        let shard = shard_of(self.shards.len(), &pg);
+        let state = &mut self.shards[shard];
+        state.ask(pg)
+    }
+}
+
+/// The entries after so many that were read, at most this many.
+fn unread(entries: &[Arc<Entry>], read: usize, count: usize) -> &[Arc<Entry>]
+    requires { read ≤ length entries.now }
+    ensures { result.now ≡ take count (drop read entries.now) }
+{
+    let rest = &entries[read..];
+    if count < rest.len() {
+        &rest[..count]
+    } else {
+        rest
+    }
+}
+
+/// So many shards that have read nothing.
+fn opening_shards(alloc: Global, shards: usize) -> Result<Vec<ShardState>, AllocError>
+    ensures { IfOk result (λ all. all.items ≡ map (λ n. opening_shard n shards) (range_with_len 0 shards)) }
+{
+    let mut all = Vec::new(alloc);
+    for shard in 0..shards {
+        all.push(ShardState::start(alloc, shard, shards))?;
+    }
+    Ok(all)
+}
