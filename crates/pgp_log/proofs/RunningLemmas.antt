@@ -8,8 +8,8 @@ use Rattle.std.proofs.lemmas.List.{drop-map, get_or-map, get_or-set_other, get_o
 use Rattle.std.proofs.lemmas.List.FromFn.{get_or-map-range_with_len}
 use Rattle.pgp_lists.proofs.Lists.{take-front}
 use Rattle.pgp_lists.proofs.Ranges.{range_with_len-suc}
-use Rattle.pgp_ids.specs.declared.ask_refusal.AskRefusal.{AskRefusal}
-use Rattle.pgp_ids.specs.declared.ask_refusal.AskRefusal.TheVariants.{UnknownGroup, Memory}
+use Rattle.pgp_refusals.specs.declared.ask_refusal.AskRefusal.{AskRefusal}
+use Rattle.pgp_refusals.specs.declared.ask_refusal.AskRefusal.TheVariants.{UnknownGroup, Memory}
 use Rattle.pgp_ids.specs.declared.entry.Entry.{Entry}
 use Rattle.pgp_ids.specs.declared.pg_id.PgId.{PgId}
 use Rattle.pgp_ids.specs.declared.view.View.{View}
