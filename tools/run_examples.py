@@ -1,0 +1,86 @@
+#!/usr/bin/env python3
+"""Runs the examples of the repository on the built program, and says which answers differ.
+
+    tools/run_examples.py [PROGRAM]
+
+PROGRAM is crates/pgpeer/out/pgpeer where none is given. Each script examples/NAME.jsonl is run and its answers compared
+with examples/NAME.answers.jsonl. Of docs/FORMAT.md each line of JSON that stands indented by four is run as the line after
+examples/first.jsonl, whose map it speaks of: it may be answered neither as no command nor by a fault of its line, but where
+the next indented line is its answer, and then that has to be it. Exits with 1 where an answer differs.
+"""
+
+import json
+import pathlib
+import subprocess
+import sys
+
+ROOT = pathlib.Path(__file__).resolve().parent.parent
+FAULTS_OF_A_LINE = range(30, 35)
+
+
+def answers(program, script):
+    """Gives the answers to a script, line by line; its run has to end with status 0."""
+    run = subprocess.run([program, "run"], input=script, capture_output=True, timeout=60, check=True)
+    return run.stdout.splitlines()
+
+
+def examples():
+    """Gives each script with its answers."""
+    for script in sorted((ROOT / "examples").glob("*.jsonl")):
+        if not script.name.endswith(".answers.jsonl"):
+            yield script, script.with_suffix("").with_suffix(".answers.jsonl")
+
+
+def is_answer(line):
+    """Tells whether the line of JSON is an answer and no command."""
+    return "op" not in json.loads(line)
+
+
+def documented():
+    """Gives the commands of docs/FORMAT.md, each with its answer, or None where none stands beside it."""
+    text = (ROOT / "docs" / "FORMAT.md").read_bytes()
+    lines = [line.strip() for line in text.splitlines() if line.startswith(b"    {")]
+    for line, following in zip(lines, lines[1:] + [b'{"op":""}']):
+        if not is_answer(line):
+            yield line, following if is_answer(following) else None
+
+
+def wrong_example(program, script, wanted):
+    """Says what is wrong with the answers to a script, if anything."""
+    found, wanted = answers(program, script.read_bytes()), wanted.read_bytes().splitlines()
+    if found == wanted:
+        return None
+    for place, pair in enumerate(zip(found, wanted)):
+        if pair[0] != pair[1]:
+            return f"answer {place + 1} is {pair[0].decode()} and not {pair[1].decode()}"
+    return f"{len(found)} answers and not {len(wanted)}"
+
+
+def wrong_line(program, before, line, wanted):
+    """Says what is wrong with the answer to a line of the document, if anything."""
+    found = answers(program, before + line + b"\n")[-1]
+    if wanted is not None:
+        return None if found == wanted else f"answered {found.decode()} and not {wanted.decode()}"
+    return f"answered {found.decode()}" if json.loads(found).get("code") in FAULTS_OF_A_LINE else None
+
+
+def main(program):
+    wrong, tried = [], 0
+    for script, wanted in examples():
+        tried += 1
+        wrong.append((script.name, wrong_example(program, script, wanted)))
+    before = (ROOT / "examples" / "first.jsonl").read_bytes()
+    for line, wanted in documented():
+        tried += 1
+        wrong.append((f"docs/FORMAT.md: {line.decode()}", wrong_line(program, before, line, wanted)))
+    wrong = [(name, what) for name, what in wrong if what is not None]
+    for name, what in wrong:
+        print(f"{name}: {what}")
+    print(f"{tried} examples, {len(wrong)} wrong")
+    return 1 if wrong or tried == 0 else 0
+
+
+if __name__ == "__main__":
+    if len(sys.argv) > 2:
+        sys.exit(__doc__)
+    sys.exit(main(sys.argv[1] if len(sys.argv) == 2 else str(ROOT / "crates" / "pgpeer" / "out" / "pgpeer")))
