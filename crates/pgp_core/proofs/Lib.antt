@@ -1,8 +1,11 @@
 pub mod ScriptLemmas
+pub mod ToldLemmas
 pub mod OutputLemmas
 pub mod LineLemmas
+pub mod ReplyLemmas
 pub mod FeedLemmas
 pub mod CutLemmas
+pub mod InputLemmas
 pub mod LocateLemmas
 pub mod RunLemmas
 pub mod TurnLemmas

@@ -1,5 +1,5 @@
 -- The answer to a line from what its buffer holds.
-use Rattle.std.proofs.Common.{Vec, Global, ◌≡◌, ℕ, ◌<◌, ◌≤◌, List, [], ◌∷◌, ◌++◌, Some, None, true, false, length, nat_lt, refl, sym, ◌∙◌, subst, arith}
+use Rattle.std.proofs.Common.{◌≡◌, ℕ, ◌<◌, ◌≤◌, List, [], ◌∷◌, ◌++◌, Bool, Some, None, true, false, length, nat_lt, refl, sym, ap, ◌∙◌, subst, append-nil, arith}
 use Rattle.std.proofs.lemmas.Bool.Decides.{nat_tests}
 use Rattle.pgp_ids.specs.declared.entry.Entry.{Entry}
 use Rattle.std.specs.Prelude.{Result, Ok, Err, IfErr}
@@ -7,14 +7,16 @@ use Rattle.pgp_text.specs.Command.{command_of}
 use Rattle.pgp_lines.specs.declared.command.Command.{Command}
 use Rattle.pgp_lines.specs.declared.command.Command.TheVariants.{Submit, Ask, Locate, Trace}
 use Rattle.pgp_core.specs.Wants.{want_of}
-use Rattle.pgp_core.specs.Answer.{line_text, line_log, long_text}
+use Rattle.pgp_core.specs.Answer.{line_text, long_text}
 use Rattle.pgp_core.specs.Lines.{is_blank}
 use Rattle.pgp_core.specs.Script.{longest_line, MayMeet}
-use Rattle.pgp_core.specs.Line.{KeptBy, Holds, IsAnswerTo}
+use Rattle.pgp_core.specs.Line.{KeptBy, Holds}
+use Rattle.pgp_core.specs.Told.{PutsText, PutsLine}
 use Rattle.pgp_core.specs.declared.line.Fate.TheVariants.{Kept, TooLong, NoMemory}
 use Rattle.pgp_core.specs.declared.line.LineBuffer.{LineBuffer}
-use Rattle.pgp_core.specs.declared.line.LineAnswer.TheVariants.{Nothing, Wants, Text}
 use Rattle.pgp_core.specs.declared.want.Want.{Want}
+use Rattle.pgp_core.specs.declared.want.Want.TheVariants.{Line}
+use Rattle.pgp_core.proofs.ToldLemmas.{by-itself}
 
 is_long : (line : List ℕ) → longest_line < length line → nat_lt longest_line (length line) ≡ true
 is_long line long = grind (arith, nat_tests)
@@ -38,41 +40,38 @@ has-byte buffer line holds some = go line (sym holds.blank ∙ some) where
   go [] some = cc
   go (byte ∷ line) some = omega arith
 
--- want of memory changes nothing
-pub answer-wants : (log : List Entry) (line : List ℕ) (want : Want) → MayMeet (Some want) line → IsAnswerTo (Wants want) log log line
-answer-wants log line want may = record { met = Some want; may = may; text = refl; log = refl }
-
-pub answer-blank : (log : List Entry) (buffer : LineBuffer) (line : List ℕ) → Holds buffer line → buffer.blank ≡ true → IsAnswerTo Nothing log log line
-answer-blank log buffer line holds blank =
+pub puts-nothing : (alone : Bool) (log : List Entry) (buffer : LineBuffer) (text line : List ℕ) → Holds buffer line → buffer.blank ≡ true → PutsLine alone log log line text text []
+puts-nothing alone log buffer text line holds blank =
     let is : is_blank line ≡ true = sym holds.blank ∙ blank in
-    record { met = None; may = tt; text = rw is refl; log = rw is refl }
+    record {
+      text = [];
+      told = record { by = log; may = by-itself alone log; met = None; meets = tt; text_is = rw is refl; log_is = rw is refl };
+      whole = refl;
+    }
 
-pub answer-long : (log : List Entry) (buffer : LineBuffer) (line : List ℕ) (text : Vec ℕ Global) → Holds buffer line → buffer.fate ≡ TooLong → buffer.blank ≡ false
-    → text.items ≡ long_text ++ 10 ∷ [] → IsAnswerTo (Text text) log log line
-answer-long log buffer line text holds fate some is =
+pub puts-long : (alone : Bool) (log : List Entry) (buffer : LineBuffer) (old new : List ℕ) → buffer.fate ≡ TooLong → buffer.blank ≡ false
+    → new ≡ old ++ (long_text ++ 10 ∷ []) → (line : List ℕ) → Holds buffer line → PutsLine alone log log line old new []
+puts-long alone log buffer old new fate some is line holds =
     let blank : is_blank line ≡ false = sym holds.blank ∙ some in
     let long = is_long line (too-long buffer line holds fate) in
-    record { met = None; may = tt; text = rw (blank, long) is; log = rw (blank, long) refl }
+    record {
+      text = long_text ++ 10 ∷ [];
+      told = record { by = log; may = by-itself alone log; met = None; meets = tt; text_is = rw (blank, long) refl; log_is = rw (blank, long) refl };
+      whole = append-nil new ∙ is;
+    }
 
-pub answer-kept : (before after : List Entry) (buffer : LineBuffer) (line : List ℕ) (text : Vec ℕ Global) → Holds buffer line → buffer.fate ≡ Kept → buffer.blank ≡ false
-    → text.items ≡ line_text before buffer.bytes.items ++ 10 ∷ [] → after ≡ line_log before buffer.bytes.items → IsAnswerTo (Text text) before after line
-answer-kept before after buffer line text holds fate some is goes =
+pub puts-kept : (alone : Bool) (before after : List Entry) (buffer : LineBuffer) (old new : List ℕ) → buffer.fate ≡ Kept → buffer.blank ≡ false
+    → PutsText alone before after buffer.bytes.items old new → (line : List ℕ) → Holds buffer line → PutsLine alone before after line old new []
+puts-kept alone before after buffer old new fate some puts line holds =
     let blank : is_blank line ≡ false = sym holds.blank ∙ some in
     let kept = kept-whole buffer line holds fate in
     let short = is_short line kept.1 in
+    let here : PutsText alone before after line old new = subst (λ l. PutsText alone before after l old new) kept.0 puts in
     record {
-      met = None;
-      may = tt;
-      text = rw (blank, short) (rw kept.0 at is);
-      log = rw (blank, short) (rw kept.0 at goes);
+      text = line_text here.by line ++ 10 ∷ [];
+      told = record { by = here.by; may = here.may; met = None; meets = tt; text_is = rw (blank, short) refl; log_is = rw (blank, short) here.log };
+      whole = append-nil new ∙ here.text;
     }
-
-pub answer-kept-wants : (before after : List Entry) (buffer : LineBuffer) (line : List ℕ) (want : Want) → Holds buffer line → buffer.fate ≡ Kept
-    → buffer.blank ≡ false → (0 < length buffer.bytes.items → length buffer.bytes.items ≤ longest_line → MayMeet (Some want) buffer.bytes.items) → after ≡ before → IsAnswerTo (Wants want) before after line
-answer-kept-wants before after buffer line want holds fate some may same =
-    let kept = kept-whole buffer line holds fate in
-    let meets : 0 < length line → length line ≤ longest_line → MayMeet (Some want) line = rw kept.0 at may in
-    record { met = Some want; may = meets (has-byte buffer line holds some) kept.1; text = refl; log = same }
 
 -- a line can meet what its command meets
 line-meets : (line : List ℕ) (command : Command) → 0 < length line → length line ≤ longest_line → command_of line ≡ Ok command → MayMeet (Some (want_of command)) line
@@ -86,3 +85,26 @@ pub wants-of : {T : Type 0} (r : Result T Want) (line : List ℕ) (command : Com
     → IfErr r (λ want. 0 < length line → length line ≤ longest_line → MayMeet (Some want) line)
 wants-of (Ok x) line command reads is = tt
 wants-of (Err want) line command reads is = λ some short. rw is (line-meets line command some short reads)
+
+-- what was short of memory for a line alone
+pub line-wants : {T : Type 0} (r : Result T Want) (line : List ℕ) → IfErr r (λ want. want ≡ Line)
+    → IfErr r (λ want. 0 < length line → length line ≤ longest_line → MayMeet (Some want) line)
+line-wants (Ok x) line is = tt
+line-wants (Err want) line is = λ some short. let may : MayMeet (Some Line) line = some in subst (λ w. MayMeet (Some w) line) (sym is) may
+
+pub long-wants : {T : Type 0} (r : Result T Want) (buffer : LineBuffer) → buffer.blank ≡ false → IfErr r (λ want. want ≡ Line)
+    → IfErr r (λ want. (line : List ℕ) → Holds buffer line → MayMeet (Some want) line)
+long-wants (Ok x) buffer some is = tt
+long-wants (Err want) buffer some is =
+    λ line holds. let may : MayMeet (Some Line) line = has-byte buffer line holds some in subst (λ w. MayMeet (Some w) line) (sym is) may
+
+pub kept-wants : {T : Type 0} (r : Result T Want) (buffer : LineBuffer) → buffer.fate ≡ Kept → buffer.blank ≡ false
+    → IfErr r (λ want. 0 < length buffer.bytes.items → length buffer.bytes.items ≤ longest_line → MayMeet (Some want) buffer.bytes.items)
+    → IfErr r (λ want. (line : List ℕ) → Holds buffer line → MayMeet (Some want) line)
+kept-wants (Ok x) buffer fate some may = tt
+kept-wants (Err want) buffer fate some may =
+    λ line holds.
+    let kept = kept-whole buffer line holds fate in
+    let meets : 0 < length line → length line ≤ longest_line → MayMeet (Some want) line =
+    subst (λ l. 0 < length l → length l ≤ longest_line → MayMeet (Some want) l) kept.0 may in
+    meets (has-byte buffer line holds some) kept.1

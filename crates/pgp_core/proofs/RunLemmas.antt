@@ -1,23 +1,30 @@
 -- How an answering goes on, and how it stops.
-use Rattle.std.proofs.Common.{◌≡◌, ◌≢◌, ℕ, ◌+◌, ◌-◌, ◌<◌, ◌≤◌, List, [], ◌∷◌, ◌++◌, true, false, Option, length, take, refl, sym, ap, ◌∙◌, append_assoc, append-nil, arith, take_all, nat_lt, inl, inr}
+use Rattle.std.proofs.Common.{◌≡◌, ◌≢◌, ℕ, ◌+◌, ◌-◌, ◌<◌, ◌≤◌, List, [], ◌∷◌, ◌++◌, Bool, true, false, Option, length, take, refl, sym, ap, ◌∙◌, append_assoc, append-nil, arith, take_all, nat_lt, inl, inr, subst, Result, Ok, Err}
+use Rattle.std.specs.Prelude.{IfErr}
+use Rattle.std.specs.Result.{IsErrAnd}
 use Rattle.std.proofs.lemmas.Bool.Decides.{nat_tests, eqb_tells}
 use Rattle.std.proofs.Math.Seq.{take-append_seam, take-append-add}
 use Rattle.std.specs.List.{list_any}
 use Rattle.std.specs.Io.KnownBytes.{Appends}
 use Rattle.std.proofs.lemmas.List.{length-append}
+use Rattle.pgp_ids.specs.declared.entry.Entry.{Entry}
 use Rattle.pgp_core.specs.Lines.{Cut, is_line_feed, cut, last_line, lines_of}
 use Rattle.pgp_core.specs.Line.{Holds}
+use Rattle.pgp_core.specs.Input.{HasRead}
 use Rattle.pgp_core.specs.Output.{FrontWent}
-use Rattle.pgp_ids.specs.declared.entry.Entry.{Entry}
-use Rattle.pgp_core.specs.Script.{answer, answers, Within, lines_before_cut}
-use Rattle.pgp_core.proofs.ScriptLemmas.{answers-push, logs-push, may-push, answers-front, may-front}
-use Rattle.pgp_core.specs.Run.{Puts, PutsFront, IsAfter, Answered, CutOff, BrokenOff, BrokenAtEnd, IsDone, IsBeyond, Taken}
-use Rattle.pgp_core.specs.declared.line.LineBuffer.{LineBuffer}
+use Rattle.pgp_core.specs.Script.{Within, lines_before_cut}
+use Rattle.pgp_core.specs.Run.{IsBeyond}
+use Rattle.pgp_core.specs.Telling.{Began, Puts, PutsFront, IsAfter, IsDone, WentBy, IsStopped, StopsIn, BrokenAtLast, whole_lines, Taken}
+use Rattle.pgp_core.specs.declared.input.Bounds.{Bounds}
+use Rattle.pgp_core.specs.declared.input.Input.{Input}
 use Rattle.pgp_core.specs.declared.output.Output.{Output}
 use Rattle.pgp_core.specs.declared.script.Script.{Script}
-use Rattle.pgp_core.specs.declared.script.Bounds.{Bounds}
-use Rattle.pgp_core.proofs.OutputLemmas.{Went-then, FrontWent-then, FrontWent-pending, Went-flushed}
-use Rattle.pgp_core.proofs.CutLemmas.{cut-piece, cut-feed, cut-goes, lines-closed, some-line}
+use Rattle.pgp_core.specs.declared.fault.ScriptFault.{ScriptFault}
+use Rattle.pgp_core.specs.declared.fault.ScriptFault.TheVariants.{Read, Write}
+use Rattle.pgp_core.proofs.OutputLemmas.{Went-none, Went-then, FrontWent-then, FrontWent-pending, Went-flushed}
+use Rattle.pgp_core.proofs.CutLemmas.{cut-goes, lines-closed, some-line}
+use Rattle.pgp_core.proofs.InputLemmas.{whole-piece, whole-feed}
+use Rattle.pgp_core.proofs.ToldLemmas.{told-push}
 
 -- ---- the lines that have ended are the first ones, whatever follows
 
@@ -26,174 +33,166 @@ take_within n xs more within =
     let split : n ≡ length xs + (n - length xs) = omega arith in
     ap (λ k. take k (xs ++ more)) split ∙ take-append-add xs more (n - length xs)
 
-front_of_cut : (bounds : Bounds) (bytes more : List ℕ) → length bytes ≤ bounds.bytes → length (cut bytes).whole ≤ bounds.lines
-    → (others : List (List ℕ)) × (lines_before_cut bounds.lines bounds.bytes (bytes ++ more) ≡ (cut bytes).whole ++ others)
-front_of_cut bounds bytes more few_bytes few_lines =
-    let goes = cut-goes bytes (take (bounds.bytes - length bytes) more) in (
-      take (bounds.lines - length (cut bytes).whole) goes.others,
-      ap (λ b. take bounds.lines (cut b).whole) (take_within bounds.bytes bytes more few_bytes)
-          ∙ ap (take bounds.lines) goes.whole ∙ take_within bounds.lines (cut bytes).whole goes.others few_lines,
+front_of_cut : (began : Began) (bytes more : List ℕ) → length bytes ≤ began.bounds.bytes → length (cut bytes).whole ≤ began.bounds.lines
+    → (others : List (List ℕ)) × (whole_lines began (bytes ++ more) ≡ (cut bytes).whole ++ others)
+front_of_cut began bytes more few_bytes few_lines =
+    let goes = cut-goes bytes (take (began.bounds.bytes - length bytes) more) in (
+      take (began.bounds.lines - length (cut bytes).whole) goes.others,
+      ap (λ b. take began.bounds.lines (cut b).whole) (take_within began.bounds.bytes bytes more few_bytes)
+          ∙ ap (take began.bounds.lines) goes.whole ∙ take_within began.bounds.lines (cut bytes).whole goes.others few_lines,
     )
+
+-- all the lines that the bounds allow have ended
+pub all_lines : (began : Began) (input : Input) (bytes more : List ℕ) → HasRead began.bounds input bytes → input.left.lines ≡ 0 → whole_lines began (bytes ++ more) ≡ (cut bytes).whole
+all_lines began input bytes more read none =
+    let within : length bytes ≤ began.bounds.bytes = omega (arith, read.bytes_left) in
+    let many : began.bounds.lines ≡ length (cut bytes).whole = omega (arith, read.lines_left, none) in
+    let goes = cut-goes bytes (take (began.bounds.bytes - length bytes) more) in
+    ap (λ b. take began.bounds.lines (cut b).whole) (take_within began.bounds.bytes bytes more within)
+    ∙ ap (take began.bounds.lines) goes.whole ∙ ap (λ n. take n ((cut bytes).whole ++ goes.others)) many ∙ take-append_seam (cut bytes).whole goes.others
+
+-- all the bytes that the bounds allow were read
+pub all_bytes : (began : Began) (input : Input) (bytes more : List ℕ) → HasRead began.bounds input bytes → input.left.bytes ≡ 0 → whole_lines began (bytes ++ more) ≡ (cut bytes).whole
+all_bytes began input bytes more read none =
+    let many : began.bounds.bytes ≡ length bytes = omega (arith, read.bytes_left, none) in
+    let few : length (cut bytes).whole ≤ began.bounds.lines = omega (arith, read.lines_left) in
+    ap (λ n. take began.bounds.lines (cut (take n (bytes ++ more))).whole) many ∙ ap (λ b. take began.bounds.lines (cut b).whole) (take-append_seam bytes more)
+    ∙ take_all began.bounds.lines (cut bytes).whole few
+
+-- the reader stopped within the bounds
+pub all_read : (began : Began) (input : Input) (bytes : List ℕ) → HasRead began.bounds input bytes → whole_lines began bytes ≡ (cut bytes).whole
+all_read began input bytes read =
+    let within : length bytes ≤ began.bounds.bytes = omega (arith, read.bytes_left) in
+    let few : length (cut bytes).whole ≤ began.bounds.lines = omega (arith, read.lines_left) in
+    ap (λ b. take began.bounds.lines (cut b).whole) (take_all began.bounds.bytes bytes within) ∙ take_all began.bounds.lines (cut bytes).whole few
 
 -- ---- one step
 
-pub after-add : (bounds : Bounds) (script : Script) (line : LineBuffer) (start now : Option (List ℕ)) (bytes piece : List ℕ)
-    → list_any is_line_feed piece ≡ false → 0 < script.left.lines → length piece ≤ script.left.bytes
-    → ((part : List ℕ) → Holds script.line part → Holds line (part ++ piece))
-    → IsAfter bounds script start now bytes
-    → IsAfter bounds (record script { line = line; left = record script.left { bytes = script.left.bytes - length piece } }) start now (bytes ++ piece)
-after-add bounds script line start now bytes piece none room fits added after =
-    let whole : (cut (bytes ++ piece)).whole ≡ (cut bytes).whole = ap (λ (c : Cut). c.whole) (cut-piece bytes piece none) in
-    let rest : (cut (bytes ++ piece)).rest ≡ (cut bytes).rest ++ piece = ap (λ (c : Cut). c.rest) (cut-piece bytes piece none) in
-    record {
-      line = rw rest (added (cut bytes).rest after.line);
-      lines_left = rw whole after.lines_left;
-      bytes_left = omega (arith, after.bytes_left, length-append bytes piece);
-      closed = λ none_left. absurd (omega arith);
-      met = after.met;
-      each = rw whole after.each;
-      may = rw whole after.may;
-      text = rw whole after.text;
-      log = rw whole after.log;
-    }
+pub after-piece : (alone : Bool) (began : Began) (script : Script) (input : Input) (log : List Entry) (now : Option (List ℕ)) (bytes piece : List ℕ)
+    → list_any is_line_feed piece ≡ false → ((bounds : Bounds) (bytes : List ℕ) → HasRead bounds script.input bytes → HasRead bounds input (bytes ++ piece))
+    → IsAfter alone began script log now bytes → IsAfter alone began (record script { input = input }) log now (bytes ++ piece)
+after-piece alone began script input log now bytes piece none step after = record {
+  read = step began.bounds bytes after.read;
+  out = after.out;
+  told = rw (whole-piece bytes piece none) after.told;
+  text = after.text;
+}
 
-pub after-end : (bounds : Bounds) (script : Script) (line : LineBuffer) (output : Output) (log : List Entry) (start now new : Option (List ℕ)) (bytes : List ℕ)
-    → 0 < script.left.lines → 0 < script.left.bytes → Holds line []
-    → Puts now new script.output.pending.items output.pending.items script.log log (cut bytes).rest
-    → IsAfter bounds script start now bytes
-    → IsAfter bounds (record { line = line; output = output; log = log; left = record { lines = script.left.lines - 1; bytes = script.left.bytes - 1 } }) start new (bytes ++ 10 ∷ [])
-after-end bounds script line output log start now new bytes room fits begun puts after =
-    let whole : (cut (bytes ++ 10 ∷ [])).whole ≡ (cut bytes).whole ++ (cut bytes).rest ∷ [] = ap (λ (c : Cut). c.whole) (cut-feed bytes) in
-    let rest : (cut (bytes ++ 10 ∷ [])).rest ≡ [] = ap (λ (c : Cut). c.rest) (cut-feed bytes) in
-    record {
-      line = rw rest begun;
-      lines_left = rw whole (omega (arith, after.lines_left, length-append (cut bytes).whole ((cut bytes).rest ∷ [])));
-      bytes_left = omega (arith, after.bytes_left, length-append bytes (10 ∷ []));
-      closed = λ _. rest;
-      met = after.met ++ puts.met ∷ [];
-      each = rw whole (omega (arith, after.each, length-append after.met (puts.met ∷ []), length-append (cut bytes).whole ((cut bytes).rest ∷ [])));
-      may = rw whole (may-push after.met (cut bytes).whole puts.met (cut bytes).rest after.each after.may puts.may);
-      text = rw (whole, answers-push [] after.met (cut bytes).whole puts.met (cut bytes).rest after.each, ← after.log)
-          (Went-then start now new _ _ _ _ after.text puts.went);
-      log = rw (whole, logs-push [] after.met (cut bytes).whole puts.met (cut bytes).rest after.each, ← after.log) puts.log;
-    }
+pub after-feed : (alone : Bool) (began : Began) (script : Script) (input : Input) (output : Output) (before after : List Entry) (now new : Option (List ℕ)) (bytes : List ℕ)
+    → ((bounds : Bounds) (bytes : List ℕ) → HasRead bounds script.input bytes → HasRead bounds input (bytes ++ 10 ∷ []))
+    → Puts alone before after (cut bytes).rest now new script.output.pending.items output.pending.items
+    → IsAfter alone began script before now bytes → IsAfter alone began (record { input = input; output = output }) after new (bytes ++ 10 ∷ [])
+after-feed alone began script input output before after now new bytes step puts so_far = record {
+  read = step began.bounds bytes so_far.read;
+  out = so_far.out ++ puts.text;
+  told = rw (whole-feed bytes) (told-push alone began.log before after (cut bytes).whole (cut bytes).rest so_far.out puts.text so_far.told puts.told);
+  text = Went-then began.written now new _ _ _ _ so_far.text puts.went;
+}
 
-pub broken_by : (bounds : Bounds) (script : Script) (start now new : Option (List ℕ)) (bytes more : List ℕ) → 0 < script.left.lines → 0 < script.left.bytes
-    → PutsFront now new script.output.pending.items script.log (cut bytes).rest
-    → IsAfter bounds script start now bytes
-    → BrokenOff bounds start new (bytes ++ 10 ∷ more)
-broken_by bounds script start now new bytes more room fits front after =
-    let whole : (cut (bytes ++ 10 ∷ [])).whole ≡ (cut bytes).whole ++ (cut bytes).rest ∷ [] = ap (λ (c : Cut). c.whole) (cut-feed bytes) in
+-- a write failed as the answer to the line was put
+pub broken-feed : (alone : Bool) (began : Began) (script : Script) (before after : List Entry) (now new : Option (List ℕ)) (bytes more : List ℕ) → 0 < script.input.left.lines
+    → 0 < script.input.left.bytes → PutsFront alone before after (cut bytes).rest now new script.output.pending.items
+    → IsAfter alone began script before now bytes → IsStopped alone began Write new (whole_lines began (bytes ++ 10 ∷ more))
+broken-feed alone began script before after now new bytes more room fits front so_far =
+    let whole = whole-feed bytes in
     let many : length (cut (bytes ++ 10 ∷ [])).whole ≡ length (cut bytes).whole + 1 = ap length whole ∙ length-append (cut bytes).whole ((cut bytes).rest ∷ []) in
-    let few_bytes : length (bytes ++ 10 ∷ []) ≤ bounds.bytes = omega (arith, after.bytes_left, length-append bytes (10 ∷ [])) in
-    let few_lines : length (cut (bytes ++ 10 ∷ [])).whole ≤ bounds.lines = omega (arith, many, after.lines_left) in
-    let goes = front_of_cut bounds (bytes ++ 10 ∷ []) more few_bytes few_lines in
-    let met = after.met ++ front.met ∷ [] in
-    let lines : lines_before_cut bounds.lines bounds.bytes (bytes ++ 10 ∷ more) ≡ ((cut bytes).whole ++ (cut bytes).rest ∷ []) ++ goes.0 =
-    ap (λ b. lines_before_cut bounds.lines bounds.bytes b) (sym (append_assoc bytes (10 ∷ []) more)) ∙ goes.1 ∙ ap (λ w. w ++ goes.0) whole in
-    let same : answers [] met (lines_before_cut bounds.lines bounds.bytes (bytes ++ 10 ∷ more)) ≡ answers [] after.met (cut bytes).whole ++ answer script.log front.met (cut bytes).rest =
-    ap (answers [] met) lines
-    ∙ answers-front [] met ((cut bytes).whole ++ (cut bytes).rest ∷ []) goes.0
-    (length-append after.met (front.met ∷ []) ∙ ap (λ n. n + 1) after.each ∙ sym (length-append (cut bytes).whole ((cut bytes).rest ∷ [])))
-    ∙ answers-push [] after.met (cut bytes).whole front.met (cut bytes).rest after.each
-    ∙ ap (λ log. answers [] after.met (cut bytes).whole ++ answer log front.met (cut bytes).rest) (sym after.log) in
-    let may = may-front met ((cut bytes).whole ++ (cut bytes).rest ∷ []) goes.0 (may-push after.met (cut bytes).whole front.met (cut bytes).rest after.each after.may front.may) in
-    record { met = met; may = rw lines may; front = rw same (FrontWent-then start now new _ _ _ after.text front.front) }
+    let few_bytes : length (bytes ++ 10 ∷ []) ≤ began.bounds.bytes = omega (arith, so_far.read.bytes_left, length-append bytes (10 ∷ [])) in
+    let few_lines : length (cut (bytes ++ 10 ∷ [])).whole ≤ began.bounds.lines = omega (arith, many, so_far.read.lines_left) in
+    let goes = front_of_cut began (bytes ++ 10 ∷ []) more few_bytes few_lines in
+    record {
+      done = (cut bytes).whole ++ (cut bytes).rest ∷ [];
+      others = goes.0;
+      parts = ap (whole_lines began) (sym (append_assoc bytes (10 ∷ []) more)) ∙ goes.1 ∙ ap (λ w. w ++ goes.0) whole;
+      log = after;
+      out = so_far.out ++ front.text;
+      told = told-push alone began.log before after (cut bytes).whole (cut bytes).rest so_far.out front.text so_far.told front.told;
+      went = FrontWent-then began.written now new _ _ _ so_far.text front.front;
+      all = λ read. cc;
+    }
 
-pub broken_at_feed : (script : Script) (now new : Option (List ℕ)) → 0 < script.left.lines → 0 < script.left.bytes
-    → ((line : List ℕ) → Holds script.line line → PutsFront now new script.output.pending.items script.log line)
-    → (bounds : Bounds) (start : Option (List ℕ)) (bytes more : List ℕ) → IsAfter bounds script start now bytes → BrokenOff bounds start new (bytes ++ 10 ∷ more)
-broken_at_feed script now new room fits puts bounds start bytes more after =
-    broken_by bounds script start now new bytes more room fits (puts (cut bytes).rest after.line) after
+pub broken-at-feed : (alone : Bool) (script : Script) (before after : List Entry) (now new : Option (List ℕ)) → 0 < script.input.left.lines → 0 < script.input.left.bytes
+    → ((line : List ℕ) → Holds script.input.line line → PutsFront alone before after line now new script.output.pending.items)
+    → (began : Began) (bytes more : List ℕ) → IsAfter alone began script before now bytes → IsStopped alone began Write new (whole_lines began (bytes ++ 10 ∷ more))
+broken-at-feed alone script before after now new room fits puts began bytes more so_far =
+    broken-feed alone began script before after now new bytes more room fits (puts (cut bytes).rest so_far.read.line) so_far
+
+-- what is pending was written, or a write of it failed
+pub stopped : (fault : ScriptFault) (alone : Bool) (began : Began) (script : Script) (log : List Entry) (now new : Option (List ℕ)) (bytes more : List ℕ)
+    → IsAfter alone began script log now bytes → WentBy fault now new script.output.pending.items → (fault ≡ Read → whole_lines began (bytes ++ more) ≡ (cut bytes).whole)
+    → IsStopped alone began fault new (whole_lines began (bytes ++ more))
+stopped Read alone began script log now new bytes more after went all = record {
+  done = (cut bytes).whole;
+  others = [];
+  parts = all refl ∙ sym (append-nil (cut bytes).whole);
+  log = log;
+  out = after.out;
+  told = after.told;
+  went = Went-flushed began.written now new _ _ after.text went;
+  all = λ _. refl;
+}
+stopped Write alone began script log now new bytes more after went all =
+    let few_bytes : length bytes ≤ began.bounds.bytes = omega (arith, after.read.bytes_left) in
+    let few_lines : length (cut bytes).whole ≤ began.bounds.lines = omega (arith, after.read.lines_left) in
+    let goes = front_of_cut began bytes more few_bytes few_lines in
+    record {
+      done = (cut bytes).whole;
+      others = goes.0;
+      parts = goes.1;
+      log = log;
+      out = after.out;
+      told = after.told;
+      went = FrontWent-pending began.written now new _ _ after.text went;
+      all = λ read. cc;
+    }
 
 -- ---- the loop over a chunk
 
-pub taken-none : (script : Script) (now : Option (List ℕ)) (chunk : List ℕ) → Taken script script now now chunk chunk
-taken-none script now chunk = record {
+pub taken-none : (alone : Bool) (script : Script) (log : List Entry) (now : Option (List ℕ)) (chunk : List ℕ) → Taken alone script script log log now now chunk chunk
+taken-none alone script log now chunk = record {
   done = [];
   whole = refl;
-  after = λ bounds start bytes after. rw append-nil after;
+  goes = λ began bytes after. rw append-nil after;
 }
 
-pub taken-more : (old mid new : Script) (before now then : Option (List ℕ)) (chunk rest piece others : List ℕ) → Taken old mid before now chunk rest → rest ≡ piece ++ others
-    → ((bounds : Bounds) (start : Option (List ℕ)) (bytes : List ℕ) → IsAfter bounds mid start now bytes → IsAfter bounds new start then (bytes ++ piece))
-    → Taken old new before then chunk others
-taken-more old mid new before now then chunk rest piece others taken parts step = record {
+pub taken-more : (alone : Bool) (old mid new : Script) (before between after : List Entry) (was now then : Option (List ℕ)) (chunk rest piece others : List ℕ)
+    → Taken alone old mid before between was now chunk rest → rest ≡ piece ++ others
+    → ((began : Began) (bytes : List ℕ) → IsAfter alone began mid between now bytes → IsAfter alone began new after then (bytes ++ piece))
+    → Taken alone old new before after was then chunk others
+taken-more alone old mid new before between after was now then chunk rest piece others taken parts step = record {
   done = taken.done ++ piece;
   whole = append_assoc taken.done piece others ∙ ap (λ l. taken.done ++ l) (sym parts) ∙ taken.whole;
-  after = λ bounds start bytes after. rw (← append_assoc) (step bounds start (bytes ++ taken.done) (taken.after bounds start bytes after));
+  goes = λ began bytes so_far. rw (← append_assoc) (step began (bytes ++ taken.done) (taken.goes began bytes so_far));
 }
 
-pub broken_flush : (bounds : Bounds) (script : Script) (start now new : Option (List ℕ)) (bytes more : List ℕ)
-    → IsAfter bounds script start now bytes → FrontWent now new script.output.pending.items → BrokenOff bounds start new (bytes ++ more)
-broken_flush bounds script start now new bytes more after front =
-    let few_bytes : length bytes ≤ bounds.bytes = omega (arith, after.bytes_left) in
-    let few_lines : length (cut bytes).whole ≤ bounds.lines = omega (arith, after.lines_left) in
-    let goes = front_of_cut bounds bytes more few_bytes few_lines in
-    let same : answers [] after.met (lines_before_cut bounds.lines bounds.bytes (bytes ++ more)) ≡ answers [] after.met (cut bytes).whole =
-    ap (answers [] after.met) goes.1 ∙ answers-front [] after.met (cut bytes).whole goes.0 after.each in
-    record { met = after.met; may = rw goes.1 (may-front after.met (cut bytes).whole goes.0 after.may); front = rw same (FrontWent-pending start now new _ _ after.text front) }
+-- a failed write stopped the loop
+pub write_amid : {T : Type 0} (r : Result T ScriptFault) (alone : Bool) (script : Script) (log : List Entry) (now new : Option (List ℕ)) (chunk : List ℕ) → IsErrAnd r (λ fault. fault ≡ Write)
+    → ((began : Began) (bytes more : List ℕ) → IsAfter alone began script log now bytes → StopsIn alone began Write new (bytes ++ (chunk ++ more)))
+    → IfErr r (λ fault. (began : Began) (bytes more : List ℕ) → IsAfter alone began script log now bytes → StopsIn alone began fault new (bytes ++ (chunk ++ more)))
+write_amid (Ok x) alone script log now new chunk is stops = tt
+write_amid (Err fault) alone script log now new chunk is stops =
+    λ began bytes more after. subst (λ f. StopsIn alone began f new (bytes ++ (chunk ++ more))) (sym is) (stops began bytes more after)
 
--- all the lines that the bounds allow have ended
-pub cut_by_lines : (bounds : Bounds) (script : Script) (start now new : Option (List ℕ)) (bytes more : List ℕ)
-    → IsAfter bounds script start now bytes → script.left.lines ≡ 0 → Appends now new script.output.pending.items → CutOff bounds start new (bytes ++ more)
-cut_by_lines bounds script start now new bytes more after none flushed =
-    let within : length bytes ≤ bounds.bytes = omega (arith, after.bytes_left) in
-    let many : bounds.lines ≡ length (cut bytes).whole = omega (arith, after.lines_left, none) in
-    let goes = cut-goes bytes (take (bounds.bytes - length bytes) more) in
-    let same : lines_before_cut bounds.lines bounds.bytes (bytes ++ more) ≡ (cut bytes).whole =
-    ap (λ b. take bounds.lines (cut b).whole) (take_within bounds.bytes bytes more within)
-    ∙ ap (take bounds.lines) goes.whole ∙ ap (λ n. take n ((cut bytes).whole ++ goes.others)) many ∙ take-append_seam (cut bytes).whole goes.others in
-    record {
-      out = answers [] after.met (cut bytes).whole;
-      all = record { met = after.met; each = rw same after.each; may = rw same after.may; text = rw same refl };
-      went = Went-flushed start now new _ _ after.text flushed;
-    }
-
--- all the bytes that the bounds allow were read
-pub cut_by_bytes : (bounds : Bounds) (script : Script) (start now new : Option (List ℕ)) (bytes more : List ℕ)
-    → IsAfter bounds script start now bytes → script.left.bytes ≡ 0 → Appends now new script.output.pending.items → CutOff bounds start new (bytes ++ more)
-cut_by_bytes bounds script start now new bytes more after none flushed =
-    let all_bytes : bounds.bytes ≡ length bytes = omega (arith, after.bytes_left, none) in
-    let few : length (cut bytes).whole ≤ bounds.lines = omega (arith, after.lines_left) in
-    let same : lines_before_cut bounds.lines bounds.bytes (bytes ++ more) ≡ (cut bytes).whole =
-    ap (λ n. take bounds.lines (cut (take n (bytes ++ more))).whole) all_bytes ∙ ap (λ b. take bounds.lines (cut b).whole) (take-append_seam bytes more)
-    ∙ take_all bounds.lines (cut bytes).whole few in
-    record {
-      out = answers [] after.met (cut bytes).whole;
-      all = record { met = after.met; each = rw same after.each; may = rw same after.may; text = rw same refl };
-      went = Went-flushed start now new _ _ after.text flushed;
-    }
-
--- the reader stopped within the bounds
-pub cut_by_reader : (bounds : Bounds) (script : Script) (start now new : Option (List ℕ)) (bytes : List ℕ)
-    → IsAfter bounds script start now bytes → Appends now new script.output.pending.items → CutOff bounds start new bytes
-cut_by_reader bounds script start now new bytes after flushed =
-    let within : length bytes ≤ bounds.bytes = omega (arith, after.bytes_left) in
-    let few : length (cut bytes).whole ≤ bounds.lines = omega (arith, after.lines_left) in
-    let same : lines_before_cut bounds.lines bounds.bytes bytes ≡ (cut bytes).whole =
-    ap (λ b. take bounds.lines (cut b).whole) (take_all bounds.bytes bytes within) ∙ take_all bounds.lines (cut bytes).whole few in
-    record {
-      out = answers [] after.met (cut bytes).whole;
-      all = record { met = after.met; each = rw same after.each; may = rw same after.may; text = rw same refl };
-      went = Went-flushed start now new _ _ after.text flushed;
-    }
+-- no byte follows the chunk
+pub amid_whole : {T : Type 0} (r : Result T ScriptFault) (alone : Bool) (script : Script) (log : List Entry) (now new : Option (List ℕ)) (chunk : List ℕ)
+    → IfErr r (λ fault. (began : Began) (bytes more : List ℕ) → IsAfter alone began script log now bytes → StopsIn alone began fault new (bytes ++ (chunk ++ more)))
+    → IfErr r (λ fault. (began : Began) (bytes : List ℕ) → IsAfter alone began script log now bytes → StopsIn alone began fault new (bytes ++ chunk))
+amid_whole (Ok x) alone script log now new chunk stops = tt
+amid_whole (Err fault) alone script log now new chunk stops =
+    λ began bytes after. subst (λ l. StopsIn alone began fault new (bytes ++ l)) (append-nil chunk) (stops began bytes [] after)
 
 -- ---- more than the bounds allow
 
 -- a byte stands after the last line that the bounds allow
-pub beyond_lines : (bounds : Bounds) (script : Script) (start now : Option (List ℕ)) (bytes more : List ℕ)
-    → IsAfter bounds script start now bytes → script.left.lines ≡ 0 → 0 < length more → IsBeyond bounds (bytes ++ more)
-beyond_lines bounds script start now bytes more after none some within =
-    let lines = ap length (lines-closed bytes more (after.closed none)) in
+pub beyond_lines : (began : Began) (input : Input) (bytes more : List ℕ) → HasRead began.bounds input bytes → input.left.lines ≡ 0 → 0 < length more → IsBeyond began.bounds (bytes ++ more)
+beyond_lines began input bytes more read none some within =
+    let lines = ap length (lines-closed bytes more (read.closed none)) in
     let both = length-append (cut bytes).whole (lines_of more) in
-    absurd (omega (arith, after.lines_left, none, lines, both, some-line more some, within.few_lines))
+    absurd (omega (arith, read.lines_left, none, lines, both, some-line more some, within.few_lines))
 
 -- a byte stands after the last one that the bounds allow
-pub beyond_bytes : (bounds : Bounds) (script : Script) (start now : Option (List ℕ)) (bytes more : List ℕ)
-    → IsAfter bounds script start now bytes → script.left.bytes ≡ 0 → 0 < length more → IsBeyond bounds (bytes ++ more)
-beyond_bytes bounds script start now bytes more after none some within =
-    absurd (omega (arith, after.bytes_left, none, length-append bytes more, some, within.few_bytes))
+pub beyond_bytes : (began : Began) (input : Input) (bytes more : List ℕ) → HasRead began.bounds input bytes → input.left.bytes ≡ 0 → 0 < length more → IsBeyond began.bounds (bytes ++ more)
+beyond_bytes began input bytes more read none some within =
+    absurd (omega (arith, read.bytes_left, none, length-append bytes more, some, within.few_bytes))
 
 -- ---- one list of bytes, cut in other ways
 
@@ -224,96 +223,105 @@ no_line bytes none = ap (λ l. (cut bytes).whole ++ l) (go (cut bytes).rest none
   go (byte ∷ rest) none = let some : nat_lt 0 (length (byte ∷ rest)) ≡ true = grind (arith, nat_tests) in cc
 
 -- a line can only be open where the bounds allow another
-lines_are_left : (bounds : Bounds) (script : Script) (start now : Option (List ℕ)) (bytes : List ℕ) → IsAfter bounds script start now bytes → script.line.started ≡ true → 0 < script.left.lines
-lines_are_left bounds script start now bytes after started =
-    elim (eqb_tells script.left.lines 0) [
+lines_are_left : (bounds : Bounds) (input : Input) (bytes : List ℕ) → HasRead bounds input bytes → input.line.started ≡ true → 0 < input.left.lines
+lines_are_left bounds input bytes read started =
+    elim (eqb_tells input.left.lines 0) [
       | inl none ↦
-          let empty : length (cut bytes).rest ≡ 0 = ap length (after.closed none.1) in
-          let some : nat_lt 0 (length (cut bytes).rest) ≡ true = sym after.line.started ∙ started in
+          let empty : length (cut bytes).rest ≡ 0 = ap length (read.closed none.1) in
+          let some : nat_lt 0 (length (cut bytes).rest) ≡ true = sym read.line.started ∙ started in
           let no : nat_lt 0 (length (cut bytes).rest) ≡ false = rw empty refl in
           cc
-      | inr some ↦ let ne : script.left.lines ≢ 0 = some.1 in omega arith
+      | inr some ↦ let ne : input.left.lines ≢ 0 = some.1 in omega arith
     ]
 
-within_started : (bounds : Bounds) (script : Script) (start now : Option (List ℕ)) (bytes : List ℕ) → script.line.started ≡ true → IsAfter bounds script start now bytes
-    → Within bounds.lines bounds.bytes bytes
-within_started bounds script start now bytes started after =
-    let lines = started_line bytes (sym after.line.started ∙ started) in
+within_started : (bounds : Bounds) (input : Input) (bytes : List ℕ) → input.line.started ≡ true → HasRead bounds input bytes → Within bounds.lines bounds.bytes bytes
+within_started bounds input bytes started read =
+    let lines = started_line bytes (sym read.line.started ∙ started) in
     let many = length-append (cut bytes).whole ((cut bytes).rest ∷ []) in
     record {
-      few_lines = rw lines (omega (arith, many, after.lines_left, lines_are_left bounds script start now bytes after started));
-      few_bytes = omega (arith, after.bytes_left);
+      few_lines = rw lines (omega (arith, many, read.lines_left, lines_are_left bounds input bytes read started));
+      few_bytes = omega (arith, read.bytes_left);
     }
 
-pub done_started : (script : Script) (log : List Entry) (now new : Option (List ℕ)) (still : List ℕ) → script.line.started ≡ true
-    → ((line : List ℕ) → Holds script.line line → Puts now new script.output.pending.items still script.log log line)
-    → (bounds : Bounds) (start : Option (List ℕ)) (bytes : List ℕ) → IsAfter bounds script start now bytes → IsDone bounds start new still bytes
-done_started script log now new still started puts bounds start bytes after =
-    let lines = started_line bytes (sym after.line.started ∙ started) in
-    let put = puts (cut bytes).rest after.line in
-    let many = length-append (cut bytes).whole ((cut bytes).rest ∷ []) in
+pub done_started : (alone : Bool) (script : Script) (before after : List Entry) (now new : Option (List ℕ)) (still : List ℕ) → script.input.line.started ≡ true
+    → ((line : List ℕ) → Holds script.input.line line → Puts alone before after line now new script.output.pending.items still)
+    → (began : Began) (bytes : List ℕ) → IsAfter alone began script before now bytes → IsDone alone began after new still bytes
+done_started alone script before after now new still started puts began bytes so_far =
+    let lines = started_line bytes (sym so_far.read.line.started ∙ started) in
+    let put = puts (cut bytes).rest so_far.read.line in
     record {
-      within = within_started bounds script start now bytes started after;
-      met = after.met ++ put.met ∷ [];
-      each = rw lines (length-append after.met (put.met ∷ []) ∙ ap (λ n. n + 1) after.each ∙ sym many);
-      may = rw lines (may-push after.met (cut bytes).whole put.met (cut bytes).rest after.each after.may put.may);
-      text = rw (lines, answers-push [] after.met (cut bytes).whole put.met (cut bytes).rest after.each, ← after.log) (Went-then start now new _ _ _ _ after.text put.went);
+      within = within_started began.bounds script.input bytes started so_far.read;
+      out = so_far.out ++ put.text;
+      told = rw lines (told-push alone began.log before after (cut bytes).whole (cut bytes).rest so_far.out put.text so_far.told put.told);
+      text = Went-then began.written now new _ _ _ _ so_far.text put.went;
     }
 
-pub done_ended : (script : Script) (now : Option (List ℕ)) → script.line.started ≡ false
-    → (bounds : Bounds) (start : Option (List ℕ)) (bytes : List ℕ) → IsAfter bounds script start now bytes → IsDone bounds start now script.output.pending.items bytes
-done_ended script now none bounds start bytes after =
-    let lines = no_line bytes (sym after.line.started ∙ none) in
+pub done_ended : (alone : Bool) (script : Script) (log : List Entry) (now : Option (List ℕ)) → script.input.line.started ≡ false
+    → (began : Began) (bytes : List ℕ) → IsAfter alone began script log now bytes → IsDone alone began log now script.output.pending.items bytes
+done_ended alone script log now none began bytes after =
+    let lines = no_line bytes (sym after.read.line.started ∙ none) in
     record {
       within = record {
-        few_lines = rw lines (omega (arith, after.lines_left));
-        few_bytes = omega (arith, after.bytes_left);
+        few_lines = rw lines (omega (arith, after.read.lines_left));
+        few_bytes = omega (arith, after.read.bytes_left);
       };
-      met = after.met;
-      each = rw lines after.each;
-      may = rw lines after.may;
-      text = rw lines after.text;
+      out = after.out;
+      told = rw lines after.told;
+      text = after.text;
     }
 
-pub broken_last : (script : Script) (now new : Option (List ℕ)) → script.line.started ≡ true
-    → ((line : List ℕ) → Holds script.line line → PutsFront now new script.output.pending.items script.log line)
-    → (bounds : Bounds) (start : Option (List ℕ)) (bytes : List ℕ) → IsAfter bounds script start now bytes → BrokenAtEnd bounds start new bytes
-broken_last script now new started puts bounds start bytes after =
-    let lines = started_line bytes (sym after.line.started ∙ started) in
-    let put = puts (cut bytes).rest after.line in
+pub broken_last : (alone : Bool) (script : Script) (before after : List Entry) (now new : Option (List ℕ)) → script.input.line.started ≡ true
+    → ((line : List ℕ) → Holds script.input.line line → PutsFront alone before after line now new script.output.pending.items)
+    → (began : Began) (bytes : List ℕ) → IsAfter alone began script before now bytes → BrokenAtLast alone began new bytes
+broken_last alone script before after now new started puts began bytes so_far =
+    let lines = started_line bytes (sym so_far.read.line.started ∙ started) in
+    let put = puts (cut bytes).rest so_far.read.line in
     record {
-      within = within_started bounds script start now bytes started after;
-      met = after.met ++ put.met ∷ [];
-      may = rw lines (may-push after.met (cut bytes).whole put.met (cut bytes).rest after.each after.may put.may);
-      front = rw (lines, answers-push [] after.met (cut bytes).whole put.met (cut bytes).rest after.each, ← after.log) (FrontWent-then start now new _ _ _ after.text put.front);
+      within = within_started began.bounds script.input bytes started so_far.read;
+      stopped = record {
+        done = lines_of bytes;
+        others = [];
+        parts = sym (append-nil (lines_of bytes));
+        log = after;
+        out = so_far.out ++ put.text;
+        told = rw lines (told-push alone began.log before after (cut bytes).whole (cut bytes).rest so_far.out put.text so_far.told put.told);
+        went = FrontWent-then began.written now new _ _ _ so_far.text put.front;
+        all = λ _. refl;
+      };
     }
 
-pub answered_of : (now new : Option (List ℕ)) (pending : List ℕ) → Appends now new pending
-    → (bounds : Bounds) (start : Option (List ℕ)) (bytes : List ℕ) → IsDone bounds start now pending bytes → Answered bounds start new bytes
-answered_of now new pending flushed bounds start bytes done = record {
+-- what was pending at the end was written, or a write of it failed
+pub done_closed : (alone : Bool) (log : List Entry) (now new : Option (List ℕ)) (pending : List ℕ) → Appends now new pending
+    → (began : Began) (bytes : List ℕ) → IsDone alone began log now pending bytes → IsDone alone began log new [] bytes
+done_closed alone log now new pending wrote began bytes done = record {
   within = done.within;
-  out = answers [] done.met (lines_of bytes);
-  all = record { met = done.met; each = done.each; may = done.may; text = refl };
-  went = Went-flushed start now new _ _ done.text flushed;
+  out = done.out;
+  told = done.told;
+  text = Went-none began.written new done.out (Went-flushed began.written now new _ _ done.text wrote);
 }
 
-pub broken_close : (now new : Option (List ℕ)) (pending : List ℕ) → FrontWent now new pending
-    → (bounds : Bounds) (start : Option (List ℕ)) (bytes : List ℕ) → IsDone bounds start now pending bytes → BrokenAtEnd bounds start new bytes
-broken_close now new pending front bounds start bytes done = record {
+pub broken_close : (alone : Bool) (log : List Entry) (now new : Option (List ℕ)) (pending : List ℕ) → FrontWent now new pending
+    → (began : Began) (bytes : List ℕ) → IsDone alone began log now pending bytes → BrokenAtLast alone began new bytes
+broken_close alone log now new pending front began bytes done = record {
   within = done.within;
-  met = done.met;
-  may = done.may;
-  front = FrontWent-pending start now new _ _ done.text front;
+  stopped = record {
+    done = lines_of bytes;
+    others = [];
+    parts = sym (append-nil (lines_of bytes));
+    log = log;
+    out = done.out;
+    told = done.told;
+    went = FrontWent-pending began.written now new _ _ done.text front;
+    all = λ _. refl;
+  };
 }
 
-pub answered_by : (script : Script) (before now new : Option (List ℕ)) (pending : List ℕ)
-    → ((bounds : Bounds) (start : Option (List ℕ)) (bytes : List ℕ) → IsAfter bounds script start before bytes → IsDone bounds start now pending bytes)
-    → Appends now new pending
-    → (bounds : Bounds) (start : Option (List ℕ)) (bytes : List ℕ) → IsAfter bounds script start before bytes → Answered bounds start new bytes
-answered_by script before now new pending done flushed bounds start bytes after = answered_of now new pending flushed bounds start bytes (done bounds start bytes after)
+pub closed_done : (alone : Bool) (script : Script) (before after : List Entry) (was now new : Option (List ℕ)) (pending : List ℕ)
+    → ((began : Began) (bytes : List ℕ) → IsAfter alone began script before was bytes → IsDone alone began after now pending bytes) → Appends now new pending
+    → (began : Began) (bytes : List ℕ) → IsAfter alone began script before was bytes → IsDone alone began after new [] bytes
+closed_done alone script before after was now new pending done wrote began bytes so_far = done_closed alone after now new pending wrote began bytes (done began bytes so_far)
 
-pub broken_by_close : (script : Script) (before now new : Option (List ℕ)) (pending : List ℕ)
-    → ((bounds : Bounds) (start : Option (List ℕ)) (bytes : List ℕ) → IsAfter bounds script start before bytes → IsDone bounds start now pending bytes)
-    → FrontWent now new pending
-    → (bounds : Bounds) (start : Option (List ℕ)) (bytes : List ℕ) → IsAfter bounds script start before bytes → BrokenAtEnd bounds start new bytes
-broken_by_close script before now new pending done front bounds start bytes after = broken_close now new pending front bounds start bytes (done bounds start bytes after)
+pub closed_broken : (alone : Bool) (script : Script) (before after : List Entry) (was now new : Option (List ℕ)) (pending : List ℕ)
+    → ((began : Began) (bytes : List ℕ) → IsAfter alone began script before was bytes → IsDone alone began after now pending bytes) → FrontWent now new pending
+    → (began : Began) (bytes : List ℕ) → IsAfter alone began script before was bytes → BrokenAtLast alone began new bytes
+closed_broken alone script before after was now new pending done front began bytes so_far = broken_close alone after now new pending front began bytes (done began bytes so_far)

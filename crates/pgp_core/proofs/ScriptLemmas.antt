@@ -7,7 +7,7 @@ use Rattle.pgp_core.specs.Script.{MayMeet, MayMeetEach, answer, answer_at, answe
 use Rattle.pgp_core.specs.declared.want.Want.{Want}
 
 -- the answers one after the other, each given the log before its line
-abbrev answers_from : List Entry → List (Option Want) → List (List ℕ) → List ℕ
+abbrev pub answers_from : List Entry → List (Option Want) → List (List ℕ) → List ℕ
 answers_from log [] lines = []
 answers_from log (m ∷ met) [] = []
 answers_from log (m ∷ met) (l ∷ lines) = answer log m l ++ answers_from (log_past log m l) met lines
@@ -18,7 +18,7 @@ range_with_len-later first (suc n) =
     let later : range_with_len (suc (suc first)) n ≡ map suc (range_with_len (suc first) n) = range_with_len-later (suc first) n in
     ap (λ later. suc first ∷ later) (rw (add-one (suc first), add-one first) later)
 
-answers-from : (log : List Entry) (met : List (Option Want)) (lines : List (List ℕ)) → length met ≤ length lines → answers log met lines ≡ answers_from log met lines
+pub answers-from : (log : List Entry) (met : List (Option Want)) (lines : List (List ℕ)) → length met ≤ length lines → answers log met lines ≡ answers_from log met lines
 answers-from log [] lines short = refl
 answers-from log (m ∷ met) [] short = absurd (omega arith)
 answers-from log (m ∷ met) (l ∷ lines) short =
@@ -53,13 +53,6 @@ logs-push log [] [] m line same = refl
 logs-push log [] (l ∷ lines) m line same = absurd (omega arith)
 logs-push log (n ∷ met) [] m line same = absurd (omega arith)
 logs-push log (n ∷ met) (l ∷ lines) m line same = let tails : length met ≡ length lines = omega arith in logs-push (log_past log n l) met lines m line tails
-
-pub may-push : (met : List (Option Want)) (lines : List (List ℕ)) (m : Option Want) (line : List ℕ) → length met ≡ length lines
-    → MayMeetEach met lines → MayMeet m line → MayMeetEach (met ++ m ∷ []) (lines ++ line ∷ [])
-may-push [] [] m line same may last = (last, tt)
-may-push [] (l ∷ lines) m line same may last = absurd (omega arith)
-may-push (n ∷ met) [] m line same may last = absurd (omega arith)
-may-push (n ∷ met) (l ∷ lines) m line same may last = let tails : length met ≡ length lines = omega arith in (may.0, may-push met lines m line tails may.1 last)
 
 from-front : (log : List Entry) (met : List (Option Want)) (lines others : List (List ℕ)) → length met ≡ length lines → answers_from log met (lines ++ others) ≡ answers_from log met lines
 from-front log [] [] others same = refl

@@ -1,10 +1,14 @@
 pub mod ToldHistory
 pub mod Answer
+pub mod Answerer
 pub mod Lines
 pub mod Script
 pub mod Line
+pub mod Input
 pub mod Output
 pub mod Wants
+pub mod Told
 pub mod Run
+pub mod Telling
 pub mod Examples
 pub mod Worked

@@ -1,148 +1,135 @@
-//! The answer to a line.
-ghost use Rattle.std.specs.Prelude.{◌≡◌, ◌<◌, ◌≤◌, ◌++◌, ◌∷◌, [], length, IfOk, IsOk, IfErr, OnErr, Some, None};
-ghost use Rattle.pgp_text.specs.Command.{command_of, IsInRange};
+//! The answer to a line, as text.
+ghost use Rattle.std.specs.Prelude.{◌≡◌, ◌≢◌, ◌<◌, ◌≤◌, ◌+◌, ◌++◌, ◌∷◌, [], length, vec_len, vec_capacity, true, IsOk, IfErr, OnOk, OnErr, Some};
+ghost use Rattle.pgp_text.specs.Command.{IsInRange};
 ghost use Rattle.pgp_text.specs.Reply.{reply_text};
-ghost use Rattle.pgp_core.specs.Answer.{reply_of, log_after, asked_reply, traced_reply, submitted_reply, log_with, line_text, line_log, long_text};
-ghost use Rattle.pgp_log.specs.Fits.{fits};
-ghost use Rattle.pgp_group.specs.View.{scratch};
+ghost use Rattle.pgp_core.specs.Answer.{long_text};
+ghost use Rattle.pgp_core.specs.Answerer.{MayAnswerBy, is_accepted};
 ghost use Rattle.pgp_core.specs.Script.{MayMeet};
+ghost use Rattle.pgp_core.specs.Told.{PutsFault, PutsReply, PutsText};
+ghost use Rattle.pgp_lines.specs.LineFault.{told};
 ghost use Rattle.pgp_core.specs.Wants.{want_of};
 
-use super::history::history;
-use super::log::Log;
+use super::accepted::{LONGEST_ACCEPTED, put_accepted};
+use super::answerer::Answerer;
 use super::want::Want;
-use pgp_code::AnyCode;
-use pgp_ids::{Entry, Epoch, EpochState, PgId, PoolKind, Refusal, Seq, TextFault};
-use pgp_text::{Command, EntryOp, Refused, Reply, read_line, write_reply};
+use pgp_ids::TextFault;
+use pgp_text::{Command, Refused, Reply, read_line, write_reply};
 use std::alloc::{AllocError, Global};
 
-/// The text of the answer to a line that isn't blank and not too long, with a line feed.
+/// Puts the answer to a line that isn't blank and not too long behind the text, with a line feed.
 ///
-/// Where the line is an entry that the log takes, the log has it from now on. Where memory is wanting, the log stays
-/// as it was.
-pub fn answer_line(alloc: Global, line: &[u8], log: &mut Log) -> Result<Vec<u8>, Want>
-    ensures text { IfOk result (λ text. text.items ≡ line_text log.old line.now ++ 10 ∷ []) }
-    ensures log { IsOk result → log.new ≡ line_log log.old line.now }
+/// Where the line is an entry that the log takes, the log has it from now on. Where memory is wanting, the text stays and
+/// the line adds nothing to the log.
+pub fn answer_line<A: Answerer>(
+    alloc: Global,
+    line: &[u8],
+    answerer: &mut A,
+    text: &mut Vec<u8>,
+) -> Result<(), Want>
+    ensures ok { OnOk result (PutsText A.alone (A.log answerer.old) (A.log answerer.new) line.now text.old.items text.new.items) }
     ensures wants { IfErr result (λ want. 0 < length line.now → length line.now ≤ 1048576 → MayMeet (Some want) line.now) }
-    ensures kept { OnErr result (log.new ≡ log.old) }
+    ensures text { OnErr result (text.new.items ≡ text.old.items) }
+    ensures log { OnErr result (MayAnswerBy A.alone (A.log answerer.old) (A.log answerer.new)) }
 {
     match read_line(alloc, line) {
-        Ok(command) => answer_command(alloc, command, log),
+        Ok(command) => answer_command(alloc, command, answerer, text),
         Err(TextFault::Memory) => Err(Want::Line),
-        Err(fault) => {
-            write_line(alloc, &Reply::Refused(Refused::Line(fault))).or(Err(Want::Line))
-        }
+        Err(fault) => put_fault(alloc, fault, text),
     }
 }
 
-/// The text of the answer to a command that was read, with a line feed. Where it is an entry that the log takes, the log
-/// has it from now on.
-fn answer_command(alloc: Global, command: Command, log: &mut Log) -> Result<Vec<u8>, Want>
+/// Puts the answer to a command that was read behind the text, with a line feed.
+fn answer_command<A: Answerer>(
+    alloc: Global,
+    command: Command,
+    answerer: &mut A,
+    text: &mut Vec<u8>,
+) -> Result<(), Want>
     requires { IsInRange command }
-    ensures text { IfOk result (λ text. text.items ≡ reply_text (reply_of log.old command) ++ 10 ∷ []) }
-    ensures log { IsOk result → log.new ≡ log_after log.old command }
+    ensures ok { OnOk result (PutsReply A.alone (A.log answerer.old) (A.log answerer.new) command text.old.items text.new.items) }
     ensures wants { IfErr result (λ want. want ≡ want_of command) }
-    ensures kept { OnErr result (log.new ≡ log.old) }
+    ensures text { OnErr result (text.new.items ≡ text.old.items) }
+    ensures log { OnErr result (MayAnswerBy A.alone (A.log answerer.old) (A.log answerer.new)) }
+{
+    let want = want_of(&command);
+    match ask(alloc, command, answerer, text) {
+        Ok(()) => Ok(()),
+        Err(_) => Err(want),
+    }
+}
+
+/// Puts the answerer's reply to a command behind the text, with a line feed.
+///
+/// There is room for the answer to an entry that is taken before the answerer is asked, so that it can't fail once the log
+/// has the entry.
+fn ask<A: Answerer>(
+    alloc: Global,
+    command: Command,
+    answerer: &mut A,
+    text: &mut Vec<u8>,
+) -> Result<(), AllocError>
+    requires { IsInRange command }
+    ensures ok { OnOk result (PutsReply A.alone (A.log answerer.old) (A.log answerer.new) command text.old.items text.new.items) }
+    ensures text { OnErr result (text.new.items ≡ text.old.items) }
+    ensures log { OnErr result (MayAnswerBy A.alone (A.log answerer.old) (A.log answerer.new)) }
+{
+    text.reserve(LONGEST_ACCEPTED)?;
+    let reply = answerer.reply(alloc, command)?;
+    put_reply(alloc, &reply, text)
+}
+
+/// Which want of memory a command meets, if any.
+fn want_of(command: &Command) -> Want
+    ensures { result ≡ want_of command.now }
 {
     match command {
-        Command::Submit(entry) => submit(alloc, entry, log).or(Err(Want::Entry)),
-        Command::Ask(pg) => ask(alloc, pg, log).or(Err(Want::Line)),
-        Command::Locate { pool, name } => {
-            write_line(alloc, &log.locate(pool, &name)).or(Err(Want::Line))
-        }
-        Command::Trace { code, epochs } => trace(alloc, code, epochs).or(Err(Want::Line)),
+        Command::Submit(_) => Want::Entry,
+        Command::Ask(_) | Command::Locate { .. } | Command::Trace { .. } => Want::Line,
     }
 }
 
-/// The text of the answer to a question about a group, with a line feed.
-fn ask(alloc: Global, pg: PgId, log: &Log) -> Result<Vec<u8>, AllocError>
-    ensures { IfOk result (λ text. text.items ≡ reply_text (asked_reply pg (scratch log.now pg)) ++ 10 ∷ []) }
+/// Puts the answer to a line that is too long behind the text, with a line feed.
+pub fn put_long(alloc: Global, text: &mut Vec<u8>) -> Result<(), Want>
+    ensures ok { OnOk result (text.new.items ≡ text.old.items ++ (long_text ++ 10 ∷ [])) }
+    ensures wants { IfErr result (λ want. want ≡ Want.Line) }
+    ensures err { OnErr result (text.new.items ≡ text.old.items) }
 {
-    let reply = log.ask(alloc, pg)?;
-    write_line(alloc, &reply)
-}
-
-/// The text of the answer to a line that is too long, with a line feed.
-pub fn answer_long(alloc: Global) -> Result<Vec<u8>, AllocError>
-    ensures { IfOk result (λ text. text.items ≡ long_text ++ 10 ∷ []) }
-{
-    write_line(
+    match put_reply(
         alloc,
         &Reply::Refused(Refused::Line(TextFault::LineTooLong)),
-    )
-}
-
-/// The text of a reply, with a line feed.
-fn write_line(alloc: Global, reply: &Reply) -> Result<Vec<u8>, AllocError>
-    ensures { IfOk result (λ text. text.items ≡ reply_text reply.now ++ 10 ∷ []) }
-{
-    let mut text = write_reply(alloc, reply)?;
-    text.push(b'\n')?;
-    Ok(text)
-}
-
-/// The text of the answer to an entry, with a line feed. Where the log takes the entry, it has it from now on.
-fn submit(alloc: Global, entry: Entry, log: &mut Log) -> Result<Vec<u8>, AllocError>
-    ensures text { IfOk result (λ text. text.items ≡ reply_text (submitted_reply log.old entry (fits log.old entry)) ++ 10 ∷ []) }
-    ensures log { IsOk result → log.new ≡ log_with log.old entry (fits log.old entry) }
-    ensures kept { OnErr result (log.new ≡ log.old) }
-{
-    match log.judge(&entry) {
-        Ok(()) => accept(alloc, entry, log),
-        Err(Refusal::Memory) => Err(AllocError),
-        Err(refusal) => write_line(alloc, &Reply::Refused(Refused::Entry(refusal))),
+        text,
+    ) {
+        Ok(()) => Ok(()),
+        Err(_) => Err(Want::Line),
     }
 }
 
-/// Has the log take an entry that fits. The text is made first, so that nothing can fail once the log has the entry.
-fn accept(alloc: Global, entry: Entry, log: &mut Log) -> Result<Vec<u8>, AllocError>
-    requires { fits log.old entry ≡ None }
-    ensures text { IfOk result (λ text. text.items ≡ reply_text (submitted_reply log.old entry None) ++ 10 ∷ []) }
-    ensures log { IsOk result → log.new ≡ log.old ++ entry ∷ [] }
-    ensures kept { OnErr result (log.new ≡ log.old) }
+/// Puts the answer to a line that has this fault behind the text, with a line feed.
+fn put_fault(alloc: Global, fault: TextFault, text: &mut Vec<u8>) -> Result<(), Want>
+    requires { fault ≢ TextFault.Memory }
+    ensures ok { OnOk result (PutsFault (told fault) text.old.items text.new.items) }
+    ensures wants { IfErr result (λ want. want ≡ Want.Line) }
+    ensures err { OnErr result (text.new.items ≡ text.old.items) }
 {
-    let text = write_accepted(alloc, &entry, log)?;
-    log.take(entry)?;
-    Ok(text)
+    match put_reply(alloc, &Reply::Refused(Refused::Line(fault)), text) {
+        Ok(()) => Ok(()),
+        Err(_) => Err(Want::Line),
+    }
 }
 
-/// The text of the answer to an entry that the log takes, with a line feed.
-fn write_accepted(alloc: Global, entry: &Entry, log: &Log) -> Result<Vec<u8>, AllocError>
-    ensures { IfOk result (λ text. text.items ≡ reply_text (submitted_reply log.now entry.now None) ++ 10 ∷ []) }
+/// Puts the text of a reply behind the text, with a line feed. It succeeds where an entry was taken and the text has room
+/// for the longest answer to one.
+fn put_reply(alloc: Global, reply: &Reply, text: &mut Vec<u8>) -> Result<(), AllocError>
+    ensures ok { OnOk result (text.new.items ≡ text.old.items ++ (reply_text reply.now ++ 10 ∷ [])) }
+    ensures err { OnErr result (text.new.items ≡ text.old.items) }
+    ensures sure { is_accepted reply.now ≡ true → vec_len text.old + LONGEST_ACCEPTED ≤ vec_capacity text.old → IsOk result }
 {
-    let reply = Reply::Accepted {
-        op: EntryOp::of(entry),
-        count: log.count() + 1,
-        epoch: log.epoch_with(entry),
-    };
-    write_line(alloc, &reply)
-}
-
-/// The answer to a trace of a group whose pool is of this kind, with a line feed.
-fn trace(alloc: Global, kind: PoolKind, epochs: Seq<EpochState>) -> Result<Vec<u8>, AllocError>
-    requires { length epochs ≤ 4096 }
-    ensures { IfOk result (λ text. text.items ≡ reply_text (traced_reply kind epochs) ++ 10 ∷ []) }
-{
-    let reply = traced(alloc, kind, epochs)?;
-    write_line(alloc, &reply)
-}
-
-/// The intervals of a group whose pool is of this kind, in these epochs.
-fn traced(alloc: Global, kind: PoolKind, epochs: Seq<EpochState>) -> Result<Reply, AllocError>
-    requires { length epochs ≤ 4096 }
-    ensures { IfOk result (λ reply. reply ≡ traced_reply kind epochs) }
-{
-    let mut states = epochs.into_vec().into_iter();
-    let Some(opening) = states.next() else {
-        return Ok(Reply::Traced {
-            first: Epoch::new(1),
-            past: Seq::new(alloc),
-        });
-    };
-    let history = history(alloc, AnyCode::of_pool(kind), opening, states)?;
-    let (first, _) = history.current();
-    Ok(Reply::Traced {
-        first,
-        past: Seq::from_vec(history.past(alloc)?),
-    })
+    match reply {
+        Reply::Accepted { op, count, epoch } => put_accepted(text, *op, *count, *epoch),
+        reply => {
+            let mut line = write_reply(alloc, reply)?;
+            line.push(b'\n')?;
+            text.extend_from_slice(line.as_slice())
+        }
+    }
 }

@@ -1,17 +1,29 @@
 //! The core of the engine: [`run_script`] answers a script, line by line, on one thread, by the log that its lines make.
+//!
+//! A run has three parts: `Input` cuts the bytes that are read into lines, within bounds; an [`Answerer`] answers the
+//! command of each; and `Output` keeps the answers until they are written.
 #![tactic(auto)]
 
+mod accepted;
 mod answer;
+mod answerer;
+mod fault;
 mod history;
+mod input;
 pub mod laws;
 mod line;
 mod log;
 mod output;
+mod replies;
 mod script;
 mod streams;
 mod want;
 
+pub use answerer::Answerer;
+pub use fault::ScriptFault;
+pub use input::Bounds;
 pub use output::{WriteFault, write_out};
-pub use script::{ScriptFault, run_script, run_script_within};
+pub use replies::{asked, traced};
+pub use script::{answer_script, run_script, run_script_within};
 pub use streams::{Sink, Source};
 pub use want::Want;

@@ -1,10 +1,14 @@
-ghost use Rattle.std.specs.Prelude.{◌≡◌, ℕ, List, [], ◌∷◌, ◌++◌, Bool};
-ghost use Rattle.pgp_core.specs.Line.{Holds, IsAnswerTo, answer_bytes};
-ghost use Rattle.pgp_core.specs.Lines.{is_blank};
-ghost use Rattle.pgp_core.specs.Script.{want_text};
+//! The line that is being read, and what is written for it.
 
-use super::answer::{answer_line, answer_long};
-use super::log::Log;
+ghost use Rattle.std.specs.Prelude.{◌≡◌, ℕ, List, [], ◌∷◌, ◌++◌, Some, OnOk, IfErr, OnErr};
+ghost use Rattle.pgp_core.specs.Answerer.{MayAnswerBy};
+ghost use Rattle.pgp_core.specs.Line.{Holds};
+ghost use Rattle.pgp_core.specs.Lines.{is_blank};
+ghost use Rattle.pgp_core.specs.Script.{want_text, MayMeet};
+ghost use Rattle.pgp_core.specs.Told.{PutsLine};
+
+use super::answer::{answer_line, put_long};
+use super::answerer::Answerer;
 use super::want::Want;
 use std::alloc::Global;
 
@@ -37,29 +41,6 @@ pub struct LineBuffer {
     pub started: bool,
     /// Whether it has only blanks so far.
     pub blank: bool,
-}
-
-/// What is written for a line.
-#[derive(Debug, Drop)]
-pub enum LineAnswer {
-    /// Nothing, for a blank line.
-    Nothing,
-    /// The constant text for this want of memory.
-    Wants(Want),
-    /// This text, with its line feed.
-    Text(Vec<u8>),
-}
-
-impl LineAnswer {
-    pub fn as_slice(&self) -> &[u8]
-        ensures { result.now ≡ answer_bytes self.now }
-    {
-        match self {
-            LineAnswer::Nothing => &[],
-            LineAnswer::Wants(want) => want_line(*want),
-            LineAnswer::Text(text) => text.as_slice(),
-        }
-    }
 }
 
 /// The answer to a line that met want of memory.
@@ -113,22 +94,43 @@ impl LineBuffer {
         }
     }
 
-    /// What is written for the line; where it is an entry that the log takes, the log has it from now on.
-    pub fn answer(&self, alloc: Global, log: &mut Log) -> LineAnswer
-        ensures { (line : List ℕ) → Holds self.now line → IsAnswerTo result log.old log.new line }
+    /// Puts the answer to the line behind the text, and gives what is still to be written of it: where memory was
+    /// wanting, a constant text. Where the line is an entry that the log takes, the log has it from now on.
+    pub fn answer<A: Answerer>(
+        &self,
+        alloc: Global,
+        answerer: &mut A,
+        text: &mut Vec<u8>,
+    ) -> &'static [u8]
+        ensures { (line : List ℕ) → Holds self.now line
+            → PutsLine A.alone (A.log answerer.old) (A.log answerer.new) line text.old.items text.new.items result.now }
+    {
+        match self.put_answer(alloc, answerer, text) {
+            Ok(()) => &[],
+            Err(want) => want_line(want),
+        }
+    }
+
+    /// Puts the answer to the line behind the text. Where memory is wanting, the text stays and the line adds nothing to
+    /// the log.
+    fn put_answer<A: Answerer>(
+        &self,
+        alloc: Global,
+        answerer: &mut A,
+        text: &mut Vec<u8>,
+    ) -> Result<(), Want>
+        ensures ok { OnOk result ((line : List ℕ) → Holds self.now line
+            → PutsLine A.alone (A.log answerer.old) (A.log answerer.new) line text.old.items text.new.items []) }
+        ensures wants { IfErr result (λ want. (line : List ℕ) → Holds self.now line → MayMeet (Some want) line) }
+        ensures text { OnErr result (text.new.items ≡ text.old.items) }
+        ensures log { OnErr result (MayAnswerBy A.alone (A.log answerer.old) (A.log answerer.new)) }
     {
         match self.fate {
-            Fate::NoMemory => LineAnswer::Wants(Want::Line),
-            Fate::TooLong if self.blank => LineAnswer::Nothing,
-            Fate::TooLong => match answer_long(alloc) {
-                Ok(text) => LineAnswer::Text(text),
-                Err(_) => LineAnswer::Wants(Want::Line),
-            },
-            Fate::Kept if self.blank => LineAnswer::Nothing,
-            Fate::Kept => match answer_line(alloc, self.bytes.as_slice(), log) {
-                Ok(text) => LineAnswer::Text(text),
-                Err(want) => LineAnswer::Wants(want),
-            },
+            Fate::NoMemory => Err(Want::Line),
+            Fate::TooLong if self.blank => Ok(()),
+            Fate::TooLong => put_long(alloc, text),
+            Fate::Kept if self.blank => Ok(()),
+            Fate::Kept => answer_line(alloc, self.bytes.as_slice(), answerer, text),
         }
     }
 }

@@ -7,17 +7,15 @@ ghost use Rattle.pgp_map.specs.Checked.{are_checked};
 ghost use Rattle.pgp_map.specs.MapFault.{given_fault};
 ghost use Rattle.pgp_map.specs.MapOf.{IsMapOf};
 ghost use Rattle.pgp_map.specs.Pools.{pool};
-ghost use Rattle.pgp_core.specs.Answer.{asked_reply, located_reply};
+ghost use Rattle.pgp_core.specs.Answer.{located_reply};
 ghost use Rattle.pgp_log.specs.RawSets.{AreRawSets};
 ghost use Rattle.pgp_group.specs.Entries.{inc_of, incs_of};
 ghost use Rattle.pgp_group.specs.View.{scratch};
 ghost use Rattle.pgp_log.specs.Fits.{is_closed, entry_fault, fits};
 ghost use Rattle.pgp_log.specs.Log.{epoch_of, is_legal};
 
+use pgp_ids::{Entry, Epoch, Incremental, LocateRefusal, ObjectName, PgId, PoolId, Refusal, View};
 use pgp_log::{RawSets, entries_fault, group_of, inc_of, info_fault, is_close, replay_of};
-use pgp_ids::{
-    AskRefusal, Entry, Epoch, Incremental, LocateRefusal, ObjectName, PgId, PoolId, Refusal, View,
-};
 use pgp_map::OsdMap;
 use pgp_text::{Refused, Reply};
 use std::alloc::{AllocError, Global};
@@ -91,13 +89,13 @@ impl Log {
         }
     }
 
-    /// The reply to a question about a group: all that the log says of it.
-    pub fn ask(&self, alloc: Global, pg: PgId) -> Result<Reply, AllocError>
-        ensures { IfOk result (λ reply. reply ≡ asked_reply pg (scratch self.now pg)) }
+    /// All that the log says of a group, where its map has it.
+    pub fn ask(&self, alloc: Global, pg: PgId) -> Result<Option<View>, AllocError>
+        ensures { IfOk result (λ view. view ≡ scratch self.now pg) }
     {
         let replay = replay_of(alloc, self.entries.as_slice(), &pg)?;
         let view = replay.view(self.entries.len())?;
-        Ok(asked(pg, view))
+        Ok(view)
     }
 
     /// Why the log doesn't take the entry, if it doesn't. `Memory` comes only where there was none to look at an incremental
@@ -172,15 +170,5 @@ fn extend_map(map: &mut OsdMap, entry: &Entry) -> Result<(), AllocError>
     match inc_of(entry) {
         Some(inc) => map.apply(inc),
         None => Ok(()),
-    }
-}
-
-/// The reply to a question about a group of which this is said.
-fn asked(pg: PgId, view: Option<View>) -> Reply
-    ensures { result ≡ asked_reply pg view }
-{
-    match view {
-        Some(view) => Reply::Asked(pg, view),
-        None => Reply::Refused(Refused::Ask(AskRefusal::UnknownGroup)),
     }
 }

@@ -1,109 +1,84 @@
 //! Answering a script: its lines are read, and the answer to each is written.
 
-ghost use Rattle.std.specs.Prelude.{◌≡◌, ℕ, ◌+◌, ◌-◌, ◌<◌, ◌≤◌, List, [], ◌∷◌, ◌++◌, Bool, true, false, Option, OnOk, OnErr, IfOk, IfSome, IfNone, length};
+ghost use Rattle.std.specs.Prelude.{◌≡◌, ℕ, ◌+◌, ◌<◌, ◌≤◌, List, [], ◌∷◌, ◌++◌, Bool, true, false, Option, OnOk, OnErr, IfOk, IfErr, length};
 ghost use Rattle.std.specs.List.{list_any};
+ghost use Rattle.std.specs.Io.KnownBytes.{Appends, IsAtEnd};
+ghost use Rattle.pgp_ids.specs.declared.entry.Entry.{Entry};
 ghost use Rattle.pgp_core.specs.Lines.{is_line_feed};
 ghost use Rattle.pgp_core.specs.Line.{Holds};
-ghost use Rattle.std.specs.Io.KnownBytes.{Appends, IsAtEnd};
-ghost use Rattle.pgp_core.specs.Output.{FrontWent};
-ghost use Rattle.pgp_core.specs.Run.{IsAfter, Answered, CutOff, BrokenOff, BrokenAtEnd, IsDone, IsBeyond, Puts, PutsFront, AllAnswered, ReadStopped, WriteStopped, Reads, bounds_of, script_bounds};
+ghost use Rattle.pgp_core.specs.Run.{AllAnswered, ReadStopped, WriteStopped, bounds_of, script_bounds};
+ghost use Rattle.pgp_core.specs.Telling.{Began, Puts, PutsFront, IsAfter, IsDone, BrokenAtLast, WentBy, IsStopped, StopsIn, Reads, AllTold, Stops, whole_lines, began_at};
 
-use super::line::LineBuffer;
+use super::answerer::Answerer;
+use super::fault::ScriptFault;
+use super::input::{Bounds, Input, split_line};
 use super::log::Log;
 use super::output::{Output, WriteFault};
 use super::streams::{Sink, Source};
-use memchr::memchr;
 use std::alloc::Global;
-use thiserror::Error;
 
 /// How many bytes a read asks for.
 const CHUNK: usize = 65536;
 
-/// How large a script may be.
-#[derive(Clone, Copy, Debug, PartialEq, Eq)]
-pub struct Bounds {
-    pub lines: u64,
-    pub bytes: u64,
-}
-
-/// Why a script was not answered to its end.
-#[derive(Clone, Copy, Debug, PartialEq, Eq, Error)]
-pub enum ScriptFault {
-    /// A read failed, or the script is larger than its bounds.
-    #[error("read fault")]
-    Read,
-    /// A write failed, or took no byte.
-    #[error("write fault")]
-    Write,
-}
-
-impl From<WriteFault> for ScriptFault {
-    ghost use Rattle.std.specs.Prelude.{◌≡◌};
-    ghost use Rattle.pgp_core.specs.declared.script.ScriptFault.TheVariants.{Write};
-
-    ghost from_gives = { λ _ fault. fault ≡ Write };
-
-    fn from(_fault: WriteFault) -> ScriptFault {
-        ScriptFault::Write
-    }
-}
-
 /// A script that is being answered.
 #[derive(Debug, Drop)]
 pub struct Script {
-    pub line: LineBuffer,
+    pub input: Input,
     pub output: Output,
-    /// The entries that were taken so far.
-    pub log: Log,
-    /// How many more lines may end, and how many more bytes may be read.
-    pub left: Bounds,
 }
 
 impl Script {
     fn new(alloc: Global, bounds: Bounds) -> Self
-        ensures left { result.left ≡ bounds }
-        ensures start { (start : Option (List ℕ)) → IsAfter bounds result start start [] }
+        ensures left { result.input.left ≡ bounds }
+        ensures start { (alone : Bool) (log : List Entry) (written : Option (List ℕ))
+            → IsAfter alone (began_at log bounds written) result log written [] }
     {
         Script {
-            line: LineBuffer::new(alloc),
+            input: Input::new(alloc, bounds),
             output: Output::new(alloc),
-            log: Log::new(alloc),
-            left: bounds,
         }
     }
 
     /// Takes bytes of the line, none of them a line feed.
     fn add(&mut self, piece: &[u8])
         requires one_line { list_any is_line_feed piece.now ≡ false }
-        requires room { 0 < self.old.left.lines }
-        requires fits { length piece.now ≤ self.old.left.bytes }
-        ensures left { self.new.left ≡ record self.old.left { bytes = self.old.left.bytes - length piece.now } }
-        ensures after { (bounds : Bounds) (start now : Option (List ℕ)) (bytes : List ℕ)
-            → IsAfter bounds self.old start now bytes → IsAfter bounds self.new start now (bytes ++ piece.now) }
+        requires room { 0 < self.old.input.left.lines }
+        requires fits { length piece.now ≤ self.old.input.left.bytes }
+        ensures left { self.new.input.left.bytes + length piece.now ≡ self.old.input.left.bytes }
+        ensures lines { self.new.input.left.lines ≡ self.old.input.left.lines }
+        ensures after { (alone : Bool) (began : Began) (log : List Entry) (now : Option (List ℕ)) (bytes : List ℕ)
+            → IsAfter alone began self.old log now bytes → IsAfter alone began self.new log now (bytes ++ piece.now) }
     {
-        self.line.add(piece);
-        self.left.bytes -= piece.len() as u64;
+        self.input.add(piece);
     }
 
-    /// Answers the line that is being read, and has the log take the entry that it may be.
-    fn put_answer<W: Sink>(&mut self, alloc: Global, writer: &mut W) -> Result<(), WriteFault>
-        ensures ok { OnOk result ((line : List ℕ) → Holds self.old.line line
-            → Puts (W.contents writer.old) (W.contents writer.new) self.old.output.pending.items
-            self.new.output.pending.items self.old.log self.new.log line) }
-        ensures err { OnErr result ((line : List ℕ) → Holds self.old.line line
-            → PutsFront (W.contents writer.old) (W.contents writer.new) self.old.output.pending.items self.old.log line) }
+    /// Answers the line that is being read.
+    fn put_answer<A: Answerer, W: Sink>(
+        &mut self,
+        alloc: Global,
+        answerer: &mut A,
+        writer: &mut W,
+    ) -> Result<(), WriteFault>
+        ensures ok { OnOk result ((line : List ℕ) → Holds self.old.input.line line
+            → Puts A.alone (A.log answerer.old) (A.log answerer.new) line (W.contents writer.old) (W.contents writer.new)
+            self.old.output.pending.items self.new.output.pending.items) }
+        ensures err { OnErr result ((line : List ℕ) → Holds self.old.input.line line
+            → PutsFront A.alone (A.log answerer.old) (A.log answerer.new) line (W.contents writer.old) (W.contents writer.new)
+            self.old.output.pending.items) }
         ensures told { OnErr result (W.failed writer.new ≡ true) }
         ensures kept { OnOk result (W.failed writer.new ≡ W.failed writer.old) }
-        ensures rest { self.new ≡ record self.old { output = self.new.output; log = self.new.log } }
+        ensures input { self.new.input ≡ self.old.input }
     {
-        let answer = self.line.answer(alloc, &mut self.log);
-        self.output.put(answer.as_slice(), writer)
+        let rest = self
+            .input
+            .line
+            .answer(alloc, answerer, &mut self.output.pending);
+        self.output.put(rest, writer)
     }
 
     /// Writes what is pending, and says which fault ends the script: that of the write comes first.
     fn stop_reading<W: Sink>(&mut self, writer: &mut W) -> ScriptFault
-        ensures read { result ≡ ScriptFault.Read → Appends (W.contents writer.old) (W.contents writer.new) self.old.output.pending.items }
-        ensures write { result ≡ ScriptFault.Write → FrontWent (W.contents writer.old) (W.contents writer.new) self.old.output.pending.items }
+        ensures went { WentBy result (W.contents writer.old) (W.contents writer.new) self.old.output.pending.items }
         ensures told { result ≡ ScriptFault.Write → W.failed writer.new ≡ true }
         ensures kept { result ≡ ScriptFault.Read → W.failed writer.new ≡ W.failed writer.old }
     {
@@ -114,62 +89,60 @@ impl Script {
     }
 
     /// Takes the line feed that ends the line.
-    fn end_line<W: Sink>(&mut self, alloc: Global, writer: &mut W) -> Result<(), WriteFault>
-        requires room { 0 < self.old.left.lines }
-        requires fits { 0 < self.old.left.bytes }
-        ensures left { OnOk result (self.new.left.bytes ≡ self.old.left.bytes - 1) }
-        ensures ok { OnOk result ((bounds : Bounds) (start : Option (List ℕ)) (bytes : List ℕ)
-            → IsAfter bounds self.old start (W.contents writer.old) bytes
-            → IsAfter bounds self.new start (W.contents writer.new) (bytes ++ 10 ∷ [])) }
-        ensures err { OnErr result ((bounds : Bounds) (start : Option (List ℕ)) (bytes more : List ℕ)
-            → IsAfter bounds self.old start (W.contents writer.old) bytes
-            → BrokenOff bounds start (W.contents writer.new) (bytes ++ 10 ∷ more)) }
+    fn end_line<A: Answerer, W: Sink>(
+        &mut self,
+        alloc: Global,
+        answerer: &mut A,
+        writer: &mut W,
+    ) -> Result<(), WriteFault>
+        requires room { 0 < self.old.input.left.lines }
+        requires fits { 0 < self.old.input.left.bytes }
+        ensures left { OnOk result (self.new.input.left.bytes + 1 ≡ self.old.input.left.bytes) }
+        ensures ok { OnOk result ((began : Began) (bytes : List ℕ)
+            → IsAfter A.alone began self.old (A.log answerer.old) (W.contents writer.old) bytes
+            → IsAfter A.alone began self.new (A.log answerer.new) (W.contents writer.new) (bytes ++ 10 ∷ [])) }
+        ensures err { OnErr result ((began : Began) (bytes more : List ℕ)
+            → IsAfter A.alone began self.old (A.log answerer.old) (W.contents writer.old) bytes
+            → IsStopped A.alone began ScriptFault.Write (W.contents writer.new) (whole_lines began (bytes ++ 10 ∷ more))) }
         ensures told { OnErr result (W.failed writer.new ≡ true) }
         ensures kept { OnOk result (W.failed writer.new ≡ W.failed writer.old) }
     {
-        self.put_answer(alloc, writer)?;
-        self.line.clear();
-        self.left.lines -= 1;
-        self.left.bytes -= 1;
+        self.put_answer(alloc, answerer, writer)?;
+        self.input.end_line();
         Ok(())
     }
 }
 
 impl Script {
     /// Takes bytes that the bounds on bytes allow.
-    fn take_allowed<W: Sink>(
+    fn take_allowed<A: Answerer, W: Sink>(
         &mut self,
         alloc: Global,
         chunk: &[u8],
+        answerer: &mut A,
         writer: &mut W,
     ) -> Result<(), ScriptFault>
-        requires fits { length chunk.now ≤ self.old.left.bytes }
-        ensures left { OnOk result (self.new.left.bytes + length chunk.now ≡ self.old.left.bytes) }
-        ensures ok { OnOk result ((bounds : Bounds) (start : Option (List ℕ)) (bytes : List ℕ)
-            → IsAfter bounds self.old start (W.contents writer.old) bytes
-            → IsAfter bounds self.new start (W.contents writer.new) (bytes ++ chunk.now)) }
-        ensures read { result ≡ Err ScriptFault.Read → (bounds : Bounds) (start : Option (List ℕ)) (bytes more : List ℕ)
-            → IsAfter bounds self.old start (W.contents writer.old) bytes
-            → CutOff bounds start (W.contents writer.new) (bytes ++ (chunk.now ++ more)) }
-        ensures beyond { result ≡ Err ScriptFault.Read → (bounds : Bounds) (start : Option (List ℕ)) (bytes more : List ℕ)
-            → IsAfter bounds self.old start (W.contents writer.old) bytes
-            → IsBeyond bounds (bytes ++ (chunk.now ++ more)) }
-        ensures write { result ≡ Err ScriptFault.Write → (bounds : Bounds) (start : Option (List ℕ)) (bytes more : List ℕ)
-            → IsAfter bounds self.old start (W.contents writer.old) bytes
-            → BrokenOff bounds start (W.contents writer.new) (bytes ++ (chunk.now ++ more)) }
+        requires fits { length chunk.now ≤ self.old.input.left.bytes }
+        ensures left { OnOk result (self.new.input.left.bytes + length chunk.now ≡ self.old.input.left.bytes) }
+        ensures ok { OnOk result ((began : Began) (bytes : List ℕ)
+            → IsAfter A.alone began self.old (A.log answerer.old) (W.contents writer.old) bytes
+            → IsAfter A.alone began self.new (A.log answerer.new) (W.contents writer.new) (bytes ++ chunk.now)) }
+        ensures err { IfErr result (λ fault. (began : Began) (bytes more : List ℕ)
+            → IsAfter A.alone began self.old (A.log answerer.old) (W.contents writer.old) bytes
+            → StopsIn A.alone began fault (W.contents writer.new) (bytes ++ (chunk.now ++ more))) }
         ensures told { result ≡ Err ScriptFault.Write → W.failed writer.new ≡ true }
         ensures kept { OnOk result (W.failed writer.new ≡ W.failed writer.old) }
         ensures kept_at_read { result ≡ Err ScriptFault.Read → W.failed writer.new ≡ W.failed writer.old }
     {
         let mut rest = chunk;
         while !rest.is_empty() {
-            if self.left.lines == 0 {
+            if self.input.left.lines == 0 {
                 return Err(self.stop_reading(writer));
             }
             match split_line(rest) {
                 Some((piece, others)) => {
                     self.add(piece);
-                    self.end_line(alloc, writer)?;
+                    self.end_line(alloc, answerer, writer)?;
                     rest = others;
                 }
                 None => {
@@ -180,73 +153,76 @@ impl Script {
         }
         Ok(())
     }
-}
 
-impl Script {
     /// Takes bytes that were read.
-    fn take<W: Sink>(
+    fn take<A: Answerer, W: Sink>(
         &mut self,
         alloc: Global,
         chunk: &[u8],
+        answerer: &mut A,
         writer: &mut W,
     ) -> Result<(), ScriptFault>
-        ensures left { OnOk result (self.new.left.bytes + length chunk.now ≡ self.old.left.bytes) }
-        ensures ok { OnOk result ((bounds : Bounds) (start : Option (List ℕ)) (bytes : List ℕ)
-            → IsAfter bounds self.old start (W.contents writer.old) bytes
-            → IsAfter bounds self.new start (W.contents writer.new) (bytes ++ chunk.now)) }
-        ensures read { result ≡ Err ScriptFault.Read → (bounds : Bounds) (start : Option (List ℕ)) (bytes : List ℕ)
-            → IsAfter bounds self.old start (W.contents writer.old) bytes
-            → CutOff bounds start (W.contents writer.new) (bytes ++ chunk.now) }
-        ensures beyond { result ≡ Err ScriptFault.Read → (bounds : Bounds) (start : Option (List ℕ)) (bytes : List ℕ)
-            → IsAfter bounds self.old start (W.contents writer.old) bytes
-            → IsBeyond bounds (bytes ++ chunk.now) }
-        ensures write { result ≡ Err ScriptFault.Write → (bounds : Bounds) (start : Option (List ℕ)) (bytes : List ℕ)
-            → IsAfter bounds self.old start (W.contents writer.old) bytes
-            → BrokenOff bounds start (W.contents writer.new) (bytes ++ chunk.now) }
+        ensures left { OnOk result (self.new.input.left.bytes + length chunk.now ≡ self.old.input.left.bytes) }
+        ensures ok { OnOk result ((began : Began) (bytes : List ℕ)
+            → IsAfter A.alone began self.old (A.log answerer.old) (W.contents writer.old) bytes
+            → IsAfter A.alone began self.new (A.log answerer.new) (W.contents writer.new) (bytes ++ chunk.now)) }
+        ensures err { IfErr result (λ fault. (began : Began) (bytes : List ℕ)
+            → IsAfter A.alone began self.old (A.log answerer.old) (W.contents writer.old) bytes
+            → StopsIn A.alone began fault (W.contents writer.new) (bytes ++ chunk.now)) }
         ensures told { result ≡ Err ScriptFault.Write → W.failed writer.new ≡ true }
         ensures kept { OnOk result (W.failed writer.new ≡ W.failed writer.old) }
         ensures kept_at_read { result ≡ Err ScriptFault.Read → W.failed writer.new ≡ W.failed writer.old }
     {
-        if chunk.len() as u64 <= self.left.bytes {
-            return self.take_allowed(alloc, chunk, writer);
+        if chunk.len() as u64 <= self.input.left.bytes {
+            return self.take_allowed(alloc, chunk, answerer, writer);
         }
-        let allowed = &chunk[..self.left.bytes as usize];
-        match self.take_allowed(alloc, allowed, writer) {
+        let allowed = &chunk[..self.input.left.bytes as usize];
+        match self.take_allowed(alloc, allowed, answerer, writer) {
             Ok(()) => Err(self.stop_reading(writer)),
             Err(fault) => Err(fault),
         }
     }
 
     /// Answers a last line that no line feed ends.
-    fn put_last<W: Sink>(&mut self, alloc: Global, writer: &mut W) -> Result<(), WriteFault>
-        ensures ok { OnOk result ((bounds : Bounds) (start : Option (List ℕ)) (bytes : List ℕ)
-            → IsAfter bounds self.old start (W.contents writer.old) bytes
-            → IsDone bounds start (W.contents writer.new) self.new.output.pending.items bytes) }
-        ensures err { OnErr result ((bounds : Bounds) (start : Option (List ℕ)) (bytes : List ℕ)
-            → IsAfter bounds self.old start (W.contents writer.old) bytes
-            → BrokenAtEnd bounds start (W.contents writer.new) bytes) }
+    fn put_last<A: Answerer, W: Sink>(
+        &mut self,
+        alloc: Global,
+        answerer: &mut A,
+        writer: &mut W,
+    ) -> Result<(), WriteFault>
+        ensures ok { OnOk result ((began : Began) (bytes : List ℕ)
+            → IsAfter A.alone began self.old (A.log answerer.old) (W.contents writer.old) bytes
+            → IsDone A.alone began (A.log answerer.new) (W.contents writer.new) self.new.output.pending.items bytes) }
+        ensures err { OnErr result ((began : Began) (bytes : List ℕ)
+            → IsAfter A.alone began self.old (A.log answerer.old) (W.contents writer.old) bytes
+            → BrokenAtLast A.alone began (W.contents writer.new) bytes) }
         ensures told { OnErr result (W.failed writer.new ≡ true) }
         ensures kept { OnOk result (W.failed writer.new ≡ W.failed writer.old) }
     {
-        if self.line.started {
-            self.put_answer(alloc, writer)
+        if self.input.line.started {
+            self.put_answer(alloc, answerer, writer)
         } else {
             Ok(())
         }
     }
 
     /// Answers a last line that no line feed ends, and writes what is pending.
-    fn finish<W: Sink>(&mut self, alloc: Global, writer: &mut W) -> Result<(), WriteFault>
-        ensures ok { OnOk result ((bounds : Bounds) (start : Option (List ℕ)) (bytes : List ℕ)
-            → IsAfter bounds self.old start (W.contents writer.old) bytes
-            → Answered bounds start (W.contents writer.new) bytes) }
-        ensures err { OnErr result ((bounds : Bounds) (start : Option (List ℕ)) (bytes : List ℕ)
-            → IsAfter bounds self.old start (W.contents writer.old) bytes
-            → BrokenAtEnd bounds start (W.contents writer.new) bytes) }
+    fn finish<A: Answerer, W: Sink>(
+        &mut self,
+        alloc: Global,
+        answerer: &mut A,
+        writer: &mut W,
+    ) -> Result<(), WriteFault>
+        ensures ok { OnOk result ((began : Began) (bytes : List ℕ)
+            → IsAfter A.alone began self.old (A.log answerer.old) (W.contents writer.old) bytes
+            → IsDone A.alone began (A.log answerer.new) (W.contents writer.new) [] bytes) }
+        ensures err { OnErr result ((began : Began) (bytes : List ℕ)
+            → IsAfter A.alone began self.old (A.log answerer.old) (W.contents writer.old) bytes
+            → BrokenAtLast A.alone began (W.contents writer.new) bytes) }
         ensures told { OnErr result (W.failed writer.new ≡ true) }
         ensures kept { OnOk result (W.failed writer.new ≡ W.failed writer.old) }
     {
-        self.put_last(alloc, writer)?;
+        self.put_last(alloc, answerer, writer)?;
         self.output.close(writer)
     }
 }
@@ -254,24 +230,23 @@ impl Script {
 impl Script {
     /// Writes what is pending, reads once, and answers the lines that end in what was read. Gives how many bytes that was:
     /// none only at the end.
-    fn read_on<R: Source, W: Sink>(
+    fn read_on<A: Answerer, R: Source, W: Sink>(
         &mut self,
         alloc: Global,
         chunk: &mut [u8],
+        answerer: &mut A,
         reader: &mut R,
         writer: &mut W,
     ) -> Result<usize, ScriptFault>
-        ensures ok { OnOk result ((bounds : Bounds) (from start : Option (List ℕ))
-            → Reads bounds self.old from (R.remaining reader.old) start (W.contents writer.old)
-            → Reads bounds self.new from (R.remaining reader.new) start (W.contents writer.new)) }
-        ensures left { IfOk result (λ count. self.new.left.bytes + count ≡ self.old.left.bytes) }
+        ensures ok { OnOk result ((began : Began) (from : Option (List ℕ))
+            → Reads A.alone began self.old (A.log answerer.old) from (R.remaining reader.old) (W.contents writer.old)
+            → Reads A.alone began self.new (A.log answerer.new) from (R.remaining reader.new) (W.contents writer.new)) }
+        ensures left { IfOk result (λ count. self.new.input.left.bytes + count ≡ self.old.input.left.bytes) }
         ensures end { IfOk result (λ count. count ≡ 0 → 0 < length chunk.old → IsAtEnd (R.remaining reader.new)) }
-        ensures read { result ≡ Err ScriptFault.Read → (bounds : Bounds) (from start : Option (List ℕ))
-            → Reads bounds self.old from (R.remaining reader.old) start (W.contents writer.old)
-            → ReadStopped bounds from (R.remaining reader.new) start (W.contents writer.new) (R.failed reader.new) }
-        ensures write { result ≡ Err ScriptFault.Write → (bounds : Bounds) (from start : Option (List ℕ))
-            → Reads bounds self.old from (R.remaining reader.old) start (W.contents writer.old)
-            → WriteStopped bounds from (R.remaining reader.new) start (W.contents writer.new) (W.failed writer.new) }
+        ensures err { IfErr result (λ fault. (began : Began) (from : Option (List ℕ))
+            → Reads A.alone began self.old (A.log answerer.old) from (R.remaining reader.old) (W.contents writer.old)
+            → Stops A.alone began fault from (R.remaining reader.new) (W.contents writer.new) (R.failed reader.new)) }
+        ensures told { result ≡ Err ScriptFault.Write → W.failed writer.new ≡ true }
         ensures kept { OnOk result ((R.failed reader.new ≡ R.failed reader.old) × (W.failed writer.new ≡ W.failed writer.old)) }
         ensures kept_at_read { result ≡ Err ScriptFault.Read → W.failed writer.new ≡ W.failed writer.old }
         ensures kept_at_write { result ≡ Err ScriptFault.Write → R.failed reader.new ≡ R.failed reader.old }
@@ -281,7 +256,7 @@ impl Script {
             Ok(count) => count,
             Err(_) => return Err(ScriptFault::Read),
         };
-        if let Err(fault) = self.take(alloc, &chunk[..count], writer) {
+        if let Err(fault) = self.take(alloc, &chunk[..count], answerer, writer) {
             return Err(fault);
         }
         Ok(count)
@@ -333,39 +308,31 @@ pub fn run_script_within<R: Source, W: Sink>(
         lines: max_lines,
         bytes: max_bytes,
     };
-    run_within(alloc, reader, writer, bounds)
+    answer_script(alloc, &mut Log::new(alloc), reader, writer, bounds)
 }
 
-/// Answers the script that the reader gives, within bounds.
-fn run_within<R: Source, W: Sink>(
+/// Has the answerer answer the script that the reader gives, within bounds.
+pub fn answer_script<A: Answerer, R: Source, W: Sink>(
     alloc: Global,
+    answerer: &mut A,
     reader: &mut R,
     writer: &mut W,
     bounds: Bounds,
 ) -> Result<(), ScriptFault>
-    ensures ok { OnOk result (AllAnswered bounds (R.remaining reader.old) (R.remaining reader.new)
-        (W.contents writer.old) (W.contents writer.new)) }
-    ensures read { result ≡ Err ScriptFault.Read → ReadStopped bounds (R.remaining reader.old) (R.remaining reader.new)
-        (W.contents writer.old) (W.contents writer.new) (R.failed reader.new) }
-    ensures write { result ≡ Err ScriptFault.Write → WriteStopped bounds (R.remaining reader.old) (R.remaining reader.new)
-        (W.contents writer.old) (W.contents writer.new) (W.failed writer.new) }
+    ensures ok { OnOk result (AllTold A.alone (began_at (A.log answerer.old) bounds (W.contents writer.old)) (A.log answerer.new)
+        (R.remaining reader.old) (R.remaining reader.new) (W.contents writer.new)) }
+    ensures err { IfErr result (λ fault. Stops A.alone (began_at (A.log answerer.old) bounds (W.contents writer.old)) fault
+        (R.remaining reader.old) (R.remaining reader.new) (W.contents writer.new) (R.failed reader.new)) }
+    ensures told { result ≡ Err ScriptFault.Write → W.failed writer.new ≡ true }
     ensures kept { OnOk result ((R.failed reader.new ≡ R.failed reader.old) × (W.failed writer.new ≡ W.failed writer.old)) }
     ensures kept_at_read { result ≡ Err ScriptFault.Read → W.failed writer.new ≡ W.failed writer.old }
     ensures kept_at_write { result ≡ Err ScriptFault.Write → R.failed reader.new ≡ R.failed reader.old }
 {
     let mut chunk = [0u8; CHUNK];
     let mut script = Script::new(alloc, bounds);
-    while script.read_on(alloc, &mut chunk, reader, writer)? != 0 {}
-    script.finish(alloc, writer)?;
-    Ok(())
-}
-
-/// The bytes before the first line feed, and those after it.
-fn split_line(bytes: &[u8]) -> Option<(&[u8], &[u8])>
-    ensures none { IfNone result (list_any is_line_feed bytes.now ≡ false) }
-    ensures one_line { IfSome result (λ parts. list_any is_line_feed parts.0.now ≡ false) }
-    ensures whole { IfSome result (λ parts. bytes.now ≡ parts.0.now ++ 10 ∷ parts.1.now) }
-{
-    let at = memchr(b'\n', bytes)?;
-    Some((&bytes[..at], &bytes[at + 1..]))
+    while script.read_on(alloc, &mut chunk, answerer, reader, writer)? != 0 {}
+    match script.finish(alloc, answerer, writer) {
+        Ok(()) => Ok(()),
+        Err(_) => Err(ScriptFault::Write),
+    }
 }

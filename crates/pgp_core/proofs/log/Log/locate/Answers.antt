@@ -1,6 +1,7 @@
 use Rattle.std.proofs.Common.{sym, ◌∙◌}
 use Rattle.pgp_group.specs.Entries.{incs_of}
-use Rattle.pgp_core.proofs.LocateLemmas.{some-group, group-there, located-there}
+use Rattle.pgp_log.proofs.LocateLemmas.{some-group, group-there}
+use Rattle.pgp_core.proofs.LocateLemmas.{located-there}
 use Rattle.pgp_core.proofs.log.Log.locate.Goals as goal
 
 pub group_of-requires : goal.group_of-requires

@@ -1,14 +1,14 @@
-use Rattle.std.proofs.Common.{ap}
-use Rattle.pgp_core.specs.declared.script.Script.{Script}
-use Rattle.pgp_core.proofs.RunLemmas.{after-end, broken_at_feed}
+use Rattle.pgp_core.proofs.RunLemmas.{after-feed, broken-at-feed}
 use Rattle.pgp_core.proofs.OutputLemmas.{on_err}
 use Rattle.pgp_core.proofs.script.Script.end_line.Goals as goal
 
 pub returns-in_err-put_answer-clause-err : goal.returns-in_err-put_answer-clause-err
-returns-in_err-put_answer-clause-err g c = on_err _ (broken_at_feed c.args.self.now _ _ c.requires.room c.requires.fits c.in_err-put_answer.ensures.err)
+returns-in_err-put_answer-clause-err g c =
+    on_err _ (broken-at-feed g.A.Answerer.alone c.args.self.now (g.A.Answerer.log c.args.answerer.now) (g.A.Answerer.log c.put_answer.new.answerer) (g.W.Sink.contents c.args.writer.now)
+    (g.W.Sink.contents c.put_answer.new.writer) c.requires.room c.requires.fits c.in_err-put_answer.ensures.err)
 
 pub returns-clause-ok : goal.returns-clause-ok
-returns-clause-ok g c bounds start bytes after =
-    let left = ap (λ (s : Script). s.left) c.in_ok-put_answer.ensures.rest in
-    rw left (after-end bounds c.args.self.now c.clear.new.self c.put_answer.new.self.output c.put_answer.new.self.log start _ _ bytes c.requires.room c.requires.fits c.clear.ensures
-    (c.in_ok-put_answer.ensures.ok _ after.line) after)
+returns-clause-ok g c began bytes so_far =
+    after-feed g.A.Answerer.alone began c.args.self.now c.end_line.new.self c.put_answer.new.self.output _ _ _ _ bytes
+    (rw c.in_ok-put_answer.ensures.input at c.end_line.ensures.read)
+    (c.in_ok-put_answer.ensures.ok _ so_far.read.line) so_far

@@ -1,31 +1,21 @@
-use Rattle.std.proofs.Common.{◌≡◌, Err, ap}
-use Rattle.pgp_core.specs.declared.script.ScriptFault.{ScriptFault}
-use Rattle.pgp_core.specs.declared.script.ScriptFault.TheVariants.{Read, Write}
-use Rattle.pgp_core.proofs.TurnLemmas.{turn, stops_at_flush, stops_at_read, stops_in_chunk_read, stops_in_chunk_write}
+use Rattle.pgp_core.proofs.TurnLemmas.{turn, write_reading, stops_at_flush, stops_at_read, stops_in_chunk}
 use Rattle.pgp_core.proofs.script.Script.read_on.Goals as goal
 
-pub returns-in_err-close-clause-write : goal.returns-in_err-close-clause-write
-returns-in_err-close-clause-write g c is bounds from start reads =
-    stops_at_flush bounds c.args.self.now _ _ start _ _ _ reads c.in_err-close.ensures.err c.in_err-close.ensures.told
+pub returns-in_err-close-clause-err : goal.returns-in_err-close-clause-err
+returns-in_err-close-clause-err g c =
+    write_reading _ g.A.Answerer.alone c.args.self.now (g.A.Answerer.log c.args.answerer.now) (g.R.Source.remaining c.args.reader.now) (g.R.Source.remaining c.args.reader.now)
+    (g.W.Sink.contents c.args.writer.now) (g.W.Sink.contents c.close.new.writer) (g.R.Source.failed c.args.reader.now) c.from_residual.ensures.1
+    (λ began from reads. stops_at_flush _ began c.args.self.now _ _ _ _ _ _ reads c.in_err-close.ensures.err)
 
-pub returns-in-Err-clause-read : goal.returns-in-Err-clause-read
-returns-in-Err-clause-read g c is bounds from start reads =
-    stops_at_read bounds c.args.self.now _ _ _ start _ _ _ reads c.in_ok-close.ensures.ok c.in-Err.ensures.bytes c.in-Err.ensures.told
+pub returns-in-Err-clause-err : goal.returns-in-Err-clause-err
+returns-in-Err-clause-err g c began from reads =
+    stops_at_read _ began c.args.self.now _ _ _ _ _ _ _ reads c.in_ok-close.ensures.ok c.in-Err.ensures.bytes c.in-Err.ensures.told
 
-pub returns-in-Err-take-clause-read : goal.returns-in-Err-take-clause-read
-returns-in-Err-take-clause-read g c is bounds from start reads =
-    let fault : c.in-Err-take.fault ≡ Read = cc in
-    let same = ap (λ (f : ScriptFault). Err f) fault in
-    stops_in_chunk_read bounds c.args.self.now c.close.new.self _ _ _ start _ _ _ _ _ reads c.in_ok-close.ensures.ok c.in_ok-close.ensures.empty c.in-Ok.ensures.bytes.0
-    (c.in-Err-take.ensures.read same) (c.in-Err-take.ensures.beyond same)
-
-pub returns-in-Err-take-clause-write : goal.returns-in-Err-take-clause-write
-returns-in-Err-take-clause-write g c is bounds from start reads =
-    let fault : c.in-Err-take.fault ≡ Write = cc in
-    let same = ap (λ (f : ScriptFault). Err f) fault in
-    stops_in_chunk_write bounds c.args.self.now c.close.new.self _ _ _ start _ _ _ _ _ reads c.in_ok-close.ensures.ok c.in_ok-close.ensures.empty c.in-Ok.ensures.bytes.0
-    (c.in-Err-take.ensures.write same) (c.in-Err-take.ensures.told same)
+pub returns-in-Err-take-clause-err : goal.returns-in-Err-take-clause-err
+returns-in-Err-take-clause-err g c began from reads =
+    stops_in_chunk _ began _ c.args.self.now c.close.new.self _ _ _ _ _ _ _ _ _ reads c.in_ok-close.ensures.ok c.in_ok-close.ensures.empty c.in-Ok.ensures.bytes.0
+    c.in-Err-take.ensures.err
 
 pub returns-clause-ok : goal.returns-clause-ok
-returns-clause-ok g c bounds from start reads =
-    turn bounds c.args.self.now _ c.close.new.self _ _ _ start _ _ _ _ reads c.in_ok-close.ensures.ok c.in_ok-close.ensures.empty c.in-Ok.ensures.bytes.0 c.in_default.ensures.ok
+returns-clause-ok g c began from reads =
+    turn _ began c.args.self.now _ c.close.new.self _ _ _ _ _ _ _ _ _ reads c.in_ok-close.ensures.ok c.in_ok-close.ensures.empty c.in-Ok.ensures.bytes.0 c.in_default.ensures.ok

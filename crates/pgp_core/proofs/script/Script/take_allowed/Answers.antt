@@ -1,67 +1,62 @@
 use Rattle.std.proofs.Common.{◌≡◌, ◌<◌, [], ◌∷◌, ◌++◌, length, refl, sym, ◌∙◌, ap, subst, append-nil, arith, length-append}
 use Rattle.std.proofs.lemmas.Bool.Decides.{nat_tests}
-use Rattle.pgp_core.specs.Run.{CutOff, BrokenOff, IsBeyond}
-use Rattle.pgp_core.specs.declared.script.Bounds.{Bounds}
-use Rattle.pgp_core.specs.declared.script.ScriptFault.TheVariants.{Read, Write}
-use Rattle.pgp_core.proofs.RunLemmas.{broken_flush, cut_by_lines, beyond_lines, taken-more, regroup, regroup_line}
+use Rattle.pgp_core.specs.Telling.{StopsIn, IsStopped, whole_lines}
+use Rattle.pgp_core.specs.declared.script.Script.{Script}
+use Rattle.pgp_core.specs.declared.fault.ScriptFault.TheVariants.{Read, Write}
+use Rattle.pgp_core.proofs.RunLemmas.{write_amid, stopped, all_lines, beyond_lines, taken-more, regroup, regroup_line}
 use Rattle.pgp_core.proofs.script.Script.take_allowed.Goals as goal
 
-pub returns-then-self-eq0-clause-read : goal.returns-then-self-eq0-clause-read
-returns-then-self-eq0-clause-read g c is bounds start bytes more after =
+pub returns-then-self-eq0-clause-err : goal.returns-then-self-eq0-clause-err
+returns-then-self-eq0-clause-err g c began bytes more so_far =
     let taken = c.loop-rest.invariant.taken in
-    let fault : c.stop_reading.result ≡ Read = cc in
-    subst (CutOff bounds start _) (regroup bytes taken.done c.loop-rest.rest.now c.args.chunk.now more taken.whole)
-    (cut_by_lines bounds c.loop-rest.self start _ _ (bytes ++ taken.done) (c.loop-rest.rest.now ++ more) (taken.after bounds start bytes after) c.if-self-eq0.true
-    (c.stop_reading.ensures.read fault))
+    let here = taken.goes began bytes so_far in
+    let rest = c.loop-rest.rest.now in
+    let present : 0 < length rest = grind (arith, nat_tests) in
+    let some : 0 < length (rest ++ more) = omega (arith, present, length-append rest more) in
+    subst (StopsIn g.A.Answerer.alone began c.stop_reading.result _) (regroup bytes taken.done rest c.args.chunk.now more taken.whole)
+    (record {
+      stopped = stopped c.stop_reading.result g.A.Answerer.alone began c.loop-rest.self _ _ _ (bytes ++ taken.done) (rest ++ more) here c.stop_reading.ensures.went
+          (λ _. all_lines began c.loop-rest.self.input (bytes ++ taken.done) (rest ++ more) here.read c.if-self-eq0.true);
+      beyond = λ _. beyond_lines began c.loop-rest.self.input (bytes ++ taken.done) (rest ++ more) here.read c.if-self-eq0.true some;
+    })
 
-pub returns-then-self-eq0-clause-beyond : goal.returns-then-self-eq0-clause-beyond
-returns-then-self-eq0-clause-beyond g c is bounds start bytes more after =
+pub returns-in_err-end_line-in-Some-clause-err : goal.returns-in_err-end_line-in-Some-clause-err
+returns-in_err-end_line-in-Some-clause-err g c =
+    write_amid _ g.A.Answerer.alone c.args.self.now (g.A.Answerer.log c.args.answerer.now) (g.W.Sink.contents c.args.writer.now) (g.W.Sink.contents c.end_line.new.writer) c.args.chunk.now
+    c.from_residual.ensures.1
+    (λ began bytes more so_far.
     let taken = c.loop-rest.invariant.taken in
-    let present : 0 < length c.loop-rest.rest.now = grind (arith, nat_tests) in
-    let some = length-append c.loop-rest.rest.now more in
-    subst (IsBeyond bounds) (regroup bytes taken.done c.loop-rest.rest.now c.args.chunk.now more taken.whole)
-    (beyond_lines bounds c.loop-rest.self start _ (bytes ++ taken.done) (c.loop-rest.rest.now ++ more) (taken.after bounds start bytes after) c.if-self-eq0.true
-    (omega (arith, some, present)))
-
-pub returns-then-self-eq0-clause-write : goal.returns-then-self-eq0-clause-write
-returns-then-self-eq0-clause-write g c is bounds start bytes more after =
-    let taken = c.loop-rest.invariant.taken in
-    let fault : c.stop_reading.result ≡ Write = cc in
-    subst (BrokenOff bounds start _) (regroup bytes taken.done c.loop-rest.rest.now c.args.chunk.now more taken.whole)
-    (broken_flush bounds c.loop-rest.self start _ _ (bytes ++ taken.done) (c.loop-rest.rest.now ++ more) (taken.after bounds start bytes after)
-    (c.stop_reading.ensures.write fault))
-
-pub returns-in_err-end_line-in-Some-clause-write : goal.returns-in_err-end_line-in-Some-clause-write
-returns-in_err-end_line-in-Some-clause-write g c is bounds start bytes more after =
-    let taken = c.loop-rest.invariant.taken in
-    subst (BrokenOff bounds start _)
+    let here = c.add.ensures.after g.A.Answerer.alone began _ _ (bytes ++ taken.done) (taken.goes began bytes so_far) in
+    subst (StopsIn g.A.Answerer.alone began Write (g.W.Sink.contents c.end_line.new.writer))
     (regroup_line bytes taken.done c.loop-rest.rest.now c.args.chunk.now c.in-Some.piece.now c.in-Some.others.now more taken.whole c.in-Some.ensures.whole)
-    (c.in_err-end_line-in-Some.ensures.err bounds start ((bytes ++ taken.done) ++ c.in-Some.piece.now) (c.in-Some.others.now ++ more)
-    (c.add.ensures.after bounds start _ (bytes ++ taken.done) (taken.after bounds start bytes after)))
+    (record {
+      stopped = c.in_err-end_line-in-Some.ensures.err began ((bytes ++ taken.done) ++ c.in-Some.piece.now) (c.in-Some.others.now ++ more) here;
+      beyond = λ read. cc;
+    }))
 
 pub loop-rest-preserved-in-Some : goal.loop-rest-preserved-in-Some
 loop-rest-preserved-in-Some g c =
     let invariant = c.loop-rest.invariant in
     let parts = ap length c.in-Some.ensures.whole in
     let long = length-append c.in-Some.piece.now (10 ∷ c.in-Some.others.now) in
-    let after_add = ap (λ (left : Bounds). left.bytes) c.add.ensures.left in
+    let after_add = c.add.ensures.left in
     let after_end = c.in_ok-end_line-in-Some.ensures.left in
     record {
       fits = omega (arith, parts, long, after_add, after_end, invariant.fits);
       left = omega (arith, parts, long, after_add, after_end, invariant.fits, invariant.left);
       kept = c.in_ok-end_line-in-Some.ensures.kept ∙ invariant.kept;
-      taken = taken-more _ _ _ _ _ _ _ (10 ∷ c.in-Some.others.now) (10 ∷ []) _
-          (taken-more _ _ _ _ _ _ _ _ c.in-Some.piece.now (10 ∷ c.in-Some.others.now) invariant.taken c.in-Some.ensures.whole (λ bounds start bytes. c.add.ensures.after bounds start _ bytes))
+      taken = taken-more _ _ _ _ _ _ _ _ _ _ _ (10 ∷ c.in-Some.others.now) (10 ∷ []) _
+          (taken-more _ _ _ _ _ _ _ _ _ _ _ _ c.in-Some.piece.now (10 ∷ c.in-Some.others.now) invariant.taken c.in-Some.ensures.whole (λ began bytes. c.add.ensures.after g.A.Answerer.alone began _ _ bytes))
           refl c.in_ok-end_line-in-Some.ensures.ok;
     }
 
 pub loop-rest-preserved : goal.loop-rest-preserved
 loop-rest-preserved g c =
     let invariant = c.loop-rest.invariant in
-    let after_add = ap (λ (left : Bounds). left.bytes) c.add-in-None.ensures.left in
+    let after_add = c.add-in-None.ensures.left in
     record {
       fits = omega arith;
       left = omega (arith, after_add, invariant.fits, invariant.left);
       kept = invariant.kept;
-      taken = taken-more _ _ _ _ _ _ _ _ c.loop-rest.rest.now [] invariant.taken (sym (append-nil c.loop-rest.rest.now)) (λ bounds start bytes. c.add-in-None.ensures.after bounds start _ bytes);
+      taken = taken-more _ _ _ _ _ _ _ _ _ _ _ _ c.loop-rest.rest.now [] invariant.taken (sym (append-nil c.loop-rest.rest.now)) (λ began bytes. c.add-in-None.ensures.after g.A.Answerer.alone began _ _ bytes);
     }

@@ -1,6 +1,6 @@
 use Rattle.std.proofs.Common.{arith}
 use Rattle.pgp_core.proofs.FeedLemmas.{none_in_front, none_at_all, if_none}
-use Rattle.pgp_core.proofs.script.split_line.Goals as goal
+use Rattle.pgp_core.proofs.input.split_line.Goals as goal
 
 pub returns-in_err-at-clause-none : goal.returns-in_err-at-clause-none
 returns-in_err-at-clause-none c = if_none _ (none_at_all c.args.bytes.now c.in_err-at.ensures)

@@ -6,7 +6,7 @@ use Rattle.pgp_interval.specs.IntervalsOf.{IsIntervalsOf}
 use Rattle.pgp_replies.specs.declared.reply.Reply.TheVariants.{Traced}
 use Rattle.pgp_core.specs.Answer.{traced_reply}
 use Rattle.pgp_core.specs.ToldHistory.{told_history}
-use Rattle.pgp_core.proofs.answer.traced.Goals as goal
+use Rattle.pgp_core.proofs.replies.traced.Goals as goal
 
 pub returns : goal.returns
 returns c =

@@ -1,0 +1,41 @@
+-- What was read after a piece more, and after a line feed.
+use Rattle.std.proofs.Common.{◌≡◌, ℕ, ◌-◌, ◌<◌, ◌≤◌, List, [], ◌∷◌, ◌++◌, false, length, ap, arith}
+use Rattle.std.specs.List.{list_any}
+use Rattle.std.proofs.lemmas.List.{length-append}
+use Rattle.pgp_core.specs.Input.{HasRead}
+use Rattle.pgp_core.specs.Line.{Holds}
+use Rattle.pgp_core.specs.Lines.{Cut, is_line_feed, cut}
+use Rattle.pgp_core.specs.declared.input.Bounds.{Bounds}
+use Rattle.pgp_core.specs.declared.input.Input.{Input}
+use Rattle.pgp_core.proofs.CutLemmas.{cut-piece, cut-feed}
+
+pub whole-piece : (bytes piece : List ℕ) → list_any is_line_feed piece ≡ false → (cut (bytes ++ piece)).whole ≡ (cut bytes).whole
+whole-piece bytes piece none = ap (λ (c : Cut). c.whole) (cut-piece bytes piece none)
+
+pub whole-feed : (bytes : List ℕ) → (cut (bytes ++ 10 ∷ [])).whole ≡ (cut bytes).whole ++ (cut bytes).rest ∷ []
+whole-feed bytes = ap (λ (c : Cut). c.whole) (cut-feed bytes)
+
+pub read-piece : (bounds : Bounds) (old new : Input) (bytes piece : List ℕ) → list_any is_line_feed piece ≡ false → 0 < old.left.lines → length piece ≤ old.left.bytes
+    → ((part : List ℕ) → Holds old.line part → Holds new.line (part ++ piece)) → new.left.lines ≡ old.left.lines → new.left.bytes ≡ old.left.bytes - length piece
+    → HasRead bounds old bytes → HasRead bounds new (bytes ++ piece)
+read-piece bounds old new bytes piece none room fits added lines left read =
+    let whole = whole-piece bytes piece none in
+    let rest : (cut (bytes ++ piece)).rest ≡ (cut bytes).rest ++ piece = ap (λ (c : Cut). c.rest) (cut-piece bytes piece none) in
+    record {
+      line = rw rest (added (cut bytes).rest read.line);
+      lines_left = rw (whole, lines) read.lines_left;
+      bytes_left = omega (arith, read.bytes_left, left, length-append bytes piece);
+      closed = λ none_left. absurd (omega (arith, none_left, lines, room));
+    }
+
+pub read-feed : (bounds : Bounds) (old new : Input) (bytes : List ℕ) → 0 < old.left.lines → 0 < old.left.bytes
+    → Holds new.line [] → new.left.lines ≡ old.left.lines - 1 → new.left.bytes ≡ old.left.bytes - 1
+    → HasRead bounds old bytes → HasRead bounds new (bytes ++ 10 ∷ [])
+read-feed bounds old new bytes room fits begun lines left read =
+    let rest : (cut (bytes ++ 10 ∷ [])).rest ≡ [] = ap (λ (c : Cut). c.rest) (cut-feed bytes) in
+    record {
+      line = rw rest begun;
+      lines_left = rw (whole-feed bytes) (omega (arith, lines, read.lines_left, room, length-append (cut bytes).whole ((cut bytes).rest ∷ [])));
+      bytes_left = omega (arith, left, read.bytes_left, fits, length-append bytes (10 ∷ []));
+      closed = λ _. rest;
+    }

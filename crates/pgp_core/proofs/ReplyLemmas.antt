@@ -1,0 +1,94 @@
+-- What a reply says of the log.
+use Rattle.std.proofs.Common.{◌≡◌, ◌≢◌, ℕ, List, [], ◌∷◌, ◌++◌, Bool, true, false, Option, Some, None, Result, Ok, Err, OnErr, refl, subst, sym, ap, ◌∙◌}
+use Rattle.std.specs.Prelude.{OnOk, IsOk, IfOk, IfSome}
+use Rattle.pgp_ids.specs.declared.entry.Entry.{Entry}
+use Rattle.pgp_ids.specs.declared.refusal.Refusal.{Refusal}
+use Rattle.pgp_lines.specs.declared.command.Command.{Command}
+use Rattle.pgp_lines.specs.declared.command.Command.TheVariants.{Submit, Ask, Locate, Trace}
+use Rattle.pgp_replies.specs.declared.reply.Reply.{Reply}
+use Rattle.pgp_log.specs.Fits.{fits}
+use Rattle.pgp_ids.specs.declared.text_fault.TextFault.{TextFault}
+use Rattle.pgp_ids.specs.declared.text_fault.TextFault.TheVariants as faults
+use Rattle.pgp_lines.specs.LineFault.{told}
+use Rattle.pgp_replies.specs.declared.reply.Reply.TheVariants.{Refused}
+use Rattle.pgp_replies.specs.declared.reply.refused.Refused.TheVariants as why
+use Rattle.pgp_text.specs.Command.{command_of}
+use Rattle.pgp_text.specs.LineFault.{LineFault}
+use Rattle.pgp_text.specs.Reply.{reply_text}
+use Rattle.pgp_core.specs.Answer.{reply_of, log_after, submitted_reply, log_with, text_of, log_of}
+use Rattle.pgp_core.specs.Answerer.{MayAnswerBy, Replies, is_accepted}
+use Rattle.pgp_core.specs.Told.{PutsFault, PutsReply, PutsText}
+use Rattle.pgp_core.proofs.ToldLemmas.{by-itself}
+
+-- where no entry was taken, the log stays
+stays : (log : List Entry) (command : Command) → is_accepted (reply_of log command) ≡ false → log_after log command ≡ log
+stays log (Submit entry) other = go (fits log entry) other where
+  go : (why : Option Refusal) → is_accepted (submitted_reply log entry why) ≡ false → log_with log entry why ≡ log
+  go None other = cc
+  go (Some refusal) other = refl
+stays log (Ask pg) other = refl
+stays log (Locate pool name) other = refl
+stays log (Trace code epochs) other = refl
+
+pub stays-by : (alone : Bool) (before after : List Entry) (command : Command) (reply : Reply) → Replies alone before after command reply → is_accepted reply ≡ false → MayAnswerBy alone before after
+stays-by alone before after command reply replies other =
+    let same : after ≡ replies.by = replies.log ∙ stays replies.by command (sym (ap is_accepted replies.is) ∙ other) in
+    subst (MayAnswerBy alone before) (sym same) replies.may
+
+-- Where no answer could be put, no entry was taken: for that there was room.
+pub stays-unless-put : {T E : Type 0} (r : Result T E) (alone : Bool) (before after : List Entry) (command : Command) (reply : Reply) → Replies alone before after command reply
+    → (is_accepted reply ≡ true → IsOk r) → OnErr r (MayAnswerBy alone before after)
+stays-unless-put (Ok x) alone before after command reply replies sure = tt
+stays-unless-put (Err e) alone before after command reply replies sure = go (is_accepted reply) sure (stays-by alone before after command reply replies) where
+  go : (took : Bool) → (took ≡ true → false ≡ true) → (took ≡ false → MayAnswerBy alone before after) → MayAnswerBy alone before after
+  go true sure stay = let no : false ≡ true = sure refl in cc
+  go false sure stay = stay refl
+
+pub puts-reply : {T E : Type 0} (r : Result T E) (alone : Bool) (before after : List Entry) (command : Command) (reply : Reply) (old new : List ℕ) → Replies alone before after command reply
+    → OnOk r (new ≡ old ++ (reply_text reply ++ 10 ∷ [])) → OnOk r (PutsReply alone before after command old new)
+puts-reply (Ok x) alone before after command reply old new replies is = record {
+  by = replies.by;
+  may = replies.may;
+  text = is ∙ ap (λ a. old ++ (reply_text a ++ 10 ∷ [])) replies.is;
+  log = replies.log;
+}
+puts-reply (Err e) alone before after command reply old new replies is = tt
+
+-- ---- lines
+
+pub puts-command : {T E : Type 0} (r : Result T E) (alone : Bool) (before after : List Entry) (line : List ℕ) (command : Command) (old new : List ℕ) → command_of line ≡ Ok command
+    → OnOk r (PutsReply alone before after command old new) → OnOk r (PutsText alone before after line old new)
+puts-command (Ok x) alone before after line command old new reads puts = record {
+  by = puts.by;
+  may = puts.may;
+  text = puts.text ∙ ap (λ c. old ++ (text_of puts.by c ++ 10 ∷ [])) (sym reads);
+  log = puts.log ∙ ap (log_of puts.by) (sym reads);
+}
+puts-command (Err e) alone before after line command old new reads puts = tt
+
+pub puts-fault : {T E : Type 0} (r : Result T E) (alone : Bool) (log : List Entry) (line : List ℕ) (fault : Option LineFault) (old new : List ℕ) → IfSome fault (λ f. command_of line ≡ Err f)
+    → OnOk r (PutsFault fault old new) → OnOk r (PutsText alone log log line old new)
+puts-fault (Err e) alone log line fault old new reads puts = tt
+puts-fault (Ok x) alone log line None old new reads puts = absurd puts
+puts-fault (Ok x) alone log line (Some fault) old new reads puts = record {
+  by = log;
+  may = by-itself alone log;
+  text = puts ∙ ap (λ c. old ++ (text_of log c ++ 10 ∷ [])) (sym reads);
+  log = ap (log_of log) (sym reads);
+}
+
+-- the fault of a line is written as it was told
+pub put-as-told : (fault : TextFault) (old new : List ℕ) → fault ≢ faults.Memory → new ≡ old ++ (reply_text (Refused (why.Line fault)) ++ 10 ∷ []) → PutsFault (told fault) old new
+put-as-told faults.LineTooLong old new known is = is
+put-as-told faults.NotJson old new known is = is
+put-as-told faults.NoOp old new known is = is
+put-as-told (faults.UnknownKey key) old new known is = is
+put-as-told (faults.BadField key) old new known is = is
+put-as-told faults.Memory old new known is = absurd (known refl)
+
+-- ---- the replies of one log, to which nobody else adds
+
+pub replies-alone : {E : Type 0} (r : Result Reply E) (before after : List Entry) (command : Command) → IfOk r (λ reply. reply ≡ reply_of before command)
+    → IfOk r (λ _. after ≡ log_after before command) → IfOk r (λ reply. Replies true before after command reply)
+replies-alone (Err e) before after command is goes = tt
+replies-alone (Ok reply) before after command is goes = record { by = before; may = refl; is = is; log = goes }

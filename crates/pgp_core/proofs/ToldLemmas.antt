@@ -1,0 +1,80 @@
+-- One line more of what is written for lines, and what is written where one thread alone adds to the log.
+use Rattle.std.proofs.Common.{◌≡◌, ◌≤◌, ℕ, suc, List, [], ◌∷◌, ◌++◌, Bool, true, false, Option, Some, None, length, refl, sym, ap, ap₂, subst, ◌∙◌, append_assoc, append-nil, arith, Result, Ok, Err}
+use Rattle.pgp_ids.specs.declared.entry.Entry.{Entry}
+use Rattle.pgp_core.specs.Answerer.{MayAnswerBy}
+use Rattle.pgp_core.specs.Script.{MayMeet, MayMeetEach, answer, answers, log_past, Answers, want_text}
+use Rattle.pgp_core.specs.Told.{IsTold, PutsLine, AreTold}
+use Rattle.pgp_core.specs.declared.want.Want.{Want}
+use Rattle.pgp_core.proofs.ScriptLemmas.{answers_from, answers-from, answers-front, may-front}
+
+pub by-itself : (alone : Bool) (log : List Entry) → MayAnswerBy alone log log
+by-itself true log = refl
+by-itself false log = record { rest = []; whole = sym (append-nil log) }
+
+-- a line that met want of memory has its constant text
+pub told-want : (alone : Bool) (before after : List Entry) (line old new : List ℕ) (want : Want) → MayMeet (Some want) line → MayAnswerBy alone before after → new ≡ old
+    → PutsLine alone before after line old new (want_text want ++ 10 ∷ [])
+told-want alone before after line old new want meets may same = record {
+  text = want_text want ++ 10 ∷ [];
+  told = record { by = after; may = may; met = Some want; meets = meets; text_is = refl; log_is = refl };
+  whole = ap (λ l. l ++ (want_text want ++ 10 ∷ [])) same;
+}
+
+pub told-push : (alone : Bool) (before mid after : List Entry) (lines : List (List ℕ)) (line out text : List ℕ)
+    → AreTold alone before lines mid out → IsTold alone mid after line text → AreTold alone before (lines ++ line ∷ []) after (out ++ text)
+told-push alone before mid after [] line out text told last =
+    (record { log = after; first = text; others = [] }, (subst (λ l. IsTold alone l after line text) told.0 last, (refl, refl), ap (λ l. l ++ text) told.1 ∙ sym (append-nil text)))
+told-push alone before mid after (first ∷ lines) line out text told last =
+    let turn = told.0 in (
+      record { log = turn.log; first = turn.first; others = turn.others ++ text },
+      (
+        told.1.0,
+        told-push alone turn.log mid after lines line turn.others text told.1.1 last,
+        ap (λ l. l ++ text) told.1.2 ∙ append_assoc turn.first turn.others text,
+      ),
+    )
+
+-- ---- where one thread alone adds to the log
+
+-- the wants of memory that these lines met, where this was written for them
+record Meets (log : List Entry) (lines : List (List ℕ)) (out : List ℕ) : Type 0 where
+  pub met : List (Option Want)
+  pub each : length met ≡ length lines
+  pub may : MayMeetEach met lines
+  pub text : out ≡ answers_from log met lines
+
+meets : (log after : List Entry) (lines : List (List ℕ)) (out : List ℕ) → AreTold true log lines after out → Meets log lines out
+meets log after [] out told = record { met = []; each = refl; may = tt; text = told.1 }
+meets log after (line ∷ lines) out told =
+    let turn = told.0 in
+    let head : IsTold true log turn.log line turn.first = told.1.0 in
+    let rest = meets turn.log after lines turn.others told.1.1 in
+    let first : turn.first ≡ answer log head.met line = head.text_is ∙ ap (λ l. answer l head.met line) head.may in
+    let later : turn.log ≡ log_past log head.met line = head.log_is ∙ ap (λ l. log_past l head.met line) head.may in
+    record {
+      met = head.met ∷ rest.met;
+      each = ap suc rest.each;
+      may = (head.meets, rest.may);
+      text = told.1.2 ∙ ap₂ (λ (a b : List ℕ). a ++ b) first (rest.text ∙ ap (λ l. answers_from l rest.met lines) later);
+    }
+
+pub answers-told : (after : List Entry) (lines : List (List ℕ)) (out : List ℕ) → AreTold true [] lines after out → Answers lines out
+answers-told after lines out told =
+    let all = meets [] after lines out told in
+    let short : length all.met ≤ length lines = omega (arith, all.each) in
+    record { met = all.met; each = all.each; may = all.may; text = all.text ∙ sym (answers-from [] all.met lines short) }
+
+-- what was written for the first of these lines
+pub record FrontMeets (lines : List (List ℕ)) (out : List ℕ) : Type 0 where
+  pub met : List (Option Want)
+  pub may : MayMeetEach met lines
+  pub text : out ≡ answers [] met lines
+
+pub front-told : (after : List Entry) (lines done others : List (List ℕ)) (out : List ℕ) → lines ≡ done ++ others → AreTold true [] done after out → FrontMeets lines out
+front-told after lines done others out parts told =
+    let all = answers-told after done out told in
+    record {
+      met = all.met;
+      may = subst (MayMeetEach all.met) (sym parts) (may-front all.met done others all.may);
+      text = all.text ∙ sym (answers-front [] all.met done others all.each) ∙ ap (answers [] all.met) (sym parts);
+    }

@@ -1,0 +1,25 @@
+use Rattle.std.proofs.Common.{arith, lit<, refl}
+use Rattle.pgp_core.proofs.TurnLemmas.{reads_none, same_stops, ends, stops_at_end}
+use Rattle.pgp_core.proofs.script.answer_script.Goals as goal
+
+pub loop-script-init : goal.loop-script-init
+loop-script-init g c = record {
+  room = lit< tt;
+  reads = reads_none _ _ _ _ (c.new-script.ensures.start _ _ _);
+  reader_kept = refl;
+  writer_kept = refl;
+}
+
+pub returns-in_err-read_on-clause-err : goal.returns-in_err-read_on-clause-err
+returns-in_err-read_on-clause-err g c =
+    same_stops _ _ _ _ _ _ _ _ c.from_residual.ensures.1 (c.in_err-read_on.ensures.err _ _ c.loop-script.invariant.reads)
+
+pub returns-clause-err : goal.returns-clause-err
+returns-clause-err g c =
+    stops_at_end _ _ c.read_on.new.self _ _ _ _ _ _ (c.in_ok-read_on.ensures.ok _ _ c.loop-script.invariant.reads)
+    (c.in_ok-read_on.ensures.end (omega (arith, c.if-branch-ne0.false)) c.loop-script.invariant.room) c.in-Err.ensures.err
+
+pub returns-in-Ok-clause-ok : goal.returns-in-Ok-clause-ok
+returns-in-Ok-clause-ok g c =
+    ends _ _ c.read_on.new.self _ _ _ _ _ _ (c.in_ok-read_on.ensures.ok _ _ c.loop-script.invariant.reads)
+    (c.in_ok-read_on.ensures.end (omega (arith, c.if-branch-ne0.false)) c.loop-script.invariant.room) c.in-Ok.ensures.ok

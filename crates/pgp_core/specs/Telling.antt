@@ -1,0 +1,110 @@
+-- How the answering of a script goes on, and how it stops, whoever answers its commands.
+use Rattle.std.specs.Prelude.{◌≡◌, ◌⊎◌, ℕ, List, [], ◌++◌, Bool, true, Option}
+use Rattle.std.specs.Io.KnownBytes.{Appends, Consumes, IsAtEnd}
+use Rattle.pgp_ids.specs.declared.entry.Entry.{Entry}
+use Rattle.pgp_core.specs.Lines.{cut, lines_of}
+use Rattle.pgp_core.specs.Script.{Within, lines_before_cut}
+use Rattle.pgp_core.specs.Output.{Went, FrontWent}
+use Rattle.pgp_core.specs.Input.{HasRead}
+use Rattle.pgp_core.specs.Told.{IsTold, AreTold}
+use Rattle.pgp_core.specs.Run.{IsBeyond}
+use Rattle.pgp_core.specs.declared.input.Bounds.{Bounds}
+use Rattle.pgp_core.specs.declared.script.Script.{Script}
+use Rattle.pgp_core.specs.declared.fault.ScriptFault.{ScriptFault}
+use Rattle.pgp_core.specs.declared.fault.ScriptFault.TheVariants.{Read, Write}
+
+-- what a run began with: the log, how large its script may be, and what the writer held
+pub record Began : Type 0 where
+  pub log : List Entry
+  pub bounds : Bounds
+  pub written : Option (List ℕ)
+
+abbrev pub began_at : List Entry → Bounds → Option (List ℕ) → Began
+began_at log bounds written = record { log = log; bounds = bounds; written = written }
+
+-- the answer to the line was put after what was pending, and the log goes from `before` to `after`
+pub record Puts (alone : Bool) (before after : List Entry) (line : List ℕ) (old new : Option (List ℕ)) (pending still : List ℕ) : Type 0 where
+  pub text : List ℕ
+  pub told : IsTold alone before after line text
+  pub went : Went old new (pending ++ text) still
+
+-- a front of what was pending and of the answer to the line went out
+pub record PutsFront (alone : Bool) (before after : List Entry) (line : List ℕ) (old new : Option (List ℕ)) (pending : List ℕ) : Type 0 where
+  pub text : List ℕ
+  pub told : IsTold alone before after line text
+  pub front : FrontWent old new (pending ++ text)
+
+-- These bytes were read, and the answers to the lines that have ended are written or pending.
+pub record IsAfter (alone : Bool) (began : Began) (script : Script) (log : List Entry) (now : Option (List ℕ)) (bytes : List ℕ) : Type 0 where
+  pub read : HasRead began.bounds script.input bytes
+  pub out : List ℕ
+  pub told : AreTold alone began.log (cut bytes).whole log out
+  pub text : Went began.written now out script.output.pending.items
+
+-- The whole script was read, and the answers to its lines are written or pending.
+pub record IsDone (alone : Bool) (began : Began) (log : List Entry) (now : Option (List ℕ)) (pending bytes : List ℕ) : Type 0 where
+  pub within : Within began.bounds.lines began.bounds.bytes bytes
+  pub out : List ℕ
+  pub told : AreTold alone began.log (lines_of bytes) log out
+  pub text : Went began.written now out pending
+
+-- how much of a text went out: all of it where a read failed, and a front of it where a write did
+abbrev pub WentBy : ScriptFault → Option (List ℕ) → Option (List ℕ) → List ℕ → Type 0
+WentBy Read old new text = Appends old new text
+WentBy Write old new text = FrontWent old new text
+
+-- The answers to the first of these lines went out as far as the fault let them. Where a read failed these are all lines.
+pub record IsStopped (alone : Bool) (began : Began) (fault : ScriptFault) (now : Option (List ℕ)) (lines : List (List ℕ)) : Type 0 where
+  pub done : List (List ℕ)
+  pub others : List (List ℕ)
+  pub parts : lines ≡ done ++ others
+  pub log : List Entry
+  pub out : List ℕ
+  pub told : AreTold alone began.log done log out
+  pub went : WentBy fault began.written now out
+  pub all : fault ≡ Read → others ≡ []
+
+-- A write stopped the run after the whole script was read.
+pub record BrokenAtLast (alone : Bool) (began : Began) (now : Option (List ℕ)) (bytes : List ℕ) : Type 0 where
+  pub within : Within began.bounds.lines began.bounds.bytes bytes
+  pub stopped : IsStopped alone began Write now (lines_of bytes)
+
+-- the lines of these bytes that were read whole within the bounds
+abbrev pub whole_lines : Began → List ℕ → List (List ℕ)
+whole_lines began bytes = lines_before_cut began.bounds.lines began.bounds.bytes bytes
+
+-- The run stopped in these bytes: where no write failed, they are more than the bounds allow.
+pub record StopsIn (alone : Bool) (began : Began) (fault : ScriptFault) (now : Option (List ℕ)) (bytes : List ℕ) : Type 0 where
+  pub stopped : IsStopped alone began fault now (whole_lines began bytes)
+  pub beyond : fault ≡ Read → IsBeyond began.bounds bytes
+
+-- the front of the chunk before `rest` was taken
+pub record Taken (alone : Bool) (old new : Script) (before after : List Entry) (was now : Option (List ℕ)) (chunk rest : List ℕ) : Type 0 where
+  pub done : List ℕ
+  pub whole : done ++ rest ≡ chunk
+  pub goes : (began : Began) (bytes : List ℕ) → IsAfter alone began old before was bytes → IsAfter alone began new after now (bytes ++ done)
+
+-- The reader gave these bytes, and so much is done of them.
+pub record Reads (alone : Bool) (began : Began) (script : Script) (log : List Entry) (from to now : Option (List ℕ)) : Type 0 where
+  pub bytes : List ℕ
+  pub consumed : Consumes from to bytes
+  pub after : IsAfter alone began script log now bytes
+
+-- The reader gave these bytes and is at its end, and the writer got the answers to their lines.
+pub record AllTold (alone : Bool) (began : Began) (log : List Entry) (from to now : Option (List ℕ)) : Type 0 where
+  pub script : List ℕ
+  pub consumed : Consumes from to script
+  pub ended : IsAtEnd to
+  pub within : Within began.bounds.lines began.bounds.bytes script
+  pub out : List ℕ
+  pub told : AreTold alone began.log (lines_of script) log out
+  pub went : Appends began.written now out
+
+-- The reader gave these bytes, and the run stopped: in the lines that were read whole or, at a write after the reader's
+-- end, in all lines. A read failed, or the script is too large, or a write failed.
+pub record Stops (alone : Bool) (began : Began) (fault : ScriptFault) (from to now : Option (List ℕ)) (read_failed : Bool) : Type 0 where
+  pub script : List ℕ
+  pub consumed : Consumes from to script
+  pub answered : IsStopped alone began fault now (whole_lines began script)
+      ⊎ (IsAtEnd to × (fault ≡ Write) × BrokenAtLast alone began now script)
+  pub cause : fault ≡ Read → (read_failed ≡ true) ⊎ IsBeyond began.bounds script

@@ -1,0 +1,56 @@
+-- What is written for lines, whoever answers their commands.
+use Rattle.std.specs.Prelude.{◌≡◌, ℕ, List, [], ◌∷◌, ◌++◌, Bool, Option, Some, None}
+use Rattle.pgp_ids.specs.declared.entry.Entry.{Entry}
+use Rattle.pgp_text.specs.LineFault.{LineFault}
+use Rattle.pgp_text.specs.Reply.{reply_text, fault_text}
+use Rattle.pgp_lines.specs.declared.command.Command.{Command}
+use Rattle.pgp_core.specs.Answer.{reply_of, log_after, line_text, line_log}
+use Rattle.pgp_core.specs.Answerer.{MayAnswerBy}
+use Rattle.pgp_core.specs.Script.{MayMeet, answer, log_past}
+use Rattle.pgp_core.specs.declared.want.Want.{Want}
+
+-- the answer to a line that has this fault was put behind the text
+abbrev pub PutsFault : Option LineFault → List ℕ → List ℕ → Type 0
+PutsFault None old new = ⊥
+PutsFault (Some fault) old new = new ≡ old ++ (fault_text fault ++ 10 ∷ [])
+
+-- the text of the reply to the command was put behind the text, and the log goes from `before` to `after`
+pub record PutsReply (alone : Bool) (before after : List Entry) (command : Command) (old new : List ℕ) : Type 0 where
+  pub by : List Entry
+  pub may : MayAnswerBy alone before by
+  pub text : new ≡ old ++ (reply_text (reply_of by command) ++ 10 ∷ [])
+  pub log : after ≡ log_after by command
+
+-- the same of a line that isn't blank and not too long
+pub record PutsText (alone : Bool) (before after : List Entry) (line old new : List ℕ) : Type 0 where
+  pub by : List Entry
+  pub may : MayAnswerBy alone before by
+  pub text : new ≡ old ++ (line_text by line ++ 10 ∷ [])
+  pub log : after ≡ line_log by line
+
+-- this text is written for the line, and the log goes from `before` to `after`
+pub record IsTold (alone : Bool) (before after : List Entry) (line text : List ℕ) : Type 0 where
+  pub by : List Entry
+  pub may : MayAnswerBy alone before by
+  pub met : Option Want
+  pub meets : MayMeet met line
+  pub text_is : text ≡ answer by met line
+  pub log_is : after ≡ log_past by met line
+
+-- what is written for the line was put behind the text, but for `rest`, and the log goes from `before` to `after`
+pub record PutsLine (alone : Bool) (before after : List Entry) (line old new rest : List ℕ) : Type 0 where
+  pub text : List ℕ
+  pub told : IsTold alone before after line text
+  pub whole : new ++ rest ≡ old ++ text
+
+-- between the first line and the others: the log then, what was written before, and what after
+pub record Turn : Type 0 where
+  pub log : List Entry
+  pub first : List ℕ
+  pub others : List ℕ
+
+-- this text is written for the lines, one after the other, and the log goes from `before` to `after`
+abbrev pub AreTold : (alone : Bool) (before : List Entry) (lines : List (List ℕ)) (after : List Entry) (text : List ℕ) → Type 0
+AreTold alone before [] after text = (after ≡ before) × (text ≡ [])
+AreTold alone before (line ∷ lines) after text =
+    (turn : Turn) × (IsTold alone before turn.log line turn.first × AreTold alone turn.log lines after turn.others × (text ≡ turn.first ++ turn.others))

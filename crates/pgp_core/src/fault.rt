@@ -1,0 +1,24 @@
+use super::output::WriteFault;
+use thiserror::Error;
+
+/// Why a script was not answered to its end.
+#[derive(Clone, Copy, Debug, PartialEq, Eq, Error)]
+pub enum ScriptFault {
+    /// A read failed, or the script is larger than its bounds.
+    #[error("read fault")]
+    Read,
+    /// A write failed, or took no byte.
+    #[error("write fault")]
+    Write,
+}
+
+impl From<WriteFault> for ScriptFault {
+    ghost use Rattle.std.specs.Prelude.{◌≡◌};
+    ghost use Rattle.pgp_core.specs.declared.fault.ScriptFault.TheVariants.{Write};
+
+    ghost from_gives = { λ _ fault. fault ≡ Write };
+
+    fn from(_fault: WriteFault) -> ScriptFault {
+        ScriptFault::Write
+    }
+}

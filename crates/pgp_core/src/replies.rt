@@ -1,0 +1,98 @@
+//! The replies of a log to commands.
+ghost use Rattle.std.specs.Prelude.{◌≡◌, ◌≤◌, ◌++◌, ◌∷◌, [], length, IfOk, OnErr, None, true};
+ghost use Rattle.pgp_core.specs.Answer.{reply_of, log_after, asked_reply, traced_reply, submitted_reply, log_with};
+ghost use Rattle.pgp_text.specs.Command.{IsInRange};
+ghost use Rattle.pgp_log.specs.Fits.{fits};
+ghost use Rattle.pgp_group.specs.View.{scratch};
+
+use super::answerer::Answerer;
+use super::history::history;
+use super::log::Log;
+use pgp_code::AnyCode;
+use pgp_ids::{AskRefusal, Entry, Epoch, EpochState, PgId, PoolKind, Refusal, Seq, View};
+use pgp_text::{Command, EntryOp, Refused, Reply};
+use std::alloc::{AllocError, Global};
+
+impl Answerer for Log {
+    ghost alone = { true };
+
+    ghost log = { λ log. log };
+
+    fn reply(&mut self, alloc: Global, command: Command) -> Result<Reply, AllocError> {
+        reply_to(alloc, command, self)
+    }
+}
+
+/// The reply to a command. Where it is an entry that the log takes, the log has it from now on.
+fn reply_to(alloc: Global, command: Command, log: &mut Log) -> Result<Reply, AllocError>
+    requires { IsInRange command }
+    ensures reply { IfOk result (λ reply. reply ≡ reply_of log.old command) }
+    ensures log { IfOk result (λ _. log.new ≡ log_after log.old command) }
+    ensures kept { OnErr result (log.new ≡ log.old) }
+{
+    match command {
+        Command::Submit(entry) => submit(entry, log),
+        Command::Ask(pg) => Ok(asked(pg, log.ask(alloc, pg)?)),
+        Command::Locate { pool, name } => Ok(log.locate(pool, &name)),
+        Command::Trace { code, epochs } => traced(alloc, code, epochs),
+    }
+}
+
+/// The reply to an entry. Where the log takes it, the log has it from now on.
+fn submit(entry: Entry, log: &mut Log) -> Result<Reply, AllocError>
+    ensures reply { IfOk result (λ reply. reply ≡ submitted_reply log.old entry (fits log.old entry)) }
+    ensures log { IfOk result (λ _. log.new ≡ log_with log.old entry (fits log.old entry)) }
+    ensures kept { OnErr result (log.new ≡ log.old) }
+{
+    match log.judge(&entry) {
+        Ok(()) => accept(entry, log),
+        Err(Refusal::Memory) => Err(AllocError),
+        Err(refusal) => Ok(Reply::Refused(Refused::Entry(refusal))),
+    }
+}
+
+/// Has the log take an entry that fits.
+fn accept(entry: Entry, log: &mut Log) -> Result<Reply, AllocError>
+    requires { fits log.old entry ≡ None }
+    ensures reply { IfOk result (λ reply. reply ≡ submitted_reply log.old entry None) }
+    ensures log { IfOk result (λ _. log.new ≡ log.old ++ entry ∷ []) }
+    ensures kept { OnErr result (log.new ≡ log.old) }
+{
+    let reply = Reply::Accepted {
+        op: EntryOp::of(&entry),
+        count: log.count() + 1,
+        epoch: log.epoch_with(&entry),
+    };
+    log.take(entry)?;
+    Ok(reply)
+}
+
+/// The reply to a question about a group of which this is said.
+pub fn asked(pg: PgId, view: Option<View>) -> Reply
+    ensures { result ≡ asked_reply pg view }
+{
+    match view {
+        Some(view) => Reply::Asked(pg, view),
+        None => Reply::Refused(Refused::Ask(AskRefusal::UnknownGroup)),
+    }
+}
+
+/// The reply to a trace of a group whose pool is of this kind: its intervals in these epochs.
+pub fn traced(alloc: Global, kind: PoolKind, epochs: Seq<EpochState>) -> Result<Reply, AllocError>
+    requires { length epochs ≤ 4096 }
+    ensures { IfOk result (λ reply. reply ≡ traced_reply kind epochs) }
+{
+    let mut states = epochs.into_vec().into_iter();
+    let Some(opening) = states.next() else {
+        return Ok(Reply::Traced {
+            first: Epoch::new(1),
+            past: Seq::new(alloc),
+        });
+    };
+    let history = history(alloc, AnyCode::of_pool(kind), opening, states)?;
+    let (first, _) = history.current();
+    Ok(Reply::Traced {
+        first,
+        past: Seq::from_vec(history.past(alloc)?),
+    })
+}
