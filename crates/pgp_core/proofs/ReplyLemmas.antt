@@ -2,13 +2,13 @@
 use Rattle.std.proofs.Common.{◌≡◌, ◌≢◌, ℕ, List, [], ◌∷◌, ◌++◌, Bool, true, false, Option, Some, None, Result, Ok, Err, OnErr, refl, subst, sym, ap, ◌∙◌}
 use Rattle.std.specs.Prelude.{OnOk, IsOk, IfOk, IfSome}
 use Rattle.pgp_ids.specs.declared.entry.Entry.{Entry}
-use Rattle.pgp_ids.specs.declared.refusal.Refusal.{Refusal}
+use Rattle.pgp_refusals.specs.declared.refusal.Refusal.{Refusal}
 use Rattle.pgp_lines.specs.declared.command.Command.{Command}
 use Rattle.pgp_lines.specs.declared.command.Command.TheVariants.{Submit, Ask, Locate, Trace}
 use Rattle.pgp_replies.specs.declared.reply.Reply.{Reply}
 use Rattle.pgp_log.specs.Fits.{fits}
-use Rattle.pgp_ids.specs.declared.text_fault.TextFault.{TextFault}
-use Rattle.pgp_ids.specs.declared.text_fault.TextFault.TheVariants as faults
+use Rattle.pgp_refusals.specs.declared.text_fault.TextFault.{TextFault}
+use Rattle.pgp_refusals.specs.declared.text_fault.TextFault.TheVariants as faults
 use Rattle.pgp_lines.specs.LineFault.{told}
 use Rattle.pgp_replies.specs.declared.reply.Reply.TheVariants.{Refused}
 use Rattle.pgp_replies.specs.declared.reply.refused.Refused.TheVariants as why

@@ -1,5 +1,5 @@
 use Rattle.std.proofs.Common.{◌≢◌, refl, rules}
-use Rattle.pgp_ids.specs.declared.refusal.Refusal.TheVariants.{Memory}
+use Rattle.pgp_refusals.specs.declared.refusal.Refusal.TheVariants.{Memory}
 use Rattle.pgp_core.proofs.replies.submit.Goals as goal
 
 pub returns : goal.returns
