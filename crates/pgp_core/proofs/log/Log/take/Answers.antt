@@ -13,7 +13,7 @@ invariant_of-self-2 c =
     let few : length log ≤ 65535 = c.self.invariant.room (c.self.invariant.closed ∙ opened) in
     rw items (record {
       map = c.in_ok-extend_map.ensures.ok log c.self.invariant.map (fits-faultless log c.args.entry fit);
-      raw_sets = c.follow.ensures log c.self.invariant.raw_sets;
+      raw_sets = c.follow.ensures log fit c.self.invariant.raw_sets;
       checked = checked-push log c.args.entry c.self.invariant.checked (fits-faultless log c.args.entry fit);
       legal = legal-snoc log c.args.entry c.self.invariant.legal fit;
       closed = c.is_close-self-inside.ensures ∙ sym (closed-push log c.args.entry opened);
