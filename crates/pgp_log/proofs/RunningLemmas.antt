@@ -65,11 +65,15 @@ openings-running k judge all are some is =
 
 -- ---- a shard reads on
 
+-- so many entries from a place on
+next-few : {X : Type 0} (f : X → Entry) (xs : List X) (n m : ℕ) → map f (take m (drop n xs)) ≡ take m (drop n (map f xs))
+next-few f xs n m = sym (take-map f m (drop n xs)) ∙ ap (take m) (sym (drop-map f n xs))
+
 -- what follows the front in the log, so many entries of it
 read-on : {X : Type 0} (f : X → Entry) (xs : List X) (front : List Entry) (m : ℕ) → IsFrontOf front (map f xs)
     → front ++ map f (take m (drop (length front) xs)) ≡ take (length front + m) (map f xs)
 read-on f xs front m is =
-    ap (λ l. front ++ l) (sym (take-map f m (drop (length front) xs)) ∙ ap (take m) (sym (drop-map f (length front) xs) ∙ ap (drop (length front)) is.whole ∙ drop-append_seam front is.rest))
+    ap (λ l. front ++ l) (next-few f xs (length front) m ∙ ap (take m) (ap (drop (length front)) is.whole ∙ drop-append_seam front is.rest))
     ∙ sym (take-append-add front is.rest m) ∙ ap (take (length front + m)) (sym is.whole)
 
 -- and fewer of these
@@ -158,7 +162,8 @@ absorbed-reply f xs judge shards i count s new (Err e) is there here ok err =
       refl,
       record {
         read = err.read;
-        fewer = fewer;
+        fewer = subst (λ n. err.read < n)
+            (ap length (next-few f xs (length s.front) count ∙ ap (λ n. take count (drop n (map f xs))) (read-at shards i s there here))) err.fewer;
         next_is = ap (λ (l : List ℕ). record { log = map f xs; read = l }) (read-set (map f xs) shards i (length s.front + err.read) s new same
             ∙ ap (λ n. set (map (λ (s : Shard). length s.front) shards) i (min (n + err.read) (length (map f xs)))) (read-at shards i s there here));
       },

@@ -1,28 +1,35 @@
--- Runs of a world in which a step may find no memory. Then nothing has changed, but that of the entries which a shard was to
--- read it may have read some (this project's own choice).
-use Rattle.std.specs.Prelude.{◌≡◌, ℕ, ◌<◌, List, [], ◌∷◌, ◌++◌, ◌⊎◌, Bool, true, false, Result, Ok, Err, alloc_error}
+-- Runs of a world in which a step may lack memory. Such a step changes nothing, but a shard that was reading may have read
+-- the first few of its entries (this project's own choice).
+use Rattle.std.specs.Prelude.{◌≡◌, ℕ, ◌<◌, List, [], ◌∷◌, ◌++◌, length, take, drop, slice_index, ◌⊎◌, Bool, true, false, None, is_some, Result, Ok, Err, alloc_error}
 use Rattle.pgp_refusals.specs.declared.ask_refusal.AskRefusal.TheVariants as ask
 use Rattle.pgp_ids.specs.declared.entry.Entry.{Entry}
 use Rattle.pgp_refusals.specs.declared.refusal.Refusal.TheVariants as refusal
+use Rattle.pgp_group.specs.Entries.{inc_of}
+use Rattle.pgp_log.specs.Fits.{fits, is_closed}
 use Rattle.pgp_log.specs.World.{World, Step, Reply, reply_to, after, after_absorb}
 use Rattle.pgp_log.specs.World.Step.{Submit, Absorb, Ask}
 use Rattle.pgp_log.specs.World.Reply.{Submitted, Absorbed, Asked}
 
--- the step was taken whole
+-- the step was done as defined
 pub record IsTaken (w : World) (step : Step) (reply : Reply) (next : World) : Type 0 where
   pub reply_is : reply ≡ reply_to w step
   pub next_is : next ≡ after w step
 
--- the shard has read fewer entries than these
-pub record HasReadFewer (w : World) (shard count : ℕ) (next : World) : Type 0 where
+-- the log may lack memory for the entry: it is open, and the entry fits or is an incremental
+pub record MayLackMemory (log : List Entry) (entry : Entry) : Type 0 where
+  pub is_open : is_closed log ≡ false
+  pub cause : (fits log entry ≡ None) ⊎ (is_some (inc_of entry) ≡ true)
+
+-- the shard has read the first few of the entries that it was to read, perhaps none, and not all
+pub record HasReadPart (w : World) (shard count : ℕ) (next : World) : Type 0 where
   pub read : ℕ
-  pub fewer : read < count
+  pub fewer : read < length (take count (drop (slice_index w.read shard) w.log))
   pub next_is : next ≡ after_absorb w shard read
 
 -- the step found no memory
 abbrev pub IsWanting : World → Step → Reply → World → Type 0
-IsWanting w (Submit entry) reply next = (reply ≡ Submitted (Err refusal.Memory)) × (next ≡ w)
-IsWanting w (Absorb shard count) reply next = (reply ≡ Absorbed (Err alloc_error)) × HasReadFewer w shard count next
+IsWanting w (Submit entry) reply next = (reply ≡ Submitted (Err refusal.Memory)) × ((next ≡ w) × MayLackMemory w.log entry)
+IsWanting w (Absorb shard count) reply next = (reply ≡ Absorbed (Err alloc_error)) × HasReadPart w shard count next
 IsWanting w (Ask pg) reply next = (reply ≡ Asked (Err ask.Memory)) × (next ≡ w)
 
 -- the step may be answered so, with this world after it
