@@ -1,13 +1,13 @@
 //! Which entry a log takes next.
 
-ghost use Rattle.std.specs.Prelude.{◌≡◌, ◌≢◌, ◌≤◌, List, ◌∷◌, ◌++◌, [], length, true, false, is_some, None, Some, Err, IsOk, OnOk, OnErr, IfErr, IfSome, IfNone};
+ghost use Rattle.std.specs.Prelude.{◌≡◌, ◌≢◌, ◌≤◌, ◌+◌, List, ◌∷◌, ◌++◌, [], length, true, false, is_some, None, Some, Err, IsOk, OnOk, OnErr, IfErr, IfSome, IfNone};
 ghost use Rattle.pgp_ids.specs.declared.entry.Entry.{Entry as AnyEntry};
-ghost use Rattle.pgp_ids.specs.declared.incremental.Incremental.{Incremental as Step};
+ghost use Rattle.pgp_ids.specs.declared.incremental.Incremental.{Incremental as AnyIncremental};
 ghost use Rattle.pgp_refusals.specs.declared.refusal.Refusal.TheVariants.{Memory};
 ghost use Rattle.pgp_map.specs.MapFault.{given_fault};
 ghost use Rattle.pgp_map.specs.MapOf.{IsMapOf};
 ghost use Rattle.pgp_group.specs.Entries.{inc_of, incs_of};
-ghost use Rattle.pgp_log.specs.Fits.{is_closed, entry_fault, fits};
+ghost use Rattle.pgp_log.specs.Fits.{is_closed, entry_fault, fits, longest_log};
 ghost use Rattle.pgp_log.specs.Judge.{IsJudgeOf, OfItsLog, CanTake};
 ghost use Rattle.pgp_log.specs.Log.{epoch_of};
 
@@ -18,7 +18,7 @@ use pgp_map::OsdMap;
 use std::alloc::{AllocError, Global};
 
 /// How many entries a log takes; a Close is taken beyond.
-const LONGEST_LOG: usize = 65535;
+pub const LONGEST_LOG: usize = 65535;
 
 /// What judging the next entry of a log takes: the map that the entries make, how many they are, and whether one of them
 /// closed the log. It keeps no entry.
@@ -44,7 +44,7 @@ impl Judge {
     /// How many entries the log has.
     pub fn count(&self) -> usize
         ensures count { OfItsLog self.now (λ log. result ≡ length log) }
-        ensures few { OfItsLog self.now (λ log. result ≤ 65536) }
+        ensures few { OfItsLog self.now (λ log. result ≤ longest_log + 1) }
     {
         self.count
     }
@@ -111,11 +111,12 @@ impl Judge {
         }
     }
 
-    /// Takes an entry that fits. Without memory for it, the judge stays that of the log before.
+    /// Takes an entry that fits. Only an incremental takes memory; without it, the judge stays that of the log before.
     pub fn take(&mut self, entry: &Entry) -> Result<(), AllocError>
         requires { CanTake self.old entry.now }
         ensures ok { OnOk result (OfItsLog self.old (λ log. fits log entry.now ≡ None → IsJudgeOf (log ++ entry.now ∷ []) self.new)) }
         ensures err { OnErr result (OfItsLog self.old (λ log. IsJudgeOf log self.new)) }
+        ensures wants { OnErr result (is_some (inc_of entry.now) ≡ true) }
     {
         extend_map(&mut self.map, entry)?;
         self.count += 1;
@@ -129,7 +130,8 @@ fn extend_map(map: &mut OsdMap, entry: &Entry) -> Result<(), AllocError>
     requires { IfSome (inc_of entry.now) (λ inc. given_fault inc.crush ≡ None) }
     ensures ok { OnOk result ((log : List AnyEntry) → IsMapOf (incs_of log) map.old → entry_fault log entry.now ≡ None
         → IsMapOf (incs_of (log ++ entry.now ∷ [])) map.new) }
-    ensures err { OnErr result ((incs : List Step) → IsMapOf incs map.old → IsMapOf incs map.new) }
+    ensures err { OnErr result ((incs : List AnyIncremental) → IsMapOf incs map.old → IsMapOf incs map.new) }
+    ensures wants { OnErr result (is_some (inc_of entry.now) ≡ true) }
 {
     match inc_of(entry) {
         Some(inc) => map.apply(inc),

@@ -13,7 +13,7 @@ mod shard;
 mod world;
 
 pub use entry::{inc_of, is_close};
-pub use judge::Judge;
+pub use judge::{Judge, LONGEST_LOG};
 pub use place::{Place, group_of, locate};
 pub use raw_sets::RawSets;
 pub use replay::{Replay, replay_of};

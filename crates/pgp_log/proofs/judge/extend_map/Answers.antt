@@ -1,9 +1,10 @@
-use Rattle.std.proofs.Common.{◌≡◌, ◌∷◌, ◌++◌, [], List, None, sym}
+use Rattle.std.proofs.Common.{◌≡◌, ◌∷◌, ◌++◌, [], List, None, is_some, ap, sym}
 use Rattle.std.proofs.lemmas.Result.{on_ok_weaker}
 use Rattle.pgp_ids.specs.declared.entry.Entry.{Entry}
 use Rattle.pgp_map.specs.MapOf.{IsMapOf}
 use Rattle.pgp_group.specs.Entries.{incs_of}
 use Rattle.pgp_log.specs.Fits.{entry_fault}
+use Rattle.pgp_log.proofs.SharedLemmas.{on_err}
 use Rattle.pgp_log.proofs.TakeLemmas.{incs-inc, incs-other, faultless-inc}
 use Rattle.pgp_log.proofs.judge.extend_map.Goals as goal
 
@@ -14,6 +15,9 @@ returns-in-Some-clause-ok c =
     rw (incs-inc log c.args.entry.now c.in-Some.inc.now (sym c.in-Some.ensures))
     (goes (incs_of log) is (faultless-inc log c.args.entry.now c.in-Some.inc.now (sym c.in-Some.ensures) none)))
     c.apply.ensures.ok
+
+pub returns-in-Some-clause-wants : goal.returns-in-Some-clause-wants
+returns-in-Some-clause-wants c = on_err c.apply.result _ (ap is_some (sym c.in-Some.ensures))
 
 pub returns-in-None-clause-ok : goal.returns-in-None-clause-ok
 returns-in-None-clause-ok c log is none = rw (incs-other log c.args.entry.now (sym c.in-None.ensures)) is
