@@ -1,8 +1,7 @@
 //! One shard: what it has read of the log, and what it answers by that.
 
-ghost use Rattle.std.specs.Prelude.{◌≡◌, ◌<◌, List, [], ◌∷◌, ◌++◌, length, map, false, true, None, Some, Err, IfOk, OnOk, OnErr};
+ghost use Rattle.std.specs.Prelude.{◌≡◌, ◌<◌, ◌++◌, length, map, false, true, None, Some, Err, IfOk, OnOk, OnErr};
 ghost use Rattle.std.specs.Arc.{arc_value};
-ghost use Rattle.pgp_ids.specs.declared.entry.Entry.{Entry as Told};
 ghost use Rattle.pgp_refusals.specs.declared.ask_refusal.AskRefusal.TheVariants.{UnknownGroup};
 ghost use Rattle.pgp_map.specs.Pools.{has_group};
 ghost use Rattle.pgp_group.specs.Entries.{incs_of};
@@ -81,15 +80,8 @@ impl ShardState {
         Ok(())
     }
 
-    /// Gives the last entry up, where its reader had no memory for what goes with it.
-    pub fn retract(&mut self)
-        ensures { (before : List Told) (last : Told) → self.old.front ≡ before ++ last ∷ [] → self.new ≡ record self.old { front = before } }
-    {
-        let _last = self.front.pop();
-    }
-
-    /// All that the shard has read says of one of its groups. `UnknownGroup` comes only where it has no such group, else
-    /// `Memory`. What the shard has read stays.
+    /// All that the shard has read says of one of its groups. `UnknownGroup`: what was read makes no such group. `Memory`:
+    /// there was none. What the shard has read stays.
     pub fn ask(&mut self, pg: PgId) -> Result<View, AskRefusal>
         requires { shard_of self.old.shards pg ≡ self.old.shard }
         ensures ok { IfOk result (λ view. scratch self.old.front pg ≡ Some view) }
