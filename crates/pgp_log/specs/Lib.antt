@@ -6,7 +6,6 @@ pub mod Shard
 pub mod World
 pub mod WorldRun
 pub mod Running
-pub mod Touched
 pub mod Locate
 pub mod RawSets
 pub mod Replay

@@ -22,7 +22,7 @@ group_in_pool id name pool = record { pool = id; pg = stable_mod (name_hash name
 abbrev pub group_of_object : List Incremental → ℕ → List ℕ → Option PgId
 group_of_object incs id name = option_map (group_in_pool id name) (pool incs id)
 
--- the place of what lies in the group, where these are its members
+-- the place of every object of the group, where these are its members
 abbrev pub place_with : PgId → Membership → Place
 place_with pg members = record { pg = pg; members = members }
 

@@ -30,7 +30,7 @@ ghost use Rattle.pgp_log.specs.Examples.{submits};
 use pgp_group::laws::touched as group_laws;
 
 /// An entry is refused since the log is closed, or else for what is wrong with it, or else since the log is full, which
-/// it never is for a Close. A full log is too large for a worked row: this is of any log of that length, and a test of the
+/// it never is for a Close. A full log is too large for a worked example: this is of any log of that length, and a test of the
 /// program fills one.
 pub fn refusals_in_order()
     ensures closed { (log : List Entry) (new : Entry) → is_closed log ≡ true
@@ -63,7 +63,7 @@ pub fn epochs_of_a_legal_log()
     ensures { (log : List Entry) → is_legal log ≡ true → EpochsCount log }
 {}
 
-/// A legal log is of checked incrementals, and has at most one entry more than it takes before a Close.
+/// A legal log is of checked incrementals, and has at most 65,536 entries: 65,535 and a Close.
 pub fn legal_logs_are_checked_and_short()
     ensures checked { (log : List Entry) → is_legal log ≡ true → are_checked (incs_of log) ≡ true }
     ensures short { (log : List Entry) → is_legal log ≡ true → length log ≤ 65536 }
@@ -71,7 +71,7 @@ pub fn legal_logs_are_checked_and_short()
 {}
 
 /// An entry that a legal log takes changes the view of a group that it doesn't touch in count and epoch alone. A group that
-/// isn't there doesn't come.
+/// the map lacks is still lacking.
 pub fn untouched_groups_stay_as_they_were()
     ensures { (log : List Entry) (new : Entry) (pg : PgId) → is_legal log ≡ true → fits log new ≡ None
         → is_touched log new pg ≡ false

@@ -29,7 +29,7 @@ pub fn locate(map: &OsdMap, id: PoolId, name: &ObjectName) -> Option<Place>
     Some(place_of(map, &pg))
 }
 
-/// What lies in the group lies here.
+/// The place of every object of the group.
 fn place_of(map: &OsdMap, pg: &PgId) -> Place
     requires { HasGroup map.now pg.now }
     ensures { Says map.now (λ incs. option_map (place_with pg.now) (membership incs pg.now) ≡ Some result) }

@@ -3,7 +3,7 @@
 ghost use Rattle.std.specs.Prelude.{◌≡◌, List, [], ◌∷◌, ◌++◌, Some, None, false};
 ghost use Rattle.std.specs.Option.{option_map_or};
 ghost use Rattle.pgp_ids.specs.declared.entry.Entry.{Entry as AnyEntry};
-ghost use Rattle.pgp_ids.specs.declared.incremental.Incremental.{Incremental as Step};
+ghost use Rattle.pgp_ids.specs.declared.incremental.Incremental.{Incremental as AnyIncremental};
 ghost use Rattle.pgp_group.specs.Entries.{inc_of, incs_of};
 ghost use Rattle.pgp_map.specs.Held.{HasGroup};
 ghost use Rattle.pgp_map.specs.MapOf.{IsMapOf};
@@ -29,7 +29,7 @@ pub struct RawSets {
 
 impl RawSets {
     pub fn new(alloc: Global) -> Self
-        ensures { (incs : List Step) → AreRawSets incs result }
+        ensures { (incs : List AnyIncremental) → AreRawSets incs result }
     {
         RawSets {
             known: HashMap::new(alloc),
@@ -48,7 +48,7 @@ impl RawSets {
 
     /// Forgets all of them.
     fn clear(&mut self)
-        ensures { (incs : List Step) → AreRawSets incs self.new }
+        ensures { (incs : List AnyIncremental) → AreRawSets incs self.new }
     {
         if !self.known.is_empty() {
             self.known.clear();
@@ -59,9 +59,9 @@ impl RawSets {
     /// is memory for it.
     pub fn locate(&mut self, map: &OsdMap, id: PoolId, name: &ObjectName) -> Option<Place>
         requires { IsCheckedMap map.now }
-        ensures place { (incs : List Step) → IsMapOf incs map.now → AreRawSets incs self.old
+        ensures place { (incs : List AnyIncremental) → IsMapOf incs map.now → AreRawSets incs self.old
             → result ≡ place_of_object incs id name.now }
-        ensures kept { (incs : List Step) → IsMapOf incs map.now → AreRawSets incs self.old → AreRawSets incs self.new }
+        ensures kept { (incs : List AnyIncremental) → IsMapOf incs map.now → AreRawSets incs self.old → AreRawSets incs self.new }
     {
         let pg = group_of_object(map, id, name)?;
         let members = self.members(map, &pg);
@@ -71,9 +71,9 @@ impl RawSets {
     /// Where the group lies by the map. Its raw set is kept, where there is memory for it.
     pub fn members(&mut self, map: &OsdMap, pg: &PgId) -> Membership
         requires { HasGroup map.now pg.now }
-        ensures members { (incs : List Step) → IsMapOf incs map.now → AreRawSets incs self.old
+        ensures members { (incs : List AnyIncremental) → IsMapOf incs map.now → AreRawSets incs self.old
             → membership incs pg.now ≡ Some result }
-        ensures kept { (incs : List Step) → IsMapOf incs map.now → AreRawSets incs self.old → AreRawSets incs self.new }
+        ensures kept { (incs : List AnyIncremental) → IsMapOf incs map.now → AreRawSets incs self.old → AreRawSets incs self.new }
     {
         if let Some(known) = self.known.get(pg) {
             return filter(map, pg, known);

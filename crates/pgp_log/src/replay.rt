@@ -2,9 +2,9 @@
 
 ghost use Rattle.std.specs.Prelude.{◌≡◌, ◌++◌, [], ◌∷◌, List, Some, None, true, length, map, IfOk, OnOk};
 ghost use Rattle.std.specs.Arc.{arc_value};
-ghost use Rattle.pgp_ids.specs.declared.entry.Entry.{Entry as Told};
+ghost use Rattle.pgp_ids.specs.declared.entry.Entry.{Entry as AnyEntry};
 ghost use Rattle.pgp_ids.specs.declared.entry.Entry.TheVariants as entry;
-ghost use Rattle.pgp_ids.specs.declared.incremental.Incremental.{Incremental as Step};
+ghost use Rattle.pgp_ids.specs.declared.incremental.Incremental.{Incremental as AnyIncremental};
 ghost use Rattle.pgp_ids.specs.declared.pg_id.PgId.{PgId as Id};
 ghost use Rattle.pgp_map.specs.MapFault.{map_fault};
 ghost use Rattle.pgp_map.specs.MapOf.{IsMapOf};
@@ -87,10 +87,10 @@ impl Replay {
         }
     }
 
-    /// Takes the next entry of the log.
+    /// Takes the next entry of the log. After an `Err` the replay is of no further use.
     pub fn absorb(&mut self, entry: &Entry) -> Result<(), AllocError>
         requires { CanTake self.old entry.now }
-        ensures { OnOk result ((log : List Told) (pg : Id) → IsReplayOf log pg self.old → entry_fault log entry.now ≡ None
+        ensures { OnOk result ((log : List AnyEntry) (pg : Id) → IsReplayOf log pg self.old → entry_fault log entry.now ≡ None
             → IsReplayOf (log ++ entry.now ∷ []) pg self.new) }
     {
         match inc_of(entry) {
@@ -101,7 +101,7 @@ impl Replay {
 
     fn absorb_inc(&mut self, inc: &Incremental) -> Result<(), AllocError>
         requires { CanTake self.old (entry.Inc inc.now) }
-        ensures { OnOk result ((log : List Told) (pg : Id) → IsReplayOf log pg self.old
+        ensures { OnOk result ((log : List AnyEntry) (pg : Id) → IsReplayOf log pg self.old
             → map_fault (incs_of log) inc.now ≡ None → IsReplayOf (log ++ entry.Inc inc.now ∷ []) pg self.new) }
     {
         self.after.apply(inc)?;
@@ -112,7 +112,7 @@ impl Replay {
     /// Shows the group the map of the incremental that is being taken.
     fn absorb_map(&mut self) -> Result<(), AllocError>
         requires { IsAhead self.old }
-        ensures { OnOk result ((log : List Told) (inc : Step) (pg : Id) → map_fault (incs_of log) inc ≡ None
+        ensures { OnOk result ((log : List AnyEntry) (inc : AnyIncremental) (pg : Id) → map_fault (incs_of log) inc ≡ None
             → IsMidway log (log ++ entry.Inc inc ∷ []) log pg self.old
             → IsMidway log (log ++ entry.Inc inc ∷ []) (log ++ entry.Inc inc ∷ []) pg self.new) }
     {
@@ -128,7 +128,7 @@ impl Replay {
     /// The group, where the map of the incremental that is being taken is the first that has it.
     fn begun(&self) -> Option<Group>
         requires { IsAhead self.now }
-        ensures { (log : List Told) (inc : Step) (pg : Id) → map_fault (incs_of log) inc ≡ None
+        ensures { (log : List AnyEntry) (inc : AnyIncremental) (pg : Id) → map_fault (incs_of log) inc ≡ None
             → IsMidway log (log ++ entry.Inc inc ∷ []) log pg self.now → self.now.group ≡ None
             → IsKept (log ++ entry.Inc inc ∷ []) pg result }
     {
@@ -140,7 +140,7 @@ impl Replay {
     }
 
     fn absorb_report(&mut self, entry: &Entry) -> Result<(), AllocError>
-        ensures { OnOk result ((log : List Told) (pg : Id) → inc_of entry.now ≡ None → entry_fault log entry.now ≡ None
+        ensures { OnOk result ((log : List AnyEntry) (pg : Id) → inc_of entry.now ≡ None → entry_fault log entry.now ≡ None
             → IsReplayOf log pg self.old → IsReplayOf (log ++ entry.now ∷ []) pg self.new) }
     {
         match &mut self.group {
@@ -151,7 +151,7 @@ impl Replay {
 
     /// All that the entries say of the group, where the map that they make has it. `count` is their number.
     pub fn view(&self, count: usize) -> Result<Option<View>, AllocError>
-        ensures { IfOk result (λ view. (log : List Told) (pg : Id) → IsReplayOf log pg self.now → length log ≡ count
+        ensures { IfOk result (λ view. (log : List AnyEntry) (pg : Id) → IsReplayOf log pg self.now → length log ≡ count
             → view ≡ scratch log pg) }
     {
         match &self.group {
@@ -163,7 +163,7 @@ impl Replay {
 
 /// Whether the map has the group.
 fn has_group(map: &OsdMap, pg: &PgId) -> bool
-    ensures { (incs : List Step) → IsMapOf incs map.now → result ≡ has_group incs pg.now }
+    ensures { (incs : List AnyIncremental) → IsMapOf incs map.now → result ≡ has_group incs pg.now }
 {
     map.pool(pg.pool).is_some_and(|pool| pg.pg < pool.pg_num)
 }
