@@ -13,3 +13,4 @@ pub mod LaterLemmas
 pub mod UntoldLemmas
 pub mod SameViewLemmas
 pub mod UntouchedLemmas
+pub mod InterleavingLemmas

@@ -14,3 +14,4 @@ pub mod GroupOf
 pub mod Found
 pub mod Later
 pub mod Touched
+pub mod Interleaving

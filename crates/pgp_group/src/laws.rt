@@ -3,6 +3,7 @@
 
 pub mod causes;
 pub mod growth;
+pub mod interleaving;
 pub mod later;
 pub mod touched;
 
