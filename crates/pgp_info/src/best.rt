@@ -1,27 +1,29 @@
-ghost use Rattle.std.specs.Prelude.{◌≡◌, [], ◌∷◌, ◌&&◌, true, nat_le, unwrap_or, option_map, is_some, find, OnOk, OnErr};
+ghost use Rattle.std.specs.Prelude.{◌≡◌, is_some, find, OnOk, OnErr};
 ghost use Rattle.std.specs.Option.{option_copied};
 ghost use Rattle.pgp_ids.specs.Member.{is_same_member};
-ghost use Rattle.pgp_info.specs.Best.{last_start, best_info};
+ghost use Rattle.pgp_info.specs.Best.{best_info};
 ghost use Rattle.pgp_info.specs.Heard.{heard_nothing, without, with_info, has_member};
 
+use super::lead::Lead;
 use super::prefer::Prefer;
-use pgp_ids::{Epoch, Info, Member};
+use pgp_ids::{Info, Member};
 use std::alloc::{AllocError, Global};
 use std::marker::Model;
 
 /// The last info of each member, and the best of them by the preference `P`.
 ///
-/// It looks through all of them at each question.
+/// The best one is kept, so that asking for it is free.
 #[derive(Debug, Drop)]
-pub struct Best<P> {
+pub struct Best<P: Prefer> {
     prefer: P,
     /// No two are of one member.
     infos: Vec<Info>,
+    lead: Lead,
 }
 
-impl<P> Model for Best<P> {
-    ghost use Rattle.pgp_info.specs.Best.{HasDistinctMembers};
+impl<P: Prefer> Model for Best<P> {
     ghost use Rattle.pgp_info.specs.Heard.{Heard};
+    ghost use Rattle.pgp_info.specs.Lead.{AreLed};
 
     ghost Value = { Heard P };
 
@@ -30,10 +32,10 @@ impl<P> Model for Best<P> {
       infos = b.infos.items;
     } };
 
-    ghost invariant = { λ b. HasDistinctMembers b.infos.items };
+    ghost invariant = { λ b. AreLed (P.better b.prefer) b.infos.items b.lead };
 }
 
-impl<P> Best<P> {
+impl<P: Prefer> Best<P> {
     /// Before any info.
     pub fn new(alloc: Global, prefer: P) -> Self
         ensures { result ≡ heard_nothing prefer }
@@ -41,6 +43,7 @@ impl<P> Best<P> {
         Best {
             prefer,
             infos: Vec::new(alloc),
+            lead: Lead::of_nobody(),
         }
     }
 
@@ -51,6 +54,10 @@ impl<P> Best<P> {
     {
         self.infos.reserve(1)?;
         self.infos.retain(|other| other.member != info.member);
+        let others = self
+            .lead
+            .left_by(&self.prefer, &info.member, self.infos.as_slice());
+        self.lead = others.joined_by(&self.prefer, &info);
         self.infos.push_reserved(info);
         Ok(())
     }
@@ -80,64 +87,16 @@ impl<P> Best<P> {
         ensures { self.new ≡ record self.old { infos = without member.now self.old.infos } }
     {
         self.infos.retain(|info| info.member != *member);
+        self.lead = self
+            .lead
+            .left_by(&self.prefer, member, self.infos.as_slice());
     }
-}
 
-impl<P: Prefer> Best<P> {
     /// The best info: complete, of a copy that served when the group served last or later, and with none such preferred
     /// to it.
     pub fn best(&self) -> Option<&Info>
         ensures { option_copied result ≡ best_info (P.better self.now.prefer) self.now.infos }
     {
-        let start = last_start(self.infos.as_slice());
-        let mut best = None;
-        for info in self.infos.as_slice() {
-            if served_since(info, start) && is_ahead(&self.prefer, info, best) {
-                best = Some(info);
-            }
-        }
-        best
-    }
-}
-
-/// Whether the info is preferred to the best one so far.
-fn is_ahead<P: Prefer>(prefer: &P, info: &Info, best: Option<&Info>) -> bool
-    ensures { result ≡ unwrap_or (option_map (P.better prefer.now info.now) (option_copied best.entry)) true }
-{
-    match best {
-        Some(best) => prefer.better(info, best),
-        None => true,
-    }
-}
-
-/// Whether the copy is complete and served in this epoch or later.
-fn served_since(info: &Info, start: Epoch) -> bool
-    ensures { result ≡ (info.now.complete && nat_le start info.now.les) }
-{
-    info.complete && start <= info.les
-}
-
-/// The last epoch in which the group began to serve, as far as the infos tell.
-fn last_start(infos: &[Info]) -> Epoch
-    ensures { result ≡ last_start infos.now }
-{
-    let mut start = Epoch::new(0);
-    for info in infos {
-        let told = start_told_by(info);
-        if start < told {
-            start = told;
-        }
-    }
-    start
-}
-
-/// The last epoch in which the group began to serve, as far as this info alone tells.
-fn start_told_by(info: &Info) -> Epoch
-    ensures { result ≡ last_start (info.now ∷ []) }
-{
-    if info.complete && info.history_les < info.les {
-        info.les
-    } else {
-        info.history_les
+        self.lead.best()
     }
 }

@@ -1,10 +1,12 @@
 //! What the best info is for any preference, and what the definitions say of small groups.
-ghost use Rattle.std.specs.Prelude.{◌≡◌, ◌↔◌, List, [], ◌∷◌, Option, Some, None, Bool, true, false, Contains};
+ghost use Rattle.std.specs.Prelude.{◌≡◌, ◌↔◌, ◌<◌, ◌≤◌, List, [], ◌∷◌, ◌++◌, Option, Some, None, Bool, true, false, Contains};
+ghost use Rattle.pgp_ids.specs.Member.{is_same_member};
 ghost use Rattle.pgp_ids.specs.declared.member.Member.{Member};
 ghost use Rattle.pgp_ids.specs.declared.report.Info.{Info};
 ghost use Rattle.pgp_info.specs.Preference.{newest_first, oldest_first, IsPreference};
-ghost use Rattle.pgp_info.specs.Best.{HasDistinctMembers, candidates, best_info, IsBest};
+ghost use Rattle.pgp_info.specs.Best.{HasDistinctMembers, last_start, candidates, best_info, IsBest};
 ghost use Rattle.pgp_info.specs.Heard.{without, with_info, with_infos, last_of_each_member};
+ghost use Rattle.pgp_info.specs.Lead.{best_beside};
 ghost use Rattle.pgp_info.specs.Examples.{in_slot, at, copy_up_to, fresh, device_0};
 
 /// Both preferences are strict total orders over infos of distinct members, whoever leads.
@@ -30,6 +32,27 @@ pub fn order_of_infos_is_free()
         → IsPreference better → HasDistinctMembers a → HasDistinctMembers b
         → ((info : Info) → Contains a info ↔ Contains b info)
         → best_info better a ≡ best_info better b }
+{}
+
+/// The best info stays the best one while other members are dropped.
+pub fn best_stays_while_others_go()
+    ensures { (better : Info → Info → Bool) (infos : List Info) (best : Info) (member : Member)
+        → IsPreference better → HasDistinctMembers infos
+        → best_info better infos ≡ Some best → is_same_member best.member member ≡ false
+        → best_info better (without member infos) ≡ Some best }
+{}
+
+/// One info more is compared with the best one alone; and where it tells of a later start than all others, only its own
+/// copy may be gone by.
+pub fn best_beside_one_more()
+    ensures known { (better : Info → Info → Bool) (infos : List Info) (info : Info)
+        → IsPreference better → HasDistinctMembers (infos ++ info ∷ [])
+        → last_start (info ∷ []) ≤ last_start infos
+        → best_info better (infos ++ info ∷ []) ≡ best_beside better (last_start infos) info (best_info better infos) }
+    ensures later { (better : Info → Info → Bool) (infos : List Info) (info : Info)
+        → IsPreference better → HasDistinctMembers (infos ++ info ∷ [])
+        → last_start infos < last_start (info ∷ [])
+        → best_info better (infos ++ info ∷ []) ≡ best_beside better (last_start (info ∷ [])) info None }
 {}
 
 /// Infos of distinct members stay so, whichever info is put and whoever is dropped.
@@ -63,6 +86,22 @@ pub fn incomplete_copy()
         best_info (newest_first device_0) (partial ∷ fresh 1 ∷ fresh 2 ∷ []) ≡ Some (fresh 1) }
     ensures alone { let partial = record (fresh 0) { complete = false } in
         best_info (newest_first device_0) (partial ∷ []) ≡ None }
+{}
+
+/// While the acting primary's copy isn't complete another one is the best, and it is again once it tells as before.
+pub fn copy_that_tells_again()
+    ensures partial { let partial = record (fresh 0) { complete = false } in
+        best_info (newest_first device_0) (with_info partial (fresh 0 ∷ fresh 1 ∷ fresh 2 ∷ [])) ≡ Some (fresh 1) }
+    ensures as_before { let partial = record (fresh 0) { complete = false } in
+        let infos = with_info partial (fresh 0 ∷ fresh 1 ∷ fresh 2 ∷ []) in
+        best_info (newest_first device_0) (with_info (fresh 0) infos) ≡ Some (fresh 0) }
+{}
+
+/// The last start falls with the one info that told of it, and then a copy may be gone by that was left behind.
+pub fn start_that_falls()
+    ensures none { best_info (newest_first device_0) (fresh 0 ∷ record (fresh 1) { history_les = 1 } ∷ []) ≡ None }
+    ensures fallen { let told = record (fresh 1) { history_les = 1 } in
+        best_info (newest_first device_0) (without told.member (fresh 0 ∷ told ∷ [])) ≡ Some (fresh 0) }
 {}
 
 /// An erasure pool goes by the copy that lacks the last write, a replicated pool by one that has it.

@@ -9,6 +9,7 @@
 
 mod best;
 pub mod laws;
+mod lead;
 mod newest_first;
 mod oldest_first;
 mod prefer;

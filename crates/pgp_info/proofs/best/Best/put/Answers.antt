@@ -1,19 +1,27 @@
-use Rattle.std.proofs.Common.{rules, ◌≡◌, not, sym, subst}
+use Rattle.std.proofs.Common.{rules, ◌≡◌, [], ◌∷◌, ◌++◌, List, not, ap, sym, ◌∙◌}
 use Rattle.std.proofs.lemmas.Fn.{filter_same}
 use Rattle.pgp_ids.specs.Member.{is_same_member}
-use Rattle.pgp_info.specs.Best.{HasDistinctMembers}
+use Rattle.pgp_ids.specs.declared.report.Info.{Info}
 use Rattle.pgp_info.specs.Heard.{without, with_info}
-use Rattle.pgp_info.proofs.BestLemmas.{distinct_with, replaced, put_in}
+use Rattle.pgp_info.proofs.BestLemmas.{put_in}
+use Rattle.pgp_info.proofs.LeadLemmas.{led_left, led_put}
 use Rattle.pgp_info.proofs.best.Best.put.Goals as goal
 
 pub invariant_of-self-2 : goal.invariant_of-self-2
 invariant_of-self-2 g c =
-    let left_out : c.retain.new.self.items ≡ without c.args.info.member c.reserve.new.self.items = filter_same _ (λ info. not (is_same_member info.member c.args.info.member)) _ (λ x b f' k. search rules) _ _ c.retain.ensures.filtered in
-    let all : c.push_reserved.new.self.items ≡ with_info c.args.info c.self.inside.infos.items = replaced c.args.info _ _ _ _ c.reserve.ensures.items left_out c.push_reserved.ensures.items in
-    subst HasDistinctMembers (sym all) (distinct_with c.args.info c.self.inside.infos.items c.self.invariant)
+    let better = g.P.Prefer.better c.self.inside.prefer in
+    let info : Info = c.args.info in
+    let old : List Info = c.self.inside.infos.items in
+    let left : List Info = c.as_slice.result.now in
+    let kept : c.retain.new.self.items ≡ without info.member c.reserve.new.self.items = filter_same _ (λ other. not (is_same_member other.member c.args.info.member)) _ (λ x b f' k. search rules) _ _ c.retain.ensures.filtered in
+    let is : left ≡ without info.member old = c.as_slice.ensures.value ∙ kept ∙ ap (without info.member) c.reserve.ensures.items in
+    let pushed : c.push_reserved.new.self.items ≡ left ++ info ∷ [] = c.push_reserved.ensures.items ∙ ap (λ (l : List Info). l ++ info ∷ []) (sym c.as_slice.ensures.value) in
+    led_put better info old left c.push_reserved.new.self.items c.left_by-others.result c.joined_by-self-inside.result c.self.invariant.distinct
+    (led_left better info.member old left c.self.inside.lead c.left_by-others.result c.self.invariant is c.left_by-others.ensures) is pushed c.joined_by-self-inside.ensures
 
 pub returns-clause-ok : goal.returns-clause-ok
 returns-clause-ok g c =
-    let left_out : c.retain.new.self.items ≡ without c.args.info.member c.reserve.new.self.items = filter_same _ (λ info. not (is_same_member info.member c.args.info.member)) _ (λ x b f' k. search rules) _ _ c.retain.ensures.filtered in
-    let all : c.push_reserved.new.self.items ≡ with_info c.args.info c.self.inside.infos.items = replaced c.args.info _ _ _ _ c.reserve.ensures.items left_out c.push_reserved.ensures.items in
-    put_in c.args.self.now c.self.inside.prefer c.self.inside.infos.items c.push_reserved.new.self.items (with_info c.args.info) c.self.view_is all
+    let info : Info = c.args.info in
+    let kept : c.retain.new.self.items ≡ without info.member c.reserve.new.self.items = filter_same _ (λ other. not (is_same_member other.member c.args.info.member)) _ (λ x b f' k. search rules) _ _ c.retain.ensures.filtered in
+    put_in c.args.self.now c.self.inside.prefer c.self.inside.infos.items c.push_reserved.new.self.items (with_info info) c.self.view_is
+    (c.push_reserved.ensures.items ∙ ap (λ (l : List Info). l ++ info ∷ []) (kept ∙ ap (without info.member) c.reserve.ensures.items))
