@@ -1,14 +1,15 @@
 -- Entries of a map by their numbers.
-use Rattle.std.proofs.Common.{◌≡◌, ℕ, ◌<◌, List, [], ◌∷◌, Bool, true, false, ◌&&◌, ◌||◌, nat_eq, eqb-true, map, fold, refl, ap, sym, ◌∙◌, subst, inl, inr, arith}
-use Rattle.std.specs.Cmp.Lexicographic.{slice_cmp}
+use Rattle.std.proofs.Common.{◌≡◌, ℕ, List, [], ◌∷◌, Bool, true, false, ◌&&◌, ◌||◌, nat_eq, nat_lt, nat_le, min, max, eqb-true, map, refl, ap, sym, ◌∙◌, subst, inl, inr, arith}
 use Rattle.std.specs.List.{All}
 use Rattle.std.specs.List.Sorted.{IsStrictlySortedBy}
 use Rattle.std.specs.Map.{keys_of, lookup}
 use Rattle.std.specs.BTreeMap.{is_at}
+use Rattle.std.specs.BTreeMap.Range.{range_contains, entries_between}
+use Rattle.std.specs.declared.ops.Bound.TheVariants.{Included, Excluded}
 use Rattle.std.specs.Option.{option_map_or}
 use Rattle.std.specs.Ordering.{nat_cmp, is_eq}
 use Rattle.std.specs.declared.cmp.Ordering.TheVariants.{Less}
-use Rattle.std.proofs.lemmas.Bool.{and_parts, cases_Bool, false_from_ne_true, lt-ltb}
+use Rattle.std.proofs.lemmas.Bool.{and_parts, cases_Bool, false_from_ne_true}
 use Rattle.std.proofs.lemmas.Bool.Decides.{nat_tests, eqb_tells}
 use Rattle.std.proofs.lemmas.List.Elements.{All-head, All-tail}
 use Rattle.std.proofs.lemmas.Map.Keys.{sorted_tail}
@@ -17,21 +18,40 @@ use Rattle.pgp_ids.specs.Version.{is_same_version}
 use Rattle.pgp_ids.specs.declared.log_entry.LogEntry.{LogEntry}
 use Rattle.pgp_ids.specs.declared.report.Info.{Info}
 use Rattle.pgp_ids.specs.declared.version.Version.{Version}
-use Rattle.pgp_missing.specs.Last.{put_in}
 use Rattle.pgp_missing.specs.Log.{is_in_log, within, has_version}
-use Rattle.pgp_missing.specs.Missing.{object_of, entries_above}
+use Rattle.pgp_missing.specs.Missing.{entries_above}
 use Rattle.pgp_missing.specs.Kept.{numbered}
 use Rattle.pgp_missing.specs.declared.entries.Write.{Write}
 
--- ---- the last entry of each object
+-- ---- the entries of a log above a number
 
--- after those so far, the entries of the log above the number
-abbrev pub newest_of : ℕ → Info → List LogEntry → List (ℕ × Write) → List LogEntry
-newest_of low info so_far es = fold (put_in object_of (slice_cmp nat_cmp)) so_far (entries_above low (within info (map numbered es)))
+-- the numbers of the log above a number lie between it or the log's tail, the greater of these, and the log's end
+between : (low tail last before v : ℕ) → before ≡ min (max low tail) last
+    → range_contains nat_cmp (Excluded before) (Included last) v ≡ ((nat_lt tail v && nat_le v last) && nat_lt low v)
+between low tail last before v is = grind (arith, nat_tests)
 
-pub newest_more : (low : ℕ) (info : Info) (so_far : List LogEntry) (v : ℕ) (write : Write) (more : List (ℕ × Write)) → is_in_log info v ≡ true → low < v
-    → newest_of low info so_far ((v, write) ∷ more) ≡ newest_of low info (put_in object_of (slice_cmp nat_cmp) so_far (numbered (v, write))) more
-newest_more low info so_far v write more in_log above = rw (in_log, lt-ltb low v above) refl
+pub above-between : (low : ℕ) (info : Info) (before : ℕ) → before ≡ min (max low info.log_tail.v) info.last_update.v → (es : List (ℕ × Write))
+    → map numbered (entries_between nat_cmp (Excluded before) (Included info.last_update.v) es) ≡ entries_above low (within info (map numbered es))
+above-between low info before is [] = refl
+above-between low info before is (e ∷ es) =
+    let same = between low info.log_tail.v info.last_update.v before e.0 is in
+    elim (cases_Bool (is_in_log info e.0)) [
+      | inl in_log ↦ elim (cases_Bool (nat_lt low e.0)) [
+        | inl high ↦ rw (same, in_log, high) (ap (λ l. numbered e ∷ l) (above-between low info before is es))
+        | inr low_ ↦ rw (same, in_log, low_) (above-between low info before is es)
+      ]
+      | inr out ↦ rw (same, out) (above-between low info before is es)
+    ]
+
+-- all entries of a log are above its tail
+pub within_above : (info : Info) (entries : List LogEntry) → entries_above info.log_tail.v (within info entries) ≡ within info entries
+within_above info [] = refl
+within_above info (x ∷ xs) = elim (cases_Bool (is_in_log info x.version.v)) [
+  | inl is ↦
+      let above = and_parts (nat_lt info.log_tail.v x.version.v) (nat_le x.version.v info.last_update.v) is in
+      rw (is, above.0) (ap (λ l. x ∷ l) (within_above info xs))
+  | inr is ↦ rw is (within_above info xs)
+]
 
 -- ---- whether an entry has a version
 

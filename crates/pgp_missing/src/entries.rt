@@ -5,12 +5,14 @@ ghost use Rattle.std.specs.Ordering.{nat_cmp};
 ghost use Rattle.pgp_missing.specs.Last.{put_in};
 ghost use Rattle.pgp_missing.specs.Log.{number_of, is_in_log, within, is_full, has_version, is_rising_from};
 ghost use Rattle.pgp_missing.specs.Missing.{entries_above, by_object, is_modify, missing_by, missing_above};
-ghost use Rattle.pgp_missing.specs.Kept.{named};
+ghost use Rattle.pgp_missing.specs.Kept.{numbered, named};
 
 use pgp_ids::{Change, Epoch, Info, LogEntry, MissingObject, ObjectName, Seq, Version};
 use std::alloc::{AllocError, Global};
 use std::collections::BTreeMap;
+use std::collections::btree_map::Range;
 use std::marker::Model;
+use std::ops::Bound;
 
 /// What a log entry says beside its number.
 #[derive(Debug, Drop)]
@@ -71,18 +73,34 @@ impl Entries {
         Ok(())
     }
 
+    /// The entries of the log of this info with greater numbers than this one, in the order of their numbers. It looks at
+    /// these alone.
+    fn above(&self, info: &Info, number: u32) -> Range<'_, u32, Write>
+        ensures { map numbered result ≡ entries_above number (within info.now self.now) }
+    {
+        let last = info.last_update.v;
+        let before = number.max(info.log_tail.v).min(last);
+        self.by_number
+            .range((Bound::Excluded(before), Bound::Included(last)))
+    }
+
+    /// The entries of the log of this info, in the order of their numbers.
+    fn of_log(&self, info: &Info) -> Range<'_, u32, Write>
+        ensures { map numbered result ≡ within info.now self.now }
+    {
+        self.above(info, info.log_tail.v)
+    }
+
     /// There are as many entries within the log of this info as it has numbers.
     pub(crate) fn is_full(&self, info: &Info) -> bool
         ensures { result ≡ is_full info.now (within info.now self.now) }
     {
         let mut lacking = info.last_update.v.saturating_sub(info.log_tail.v);
-        for (number, _) in &self.by_number {
-            if is_in_log(info, *number) {
-                if lacking == 0 {
-                    return false;
-                }
-                lacking -= 1;
+        for _ in self.of_log(info) {
+            if lacking == 0 {
+                return false;
             }
+            lacking -= 1;
         }
         lacking == 0
     }
@@ -105,13 +123,11 @@ impl Entries {
         ensures { result ≡ is_rising_from info.now.log_tail.epoch (within info.now self.now) }
     {
         let mut last = info.log_tail.epoch;
-        for (number, write) in &self.by_number {
-            if is_in_log(info, *number) {
-                if write.epoch < last {
-                    return false;
-                }
-                last = write.epoch;
+        for (_, write) in self.of_log(info) {
+            if write.epoch < last {
+                return false;
             }
+            last = write.epoch;
         }
         true
     }
@@ -141,15 +157,13 @@ impl Entries {
             map named newest.entries ≡ by_object (entries_above above (within info.now self.now))) }
     {
         let mut newest = BTreeMap::new(alloc);
-        for (number, write) in &self.by_number {
-            if is_in_log(info, *number) && *number > above {
-                let version = Version {
-                    epoch: write.epoch,
-                    v: *number,
-                };
-                let change = write.change;
-                newest.insert(write.object.clone()?, Newest { version, change })?;
-            }
+        for (number, write) in self.above(info, above) {
+            let version = Version {
+                epoch: write.epoch,
+                v: *number,
+            };
+            let change = write.change;
+            newest.insert(write.object.clone()?, Newest { version, change })?;
         }
         Ok(newest)
     }

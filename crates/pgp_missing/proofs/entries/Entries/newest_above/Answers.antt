@@ -1,4 +1,4 @@
-use Rattle.std.proofs.Common.{◌≡◌, ℕ, List, map, refl, ap, sym, ◌∙◌}
+use Rattle.std.proofs.Common.{◌≡◌, ℕ, List, map, fold, refl, ap, sym, ◌∙◌}
 use Rattle.std.specs.Cmp.Lexicographic.{slice_cmp}
 use Rattle.std.specs.Ordering.{nat_cmp}
 use Rattle.std.specs.Map.Iter.{deref_pair}
@@ -8,17 +8,15 @@ use Rattle.std.proofs.lemmas.Map.Lookups.{exact_bytes}
 use Rattle.pgp_ids.specs.declared.log_entry.LogEntry.{LogEntry}
 use Rattle.pgp_missing.specs.Last.{put_in}
 use Rattle.pgp_missing.specs.Missing.{object_of}
-use Rattle.pgp_missing.specs.Kept.{named}
+use Rattle.pgp_missing.specs.Kept.{numbered, named}
 use Rattle.pgp_missing.specs.declared.entries.Write.{Write}
 use Rattle.pgp_missing.proofs.LastLemmas.{map-insert_entry}
-use Rattle.pgp_missing.proofs.EntryLemmas.{newest_of, newest_more}
 use Rattle.pgp_missing.proofs.entries.Entries.newest_above.Goals as goal
 
-pub loop-number-preserved-then-number-above : goal.loop-number-preserved-then-number-above
-loop-number-preserved-then-number-above c =
+pub loop-number-preserved : goal.loop-number-preserved
+loop-number-preserved c =
     let v = c.in-Some.number.now in
     let write = c.in-Some.write.now in
-    let info = c.args.info.now in
     let had : List LogEntry = map named c.loop-number.newest.entries in
     let put : LogEntry → List LogEntry = put_in object_of (slice_cmp nat_cmp) had in
     let made : List ℕ → LogEntry = λ object. record { version = record { epoch = write.epoch; v = v }; change = write.change; object = object } in
@@ -26,7 +24,6 @@ loop-number-preserved-then-number-above c =
     ap (map named) c.in_ok-insert.ensures.entries
     ∙ map-insert_entry object_of (slice_cmp nat_cmp) nat_list_cmp_total exact_bytes named (λ _. refl) c.loop-number.newest.entries c.in_ok-clone.field-0 _
     ∙ ap (λ object. put (made object)) c.in_ok-clone.ensures in
-    ap (λ (entries : List LogEntry). newest_of c.args.above info entries c.next.new.self) new
-    ∙ sym (newest_more c.args.above info had v write c.next.new.self (sym c.is_in_log.ensures ∙ c.if-is_in_log.true) c.if-number-above.true)
-    ∙ sym (ap (λ (es : List (ℕ × Write)). newest_of c.args.above info had es) (rest_more deref_pair _ _ _ _ c.in-Some.is c.next.ensures.steps))
+    ap (λ (entries : List LogEntry). fold (put_in object_of (slice_cmp nat_cmp)) entries (map numbered c.next.new.self)) new
+    ∙ sym (ap (λ (es : List (ℕ × Write)). fold (put_in object_of (slice_cmp nat_cmp)) had (map numbered es)) (rest_more deref_pair _ _ _ _ c.in-Some.is c.next.ensures.steps))
     ∙ c.loop-number.invariant

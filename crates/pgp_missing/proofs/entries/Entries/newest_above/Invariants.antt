@@ -9,5 +9,5 @@ use Rattle.pgp_missing.proofs.entries.Entries.newest_above.Given as goal
 
 abbrev pub invariant-loop-number : goal.invariant-loop-number
 invariant-loop-number l =
-    fold (put_in object_of (slice_cmp nat_cmp)) (map named l.newest.entries) (entries_above l.above (within l.info (map numbered l.number-iterator)))
+    fold (put_in object_of (slice_cmp nat_cmp)) (map named l.newest.entries) (map numbered l.number-iterator)
     ≡ by_object (entries_above l.above (within l.info l.self))
