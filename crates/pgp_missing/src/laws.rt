@@ -95,6 +95,16 @@ pub fn empty_log()
     ensures at_the_tail { peer_state (copy_at (at 2 3)) [] (copy_at (at 2 3)) ≡ Missing [] }
 {}
 
+/// By another info the same entries make up another log: of fewer numbers, or of more, of which some then lack one.
+pub fn log_by_another_info()
+    ensures ends_earlier { log_of (copy (at 1 1) (at 1 2)) two_writes ≡ modify (codes "a") (at 1 2) ∷ [] }
+    ensures begins_later { log_of (copy (at 1 2) (at 2 3)) two_writes ≡ modify (codes "b") (at 2 3) ∷ [] }
+    ensures whole_still { is_whole (copy (at 1 2) (at 2 3)) two_writes ≡ true }
+    ensures goes_further { is_whole (copy (at 1 1) (at 2 4)) two_writes ≡ false }
+    ensures begins_earlier { let first = modify (codes "z") (at 1 1) in
+        log_of (copy (at 0 0) (at 2 3)) (first ∷ two_writes) ≡ first ∷ two_writes }
+{}
+
 /// Of the entries with one number the last counts, and their order is free.
 pub fn entries_told_again()
     ensures last { let first = modify (codes "z") (at 1 3) in

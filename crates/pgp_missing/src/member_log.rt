@@ -14,8 +14,8 @@ use std::marker::Model;
 
 /// The log of a member, by its info and the entries that it reported.
 ///
-/// It keeps the last entry of each number. A log may span 2^32 numbers: time and memory go by the entries that were
-/// reported, and not by the numbers.
+/// It keeps the last entry of each number that was ever reported, also outside of the log, whose bounds another info may
+/// change. A log may span 2^32 numbers: memory goes by the entries that were reported, and time by those within the log.
 #[derive(Debug, Drop)]
 pub struct MemberLog {
     info: Info,
@@ -49,6 +49,14 @@ impl MemberLog {
         ensures err { OnErr result (self.new ≡ self.old) }
     {
         self.entries.put(entry)
+    }
+
+    /// Takes the info that the member sent last, which sets the bounds of its log. The entries that were added stay.
+    pub fn renew(&mut self, info: &Info)
+        ensures { (before : Info) (reported : List LogEntry)
+            → IsLogOf before reported self.old → IsLogOf info.now reported self.new }
+    {
+        self.info = *info;
     }
 
     /// The log is empty, or each of its numbers has an entry, the last is that of the member's last write, and epochs
