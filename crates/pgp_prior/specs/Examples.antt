@@ -1,13 +1,13 @@
 -- A group of an erasure pool with two data shards: in the epochs 1 and 2, in which it may have gone read-write, it lay on
 -- the devices 0, 1 and 2, and now it lies on 0, 3 and 4.
-use Rattle.std.specs.Prelude.{ℕ, zero, suc, List, [], ◌∷◌, Option, Some, true}
+use Rattle.std.specs.Prelude.{ℕ, zero, suc, List, [], ◌∷◌, Option, Some, true, nat_lt, if◌then◌else◌}
 use Rattle.pgp_ids.specs.Osds.{first_osd}
 use Rattle.pgp_ids.specs.declared.member.Member.{Member}
 use Rattle.pgp_ids.specs.declared.membership.Membership.{Membership}
 use Rattle.pgp_ids.specs.declared.past.Past.{Past}
 use Rattle.pgp_code.specs.Enough.{enough_shards}
 use Rattle.pgp_sets.specs.declared.status.Status.{Status}
-use Rattle.pgp_sets.specs.declared.status.Status.TheVariants.{Up}
+use Rattle.pgp_sets.specs.declared.status.Status.TheVariants.{Up, Lost, Down}
 use Rattle.pgp_prior.specs.declared.prior_set.Prior.{Prior}
 use Rattle.pgp_prior.specs.Prior.{prior_set}
 
@@ -39,6 +39,10 @@ with_statuses one two _ first = Up
 -- the prior set of the group, where 1 and 2 have these statuses and the group last began to serve in epoch `les`
 abbrev pub prior_with : Status → Status → ℕ → Prior
 prior_with one two les = prior_set (enough_shards 2) true (with_statuses one two) les (lay_on ∷ []) lies_on
+
+-- the status of a device that isn't up and was given up for lost at the epoch `lost`, for an interval that began at `first`
+abbrev pub lost_at : ℕ → ℕ → Status
+lost_at lost first = if nat_lt first lost then Lost else Down
 
 abbrev pub in_slot : ℕ → ℕ → Member
 in_slot osd slot = record { osd = osd; slot = slot }

@@ -3,4 +3,10 @@ pub mod Members
 pub mod Blocks
 pub mod Prior
 pub mod Better
+pub mod Changes
+pub mod Told
+pub mod Kept
+pub mod KeptLists
+pub mod Places
+pub mod IndexOf
 pub mod Examples

@@ -33,7 +33,7 @@ pub fn blocked_by<R: Recoverable, S: StatusOf>(
 }
 
 /// Adds the acting devices of the interval that are down.
-fn add_down<S: StatusOf>(
+pub fn add_down<S: StatusOf>(
     list: &mut Vec<OsdId>,
     by_place: bool,
     statuses: &S,

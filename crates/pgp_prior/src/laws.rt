@@ -8,8 +8,9 @@ ghost use Rattle.pgp_sets.specs.declared.status.Status.{Status};
 ghost use Rattle.pgp_sets.specs.declared.status.Status.TheVariants.{Up, Gone, Lost, Down};
 ghost use Rattle.pgp_lists.specs.Ordered.{IsAscending};
 ghost use Rattle.pgp_prior.specs.Prior.{probe, blocked_by, is_group_down, IsBlocking, IsProbed};
-ghost use Rattle.pgp_prior.specs.Better.{IsNoWorse};
-ghost use Rattle.pgp_prior.specs.Examples.{prior_with, in_slot};
+ghost use Rattle.pgp_prior.specs.Better.{is_no_worse, IsNoWorse};
+ghost use Rattle.pgp_prior.specs.Changes.{is_no_better, is_same_or_gone, IsNoBetter};
+ghost use Rattle.pgp_prior.specs.Examples.{prior_with, lost_at, in_slot};
 
 use pgp_code::Recoverable;
 
@@ -56,6 +57,14 @@ pub fn better_statuses_never_block<R: Recoverable>()
         → is_group_down (R.enough code) (R.by_place code) new les past ≡ false }
 {}
 
+/// A group that is down stays so where devices go down, are destroyed, or count as lost no more, unless one that was waited
+/// for is destroyed.
+pub fn worse_statuses_never_relieve<R: Recoverable>()
+    ensures { (code : R) (old new : ℕ → ℕ → Status) (les : ℕ) (past : List Past) → IsNoBetter old new
+        → is_group_down (R.enough code) (R.by_place code) old les past ≡ true
+        → is_group_down (R.enough code) (R.by_place code) new les past ≡ true }
+{}
+
 /// One shard of three is at hand, the two others may come back: the group waits for both.
 pub fn two_shards_down()
     ensures down { (prior_with Down Down 2).down ≡ true }
@@ -92,4 +101,24 @@ pub fn shard_back_up()
     ensures down { (prior_with Up Down 0).down ≡ false }
     ensures probe { (prior_with Up Down 0).probe
         ≡ in_slot 0 0 ∷ in_slot 1 1 ∷ in_slot 3 1 ∷ in_slot 4 2 ∷ [] }
+{}
+
+/// A shard that was given up for lost at epoch 2, after the interval began, is not waited for. Once it counts as lost at
+/// epoch 1 alone it is down again, which is worse, and the group waits for both shards.
+pub fn a_lost_shard_counts_as_lost_no_more()
+    ensures lost { (prior_with (lost_at 2 1) Down 0).down ≡ false }
+    ensures lowered { (prior_with (lost_at 1 1) Down 0).down ≡ true }
+    ensures blocked_by { (prior_with (lost_at 1 1) Down 0).blocked_by ≡ 1 ∷ 2 ∷ [] }
+    ensures worse { is_no_better (lost_at 2 1) (lost_at 1 1) ≡ true }
+    ensures not_better { is_no_worse (lost_at 2 1) (lost_at 1 1) ≡ false }
+{}
+
+/// A lost shard that is destroyed can make a group down, and the last one waited for that is destroyed makes it not down: so
+/// that change is neither better nor worse.
+pub fn destroyed_shards()
+    ensures lost { (prior_with Lost Down 0).down ≡ false }
+    ensures lost_gone { (prior_with Gone Down 0).down ≡ true }
+    ensures both_gone { (prior_with Gone Gone 0).down ≡ false }
+    ensures down_gone { is_no_worse Down Gone ≡ false }
+    ensures allowed { is_same_or_gone Down Gone ≡ true }
 {}

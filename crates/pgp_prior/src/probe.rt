@@ -36,7 +36,7 @@ pub fn probe<S: StatusOf>(
 }
 
 /// Adds the members of a list of devices.
-fn add_members(list: &mut Vec<Member>, by_place: bool, osds: &Osds) -> Result<(), AllocError>
+pub fn add_members(list: &mut Vec<Member>, by_place: bool, osds: &Osds) -> Result<(), AllocError>
     requires { IsAscending is_before list.old.items }
     ensures { OnOk result (list.new.items ≡ with_items is_before (members_of by_place osds.now) list.old.items) }
 {
@@ -47,7 +47,7 @@ fn add_members(list: &mut Vec<Member>, by_place: bool, osds: &Osds) -> Result<()
 }
 
 /// Adds the acting members of the interval that are up.
-fn add_up<S: StatusOf>(
+pub fn add_up<S: StatusOf>(
     list: &mut Vec<Member>,
     by_place: bool,
     statuses: &S,

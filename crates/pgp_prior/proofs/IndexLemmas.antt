@@ -1,0 +1,125 @@
+-- The index stays that of its group.
+use Rattle.std.proofs.Common.{◌≡◌, ◌⊎◌, ◌≤◌, ℕ, zero, suc, List, [], ◌∷◌, ◌++◌, Some, Bool, true, false, not, ◌&&◌, nat_le, length, map, slice_get, refl, sym, ap, ◌∙◌, subst, inl, inr, arith}
+use Rattle.std.specs.List.{Contains, filter, flat_map}
+use Rattle.std.proofs.lemmas.Bool.{cases_Bool}
+use Rattle.std.proofs.lemmas.Bool.Decides.{nat_tests}
+use Rattle.pgp_ids.specs.declared.member.Member.{Member}
+use Rattle.pgp_ids.specs.declared.past.Past.{Past}
+use Rattle.pgp_lists.proofs.Members.{Contains-here, Contains-later, Contains-cases, Contains-nil, append-contains, map-contains}
+use Rattle.pgp_sets.specs.declared.status.Status.{Status}
+use Rattle.pgp_prior.specs.declared.kept.Kept.{Kept}
+use Rattle.pgp_prior.specs.Members.{members_of}
+use Rattle.pgp_prior.specs.Blocks.{is_up, is_down, matters, acting_where, down_osds, settled_slots, has_down, blocks}
+use Rattle.pgp_prior.specs.Kept.{IsKept, past_of, later_les, EachKept}
+use Rattle.pgp_prior.specs.KeptLists.{kept_status, does_matter, does_block, up_of, down_of}
+use Rattle.pgp_prior.specs.IndexOf.{HasEachPlace}
+use Rattle.pgp_prior.proofs.ToldLemmas.{told_or_gone-is}
+
+-- ---- a later epoch in which the group last began to serve
+
+matters_later : (rw short down : Bool) (les later last : ℕ) → les ≤ later → ((rw && nat_le les last) && short && down) && (rw && nat_le later last) ≡ (rw && nat_le later last) && short && down
+matters_later false short down les later last rises = refl
+matters_later true short down les later last rises = elim (cases_Bool (nat_le later last)) [
+  | inl long ↦
+      let first : nat_le les last ≡ true = grind (arith, nat_tests) in
+      rw (long, first) (and_true (short && down))
+  | inr ended ↦ rw ended (and_false ((nat_le les last && short) && down))
+]
+  where
+    and_true : (b : Bool) → (b && true) ≡ b
+    and_true true = refl
+    and_true false = refl
+
+    and_false : (b : Bool) → (b && false) ≡ false
+    and_false true = refl
+    and_false false = refl
+
+module _ (enough : List ℕ → Bool) (by_place : Bool) (status : ℕ → ℕ → Status) where
+  pub kept-later : (les later : ℕ) (kept : Kept) → les ≤ later → IsKept enough by_place status les kept → IsKept enough by_place status later (later_les later kept)
+  kept-later les later kept rises is =
+      record {
+        statuses_are = is.statuses_are;
+        blocks_is =
+            ap (λ (b : Bool). b && matters later kept.past) is.blocks_is
+            ∙ matters_later kept.past.rw (not (enough (settled_slots by_place status kept.past))) (has_down by_place status kept.past) les later kept.past.last rises;
+      }
+
+  pub each-later : (les later : ℕ) (past : List Kept) → les ≤ later → EachKept enough by_place status les past → EachKept enough by_place status later (map (later_les later) past)
+  each-later les later past rises each kept in' =
+      let found = map-contains (later_les later) past kept in' in
+      subst (IsKept enough by_place status later) found.1.1 (kept-later les later found.0 rises (each found.0 found.1.0))
+
+  pub each-more : (les : ℕ) (past : List Kept) (last : Kept) → EachKept enough by_place status les past → IsKept enough by_place status les last → EachKept enough by_place status les (past ++ last ∷ [])
+  each-more les past last each is kept in' = elim (append-contains past (last ∷ []) kept in') [
+    | inl before ↦ each kept before
+    | inr there ↦ elim (Contains-cases last [] kept there) [
+      | inl same ↦ subst (IsKept enough by_place status les) same is
+      | inr none ↦ absurd (Contains-nil kept none)
+    ]
+  ]
+
+pub pasts-later : (later : ℕ) (past : List Kept) → map past_of (map (later_les later) past) ≡ map past_of past
+pasts-later later [] = refl
+pasts-later later (kept ∷ past) = ap (λ rest. kept.past ∷ rest) (pasts-later later past)
+
+-- ---- the places of the intervals
+
+get-snoc : {X : Type 0} (xs : List X) (x y : X) (k : ℕ) → slice_get (xs ++ x ∷ []) k ≡ Some y → (slice_get xs k ≡ Some y) ⊎ ((k ≡ length xs) × (x ≡ y))
+get-snoc [] x y zero is = inr (refl, cc)
+get-snoc [] x y (suc k) is = cc
+get-snoc (z ∷ xs) x y zero is = inl is
+get-snoc (z ∷ xs) x y (suc k) is = elim (get-snoc xs x y k is) [
+  | inl before ↦ inl before
+  | inr last ↦ inr (ap suc last.0, last.1)
+]
+
+module _ (by_place : Bool) (past : List Past) where
+  pub places-more : (interval : Past) (places more : ℕ → List ℕ) (place : ℕ) → place ≡ length past → HasEachPlace by_place past places → ((q at : ℕ) → Contains (places q) at → Contains (more q) at) → ((member : Member) → Contains (members_of by_place interval.members.acting) member → Contains (more member.osd) place) → HasEachPlace by_place (past ++ interval ∷ []) more
+  places-more interval places more place last has keeps added at p member is in' = elim (get-snoc past interval p at is) [
+    | inl before ↦ keeps member.osd at (has at p member before in')
+    | inr here ↦ subst (Contains (more member.osd)) (last ∙ sym here.0) (added member (subst (λ (q : Past). Contains (members_of by_place q.members.acting) member) (sym here.1) in'))
+  ]
+
+  pub places-kept : (places more : ℕ → List ℕ) → HasEachPlace by_place past places → ((q at : ℕ) → Contains (places q) at → Contains (more q) at) → HasEachPlace by_place past more
+  places-kept places more has keeps at p member is in' = keeps member.osd at (has at p member is in')
+
+-- ---- the two lists
+
+filter-same : {X : Type 0} (test other : X → Bool) (xs : List X) → ((x : X) → Contains xs x → test x ≡ other x) → filter test xs ≡ filter other xs
+filter-same test other [] same = refl
+filter-same test other (x ∷ xs) same =
+    let first : test x ≡ other x = same x (Contains-here x xs) in
+    let rest : filter test xs ≡ filter other xs = filter-same test other xs (λ y in'. same y (Contains-later x xs y in')) in
+    elim (cases_Bool (other x)) [
+      | inl passes ↦ let also : test x ≡ true = first ∙ passes in rw (also, passes) (ap (λ ys. x ∷ ys) rest)
+      | inr fails ↦ let also : test x ≡ false = first ∙ fails in rw (also, fails) rest
+    ]
+
+-- a walk over intervals that are kept is one over the intervals
+walk-same : {X Y Z : Type 0} (of : X → Y) (test : X → Bool) (other : Y → Bool) (read : X → List Z) (reads : Y → List Z) (xs : List X) → ((x : X) → Contains xs x → test x ≡ other (of x)) → ((x : X) → Contains xs x → read x ≡ reads (of x)) → flat_map read (filter test xs) ≡ flat_map reads (filter other (map of xs))
+walk-same of test other read reads [] same alike = refl
+walk-same of test other read reads (x ∷ xs) same alike =
+    let first : test x ≡ other (of x) = same x (Contains-here x xs) in
+    let rest = walk-same of test other read reads xs (λ y in'. same y (Contains-later x xs y in')) (λ y in'. alike y (Contains-later x xs y in')) in
+    elim (cases_Bool (other (of x))) [
+      | inl passes ↦
+          let also : test x ≡ true = first ∙ passes in
+          rw (also, passes, alike x (Contains-here x xs)) (ap (λ ys. reads (of x) ++ ys) rest)
+      | inr fails ↦ let also : test x ≡ false = first ∙ fails in rw (also, fails) rest
+    ]
+
+module _ (enough : List ℕ → Bool) (by_place : Bool) (status : ℕ → ℕ → Status) (les : ℕ) where
+  acting-same : (test : Status → Bool) (kept : Kept) → IsKept enough by_place status les kept → acting_where test by_place (kept_status kept) kept.past ≡ acting_where test by_place status kept.past
+  acting-same test kept is =
+      filter-same _ _ (members_of by_place kept.past.members.acting)
+      (λ m in'. ap test (told_or_gone-is kept.statuses.known.items m.osd _ (is.statuses_are m in')))
+
+  pub ups-same : (past : List Kept) → EachKept enough by_place status les past → flat_map (up_of by_place) (filter (does_matter les) past) ≡ flat_map (acting_where is_up by_place status) (filter (matters les) (map past_of past))
+  ups-same past each =
+      walk-same past_of (does_matter les) (matters les) (up_of by_place) (acting_where is_up by_place status) past
+      (λ kept in'. refl) (λ kept in'. acting-same is_up kept (each kept in'))
+
+  pub downs-same : (past : List Kept) → EachKept enough by_place status les past → flat_map (down_of by_place) (filter does_block past) ≡ flat_map (down_osds by_place status) (filter (blocks enough by_place status les) (map past_of past))
+  downs-same past each =
+      walk-same past_of does_block (blocks enough by_place status les) (down_of by_place) (down_osds by_place status) past
+      (λ kept in'. (each kept in').blocks_is) (λ kept in'. ap (map (λ (m : Member). m.osd)) (acting-same is_down kept (each kept in')))
