@@ -5,6 +5,15 @@ use pgp_text::{Command, read_line};
 use std::alloc::Global;
 use std::test::Fail;
 
+/// Pool 1 of three copies over the devices 0, 1 and 2, of which device 0 alone has weight; pg_temp puts its one group on
+/// all three.
+pub const COPIES: &str =
+    r#"{"op":"inc","epoch":1,"up":[0,1,2],"weight":[[1,0],[2,0]],"crush":[{"id":-1,"type":1,"alg":"uniform","items":[0,1,2]}],"pools":[{"id":1,"pg_num":1,"kind":"replicated","size":3,"min_size":2,"leaf":0}],"temp":[[1,0,[0,1,2]]]}"#;
+
+/// Pool 1 of two data shards and one more over six devices without weight; pg_temp puts its one group on the first three.
+pub const SHARDS: &str =
+    r#"{"op":"inc","epoch":1,"up":[0,1,2,3,4,5],"weight":[[0,0],[1,0],[2,0],[3,0],[4,0],[5,0]],"crush":[{"id":-1,"type":1,"alg":"uniform","items":[0,1,2,3,4,5]}],"pools":[{"id":1,"pg_num":1,"kind":"erasure","k":2,"size":3,"min_size":2,"leaf":0}],"temp":[[1,0,[0,1,2]]]}"#;
+
 /// The list of these devices; a number out of range is an empty place.
 pub fn places(numbers: &[u16]) -> Osds {
     let mut places = Osds::new();
@@ -22,16 +31,17 @@ pub fn group() -> Result<PgId, Fail> {
     Ok(PgId { pool, pg: 0 })
 }
 
-/// The incremental that the line is.
-pub fn incremental(alloc: Global, line: &str) -> Option<Incremental> {
+/// The entry that the line is.
+pub fn entry(alloc: Global, line: &str) -> Option<Entry> {
     match read_line(alloc, line.as_bytes()).ok()? {
-        Command::Submit(entry) => incremental_of(entry),
+        Command::Submit(entry) => Some(entry),
         _other => None,
     }
 }
 
-fn incremental_of(entry: Entry) -> Option<Incremental> {
-    match entry {
+/// The incremental that the line is.
+pub fn incremental(alloc: Global, line: &str) -> Option<Incremental> {
+    match entry(alloc, line)? {
         Entry::Inc(inc) => Some(inc),
         _other => None,
     }

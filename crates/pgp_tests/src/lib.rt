@@ -9,6 +9,8 @@ mod codes;
 #[cfg(test)]
 mod fixtures;
 #[cfg(test)]
+mod groups;
+#[cfg(test)]
 mod hashes;
 #[cfg(test)]
 mod infos;

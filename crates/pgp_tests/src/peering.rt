@@ -1,7 +1,7 @@
 //! What the maps of a list of incrementals say of a placement group: its intervals, its prior sets and the statuses of its
 //! devices.
 
-use super::fixtures::{group, incremental};
+use super::fixtures::{COPIES, SHARDS, group, incremental};
 use super::prior_sets::told;
 use pgp_code::AnyCode;
 use pgp_ids::{Epoch, EpochState, Membership, OsdId, PgId, PrimaryFacts, Seq};
@@ -13,18 +13,9 @@ use pgp_text::{Reply, write_reply};
 use std::alloc::{AllocError, Global};
 use std::test::Fail;
 
-/// Pool 1 of three copies over the devices 0, 1 and 2, of which device 0 alone has weight; pg_temp puts its one group on
-/// all three.
-const COPIES: &str =
-    r#"{"op":"inc","epoch":1,"up":[0,1,2],"weight":[[1,0],[2,0]],"crush":[{"id":-1,"type":1,"alg":"uniform","items":[0,1,2]}],"pools":[{"id":1,"pg_num":1,"kind":"replicated","size":3,"min_size":2,"leaf":0}],"temp":[[1,0,[0,1,2]]]}"#;
-
-/// The same without pg_temp.
+/// [`COPIES`] without pg_temp.
 const WITHOUT_TEMP: &str =
     r#"{"op":"inc","epoch":1,"up":[0,1,2],"weight":[[1,0],[2,0]],"crush":[{"id":-1,"type":1,"alg":"uniform","items":[0,1,2]}],"pools":[{"id":1,"pg_num":1,"kind":"replicated","size":3,"min_size":2,"leaf":0}]}"#;
-
-/// Pool 1 of two data shards and one more over six devices without weight; pg_temp puts its one group on the first three.
-const SHARDS: &str =
-    r#"{"op":"inc","epoch":1,"up":[0,1,2,3,4,5],"weight":[[0,0],[1,0],[2,0],[3,0],[4,0],[5,0]],"crush":[{"id":-1,"type":1,"alg":"uniform","items":[0,1,2,3,4,5]}],"pools":[{"id":1,"pg_num":1,"kind":"erasure","k":2,"size":3,"min_size":2,"leaf":0}],"temp":[[1,0,[0,1,2]]]}"#;
 
 /// The map with one incremental more.
 fn grow(alloc: Global, map: &mut OsdMap, line: &str) -> Result<(), Fail> {

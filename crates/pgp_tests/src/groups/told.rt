@@ -1,0 +1,167 @@
+//! A group that is followed from entry to entry. Where a call finds no memory it is made once more, so that a run in which
+//! one allocation is refused gives the answer of one in which none is.
+
+ghost use Rattle.std.specs.Prelude.{◌≡◌, [], ◌∷◌, List, None, IfOk, OnOk};
+ghost use Rattle.pgp_ids.specs.declared.incremental.Incremental.{Incremental as AnyIncremental};
+ghost use Rattle.pgp_map.specs.MapFault.{map_fault, given_fault, then_with};
+ghost use Rattle.pgp_map.specs.MapOf.{IsMapOf, Says};
+ghost use Rattle.pgp_map.specs.Pools.{has_group};
+ghost use Rattle.pgp_group.specs.Entries.{inc_of};
+ghost use Rattle.pgp_group.specs.GroupHistory.{makes};
+ghost use Rattle.pgp_tests.specs.Told.{AreTold, IsNext, TakesMap, TakesReport};
+
+use crate::fixtures::{entry, group, incremental};
+use pgp_group::Group;
+use pgp_group::laws::growth::{
+    checked_incrementals_are_numbered, history_begins_with_its_pool, the_next_map_follows,
+};
+use pgp_ids::{Entry, Incremental, PgId};
+use pgp_map::laws::{checked_lists_grow_by_incrementals_without_fault, pools_of_checked_lists};
+use pgp_map::{MapFault, OsdMap};
+use pgp_text::{Reply, write_reply};
+use std::alloc::{AllocError, Global};
+use std::test::Fail;
+
+/// A group, and the map twice: each incremental is applied to `after`, shown to the group, and applied to `before`.
+#[derive(Drop)]
+pub struct Told {
+    before: OsdMap,
+    after: OsdMap,
+    group: Group,
+}
+
+impl Told {
+    /// The group after the incremental that makes its pool.
+    pub fn begin(alloc: Global, line: &str) -> Result<Told, Fail>
+        ensures { IfOk result (λ told. AreTold told.before told.after told.group) }
+    {
+        checked_incrementals_are_numbered();
+        history_begins_with_its_pool();
+        checked_lists_grow_by_incrementals_without_fault();
+        pools_of_checked_lists();
+        let pg = group()?;
+        let inc = incremental(alloc, line).or_else(|| incremental(alloc, line));
+        let inc = inc.ok_or("no incremental")?;
+        let before = first_map(alloc, &inc)?;
+        let after = first_map(alloc, &inc)?;
+        if !makes(&inc, &pg) {
+            return Err(Fail::new("no such pool"));
+        }
+        if !has_group(&after, &pg) {
+            return Err(Fail::new("no such group"));
+        }
+        let group = Group::begin(alloc, &after, pg);
+        Ok(Told {
+            before,
+            after,
+            group,
+        })
+    }
+
+    /// Takes the entry that the line is.
+    pub fn take(&mut self, alloc: Global, line: &str) -> Result<(), Fail>
+        requires { AreTold self.old.before self.old.after self.old.group }
+        ensures { OnOk result (AreTold self.new.before self.new.after self.new.group) }
+    {
+        let told = entry(alloc, line).or_else(|| entry(alloc, line));
+        match told.ok_or("no entry")? {
+            Entry::Inc(inc) => self.take_inc(&inc),
+            other => self.take_report(&other),
+        }
+    }
+
+    fn take_inc(&mut self, inc: &Incremental) -> Result<(), Fail>
+        requires { AreTold self.old.before self.old.after self.old.group }
+        ensures { OnOk result (AreTold self.new.before self.new.after self.new.group) }
+    {
+        checked_lists_grow_by_incrementals_without_fault();
+        check(&self.after, inc)?;
+        apply(&mut self.after, inc)?;
+        absorb_map(&mut self.group, &self.before, &self.after)?;
+        apply(&mut self.before, inc)?;
+        Ok(())
+    }
+
+    fn take_report(&mut self, entry: &Entry) -> Result<(), Fail>
+        requires told { AreTold self.old.before self.old.after self.old.group }
+        requires report { inc_of entry.now ≡ None }
+        ensures { OnOk result (AreTold self.new.before self.new.after self.new.group) }
+    {
+        absorb_report(&mut self.group, entry)?;
+        Ok(())
+    }
+
+    /// What is answered of the group after so many entries.
+    pub fn answer(&self, alloc: Global, count: usize) -> Result<Vec<u8>, Fail> {
+        let view = self.group.view(&self.after, count);
+        let view = view.or_else(|_| self.group.view(&self.after, count))?;
+        let reply = Reply::Asked(group()?, view);
+        let text = write_reply(alloc, &reply);
+        Ok(text.or_else(|_| write_reply(alloc, &reply))?)
+    }
+}
+
+/// The map of the first incremental.
+fn first_map(alloc: Global, inc: &Incremental) -> Result<OsdMap, Fail>
+    ensures fine { OnOk result (map_fault [] inc.now ≡ None) }
+    ensures map { IfOk result (IsMapOf (inc.now ∷ [])) }
+{
+    let mut map = OsdMap::empty(alloc);
+    check(&map, inc)?;
+    apply(&mut map, inc)?;
+    Ok(map)
+}
+
+fn check(map: &OsdMap, inc: &Incremental) -> Result<(), MapFault>
+    ensures fine { OnOk result (Says map.now (λ incs. map_fault incs inc.now ≡ None)) }
+    ensures tree { OnOk result (given_fault inc.now.crush ≡ None) }
+{
+    match map.check(inc) {
+        Ok(()) => Ok(()),
+        Err(_) => map.check(inc),
+    }
+}
+
+fn apply(map: &mut OsdMap, inc: &Incremental) -> Result<(), AllocError>
+    requires { given_fault inc.now.crush ≡ None }
+    ensures { OnOk result (Says map.old (λ incs. map_fault incs inc.now ≡ None → IsMapOf (then_with incs inc.now) map.new)) }
+{
+    match map.apply(inc) {
+        Ok(()) => Ok(()),
+        Err(_) => map.apply(inc),
+    }
+}
+
+fn absorb_map(group: &mut Group, before: &OsdMap, after: &OsdMap) -> Result<(), AllocError>
+    requires { IsNext before.now after.now group.old }
+    ensures { OnOk result (TakesMap before.now after.now group.old group.new) }
+{
+    the_next_map_follows();
+    match group.absorb_map(before, after) {
+        Ok(()) => Ok(()),
+        Err(_) => group.absorb_map(before, after),
+    }
+}
+
+fn absorb_report(group: &mut Group, entry: &Entry) -> Result<(), AllocError>
+    ensures { OnOk result (TakesReport entry.now group.old group.new) }
+{
+    match group.absorb_report(entry) {
+        Ok(()) => Ok(()),
+        Err(_) => group.absorb_report(entry),
+    }
+}
+
+/// The incremental makes the group's pool.
+fn makes(inc: &Incremental, pg: &PgId) -> bool
+    ensures { result ≡ makes pg.now.pool inc.now }
+{
+    inc.pools.as_slice().iter().any(|made| made.id == pg.pool)
+}
+
+/// The map has the group.
+fn has_group(map: &OsdMap, pg: &PgId) -> bool
+    ensures { (incs : List AnyIncremental) → IsMapOf incs map.now → result ≡ has_group incs pg.now }
+{
+    map.pool(pg.pool).is_some_and(|pool| pg.pg < pool.pg_num)
+}
