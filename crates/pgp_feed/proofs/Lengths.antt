@@ -1,10 +1,10 @@
 -- How long a legal log is: beyond its 65,535 entries a log takes a Close alone.
-use Rattle.std.proofs.Common.{◌≡◌, ◌≤◌, List, [], ◌∷◌, ◌++◌, length, true, false, refl, ap, sym, ◌∙◌, subst, arith, append_assoc, length-append}
+use Rattle.std.proofs.Common.{◌≡◌, ◌≤◌, List, [], ◌∷◌, ◌++◌, length, None, true, false, refl, ap, sym, ◌∙◌, subst, arith, append_assoc, length-append}
 use Rattle.std.proofs.lemmas.List.{append-nil}
 use Rattle.pgp_ids.specs.declared.entry.Entry.{Entry}
-use Rattle.pgp_log.specs.Fits.{is_closed}
+use Rattle.pgp_log.specs.Fits.{is_closed, fits}
 use Rattle.pgp_log.specs.Log.{is_legal}
-use Rattle.pgp_log.proofs.LogLemmas.{front-legal, legal-last}
+use Rattle.pgp_log.proofs.LogLemmas.{front-legal, legal-last, legal-snoc}
 use Rattle.pgp_log.proofs.TakeLemmas.{fits-open_log, closed-push, room-push}
 
 pub legal-empty : is_legal [] ≡ true
@@ -26,3 +26,8 @@ short done (x ∷ rest) legal opened few =
 
 pub legal-short : (log : List Entry) → is_legal log ≡ true → length log ≤ 65536
 legal-short log legal = short [] log legal (λ _. omega arith) (omega arith)
+
+-- a legal log that takes one more entry has room for it
+pub legal-room : (log : List Entry) (new : Entry) → is_legal log ≡ true → fits log new ≡ None → length log ≤ 65535
+legal-room log new legal fit =
+    omega (arith, legal-short (log ++ new ∷ []) (legal-snoc log new legal fit), length-append log (new ∷ []))

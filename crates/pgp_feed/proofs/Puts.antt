@@ -6,7 +6,7 @@ use Rattle.pgp_feed.specs.declared.receipt.Receipt.{Receipt}
 use Rattle.pgp_feed.specs.declared.store.Store.{Store}
 use Rattle.pgp_feed.specs.declared.store.Content.{Content}
 use Rattle.pgp_feed.specs.declared.store.Operation.{Operation}
-use Rattle.pgp_feed.specs.declared.store.Operation.TheVariants.{Rest, Put}
+use Rattle.pgp_feed.specs.declared.store.Operation.TheVariants.{Skip, Put}
 use Rattle.pgp_feed.specs.Receipts.{entries_of, Holds}
 use Rattle.pgp_feed.specs.Stores.{content_of, applied}
 use Rattle.pgp_feed.specs.OneLog.{IsOneLog, SeesTold}
@@ -15,19 +15,19 @@ use Rattle.pgp_feed.proofs.Views.{holds_self, turns}
 
 pub put_told : (c : Content) (next : Receipt) (ops : List Operation) → IsPut c.told next ops → (fold applied c ops).told ≡ next
 put_told c next [] put = sym put
-put_told c next (Rest ∷ ops) put = put_told c next ops put
+put_told c next (Skip ∷ ops) put = put_told c next ops put
 put_told c next (Put entry named ∷ []) put = put.1
 put_told c next (Put entry named ∷ (o ∷ ops)) put = absurd (cc (put.0))
 
 put_entries : (c : Content) (next : Receipt) (ops : List Operation) → IsPut c.told next ops → c.entries ≡ entries_of c.told → (fold applied c ops).entries ≡ entries_of next
 put_entries c next [] put is = is ∙ ap entries_of (sym put)
-put_entries c next (Rest ∷ ops) put is = put_entries c next ops put is
+put_entries c next (Skip ∷ ops) put is = put_entries c next ops put is
 put_entries c next (Put entry named ∷ []) put is = ap (λ l. l ++ arc_value entry ∷ []) is ∙ sym (put.3)
 put_entries c next (Put entry named ∷ (o ∷ ops)) put is = absurd (cc (put.0))
 
 put_holds : (c : Content) (next : Receipt) (ops : List Operation) → IsPut c.told next ops → Holds next c.told
 put_holds c next [] put = subst (λ (r : Receipt). Holds r c.told) (sym put) (holds_self c.told)
-put_holds c next (Rest ∷ ops) put = put_holds c next ops put
+put_holds c next (Skip ∷ ops) put = put_holds c next ops put
 put_holds c next (Put entry named ∷ ops) put = record { feed = sym (put.2); front = record { rest = arc_value entry ∷ []; whole = put.3 } }
 
 pub put_turns : (seat : ℕ) (v : Option Receipt) (x y : Store) (next : Receipt) (ops : List Operation) → IsPut x.told next ops

@@ -1,4 +1,7 @@
 //! The published value: the entries, each kept once and shared, and the receipt that names them.
+ghost use Rattle.std.specs.Prelude.{◌+◌, ◌≤◌, vec_capacity};
+ghost use Rattle.pgp_log.specs.Fits.{longest_log};
+
 use crate::receipt::Receipt;
 use pgp_ids::Entry;
 use std::sync::Arc;
@@ -6,11 +9,12 @@ use std::sync::Arc;
 mod absorb;
 mod read;
 
-/// What readers take.
+/// What readers take. It has room for the longest log: as many entries as a log takes, and a Close.
 #[derive(Drop)]
 pub struct Store {
     pub entries: Vec<Arc<Entry>>,
     pub told: Receipt,
+    ghost room: { longest_log + 1 ≤ vec_capacity entries },
 }
 
 /// What the two copies have in common. No value of it is made.
@@ -23,7 +27,7 @@ pub struct Content {
 #[derive(Drop)]
 pub enum Operation {
     /// Leaves the copy as it is.
-    Rest,
+    Skip,
     /// Adds an entry, with the receipt that names the log with it.
     Put(Arc<Entry>, Receipt),
 }

@@ -4,7 +4,7 @@ ghost use Rattle.left_right.specs.Sides.{view};
 ghost use Rattle.pgp_feed.specs.Receipts.{entries_of, feed_of};
 ghost use Rattle.pgp_feed.specs.Feeds.{told_of};
 ghost use Rattle.pgp_feed.specs.Taps.{last_of};
-ghost use Rattle.pgp_feed.specs.declared.store.Operation.TheVariants.{Rest};
+ghost use Rattle.pgp_feed.specs.declared.store.Operation.TheVariants.{Skip};
 
 use super::steps::shown;
 use super::{Feed, LogWriter};
@@ -13,18 +13,16 @@ use crate::receipt::Receipt;
 use crate::rule::Tells;
 use crate::store::{Operation, Store};
 use crate::tap::Tap;
+use pgp_log::LONGEST_LOG;
 use std::alloc::{AllocError, Global};
 use std::sync::Wait;
-
-// How many entries a log can have: 65,535, and a Close.
-const LONGEST: usize = 65_536;
 
 // A copy of the empty log, with room for the longest.
 fn reserved(alloc: Global, told: &Receipt) -> Result<Store, AllocError>
     ensures { IfOk result (λ store. (store.told ≡ told.now) × (store.entries.items ≡ [])) }
 {
     Ok(Store {
-        entries: Vec::with_capacity(alloc, LONGEST)?,
+        entries: Vec::with_capacity(alloc, LONGEST_LOG + 1)?,
         told: told.again(),
     })
 }
@@ -40,16 +38,16 @@ fn opened(alloc: Global, told: &Receipt, readers: usize) -> Result<LogWriter, Al
     LogWriter::new(alloc, first, second, readers)
 }
 
-// Has the queue of operations make room for two, which is all that it ever holds.
-fn rest_twice(writer: &mut LogWriter) -> Result<(), AllocError>
+// Makes room in the queue for two operations, as many as it holds from then on: the last that was shown, and the next.
+fn skip_twice(writer: &mut LogWriter) -> Result<(), AllocError>
     requires { drop writer.old.behind writer.old.log.items ≡ [] }
     ensures desk { writer.new.desk ≡ writer.old.desk }
-    ensures queued { OnOk result (drop writer.new.behind writer.new.log.items ≡ Rest ∷ Rest ∷ []) }
+    ensures queued { OnOk result (drop writer.new.behind writer.new.log.items ≡ Skip ∷ Skip ∷ []) }
 {
-    if writer.append(Operation::Rest).is_err() {
+    if writer.append(Operation::Skip).is_err() {
         return Err(AllocError);
     }
-    if writer.append(Operation::Rest).is_err() {
+    if writer.append(Operation::Skip).is_err() {
         return Err(AllocError);
     }
     Ok(())
@@ -63,11 +61,12 @@ impl Feed {
     {
         let (word, told) = Receipt::open();
         let mut writer = opened(alloc, &told, readers)?;
-        if rest_twice(&mut writer).is_err() {
+        if skip_twice(&mut writer).is_err() {
             writer.take(rt);
             return Err(AllocError);
         }
-        let writer = shown(rt, writer, &told);
+        // The first publish shows the two, the second empties the queue.
+        let writer = shown(rt, shown(rt, writer, &told), &told);
         Ok(Feed { word, told, writer })
     }
 

@@ -32,7 +32,8 @@ fn queued<R: Wait>(rt: &R, writer: LogWriter, operation: Operation) -> LogWriter
     unreachable!()
 }
 
-// Publishes what is queued. Both copies have room since the feed was made, so the first try does.
+// Publishes what is queued. Both copies have room for the longest log, so the first try does, unless an entry has too many
+// owners.
 pub(super) fn shown<R: Wait>(rt: &R, writer: LogWriter, told: &Receipt) -> LogWriter
     requires { IsPut writer.desk.shown.value.told told.now (drop writer.behind writer.log.items) }
     ensures told { result.desk.shown.value.told ≡ told.now }

@@ -1,6 +1,6 @@
 //! The one step that makes the log longer, and the log at its start.
-ghost use Rattle.std.specs.Prelude.{◌≡◌, [], ◌∷◌, ◌++◌, None, IfSome};
-ghost use Rattle.pgp_log.specs.Fits.{fits};
+ghost use Rattle.std.specs.Prelude.{◌≡◌, ◌≤◌, [], ◌∷◌, ◌++◌, None, length, IfSome};
+ghost use Rattle.pgp_log.specs.Fits.{fits, longest_log};
 ghost use Rattle.pgp_feed.specs.Book.{word_of};
 ghost use Rattle.pgp_feed.specs.Receipts.{entries_of, feed_of, IsWhole};
 
@@ -27,6 +27,7 @@ impl Receipt {
         requires word { word.now ≡ word_of (feed_of self.now) }
         requires whole { IsWhole self.now }
         requires fit { fits (entries_of self.now) entry.now ≡ None }
+        ensures room { IfSome result (λ r. length (entries_of self.now) ≤ longest_log) }
         ensures feed { IfSome result (λ r. feed_of r ≡ feed_of self.now) }
         ensures whole { IfSome result (λ r. IsWhole r) }
         ensures entries { IfSome result (λ r. entries_of r ≡ entries_of self.now ++ entry.now ∷ []) }

@@ -1,6 +1,7 @@
 //! What a receipt answers.
-ghost use Rattle.std.specs.Prelude.{◌≡◌, ◌≤◌, length, true, MatchBool};
+ghost use Rattle.std.specs.Prelude.{◌≡◌, ◌+◌, ◌≤◌, length, true, MatchBool};
 ghost use Rattle.std.specs.Ordering.{nat_cmp};
+ghost use Rattle.pgp_log.specs.Fits.{longest_log};
 ghost use Rattle.pgp_log.specs.Log.{is_legal, front, IsFrontOf};
 ghost use Rattle.pgp_feed.specs.Receipts.{entries_of, feed_of, Holds};
 
@@ -12,6 +13,7 @@ impl Receipt {
     pub fn len(&self) -> usize
         ensures length { result ≡ length (entries_of self.now) }
         ensures legal { is_legal (entries_of self.now) ≡ true }
+        ensures few { result ≤ longest_log + 1 }
     {
         self.len
     }
