@@ -1,20 +1,21 @@
 -- The answer to a line from what its buffer holds.
-use Rattle.std.proofs.Common.{◌≡◌, ℕ, ◌<◌, ◌≤◌, List, [], ◌∷◌, ◌++◌, Bool, Some, None, true, false, length, nat_lt, refl, sym, ap, ◌∙◌, subst, append-nil, arith}
+use Rattle.std.proofs.Common.{◌≡◌, ℕ, ◌<◌, ◌≤◌, List, [], ◌∷◌, ◌++◌, Bool, Some, None, true, false, length, nat_lt, refl, sym, ◌∙◌, subst, append-nil, arith}
 use Rattle.std.proofs.lemmas.Bool.Decides.{nat_tests}
 use Rattle.pgp_ids.specs.declared.entry.Entry.{Entry}
 use Rattle.std.specs.Prelude.{Result, Ok, Err, IfErr}
 use Rattle.pgp_text.specs.Command.{command_of}
 use Rattle.pgp_lines.specs.declared.command.Command.{Command}
 use Rattle.pgp_lines.specs.declared.command.Command.TheVariants.{Submit, Ask, Locate, Trace}
-use Rattle.pgp_core.specs.Wants.{want_of}
+use Rattle.pgp_core.specs.Wants.{want_of, LacksReply}
 use Rattle.pgp_core.specs.Answer.{line_text, long_text}
 use Rattle.pgp_core.specs.Lines.{is_blank}
 use Rattle.pgp_core.specs.Script.{longest_line, MayMeet}
 use Rattle.pgp_core.specs.Line.{KeptBy, Holds}
-use Rattle.pgp_core.specs.Told.{PutsText, PutsLine}
+use Rattle.pgp_core.specs.Told.{PutsText, PutsLine, MayLack}
 use Rattle.pgp_core.specs.declared.line.Fate.TheVariants.{Kept, TooLong, NoMemory}
 use Rattle.pgp_core.specs.declared.line.LineBuffer.{LineBuffer}
-use Rattle.pgp_core.specs.declared.want.Want.{Want}
+use Rattle.pgp_core.specs.declared.want.NoAnswer.{NoAnswer}
+use Rattle.pgp_core.specs.declared.want.NoAnswer.TheVariants.{Memory, Gone}
 use Rattle.pgp_core.specs.declared.want.Want.TheVariants.{Line}
 use Rattle.pgp_core.proofs.ToldLemmas.{by-itself}
 
@@ -80,31 +81,32 @@ line-meets line (Ask pg) some short reads = some
 line-meets line (Locate pool name) some short reads = some
 line-meets line (Trace code epochs) some short reads = some
 
--- what a line met, from what its command met
-pub wants-of : {T : Type 0} (r : Result T Want) (line : List ℕ) (command : Command) → command_of line ≡ Ok command → IfErr r (λ want. want ≡ want_of command)
-    → IfErr r (λ want. 0 < length line → length line ≤ longest_line → MayMeet (Some want) line)
-wants-of (Ok x) line command reads is = tt
-wants-of (Err want) line command reads is = λ some short. rw is (line-meets line command some short reads)
+-- what a line lacks, from what its command lacks
+pub lacks-of : {T : Type 0} (r : Result T NoAnswer) (alone : Bool) (line : List ℕ) (command : Command) → command_of line ≡ Ok command → IfErr r (LacksReply alone command)
+    → IfErr r (λ why. 0 < length line → length line ≤ longest_line → MayLack alone why line)
+lacks-of (Ok x) alone line command reads is = tt
+lacks-of (Err (Memory want)) alone line command reads is = λ some short. rw is (line-meets line command some short reads)
+lacks-of (Err Gone) alone line command reads is = λ some short. record { shared = is; short = short; command = command; reads = reads }
 
 -- what was short of memory for a line alone
-pub line-wants : {T : Type 0} (r : Result T Want) (line : List ℕ) → IfErr r (λ want. want ≡ Line)
-    → IfErr r (λ want. 0 < length line → length line ≤ longest_line → MayMeet (Some want) line)
-line-wants (Ok x) line is = tt
-line-wants (Err want) line is = λ some short. let may : MayMeet (Some Line) line = some in subst (λ w. MayMeet (Some w) line) (sym is) may
+pub line-lacks : {T : Type 0} (r : Result T NoAnswer) (alone : Bool) (line : List ℕ) → IfErr r (λ why. why ≡ Memory Line)
+    → IfErr r (λ why. 0 < length line → length line ≤ longest_line → MayLack alone why line)
+line-lacks (Ok x) alone line is = tt
+line-lacks (Err why) alone line is = λ some short. let may : MayLack alone (Memory Line) line = some in subst (λ w. MayLack alone w line) (sym is) may
 
-pub long-wants : {T : Type 0} (r : Result T Want) (buffer : LineBuffer) → buffer.blank ≡ false → IfErr r (λ want. want ≡ Line)
-    → IfErr r (λ want. (line : List ℕ) → Holds buffer line → MayMeet (Some want) line)
-long-wants (Ok x) buffer some is = tt
-long-wants (Err want) buffer some is =
-    λ line holds. let may : MayMeet (Some Line) line = has-byte buffer line holds some in subst (λ w. MayMeet (Some w) line) (sym is) may
+pub long-lacks : {T : Type 0} (r : Result T NoAnswer) (alone : Bool) (buffer : LineBuffer) → buffer.blank ≡ false → IfErr r (λ why. why ≡ Memory Line)
+    → IfErr r (λ why. (line : List ℕ) → Holds buffer line → MayLack alone why line)
+long-lacks (Ok x) alone buffer some is = tt
+long-lacks (Err why) alone buffer some is =
+    λ line holds. let may : MayLack alone (Memory Line) line = has-byte buffer line holds some in subst (λ w. MayLack alone w line) (sym is) may
 
-pub kept-wants : {T : Type 0} (r : Result T Want) (buffer : LineBuffer) → buffer.fate ≡ Kept → buffer.blank ≡ false
-    → IfErr r (λ want. 0 < length buffer.bytes.items → length buffer.bytes.items ≤ longest_line → MayMeet (Some want) buffer.bytes.items)
-    → IfErr r (λ want. (line : List ℕ) → Holds buffer line → MayMeet (Some want) line)
-kept-wants (Ok x) buffer fate some may = tt
-kept-wants (Err want) buffer fate some may =
+pub kept-lacks : {T : Type 0} (r : Result T NoAnswer) (alone : Bool) (buffer : LineBuffer) → buffer.fate ≡ Kept → buffer.blank ≡ false
+    → IfErr r (λ why. 0 < length buffer.bytes.items → length buffer.bytes.items ≤ longest_line → MayLack alone why buffer.bytes.items)
+    → IfErr r (λ why. (line : List ℕ) → Holds buffer line → MayLack alone why line)
+kept-lacks (Ok x) alone buffer fate some may = tt
+kept-lacks (Err why) alone buffer fate some may =
     λ line holds.
     let kept = kept-whole buffer line holds fate in
-    let meets : 0 < length line → length line ≤ longest_line → MayMeet (Some want) line =
-    subst (λ l. 0 < length l → length l ≤ longest_line → MayMeet (Some want) l) kept.0 may in
-    meets (has-byte buffer line holds some) kept.1
+    let lacks : 0 < length line → length line ≤ longest_line → MayLack alone why line =
+    subst (λ l. 0 < length l → length l ≤ longest_line → MayLack alone why l) kept.0 may in
+    lacks (has-byte buffer line holds some) kept.1

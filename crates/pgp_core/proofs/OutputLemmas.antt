@@ -2,6 +2,9 @@
 use Rattle.std.proofs.Common.{◌≡◌, ℕ, List, [], ◌++◌, Option, Some, None, refl, sym, ap, ◌∙◌, append_assoc, append-nil, take, drop, take-append-drop, subst, Result, Ok, Err, OnErr}
 use Rattle.std.specs.Io.KnownBytes.{Appends}
 use Rattle.pgp_core.specs.Output.{Went, FrontWent}
+use Rattle.pgp_core.specs.Telling.{WentBy}
+use Rattle.pgp_core.specs.declared.fault.AnswerFault.{AnswerFault}
+use Rattle.pgp_core.specs.declared.fault.AnswerFault.TheVariants.{Read, Write, Gone}
 
 Appends-nil : (a : Option (List ℕ)) → Appends a a []
 Appends-nil None = tt
@@ -81,6 +84,12 @@ FrontWent-pending a b c text pending before more = record {
     went = Appends-trans a b c before.out more.front.out before.went more.front.went;
   };
 }
+
+-- what was pending went out as far as the fault let it
+pub WentBy-pending : (fault : AnswerFault) (a b c : Option (List ℕ)) (text pending : List ℕ) → Went a b text pending → WentBy fault b c pending → WentBy fault a c text
+WentBy-pending Read a b c text pending before rest = Went-flushed a b c text pending before rest
+WentBy-pending Write a b c text pending before front = FrontWent-pending a b c text pending before front
+WentBy-pending Gone a b c text pending before rest = Went-flushed a b c text pending before rest
 
 pub on_err : {T E : Type 0} {P : Type 0} (r : Result T E) → P → OnErr r P
 on_err (Ok x) p = tt

@@ -1,6 +1,6 @@
 -- What a reply says of the log.
-use Rattle.std.proofs.Common.{◌≡◌, ◌≢◌, ℕ, List, [], ◌∷◌, ◌++◌, Bool, true, false, Option, Some, None, Result, Ok, Err, OnErr, refl, subst, sym, ap, ◌∙◌}
-use Rattle.std.specs.Prelude.{OnOk, IsOk, IfOk, IfSome}
+use Rattle.std.proofs.Common.{◌≡◌, ◌≢◌, ℕ, List, [], ◌∷◌, ◌++◌, Bool, true, false, Option, Some, None, Result, Ok, Err, refl, subst, sym, ap, ◌∙◌}
+use Rattle.std.specs.Prelude.{OnOk, IfSome}
 use Rattle.pgp_ids.specs.declared.entry.Entry.{Entry}
 use Rattle.pgp_refusals.specs.declared.refusal.Refusal.{Refusal}
 use Rattle.pgp_lines.specs.declared.command.Command.{Command}
@@ -36,23 +36,21 @@ stays-by alone before after command reply replies other =
     subst (MayAnswerBy alone before) (sym same) replies.may
 
 -- Where no answer could be put, no entry was taken: for that there was room.
-pub stays-unless-put : {T E : Type 0} (r : Result T E) (alone : Bool) (before after : List Entry) (command : Command) (reply : Reply) → Replies alone before after command reply
-    → (is_accepted reply ≡ true → IsOk r) → OnErr r (MayAnswerBy alone before after)
-stays-unless-put (Ok x) alone before after command reply replies sure = tt
-stays-unless-put (Err e) alone before after command reply replies sure = go (is_accepted reply) sure (stays-by alone before after command reply replies) where
+pub stays-unless-put : (alone : Bool) (before after : List Entry) (command : Command) (reply : Reply) → Replies alone before after command reply
+    → (is_accepted reply ≡ true → false ≡ true) → MayAnswerBy alone before after
+stays-unless-put alone before after command reply replies sure = go (is_accepted reply) sure (stays-by alone before after command reply replies) where
   go : (took : Bool) → (took ≡ true → false ≡ true) → (took ≡ false → MayAnswerBy alone before after) → MayAnswerBy alone before after
   go true sure stay = let no : false ≡ true = sure refl in cc
   go false sure stay = stay refl
 
-pub puts-reply : {T E : Type 0} (r : Result T E) (alone : Bool) (before after : List Entry) (command : Command) (reply : Reply) (old new : List ℕ) → Replies alone before after command reply
-    → OnOk r (new ≡ old ++ (reply_text reply ++ 10 ∷ [])) → OnOk r (PutsReply alone before after command old new)
-puts-reply (Ok x) alone before after command reply old new replies is = record {
+pub puts-reply : (alone : Bool) (before after : List Entry) (command : Command) (reply : Reply) (old new : List ℕ) → Replies alone before after command reply
+    → new ≡ old ++ (reply_text reply ++ 10 ∷ []) → PutsReply alone before after command old new
+puts-reply alone before after command reply old new replies is = record {
   by = replies.by;
   may = replies.may;
   text = is ∙ ap (λ a. old ++ (reply_text a ++ 10 ∷ [])) replies.is;
   log = replies.log;
 }
-puts-reply (Err e) alone before after command reply old new replies is = tt
 
 -- ---- lines
 
@@ -85,10 +83,3 @@ put-as-told faults.NoOp old new known is = is
 put-as-told (faults.UnknownKey key) old new known is = is
 put-as-told (faults.BadField key) old new known is = is
 put-as-told faults.Memory old new known is = absurd (known refl)
-
--- ---- the replies of one log, to which nobody else adds
-
-pub replies-alone : {E : Type 0} (r : Result Reply E) (before after : List Entry) (command : Command) → IfOk r (λ reply. reply ≡ reply_of before command)
-    → IfOk r (λ _. after ≡ log_after before command) → IfOk r (λ reply. Replies true before after command reply)
-replies-alone (Err e) before after command is goes = tt
-replies-alone (Ok reply) before after command is goes = record { by = before; may = refl; is = is; log = goes }

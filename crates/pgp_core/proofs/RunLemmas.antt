@@ -8,20 +8,21 @@ use Rattle.std.specs.List.{list_any}
 use Rattle.std.specs.Io.KnownBytes.{Appends}
 use Rattle.std.proofs.lemmas.List.{length-append}
 use Rattle.pgp_ids.specs.declared.entry.Entry.{Entry}
-use Rattle.pgp_core.specs.Lines.{Cut, is_line_feed, cut, last_line, lines_of}
+use Rattle.pgp_core.specs.Lines.{is_line_feed, cut, last_line, lines_of}
 use Rattle.pgp_core.specs.Line.{Holds}
 use Rattle.pgp_core.specs.Input.{HasRead}
 use Rattle.pgp_core.specs.Output.{FrontWent}
-use Rattle.pgp_core.specs.Script.{Within, lines_before_cut}
+use Rattle.pgp_core.specs.Script.{Within}
 use Rattle.pgp_core.specs.Run.{IsBeyond}
-use Rattle.pgp_core.specs.Telling.{Began, Puts, PutsFront, IsAfter, IsDone, WentBy, IsStopped, StopsIn, BrokenAtLast, whole_lines, Taken}
+use Rattle.pgp_core.specs.Told.{IsLeft}
+use Rattle.pgp_core.specs.Telling.{Began, Puts, PutsFront, StopsAt, IsAfter, IsDone, WentBy, IsStopped, StopsIn, StoppedAtLast, whole_lines, Taken}
 use Rattle.pgp_core.specs.declared.input.Bounds.{Bounds}
 use Rattle.pgp_core.specs.declared.input.Input.{Input}
 use Rattle.pgp_core.specs.declared.output.Output.{Output}
 use Rattle.pgp_core.specs.declared.script.Script.{Script}
-use Rattle.pgp_core.specs.declared.fault.ScriptFault.{ScriptFault}
-use Rattle.pgp_core.specs.declared.fault.ScriptFault.TheVariants.{Read, Write}
-use Rattle.pgp_core.proofs.OutputLemmas.{Went-none, Went-then, FrontWent-then, FrontWent-pending, Went-flushed}
+use Rattle.pgp_core.specs.declared.fault.AnswerFault.{AnswerFault}
+use Rattle.pgp_core.specs.declared.fault.AnswerFault.TheVariants.{Read, Write, Gone}
+use Rattle.pgp_core.proofs.OutputLemmas.{Went-none, Went-then, FrontWent-then, FrontWent-pending, Went-flushed, WentBy-pending}
 use Rattle.pgp_core.proofs.CutLemmas.{cut-goes, lines-closed, some-line}
 use Rattle.pgp_core.proofs.InputLemmas.{whole-piece, whole-feed}
 use Rattle.pgp_core.proofs.ToldLemmas.{told-push}
@@ -89,38 +90,79 @@ after-feed alone began script input output before after now new bytes step puts 
   text = Went-then began.written now new _ _ _ _ so_far.text puts.went;
 }
 
+-- the line that a line feed ends is the next of the lines, where the bounds allow it
+feed_of_cut : (began : Began) (input : Input) (bytes more : List ℕ) → 0 < input.left.lines → 0 < input.left.bytes → HasRead began.bounds input bytes
+    → (others : List (List ℕ)) × (whole_lines began (bytes ++ 10 ∷ more) ≡ ((cut bytes).whole ++ (cut bytes).rest ∷ []) ++ others)
+feed_of_cut began input bytes more room fits read =
+    let whole = whole-feed bytes in
+    let many : length (cut (bytes ++ 10 ∷ [])).whole ≡ length (cut bytes).whole + 1 = ap length whole ∙ length-append (cut bytes).whole ((cut bytes).rest ∷ []) in
+    let few_bytes : length (bytes ++ 10 ∷ []) ≤ began.bounds.bytes = omega (arith, read.bytes_left, length-append bytes (10 ∷ [])) in
+    let few_lines : length (cut (bytes ++ 10 ∷ [])).whole ≤ began.bounds.lines = omega (arith, many, read.lines_left) in
+    let goes = front_of_cut began (bytes ++ 10 ∷ []) more few_bytes few_lines in
+    (goes.0, ap (whole_lines began) (sym (append_assoc bytes (10 ∷ []) more)) ∙ goes.1 ∙ ap (λ w. w ++ goes.0) whole)
+
 -- a write failed as the answer to the line was put
-pub broken-feed : (alone : Bool) (began : Began) (script : Script) (before after : List Entry) (now new : Option (List ℕ)) (bytes more : List ℕ) → 0 < script.input.left.lines
+broken-feed : (alone : Bool) (began : Began) (script : Script) (before after : List Entry) (now new : Option (List ℕ)) (bytes more : List ℕ) → 0 < script.input.left.lines
     → 0 < script.input.left.bytes → PutsFront alone before after (cut bytes).rest now new script.output.pending.items
     → IsAfter alone began script before now bytes → IsStopped alone began Write new (whole_lines began (bytes ++ 10 ∷ more))
 broken-feed alone began script before after now new bytes more room fits front so_far =
-    let whole = whole-feed bytes in
-    let many : length (cut (bytes ++ 10 ∷ [])).whole ≡ length (cut bytes).whole + 1 = ap length whole ∙ length-append (cut bytes).whole ((cut bytes).rest ∷ []) in
-    let few_bytes : length (bytes ++ 10 ∷ []) ≤ began.bounds.bytes = omega (arith, so_far.read.bytes_left, length-append bytes (10 ∷ [])) in
-    let few_lines : length (cut (bytes ++ 10 ∷ [])).whole ≤ began.bounds.lines = omega (arith, many, so_far.read.lines_left) in
-    let goes = front_of_cut began (bytes ++ 10 ∷ []) more few_bytes few_lines in
+    let goes = feed_of_cut began script.input bytes more room fits so_far.read in
     record {
       done = (cut bytes).whole ++ (cut bytes).rest ∷ [];
       others = goes.0;
-      parts = ap (whole_lines began) (sym (append_assoc bytes (10 ∷ []) more)) ∙ goes.1 ∙ ap (λ w. w ++ goes.0) whole;
+      parts = goes.1;
       log = after;
       out = so_far.out ++ front.text;
       told = told-push alone began.log before after (cut bytes).whole (cut bytes).rest so_far.out front.text so_far.told front.told;
       went = FrontWent-then began.written now new _ _ _ so_far.text front.front;
       all = λ read. cc;
+      left = λ gone. absurd (cc);
     }
 
-pub broken-at-feed : (alone : Bool) (script : Script) (before after : List Entry) (now new : Option (List ℕ)) → 0 < script.input.left.lines → 0 < script.input.left.bytes
-    → ((line : List ℕ) → Holds script.input.line line → PutsFront alone before after line now new script.output.pending.items)
-    → (began : Began) (bytes more : List ℕ) → IsAfter alone began script before now bytes → IsStopped alone began Write new (whole_lines began (bytes ++ 10 ∷ more))
-broken-at-feed alone script before after now new room fits puts began bytes more so_far =
-    broken-feed alone began script before after now new bytes more room fits (puts (cut bytes).rest so_far.read.line) so_far
+-- nobody answers the line any more
+left-feed : (fault : AnswerFault) (alone : Bool) (began : Began) (script : Script) (log : List Entry) (now new : Option (List ℕ)) (bytes more : List ℕ) → 0 < script.input.left.lines
+    → 0 < script.input.left.bytes → fault ≢ Read → IsLeft alone (cut bytes).rest → WentBy fault now new script.output.pending.items
+    → IsAfter alone began script log now bytes → IsStopped alone began fault new (whole_lines began (bytes ++ 10 ∷ more))
+left-feed fault alone began script log now new bytes more room fits other left went so_far =
+    let goes = feed_of_cut began script.input bytes more room fits so_far.read in
+    record {
+      done = (cut bytes).whole;
+      others = (cut bytes).rest ∷ goes.0;
+      parts = goes.1 ∙ append_assoc (cut bytes).whole ((cut bytes).rest ∷ []) goes.0;
+      log = log;
+      out = so_far.out;
+      told = so_far.told;
+      went = WentBy-pending fault began.written now new _ _ so_far.text went;
+      all = λ read. absurd (other read);
+      left = λ gone. left;
+    }
+
+stopped-at-feed : (fault : AnswerFault) (alone : Bool) (script : Script) (before after : List Entry) (now new : Option (List ℕ)) → 0 < script.input.left.lines
+    → 0 < script.input.left.bytes → fault ≢ Read → ((line : List ℕ) → Holds script.input.line line → StopsAt alone fault before after line now new script.output.pending.items)
+    → (began : Began) (bytes more : List ℕ) → IsAfter alone began script before now bytes → IsStopped alone began fault new (whole_lines began (bytes ++ 10 ∷ more))
+stopped-at-feed fault alone script before after now new room fits other stops began bytes more so_far =
+    elim (stops (cut bytes).rest so_far.read.line) [
+      | inl put ↦
+          subst (λ f. IsStopped alone began f new (whole_lines began (bytes ++ 10 ∷ more))) (sym put.0)
+          (broken-feed alone began script before after now new bytes more room fits put.1 so_far)
+      | inr left ↦ left-feed fault alone began script before now new bytes more room fits other left.left left.went so_far
+    ]
+
+pub same-feed : {T : Type 0} (r : Result T AnswerFault) (fault : AnswerFault) (alone : Bool) (script : Script) (before after : List Entry) (now new : Option (List ℕ)) → IsErrAnd r (λ f. f ≡ fault)
+    → 0 < script.input.left.lines → 0 < script.input.left.bytes → fault ≢ Read
+    → ((line : List ℕ) → Holds script.input.line line → StopsAt alone fault before after line now new script.output.pending.items)
+    → IfErr r (λ f. (began : Began) (bytes more : List ℕ) → IsAfter alone began script before now bytes → IsStopped alone began f new (whole_lines began (bytes ++ 10 ∷ more)))
+same-feed (Ok x) fault alone script before after now new is room fits other stops = tt
+same-feed (Err f) fault alone script before after now new is room fits other stops =
+    λ began bytes more so_far.
+    subst (λ f. IsStopped alone began f new (whole_lines began (bytes ++ 10 ∷ more))) (sym is)
+    (stopped-at-feed fault alone script before after now new room fits other stops began bytes more so_far)
 
 -- what is pending was written, or a write of it failed
-pub stopped : (fault : ScriptFault) (alone : Bool) (began : Began) (script : Script) (log : List Entry) (now new : Option (List ℕ)) (bytes more : List ℕ)
-    → IsAfter alone began script log now bytes → WentBy fault now new script.output.pending.items → (fault ≡ Read → whole_lines began (bytes ++ more) ≡ (cut bytes).whole)
-    → IsStopped alone began fault new (whole_lines began (bytes ++ more))
-stopped Read alone began script log now new bytes more after went all = record {
+pub stopped : (fault : AnswerFault) (alone : Bool) (began : Began) (script : Script) (log : List Entry) (now new : Option (List ℕ)) (bytes more : List ℕ)
+    → IsAfter alone began script log now bytes → fault ≢ Gone → WentBy fault now new script.output.pending.items
+    → (fault ≡ Read → whole_lines began (bytes ++ more) ≡ (cut bytes).whole) → IsStopped alone began fault new (whole_lines began (bytes ++ more))
+stopped Read alone began script log now new bytes more after known went all = record {
   done = (cut bytes).whole;
   others = [];
   parts = all refl ∙ sym (append-nil (cut bytes).whole);
@@ -129,8 +171,9 @@ stopped Read alone began script log now new bytes more after went all = record {
   told = after.told;
   went = Went-flushed began.written now new _ _ after.text went;
   all = λ _. refl;
+  left = λ gone. absurd (known gone);
 }
-stopped Write alone began script log now new bytes more after went all =
+stopped Write alone began script log now new bytes more after known went all =
     let few_bytes : length bytes ≤ began.bounds.bytes = omega (arith, after.read.bytes_left) in
     let few_lines : length (cut bytes).whole ≤ began.bounds.lines = omega (arith, after.read.lines_left) in
     let goes = front_of_cut began bytes more few_bytes few_lines in
@@ -143,7 +186,9 @@ stopped Write alone began script log now new bytes more after went all =
       told = after.told;
       went = FrontWent-pending began.written now new _ _ after.text went;
       all = λ read. cc;
+      left = λ gone. absurd (known gone);
     }
+stopped Gone alone began script log now new bytes more after known went all = absurd (known refl)
 
 -- ---- the loop over a chunk
 
@@ -164,16 +209,16 @@ taken-more alone old mid new before between after was now then chunk rest piece 
   goes = λ began bytes so_far. rw (← append_assoc) (step began (bytes ++ taken.done) (taken.goes began bytes so_far));
 }
 
--- a failed write stopped the loop
-pub write_amid : {T : Type 0} (r : Result T ScriptFault) (alone : Bool) (script : Script) (log : List Entry) (now new : Option (List ℕ)) (chunk : List ℕ) → IsErrAnd r (λ fault. fault ≡ Write)
-    → ((began : Began) (bytes more : List ℕ) → IsAfter alone began script log now bytes → StopsIn alone began Write new (bytes ++ (chunk ++ more)))
-    → IfErr r (λ fault. (began : Began) (bytes more : List ℕ) → IsAfter alone began script log now bytes → StopsIn alone began fault new (bytes ++ (chunk ++ more)))
-write_amid (Ok x) alone script log now new chunk is stops = tt
-write_amid (Err fault) alone script log now new chunk is stops =
+-- the fault stopped the loop
+pub same_amid : {T : Type 0} (r : Result T AnswerFault) (fault : AnswerFault) (alone : Bool) (script : Script) (log : List Entry) (now new : Option (List ℕ)) (chunk : List ℕ) → IsErrAnd r (λ f. f ≡ fault)
+    → ((began : Began) (bytes more : List ℕ) → IsAfter alone began script log now bytes → StopsIn alone began fault new (bytes ++ (chunk ++ more)))
+    → IfErr r (λ f. (began : Began) (bytes more : List ℕ) → IsAfter alone began script log now bytes → StopsIn alone began f new (bytes ++ (chunk ++ more)))
+same_amid (Ok x) fault alone script log now new chunk is stops = tt
+same_amid (Err f) fault alone script log now new chunk is stops =
     λ began bytes more after. subst (λ f. StopsIn alone began f new (bytes ++ (chunk ++ more))) (sym is) (stops began bytes more after)
 
 -- no byte follows the chunk
-pub amid_whole : {T : Type 0} (r : Result T ScriptFault) (alone : Bool) (script : Script) (log : List Entry) (now new : Option (List ℕ)) (chunk : List ℕ)
+pub amid_whole : {T : Type 0} (r : Result T AnswerFault) (alone : Bool) (script : Script) (log : List Entry) (now new : Option (List ℕ)) (chunk : List ℕ)
     → IfErr r (λ fault. (began : Began) (bytes more : List ℕ) → IsAfter alone began script log now bytes → StopsIn alone began fault new (bytes ++ (chunk ++ more)))
     → IfErr r (λ fault. (began : Began) (bytes : List ℕ) → IsAfter alone began script log now bytes → StopsIn alone began fault new (bytes ++ chunk))
 amid_whole (Ok x) alone script log now new chunk stops = tt
@@ -270,25 +315,64 @@ done_ended alone script log now none began bytes after =
       text = after.text;
     }
 
-pub broken_last : (alone : Bool) (script : Script) (before after : List Entry) (now new : Option (List ℕ)) → script.input.line.started ≡ true
-    → ((line : List ℕ) → Holds script.input.line line → PutsFront alone before after line now new script.output.pending.items)
-    → (began : Began) (bytes : List ℕ) → IsAfter alone began script before now bytes → BrokenAtLast alone began new bytes
-broken_last alone script before after now new started puts began bytes so_far =
+broken_last : (alone : Bool) (began : Began) (script : Script) (before after : List Entry) (now new : Option (List ℕ)) (bytes : List ℕ)
+    → lines_of bytes ≡ (cut bytes).whole ++ (cut bytes).rest ∷ [] → PutsFront alone before after (cut bytes).rest now new script.output.pending.items
+    → IsAfter alone began script before now bytes → IsStopped alone began Write new (lines_of bytes)
+broken_last alone began script before after now new bytes lines put so_far = record {
+  done = lines_of bytes;
+  others = [];
+  parts = sym (append-nil (lines_of bytes));
+  log = after;
+  out = so_far.out ++ put.text;
+  told = rw lines (told-push alone began.log before after (cut bytes).whole (cut bytes).rest so_far.out put.text so_far.told put.told);
+  went = FrontWent-then began.written now new _ _ _ so_far.text put.front;
+  all = λ _. refl;
+  left = λ gone. absurd (cc);
+}
+
+left_last : (fault : AnswerFault) (alone : Bool) (began : Began) (script : Script) (log : List Entry) (now new : Option (List ℕ)) (bytes : List ℕ)
+    → lines_of bytes ≡ (cut bytes).whole ++ (cut bytes).rest ∷ [] → fault ≢ Read → IsLeft alone (cut bytes).rest → WentBy fault now new script.output.pending.items
+    → IsAfter alone began script log now bytes → IsStopped alone began fault new (lines_of bytes)
+left_last fault alone began script log now new bytes lines other left went so_far = record {
+  done = (cut bytes).whole;
+  others = (cut bytes).rest ∷ [];
+  parts = lines;
+  log = log;
+  out = so_far.out;
+  told = so_far.told;
+  went = WentBy-pending fault began.written now new _ _ so_far.text went;
+  all = λ read. absurd (other read);
+  left = λ gone. left;
+}
+
+stopped-at-last : (fault : AnswerFault) (alone : Bool) (script : Script) (before after : List Entry) (now new : Option (List ℕ)) → script.input.line.started ≡ true → fault ≢ Read
+    → ((line : List ℕ) → Holds script.input.line line → StopsAt alone fault before after line now new script.output.pending.items)
+    → (began : Began) (bytes : List ℕ) → IsAfter alone began script before now bytes → StoppedAtLast alone began fault new bytes
+stopped-at-last fault alone script before after now new started other stops began bytes so_far =
     let lines = started_line bytes (sym so_far.read.line.started ∙ started) in
-    let put = puts (cut bytes).rest so_far.read.line in
     record {
       within = within_started began.bounds script.input bytes started so_far.read;
-      stopped = record {
-        done = lines_of bytes;
-        others = [];
-        parts = sym (append-nil (lines_of bytes));
-        log = after;
-        out = so_far.out ++ put.text;
-        told = rw lines (told-push alone began.log before after (cut bytes).whole (cut bytes).rest so_far.out put.text so_far.told put.told);
-        went = FrontWent-then began.written now new _ _ _ so_far.text put.front;
-        all = λ _. refl;
-      };
+      stopped = elim (stops (cut bytes).rest so_far.read.line) [
+        | inl put ↦
+            subst (λ f. IsStopped alone began f new (lines_of bytes)) (sym put.0)
+            (broken_last alone began script before after now new bytes lines put.1 so_far)
+        | inr left ↦ left_last fault alone began script before now new bytes lines other left.left left.went so_far
+      ];
     }
+
+pub last_stops : {T : Type 0} (r : Result T AnswerFault) (alone : Bool) (script : Script) (before after : List Entry) (now new : Option (List ℕ)) → script.input.line.started ≡ true
+    → r ≢ Err Read → IfErr r (λ fault. (line : List ℕ) → Holds script.input.line line → StopsAt alone fault before after line now new script.output.pending.items)
+    → IfErr r (λ fault. (began : Began) (bytes : List ℕ) → IsAfter alone began script before now bytes → StoppedAtLast alone began fault new bytes)
+last_stops (Ok x) alone script before after now new started other stops = tt
+last_stops (Err fault) alone script before after now new started other stops =
+    stopped-at-last fault alone script before after now new started (λ read. other (ap Err read)) stops
+
+pub same_last : {T : Type 0} (r : Result T AnswerFault) (fault : AnswerFault) (alone : Bool) (script : Script) (log : List Entry) (was new : Option (List ℕ)) → IsErrAnd r (λ f. f ≡ fault)
+    → ((began : Began) (bytes : List ℕ) → IsAfter alone began script log was bytes → StoppedAtLast alone began fault new bytes)
+    → IfErr r (λ f. (began : Began) (bytes : List ℕ) → IsAfter alone began script log was bytes → StoppedAtLast alone began f new bytes)
+same_last (Ok x) fault alone script log was new is stops = tt
+same_last (Err f) fault alone script log was new is stops =
+    λ began bytes so_far. subst (λ f. StoppedAtLast alone began f new bytes) (sym is) (stops began bytes so_far)
 
 -- what was pending at the end was written, or a write of it failed
 pub done_closed : (alone : Bool) (log : List Entry) (now new : Option (List ℕ)) (pending : List ℕ) → Appends now new pending
@@ -301,7 +385,7 @@ done_closed alone log now new pending wrote began bytes done = record {
 }
 
 pub broken_close : (alone : Bool) (log : List Entry) (now new : Option (List ℕ)) (pending : List ℕ) → FrontWent now new pending
-    → (began : Began) (bytes : List ℕ) → IsDone alone began log now pending bytes → BrokenAtLast alone began new bytes
+    → (began : Began) (bytes : List ℕ) → IsDone alone began log now pending bytes → StoppedAtLast alone began Write new bytes
 broken_close alone log now new pending front began bytes done = record {
   within = done.within;
   stopped = record {
@@ -313,6 +397,7 @@ broken_close alone log now new pending front began bytes done = record {
     told = done.told;
     went = FrontWent-pending began.written now new _ _ done.text front;
     all = λ _. refl;
+    left = λ gone. absurd (cc);
   };
 }
 
@@ -323,5 +408,5 @@ closed_done alone script before after was now new pending done wrote began bytes
 
 pub closed_broken : (alone : Bool) (script : Script) (before after : List Entry) (was now new : Option (List ℕ)) (pending : List ℕ)
     → ((began : Began) (bytes : List ℕ) → IsAfter alone began script before was bytes → IsDone alone began after now pending bytes) → FrontWent now new pending
-    → (began : Began) (bytes : List ℕ) → IsAfter alone began script before was bytes → BrokenAtLast alone began new bytes
+    → (began : Began) (bytes : List ℕ) → IsAfter alone began script before was bytes → StoppedAtLast alone began Write new bytes
 closed_broken alone script before after was now new pending done front began bytes so_far = broken_close alone after now new pending front began bytes (done began bytes so_far)

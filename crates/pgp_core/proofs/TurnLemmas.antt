@@ -1,20 +1,21 @@
 -- One turn of the loop over the reader, and the ways in which it stops.
-use Rattle.std.proofs.Common.{◌≡◌, ℕ, List, [], ◌++◌, Bool, true, Option, refl, sym, ap, ◌∙◌, append-nil, subst, inl, inr, Result, Ok, Err}
-use Rattle.std.specs.Prelude.{IfErr}
+use Rattle.std.proofs.Common.{◌≡◌, ◌≢◌, ℕ, List, [], ◌++◌, Bool, true, false, ◌∷◌, Option, refl, sym, ap, ◌∙◌, append-nil, subst, inl, inr, Result, Ok, Err}
+use Rattle.std.specs.Prelude.{OnOk, IsOk, IfErr}
 use Rattle.std.specs.Result.{IsErrAnd}
 use Rattle.std.specs.Io.KnownBytes.{Appends, Consumes, Keeps, IsAtEnd}
 use Rattle.std.proofs.KnownBytes.{Consumes-nil, Consumes-trans, Consumes-kept}
 use Rattle.pgp_ids.specs.declared.entry.Entry.{Entry}
 use Rattle.pgp_core.specs.Output.{FrontWent}
-use Rattle.pgp_core.specs.Run.{IsBeyond, CutOff, BrokenOff, BrokenAtEnd, AllAnswered, ReadStopped, WriteStopped}
+use Rattle.pgp_core.specs.Run.{CutOff, AllAnswered, ReadStopped, WriteStopped}
 use Rattle.pgp_core.specs.Script.{lines_before_cut}
 use Rattle.pgp_core.specs.Lines.{lines_of}
-use Rattle.pgp_core.specs.Telling.{Began, began_at, IsAfter, IsDone, WentBy, IsStopped, StopsIn, BrokenAtLast, whole_lines, Reads, AllTold, Stops}
+use Rattle.pgp_core.specs.Told.{StartsLeft}
+use Rattle.pgp_core.specs.Telling.{Began, began_at, IsAfter, IsDone, IsStopped, StopsIn, StoppedAtLast, whole_lines, Reads, AllTold, Stops}
 use Rattle.pgp_core.specs.declared.input.Bounds.{Bounds}
 use Rattle.pgp_core.specs.declared.output.Output.{Output}
 use Rattle.pgp_core.specs.declared.script.Script.{Script}
-use Rattle.pgp_core.specs.declared.fault.ScriptFault.{ScriptFault}
-use Rattle.pgp_core.specs.declared.fault.ScriptFault.TheVariants.{Read, Write}
+use Rattle.pgp_core.specs.declared.fault.AnswerFault.{AnswerFault}
+use Rattle.pgp_core.specs.declared.fault.AnswerFault.TheVariants.{Read, Write, Gone}
 use Rattle.pgp_core.proofs.OutputLemmas.{Went-none, Went-flushed, Went-all}
 use Rattle.pgp_core.proofs.RunLemmas.{stopped, all_read}
 use Rattle.pgp_core.proofs.ToldLemmas.{answers-told, front-told}
@@ -50,7 +51,7 @@ stops_at_flush alone began script log from to now new read_failed reads front = 
   script = reads.bytes;
   consumed = reads.consumed;
   answered = inl (subst (λ b. IsStopped alone began Write new (whole_lines began b)) (append-nil reads.bytes)
-      (stopped Write alone began script log now new reads.bytes [] reads.after front (λ read. cc)));
+      (stopped Write alone began script log now new reads.bytes [] reads.after (λ gone. cc) front (λ read. cc)));
   cause = λ read. cc;
 }
 
@@ -60,12 +61,12 @@ stops_at_read alone began script log from mid to now new read_failed reads wrote
   script = reads.bytes;
   consumed = Consumes-kept from mid to reads.bytes reads.consumed kept;
   answered = inl (subst (λ b. IsStopped alone began Read new (whole_lines began b)) (append-nil reads.bytes)
-      (stopped Read alone began script log now new reads.bytes [] reads.after wrote
+      (stopped Read alone began script log now new reads.bytes [] reads.after (λ gone. cc) wrote
       (λ _. ap (whole_lines began) (append-nil reads.bytes) ∙ all_read began script.input reads.bytes reads.after.read)));
   cause = λ _. inl failed;
 }
 
-pub stops_in_chunk : (alone : Bool) (began : Began) (fault : ScriptFault) (script : Script) (output : Output) (log : List Entry) (from mid to now flushed then : Option (List ℕ)) (chunk : List ℕ) (read_failed : Bool)
+pub stops_in_chunk : (alone : Bool) (began : Began) (fault : AnswerFault) (script : Script) (output : Output) (log : List Entry) (from mid to now flushed then : Option (List ℕ)) (chunk : List ℕ) (read_failed : Bool)
     → Reads alone began script log from mid now → Appends now flushed script.output.pending.items → output.pending.items ≡ [] → Consumes mid to chunk
     → ((began : Began) (bytes : List ℕ) → IsAfter alone began (record script { output = output }) log flushed bytes → StopsIn alone began fault then (bytes ++ chunk))
     → Stops alone began fault from to then read_failed
@@ -79,7 +80,7 @@ stops_in_chunk alone began fault script output log from mid to now flushed then 
     }
 
 -- a failed write stopped the run before a read
-pub write_reading : {T : Type 0} (r : Result T ScriptFault) (alone : Bool) (script : Script) (log : List Entry) (was to now new : Option (List ℕ)) (read_failed : Bool) → IsErrAnd r (λ fault. fault ≡ Write)
+pub write_reading : {T : Type 0} (r : Result T AnswerFault) (alone : Bool) (script : Script) (log : List Entry) (was to now new : Option (List ℕ)) (read_failed : Bool) → IsErrAnd r (λ fault. fault ≡ Write)
     → ((began : Began) (from : Option (List ℕ)) → Reads alone began script log from was now → Stops alone began Write from to new read_failed)
     → IfErr r (λ fault. (began : Began) (from : Option (List ℕ)) → Reads alone began script log from was now → Stops alone began fault from to new read_failed)
 write_reading (Ok x) alone script log was to now new read_failed is stops = tt
@@ -87,7 +88,7 @@ write_reading (Err fault) alone script log was to now new read_failed is stops =
     λ began from reads. subst (λ f. Stops alone began f from to new read_failed) (sym is) (stops began from reads)
 
 -- the fault is passed on
-pub same_stops : {T : Type 0} (r : Result T ScriptFault) (fault : ScriptFault) (alone : Bool) (began : Began) (from to now : Option (List ℕ)) (read_failed : Bool) → IsErrAnd r (λ f. f ≡ fault)
+pub same_stops : {T : Type 0} (r : Result T AnswerFault) (fault : AnswerFault) (alone : Bool) (began : Began) (from to now : Option (List ℕ)) (read_failed : Bool) → IsErrAnd r (λ f. f ≡ fault)
     → Stops alone began fault from to now read_failed → IfErr r (λ f. Stops alone began f from to now read_failed)
 same_stops (Ok x) fault alone began from to now read_failed is stops = tt
 same_stops (Err f) fault alone began from to now read_failed is stops = subst (λ f. Stops alone began f from to now read_failed) (sym is) stops
@@ -108,16 +109,24 @@ ends alone began script before after from to now then reads end finish =
       went = Went-all began.written then done.out [] done.text refl;
     }
 
-pub stops_at_end : (alone : Bool) (began : Began) (script : Script) (log : List Entry) (from to now then : Option (List ℕ)) (read_failed : Bool)
-    → Reads alone began script log from to now → IsAtEnd to
-    → ((began : Began) (bytes : List ℕ) → IsAfter alone began script log now bytes → BrokenAtLast alone began then bytes)
-    → Stops alone began Write from to then read_failed
-stops_at_end alone began script log from to now then read_failed reads end stop = record {
+stops_at_end : (fault : AnswerFault) (alone : Bool) (began : Began) (script : Script) (log : List Entry) (from to now then : Option (List ℕ)) (read_failed : Bool)
+    → Reads alone began script log from to now → IsAtEnd to → fault ≢ Read
+    → ((began : Began) (bytes : List ℕ) → IsAfter alone began script log now bytes → StoppedAtLast alone began fault then bytes)
+    → Stops alone began fault from to then read_failed
+stops_at_end fault alone began script log from to now then read_failed reads end other stop = record {
   script = reads.bytes;
   consumed = reads.consumed;
-  answered = inr (end, refl, stop began reads.bytes reads.after);
-  cause = λ read. cc;
+  answered = inr (end, other, stop began reads.bytes reads.after);
+  cause = λ read. absurd (other read);
 }
+
+pub ends_or_stops : {T : Type 0} (r : Result T AnswerFault) (alone : Bool) (began : Began) (script : Script) (log : List Entry) (from to now then : Option (List ℕ)) (read_failed : Bool)
+    → Reads alone began script log from to now → IsAtEnd to → r ≢ Err Read
+    → IfErr r (λ fault. (began : Began) (bytes : List ℕ) → IsAfter alone began script log now bytes → StoppedAtLast alone began fault then bytes)
+    → IfErr r (λ fault. Stops alone began fault from to then read_failed)
+ends_or_stops (Ok x) alone began script log from to now then read_failed reads end other stop = tt
+ends_or_stops (Err fault) alone began script log from to now then read_failed reads end other stop =
+    stops_at_end fault alone began script log from to now then read_failed reads end (λ read. other (ap Err read)) stop
 
 -- ---- where one thread alone adds to a log that is empty at first
 
@@ -143,7 +152,7 @@ read_stopped bounds from to start now read_failed stops = record {
   cause = stops.cause refl;
   answered = elim stops.answered [
     | inl within ↦ cut_off bounds start now stops.script within
-    | inr ended ↦ let no : Read ≡ Write = ended.1 in absurd (cc)
+    | inr ended ↦ absurd (ended.1 refl)
   ];
 }
 
@@ -164,7 +173,24 @@ write_stopped bounds from to start now read_failed write_failed stops failed = r
   ];
 }
 
+-- nobody leaves a line then
+never_left : (lines : List (List ℕ)) → StartsLeft true lines → ⊥
+never_left [] left = left
+never_left (line ∷ lines) left = let no : true ≡ false = left.shared in cc
+
+pub never_gone : (began : Began) (from to now : Option (List ℕ)) (read_failed : Bool) → Stops true began Gone from to now read_failed → ⊥
+never_gone began from to now read_failed stops = elim stops.answered [
+  | inl within ↦ never_left within.others (within.left refl)
+  | inr ended ↦ never_left ended.2.stopped.others (ended.2.stopped.left refl)
+]
+
+-- what an end without a fault tells
+pub ok_at : {T E F : Type 0} {P Q : Type 0} (r : Result T E) (ended : Result T F) → (P → Q) → OnOk r (IsOk ended) → OnOk ended P → OnOk r Q
+ok_at (Err e) ended goes is told = tt
+ok_at (Ok x) (Ok y) goes is told = goes told
+ok_at (Ok x) (Err f) goes is told = let no : false ≡ true = is in absurd (cc)
+
 -- what a fault tells
-pub fault_at : {T : Type 0} (r : Result T ScriptFault) (fault : ScriptFault) (alone : Bool) (began : Began) (from to now : Option (List ℕ)) (read_failed : Bool) → r ≡ Err fault
+pub fault_at : {T : Type 0} (r : Result T AnswerFault) (fault : AnswerFault) (alone : Bool) (began : Began) (from to now : Option (List ℕ)) (read_failed : Bool) → r ≡ Err fault
     → IfErr r (λ f. Stops alone began f from to now read_failed) → Stops alone began fault from to now read_failed
 fault_at r fault alone began from to now read_failed is stops = subst (λ e. IfErr e (λ f. Stops alone began f from to now read_failed)) is stops

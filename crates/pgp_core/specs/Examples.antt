@@ -1,8 +1,5 @@
 -- Lines of small scripts.
-use Rattle.std.specs.Prelude.{ℕ, List, ◌++◌, map, replicate, codes, Option, None}
-use Rattle.pgp_ids.specs.declared.entry.Entry.{Entry}
-use Rattle.pgp_log.specs.World.{Step}
-use Rattle.pgp_log.specs.World.Step.{Submit}
+use Rattle.std.specs.Prelude.{ℕ, List, ◌++◌, replicate, codes, Option, None}
 use Rattle.pgp_core.specs.declared.want.Want.{Want}
 
 -- none of so many lines met want of memory

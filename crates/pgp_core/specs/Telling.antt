@@ -1,17 +1,17 @@
 -- How the answering of a script goes on, and how it stops, whoever answers its commands.
-use Rattle.std.specs.Prelude.{◌≡◌, ◌⊎◌, ℕ, List, [], ◌++◌, Bool, true, Option}
+use Rattle.std.specs.Prelude.{◌≡◌, ◌≢◌, ◌⊎◌, ℕ, List, [], ◌++◌, Bool, true, Option}
 use Rattle.std.specs.Io.KnownBytes.{Appends, Consumes, IsAtEnd}
 use Rattle.pgp_ids.specs.declared.entry.Entry.{Entry}
 use Rattle.pgp_core.specs.Lines.{cut, lines_of}
 use Rattle.pgp_core.specs.Script.{Within, lines_before_cut}
 use Rattle.pgp_core.specs.Output.{Went, FrontWent}
 use Rattle.pgp_core.specs.Input.{HasRead}
-use Rattle.pgp_core.specs.Told.{IsTold, AreTold}
+use Rattle.pgp_core.specs.Told.{IsTold, AreTold, IsLeft, StartsLeft}
 use Rattle.pgp_core.specs.Run.{IsBeyond}
 use Rattle.pgp_core.specs.declared.input.Bounds.{Bounds}
 use Rattle.pgp_core.specs.declared.script.Script.{Script}
-use Rattle.pgp_core.specs.declared.fault.ScriptFault.{ScriptFault}
-use Rattle.pgp_core.specs.declared.fault.ScriptFault.TheVariants.{Read, Write}
+use Rattle.pgp_core.specs.declared.fault.AnswerFault.{AnswerFault}
+use Rattle.pgp_core.specs.declared.fault.AnswerFault.TheVariants.{Read, Write, Gone}
 
 -- what a run began with: the log, how large its script may be, and what the writer held
 pub record Began : Type 0 where
@@ -34,6 +34,22 @@ pub record PutsFront (alone : Bool) (before after : List Entry) (line : List ℕ
   pub told : IsTold alone before after line text
   pub front : FrontWent old new (pending ++ text)
 
+-- how much of a text went out: a front of it where a write failed, and else all of it
+abbrev pub WentBy : AnswerFault → Option (List ℕ) → Option (List ℕ) → List ℕ → Type 0
+WentBy Read old new text = Appends old new text
+WentBy Write old new text = FrontWent old new text
+WentBy Gone old new text = Appends old new text
+
+-- nobody answers the line any more, and what was pending went out as far as the fault let it
+pub record Leaves (alone : Bool) (fault : AnswerFault) (line : List ℕ) (old new : Option (List ℕ)) (pending : List ℕ) : Type 0 where
+  pub left : IsLeft alone line
+  pub went : WentBy fault old new pending
+
+-- the answering stops at the line: a write failed as the answer to it was put, or nobody answers it any more
+abbrev pub StopsAt : Bool → AnswerFault → List Entry → List Entry → List ℕ → Option (List ℕ) → Option (List ℕ) → List ℕ → Type 0
+StopsAt alone fault before after line old new pending =
+    ((fault ≡ Write) × PutsFront alone before after line old new pending) ⊎ Leaves alone fault line old new pending
+
 -- These bytes were read, and the answers to the lines that have ended are written or pending.
 pub record IsAfter (alone : Bool) (began : Began) (script : Script) (log : List Entry) (now : Option (List ℕ)) (bytes : List ℕ) : Type 0 where
   pub read : HasRead began.bounds script.input bytes
@@ -48,13 +64,9 @@ pub record IsDone (alone : Bool) (began : Began) (log : List Entry) (now : Optio
   pub told : AreTold alone began.log (lines_of bytes) log out
   pub text : Went began.written now out pending
 
--- how much of a text went out: all of it where a read failed, and a front of it where a write did
-abbrev pub WentBy : ScriptFault → Option (List ℕ) → Option (List ℕ) → List ℕ → Type 0
-WentBy Read old new text = Appends old new text
-WentBy Write old new text = FrontWent old new text
-
--- The answers to the first of these lines went out as far as the fault let them. Where a read failed these are all lines.
-pub record IsStopped (alone : Bool) (began : Began) (fault : ScriptFault) (now : Option (List ℕ)) (lines : List (List ℕ)) : Type 0 where
+-- The answers to the first of these lines went out as far as the fault let them. Where a read failed these are all lines, and
+-- where nobody answers any more they are those before the first line that was left.
+pub record IsStopped (alone : Bool) (began : Began) (fault : AnswerFault) (now : Option (List ℕ)) (lines : List (List ℕ)) : Type 0 where
   pub done : List (List ℕ)
   pub others : List (List ℕ)
   pub parts : lines ≡ done ++ others
@@ -63,18 +75,19 @@ pub record IsStopped (alone : Bool) (began : Began) (fault : ScriptFault) (now :
   pub told : AreTold alone began.log done log out
   pub went : WentBy fault began.written now out
   pub all : fault ≡ Read → others ≡ []
+  pub left : fault ≡ Gone → StartsLeft alone others
 
--- A write stopped the run after the whole script was read.
-pub record BrokenAtLast (alone : Bool) (began : Began) (now : Option (List ℕ)) (bytes : List ℕ) : Type 0 where
+-- The fault stopped the run after the whole script was read.
+pub record StoppedAtLast (alone : Bool) (began : Began) (fault : AnswerFault) (now : Option (List ℕ)) (bytes : List ℕ) : Type 0 where
   pub within : Within began.bounds.lines began.bounds.bytes bytes
-  pub stopped : IsStopped alone began Write now (lines_of bytes)
+  pub stopped : IsStopped alone began fault now (lines_of bytes)
 
 -- the lines of these bytes that were read whole within the bounds
 abbrev pub whole_lines : Began → List ℕ → List (List ℕ)
 whole_lines began bytes = lines_before_cut began.bounds.lines began.bounds.bytes bytes
 
--- The run stopped in these bytes: where no write failed, they are more than the bounds allow.
-pub record StopsIn (alone : Bool) (began : Began) (fault : ScriptFault) (now : Option (List ℕ)) (bytes : List ℕ) : Type 0 where
+-- The run stopped in these bytes: at a read fault, they are more than the bounds allow.
+pub record StopsIn (alone : Bool) (began : Began) (fault : AnswerFault) (now : Option (List ℕ)) (bytes : List ℕ) : Type 0 where
   pub stopped : IsStopped alone began fault now (whole_lines began bytes)
   pub beyond : fault ≡ Read → IsBeyond began.bounds bytes
 
@@ -100,11 +113,11 @@ pub record AllTold (alone : Bool) (began : Began) (log : List Entry) (from to no
   pub told : AreTold alone began.log (lines_of script) log out
   pub went : Appends began.written now out
 
--- The reader gave these bytes, and the run stopped: in the lines that were read whole or, at a write after the reader's
--- end, in all lines. A read failed, or the script is too large, or a write failed.
-pub record Stops (alone : Bool) (began : Began) (fault : ScriptFault) (from to now : Option (List ℕ)) (read_failed : Bool) : Type 0 where
+-- The reader gave these bytes, and the run stopped: in the lines that were read whole or, after the reader's end, in all
+-- lines. A read failed, or the script is too large, or a write failed, or nobody answers any more.
+pub record Stops (alone : Bool) (began : Began) (fault : AnswerFault) (from to now : Option (List ℕ)) (read_failed : Bool) : Type 0 where
   pub script : List ℕ
   pub consumed : Consumes from to script
   pub answered : IsStopped alone began fault now (whole_lines began script)
-      ⊎ (IsAtEnd to × (fault ≡ Write) × BrokenAtLast alone began now script)
+      ⊎ (IsAtEnd to × (fault ≢ Read) × StoppedAtLast alone began fault now script)
   pub cause : fault ≡ Read → (read_failed ≡ true) ⊎ IsBeyond began.bounds script

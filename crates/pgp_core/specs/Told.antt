@@ -1,13 +1,16 @@
 -- What is written for lines, whoever answers their commands.
-use Rattle.std.specs.Prelude.{◌≡◌, ℕ, List, [], ◌∷◌, ◌++◌, Bool, Option, Some, None}
+use Rattle.std.specs.Prelude.{◌≡◌, ℕ, ◌≤◌, List, [], ◌∷◌, ◌++◌, length, Bool, false, Option, Some, None, Ok}
 use Rattle.pgp_ids.specs.declared.entry.Entry.{Entry}
+use Rattle.pgp_text.specs.Command.{command_of}
 use Rattle.pgp_text.specs.LineFault.{LineFault}
 use Rattle.pgp_text.specs.Reply.{reply_text, fault_text}
 use Rattle.pgp_lines.specs.declared.command.Command.{Command}
 use Rattle.pgp_core.specs.Answer.{reply_of, log_after, line_text, line_log}
 use Rattle.pgp_core.specs.Answerer.{MayAnswerBy}
-use Rattle.pgp_core.specs.Script.{MayMeet, answer, log_past}
+use Rattle.pgp_core.specs.Script.{MayMeet, answer, log_past, longest_line}
 use Rattle.pgp_core.specs.declared.want.Want.{Want}
+use Rattle.pgp_core.specs.declared.want.NoAnswer.{NoAnswer}
+use Rattle.pgp_core.specs.declared.want.NoAnswer.TheVariants.{Memory, Gone}
 
 -- the answer to a line that has this fault was put behind the text
 abbrev pub PutsFault : Option LineFault → List ℕ → List ℕ → Type 0
@@ -42,6 +45,23 @@ pub record PutsLine (alone : Bool) (before after : List Entry) (line old new res
   pub text : List ℕ
   pub told : IsTold alone before after line text
   pub whole : new ++ rest ≡ old ++ text
+
+-- nobody answers the line any more: it was read as a command, and others add to the log too
+pub record IsLeft (alone : Bool) (line : List ℕ) : Type 0 where
+  pub shared : alone ≡ false
+  pub short : length line ≤ longest_line
+  pub command : Command
+  pub reads : command_of line ≡ Ok command
+
+-- the first of these lines is one that nobody answers any more
+abbrev pub StartsLeft : Bool → List (List ℕ) → Type 0
+StartsLeft alone [] = ⊥
+StartsLeft alone (line ∷ lines) = IsLeft alone line
+
+-- why the line may have no answer of its own
+abbrev pub MayLack : Bool → NoAnswer → List ℕ → Type 0
+MayLack alone (Memory want) line = MayMeet (Some want) line
+MayLack alone Gone line = IsLeft alone line
 
 -- between the first line and the others: the log then, what was written before, and what after
 pub record Turn : Type 0 where

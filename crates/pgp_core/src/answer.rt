@@ -1,39 +1,38 @@
 //! The answer to a line, as text.
-ghost use Rattle.std.specs.Prelude.{◌≡◌, ◌≢◌, ◌<◌, ◌≤◌, ◌+◌, ◌++◌, ◌∷◌, [], length, vec_len, vec_capacity, true, IsOk, IfErr, OnOk, OnErr, Some};
+ghost use Rattle.std.specs.Prelude.{◌≡◌, ◌≢◌, ◌<◌, ◌≤◌, ◌+◌, ◌++◌, ◌∷◌, [], length, vec_len, vec_capacity, true, false, IsOk, IfErr, OnOk, OnErr, Err};
 ghost use Rattle.pgp_text.specs.Command.{IsInRange};
 ghost use Rattle.pgp_text.specs.Reply.{reply_text};
 ghost use Rattle.pgp_core.specs.Answer.{long_text};
 ghost use Rattle.pgp_core.specs.Answerer.{MayAnswerBy, is_accepted};
-ghost use Rattle.pgp_core.specs.Script.{MayMeet};
-ghost use Rattle.pgp_core.specs.Told.{PutsFault, PutsReply, PutsText};
+ghost use Rattle.pgp_core.specs.Told.{PutsFault, PutsReply, PutsText, MayLack};
 ghost use Rattle.pgp_lines.specs.LineFault.{told};
-ghost use Rattle.pgp_core.specs.Wants.{want_of};
+ghost use Rattle.pgp_core.specs.Wants.{want_of, LacksReply};
 
 use super::accepted::{LONGEST_ACCEPTED, put_accepted};
-use super::answerer::Answerer;
-use super::want::Want;
+use super::answerer::{Answerer, NoReply};
+use super::want::{NoAnswer, Want};
 use pgp_ids::TextFault;
 use pgp_text::{Command, Refused, Reply, read_line, write_reply};
 use std::alloc::{AllocError, Global};
 
 /// Puts the answer to a line that isn't blank and not too long behind the text, with a line feed.
 ///
-/// Where the line is an entry that the log takes, the log has it from now on. Where memory is wanting, the text stays and
-/// the line adds nothing to the log.
+/// Where the line is an entry that the log takes, the log has it from now on. Where it has no answer, the text stays and the
+/// line adds nothing to the log.
 pub fn answer_line<A: Answerer>(
     alloc: Global,
     line: &[u8],
     answerer: &mut A,
     text: &mut Vec<u8>,
-) -> Result<(), Want>
+) -> Result<(), NoAnswer>
     ensures ok { OnOk result (PutsText A.alone (A.log answerer.old) (A.log answerer.new) line.now text.old.items text.new.items) }
-    ensures wants { IfErr result (λ want. 0 < length line.now → length line.now ≤ 1048576 → MayMeet (Some want) line.now) }
+    ensures lacks { IfErr result (λ why. 0 < length line.now → length line.now ≤ 1048576 → MayLack A.alone why line.now) }
     ensures text { OnErr result (text.new.items ≡ text.old.items) }
     ensures log { OnErr result (MayAnswerBy A.alone (A.log answerer.old) (A.log answerer.new)) }
 {
     match read_line(alloc, line) {
         Ok(command) => answer_command(alloc, command, answerer, text),
-        Err(TextFault::Memory) => Err(Want::Line),
+        Err(TextFault::Memory) => Err(NoAnswer::Memory(Want::Line)),
         Err(fault) => put_fault(alloc, fault, text),
     }
 }
@@ -44,17 +43,18 @@ fn answer_command<A: Answerer>(
     command: Command,
     answerer: &mut A,
     text: &mut Vec<u8>,
-) -> Result<(), Want>
+) -> Result<(), NoAnswer>
     requires { IsInRange command }
     ensures ok { OnOk result (PutsReply A.alone (A.log answerer.old) (A.log answerer.new) command text.old.items text.new.items) }
-    ensures wants { IfErr result (λ want. want ≡ want_of command) }
+    ensures lacks { IfErr result (LacksReply A.alone command) }
     ensures text { OnErr result (text.new.items ≡ text.old.items) }
     ensures log { OnErr result (MayAnswerBy A.alone (A.log answerer.old) (A.log answerer.new)) }
 {
     let want = want_of(&command);
     match ask(alloc, command, answerer, text) {
         Ok(()) => Ok(()),
-        Err(_) => Err(want),
+        Err(NoReply::Memory) => Err(NoAnswer::Memory(want)),
+        Err(NoReply::Gone) => Err(NoAnswer::Gone),
     }
 }
 
@@ -67,15 +67,17 @@ fn ask<A: Answerer>(
     command: Command,
     answerer: &mut A,
     text: &mut Vec<u8>,
-) -> Result<(), AllocError>
+) -> Result<(), NoReply>
     requires { IsInRange command }
     ensures ok { OnOk result (PutsReply A.alone (A.log answerer.old) (A.log answerer.new) command text.old.items text.new.items) }
     ensures text { OnErr result (text.new.items ≡ text.old.items) }
     ensures log { OnErr result (MayAnswerBy A.alone (A.log answerer.old) (A.log answerer.new)) }
+    ensures gone { result ≡ Err NoReply.Gone → A.alone ≡ false }
 {
     text.reserve(LONGEST_ACCEPTED)?;
     let reply = answerer.reply(alloc, command)?;
-    put_reply(alloc, &reply, text)
+    put_reply(alloc, &reply, text)?;
+    Ok(())
 }
 
 /// Which want of memory a command meets, if any.
@@ -89,9 +91,9 @@ fn want_of(command: &Command) -> Want
 }
 
 /// Puts the answer to a line that is too long behind the text, with a line feed.
-pub fn put_long(alloc: Global, text: &mut Vec<u8>) -> Result<(), Want>
+pub fn put_long(alloc: Global, text: &mut Vec<u8>) -> Result<(), NoAnswer>
     ensures ok { OnOk result (text.new.items ≡ text.old.items ++ (long_text ++ 10 ∷ [])) }
-    ensures wants { IfErr result (λ want. want ≡ Want.Line) }
+    ensures lacks { IfErr result (λ why. why ≡ NoAnswer.Memory Want.Line) }
     ensures err { OnErr result (text.new.items ≡ text.old.items) }
 {
     match put_reply(
@@ -100,20 +102,20 @@ pub fn put_long(alloc: Global, text: &mut Vec<u8>) -> Result<(), Want>
         text,
     ) {
         Ok(()) => Ok(()),
-        Err(_) => Err(Want::Line),
+        Err(_) => Err(NoAnswer::Memory(Want::Line)),
     }
 }
 
 /// Puts the answer to a line that has this fault behind the text, with a line feed.
-fn put_fault(alloc: Global, fault: TextFault, text: &mut Vec<u8>) -> Result<(), Want>
+fn put_fault(alloc: Global, fault: TextFault, text: &mut Vec<u8>) -> Result<(), NoAnswer>
     requires { fault ≢ TextFault.Memory }
     ensures ok { OnOk result (PutsFault (told fault) text.old.items text.new.items) }
-    ensures wants { IfErr result (λ want. want ≡ Want.Line) }
+    ensures lacks { IfErr result (λ why. why ≡ NoAnswer.Memory Want.Line) }
     ensures err { OnErr result (text.new.items ≡ text.old.items) }
 {
     match put_reply(alloc, &Reply::Refused(Refused::Line(fault)), text) {
         Ok(()) => Ok(()),
-        Err(_) => Err(Want::Line),
+        Err(_) => Err(NoAnswer::Memory(Want::Line)),
     }
 }
 

@@ -1,12 +1,32 @@
 //! Who answers the commands of a script.
 
-ghost use Rattle.std.specs.Prelude.{Bool, List, IfOk, OnErr};
+ghost use Rattle.std.specs.Prelude.{◌≡◌, Bool, false, List, Err, IfOk, OnErr};
 ghost use Rattle.pgp_ids.specs.declared.entry.Entry.{Entry};
 ghost use Rattle.pgp_text.specs.Command.{IsInRange};
 ghost use Rattle.pgp_core.specs.Answerer.{MayAnswerBy, Replies};
 
 use pgp_text::{Command, Reply};
 use std::alloc::{AllocError, Global};
+
+/// Why a command has no reply.
+#[derive(Clone, Copy, Debug, PartialEq, Eq)]
+pub enum NoReply {
+    /// There was no memory.
+    Memory,
+    /// There is nobody any more to answer it.
+    Gone,
+}
+
+impl From<AllocError> for NoReply {
+    ghost use Rattle.std.specs.Prelude.{◌≡◌};
+    ghost use Rattle.pgp_core.specs.declared.answerer.NoReply.TheVariants.{Memory};
+
+    ghost from_gives = { λ _ why. why ≡ Memory };
+
+    fn from(_error: AllocError) -> NoReply {
+        NoReply::Memory
+    }
+}
 
 /// Who answers the commands of a script: it stands for a log, to which its commands add.
 pub trait Answerer {
@@ -16,10 +36,11 @@ pub trait Answerer {
     // The log for which it stands.
     ghost log: { Self → List Entry };
 
-    /// The reply to a command. Where it is an entry that the log takes, the log has it from now on; where memory is
-    /// wanting, the command adds nothing.
-    fn reply(&mut self, alloc: Global, command: Command) -> Result<Reply, AllocError>
+    /// The reply to a command. Where it is an entry that the log takes, the log has it from now on; where there is no reply,
+    /// the command adds nothing. `Gone` comes only where others add to the log too.
+    fn reply(&mut self, alloc: Global, command: Command) -> Result<Reply, NoReply>
         requires { IsInRange command }
         ensures reply { IfOk result (λ reply. Replies alone (log self.old) (log self.new) command reply) }
-        ensures kept { OnErr result (MayAnswerBy alone (log self.old) (log self.new)) };
+        ensures kept { OnErr result (MayAnswerBy alone (log self.old) (log self.new)) }
+        ensures gone { result ≡ Err NoReply.Gone → alone ≡ false };
 }

@@ -19,8 +19,8 @@ mod script;
 mod streams;
 mod want;
 
-pub use answerer::Answerer;
-pub use fault::ScriptFault;
+pub use answerer::{Answerer, NoReply};
+pub use fault::{AnswerFault, ScriptFault};
 pub use input::Bounds;
 pub use output::{WriteFault, write_out};
 pub use replies::{asked, traced};

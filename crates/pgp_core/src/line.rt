@@ -1,15 +1,15 @@
 //! The line that is being read, and what is written for it.
 
-ghost use Rattle.std.specs.Prelude.{◌≡◌, ℕ, List, [], ◌∷◌, ◌++◌, Some, OnOk, IfErr, OnErr};
+ghost use Rattle.std.specs.Prelude.{◌≡◌, ℕ, List, [], ◌∷◌, ◌++◌, OnOk, IfOk, IfErr, OnErr};
 ghost use Rattle.pgp_core.specs.Answerer.{MayAnswerBy};
 ghost use Rattle.pgp_core.specs.Line.{Holds};
 ghost use Rattle.pgp_core.specs.Lines.{is_blank};
-ghost use Rattle.pgp_core.specs.Script.{want_text, MayMeet};
-ghost use Rattle.pgp_core.specs.Told.{PutsLine};
+ghost use Rattle.pgp_core.specs.Script.{want_text};
+ghost use Rattle.pgp_core.specs.Told.{PutsLine, MayLack, IsLeft};
 
 use super::answer::{answer_line, put_long};
 use super::answerer::Answerer;
-use super::want::Want;
+use super::want::{NoAnswer, Want};
 use std::alloc::Global;
 
 /// How many bytes a line has at most, without its line feed.
@@ -31,6 +31,10 @@ pub enum Fate {
     /// There was no memory for them, and they are passed over.
     NoMemory,
 }
+
+/// Nobody answers the command of the line any more.
+#[derive(Clone, Copy, Debug, PartialEq, Eq)]
+pub struct Unanswered;
 
 /// The line that is being read.
 #[derive(Debug, Drop)]
@@ -95,38 +99,41 @@ impl LineBuffer {
     }
 
     /// Puts the answer to the line behind the text, and gives what is still to be written of it: where memory was
-    /// wanting, a constant text. Where the line is an entry that the log takes, the log has it from now on.
+    /// wanting, a constant text. Where the line is an entry that the log takes, the log has it from now on. Where nobody
+    /// answers it any more, the text stays.
     pub fn answer<A: Answerer>(
         &self,
         alloc: Global,
         answerer: &mut A,
         text: &mut Vec<u8>,
-    ) -> &'static [u8]
-        ensures { (line : List ℕ) → Holds self.now line
-            → PutsLine A.alone (A.log answerer.old) (A.log answerer.new) line text.old.items text.new.items result.now }
+    ) -> Result<&'static [u8], Unanswered>
+        ensures ok { IfOk result (λ rest. (line : List ℕ) → Holds self.now line
+            → PutsLine A.alone (A.log answerer.old) (A.log answerer.new) line text.old.items text.new.items rest.now) }
+        ensures left { OnErr result ((line : List ℕ) → Holds self.now line → IsLeft A.alone line) }
+        ensures text { OnErr result (text.new.items ≡ text.old.items) }
     {
         match self.put_answer(alloc, answerer, text) {
-            Ok(()) => &[],
-            Err(want) => want_line(want),
+            Ok(()) => Ok(&[]),
+            Err(NoAnswer::Memory(want)) => Ok(want_line(want)),
+            Err(NoAnswer::Gone) => Err(Unanswered),
         }
     }
 
-    /// Puts the answer to the line behind the text. Where memory is wanting, the text stays and the line adds nothing to
-    /// the log.
+    /// Puts the answer to the line behind the text. Where it has none, the text stays and the line adds nothing to the log.
     fn put_answer<A: Answerer>(
         &self,
         alloc: Global,
         answerer: &mut A,
         text: &mut Vec<u8>,
-    ) -> Result<(), Want>
+    ) -> Result<(), NoAnswer>
         ensures ok { OnOk result ((line : List ℕ) → Holds self.now line
             → PutsLine A.alone (A.log answerer.old) (A.log answerer.new) line text.old.items text.new.items []) }
-        ensures wants { IfErr result (λ want. (line : List ℕ) → Holds self.now line → MayMeet (Some want) line) }
+        ensures lacks { IfErr result (λ why. (line : List ℕ) → Holds self.now line → MayLack A.alone why line) }
         ensures text { OnErr result (text.new.items ≡ text.old.items) }
         ensures log { OnErr result (MayAnswerBy A.alone (A.log answerer.old) (A.log answerer.new)) }
     {
         match self.fate {
-            Fate::NoMemory => Err(Want::Line),
+            Fate::NoMemory => Err(NoAnswer::Memory(Want::Line)),
             Fate::TooLong if self.blank => Ok(()),
             Fate::TooLong => put_long(alloc, text),
             Fate::Kept if self.blank => Ok(()),

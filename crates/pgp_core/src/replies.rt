@@ -5,7 +5,7 @@ ghost use Rattle.pgp_text.specs.Command.{IsInRange};
 ghost use Rattle.pgp_log.specs.Fits.{fits};
 ghost use Rattle.pgp_group.specs.View.{scratch};
 
-use super::answerer::Answerer;
+use super::answerer::{Answerer, NoReply};
 use super::history::history;
 use super::log::Log;
 use pgp_code::AnyCode;
@@ -18,8 +18,9 @@ impl Answerer for Log {
 
     ghost log = { λ log. log };
 
-    fn reply(&mut self, alloc: Global, command: Command) -> Result<Reply, AllocError> {
-        reply_to(alloc, command, self)
+    fn reply(&mut self, alloc: Global, command: Command) -> Result<Reply, NoReply> {
+        let reply = reply_to(alloc, command, self)?;
+        Ok(reply)
     }
 }
 

@@ -1,19 +1,20 @@
 //! Answering a script: its lines are read, and the answer to each is written.
 
-ghost use Rattle.std.specs.Prelude.{◌≡◌, ℕ, ◌+◌, ◌<◌, ◌≤◌, List, [], ◌∷◌, ◌++◌, Bool, true, false, Option, OnOk, OnErr, IfOk, IfErr, length};
+ghost use Rattle.std.specs.Prelude.{◌≡◌, ◌≢◌, ℕ, ◌+◌, ◌<◌, ◌≤◌, List, [], ◌∷◌, ◌++◌, Bool, true, false, Option, OnOk, OnErr, IfOk, IsOk, IfErr, length};
 ghost use Rattle.std.specs.List.{list_any};
 ghost use Rattle.std.specs.Io.KnownBytes.{Appends, IsAtEnd};
 ghost use Rattle.pgp_ids.specs.declared.entry.Entry.{Entry};
 ghost use Rattle.pgp_core.specs.Lines.{is_line_feed};
 ghost use Rattle.pgp_core.specs.Line.{Holds};
 ghost use Rattle.pgp_core.specs.Run.{AllAnswered, ReadStopped, WriteStopped, bounds_of, script_bounds};
-ghost use Rattle.pgp_core.specs.Telling.{Began, Puts, PutsFront, IsAfter, IsDone, BrokenAtLast, WentBy, IsStopped, StopsIn, Reads, AllTold, Stops, whole_lines, began_at};
+ghost use Rattle.pgp_core.specs.Telling.{Began, Puts, StopsAt, IsAfter, IsDone, StoppedAtLast, WentBy, IsStopped, StopsIn, Reads, AllTold, Stops, whole_lines, began_at};
 
 use super::answerer::Answerer;
-use super::fault::ScriptFault;
+use super::fault::{AnswerFault, ScriptFault};
 use super::input::{Bounds, Input, split_line};
+use super::line::Unanswered;
 use super::log::Log;
-use super::output::{Output, WriteFault};
+use super::output::Output;
 use super::streams::{Sink, Source};
 use std::alloc::Global;
 
@@ -52,39 +53,51 @@ impl Script {
         self.input.add(piece);
     }
 
-    /// Answers the line that is being read.
+    /// Answers the line that is being read. Where nobody answers it any more, what is pending is written.
     fn put_answer<A: Answerer, W: Sink>(
         &mut self,
         alloc: Global,
         answerer: &mut A,
         writer: &mut W,
-    ) -> Result<(), WriteFault>
+    ) -> Result<(), AnswerFault>
         ensures ok { OnOk result ((line : List ℕ) → Holds self.old.input.line line
             → Puts A.alone (A.log answerer.old) (A.log answerer.new) line (W.contents writer.old) (W.contents writer.new)
             self.old.output.pending.items self.new.output.pending.items) }
-        ensures err { OnErr result ((line : List ℕ) → Holds self.old.input.line line
-            → PutsFront A.alone (A.log answerer.old) (A.log answerer.new) line (W.contents writer.old) (W.contents writer.new)
+        ensures err { IfErr result (λ fault. (line : List ℕ) → Holds self.old.input.line line
+            → StopsAt A.alone fault (A.log answerer.old) (A.log answerer.new) line (W.contents writer.old) (W.contents writer.new)
             self.old.output.pending.items) }
-        ensures told { OnErr result (W.failed writer.new ≡ true) }
+        ensures not_read { result ≢ Err AnswerFault.Read }
+        ensures told { result ≡ Err AnswerFault.Write → W.failed writer.new ≡ true }
         ensures kept { OnOk result (W.failed writer.new ≡ W.failed writer.old) }
+        ensures kept_at_gone { result ≡ Err AnswerFault.Gone → W.failed writer.new ≡ W.failed writer.old }
         ensures input { self.new.input ≡ self.old.input }
     {
-        let rest = self
+        let answer = self
             .input
             .line
             .answer(alloc, answerer, &mut self.output.pending);
-        self.output.put(rest, writer)
+        match answer {
+            Ok(rest) => {
+                self.output.put(rest, writer)?;
+                Ok(())
+            }
+            Err(Unanswered) => {
+                self.output.close(writer)?;
+                Err(AnswerFault::Gone)
+            }
+        }
     }
 
     /// Writes what is pending, and says which fault ends the script: that of the write comes first.
-    fn stop_reading<W: Sink>(&mut self, writer: &mut W) -> ScriptFault
+    fn stop_reading<W: Sink>(&mut self, writer: &mut W) -> AnswerFault
         ensures went { WentBy result (W.contents writer.old) (W.contents writer.new) self.old.output.pending.items }
-        ensures told { result ≡ ScriptFault.Write → W.failed writer.new ≡ true }
-        ensures kept { result ≡ ScriptFault.Read → W.failed writer.new ≡ W.failed writer.old }
+        ensures not_gone { result ≢ AnswerFault.Gone }
+        ensures told { result ≡ AnswerFault.Write → W.failed writer.new ≡ true }
+        ensures kept { result ≡ AnswerFault.Read → W.failed writer.new ≡ W.failed writer.old }
     {
         match self.output.close(writer) {
-            Ok(()) => ScriptFault::Read,
-            Err(_) => ScriptFault::Write,
+            Ok(()) => AnswerFault::Read,
+            Err(_) => AnswerFault::Write,
         }
     }
 
@@ -94,18 +107,20 @@ impl Script {
         alloc: Global,
         answerer: &mut A,
         writer: &mut W,
-    ) -> Result<(), WriteFault>
+    ) -> Result<(), AnswerFault>
         requires room { 0 < self.old.input.left.lines }
         requires fits { 0 < self.old.input.left.bytes }
         ensures left { OnOk result (self.new.input.left.bytes + 1 ≡ self.old.input.left.bytes) }
         ensures ok { OnOk result ((began : Began) (bytes : List ℕ)
             → IsAfter A.alone began self.old (A.log answerer.old) (W.contents writer.old) bytes
             → IsAfter A.alone began self.new (A.log answerer.new) (W.contents writer.new) (bytes ++ 10 ∷ [])) }
-        ensures err { OnErr result ((began : Began) (bytes more : List ℕ)
+        ensures err { IfErr result (λ fault. (began : Began) (bytes more : List ℕ)
             → IsAfter A.alone began self.old (A.log answerer.old) (W.contents writer.old) bytes
-            → IsStopped A.alone began ScriptFault.Write (W.contents writer.new) (whole_lines began (bytes ++ 10 ∷ more))) }
-        ensures told { OnErr result (W.failed writer.new ≡ true) }
+            → IsStopped A.alone began fault (W.contents writer.new) (whole_lines began (bytes ++ 10 ∷ more))) }
+        ensures not_read { result ≢ Err AnswerFault.Read }
+        ensures told { result ≡ Err AnswerFault.Write → W.failed writer.new ≡ true }
         ensures kept { OnOk result (W.failed writer.new ≡ W.failed writer.old) }
+        ensures kept_at_gone { result ≡ Err AnswerFault.Gone → W.failed writer.new ≡ W.failed writer.old }
     {
         self.put_answer(alloc, answerer, writer)?;
         self.input.end_line();
@@ -121,7 +136,7 @@ impl Script {
         chunk: &[u8],
         answerer: &mut A,
         writer: &mut W,
-    ) -> Result<(), ScriptFault>
+    ) -> Result<(), AnswerFault>
         requires fits { length chunk.now ≤ self.old.input.left.bytes }
         ensures left { OnOk result (self.new.input.left.bytes + length chunk.now ≡ self.old.input.left.bytes) }
         ensures ok { OnOk result ((began : Began) (bytes : List ℕ)
@@ -130,9 +145,10 @@ impl Script {
         ensures err { IfErr result (λ fault. (began : Began) (bytes more : List ℕ)
             → IsAfter A.alone began self.old (A.log answerer.old) (W.contents writer.old) bytes
             → StopsIn A.alone began fault (W.contents writer.new) (bytes ++ (chunk.now ++ more))) }
-        ensures told { result ≡ Err ScriptFault.Write → W.failed writer.new ≡ true }
+        ensures told { result ≡ Err AnswerFault.Write → W.failed writer.new ≡ true }
         ensures kept { OnOk result (W.failed writer.new ≡ W.failed writer.old) }
-        ensures kept_at_read { result ≡ Err ScriptFault.Read → W.failed writer.new ≡ W.failed writer.old }
+        ensures kept_at_read { result ≡ Err AnswerFault.Read → W.failed writer.new ≡ W.failed writer.old }
+        ensures kept_at_gone { result ≡ Err AnswerFault.Gone → W.failed writer.new ≡ W.failed writer.old }
     {
         let mut rest = chunk;
         while !rest.is_empty() {
@@ -161,7 +177,7 @@ impl Script {
         chunk: &[u8],
         answerer: &mut A,
         writer: &mut W,
-    ) -> Result<(), ScriptFault>
+    ) -> Result<(), AnswerFault>
         ensures left { OnOk result (self.new.input.left.bytes + length chunk.now ≡ self.old.input.left.bytes) }
         ensures ok { OnOk result ((began : Began) (bytes : List ℕ)
             → IsAfter A.alone began self.old (A.log answerer.old) (W.contents writer.old) bytes
@@ -169,9 +185,10 @@ impl Script {
         ensures err { IfErr result (λ fault. (began : Began) (bytes : List ℕ)
             → IsAfter A.alone began self.old (A.log answerer.old) (W.contents writer.old) bytes
             → StopsIn A.alone began fault (W.contents writer.new) (bytes ++ chunk.now)) }
-        ensures told { result ≡ Err ScriptFault.Write → W.failed writer.new ≡ true }
+        ensures told { result ≡ Err AnswerFault.Write → W.failed writer.new ≡ true }
         ensures kept { OnOk result (W.failed writer.new ≡ W.failed writer.old) }
-        ensures kept_at_read { result ≡ Err ScriptFault.Read → W.failed writer.new ≡ W.failed writer.old }
+        ensures kept_at_read { result ≡ Err AnswerFault.Read → W.failed writer.new ≡ W.failed writer.old }
+        ensures kept_at_gone { result ≡ Err AnswerFault.Gone → W.failed writer.new ≡ W.failed writer.old }
     {
         if chunk.len() as u64 <= self.input.left.bytes {
             return self.take_allowed(alloc, chunk, answerer, writer);
@@ -189,15 +206,17 @@ impl Script {
         alloc: Global,
         answerer: &mut A,
         writer: &mut W,
-    ) -> Result<(), WriteFault>
+    ) -> Result<(), AnswerFault>
         ensures ok { OnOk result ((began : Began) (bytes : List ℕ)
             → IsAfter A.alone began self.old (A.log answerer.old) (W.contents writer.old) bytes
             → IsDone A.alone began (A.log answerer.new) (W.contents writer.new) self.new.output.pending.items bytes) }
-        ensures err { OnErr result ((began : Began) (bytes : List ℕ)
+        ensures err { IfErr result (λ fault. (began : Began) (bytes : List ℕ)
             → IsAfter A.alone began self.old (A.log answerer.old) (W.contents writer.old) bytes
-            → BrokenAtLast A.alone began (W.contents writer.new) bytes) }
-        ensures told { OnErr result (W.failed writer.new ≡ true) }
+            → StoppedAtLast A.alone began fault (W.contents writer.new) bytes) }
+        ensures not_read { result ≢ Err AnswerFault.Read }
+        ensures told { result ≡ Err AnswerFault.Write → W.failed writer.new ≡ true }
         ensures kept { OnOk result (W.failed writer.new ≡ W.failed writer.old) }
+        ensures kept_at_gone { result ≡ Err AnswerFault.Gone → W.failed writer.new ≡ W.failed writer.old }
     {
         if self.input.line.started {
             self.put_answer(alloc, answerer, writer)
@@ -212,18 +231,21 @@ impl Script {
         alloc: Global,
         answerer: &mut A,
         writer: &mut W,
-    ) -> Result<(), WriteFault>
+    ) -> Result<(), AnswerFault>
         ensures ok { OnOk result ((began : Began) (bytes : List ℕ)
             → IsAfter A.alone began self.old (A.log answerer.old) (W.contents writer.old) bytes
             → IsDone A.alone began (A.log answerer.new) (W.contents writer.new) [] bytes) }
-        ensures err { OnErr result ((began : Began) (bytes : List ℕ)
+        ensures err { IfErr result (λ fault. (began : Began) (bytes : List ℕ)
             → IsAfter A.alone began self.old (A.log answerer.old) (W.contents writer.old) bytes
-            → BrokenAtLast A.alone began (W.contents writer.new) bytes) }
-        ensures told { OnErr result (W.failed writer.new ≡ true) }
+            → StoppedAtLast A.alone began fault (W.contents writer.new) bytes) }
+        ensures not_read { result ≢ Err AnswerFault.Read }
+        ensures told { result ≡ Err AnswerFault.Write → W.failed writer.new ≡ true }
         ensures kept { OnOk result (W.failed writer.new ≡ W.failed writer.old) }
+        ensures kept_at_gone { result ≡ Err AnswerFault.Gone → W.failed writer.new ≡ W.failed writer.old }
     {
         self.put_last(alloc, answerer, writer)?;
-        self.output.close(writer)
+        self.output.close(writer)?;
+        Ok(())
     }
 }
 
@@ -237,7 +259,7 @@ impl Script {
         answerer: &mut A,
         reader: &mut R,
         writer: &mut W,
-    ) -> Result<usize, ScriptFault>
+    ) -> Result<usize, AnswerFault>
         ensures ok { OnOk result ((began : Began) (from : Option (List ℕ))
             → Reads A.alone began self.old (A.log answerer.old) from (R.remaining reader.old) (W.contents writer.old)
             → Reads A.alone began self.new (A.log answerer.new) from (R.remaining reader.new) (W.contents writer.new)) }
@@ -246,15 +268,17 @@ impl Script {
         ensures err { IfErr result (λ fault. (began : Began) (from : Option (List ℕ))
             → Reads A.alone began self.old (A.log answerer.old) from (R.remaining reader.old) (W.contents writer.old)
             → Stops A.alone began fault from (R.remaining reader.new) (W.contents writer.new) (R.failed reader.new)) }
-        ensures told { result ≡ Err ScriptFault.Write → W.failed writer.new ≡ true }
+        ensures told { result ≡ Err AnswerFault.Write → W.failed writer.new ≡ true }
         ensures kept { OnOk result ((R.failed reader.new ≡ R.failed reader.old) × (W.failed writer.new ≡ W.failed writer.old)) }
-        ensures kept_at_read { result ≡ Err ScriptFault.Read → W.failed writer.new ≡ W.failed writer.old }
-        ensures kept_at_write { result ≡ Err ScriptFault.Write → R.failed reader.new ≡ R.failed reader.old }
+        ensures kept_at_read { result ≡ Err AnswerFault.Read → W.failed writer.new ≡ W.failed writer.old }
+        ensures kept_at_write { result ≡ Err AnswerFault.Write → R.failed reader.new ≡ R.failed reader.old }
+        ensures kept_at_gone { result ≡ Err AnswerFault.Gone
+            → (R.failed reader.new ≡ R.failed reader.old) × (W.failed writer.new ≡ W.failed writer.old) }
     {
         self.output.close(writer)?;
         let count = match reader.read(chunk) {
             Ok(count) => count,
-            Err(_) => return Err(ScriptFault::Read),
+            Err(_) => return Err(AnswerFault::Read),
         };
         if let Err(fault) = self.take(alloc, &chunk[..count], answerer, writer) {
             return Err(fault);
@@ -308,31 +332,49 @@ pub fn run_script_within<R: Source, W: Sink>(
         lines: max_lines,
         bytes: max_bytes,
     };
-    answer_script(alloc, &mut Log::new(alloc), reader, writer, bounds)
+    let ended = answer_script(alloc, &mut Log::new(alloc), reader, writer, bounds);
+    of_streams(ended)
+}
+
+/// How a script ended whose answerer is never gone.
+fn of_streams(ended: Result<(), AnswerFault>) -> Result<(), ScriptFault>
+    requires { ended ≢ Err AnswerFault.Gone }
+    ensures ok { OnOk result (IsOk ended) }
+    ensures read { result ≡ Err ScriptFault.Read → ended ≡ Err AnswerFault.Read }
+    ensures write { result ≡ Err ScriptFault.Write → ended ≡ Err AnswerFault.Write }
+{
+    match ended {
+        Ok(()) => Ok(()),
+        Err(AnswerFault::Read) => Err(ScriptFault::Read),
+        Err(AnswerFault::Write) => Err(ScriptFault::Write),
+        Err(AnswerFault::Gone) => unreachable!(),
+    }
 }
 
 /// Has the answerer answer the script that the reader gives, within bounds.
+///
+/// A fault says what it leaves, as at [`run_script_within`]. After [`AnswerFault::Gone`] the lines before the first one that
+/// nobody answers are answered, and no line from there on.
 pub fn answer_script<A: Answerer, R: Source, W: Sink>(
     alloc: Global,
     answerer: &mut A,
     reader: &mut R,
     writer: &mut W,
     bounds: Bounds,
-) -> Result<(), ScriptFault>
+) -> Result<(), AnswerFault>
     ensures ok { OnOk result (AllTold A.alone (began_at (A.log answerer.old) bounds (W.contents writer.old)) (A.log answerer.new)
         (R.remaining reader.old) (R.remaining reader.new) (W.contents writer.new)) }
     ensures err { IfErr result (λ fault. Stops A.alone (began_at (A.log answerer.old) bounds (W.contents writer.old)) fault
         (R.remaining reader.old) (R.remaining reader.new) (W.contents writer.new) (R.failed reader.new)) }
-    ensures told { result ≡ Err ScriptFault.Write → W.failed writer.new ≡ true }
+    ensures told { result ≡ Err AnswerFault.Write → W.failed writer.new ≡ true }
     ensures kept { OnOk result ((R.failed reader.new ≡ R.failed reader.old) × (W.failed writer.new ≡ W.failed writer.old)) }
-    ensures kept_at_read { result ≡ Err ScriptFault.Read → W.failed writer.new ≡ W.failed writer.old }
-    ensures kept_at_write { result ≡ Err ScriptFault.Write → R.failed reader.new ≡ R.failed reader.old }
+    ensures kept_at_read { result ≡ Err AnswerFault.Read → W.failed writer.new ≡ W.failed writer.old }
+    ensures kept_at_write { result ≡ Err AnswerFault.Write → R.failed reader.new ≡ R.failed reader.old }
+    ensures kept_at_gone { result ≡ Err AnswerFault.Gone
+        → (R.failed reader.new ≡ R.failed reader.old) × (W.failed writer.new ≡ W.failed writer.old) }
 {
     let mut chunk = [0u8; CHUNK];
     let mut script = Script::new(alloc, bounds);
     while script.read_on(alloc, &mut chunk, answerer, reader, writer)? != 0 {}
-    match script.finish(alloc, answerer, writer) {
-        Ok(()) => Ok(()),
-        Err(_) => Err(ScriptFault::Write),
-    }
+    script.finish(alloc, answerer, writer)
 }

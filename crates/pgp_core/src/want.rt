@@ -6,3 +6,12 @@ pub enum Want {
     /// An entry that a line was read as.
     Entry,
 }
+
+/// Why a line has no answer of its own.
+#[derive(Clone, Copy, Debug, PartialEq, Eq)]
+pub enum NoAnswer {
+    /// There was no memory, and a constant text says so.
+    Memory(Want),
+    /// Nobody answers its command any more.
+    Gone,
+}

@@ -1,5 +1,6 @@
 use Rattle.std.proofs.Common.{arith, lit<, refl}
-use Rattle.pgp_core.proofs.TurnLemmas.{reads_none, same_stops, ends, stops_at_end}
+use Rattle.std.proofs.lemmas.Result.{on_ok_weaker}
+use Rattle.pgp_core.proofs.TurnLemmas.{reads_none, same_stops, ends, ends_or_stops}
 use Rattle.pgp_core.proofs.script.answer_script.Goals as goal
 
 pub loop-script-init : goal.loop-script-init
@@ -16,10 +17,10 @@ returns-in_err-read_on-clause-err g c =
 
 pub returns-clause-err : goal.returns-clause-err
 returns-clause-err g c =
-    stops_at_end _ _ c.read_on.new.self _ _ _ _ _ _ (c.in_ok-read_on.ensures.ok _ _ c.loop-script.invariant.reads)
-    (c.in_ok-read_on.ensures.end (omega (arith, c.if-branch-ne0.false)) c.loop-script.invariant.room) c.in-Err.ensures.err
+    ends_or_stops _ _ _ c.read_on.new.self _ _ _ _ _ _ (c.in_ok-read_on.ensures.ok _ _ c.loop-script.invariant.reads)
+    (c.in_ok-read_on.ensures.end (omega (arith, c.if-branch-ne0.false)) c.loop-script.invariant.room) c.finish.ensures.not_read c.finish.ensures.err
 
-pub returns-in-Ok-clause-ok : goal.returns-in-Ok-clause-ok
-returns-in-Ok-clause-ok g c =
-    ends _ _ c.read_on.new.self _ _ _ _ _ _ (c.in_ok-read_on.ensures.ok _ _ c.loop-script.invariant.reads)
-    (c.in_ok-read_on.ensures.end (omega (arith, c.if-branch-ne0.false)) c.loop-script.invariant.room) c.in-Ok.ensures.ok
+pub returns-clause-ok : goal.returns-clause-ok
+returns-clause-ok g c =
+    on_ok_weaker _ (ends _ _ c.read_on.new.self _ _ _ _ _ _ (c.in_ok-read_on.ensures.ok _ _ c.loop-script.invariant.reads)
+    (c.in_ok-read_on.ensures.end (omega (arith, c.if-branch-ne0.false)) c.loop-script.invariant.room)) c.finish.ensures.ok

@@ -1,5 +1,5 @@
 use Rattle.std.proofs.lemmas.Result.{on_ok_weaker}
-use Rattle.pgp_core.proofs.LineLemmas.{puts-nothing, puts-long, puts-kept, long-wants, kept-wants}
+use Rattle.pgp_core.proofs.LineLemmas.{puts-nothing, puts-long, puts-kept, long-lacks, kept-lacks}
 use Rattle.pgp_core.proofs.line.LineBuffer.put_answer.Goals as goal
 
 pub returns-in-TooLong-clause-ok : goal.returns-in-TooLong-clause-ok
@@ -10,8 +10,8 @@ returns-in-TooLong-2-clause-ok g c =
     on_ok_weaker _ (puts-long g.A.Answerer.alone (g.A.Answerer.log c.args.answerer.now) c.args.self.now c.args.text.now.items c.put_long.new.text.items c.in-TooLong-2.is c.if-self.false)
     c.put_long.ensures.ok
 
-pub returns-in-TooLong-2-clause-wants : goal.returns-in-TooLong-2-clause-wants
-returns-in-TooLong-2-clause-wants g c = long-wants _ c.args.self.now c.if-self.false c.put_long.ensures.wants
+pub returns-in-TooLong-2-clause-lacks : goal.returns-in-TooLong-2-clause-lacks
+returns-in-TooLong-2-clause-lacks g c = long-lacks _ g.A.Answerer.alone c.args.self.now c.if-self.false c.put_long.ensures.lacks
 
 pub returns-in-Kept-clause-ok : goal.returns-in-Kept-clause-ok
 returns-in-Kept-clause-ok g c line holds = puts-nothing g.A.Answerer.alone _ c.args.self.now c.args.text.now.items line holds c.if-self-2.true
@@ -22,6 +22,6 @@ returns-in-Kept-2-clause-ok g c =
     c.in-Kept-2.is c.if-self-2.false)
     (rw c.as_slice.ensures.value at c.answer_line.ensures.ok)
 
-pub returns-in-Kept-2-clause-wants : goal.returns-in-Kept-2-clause-wants
-returns-in-Kept-2-clause-wants g c =
-    kept-wants _ c.args.self.now c.in-Kept-2.is c.if-self-2.false (rw c.as_slice.ensures.value at c.answer_line.ensures.wants)
+pub returns-in-Kept-2-clause-lacks : goal.returns-in-Kept-2-clause-lacks
+returns-in-Kept-2-clause-lacks g c =
+    kept-lacks _ g.A.Answerer.alone c.args.self.now c.in-Kept-2.is c.if-self-2.false (rw c.as_slice.ensures.value at c.answer_line.ensures.lacks)

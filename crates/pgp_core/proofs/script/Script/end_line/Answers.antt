@@ -1,11 +1,12 @@
-use Rattle.pgp_core.proofs.RunLemmas.{after-feed, broken-at-feed}
-use Rattle.pgp_core.proofs.OutputLemmas.{on_err}
+use Rattle.std.proofs.Common.{ap, Err}
+use Rattle.pgp_core.proofs.RunLemmas.{after-feed, same-feed}
 use Rattle.pgp_core.proofs.script.Script.end_line.Goals as goal
 
 pub returns-in_err-put_answer-clause-err : goal.returns-in_err-put_answer-clause-err
 returns-in_err-put_answer-clause-err g c =
-    on_err _ (broken-at-feed g.A.Answerer.alone c.args.self.now (g.A.Answerer.log c.args.answerer.now) (g.A.Answerer.log c.put_answer.new.answerer) (g.W.Sink.contents c.args.writer.now)
-    (g.W.Sink.contents c.put_answer.new.writer) c.requires.room c.requires.fits c.in_err-put_answer.ensures.err)
+    same-feed _ _ g.A.Answerer.alone c.args.self.now (g.A.Answerer.log c.args.answerer.now) (g.A.Answerer.log c.put_answer.new.answerer) (g.W.Sink.contents c.args.writer.now)
+    (g.W.Sink.contents c.put_answer.new.writer) c.from_residual.ensures.1 c.requires.room c.requires.fits (λ read. c.in_err-put_answer.ensures.not_read (ap Err read))
+    c.in_err-put_answer.ensures.err
 
 pub returns-clause-ok : goal.returns-clause-ok
 returns-clause-ok g c began bytes so_far =

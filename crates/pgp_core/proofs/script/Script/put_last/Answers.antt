@@ -1,12 +1,12 @@
-use Rattle.std.proofs.lemmas.Result.{on_ok_weaker, on_err_weaker}
-use Rattle.pgp_core.proofs.RunLemmas.{done_started, done_ended, broken_last}
+use Rattle.std.proofs.lemmas.Result.{on_ok_weaker}
+use Rattle.pgp_core.proofs.RunLemmas.{done_started, done_ended, last_stops}
 use Rattle.pgp_core.proofs.script.Script.put_last.Goals as goal
 
 pub returns-then-self-clause-ok : goal.returns-then-self-clause-ok
 returns-then-self-clause-ok g c = on_ok_weaker _ (done_started _ c.args.self.now _ _ _ _ _ c.if-self.true) c.put_answer.ensures.ok
 
 pub returns-then-self-clause-err : goal.returns-then-self-clause-err
-returns-then-self-clause-err g c = on_err_weaker _ (broken_last _ c.args.self.now _ _ _ _ c.if-self.true) c.put_answer.ensures.err
+returns-then-self-clause-err g c = last_stops _ _ c.args.self.now _ _ _ _ c.if-self.true c.put_answer.ensures.not_read c.put_answer.ensures.err
 
 pub returns-else-self-clause-ok : goal.returns-else-self-clause-ok
 returns-else-self-clause-ok g c = done_ended _ c.args.self.now _ _ c.if-self.false

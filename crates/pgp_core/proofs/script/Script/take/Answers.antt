@@ -1,4 +1,4 @@
-use Rattle.std.proofs.Common.{◌≡◌, ◌<◌, [], ◌++◌, ◌∙◌, length, take, drop, ap, subst, append_assoc, append-nil, take-append-drop, arith, length-append, length-take}
+use Rattle.std.proofs.Common.{◌≡◌, ◌<◌, ◌++◌, ◌∙◌, length, take, drop, ap, subst, append_assoc, take-append-drop, arith, length-append, length-take}
 use Rattle.pgp_core.specs.Telling.{StopsIn}
 use Rattle.pgp_core.proofs.RunLemmas.{amid_whole, stopped, all_bytes, beyond_bytes}
 use Rattle.pgp_core.proofs.script.Script.take.Goals as goal
@@ -21,7 +21,7 @@ returns-in-Ok-clause-err g c began bytes so_far =
     let here = c.in-Ok.ensures.ok began bytes so_far in
     subst (StopsIn g.A.Answerer.alone began c.stop_reading.result _) whole
     (record {
-      stopped = stopped c.stop_reading.result g.A.Answerer.alone began script _ _ _ (bytes ++ take left chunk) (drop left chunk) here c.stop_reading.ensures.went
+      stopped = stopped c.stop_reading.result g.A.Answerer.alone began script _ _ _ (bytes ++ take left chunk) (drop left chunk) here c.stop_reading.ensures.not_gone c.stop_reading.ensures.went
           (λ _. all_bytes began script.input (bytes ++ take left chunk) (drop left chunk) here.read none);
       beyond = λ _. beyond_bytes began script.input (bytes ++ take left chunk) (drop left chunk) here.read none some;
     })

@@ -1,9 +1,7 @@
-use Rattle.std.proofs.Common.{◌≡◌, ◌<◌, [], ◌∷◌, ◌++◌, length, refl, sym, ◌∙◌, ap, subst, append-nil, arith, length-append}
+use Rattle.std.proofs.Common.{◌<◌, [], ◌∷◌, ◌++◌, length, refl, sym, ◌∙◌, ap, Err, subst, append-nil, arith, length-append}
 use Rattle.std.proofs.lemmas.Bool.Decides.{nat_tests}
-use Rattle.pgp_core.specs.Telling.{StopsIn, IsStopped, whole_lines}
-use Rattle.pgp_core.specs.declared.script.Script.{Script}
-use Rattle.pgp_core.specs.declared.fault.ScriptFault.TheVariants.{Read, Write}
-use Rattle.pgp_core.proofs.RunLemmas.{write_amid, stopped, all_lines, beyond_lines, taken-more, regroup, regroup_line}
+use Rattle.pgp_core.specs.Telling.{StopsIn}
+use Rattle.pgp_core.proofs.RunLemmas.{same_amid, stopped, all_lines, beyond_lines, taken-more, regroup, regroup_line}
 use Rattle.pgp_core.proofs.script.Script.take_allowed.Goals as goal
 
 pub returns-then-self-eq0-clause-err : goal.returns-then-self-eq0-clause-err
@@ -15,23 +13,23 @@ returns-then-self-eq0-clause-err g c began bytes more so_far =
     let some : 0 < length (rest ++ more) = omega (arith, present, length-append rest more) in
     subst (StopsIn g.A.Answerer.alone began c.stop_reading.result _) (regroup bytes taken.done rest c.args.chunk.now more taken.whole)
     (record {
-      stopped = stopped c.stop_reading.result g.A.Answerer.alone began c.loop-rest.self _ _ _ (bytes ++ taken.done) (rest ++ more) here c.stop_reading.ensures.went
+      stopped = stopped c.stop_reading.result g.A.Answerer.alone began c.loop-rest.self _ _ _ (bytes ++ taken.done) (rest ++ more) here c.stop_reading.ensures.not_gone c.stop_reading.ensures.went
           (λ _. all_lines began c.loop-rest.self.input (bytes ++ taken.done) (rest ++ more) here.read c.if-self-eq0.true);
       beyond = λ _. beyond_lines began c.loop-rest.self.input (bytes ++ taken.done) (rest ++ more) here.read c.if-self-eq0.true some;
     })
 
 pub returns-in_err-end_line-in-Some-clause-err : goal.returns-in_err-end_line-in-Some-clause-err
 returns-in_err-end_line-in-Some-clause-err g c =
-    write_amid _ g.A.Answerer.alone c.args.self.now (g.A.Answerer.log c.args.answerer.now) (g.W.Sink.contents c.args.writer.now) (g.W.Sink.contents c.end_line.new.writer) c.args.chunk.now
+    same_amid _ _ g.A.Answerer.alone c.args.self.now (g.A.Answerer.log c.args.answerer.now) (g.W.Sink.contents c.args.writer.now) (g.W.Sink.contents c.end_line.new.writer) c.args.chunk.now
     c.from_residual.ensures.1
     (λ began bytes more so_far.
     let taken = c.loop-rest.invariant.taken in
     let here = c.add.ensures.after g.A.Answerer.alone began _ _ (bytes ++ taken.done) (taken.goes began bytes so_far) in
-    subst (StopsIn g.A.Answerer.alone began Write (g.W.Sink.contents c.end_line.new.writer))
+    subst (StopsIn g.A.Answerer.alone began c.in_err-end_line-in-Some.field-0.0 (g.W.Sink.contents c.end_line.new.writer))
     (regroup_line bytes taken.done c.loop-rest.rest.now c.args.chunk.now c.in-Some.piece.now c.in-Some.others.now more taken.whole c.in-Some.ensures.whole)
     (record {
       stopped = c.in_err-end_line-in-Some.ensures.err began ((bytes ++ taken.done) ++ c.in-Some.piece.now) (c.in-Some.others.now ++ more) here;
-      beyond = λ read. cc;
+      beyond = λ read. absurd (c.in_err-end_line-in-Some.ensures.not_read (ap Err read));
     }))
 
 pub loop-rest-preserved-in-Some : goal.loop-rest-preserved-in-Some
