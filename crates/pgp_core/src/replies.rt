@@ -33,7 +33,7 @@ fn reply_to(alloc: Global, command: Command, log: &mut Log) -> Result<Reply, All
 {
     match command {
         Command::Submit(entry) => submit(entry, log),
-        Command::Ask(pg) => Ok(asked(pg, log.ask(alloc, pg)?)),
+        Command::Ask(pg) => Ok(asked(pg, log.ask(pg)?)),
         Command::Locate { pool, name } => Ok(log.locate(pool, &name)),
         Command::Trace { code, epochs } => traced(alloc, code, epochs),
     }
