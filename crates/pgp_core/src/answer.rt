@@ -12,7 +12,7 @@ use super::accepted::{LONGEST_ACCEPTED, put_accepted};
 use super::answerer::{Answerer, NoReply};
 use super::want::{NoAnswer, Want};
 use pgp_ids::TextFault;
-use pgp_text::{Command, Refused, Reply, read_line, write_reply};
+use pgp_text::{Command, Refused, Reply, read_line, write_reply_to};
 use std::alloc::{AllocError, Global};
 
 /// Puts the answer to a line that isn't blank and not too long behind the text, with a line feed.
@@ -129,9 +129,13 @@ fn put_reply(alloc: Global, reply: &Reply, text: &mut Vec<u8>) -> Result<(), All
     match reply {
         Reply::Accepted { op, count, epoch } => put_accepted(text, *op, *count, *epoch),
         reply => {
-            let mut line = write_reply(alloc, reply)?;
-            line.push(b'\n')?;
-            text.extend_from_slice(line.as_slice())
+            let before = text.len();
+            write_reply_to(alloc, text, reply)?;
+            if text.push(b'\n').is_err() {
+                text.truncate(before);
+                return Err(AllocError);
+            }
+            Ok(())
         }
     }
 }
