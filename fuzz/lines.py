@@ -1,0 +1,237 @@
+"""What a line is: a command, or the first fault of it, by docs/FORMAT.md.
+
+The reader of JSON is Python's own, made as strict as RFC 8259 and serde_json: no NaN, no half of a surrogate pair, no number
+beyond a float, no nesting deeper than 127.
+"""
+
+import json
+import re
+from typing import Any, Callable, Dict, List, NamedTuple, Optional, Union
+
+LONGEST = 1_048_576  # bytes of a line
+DEEPEST = 127
+WORD = 0xFFFFFFFF
+MOST_PLACES, MOST_EPOCHS, MOST_ENTRIES, LONGEST_NAME = 16, 4096, 256, 255
+
+Shape = Callable[[Any], bool]
+
+
+class Fault(NamedTuple):
+    """What is wrong with a line."""
+
+    code: int
+    name: str
+    key: Optional[str] = None
+    op: str = ""
+
+
+class Command(NamedTuple):
+    """What a line asks for: its operation, and its object as it was read."""
+
+    op: str
+    value: Dict[str, Any]
+
+
+# JSON
+
+
+def whole(text: str) -> Union[int, float]:
+    """A number without fraction and exponent. `-0` is no whole number, and one that no float holds is no number."""
+    if text == "-0":
+        return -0.0
+    if len(text) > 300:
+        return finite(text)
+    return int(text)
+
+
+def finite(text: str) -> float:
+    value = float(text)
+    if value in (float("inf"), float("-inf")):
+        raise ValueError
+    return value
+
+
+def refused(_text: str) -> Any:
+    raise ValueError
+
+
+JSON = json.JSONDecoder(parse_int=whole, parse_float=finite, parse_constant=refused)
+TEXTS = re.compile(r'"(?:[^"\\]|\\.)*"')
+PAIR = re.compile(r"\\u[dD][89abAB][0-9a-fA-F]{2}\\u[dD][c-fC-F][0-9a-fA-F]{2}")
+HALF = re.compile(r"\\u[dD][89a-fA-F]")
+
+
+def depth(text: str) -> int:
+    """How deep the lists and objects of a JSON text are nested."""
+    deepest = now = 0
+    for sign in re.sub(r"[^\[\]{}]+", "", TEXTS.sub("", text)):
+        now += 1 if sign in "[{" else -1
+        deepest = max(deepest, now)
+    return deepest
+
+
+def escapes_half_pair(text: str) -> bool:
+    """Tells whether a JSON text escapes one half of a surrogate pair without the other, be it in a value that is dropped."""
+    return HALF.search(PAIR.sub(" ", text.replace("\\\\", " "))) is not None
+
+
+def parsed(line: bytes) -> Any:
+    """The value of a JSON text; a ValueError where it is none."""
+    text = line.decode()
+    value = JSON.decode(text)
+    if text.count("[") + text.count("{") > DEEPEST and depth(text) > DEEPEST:
+        raise ValueError
+    if "\\u" in text and escapes_half_pair(text):
+        raise ValueError
+    return value
+
+
+# Shapes
+
+
+def number(least: int, most: int) -> Shape:
+    return lambda value: type(value) is int and least <= value <= most
+
+
+def is_text(value: Any) -> bool:
+    return isinstance(value, str)
+
+
+def list_of(shape: Shape, least: int = 0, most: Optional[int] = None) -> Shape:
+    def is_list(value: Any) -> bool:
+        if not isinstance(value, list) or len(value) < least or (most is not None and len(value) > most):
+            return False
+        return all(map(shape, value))
+
+    return is_list
+
+
+def parts(*shapes: Shape) -> Shape:
+    """A list of just these parts."""
+
+    def has_parts(value: Any) -> bool:
+        return isinstance(value, list) and len(value) == len(shapes) and all(shape(it) for shape, it in zip(shapes, value))
+
+    return has_parts
+
+
+def keys(**shapes: Shape) -> Shape:
+    """An object of just these keys."""
+
+    def has_keys(value: Any) -> bool:
+        return isinstance(value, dict) and value.keys() == shapes.keys() and all(shapes[key](value[key]) for key in shapes)
+
+    return has_keys
+
+
+def either(*shapes: Shape) -> Shape:
+    return lambda value: any(shape(value) for shape in shapes)
+
+
+def one_of(*values: str) -> Shape:
+    return lambda value: isinstance(value, str) and value in values
+
+
+device, pool_id, group_number, byte, word = number(0, 4095), number(1, 255), number(0, 1023), number(0, 255), number(0, WORD)
+group = parts(pool_id, group_number)
+version = parts(word, word)
+
+
+def is_name(value: Any) -> bool:
+    return isinstance(value, str) and 1 <= len(value.encode("utf-8", "surrogatepass")) <= LONGEST_NAME
+
+
+def is_null(value: Any) -> bool:
+    return value is None
+
+
+sizes = {"size": byte, "min_size": byte, "leaf": byte}
+pool = either(
+    keys(id=pool_id, pg_num=number(0, 65535), kind=one_of("replicated"), **sizes),
+    keys(id=pool_id, pg_num=number(0, 65535), kind=one_of("erasure"), k=byte, **sizes),
+)
+bucket_parts = {"id": number(-65536, -1), "type": byte, "items": list_of(number(-65536, 65535))}
+uniform_bucket = keys(alg=one_of("uniform"), **bucket_parts)
+list_bucket = keys(alg=one_of("list"), weights=list_of(word), **bucket_parts)
+
+
+def is_bucket(value: Any) -> bool:
+    return uniform_bucket(value) or (list_bucket(value) and len(value["weights"]) == len(value["items"]))
+
+
+def epoch_of(place: Shape) -> Shape:
+    """An epoch of a trace."""
+    places = list_of(place, most=MOST_PLACES)
+    size = number(1, MOST_PLACES)
+    plain = keys(up=places, acting=places, size=size, min_size=size, up_from=word, up_thru=word)
+    return lambda value: plain(value) and value["min_size"] <= value["size"]
+
+
+replicated_code = keys(kind=one_of("replicated"))
+erasure_code = keys(kind=one_of("erasure"), k=number(1, 16))
+replicated_epochs = list_of(epoch_of(device), 1, MOST_EPOCHS)
+erasure_epochs = list_of(epoch_of(either(device, is_null)), 1, MOST_EPOCHS)
+
+REPORT = {"pg": group, "from": parts(device, number(0, 15)), "stamp": word}
+REQUIRED: Dict[str, Dict[str, Shape]] = {
+    "inc": {"epoch": word},
+    "info": {
+        **REPORT,
+        "les": word,
+        "history_les": word,
+        "last_update": version,
+        "log_tail": version,
+        "complete": lambda value: isinstance(value, bool),
+    },
+    "entries": {**REPORT, "log": list_of(parts(word, word, one_of("modify", "delete"), is_name), 1, MOST_ENTRIES)},
+    "close": {},
+    "ask": {"pg": group},
+    "locate": {"pool": pool_id, "name": is_name},
+    "trace": {"code": either(replicated_code, erasure_code), "epochs": is_null},
+}
+OPTIONAL: Dict[str, Dict[str, Shape]] = {
+    "inc": {
+        **dict.fromkeys(("up", "down", "gone"), list_of(device)),
+        "weight": list_of(parts(device, word)),
+        **dict.fromkeys(("up_thru", "lost"), list_of(parts(device, word))),
+        "pools": list_of(pool),
+        "sizes": list_of(parts(pool_id, byte, byte)),
+        "temp": list_of(parts(pool_id, group_number, list_of(either(device, is_null)))),
+        "crush": list_of(is_bucket),
+    }
+}
+OPS = tuple(REQUIRED)
+KEYS = {op: {"op", *REQUIRED[op], *OPTIONAL.get(op, {})} for op in OPS}
+
+
+def least_bad(op: str, value: Dict[str, Any]) -> Optional[str]:
+    """The least key of an object that is absent though required, or has a value of another shape."""
+    required, optional = REQUIRED[op], OPTIONAL.get(op, {})
+    if op == "trace":
+        is_replicated = isinstance(value.get("code"), dict) and value["code"].get("kind") == "replicated"
+        required = {**required, "epochs": replicated_epochs if is_replicated else erasure_epochs}
+    bad = [key for key, shape in required.items() if key not in value or not shape(value[key])]
+    bad += [key for key, shape in optional.items() if key in value and not shape(value[key])]
+    return min(bad, default=None)
+
+
+def is_blank(line: bytes) -> bool:
+    return not line.strip(b" \t\r")
+
+
+def read(line: bytes) -> Union[Command, Fault]:
+    """The command that a line is, which isn't blank and has no line feed, or its first fault."""
+    if len(line) > LONGEST:
+        return Fault(30, "LineTooLong")
+    try:
+        value = parsed(line)
+    except (ValueError, RecursionError):
+        return Fault(31, "NotJson")
+    op = value.get("op") if isinstance(value, dict) else None
+    if not isinstance(op, str) or op not in KEYS:
+        return Fault(32, "NoOp")
+    unknown = value.keys() - KEYS[op]
+    if unknown:
+        return Fault(33, "UnknownKey", min(unknown), op)
+    bad = least_bad(op, value)
+    return Command(op, value) if bad is None else Fault(34, "BadField", bad, op)

@@ -1,0 +1,94 @@
+"""Tests of lines.py."""
+
+import pathlib
+import sys
+import unittest
+
+sys.path.insert(0, str(pathlib.Path(__file__).resolve().parent.parent))
+
+import lines  # noqa: E402
+
+
+def fault(line):
+    """The code of a line's fault and the key that it names; None where it is a command."""
+    found = lines.read(line)
+    return (found.code, found.key) if isinstance(found, lines.Fault) else None
+
+
+class Json(unittest.TestCase):
+    def test_what_is_no_json(self):
+        for line in (b"{", b"nul", b"NaN", b"[Infinity]", b"01", b"1.", b"'a'", b"[1,]", b"1 2"):
+            self.assertEqual(fault(line), (31, None), line)
+        for line in (b"\xff", b'"\xed\xa0\x80"', b'"\x01"', b"\xef\xbb\xbf1"):
+            self.assertEqual(fault(line), (31, None), line)
+
+    def test_numbers_beyond_a_float_are_no_json(self):
+        for line in (b"1e400", b"-1e400", b"9" * 330, b"1" + b"0" * 400 + b".5"):
+            self.assertEqual(fault(line), (31, None), line)
+        for line in (b"1e308", b"9" * 300, b"9" * 20, b"1e-999", b"0e999"):
+            self.assertEqual(fault(line), (32, None), line)
+
+    def test_halves_of_surrogate_pairs_are_no_json(self):
+        for line in (rb'"\ud800"', rb'"\udc00"', rb'"\ud800\ud800"', rb'{"a":"\udfff","a":1}', rb'"\\\ud800"'):
+            self.assertEqual(fault(line), (31, None), line)
+        for line in (rb'"\ud83d\ude00"', rb'"\\ud800"', rb'"\u0000"'):
+            self.assertEqual(fault(line), (32, None), line)
+
+    def test_nesting(self):
+        self.assertEqual(fault(b"[" * 127 + b"]" * 127), (32, None))
+        self.assertEqual(fault(b"[" * 128 + b"]" * 128), (31, None))
+        self.assertEqual(fault(b'["' + b"[" * 200 + b'"]'), (32, None))
+        self.assertEqual(fault(b"[" * 100_000), (31, None))
+
+
+class Order(unittest.TestCase):
+    def test_length_comes_first(self):
+        self.assertEqual(fault(b"x" * 1_048_577), (30, None))
+        self.assertEqual(fault(b"x" * 1_048_576), (31, None))
+        self.assertIsNone(fault(b'{"op":"close"}' + b" " * (1_048_576 - 14)))
+
+    def test_no_operation(self):
+        for line in (b"[]", b"{}", b'{"op":"peer","x":1}', b'{"op":["ask"]}', b'{"op":"ask","op":1}'):
+            self.assertEqual(fault(line), (32, None), line)
+
+    def test_an_unknown_key_comes_before_a_bad_value(self):
+        self.assertEqual(fault(b'{"op":"ask","pg":0,"z":1,"x":1}'), (33, "x"))
+        self.assertEqual(fault('{"op":"close","é":1,"zz":1}'.encode()), (33, "zz"))
+
+    def test_the_least_bad_key_is_named(self):
+        self.assertEqual(fault(b'{"op":"inc","up":[4096]}'), (34, "epoch"))
+        self.assertEqual(fault(b'{"op":"inc","up":[4096],"epoch":1,"weight":0}'), (34, "up"))
+        self.assertEqual(fault(b'{"op":"trace","epochs":[],"code":0}'), (34, "code"))
+
+    def test_blank_lines(self):
+        self.assertTrue(lines.is_blank(b" \t\r") and lines.is_blank(b""))
+        self.assertFalse(lines.is_blank(b"\x0b") or lines.is_blank(b"\x00"))
+
+
+class Shapes(unittest.TestCase):
+    def test_whole_numbers(self):
+        for number in (b"-0", b"1.0", b"1e0", b"-1", b"4294967296", b"true", b"null", b'"1"'):
+            self.assertEqual(fault(b'{"op":"inc","epoch":' + number + b"}"), (34, "epoch"), number)
+        self.assertIsNone(fault(b'{"op":"inc","epoch":4294967295}'))
+
+    def test_buckets(self):
+        head = b'{"op":"inc","epoch":1,"crush":[{"id":-1,"type":1,"alg":'
+        self.assertIsNone(fault(head + b'"uniform","items":[65535,-65536]}]}'))
+        self.assertIsNone(fault(head + b'"list","items":[1],"weights":[0]}]}'))
+        for tail in (b'"uniform","items":[1],"weights":[0]}]}', b'"list","items":[1],"weights":[]}]}', b'"list","items":[1]}]}'):
+            self.assertEqual(fault(head + tail), (34, "crush"), tail)
+        for tail in (b'"straw","items":[]}]}', b'"uniform","items":[65536]}]}'):
+            self.assertEqual(fault(head + tail), (34, "crush"), tail)
+
+    def test_empty_places_of_a_trace(self):
+        epoch = b'{"up":[null],"acting":[],"size":1,"min_size":1,"up_from":0,"up_thru":0}'
+        self.assertEqual(fault(b'{"op":"trace","code":{"kind":"replicated"},"epochs":[' + epoch + b"]}"), (34, "epochs"))
+        self.assertIsNone(fault(b'{"op":"trace","code":{"kind":"erasure","k":1},"epochs":[' + epoch + b"]}"))
+
+    def test_names_count_bytes(self):
+        for name, is_well in (("é" * 127, True), ("é" * 128, False), ("", False), ("x" * 255, True), (r"\u0061", True)):
+            self.assertEqual(fault(f'{{"op":"locate","pool":1,"name":"{name}"}}'.encode()), None if is_well else (34, "name"))
+
+
+if __name__ == "__main__":
+    unittest.main()

@@ -1,0 +1,152 @@
+"""Tests of model.py: the examples of the repository and of docs/FORMAT.md."""
+
+import json
+import pathlib
+import sys
+import unittest
+
+HERE = pathlib.Path(__file__).resolve().parent
+ROOT = HERE.parent.parent
+sys.path.insert(0, str(HERE.parent))
+sys.path.insert(0, str(ROOT / "tools"))
+
+import model  # noqa: E402
+import peering  # noqa: E402
+import placement  # noqa: E402
+import run_examples  # noqa: E402
+
+
+def answers(script):
+    """The model's answers to a script."""
+    log = model.Model()
+    found = [log.answer(line) for line in script.split(b"\n")]
+    return [answer.text.encode() for answer in found if answer is not None]
+
+
+def codes(*lines):
+    """Of each line the code of its refusal, or 0."""
+    return [json.loads(text).get("code", 0) for text in answers(b"\n".join(lines))]
+
+
+def inc(epoch, **parts):
+    return json.dumps({"op": "inc", "epoch": epoch, **parts}).encode()
+
+
+class Examples(unittest.TestCase):
+    def test_scripts(self):
+        for script, wanted in run_examples.examples():
+            self.assertEqual(answers(script.read_bytes()), wanted.read_bytes().splitlines(), script.name)
+
+    def test_document(self):
+        before = (ROOT / "examples" / "first.jsonl").read_bytes()
+        for line, wanted in run_examples.documented():
+            found = answers(before + line)[-1]
+            if wanted is None:
+                self.assertNotIn(json.loads(found).get("code"), run_examples.FAULTS_OF_A_LINE, line)
+            else:
+                self.assertEqual(found, wanted, line)
+
+
+class Hashes(unittest.TestCase):
+    def test_groups_of_twelve(self):
+        self.assertEqual([placement.stable_mod(it, 12) for it in (11, 12, 15, 16)], [11, 4, 7, 0])
+        self.assertEqual([placement.stable_mod(it, 1) for it in (0, 7)], [0, 0])
+
+    def test_a_name_is_read_by_twelve_bytes(self):
+        found = {placement.name_hash(b"x" * length) for length in range(40)}
+        self.assertEqual(len(found), 40)
+
+
+class Trees(unittest.TestCase):
+    def fault(self, *buckets):
+        made = []
+        for name, kind, items, weights in buckets:
+            alg = "list" if weights else "uniform"
+            made.append(placement.Bucket(name, kind, alg, list(items), list(weights)))
+        return placement.tree_fault(made)
+
+    def test_each_fault(self):
+        self.assertIsNone(self.fault((-1, 1, (), ())))
+        self.assertEqual(self.fault(), 1)
+        self.assertEqual(self.fault((-1, 1, (0,), ()), (-2, 1, (1,), ())), 1)
+        self.assertEqual(self.fault((-1, 1, (0,), ()), (-1, 1, (1,), ())), 1)
+        self.assertEqual(self.fault((-1, 2, (-2, 0), ()), (-2, 1, (0,), ())), 2)
+        self.assertEqual(self.fault((-1, 1, (-2,), ()), (-2, 1, (0,), ())), 3)
+        self.assertEqual(self.fault((-1, 2, (-7,), ())), 4)
+        self.assertEqual(self.fault((-1, 1, (4096,), ())), 4)
+        self.assertEqual(self.fault(*((-1 - at, 11 - at, (-2 - at,) if at < 10 else (0,), ()) for at in range(11))), 5)
+        self.assertEqual(self.fault((-1, 1, range(257), ())), 6)
+        self.assertEqual(self.fault((-1, 1, (0, 1), (2**32 - 1, 1))), 7)
+
+
+class Placements(unittest.TestCase):
+    ROOT = placement.Bucket(-1, 1, "uniform", [0, 1, 2, 3], [])
+
+    def placed(self, rule, kind, weight, size):
+        return rule(placement.tree_of([self.ROOT]), kind, weight, 5, size)
+
+    def test_all_of_a_flat_tree(self):
+        self.assertEqual(sorted(self.placed(placement.first_n, 0, lambda osd: placement.FULL, 4)), [0, 1, 2, 3])
+        self.assertEqual(sorted(self.placed(placement.indep, 0, lambda osd: placement.FULL, 4)), [0, 1, 2, 3])
+
+    def test_devices_that_are_out(self):
+        self.assertEqual(self.placed(placement.first_n, 0, lambda osd: placement.FULL * (osd == 2), 3), [2])
+        self.assertEqual(self.placed(placement.indep, 0, lambda osd: 0, 3), [None] * 3)
+
+    def test_a_type_below_which_there_are_devices_alone(self):
+        self.assertEqual(self.placed(placement.first_n, 7, lambda osd: placement.FULL, 3), [])
+        self.assertEqual(self.placed(placement.indep, 7, lambda osd: placement.FULL, 3), [None] * 3)
+
+
+class Incrementals(unittest.TestCase):
+    POOL = {"id": 1, "pg_num": 1, "kind": "replicated", "size": 3, "min_size": 2, "leaf": 0}
+    FIRST = inc(1, up=[0, 1, 2], pools=[POOL])
+
+    def test_the_first_reason_is_told(self):
+        for number, parts in {
+            11: {"up": [0], "down": [0]}, 12: {"down": [9]}, 13: {"up": [0], "up_thru": [[0, 9]]}, 15: {"gone": [0]},
+            17: {"up_thru": [[0, 3]]}, 18: {"sizes": [[2, 3, 2]]}, 19: {"pools": [self.POOL]}, 20: {"temp": [[1, 1, []]]},
+            21: {"crush": []}, 0: {"up_thru": [[0, 2]]},
+        }.items():  # fmt: skip
+            self.assertEqual(codes(self.FIRST, inc(2, **parts)), [0, number], parts)
+        self.assertEqual(codes(self.FIRST, inc(3)), [0, 10])
+        self.assertEqual(codes(self.FIRST, inc(2, up_thru=[[0, 2]]), inc(3, up_thru=[[0, 1]])), [0, 0, 16])
+        self.assertEqual(codes(self.FIRST, inc(2, down=[1]), inc(3, down=[1])), [0, 0, 14])
+
+    def test_a_closed_log(self):
+        self.assertEqual(codes(b'{"op":"close"}', inc(7), b'{"op":"close"}', b'{"op":"ask","pg":[1,0]}'), [0, 64, 64, 40])
+
+
+class Peering(unittest.TestCase):
+    def info(self, last, tail=(0, 0), complete=True):
+        return {"last_update": list(last), "log_tail": list(tail), "complete": complete, "les": 0, "history_les": 0}
+
+    def test_pools_of_copies_take_the_newest_and_codes_the_oldest(self):
+        heard = {(0, 0): self.info((1, 1)), (1, 1): self.info((1, 2))}
+        self.assertEqual(peering.best_of(None, heard, None), (1, 1))
+        self.assertEqual(peering.best_of(2, heard, None), (0, 0))
+
+    def test_among_equals_the_leader(self):
+        heard = {(0, 0): self.info((1, 1)), (1, 0): self.info((1, 1))}
+        self.assertEqual(peering.best_of(None, heard, (1, 0)), (1, 0))
+        self.assertEqual(peering.best_of(None, heard, None), (0, 0))
+
+    def test_a_log_is_whole(self):
+        parts = [{"log": [[1, 2, "modify", "x"], [1, 1, "modify", "a"], [1, 2, "delete", "b"]]}]
+        self.assertEqual(peering.log_of(self.info((1, 2)), parts), [((1, 1), "modify", "a"), ((1, 2), "delete", "b")])
+        self.assertIsNone(peering.log_of(self.info((1, 3)), parts))
+        self.assertIsNone(peering.log_of(self.info((2, 2)), parts))
+        self.assertEqual(peering.log_of(self.info((1, 2), (1, 2)), []), [])
+        self.assertIsNone(peering.log_of(self.info((1, 2**32 - 1)), parts))
+
+    def test_what_a_peer_lacks(self):
+        log = [((1, 1), "modify", "a"), ((1, 2), "modify", "b"), ((1, 3), "delete", "a")]
+        best = self.info((1, 3))
+        self.assertEqual(peering.peer_state((1, 0), self.info((0, 0)), best, log)["objects"], {"b": (1, 2)})
+        self.assertEqual(peering.peer_state((1, 0), self.info((1, 2)), best, log)["objects"], {})
+        self.assertEqual(peering.peer_state((1, 0), self.info((2, 2)), best, log)["state"], "diverged")
+        self.assertEqual(peering.peer_state((1, 0), self.info((1, 2), complete=False), best, log)["state"], "backfill")
+
+
+if __name__ == "__main__":
+    unittest.main()
