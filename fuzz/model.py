@@ -156,11 +156,11 @@ class Model:
 
 def main() -> None:
     model = Model()
-    text = sys.stdin.buffer.read()
-    for line in text.split(b"\n"):
-        answer = model.answer(line)
+    for line in sys.stdin.buffer:
+        answer = model.answer(line.removesuffix(b"\n"))
         if answer is not None:
             sys.stdout.buffer.write(answer.text.encode() + b"\n")
+            sys.stdout.buffer.flush()
 
 
 if __name__ == "__main__":
