@@ -12,7 +12,7 @@ import model
 from maps import Group
 from placement import FULL, WORD
 
-NAMES = ("a", "b", "c", "rbd_data.1", "é", "\u0001", '"\\', "x" * 255, "猫")
+NAMES = ("a", "b", "c", "rbd_data.1", "é", "\u0001", '"\\', "x" * 255, "猫", "\U0001f431", "\uffff", "\x7f")
 DEVICE_WEIGHTS = (0, FULL, FULL // 2, FULL - 1, FULL + 1, 1, WORD)
 ITEM_WEIGHTS = (0, 1, FULL, FULL // 2, 3 * FULL, 10 * FULL)
 
@@ -120,6 +120,8 @@ class Story:
         self.devices = range(first, first + rng.choice((3, 6, 12, 24, 48)))
         self.most_pools = rng.choice((1, 2, 3, 6))
         self.writes: Dict[Group, List[Tuple[int, int, str, str]]] = {}
+        self.most_writes = rng.choice((10, 40, 40, 300))
+        self.first_write = rng.choice((1, 1, 1, WORD - 20))  # its number
         self.plan: List[Dict[str, Any]] = []
         self.asks = rng.choice((0.1, 0.3, 0.6))
         self.is_done = False
@@ -172,7 +174,7 @@ class Story:
         known = [osd for osd in idle if self.maps.exists(osd, now)]
         if known and chance(0.1):
             inc["gone"] = some(rng, known, 2)
-        if chance(0.1):
+        if chance(0.06):
             inc["weight"] = [[osd, rng.choice(DEVICE_WEIGHTS)] for osd in some(rng, up + boots + known, 4)]
         if chance(0.5):
             inc["up_thru"] = [[osd, self.new_up_thru(osd, epoch)] for osd in some(rng, self.leaders() or up + known, 4)]
@@ -205,7 +207,7 @@ class Story:
         rng, made = self.rng, []
         free = [it for it in (1, 2, 3, 7, 200, 255, 254, 100) if it not in self.maps.made]
         for name in some(rng, free, 2):
-            size = rng.choice((1, 2, 3, 3, 3, 4, 6, 16))
+            size = rng.choice((1, 2, 3, 3, 3, 4, 6)) if rng.random() < 0.97 else rng.choice((11, 16))
             pool = {"id": name, "pg_num": rng.choice((1, 1, 2, 3, 8, 12, 64, 1024)), "kind": "replicated", "size": size}
             pool["min_size"] = rng.randint(1, size) if rng.random() < 0.4 else min(size, 2)
             pool["leaf"] = rng.choice((0, 0, 0, 1, 1, 2)) if rng.random() < 0.9 else rng.choice((2, 3, 5, 255))
@@ -291,9 +293,10 @@ class Story:
     def log_to(self, group: Group) -> List[Tuple[int, int, str, str]]:
         """The writes to a group so far, of which at times one more is made."""
         rng, log = self.rng, self.writes.setdefault(group, [])
-        for _ in range(rng.choice((0, 0, 1, 3)) if len(log) < 40 and self.maps.epoch else 0):
-            epoch = max(self.maps.epoch, log[-1][0] if log else 1)
-            log.append((epoch, len(log) + 1, rng.choice(("modify", "modify", "delete")), rng.choice(NAMES)))
+        for _ in range(rng.choice((0, 0, 1, 3, self.most_writes // 20)) if self.maps.epoch else 0):
+            number = self.first_write + len(log)
+            if len(log) < self.most_writes and number <= WORD:
+                log.append((self.maps.epoch, number, rng.choice(("modify", "modify", "delete")), rng.choice(NAMES)))
         return log
 
     def stamp(self) -> int:
@@ -305,6 +308,8 @@ class Story:
         versions = [(0, 0)] + [(epoch, v) for epoch, v, _, _ in log if epoch <= stamp]
         last = len(versions) - 1 if rng.random() < 0.6 else rng.randrange(len(versions))
         tail = rng.choice((0, 0, 0, max(0, last - 2), last, rng.randint(0, last)))
+        if self.first_write > 1 and rng.random() < 0.8:
+            tail = max(tail, min(last, 1))
         update = versions[last]
         if last and rng.random() < 0.05:
             update = (rng.randint(1, stamp), update[1])  # a write that the others may not know
