@@ -2,6 +2,7 @@
 
 import json
 import pathlib
+import random
 import sys
 import unittest
 
@@ -10,6 +11,7 @@ ROOT = HERE.parent.parent
 sys.path.insert(0, str(HERE.parent))
 sys.path.insert(0, str(ROOT / "tools"))
 
+import grammar  # noqa: E402
 import model  # noqa: E402
 import peering  # noqa: E402
 import placement  # noqa: E402
@@ -115,6 +117,26 @@ class Incrementals(unittest.TestCase):
 
     def test_a_closed_log(self):
         self.assertEqual(codes(b'{"op":"close"}', inc(7), b'{"op":"close"}', b'{"op":"ask","pg":[1,0]}'), [0, 64, 64, 40])
+
+
+class Kept(unittest.TestCase):
+    def test_what_is_kept_is_what_a_new_model_says(self):
+        for seed in range(3):
+            log = model.Model()
+            story = grammar.Story(random.Random(seed), log, 150)
+            taken = []
+            for _ in range(300):
+                line = grammar.compact(story.line())
+                if log.answer(line).code == 0:
+                    taken.append(line)
+            new = model.Model()
+            for line in taken:
+                entry = json.loads(line)
+                if entry["op"] in ("inc", "info", "entries", "close"):
+                    new.answer(line)
+            for group in log.views:
+                question = grammar.compact({"op": "ask", "pg": group})
+                self.assertEqual(log.answer(question), new.answer(question), (seed, group))
 
 
 class Peering(unittest.TestCase):
