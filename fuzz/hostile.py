@@ -70,7 +70,7 @@ def changed(rng: random.Random, old: Any) -> Any:
         return not old
     if isinstance(old, str) and roll < 0.5:
         return rng.choice((*WORDS, *OPS))
-    return rng.choice(ODD_NUMBERS) if roll < 0.85 else rng.choice(ODD_VALUES)
+    return rng.choice(ODD_NUMBERS) if roll < 0.85 else copy.deepcopy(rng.choice(ODD_VALUES))
 
 
 def by_key(rng: random.Random, line: Dict[str, Any]) -> bytes:

@@ -12,6 +12,7 @@ sys.path.insert(0, str(HERE.parent))
 
 import fuzz  # noqa: E402
 import grammar  # noqa: E402
+import hostile  # noqa: E402
 import model  # noqa: E402
 
 SOUND = f"""#!{sys.executable}
@@ -35,6 +36,11 @@ class Scripts(unittest.TestCase):
         first, second = (fuzz.story(random.Random("a"), others) for _ in range(2))
         self.assertEqual(first, second)
         self.assertNotIn(b"\n", b"".join(first.lines))
+
+    def test_a_seed_says_all_after_other_scripts(self):
+        for seed in range(10_000):
+            hostile.by_value(random.Random(seed), {"op": "inc", "epoch": 1})
+        self.assertEqual(hostile.ODD_VALUES[7:12], ([], {}, [[]], [0], {"a": 1}))
 
     def test_unchanged_lines_are_mostly_taken(self):
         log = model.Model()
