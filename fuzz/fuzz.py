@@ -1,14 +1,14 @@
 #!/usr/bin/env python3
 """Runs the built program on generated scripts, and compares each answer with that of a model.
 
-    fuzz/fuzz.py [--program PATH] [--seed N] [--lines N | --minutes M] [--under WORDS] [--figures FILE] [--keep FOLDER]
+    fuzz/fuzz.py [--program PATH] [--seed N] [--kinds KIND...] [--lines N | --minutes M] [--under WORDS] [--figures FILE]
     fuzz/fuzz.py --sum FILE...
     fuzz/fuzz.py --reduce SCRIPT
 
 The same seed gives the same scripts. --under puts words before the program, such as "valgrind -q --error-exitcode=99".
 --figures writes what was counted into a file, --sum adds such files up and prints them in Markdown. A script with a wrong
-answer, an end by another status than 0, or an end that didn't come within the time is kept in FOLDER; --reduce takes lines
-out of such a script while it stays wrong, and prints the rest. Status 1: something was wrong.
+answer, an end by another status than 0, or an end that didn't come within the time is kept in the folder that --keep names;
+--reduce takes lines out of such a script while it stays wrong, and prints the rest. Status 1: something was wrong.
 """
 
 import argparse
@@ -23,7 +23,7 @@ import subprocess
 import sys
 import tempfile
 import time
-from typing import Any, Counter, Dict, Iterator, List, NamedTuple, Optional, Tuple
+from typing import Any, Counter, Dict, Iterator, List, NamedTuple, Optional, Sequence, Tuple
 
 import grammar
 import hostile
@@ -175,10 +175,10 @@ def full(rng: random.Random, others: List[bytes]) -> Script:
 MAKERS = {"story": story, "noise": noise, "traces": traces, "long": long, "wide": wide, "full": full}
 
 
-def script_of(seed: str, number: int, others: List[bytes]) -> Tuple[str, Script]:
-    """The script of this number, with its kind."""
+def script_of(seed: str, number: int, others: List[bytes], kinds: Sequence[str] = tuple(KINDS)) -> Tuple[str, Script]:
+    """The script of this number, with its kind, which is one of these."""
     rng = random.Random(f"{seed}/{number}")
-    kind = rng.choices(list(KINDS), list(KINDS.values()))[0]
+    kind = rng.choices(kinds, [KINDS[it] for it in kinds])[0]
     return kind, MAKERS[kind](rng, others)
 
 
@@ -278,7 +278,7 @@ def fuzz(options: argparse.Namespace, words: List[str], figures: Figures) -> Ite
     end = time.monotonic() + 60 * options.minutes if options.minutes else float("inf")
     number, told = options.first, time.monotonic()
     while figures.sums["lines"] < options.lines and time.monotonic() < end:
-        kind, script = script_of(options.seed, number, others)
+        kind, script = script_of(options.seed, number, others, options.kinds)
         run = answered(words, script.text(), options.seconds)
         wrong = complaint(script, run)
         figures.count(kind, script, run, wrong)
@@ -345,6 +345,7 @@ def main() -> int:
     parser.add_argument("--program", default=str(PROGRAM), metavar="PATH")
     parser.add_argument("--seed", default="1")
     parser.add_argument("--first", type=int, default=0, metavar="N", help="the number of the first script")
+    parser.add_argument("--kinds", nargs="+", choices=KINDS, default=list(KINDS), metavar="KIND", help=", ".join(KINDS))
     parser.add_argument("--lines", type=float, metavar="N", help="ends once so many lines were run (by default 100,000)")
     parser.add_argument("--minutes", type=float, metavar="M", help="ends once so much time has gone by")
     parser.add_argument("--seconds", type=int, default=300, metavar="S", help="how long a script may take")
