@@ -1,7 +1,6 @@
 -- What holds of legal logs.
-use Rattle.std.proofs.Common.{◌≡◌, ℕ, ◌<◌, ◌≤◌, List, [], ◌∷◌, ◌++◌, Option, None, is_none, Bool, true, false, length, take, refl, ap, ap₂, sym, ◌∙◌, inl, inr, arith, length-append}
+use Rattle.std.proofs.Common.{◌≡◌, ℕ, ◌<◌, ◌≤◌, List, [], ◌∷◌, ◌++◌, Option, None, is_none, true, false, length, take, refl, ap, ap₂, sym, ◌∙◌, arith, length-append}
 use Rattle.std.specs.Option.{option_map_or}
-use Rattle.std.proofs.lemmas.Bool.{cases_Bool, true≢false}
 use Rattle.std.proofs.lemmas.List.{take-append-le}
 use Rattle.pgp_lists.proofs.Lists.{get-append}
 use Rattle.pgp_lists.proofs.Options.{none_is}
@@ -13,7 +12,7 @@ use Rattle.pgp_map.specs.Checked.{are_checked}
 use Rattle.pgp_group.proofs.GrowthLemmas.{checked-numbered}
 use Rattle.pgp_group.specs.Entries.{incs_of}
 use Rattle.pgp_group.specs.GroupHistory.{AreNumbered}
-use Rattle.pgp_log.specs.Fits.{fits, is_close, is_closed}
+use Rattle.pgp_log.specs.Fits.{fits, is_closed}
 use Rattle.pgp_log.specs.Log.{is_accepted, is_taken_at, is_legal, EpochsCount}
 use Rattle.pgp_log.proofs.TakeLemmas.{checked-push, closed-push, fits-faultless, fits-open_log, room-push}
 

@@ -1,9 +1,9 @@
 -- What is kept of one group while its log is told again.
-use Rattle.std.proofs.Common.{◌≡◌, ℕ, ◌+◌, ◌<◌, List, [], ◌∷◌, ◌++◌, Option, Some, None, Bool, true, false, nat_eq, nat_lt, option_map, length, take, get_or, refl, ap, sym, ◌∙◌, subst, inl, inr, arith}
+use Rattle.std.proofs.Common.{◌≡◌, ℕ, ◌<◌, List, [], ◌∷◌, ◌++◌, Option, Some, None, Bool, true, false, nat_eq, nat_lt, option_map, is_some, length, length-append, refl, ap, sym, ◌∙◌, subst, inl, inr, arith}
 use Rattle.std.specs.List.{flat_map}
 use Rattle.std.specs.Option.{option_map_or}
 use Rattle.std.proofs.lemmas.Bool.{cases_Bool, true≢false}
-use Rattle.std.proofs.lemmas.List.{take_more}
+use Rattle.std.proofs.lemmas.List.Elements.{filter_map-append}
 use Rattle.pgp_ids.specs.declared.entry.Entry.{Entry}
 use Rattle.pgp_ids.specs.declared.entry.Entry.TheVariants as entry
 use Rattle.pgp_ids.specs.declared.incremental.Incremental.{Incremental}
@@ -22,21 +22,21 @@ use Rattle.pgp_map.specs.MapOf.{IsMapOf}
 use Rattle.pgp_map.specs.Pools.{pool, with_sizes, has_group, is_same_group}
 use Rattle.pgp_map.specs.declared.map.OsdMap.{OsdMap}
 use Rattle.pgp_group.proofs.GroupLemmas.{infos-other, infos-same, reports-other, reports-same}
-use Rattle.pgp_group.proofs.GrowthLemmas.{checked-numbered, epoch-snoc, has_group-grows, history-last, made_at-made, next_epoch, told-stays}
+use Rattle.pgp_group.proofs.GrowthLemmas.{epoch-snoc, has_group-grows, history-last, made_at-made, next_epoch, told-stays}
 use Rattle.pgp_group.specs.Entries.{inc_of, incs_of}
-use Rattle.pgp_group.specs.GroupHistory.{AreNumbered, history_of, makes, made_at}
+use Rattle.pgp_group.specs.GroupHistory.{AreNumbered, group_history, history_of, makes, made_at}
 use Rattle.pgp_group.specs.GroupOf.{IsGroupOf, IsSilent, Follows}
 use Rattle.pgp_group.specs.GroupLog.{group_with}
 use Rattle.pgp_group.specs.View.{scratch, view_of}
 use Rattle.pgp_group.specs.declared.group.Group.{Group}
 use Rattle.pgp_log.specs.Fits.{entry_fault}
-use Rattle.pgp_log.specs.Log.{is_legal}
+use Rattle.pgp_log.specs.Log.{HasInc}
 use Rattle.pgp_log.specs.Replay.{IsAbsent, IsKept, IsMidway, IsReplayOf}
 use Rattle.pgp_log.specs.ReportFault.{has_unknown_group, report_fault}
 use Rattle.pgp_log.specs.declared.replay.Replay.{Replay}
-use Rattle.pgp_log.proofs.LogLemmas.{legal-take, legal-last, numbered}
+use Rattle.pgp_log.proofs.LogLemmas.{numbered}
 use Rattle.pgp_log.proofs.RawSetLemmas.{same_group}
-use Rattle.pgp_log.proofs.TakeLemmas.{fits-faultless, incs-inc, incs-other}
+use Rattle.pgp_log.proofs.TakeLemmas.{incs-inc, incs-other}
 
 -- ---- the group comes
 
@@ -216,8 +216,6 @@ reported log new pg old group none is kept =
       kept = kept;
     }
 
--- ---- the log is told
-
 -- the incremental that an entry is
 pub is-inc : (new : Entry) (inc : Incremental) → inc_of new ≡ Some inc → new ≡ entry.Inc inc
 is-inc (entry.Inc other) inc some = cc
@@ -225,14 +223,21 @@ is-inc (entry.Info info) inc some = cc
 is-inc (entry.Entries report) inc some = cc
 is-inc entry.Close inc some = cc
 
-pub take-next : {X : Type 0} (xs : List X) (i : ℕ) (x : X) → i < length xs → x ≡ get_or xs i x → take (i + 1) xs ≡ take i xs ++ x ∷ []
-take-next {X = X} xs i x within item = take_more xs i x within ∙ ap (λ (y : X). take i xs ++ y ∷ []) (sym item)
+-- ---- a log with an incremental
 
--- the next entry of a legal log has no fault
-pub next-fits : (log : List Entry) (i : ℕ) (new : Entry) → is_legal log ≡ true → i < length log → new ≡ get_or log i new → entry_fault (take i log) new ≡ None
-next-fits log i new legal within item =
-    let whole : is_legal (take i log ++ new ∷ []) ≡ true = ap is_legal (sym (take-next log i new within item)) ∙ legal-take (i + 1) log legal in
-    fits-faultless (take i log) new (legal-last (take i log) new whole)
+pub inc-after : (log : List Entry) (new : Entry) (inc : Incremental) → inc_of new ≡ Some inc → HasInc (log ++ new ∷ [])
+inc-after log new inc some = rw (incs-inc log new inc some) (omega (arith, length-append (incs_of log) (inc ∷ [])))
+
+pub inc-front : (front rest : List Entry) → HasInc front → HasInc (front ++ rest)
+inc-front front rest has = rw (filter_map-append inc_of front rest) (omega (arith, has, length-append (incs_of front) (incs_of rest)))
+
+-- a group is there by an incremental
+pub inc-of-kept : (log : List Entry) (pg : PgId) (group : Option Group) → is_some group ≡ true → IsKept log pg group → HasInc log
+inc-of-kept log pg None some is = cc
+inc-of-kept log pg (Some group) some is = go (incs_of log) is.history_is where
+  go : (incs : List Incremental) → group_history incs pg ≡ Some is.history → 0 < length incs
+  go [] there = cc
+  go (inc ∷ incs) there = omega arith
 
 -- ---- there is no view
 

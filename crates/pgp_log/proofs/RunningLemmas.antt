@@ -1,5 +1,5 @@
 -- What the code of a world keeps of it.
-use Rattle.std.proofs.Common.{◌≡◌, ℕ, zero, suc, ◌+◌, ◌<◌, ◌≤◌, List, [], ◌∷◌, ◌++◌, ◌⊎◌, inl, inr, Result, Ok, Err, OnOk, OnErr, IfOk, Option, Some, None, true, false, length, map, min, take, drop, get_or, set, replicate, refl, ap, sym, ◌∙◌, subst, add-one, zero-add, arith, length-append}
+use Rattle.std.proofs.Common.{◌≡◌, ℕ, zero, suc, ◌+◌, ◌<◌, ◌≤◌, List, [], ◌∷◌, ◌++◌, ◌⊎◌, inl, inr, Result, Ok, Err, OnOk, OnErr, IfOk, Some, None, true, false, length, map, min, take, drop, get_or, set, replicate, refl, ap, sym, ◌∙◌, subst, add-one, zero-add, arith, length-append}
 use Rattle.std.specs.List.{range_with_len}
 use Rattle.std.specs.declared.alloc.AllocError.{AllocError}
 use Rattle.std.proofs.Math.Seq.{drop-append_seam, map-set_same, take-append-add}
@@ -17,7 +17,7 @@ use Rattle.pgp_map.specs.Pools.{has_group}
 use Rattle.pgp_group.specs.Entries.{incs_of}
 use Rattle.pgp_group.specs.View.{scratch}
 use Rattle.pgp_log.specs.Judge.{IsJudgeOf}
-use Rattle.pgp_log.specs.Log.{IsFrontOf, is_legal}
+use Rattle.pgp_log.specs.Log.{HasInc, IsFrontOf, is_legal}
 use Rattle.pgp_log.specs.Running.{IsReading, IsRunning}
 use Rattle.pgp_log.specs.Shard.{Shard, HasReadSome, having_read_all, opening_shard, shard_of}
 use Rattle.pgp_log.specs.World.{World, front_of, view_reply}
@@ -197,19 +197,19 @@ asked-front log judge shards pg k s is number there here =
     ∙ ap (take (length s.front)) front.whole ∙ take-front s.front front.rest
 
 asked : (w : World) (pg : PgId) (front : List Entry) (r : Result View AskRefusal) → front_of w pg ≡ front → IfOk r (λ view. scratch front pg ≡ Some view)
-    → (r ≡ Err UnknownGroup → has_group (incs_of front) pg ≡ false) → MayReply w (Ask pg) (Asked r) w
-asked w pg front (Ok view) is ok unknown =
+    → (r ≡ Err UnknownGroup → has_group (incs_of front) pg ≡ false) → (r ≡ Err Memory → HasInc front) → MayReply w (Ask pg) (Asked r) w
+asked w pg front (Ok view) is ok unknown wants =
     inl (record { reply_is = ap Asked (sym (ap (λ (l : List Entry). view_reply (scratch l pg)) is ∙ ap view_reply ok)); next_is = refl })
-asked w pg front (Err UnknownGroup) is ok unknown =
+asked w pg front (Err UnknownGroup) is ok unknown wants =
     let none : scratch front pg ≡ None = rw (unknown refl) refl in
     inl (record { reply_is = ap Asked (sym (ap (λ (l : List Entry). view_reply (scratch l pg)) is ∙ ap view_reply none)); next_is = refl })
-asked w pg front (Err Memory) is ok unknown = inr (refl, refl)
+asked w pg front (Err Memory) is ok unknown wants = inr (refl, (refl, subst HasInc (sym is) (wants refl)))
 
 pub asked-reply : (log : List Entry) (judge : Judge) (shards : List Shard) (pg : PgId) (k : ℕ) (s new : Shard) (r : Result View AskRefusal) → IsRunning log judge shards
     → k ≡ shard_of (length shards) pg → k < length shards → s ≡ get_or shards k (opening_shard 0 0) → new ≡ s
-    → IfOk r (λ view. scratch s.front pg ≡ Some view) → (r ≡ Err UnknownGroup → has_group (incs_of s.front) pg ≡ false)
+    → IfOk r (λ view. scratch s.front pg ≡ Some view) → (r ≡ Err UnknownGroup → has_group (incs_of s.front) pg ≡ false) → (r ≡ Err Memory → HasInc s.front)
     → MayReply (record { log = log; read = map (λ s. length s.front) shards }) (Ask pg) (Asked r) (record { log = log; read = map (λ s. length s.front) (set shards k new) })
-asked-reply log judge shards pg k s new r is number there here same ok unknown =
+asked-reply log judge shards pg k s new r is number there here same ok unknown wants =
     let kept : map (λ (s : Shard). length s.front) (set shards k new) ≡ map (λ (s : Shard). length s.front) shards =
     map-set_same (λ (s : Shard). length s.front) shards k new (opening_shard 0 0) (ap (λ (o : Shard). length o.front) (same ∙ here)) in
-    rw kept (asked (record { log = log; read = map (λ s. length s.front) shards }) pg s.front r (asked-front log judge shards pg k s is number there here) ok unknown)
+    rw kept (asked (record { log = log; read = map (λ s. length s.front) shards }) pg s.front r (asked-front log judge shards pg k s is number there here) ok unknown wants)

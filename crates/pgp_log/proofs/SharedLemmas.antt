@@ -10,6 +10,13 @@ pub map-next : {X : Type 0} (f : X → Entry) (xs : List X) (i : ℕ) (x : X) �
     → map f (take (i + 1) xs) ≡ map f (take i xs) ++ f x ∷ []
 map-next {X = X} f xs i x within item = map_more f xs i x within ∙ ap (λ (y : X). map f (take i xs) ++ f y ∷ []) (sym item)
 
+-- the entries up to this one, and the others
+pub next-front : {X : Type 0} (f : X → Entry) (xs : List X) (i : ℕ) (x : X) → i < length xs → x ≡ get_or xs i x
+    → map f xs ≡ (map f (take i xs) ++ f x ∷ []) ++ map f (drop (i + 1) xs)
+next-front f xs i x within item =
+    ap (map f) (sym (take-append-drop (i + 1) xs)) ∙ map-append f (take (i + 1) xs) (drop (i + 1) xs)
+    ∙ ap (λ l. l ++ map f (drop (i + 1) xs)) (map-next f xs i x within item)
+
 -- the same after a front
 pub next-after : {X : Type 0} (front : List Entry) (f : X → Entry) (xs : List X) (i : ℕ) (x : X) → i < length xs → x ≡ get_or xs i x
     → front ++ map f (take (i + 1) xs) ≡ (front ++ map f (take i xs)) ++ f x ∷ []

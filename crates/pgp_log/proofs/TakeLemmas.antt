@@ -1,5 +1,5 @@
 -- What one entry more does to a log.
-use Rattle.std.proofs.Common.{◌≡◌, ◌≢◌, ◌<◌, ◌≤◌, ◌||◌, inl, inr, length-append, append-nil, List, [], ◌∷◌, ◌++◌, Bool, true, false, Option, Some, None, is_some, IfSome, length, nat_le, if◌then◌else◌, refl, sym, ap, ◌∙◌, arith}
+use Rattle.std.proofs.Common.{◌≡◌, ◌≢◌, ◌<◌, ◌≤◌, ◌||◌, inl, inr, length-append, append-nil, List, [], ◌∷◌, ◌++◌, Bool, true, false, Option, Some, None, IfSome, length, nat_le, if◌then◌else◌, refl, sym, ap, ◌∙◌, arith}
 use Rattle.std.specs.Option.{option_map, option_or}
 use Rattle.std.proofs.lemmas.Bool.Decides.{leb_tells}
 use Rattle.std.proofs.lemmas.List.Elements.{filter_map-append}

@@ -26,7 +26,7 @@ step-legal w (Ask pg) legal = legal
 wanting-legal : (w next : World) (step : Step) (reply : Reply) → IsWanting w step reply next → is_legal w.log ≡ true → is_legal next.log ≡ true
 wanting-legal w next (Submit new) reply is legal = ap (λ (v : World). is_legal v.log) is.1.0 ∙ legal
 wanting-legal w next (Absorb shard count) reply is legal = ap (λ (v : World). is_legal v.log) is.1.next_is ∙ legal
-wanting-legal w next (Ask pg) reply is legal = ap (λ (v : World). is_legal v.log) is.1 ∙ legal
+wanting-legal w next (Ask pg) reply is legal = ap (λ (v : World). is_legal v.log) is.1.0 ∙ legal
 
 reply-legal : (w next : World) (step : Step) (reply : Reply) → MayReply w step reply next → is_legal w.log ≡ true → is_legal next.log ≡ true
 reply-legal w next step reply (inl is) legal = ap (λ (v : World). is_legal v.log) is.next_is ∙ step-legal w step legal
@@ -51,7 +51,7 @@ step-log w (Ask pg) = sym (append-nil w.log)
 wanting-log : (w next : World) (step : Step) (reply : Reply) → IsWanting w step reply next → next.log ≡ w.log ++ taken_at step reply
 wanting-log w next (Submit new) reply is = ap (λ (v : World). v.log) is.1.0 ∙ sym (append-nil w.log) ∙ ap (λ r. w.log ++ taken_at (Submit new) r) (sym is.0)
 wanting-log w next (Absorb shard count) reply is = ap (λ (v : World). v.log) is.1.next_is ∙ sym (append-nil w.log)
-wanting-log w next (Ask pg) reply is = ap (λ (v : World). v.log) is.1 ∙ sym (append-nil w.log)
+wanting-log w next (Ask pg) reply is = ap (λ (v : World). v.log) is.1.0 ∙ sym (append-nil w.log)
 
 reply-log : (w next : World) (step : Step) (reply : Reply) → MayReply w step reply next → next.log ≡ w.log ++ taken_at step reply
 reply-log w next step reply (inl is) = ap (λ (v : World). v.log) is.next_is ∙ step-log w step ∙ ap (λ r. w.log ++ taken_at step r) (sym is.reply_is)

@@ -1,5 +1,5 @@
 -- The log of all that monitor and devices told, and its fronts.
-use Rattle.std.specs.Prelude.{map, ◌≡◌, ℕ, List, length, ◌++◌, Bool, is_none, take}
+use Rattle.std.specs.Prelude.{map, ◌≡◌, ℕ, ◌<◌, List, length, ◌++◌, Bool, is_none, take}
 use Rattle.std.specs.List.{range_with_len}
 use Rattle.pgp_ids.specs.declared.entry.Entry.{Entry}
 use Rattle.pgp_lists.specs.Taken as taken
@@ -10,6 +10,10 @@ use Rattle.pgp_log.specs.Fits.{fits}
 -- the epoch of the map that the log makes, 0 without an incremental
 abbrev pub epoch_of : List Entry → ℕ
 epoch_of log = epoch (incs_of log)
+
+-- the log has an incremental
+abbrev pub HasInc : List Entry → Type 0
+HasInc log = 0 < length (incs_of log)
 
 -- the first n entries
 abbrev pub front : ℕ → List Entry → List Entry

@@ -1,12 +1,13 @@
 -- Runs of a world in which a step may lack memory. Such a step changes nothing, but a shard that was reading may have read
--- the first few of its entries (this project's own choice).
-use Rattle.std.specs.Prelude.{◌≡◌, ℕ, ◌<◌, List, [], ◌∷◌, ◌++◌, length, take, drop, slice_index, ◌⊎◌, Bool, true, false, None, is_some, Result, Ok, Err, alloc_error}
+-- the first few of its entries (this project's own choice). No memory is wanting to answer by a front without an incremental.
+use Rattle.std.specs.Prelude.{◌≡◌, ℕ, ◌<◌, List, [], ◌∷◌, ◌++◌, length, take, drop, slice_index, ◌⊎◌, Bool, true, false, None, is_some, Ok, Err, alloc_error}
 use Rattle.pgp_refusals.specs.declared.ask_refusal.AskRefusal.TheVariants as ask
 use Rattle.pgp_ids.specs.declared.entry.Entry.{Entry}
 use Rattle.pgp_refusals.specs.declared.refusal.Refusal.TheVariants as refusal
 use Rattle.pgp_group.specs.Entries.{inc_of}
 use Rattle.pgp_log.specs.Fits.{fits, is_closed}
-use Rattle.pgp_log.specs.World.{World, Step, Reply, reply_to, after, after_absorb}
+use Rattle.pgp_log.specs.Log.{HasInc}
+use Rattle.pgp_log.specs.World.{World, Step, Reply, reply_to, after, after_absorb, front_of}
 use Rattle.pgp_log.specs.World.Step.{Submit, Absorb, Ask}
 use Rattle.pgp_log.specs.World.Reply.{Submitted, Absorbed, Asked}
 
@@ -30,7 +31,7 @@ pub record HasReadPart (w : World) (shard count : ℕ) (next : World) : Type 0 w
 abbrev pub IsWanting : World → Step → Reply → World → Type 0
 IsWanting w (Submit entry) reply next = (reply ≡ Submitted (Err refusal.Memory)) × ((next ≡ w) × MayLackMemory w.log entry)
 IsWanting w (Absorb shard count) reply next = (reply ≡ Absorbed (Err alloc_error)) × HasReadPart w shard count next
-IsWanting w (Ask pg) reply next = (reply ≡ Asked (Err ask.Memory)) × (next ≡ w)
+IsWanting w (Ask pg) reply next = (reply ≡ Asked (Err ask.Memory)) × ((next ≡ w) × HasInc (front_of w pg))
 
 -- the step may be answered so, with this world after it
 abbrev pub MayReply : World → Step → Reply → World → Type 0

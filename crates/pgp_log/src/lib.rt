@@ -16,7 +16,7 @@ pub use entry::{inc_of, is_close};
 pub use judge::{Judge, LONGEST_LOG};
 pub use place::{Place, group_of, locate};
 pub use raw_sets::RawSets;
-pub use replay::{Replay, replay_of};
+pub use replay::Replay;
 pub use report::{entries_fault, info_fault};
 pub use shard::{ShardState, shard_of};
 pub use world::World;

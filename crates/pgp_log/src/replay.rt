@@ -1,6 +1,6 @@
 //! One group of a log, told again from the log's beginning.
 
-ghost use Rattle.std.specs.Prelude.{◌≡◌, ◌++◌, [], ◌∷◌, List, Some, None, true, length, map, IfOk, OnOk};
+ghost use Rattle.std.specs.Prelude.{◌≡◌, ◌++◌, [], ◌∷◌, List, Some, None, true, is_some, length, map, IfOk, OnOk, OnErr};
 ghost use Rattle.std.specs.Arc.{arc_value};
 ghost use Rattle.pgp_ids.specs.declared.entry.Entry.{Entry as AnyEntry};
 ghost use Rattle.pgp_ids.specs.declared.entry.Entry.TheVariants as entry;
@@ -12,7 +12,7 @@ ghost use Rattle.pgp_map.specs.Pools.{has_group};
 ghost use Rattle.pgp_group.specs.Entries.{inc_of, incs_of};
 ghost use Rattle.pgp_group.specs.View.{scratch};
 ghost use Rattle.pgp_log.specs.Fits.{entry_fault};
-ghost use Rattle.pgp_log.specs.Log.{is_legal};
+ghost use Rattle.pgp_log.specs.Log.{HasInc, is_legal};
 ghost use Rattle.pgp_log.specs.Replay.{IsKept, IsReplayOf, IsMidway, CanTake, IsAhead};
 
 use super::entry::inc_of;
@@ -36,26 +36,15 @@ pub struct Replay {
     group: Option<Group>,
 }
 
-/// The group in the log of these entries.
-pub fn replay_of(alloc: Global, entries: &[Entry], pg: &PgId) -> Result<Replay, AllocError>
-    requires { is_legal entries.now ≡ true }
-    ensures { IfOk result (IsReplayOf entries.now pg.now) }
-{
-    let mut replay = Replay::start(alloc, *pg);
-    for entry in entries {
-        replay.absorb(entry)?;
-    }
-    Ok(replay)
-}
-
-/// All that these entries say of the group, where the map that they make has it.
+/// All that these entries say of the group, where the map that they make has it. Without an incremental it takes no memory.
 pub(crate) fn view_of(
     alloc: Global,
     entries: &[Arc<Entry>],
     pg: &PgId,
 ) -> Result<Option<View>, AllocError>
     requires { is_legal (map arc_value entries.now) ≡ true }
-    ensures { IfOk result (λ view. view ≡ scratch (map arc_value entries.now) pg.now) }
+    ensures view { IfOk result (λ view. view ≡ scratch (map arc_value entries.now) pg.now) }
+    ensures wants { OnErr result (HasInc (map arc_value entries.now)) }
 {
     let replay = replay_front(alloc, entries, pg)?;
     replay.view(entries.len())
@@ -64,7 +53,8 @@ pub(crate) fn view_of(
 /// The group in the log of these entries.
 fn replay_front(alloc: Global, entries: &[Arc<Entry>], pg: &PgId) -> Result<Replay, AllocError>
     requires { is_legal (map arc_value entries.now) ≡ true }
-    ensures { IfOk result (IsReplayOf (map arc_value entries.now) pg.now) }
+    ensures replay { IfOk result (IsReplayOf (map arc_value entries.now) pg.now) }
+    ensures wants { OnErr result (HasInc (map arc_value entries.now)) }
 {
     let mut replay = Replay::start(alloc, *pg);
     for entry in entries {
@@ -90,7 +80,8 @@ impl Replay {
     /// Takes the next entry of the log. After an `Err` the replay is of no further use.
     pub fn absorb(&mut self, entry: &Entry) -> Result<(), AllocError>
         requires { CanTake self.old entry.now }
-        ensures { OnOk result ((log : List AnyEntry) (pg : Id) → IsReplayOf log pg self.old → entry_fault log entry.now ≡ None
+        ensures wants { OnErr result ((log : List AnyEntry) (pg : Id) → IsReplayOf log pg self.old → HasInc (log ++ entry.now ∷ [])) }
+        ensures ok { OnOk result ((log : List AnyEntry) (pg : Id) → IsReplayOf log pg self.old → entry_fault log entry.now ≡ None
             → IsReplayOf (log ++ entry.now ∷ []) pg self.new) }
     {
         match inc_of(entry) {
@@ -140,7 +131,8 @@ impl Replay {
     }
 
     fn absorb_report(&mut self, entry: &Entry) -> Result<(), AllocError>
-        ensures { OnOk result ((log : List AnyEntry) (pg : Id) → inc_of entry.now ≡ None → entry_fault log entry.now ≡ None
+        ensures wants { OnErr result (is_some self.old.group ≡ true) }
+        ensures ok { OnOk result ((log : List AnyEntry) (pg : Id) → inc_of entry.now ≡ None → entry_fault log entry.now ≡ None
             → IsReplayOf log pg self.old → IsReplayOf (log ++ entry.now ∷ []) pg self.new) }
     {
         match &mut self.group {
@@ -151,8 +143,9 @@ impl Replay {
 
     /// All that the entries say of the group, where the map that they make has it. `count` is their number.
     pub fn view(&self, count: usize) -> Result<Option<View>, AllocError>
-        ensures { IfOk result (λ view. (log : List AnyEntry) (pg : Id) → IsReplayOf log pg self.now → length log ≡ count
+        ensures view { IfOk result (λ view. (log : List AnyEntry) (pg : Id) → IsReplayOf log pg self.now → length log ≡ count
             → view ≡ scratch log pg) }
+        ensures wants { OnErr result (is_some self.now.group ≡ true) }
     {
         match &self.group {
             Some(group) => Ok(Some(group.view(&self.after, count)?)),

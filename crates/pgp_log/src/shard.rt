@@ -2,12 +2,12 @@
 
 ghost use Rattle.std.specs.Prelude.{◌≡◌, ◌<◌, ◌++◌, length, map, false, true, None, Some, Err, IfOk, OnOk, OnErr};
 ghost use Rattle.std.specs.Arc.{arc_value};
-ghost use Rattle.pgp_refusals.specs.declared.ask_refusal.AskRefusal.TheVariants.{UnknownGroup};
+ghost use Rattle.pgp_refusals.specs.declared.ask_refusal.AskRefusal.TheVariants.{UnknownGroup, Memory};
 ghost use Rattle.pgp_map.specs.Pools.{has_group};
 ghost use Rattle.pgp_group.specs.Entries.{incs_of};
 ghost use Rattle.pgp_group.specs.View.{scratch};
 ghost use Rattle.pgp_log.specs.Fits.{fits};
-ghost use Rattle.pgp_log.specs.Log.{is_legal};
+ghost use Rattle.pgp_log.specs.Log.{HasInc, is_legal};
 ghost use Rattle.pgp_log.specs.Shard.{opening_shard, having_read, having_read_all, HasReadSome, shard_of};
 
 use super::replay::view_of;
@@ -81,11 +81,12 @@ impl ShardState {
     }
 
     /// All that the shard has read says of one of its groups. `UnknownGroup`: what was read makes no such group. `Memory`:
-    /// there was none. What the shard has read stays.
+    /// there was none, which is so only where an incremental was read. What the shard has read stays.
     pub fn ask(&mut self, pg: PgId) -> Result<View, AskRefusal>
         requires { shard_of self.old.shards pg ≡ self.old.shard }
         ensures ok { IfOk result (λ view. scratch self.old.front pg ≡ Some view) }
         ensures unknown { result ≡ Err UnknownGroup → has_group (incs_of self.old.front) pg ≡ false }
+        ensures wants { result ≡ Err Memory → HasInc self.old.front }
         ensures same { self.new ≡ self.old }
     {
         match view_of(self.alloc, self.front.as_slice(), &pg)? {

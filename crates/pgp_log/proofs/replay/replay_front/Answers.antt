@@ -1,8 +1,9 @@
-use Rattle.std.proofs.Common.{[], map, take, sym, subst}
+use Rattle.std.proofs.Common.{◌+◌, [], ◌∷◌, ◌++◌, map, take, drop, sym, subst}
 use Rattle.std.specs.Arc.{arc_value}
-use Rattle.pgp_log.specs.Fits.{entry_fault}
-use Rattle.pgp_log.specs.Replay.{CanTake, IsReplayOf}
-use Rattle.pgp_log.proofs.SharedLemmas.{map-next, next-of-legal}
+use Rattle.pgp_log.specs.Log.{HasInc}
+use Rattle.pgp_log.specs.Replay.{CanTake}
+use Rattle.pgp_log.proofs.ReplayLemmas.{inc-front}
+use Rattle.pgp_log.proofs.SharedLemmas.{map-next, next-front, next-of-legal, on_err}
 use Rattle.pgp_log.proofs.TakeLemmas.{fits-faultless}
 use Rattle.pgp_log.proofs.replay.replay_front.Goals as goal
 
@@ -26,4 +27,14 @@ loop-entry-preserved c =
     let log = map arc_value (take i shared) in
     let fine = fits-faultless log (arc_value new) (next-of-legal [] arc_value shared i new c.requires c.loop-entry-test.true c.entry-item.is) in
     rw (map-next arc_value shared i new c.loop-entry-test.true c.entry-item.is, ← c.deref.ensures)
-    (c.in_ok-absorb.ensures log c.args.pg.now c.loop-entry.invariant (rw c.deref.ensures fine))
+    (c.in_ok-absorb.ensures.ok log c.args.pg.now c.loop-entry.invariant (rw c.deref.ensures fine))
+
+pub returns-in_err-absorb-clause-wants : goal.returns-in_err-absorb-clause-wants
+returns-in_err-absorb-clause-wants c =
+    let shared = c.args.entries.now in
+    let i = c.loop-entry.entry-index in
+    let new = c.entry-item.result in
+    let log = map arc_value (take i shared) in
+    let has : HasInc (log ++ arc_value new ∷ []) = rw (← c.deref.ensures) (c.in_err-absorb.ensures.wants log c.args.pg.now c.loop-entry.invariant) in
+    on_err c.from_residual.result (HasInc (map arc_value shared))
+    (subst HasInc (sym (next-front arc_value shared i new c.loop-entry-test.true c.entry-item.is)) (inc-front (log ++ arc_value new ∷ []) (map arc_value (drop (i + 1) shared)) has))

@@ -11,8 +11,8 @@ use Rattle.pgp_log.specs.declared.replay.Replay.{Replay}
 use Rattle.pgp_log.proofs.ReplayLemmas.{absent-other, reported}
 use Rattle.pgp_log.proofs.replay.Replay.absorb_report.Goals as goal
 
-pub returns-in-Some : goal.returns-in-Some
-returns-in-Some c =
+pub returns-in-Some-clause-ok : goal.returns-in-Some-clause-ok
+returns-in-Some-clause-ok c =
     let old : Replay = c.args.self.now in
     let new = c.args.entry.now in
     let group : Group = c.absorb_report.new.self in
@@ -23,7 +23,7 @@ returns-in-Some c =
     (λ given log pg none fine is. reported log new pg old (Some group) none is (given log pg none (subst (IsKept log pg) c.in-Some.is is.kept)))
     c.absorb_report.ensures.ok
 
-pub returns-in-None : goal.returns-in-None
-returns-in-None c = λ log pg none fine is.
+pub returns-in-None-clause-ok : goal.returns-in-None-clause-ok
+returns-in-None-clause-ok c = λ log pg none fine is.
     reported log c.args.entry.now pg c.args.self.now c.args.self.now.group none is
     (subst (IsKept (log ++ c.args.entry.now ∷ []) pg) (sym c.in-None.is) (absent-other log c.args.entry.now pg none fine (subst (IsKept log pg) c.in-None.is is.kept)))

@@ -16,4 +16,4 @@ returns c =
     let number : k ≡ shard_of (length shards) c.args.pg = c.shard_of-shard.ensures.number ∙ ap (λ n. shard_of n c.args.pg) many in
     rw (← c.self.view_is)
     (asked-reply (map arc_value c.self.inside.entries.items) c.self.inside.judge shards c.args.pg k state c.ask.new.self c.ask.result c.self.invariant number there here
-    c.ask.ensures.same c.ask.ensures.ok c.ask.ensures.unknown)
+    c.ask.ensures.same c.ask.ensures.ok c.ask.ensures.unknown c.ask.ensures.wants)
