@@ -1,13 +1,13 @@
 -- Runs of a world in which a step may lack memory. Such a step changes nothing, but a shard that was reading may have read
 -- the first few of its entries (this project's own choice). No memory is wanting to answer by a front without an incremental.
-use Rattle.std.specs.Prelude.{◌≡◌, ℕ, ◌<◌, List, [], ◌∷◌, ◌++◌, length, take, drop, slice_index, ◌⊎◌, Bool, true, false, None, is_some, Ok, Err, alloc_error}
+use Rattle.std.specs.Prelude.{◌≡◌, ℕ, ◌<◌, List, [], ◌∷◌, ◌++◌, length, take, drop, slice_index, if◌then◌else◌, ◌⊎◌, Bool, true, false, None, is_some, Ok, Err, alloc_error}
 use Rattle.pgp_refusals.specs.declared.ask_refusal.AskRefusal.TheVariants as ask
 use Rattle.pgp_ids.specs.declared.entry.Entry.{Entry}
 use Rattle.pgp_refusals.specs.declared.refusal.Refusal.TheVariants as refusal
 use Rattle.pgp_group.specs.Entries.{inc_of}
 use Rattle.pgp_log.specs.Fits.{fits, is_closed}
 use Rattle.pgp_log.specs.Log.{HasInc}
-use Rattle.pgp_log.specs.World.{World, Step, Reply, reply_to, after, after_absorb, front_of}
+use Rattle.pgp_log.specs.World.{World, Step, Reply, reply_to, after, after_absorb, after_all, replies, front_of}
 use Rattle.pgp_log.specs.World.Step.{Submit, Absorb, Ask}
 use Rattle.pgp_log.specs.World.Reply.{Submitted, Absorbed, Asked}
 
@@ -50,6 +50,46 @@ is_want (Submitted (Err refusal.Memory)) = true
 is_want (Absorbed (Err error)) = true
 is_want (Asked (Err ask.Memory)) = true
 is_want reply = false
+
+-- what was done at a step that was answered so: a shard that lacked memory read so many entries, and another step that
+-- lacked memory did nothing
+abbrev pub done_at : Step → Reply → ℕ → List Step
+done_at (Absorb shard count) (Absorbed (Err error)) read = Absorb shard read ∷ []
+done_at step reply read = if is_want reply then [] else step ∷ []
+
+-- what is told of it: that the shard has read, and of another step that lacked memory nothing
+abbrev pub told_at : Step → Reply → List Reply
+told_at (Absorb shard count) (Absorbed (Err error)) = Absorbed (Ok tt) ∷ []
+told_at step reply = if is_want reply then [] else reply ∷ []
+
+-- what was done at all steps
+abbrev pub done_of : List Step → List Reply → List ℕ → List Step
+done_of (step ∷ steps) (reply ∷ given) (read ∷ reads) = done_at step reply read ++ done_of steps given reads
+done_of steps given reads = []
+
+-- what is told of them
+abbrev pub told_of : List Step → List Reply → List Reply
+told_of (step ∷ steps) (reply ∷ given) = told_at step reply ++ told_of steps given
+told_of steps given = []
+
+-- a shard that lacked memory read fewer entries than it was to read
+abbrev pub IsFewer : Step → Reply → ℕ → Type 0
+IsFewer (Absorb shard count) (Absorbed (Err error)) read = read < count
+IsFewer step reply read = Unit {0}
+
+-- so it was at each of these steps
+abbrev pub AreFewer : List Step → List Reply → List ℕ → Type 0
+AreFewer (step ∷ steps) (reply ∷ given) (read ∷ reads) = IsFewer step reply read × AreFewer steps given reads
+AreFewer steps given reads = Unit {0}
+
+-- The steps were done as defined, as far as there was memory: of those that lacked it, a shard read fewer entries than it
+-- was to, and a submit and an ask are left out.
+pub record IsDone (w : World) (steps : List Step) (given : List Reply) (last : World) : Type 0 where
+  pub reads : List ℕ
+  pub each : length reads ≡ length steps
+  pub fewer : AreFewer steps given reads
+  pub replies_are : told_of steps given ≡ replies w (done_of steps given reads)
+  pub last_is : last ≡ after_all w (done_of steps given reads)
 
 -- the entry that the log took at this step, by what it was answered
 abbrev pub taken_at : Step → Reply → List Entry

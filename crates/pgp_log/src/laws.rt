@@ -21,7 +21,7 @@ ghost use Rattle.pgp_log.specs.Fits.{fits, entry_fault, is_close, is_closed};
 ghost use Rattle.pgp_log.specs.Log.{epoch_of, is_taken_at, is_legal, EpochsCount};
 ghost use Rattle.pgp_log.specs.Shard.{shard_of};
 ghost use Rattle.pgp_log.specs.World.{World, Step, Reply, opening, after, after_all, replies, view_reply};
-ghost use Rattle.pgp_log.specs.WorldRun.{MayRun, is_want, taken_of};
+ghost use Rattle.pgp_log.specs.WorldRun.{MayRun, IsDone, is_want, taken_of};
 ghost use Rattle.pgp_log.specs.World.Step.{Submit, Absorb, Ask};
 ghost use Rattle.pgp_log.specs.World.Reply.{Submitted, Absorbed, Asked};
 ghost use Rattle.pgp_log.specs.Locate.{group_of_object};
@@ -88,11 +88,14 @@ pub fn world_stays_legal()
     ensures { (w : World) (step : Step) → is_legal w.log ≡ true → is_legal (after w step).log ≡ true }
 {}
 
-/// A run in which no step wants memory is answered as the definition says. In each run the log grows by the entries whose
-/// submit was answered with a length, in their order, and by nothing else; and it stays legal.
+/// A run in which no step wants memory is answered as the definition says; and each run is the definition's run of the steps
+/// that there was memory for, of which a shard's reading may have been cut short. In each run the log grows by the entries
+/// whose submit was answered with a length, in their order, and by nothing else; and it stays legal.
 pub fn runs_of_a_world()
     ensures answers { (w last : World) (steps : List Step) (given : List Reply) → MayRun w steps given last
         → list_any is_want given ≡ false → (given ≡ replies w steps) × (last ≡ after_all w steps) }
+    ensures done { (w last : World) (steps : List Step) (given : List Reply) → MayRun w steps given last
+        → IsDone w steps given last }
     ensures log { (w last : World) (steps : List Step) (given : List Reply) → MayRun w steps given last
         → last.log ≡ w.log ++ taken_of steps given }
     ensures legal { (w last : World) (steps : List Step) (given : List Reply) → MayRun w steps given last
