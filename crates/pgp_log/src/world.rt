@@ -56,7 +56,8 @@ impl World {
 
     /// Adds the entry to the log, if it fits, and answers how long the log is then.
     pub fn submit(&mut self, entry: Entry) -> Result<usize, Refusal>
-        ensures { MayReply self.old (Submit entry) (Submitted result) self.new }
+        ensures reply { MayReply self.old (Submit entry) (Submitted result) self.new }
+        ensures shards { length self.new.read ≡ length self.old.read }
     {
         self.judge.fits(&entry)?;
         self.take(entry)?;
@@ -79,7 +80,8 @@ impl World {
     /// Lets a shard read at most so many further entries. Without memory it may have read some of them.
     pub fn absorb(&mut self, shard: usize, count: usize) -> Result<(), AllocError>
         requires { shard < length self.old.read }
-        ensures { MayReply self.old (Absorb shard count) (Absorbed result) self.new }
+        ensures reply { MayReply self.old (Absorb shard count) (Absorbed result) self.new }
+        ensures shards { length self.new.read ≡ length self.old.read }
     {
         let state = &mut self.shards[shard];
         let read = state.count();
@@ -89,7 +91,8 @@ impl World {
 
     /// All that its shard has read of the group.
     pub fn ask(&mut self, pg: PgId) -> Result<View, AskRefusal>
-        ensures { MayReply self.old (Ask pg) (Asked result) self.new }
+        ensures reply { MayReply self.old (Ask pg) (Asked result) self.new }
+        ensures shards { length self.new.read ≡ length self.old.read }
     {
         let shard = shard_of(self.shards.len(), &pg);
         let state = &mut self.shards[shard];

@@ -1,11 +1,8 @@
-use Rattle.std.proofs.Common.{◌≡◌, ℕ, ◌<◌, ◌≤◌, List, OnOk, OnErr, length, map, take, drop, get_or, ap, ap₂, ◌∙◌, subst, arith}
+use Rattle.std.proofs.Common.{◌≡◌, ◌<◌, ◌≤◌, List, length, take, drop, get_or, ap, ap₂, ◌∙◌, arith}
 use Rattle.std.proofs.lemmas.List.{get_or_default, length-map}
 use Rattle.std.specs.Arc.{arc_value}
-use Rattle.pgp_log.specs.Shard.{Shard, HasReadSome, having_read_all, opening_shard}
+use Rattle.pgp_log.specs.Shard.{Shard, opening_shard}
 use Rattle.pgp_log.specs.World.{World}
-use Rattle.pgp_log.specs.World.Step.{Absorb}
-use Rattle.pgp_log.specs.World.Reply.{Absorbed}
-use Rattle.pgp_log.specs.WorldRun.{MayReply}
 use Rattle.pgp_log.proofs.RunningLemmas.{absorbed, absorbed-reply, next-legal, reads-within}
 use Rattle.pgp_log.proofs.world.World.absorb.Goals as goal
 
@@ -40,8 +37,8 @@ invariant_of-self c =
     absorbed arc_value items c.self.inside.judge shards c.args.shard c.args.count state c.absorb_all.new.self c.absorb_all.result c.self.invariant there here
     (rw news at c.absorb_all.ensures.ok) (rw news at c.absorb_all.ensures.err)
 
-pub returns : goal.returns
-returns c =
+pub returns-clause-reply : goal.returns-clause-reply
+returns-clause-reply c =
     let items = c.self.inside.entries.items in
     let shards : List Shard = c.self.inside.shards.items in
     let state : Shard = c.index_mut-state.result.now in

@@ -5,8 +5,8 @@ use Rattle.pgp_log.specs.Shard.{Shard, opening_shard, shard_of}
 use Rattle.pgp_log.proofs.RunningLemmas.{asked-reply}
 use Rattle.pgp_log.proofs.world.World.ask.Goals as goal
 
-pub returns : goal.returns
-returns c =
+pub returns-clause-reply : goal.returns-clause-reply
+returns-clause-reply c =
     let shards : List Shard = c.self.inside.shards.items in
     let k = c.shard_of-shard.result in
     let state : Shard = c.index_mut-state.result.now in
