@@ -19,6 +19,8 @@ mod missing;
 #[cfg(test)]
 mod peering;
 #[cfg(test)]
+mod prior_index;
+#[cfg(test)]
 mod prior_sets;
 #[cfg(test)]
 mod scripts;
