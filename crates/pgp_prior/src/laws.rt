@@ -50,15 +50,14 @@ pub fn prior_sets_ascend()
         (past : List Past) → IsAscending nat_lt (blocked_by enough by_place status les past) }
 {}
 
-/// A group that isn't down stays so where devices that were down come up or are given up for lost, whatever its code.
+/// A group that isn't down stays so where devices come up, or are given up for lost that were down, whatever its code.
 pub fn better_statuses_never_block<R: Recoverable>()
     ensures { (code : R) (old new : ℕ → ℕ → Status) (les : ℕ) (past : List Past) → IsNoWorse old new
         → is_group_down (R.enough code) (R.by_place code) old les past ≡ false
         → is_group_down (R.enough code) (R.by_place code) new les past ≡ false }
 {}
 
-/// A group that is down stays so where devices go down, are destroyed, or count as lost no more, unless one that was waited
-/// for is destroyed.
+/// A group that is down stays so where devices are up no more, or lost no more, and those that are down stay so.
 pub fn worse_statuses_never_relieve<R: Recoverable>()
     ensures { (code : R) (old new : ℕ → ℕ → Status) (les : ℕ) (past : List Past) → IsNoBetter old new
         → is_group_down (R.enough code) (R.by_place code) old les past ≡ true
@@ -113,8 +112,8 @@ pub fn a_lost_shard_counts_as_lost_no_more()
     ensures not_better { is_no_worse (lost_at 2 1) (lost_at 1 1) ≡ false }
 {}
 
-/// A lost shard that is destroyed can make a group down, and the last one waited for that is destroyed makes it not down: so
-/// that change is neither better nor worse.
+/// A lost shard that is destroyed can make a group down, and where the last one that it waits for is destroyed, it isn't
+/// down any more. So a device that is destroyed makes things neither better nor worse.
 pub fn destroyed_shards()
     ensures lost { (prior_with Lost Down 0).down ≡ false }
     ensures lost_gone { (prior_with Gone Down 0).down ≡ true }
