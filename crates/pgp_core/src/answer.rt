@@ -4,6 +4,7 @@ ghost use Rattle.pgp_text.specs.Command.{IsInRange};
 ghost use Rattle.pgp_text.specs.Reply.{reply_text};
 ghost use Rattle.pgp_core.specs.Answer.{long_text};
 ghost use Rattle.pgp_core.specs.Answerer.{MayAnswerBy, is_accepted};
+ghost use Rattle.pgp_core.specs.Script.{longest_line};
 ghost use Rattle.pgp_core.specs.Told.{PutsFault, PutsReply, PutsText, MayLack};
 ghost use Rattle.pgp_lines.specs.LineFault.{told};
 ghost use Rattle.pgp_core.specs.Wants.{want_of, LacksReply};
@@ -26,7 +27,7 @@ pub fn answer_line<A: Answerer>(
     text: &mut Vec<u8>,
 ) -> Result<(), NoAnswer>
     ensures ok { OnOk result (PutsText A.alone (A.log answerer.old) (A.log answerer.new) line.now text.old.items text.new.items) }
-    ensures lacks { IfErr result (λ why. 0 < length line.now → length line.now ≤ 1048576 → MayLack A.alone why line.now) }
+    ensures lacks { IfErr result (λ why. 0 < length line.now → length line.now ≤ longest_line → MayLack A.alone why line.now) }
     ensures text { OnErr result (text.new.items ≡ text.old.items) }
     ensures log { OnErr result (MayAnswerBy A.alone (A.log answerer.old) (A.log answerer.new)) }
 {

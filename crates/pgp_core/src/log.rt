@@ -1,12 +1,12 @@
 //! The log of a script, and what it takes next.
-ghost use Rattle.std.specs.Prelude.{◌≡◌, ◌≢◌, ◌≤◌, List, [], ◌∷◌, ◌++◌, length, map, false, true, is_some, None, Some, Err, IfOk, IsOk, OnOk, OnErr, IfErr};
+ghost use Rattle.std.specs.Prelude.{◌≡◌, ◌≢◌, ◌≤◌, ◌+◌, List, [], ◌∷◌, ◌++◌, length, map, false, true, is_some, None, Some, Err, IfOk, IsOk, OnOk, OnErr, IfErr};
 ghost use Rattle.std.specs.Arc.{arc_value};
 ghost use Rattle.pgp_ids.specs.declared.entry.Entry.{Entry as AnyEntry};
 ghost use Rattle.pgp_refusals.specs.declared.refusal.Refusal.TheVariants.{Memory};
 ghost use Rattle.pgp_map.specs.Pools.{pool};
 ghost use Rattle.pgp_group.specs.Entries.{inc_of, incs_of};
 ghost use Rattle.pgp_group.specs.View.{scratch};
-ghost use Rattle.pgp_log.specs.Fits.{is_closed, fits};
+ghost use Rattle.pgp_log.specs.Fits.{is_closed, fits, longest_log};
 ghost use Rattle.pgp_log.specs.Judge.{IsJudgeOf};
 ghost use Rattle.pgp_log.specs.Log.{epoch_of, is_legal};
 ghost use Rattle.pgp_log.specs.RawSets.{AreRawSets};
@@ -60,7 +60,7 @@ impl Log {
     /// How many entries it has.
     pub fn count(&self) -> usize
         ensures count { result ≡ length self.now }
-        ensures few { result ≤ 65536 }
+        ensures few { result ≤ longest_log + 1 }
     {
         self.judge.count()
     }
