@@ -1,18 +1,21 @@
 -- What is kept of a log tells all that its reports tell.
-use Rattle.std.proofs.Common.{◌≡◌, ℕ, ◌≤◌, true, nat_le, refl, arith, leb-true, List, [], ◌∷◌, ◌++◌, Result, Ok, Err, ap, ap₂, sym, ◌∙◌}
+use Rattle.std.proofs.Common.{◌≡◌, ℕ, ◌≤◌, true, false, nat_le, refl, arith, leb-true, List, [], ◌∷◌, ◌++◌, Result, Ok, Err, ap, ap₂, sym, ◌∙◌, subst, inl, inr}
 use Rattle.std.specs.List.{All, AllPairs}
-use Rattle.std.specs.Ordering.{nat_cmp}
+use Rattle.std.specs.Ordering.{nat_cmp, match_ordering}
 use Rattle.std.specs.Result.{IfOk, OnOk}
-use Rattle.std.proofs.lemmas.Bool.{and_parts, and_from, le-leb}
+use Rattle.std.specs.declared.cmp.Ordering.{Ordering}
+use Rattle.std.specs.declared.cmp.Ordering.TheVariants.{Less, Equal, Greater}
+use Rattle.std.proofs.lemmas.Bool.{and_parts, and_from, cases_Bool, le-leb}
 use Rattle.std.proofs.lemmas.List.Elements.{All-nil, All-cons, All-head, All-weaker}
 use Rattle.std.proofs.lemmas.List.Kept.{AllPairs-cons}
 use Rattle.std.proofs.lemmas.List.Sums.{fold_push}
+use Rattle.std.proofs.lemmas.Map.Lookups.{exact_unsigned}
 use Rattle.pgp_ids.specs.declared.log_entry.LogEntry.{LogEntry}
 use Rattle.pgp_ids.specs.declared.report.Info.{Info}
 use Rattle.pgp_lists.proofs.Pairs.{AllPairs-nil, AllPairs-first, AllPairs-rest}
 use Rattle.pgp_missing.specs.Kept.{KeptLog, IsLogOf}
 use Rattle.pgp_missing.specs.Last.{put_in}
-use Rattle.pgp_missing.specs.Log.{number_of, within, log_of, is_rising_from}
+use Rattle.pgp_missing.specs.Log.{number_of, by_number, is_in_log, within, log_of, is_rising_from}
 
 pub log_more : (info : Info) (reported : List LogEntry) (log : KeptLog) (new : LogEntry) (entries : List LogEntry) → IsLogOf info reported log
     → entries ≡ put_in number_of nat_cmp log.entries new → IsLogOf info (reported ++ new ∷ []) (record { info = log.info; entries = entries })
@@ -24,6 +27,24 @@ log_more info reported log new entries is put = record {
 pub log_tells : {A : Type 0} (f : Info → List LogEntry → A) (info : Info) (reported : List LogEntry) (log : KeptLog) → IsLogOf info reported log
     → f log.info (within log.info log.entries) ≡ f info (log_of info reported)
 log_tells f info reported log is = ap₂ (λ i entries. f i (within i entries)) is.of_member is.of_reported
+
+-- ---- an entry outside of the log
+
+module _ (info : Info) (new : LogEntry) (outside : is_in_log info new.version.v ≡ false) where
+  within-put_in : (entries : List LogEntry) → within info (put_in number_of nat_cmp entries new) ≡ within info entries
+  within-put_in [] = rw outside refl
+  within-put_in (x ∷ xs) = by (nat_cmp new.version.v x.version.v) refl (within-put_in xs)
+    where
+      by : (r : Ordering) → nat_cmp new.version.v x.version.v ≡ r → within info (put_in number_of nat_cmp xs new) ≡ within info xs
+          → within info (match_ordering r (new ∷ x ∷ xs) (new ∷ xs) (x ∷ put_in number_of nat_cmp xs new)) ≡ within info (x ∷ xs)
+      by Less is rest = rw outside refl
+      by Equal is rest =
+          let also : is_in_log info x.version.v ≡ false = subst (λ v. is_in_log info v ≡ false) (exact_unsigned new.version.v x.version.v is) outside in
+          rw (outside, also) refl
+      by Greater is rest = elim (cases_Bool (is_in_log info x.version.v)) [ inl also ↦ rw also (ap (λ l. x ∷ l) rest) | inr apart ↦ rw apart rest ]
+
+pub outside_log : (info : Info) (reported : List LogEntry) (new : LogEntry) → is_in_log info new.version.v ≡ false → log_of info (reported ++ new ∷ []) ≡ log_of info reported
+outside_log info reported new outside = ap (within info) (fold_push (put_in number_of nat_cmp) [] reported new) ∙ within-put_in info new outside (by_number reported)
 
 -- ---- epochs that don't fall
 

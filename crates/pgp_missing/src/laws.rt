@@ -1,5 +1,5 @@
 //! What the definitions say of small logs, and of a peer that has all writes.
-ghost use Rattle.std.specs.Prelude.{◌≡◌, ℕ, All, AllPairs, Contains, ◌≤◌, ◌↔◌, List, [], ◌∷◌, Some, true, false, codes};
+ghost use Rattle.std.specs.Prelude.{◌≡◌, ℕ, All, AllPairs, Contains, ◌≤◌, ◌↔◌, List, [], ◌∷◌, ◌++◌, Some, true, false, codes};
 ghost use Rattle.pgp_ids.specs.Version.{is_older};
 ghost use Rattle.pgp_ids.specs.declared.log_entry.Change.TheVariants.{Modify};
 ghost use Rattle.pgp_ids.specs.declared.log_entry.LogEntry.{LogEntry};
@@ -35,6 +35,13 @@ pub fn log_holds_the_last_entry_of_each_number()
         → Contains (log_of info reported) entry
         ↔ ((is_in_log info entry.version.v ≡ true) × IsLast number_of reported entry) }
     ensures ascending { (info : Info) (reported : List LogEntry) → IsByNumber (log_of info reported) }
+{}
+
+/// An entry whose number isn't one of the log says nothing of it.
+#[tactic(auto, using(crate::proofs::LogLemmas::outside_log))]
+pub fn entries_outside_a_log_say_nothing_of_it()
+    ensures { (info : Info) (reported : List LogEntry) (entry : LogEntry) → is_in_log info entry.version.v ≡ false
+        → log_of info (reported ++ entry ∷ []) ≡ log_of info reported }
 {}
 
 /// Epochs that rise from one entry to the next rise from each entry to each later one.
