@@ -30,6 +30,44 @@ impl Write for Broken {
     }
 }
 
+/// A stream that passes on some bytes at a time, and fails at one call.
+#[derive(Drop)]
+struct Failing<S: Drop> {
+    stream: S,
+    calls_left: usize,
+}
+
+impl<S: Drop> Failing<S> {
+    /// Counts a call, which fails where it is its turn.
+    fn call(&mut self) -> io::Result<()> {
+        if self.calls_left == 0 {
+            return Err(io::Error::from(ErrorKind::Other));
+        }
+        self.calls_left -= 1;
+        Ok(())
+    }
+}
+
+impl<R: Read + Drop> Read for Failing<R> {
+    fn read(&mut self, buf: &mut [u8]) -> io::Result<usize> {
+        self.call()?;
+        let count = buf.len().min(10);
+        self.stream.read(&mut buf[..count])
+    }
+}
+
+impl<W: Write + Drop> Write for Failing<W> {
+    fn write(&mut self, buf: &[u8]) -> io::Result<usize> {
+        self.call()?;
+        self.stream.write(&buf[..buf.len().min(10)])
+    }
+
+    fn flush(&mut self) -> io::Result<()> {
+        self.call()?;
+        self.stream.flush()
+    }
+}
+
 /// What a run with these words, reader and writer ends with: its status, the writer and its errors.
 fn run_with<R: Read + Drop, W: Write + Drop>(
     alloc: Global,
@@ -99,5 +137,57 @@ fn tells_of_words_that_could_not_be_read(rt: HostRuntime) -> Result<(), Fail> {
         errors.as_slice(),
         b"error: an argument is not UTF-8\n".as_slice()
     );
+    Ok(())
+}
+
+/// Two lines and a rest, and their answers.
+const LINES: &[u8] = b"{\"op\":\"act\"}\n[]\n{\"op\":\"close\"}";
+
+const ANSWERS: &[u8] =
+    b"{\"code\":32,\"refused\":\"NoOp\"}\n{\"code\":32,\"refused\":\"NoOp\"}\n{\"count\":1,\"epoch\":0,\"ok\":\"close\"}\n";
+
+/// The status that a failed call leaves, with what is told of it, and the status where none failed.
+fn is_told(status: u8, errors: &[u8], fault: &[u8]) -> bool {
+    if status == DONE {
+        errors.is_empty()
+    } else {
+        status == FAULT && errors == fault
+    }
+}
+
+#[test]
+fn tells_of_each_read_that_fails(rt: HostRuntime) -> Result<(), Fail> {
+    let alloc = rt.alloc();
+    for calls_left in 0..6 {
+        let reader = Failing {
+            stream: LINES,
+            calls_left,
+        };
+        let (status, out, errors) = run_with(alloc, &["pgpeer", "run"], reader, Vec::new(alloc))?;
+        assert!(rt; is_told(status, errors.as_slice(), b"pgpeer: read fault\n"));
+        assert_eq!(rt; status == DONE, calls_left >= 4);
+        assert!(rt; ANSWERS.starts_with(out.as_slice()));
+        assert_eq!(rt; out.as_slice() == ANSWERS, status == DONE);
+    }
+    Ok(())
+}
+
+#[test]
+fn tells_of_each_write_that_fails(rt: HostRuntime) -> Result<(), Fail> {
+    let alloc = rt.alloc();
+    let mut done = false;
+    for calls_left in 0..30 {
+        let writer = Failing {
+            stream: Vec::new(alloc),
+            calls_left,
+        };
+        let (status, out, errors) = run_with(alloc, &["pgpeer", "run"], LINES, writer)?;
+        assert!(rt; is_told(status, errors.as_slice(), b"pgpeer: write fault\n"));
+        assert!(rt; ANSWERS.starts_with(out.stream.as_slice()));
+        assert!(rt; status == FAULT || out.stream.as_slice() == ANSWERS);
+        assert!(rt; status == DONE || !done);
+        done = status == DONE;
+    }
+    assert!(rt; done);
     Ok(())
 }
