@@ -28,3 +28,5 @@ mod scripts;
 mod texts;
 #[cfg(test)]
 mod trees;
+#[cfg(test)]
+mod worlds;
