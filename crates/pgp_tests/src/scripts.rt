@@ -2,6 +2,7 @@
 //! stored run of `pgp_scripts`.
 
 mod fakes;
+mod gone;
 mod limits;
 mod streams;
 
