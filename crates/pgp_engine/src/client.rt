@@ -1,0 +1,36 @@
+//! Who places objects.
+use crate::naming::Naming;
+use chart::Chart;
+use pgp_feed::{Receipt, Tap};
+use std::marker::{Model, PhantomData};
+
+mod chart;
+mod fault;
+mod place;
+mod steps;
+
+pub use fault::LocateFault;
+pub use place::Place;
+
+/// It reads the published log by a tap of its own, waits for nobody, and places objects by what it has read. Contracts see it
+/// as its front, which never goes back.
+#[derive(Drop)]
+pub struct Client<J: Naming> {
+    tap: Tap,
+    front: Receipt,
+    // It lags behind the front until an object is placed.
+    chart: Chart,
+    of: PhantomData<J>,
+}
+
+impl<J: Naming> Model for Client<J> {
+    ghost use Rattle.pgp_feed.specs.declared.receipt.Receipt.{Receipt};
+
+    ghost Value = { Receipt };
+
+    ghost use Rattle.pgp_engine.specs.Clients.{IsClientOf};
+
+    ghost view = { λ c. c.front };
+
+    ghost invariant = { λ c. IsClientOf J.feed c.tap c.front c.chart };
+}

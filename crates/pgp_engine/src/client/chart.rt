@@ -1,0 +1,101 @@
+//! The map by which a client places objects.
+ghost use Rattle.std.specs.Prelude.{◌≡◌, List, [], ◌++◌, map, true, None, Some, Err, OnOk, IfOk};
+ghost use Rattle.std.specs.Arc.{arc_value};
+ghost use Rattle.pgp_ids.specs.declared.entry.Entry.{Entry as AnyEntry};
+ghost use Rattle.pgp_map.specs.Pools.{pool};
+ghost use Rattle.pgp_group.specs.Entries.{incs_of};
+ghost use Rattle.pgp_log.specs.Log.{is_legal};
+ghost use Rattle.pgp_log.specs.Locate.{place_of_object, place_with};
+ghost use Rattle.pgp_feed.specs.Receipts.{entries_of, feed_of};
+ghost use Rattle.pgp_feed.specs.Taps.{last_of};
+ghost use Rattle.pgp_feed.specs.declared.receipt.Receipt.{Receipt as AnyReceipt};
+ghost use Rattle.pgp_engine.specs.declared.client.fault.LocateFault.TheVariants.{UnknownPool};
+ghost use Rattle.pgp_engine.specs.Clients.{IsChartOf, IsChartWithin, GoesOn};
+
+use super::fault::LocateFault;
+use super::place::Place;
+use pgp_feed::{ReadFault, Receipt, Tap};
+use pgp_ids::{Entry, ObjectName, PoolId};
+use pgp_log::{Judge, RawSets};
+use std::alloc::{AllocError, Global};
+use std::sync::Arc;
+
+/// The map of the entries that were taken, which the judge of these has, and where it puts groups.
+#[derive(Drop)]
+pub struct Chart {
+    alloc: Global,
+    judge: Judge,
+    sets: RawSets,
+}
+
+impl Chart {
+    /// The chart of the empty log. It takes no memory.
+    pub fn empty(alloc: Global) -> Chart
+        ensures { IsChartOf [] result }
+    {
+        Chart {
+            alloc,
+            judge: Judge::start(alloc),
+            sets: RawSets::new(alloc),
+        }
+    }
+
+    /// Takes what it lacks of the front. Refused, it may have taken some of it.
+    pub fn follow(&mut self, tap: &mut Tap, front: &Receipt) -> Result<(), ReadFault>
+        requires feed { feed_of front.now ≡ feed_of (last_of tap.old) }
+        requires taken { IsChartWithin (entries_of front.now) self.old }
+        ensures feed { feed_of (last_of tap.new) ≡ feed_of (last_of tap.old) }
+        ensures whole { OnOk result (IsChartOf (entries_of front.now) self.new) }
+        ensures within { IsChartWithin (entries_of front.now) self.new }
+    {
+        let taken = self.judge.count();
+        if taken == front.len() {
+            return Ok(());
+        }
+        let mut unread = Vec::new(self.alloc);
+        tap.read(front, taken, &mut unread)?;
+        match self.take_all(unread.as_slice()) {
+            Ok(()) => Ok(()),
+            Err(AllocError) => Err(ReadFault::Memory),
+        }
+    }
+
+    /// Takes the entries that come next. Without memory for one of them, it has taken those before it.
+    fn take_all(&mut self, entries: &[Arc<Entry>]) -> Result<(), AllocError>
+        requires { GoesOn self.old (map arc_value entries.now) }
+        ensures whole { OnOk result ((log : List AnyEntry) → IsChartOf log self.old → is_legal (log ++ map arc_value entries.now) ≡ true
+            → IsChartOf (log ++ map arc_value entries.now) self.new) }
+        ensures within { (log : List AnyEntry) → IsChartOf log self.old → is_legal (log ++ map arc_value entries.now) ≡ true
+            → IsChartWithin (log ++ map arc_value entries.now) self.new }
+    {
+        for entry in entries {
+            self.judge.take(entry)?;
+            self.sets.follow(entry);
+        }
+        Ok(())
+    }
+
+    /// Where the object of this name lies by the map of the front.
+    pub fn locate(
+        &mut self,
+        at: Receipt,
+        id: PoolId,
+        name: &ObjectName,
+    ) -> Result<Place, LocateFault>
+        requires { IsChartOf (entries_of at) self.old }
+        ensures kept { IsChartOf (entries_of at) self.new }
+        ensures placed { IfOk result (λ place. (place.at ≡ at)
+            × (place_of_object (incs_of (entries_of at)) id name.now ≡ Some (place_with place.pg place.members))) }
+        ensures unknown { (front : AnyReceipt) → result ≡ Err (UnknownPool front)
+            → (front ≡ at) × (pool (incs_of (entries_of at)) id ≡ None) }
+    {
+        match self.sets.locate(self.judge.map(), id, name) {
+            Some(found) => Ok(Place {
+                pg: found.pg,
+                members: found.members,
+                at,
+            }),
+            None => Err(LocateFault::UnknownPool { at }),
+        }
+    }
+}
