@@ -1,2 +1,2 @@
 pub mod Clients
-pub mod Faults
+pub mod LocateFaults
