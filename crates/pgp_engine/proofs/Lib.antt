@@ -1,1 +1,5 @@
 pub mod ClientLemmas
+pub mod FrontLemmas
+pub mod JudgeLemmas
+pub mod ReadLemmas
+pub mod SubmitLemmas

@@ -1,5 +1,5 @@
 -- A client, and the map by which it places objects.
-use Rattle.std.specs.Prelude.{◌≡◌, List, ◌++◌, true}
+use Rattle.std.specs.Prelude.{◌≡◌, List, [], ◌++◌, true}
 use Rattle.logbook.specs.Pages.{Book}
 use Rattle.pgp_ids.specs.declared.entry.Entry.{Entry}
 use Rattle.pgp_group.specs.Entries.{incs_of}
@@ -34,3 +34,7 @@ pub record IsClientOf (feed : Book) (tap : Tap) (front : Receipt) (chart : Chart
   pub tap_is : feed_of (last_of tap) ≡ feed
   pub front_is : feed_of front ≡ feed
   pub chart_is : IsChartWithin (entries_of front) chart
+
+-- a client with this front has read nothing
+abbrev pub IsNew : Receipt → Type 0
+IsNew front = entries_of front ≡ []

@@ -1,10 +1,26 @@
-//! What the threads of a program call: clients, which read the one published log and place objects by it.
+//! An engine over one published log: any thread submits an entry or asks about a group, and each answer is worked out of a
+//! front of that log which holds all that the caller was told of.
 //!
-//! A [`Client`] waits for nobody. It has a front of the log, which never goes back, and a map of its own.
+//! An [`Intake`] judges an entry by the whole log and publishes it. A [`Shard`] reads the log one front after another, and
+//! answers for its own groups by the front that it has read. An [`Engine`] has them under locks: a submit is a turn of the
+//! intake's lock, and an ask or an absorb is a turn of one shard's. A [`Client`] reads the log by itself and waits for
+//! nobody: it has a front of the log, which never goes back, and a map of its own, by which it places objects.
 #![tactic(auto)]
 
+mod answer;
+mod brand;
 mod client;
+mod engine;
+mod fault;
+mod intake;
 mod naming;
+mod shard;
 
+pub use answer::Answer;
 pub use client::{Client, LocateFault, Place};
+pub use engine::Engine;
+pub use fault::{AskFault, SubmitFault};
+pub use intake::Intake;
 pub use naming::Naming;
+pub use pgp_feed::MakeFault;
+pub use shard::Shard;

@@ -1,0 +1,38 @@
+-- Fronts of one log.
+use Rattle.std.proofs.Common.{◌≡◌, ℕ, ◌+◌, ◌≤◌, List, [], ◌∷◌, ◌++◌, length, take, drop, true, refl, ap, sym, ◌∙◌, subst, arith, length-append, append-nil}
+use Rattle.std.proofs.Math.Seq.{take-append-add}
+use Rattle.std.proofs.lemmas.List.{drop_at, take_at, take-append-drop}
+use Rattle.pgp_ids.specs.declared.entry.Entry.{Entry}
+use Rattle.pgp_log.specs.Log.{IsFrontOf, is_legal}
+use Rattle.pgp_log.proofs.LogLemmas.{front-legal}
+
+pub front_none : (log : List Entry) → IsFrontOf [] log
+front_none log = record { rest = log; whole = refl }
+
+pub front_short : (a b : List Entry) → IsFrontOf a b → length a ≤ length b
+front_short a b f = omega (arith, ap length f.whole, length-append a f.rest)
+
+rest_none : (a b rest : List Entry) → b ≡ a ++ rest → length b ≤ length a → b ≡ a
+rest_none a b [] whole few = whole ∙ append-nil a
+rest_none a b (x ∷ rest) whole few = absurd (omega (arith, ap length whole, length-append a (x ∷ rest)))
+
+-- a front as long as the log is the log
+pub front_same : (a b : List Entry) → IsFrontOf a b → length b ≤ length a → b ≡ a
+front_same a b f few = rest_none a b f.rest f.whole few
+
+-- what stands behind the front
+pub front_rest : (a b : List Entry) → IsFrontOf a b → a ++ drop (length a) b ≡ b
+front_rest a b f = ap (λ l. a ++ l) (ap (drop (length a)) f.whole ∙ drop_at a f.rest (length a) refl) ∙ sym f.whole
+
+-- the front with some of what stands behind it
+pub front_more : (a b : List Entry) (k : ℕ) → IsFrontOf a b → take (length a + k) b ≡ a ++ take k (drop (length a) b)
+front_more a b k f = ap (take (length a + k)) (sym (front_rest a b f)) ∙ take-append-add a (drop (length a) b) k
+
+pub front_between : (a b : List Entry) (k : ℕ) → IsFrontOf a b → IsFrontOf a (take (length a + k) b)
+front_between a b k f = record { rest = take k (drop (length a) b); whole = front_more a b k f }
+
+pub take_front : (n : ℕ) (log : List Entry) → IsFrontOf (take n log) log
+take_front n log = record { rest = drop n log; whole = sym (take-append-drop n log) }
+
+pub front_legal : (a b : List Entry) → IsFrontOf a b → is_legal b ≡ true → is_legal a ≡ true
+front_legal a b f legal = front-legal a f.rest (subst (λ (l : List Entry). is_legal l ≡ true) f.whole legal)

@@ -1,0 +1,39 @@
+-- A judge that has taken a front of the log, and what became of the log.
+use Rattle.std.proofs.Common.{◌≡◌, ◌≤◌, List, [], ◌∷◌, ◌++◌, length, drop, true, None, Result, Ok, Err, OnOk, OnErr, MatchResult, refl, ap, ap₂, sym, ◌∙◌, subst}
+use Rattle.pgp_ids.specs.declared.entry.Entry.{Entry}
+use Rattle.pgp_log.specs.declared.judge.Judge.{Judge}
+use Rattle.pgp_log.specs.Fits.{fits}
+use Rattle.pgp_log.specs.Judge.{IsJudgeOf, OfItsLog}
+use Rattle.pgp_log.specs.Log.{IsFrontOf, is_legal}
+use Rattle.pgp_feed.specs.declared.receipt.Receipt.{Receipt}
+use Rattle.pgp_feed.specs.Receipts.{entries_of}
+use Rattle.pgp_feed.proofs.Fronts.{front_self}
+use Rattle.pgp_engine.specs.declared.fault.SubmitFault.{SubmitFault}
+use Rattle.pgp_engine.specs.declared.fault.SubmitFault.TheVariants as submit
+use Rattle.pgp_engine.specs.Fronts.{Follows}
+use Rattle.pgp_engine.proofs.FrontLemmas.{front_rest}
+
+pub follows_log : (log : List Entry) (judge : Judge) → IsJudgeOf log judge → Follows log judge
+follows_log log judge is = record { taken = log; is_front = front_self log; is_judge = is }
+
+-- a front and what stands behind it
+pub with_rest : (front log news : List Entry) → IsFrontOf front log → news ≡ drop (length front) log → front ++ news ≡ log
+with_rest front log news f rest = ap (λ l. front ++ l) rest ∙ front_rest front log f
+
+pub rest_legal : (front log news : List Entry) → IsFrontOf front log → news ≡ drop (length front) log → is_legal log ≡ true → is_legal (front ++ news) ≡ true
+rest_legal front log news f rest legal = subst (λ (l : List Entry). is_legal l ≡ true) (sym (with_rest front log news f rest)) legal
+
+-- whether it found memory for the entry or not
+pub took_or_not : {T E : Type 0} (r : Result T E) (log : List Entry) (new : Entry) (before after : Judge) → IsJudgeOf log before → fits log new ≡ None
+    → OnOk r (OfItsLog before (λ l. fits l new ≡ None → IsJudgeOf (l ++ new ∷ []) after)) → OnErr r (OfItsLog before (λ l. IsJudgeOf l after))
+    → Follows (log ++ new ∷ []) after
+took_or_not (Ok x) log new before after is fit ok err = follows_log (log ++ new ∷ []) after (ok log is fit)
+took_or_not (Err x) log new before after is fit ok err =
+    record { taken = log; is_front = record { rest = new ∷ []; whole = refl }; is_judge = err log is }
+
+-- what the log is after a publish that succeeded or not
+pub published_or_not : (r : Result Receipt SubmitFault) (old new : Receipt) (log : List Entry) (entry given : Entry) → entries_of old ≡ log → entry ≡ given
+    → MatchResult r (λ told. (told ≡ new) × (entries_of told ≡ entries_of old ++ entry ∷ [])) (λ fault. (fault ≡ submit.Memory) × (new ≡ old))
+    → MatchResult r (λ _. entries_of new ≡ log ++ given ∷ []) (λ _. entries_of new ≡ log)
+published_or_not (Ok told) old new log entry given is same p = ap entries_of (sym p.0) ∙ (p.1 ∙ ap₂ (λ (l : List Entry) (x : Entry). l ++ x ∷ []) is same)
+published_or_not (Err fault) old new log entry given is same p = ap entries_of p.1 ∙ is

@@ -1,0 +1,50 @@
+-- What an intake keeps, and what a submit is answered.
+use Rattle.std.specs.Prelude.{◌≡◌, ◌≢◌, ◌<◌, List, [], ◌∷◌, ◌++◌, length, Some, true}
+use Rattle.logbook.specs.Pages.{Book}
+use Rattle.pgp_refusals.specs.declared.refusal.Refusal.{Refusal}
+use Rattle.pgp_refusals.specs.declared.refusal.Refusal.TheVariants as refusal
+use Rattle.pgp_ids.specs.declared.entry.Entry.{Entry}
+use Rattle.pgp_log.specs.declared.judge.Judge.{Judge}
+use Rattle.pgp_log.specs.Fits.{fits}
+use Rattle.pgp_log.specs.Log.{IsFrontOf}
+use Rattle.pgp_feed.specs.declared.receipt.Receipt.{Receipt}
+use Rattle.pgp_feed.specs.Receipts.{entries_of, feed_of, Holds}
+use Rattle.pgp_engine.specs.declared.fault.SubmitFault.{SubmitFault}
+use Rattle.pgp_engine.specs.declared.fault.SubmitFault.TheVariants.{Refused, Memory, NoReader}
+use Rattle.pgp_engine.specs.Fronts.{Names, Follows}
+
+-- the told receipt and the one that the tap gave last are of this feed, and the judge has taken a front of what was told
+pub record IsIntake (feed : Book) (told last : Receipt) (judge : Judge) : Type 0 where
+  pub told_is : feed_of told ≡ feed
+  pub last_is : feed_of last ≡ feed
+  pub judge_is : Follows (entries_of told) judge
+
+-- the entry doesn't fit the log, for this reason, which is no want of memory; and the receipt names that log
+pub record IsRefused (feed : Book) (log : List Entry) (entry : Entry) (why : Refusal) (at : Receipt) : Type 0 where
+  pub named : Names feed log at
+  pub refused : fits log entry ≡ Some why
+  pub other : why ≢ refusal.Memory
+
+-- why a log may not have been made longer
+abbrev pub MayRefuse : Book → List Entry → Entry → SubmitFault → Type 0
+MayRefuse feed log entry (Refused why at) = IsRefused feed log entry why at
+MayRefuse feed log entry Memory = Unit {0}
+MayRefuse feed log entry NoReader = Unit {0}
+
+-- the receipt names a longer front than the caller's, which it holds; its last entry is the one that was submitted
+pub record IsSubmitted (q : Receipt) (entry : Entry) (r : Receipt) : Type 0 where
+  pub holds : Holds r q
+  pub longer : length (entries_of q) < length (entries_of r)
+  pub before : List Entry
+  pub last : entries_of r ≡ before ++ entry ∷ []
+
+-- the receipt names a front that holds the caller's, and which the entry doesn't fit for this reason
+pub record IsRefusedAt (q : Receipt) (entry : Entry) (why : Refusal) (at : Receipt) : Type 0 where
+  pub holds : Holds at q
+  pub refused : fits (entries_of at) entry ≡ Some why
+
+-- why a submit may have failed
+abbrev pub MayFailToSubmit : Receipt → Entry → SubmitFault → Type 0
+MayFailToSubmit q entry (Refused why at) = IsRefusedAt q entry why at
+MayFailToSubmit q entry Memory = Unit {0}
+MayFailToSubmit q entry NoReader = Unit {0}

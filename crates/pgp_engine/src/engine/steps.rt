@@ -1,0 +1,73 @@
+//! What any thread asks of an engine.
+ghost use Rattle.std.specs.Prelude.{◌≡◌, ◌<◌, None, IfOk, IfErr, MatchResult};
+ghost use Rattle.pgp_feed.specs.Receipts.{entries_of, feed_of};
+ghost use Rattle.pgp_engine.specs.Asks.{IsAnswer, MayFailToAnswer};
+ghost use Rattle.pgp_engine.specs.Faults.{fault_at};
+ghost use Rattle.pgp_engine.specs.Intakes.{IsSubmitted, MayFailToSubmit};
+
+use super::Engine;
+use super::locks::{holding, serving};
+use crate::answer::Answer;
+use crate::fault::{AskFault, SubmitFault};
+use crate::naming::Naming;
+use pgp_feed::Receipt;
+use pgp_ids::{Entry, PgId};
+use std::sync::{MutexGuard, Wait};
+
+impl<J: Naming> Engine<J> {
+    /// Publishes the entry, if the log takes it, and answers the receipt of the log with it. `Refused`: a front that holds
+    /// the caller's doesn't take it, and the receipt names that one. Whatever the fault, nothing was published.
+    pub fn submit<R: Wait>(&self, rt: &R, entry: Entry, q: &Receipt) -> Result<Receipt, SubmitFault>
+        requires { feed_of q.now ≡ J.feed }
+        ensures { MatchResult result (IsSubmitted q.now entry) (MayFailToSubmit q.now entry) }
+    {
+        let mut turn = holding(rt, &self.intake, q);
+        let submitted = turn.submit(rt, entry);
+        MutexGuard::unlock(turn);
+        submitted
+    }
+
+    /// The receipt of the whole log, as it was at some moment of the call.
+    pub fn told<R: Wait>(&self, rt: &R) -> Receipt
+        ensures { feed_of result ≡ J.feed }
+    {
+        let turn = self.intake.lock(rt);
+        let told = turn.told();
+        MutexGuard::unlock(turn);
+        told
+    }
+
+    /// All that the log says of the group, by a front that holds the caller's: the view is what the definitions give from
+    /// scratch on the front that the answer's receipt names. `UnknownGroup`: such a front makes no such group.
+    pub fn ask<R: Wait>(&self, rt: &R, pg: PgId, q: &Receipt) -> Result<Answer, AskFault>
+        requires { feed_of q.now ≡ J.feed }
+        ensures { MatchResult result (IsAnswer q.now pg) (MayFailToAnswer q.now pg) }
+    {
+        serving(rt, self.shards.as_slice(), &pg).ask(pg, q)
+    }
+
+    /// Lets a shard read at most so many further entries of the log, and answers the receipt of what it has read then.
+    /// Without memory it may have read some of them.
+    pub fn absorb_some<R: Wait>(
+        &self,
+        rt: &R,
+        shard: usize,
+        max: usize,
+    ) -> Result<Receipt, AskFault>
+        requires { shard < self.now.shards }
+        ensures named { IfOk result (λ r. feed_of r ≡ J.feed) }
+        ensures err { IfErr result (λ fault. fault_at fault ≡ None) }
+    {
+        self.shards[shard].lock(rt).absorb_some(max)
+    }
+
+    /// Ends the engine and its feed.
+    pub fn give_up(self, rt: &impl Wait) {
+        let Engine {
+            intake,
+            shards: _,
+            workers: _,
+        } = self;
+        intake.into_inner().give_up(rt);
+    }
+}

@@ -1,0 +1,41 @@
+//! Where entries come in: the one writer of the log, and the judge of what the log takes next.
+use crate::naming::Naming;
+use pgp_feed::{Feed, Tap};
+use pgp_ids::Entry;
+use pgp_log::Judge;
+use std::alloc::Global;
+use std::marker::{Model, PhantomData};
+use std::sync::Arc;
+
+mod judging;
+mod steps;
+
+/// It judges an entry by the whole log and publishes it. Contracts see it as the log that was told so far.
+///
+/// The judge may have taken a front of that log alone, where it lacked memory after a publish: the next submit has it take
+/// the rest, so that nothing that was published is given up.
+pub struct Intake<J: Naming> {
+    alloc: Global,
+    feed: Feed,
+    tap: Tap,
+    judge: Judge,
+    // What the judge has to take, kept from one submit to the next for its room.
+    unread: Vec<Arc<Entry>>,
+    of: PhantomData<J>,
+}
+
+impl<J: Naming> Model for Intake<J> {
+    ghost use Rattle.std.specs.Prelude.{List};
+    ghost use Rattle.pgp_ids.specs.declared.entry.Entry.{Entry};
+    ghost use Rattle.pgp_feed.specs.Receipts.{entries_of};
+    ghost use Rattle.pgp_feed.specs.Feeds.{told_of};
+    ghost use Rattle.pgp_feed.specs.Taps.{last_of};
+
+    ghost Value = { List Entry };
+
+    ghost use Rattle.pgp_engine.specs.Intakes.{IsIntake};
+
+    ghost view = { λ i. entries_of (told_of i.feed) };
+
+    ghost invariant = { λ i. IsIntake J.feed (told_of i.feed) (last_of i.tap) i.judge };
+}

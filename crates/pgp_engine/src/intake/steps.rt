@@ -1,0 +1,83 @@
+//! What an intake does.
+ghost use Rattle.std.specs.Prelude.{◌≡◌, ◌<◌, [], ◌∷◌, ◌++◌, length, MatchBool, MatchResult};
+ghost use Rattle.pgp_log.specs.Log.{IsFrontOf};
+ghost use Rattle.pgp_feed.specs.Receipts.{entries_of, feed_of};
+ghost use Rattle.pgp_feed.specs.Feeds.{told_of};
+ghost use Rattle.pgp_feed.specs.Taps.{last_of};
+ghost use Rattle.pgp_engine.specs.Fronts.{Names};
+ghost use Rattle.pgp_engine.specs.Intakes.{MayRefuse};
+
+use super::Intake;
+use super::judging::{catch_up, fits, publish};
+use crate::fault::SubmitFault;
+use crate::naming::Naming;
+use pgp_feed::{Feed, Receipt, Tap};
+use pgp_ids::Entry;
+use pgp_log::Judge;
+use std::alloc::Global;
+use std::cmp::Ordering;
+use std::marker::PhantomData;
+use std::sync::{Arc, Wait};
+
+impl<J: Naming> Intake<J> {
+    /// The intake over a feed and one of its taps. It takes no memory.
+    pub(crate) fn start(alloc: Global, feed: Feed, tap: Tap) -> Intake<J>
+        requires feed { feed_of (told_of feed) ≡ J.feed }
+        requires tap { feed_of (last_of tap) ≡ J.feed }
+        ensures { result ≡ entries_of (told_of feed) }
+    {
+        Intake {
+            alloc,
+            feed,
+            tap,
+            judge: Judge::start(alloc),
+            unread: Vec::new(alloc),
+            of: PhantomData,
+        }
+    }
+
+    /// The receipt of the whole log.
+    pub fn told(&self) -> Receipt
+        ensures { Names J.feed self.now result }
+    {
+        self.feed.told()
+    }
+
+    /// The log holds the front that a receipt of the same feed names.
+    pub(crate) fn holds(&mut self, front: &Receipt) -> bool
+        requires { feed_of front.now ≡ J.feed }
+        ensures holds { MatchBool result (IsFrontOf (entries_of front.now) self.old) (length self.old < length (entries_of front.now)) }
+        ensures same { self.new ≡ self.old }
+    {
+        let told = self.feed.told();
+        self.tap.meet(front, &told) != Ordering::Greater
+    }
+
+    /// Publishes the entry, if the log takes it. `Refused`: the whole log that was told doesn't take it, and the receipt is
+    /// of that log. Whatever the fault, the log is as before.
+    pub fn submit<R: Wait>(&mut self, rt: &R, entry: Entry) -> Result<Receipt, SubmitFault>
+        ensures log { MatchResult result (λ _. self.new ≡ self.old ++ entry ∷ []) (λ _. self.new ≡ self.old) }
+        ensures told { MatchResult result (Names J.feed self.new) (MayRefuse J.feed self.old entry) }
+    {
+        let told = self.feed.told();
+        catch_up(&mut self.judge, &told, &mut self.tap, &mut self.unread)?;
+        fits(&self.judge, &told, &entry)?;
+        let Ok(entry) = Arc::new(self.alloc, entry) else {
+            return Err(SubmitFault::Memory);
+        };
+        publish(rt, &mut self.feed, &mut self.judge, entry)
+    }
+
+    /// Ends the feed. Its taps find no copy from then on.
+    pub(crate) fn give_up(self, rt: &impl Wait) {
+        let Intake {
+            alloc: _,
+            feed,
+            tap: _,
+            judge: _,
+            unread: _,
+            of: _,
+        } = self;
+        feed.give_up(rt);
+    }
+}

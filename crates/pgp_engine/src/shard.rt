@@ -1,0 +1,36 @@
+//! A shard of the engine: it reads the feed, and answers for some of the groups.
+use crate::naming::Naming;
+use pgp_feed::{Receipt, Tap};
+use pgp_ids::Entry;
+use pgp_log::ShardState;
+use std::marker::{Model, PhantomData};
+use std::sync::Arc;
+
+mod reading;
+mod steps;
+
+/// It reads one front of the log after another, and answers for its own groups by the front that it has read. Its receipt
+/// names that front.
+#[derive(Drop)]
+pub struct Shard<J: Naming> {
+    shard: usize,
+    shards: usize,
+    state: ShardState,
+    front: Receipt,
+    tap: Tap,
+    // What is read next, kept from one turn to the next for its room.
+    unread: Vec<Arc<Entry>>,
+    of: PhantomData<J>,
+}
+
+impl<J: Naming> Model for Shard<J> {
+    ghost use Rattle.pgp_feed.specs.Receipts.{entries_of};
+    ghost use Rattle.pgp_feed.specs.Taps.{last_of};
+    ghost use Rattle.pgp_engine.specs.Shards.{Reader, IsReader};
+
+    ghost Value = { Reader };
+
+    ghost view = { λ s. record { front = s.state.front; shard = s.shard; shards = s.shards; seen = entries_of (last_of s.tap) } };
+
+    ghost invariant = { λ s. IsReader J.feed s.shard s.shards s.state s.front (last_of s.tap) };
+}

@@ -1,0 +1,129 @@
+//! What a shard does.
+ghost use Rattle.std.specs.Prelude.{◌≡◌, ◌<◌, ◌↔◌, [], true, false, None, Some, IsTrue, IsSome, IfOk, IfErr, IfSome, OnOk, MatchResult};
+ghost use Rattle.pgp_map.specs.Pools.{has_group};
+ghost use Rattle.pgp_group.specs.Entries.{incs_of};
+ghost use Rattle.pgp_group.specs.View.{scratch};
+ghost use Rattle.pgp_log.specs.Log.{is_legal, IsFrontOf};
+ghost use Rattle.pgp_feed.specs.Receipts.{entries_of, feed_of};
+ghost use Rattle.pgp_feed.specs.Taps.{last_of};
+ghost use Rattle.pgp_engine.specs.Asks.{IsAnswer, MayFailToAnswer};
+ghost use Rattle.pgp_engine.specs.Faults.{fault_at};
+ghost use Rattle.pgp_engine.specs.Fronts.{Names};
+ghost use Rattle.pgp_engine.specs.Shards.{GoesOn, HasAbsorbed, Serves};
+
+use super::Shard;
+use super::reading::{after, longer};
+use crate::answer::Answer;
+use crate::fault::AskFault;
+use crate::naming::Naming;
+use pgp_feed::{Receipt, Tap};
+use pgp_ids::{AskRefusal, PgId};
+use pgp_log::{ShardState, shard_of};
+use std::alloc::{AllocError, Global};
+use std::marker::PhantomData;
+
+impl<J: Naming> Shard<J> {
+    /// The shard of this number, of so many, over a tap. It has read nothing, and takes no memory.
+    pub(crate) fn start(alloc: Global, shard: usize, shards: usize, tap: Tap) -> Shard<J>
+        requires tap { feed_of (last_of tap) ≡ J.feed }
+        requires some { 0 < shards }
+        ensures front { result.front ≡ [] }
+        ensures shard { result.shard ≡ shard }
+        ensures shards { result.shards ≡ shards }
+    {
+        let mut tap = tap;
+        let front = tap.newest().front(0);
+        Shard {
+            shard,
+            shards,
+            state: ShardState::start(alloc, shard, shards),
+            front,
+            tap,
+            unread: Vec::new(alloc),
+            of: PhantomData,
+        }
+    }
+
+    /// The group is one of the shard's own.
+    pub(crate) fn serves(&self, pg: &PgId) -> bool
+        ensures { IsTrue result ↔ Serves self.now pg.now }
+    {
+        shard_of(self.shards, pg) == self.shard
+    }
+
+    /// Reads the entries up to those that a receipt of the same feed names. Without memory it may have read some of them.
+    fn absorb_to(&mut self, target: &Receipt) -> Result<(), AskFault>
+        requires feed { feed_of target.now ≡ J.feed }
+        requires more { IsFrontOf self.old.front (entries_of target.now) }
+        ensures on { GoesOn self.old self.new }
+        ensures ok { OnOk result (self.new.front ≡ entries_of target.now) }
+        ensures seen { OnOk result (IsFrontOf self.new.front self.new.seen) }
+        ensures legal { OnOk result (is_legal self.new.front ≡ true) }
+        ensures err { IfErr result (λ fault. fault_at fault ≡ None) }
+    {
+        let read = self.front.len();
+        if read == target.len() {
+            return Ok(());
+        }
+        self.unread.clear();
+        self.tap.read(target, read, &mut self.unread)?;
+        match self.state.absorb_all(self.unread.as_slice()) {
+            Ok(()) => {
+                self.front = target.again();
+                Ok(())
+            }
+            Err(AllocError) => {
+                self.front = target.front(self.state.count());
+                Err(AskFault::Memory)
+            }
+        }
+    }
+
+    /// Reads at most so many further entries of the log, and answers the receipt of what it has read then. Without memory
+    /// it may have read some of them.
+    pub fn absorb_some(&mut self, max: usize) -> Result<Receipt, AskFault>
+        ensures on { GoesOn self.old self.new }
+        ensures absorbed { OnOk result (HasAbsorbed self.old self.new max) }
+        ensures named { IfOk result (Names J.feed self.new.front) }
+        ensures err { IfErr result (λ fault. fault_at fault ≡ None) }
+    {
+        let newest = self.tap.newest();
+        let target = after(&newest, self.front.len(), max);
+        self.absorb_to(&target)?;
+        Ok(self.front.again())
+    }
+
+    /// What the shard has read says of one of its groups.
+    fn view(&mut self, pg: PgId) -> Result<Answer, AskFault>
+        requires serves { Serves self.old pg }
+        ensures same { self.new ≡ self.old }
+        ensures view { IfOk result (λ answer. scratch self.old.front pg ≡ Some answer.view) }
+        ensures absent { IfErr result (λ fault. IsSome (fault_at fault) → has_group (incs_of self.old.front) pg ≡ false) }
+        ensures named { IfOk result (λ answer. Names J.feed self.old.front answer.at) }
+        ensures err_named { IfErr result (λ fault. IfSome (fault_at fault) (Names J.feed self.old.front)) }
+    {
+        let at = self.front.again();
+        match self.state.ask(pg) {
+            Ok(view) => Ok(Answer { view, at }),
+            Err(AskRefusal::UnknownGroup) => Err(AskFault::UnknownGroup { at }),
+            Err(AskRefusal::Memory) => Err(AskFault::Memory),
+        }
+    }
+
+    /// All that the log says of one of the shard's groups, by a front that holds the caller's. The shard reads on first, up
+    /// to the newest front or to the caller's, and answers by what it has read then, which the answer's receipt names.
+    /// `UnknownGroup`: that front makes no such group.
+    pub fn ask(&mut self, pg: PgId, q: &Receipt) -> Result<Answer, AskFault>
+        requires feed { feed_of q.now ≡ J.feed }
+        requires serves { Serves self.old pg }
+        ensures on { GoesOn self.old self.new }
+        ensures answer { MatchResult result (IsAnswer q.now pg) (MayFailToAnswer q.now pg) }
+        ensures front { IfOk result (λ answer. Names J.feed self.new.front answer.at) }
+        ensures unknown_front { IfErr result (λ fault. IfSome (fault_at fault) (Names J.feed self.new.front)) }
+    {
+        let newest = self.tap.newest();
+        let target = longer(&mut self.tap, &newest, q);
+        self.absorb_to(&target)?;
+        self.view(pg)
+    }
+}
