@@ -1,7 +1,7 @@
 -- Fronts of one log.
 use Rattle.std.proofs.Common.{◌≡◌, ℕ, ◌+◌, ◌≤◌, List, [], ◌∷◌, ◌++◌, length, take, drop, true, refl, ap, sym, ◌∙◌, subst, arith, length-append, append-nil}
 use Rattle.std.proofs.Math.Seq.{take-append-add}
-use Rattle.std.proofs.lemmas.List.{drop_at, take_at, take-append-drop}
+use Rattle.std.proofs.lemmas.List.{drop_at, take-append-drop}
 use Rattle.pgp_ids.specs.declared.entry.Entry.{Entry}
 use Rattle.pgp_log.specs.Log.{IsFrontOf, is_legal}
 use Rattle.pgp_log.proofs.LogLemmas.{front-legal}

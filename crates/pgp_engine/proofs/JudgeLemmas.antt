@@ -1,5 +1,5 @@
 -- A judge that has taken a front of the log, and what became of the log.
-use Rattle.std.proofs.Common.{◌≡◌, ◌≤◌, List, [], ◌∷◌, ◌++◌, length, drop, true, None, Result, Ok, Err, OnOk, OnErr, MatchResult, refl, ap, ap₂, sym, ◌∙◌, subst}
+use Rattle.std.proofs.Common.{◌≡◌, List, [], ◌∷◌, ◌++◌, length, drop, true, None, Result, Ok, Err, OnOk, OnErr, MatchResult, refl, ap, ap₂, sym, ◌∙◌, subst}
 use Rattle.pgp_ids.specs.declared.entry.Entry.{Entry}
 use Rattle.pgp_log.specs.declared.judge.Judge.{Judge}
 use Rattle.pgp_log.specs.Fits.{fits}

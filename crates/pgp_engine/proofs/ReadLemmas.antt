@@ -1,13 +1,13 @@
 -- What a shard has read of a front.
-use Rattle.std.proofs.Common.{◌≡◌, ℕ, ◌+◌, ◌<◌, ◌≤◌, List, [], ◌++◌, length, map, take, drop, refl, ap, sym, ◌∙◌, subst, arith, length-append}
-use Rattle.std.proofs.lemmas.List.{length-take-le, length-take}
+use Rattle.std.proofs.Common.{◌≡◌, ◌+◌, ◌≤◌, List, [], ◌++◌, length, map, take, drop, ap, sym, ◌∙◌, arith, length-append}
+use Rattle.std.proofs.lemmas.List.{length-take-le}
 use Rattle.std.specs.Arc.{arc_value}
 use Rattle.std.specs.declared.sync.Arc.{Arc}
 use Rattle.pgp_ids.specs.declared.entry.Entry.{Entry}
 use Rattle.pgp_log.specs.Log.{IsFrontOf}
 use Rattle.pgp_log.specs.Shard.{Shard, HasReadSome}
 use Rattle.pgp_feed.specs.Appends.{Appends}
-use Rattle.pgp_engine.proofs.FrontLemmas.{front_more, front_rest, front_short}
+use Rattle.pgp_engine.proofs.FrontLemmas.{front_more, front_rest}
 
 module _ {Z : Type 0} where
   -- what was read into an empty list

@@ -1,5 +1,5 @@
 -- What an intake's answer says of the front that the caller's receipt names.
-use Rattle.std.proofs.Common.{◌≡◌, ◌<◌, List, [], ◌∷◌, ◌++◌, length, Some, Result, Ok, Err, MatchResult, ap, sym, ◌∙◌, subst, arith, append_assoc, length-append}
+use Rattle.std.proofs.Common.{◌≡◌, List, [], ◌∷◌, ◌++◌, length, Some, Result, Ok, Err, MatchResult, ap, sym, ◌∙◌, subst, arith, append_assoc, length-append}
 use Rattle.logbook.specs.Pages.{Book}
 use Rattle.pgp_ids.specs.declared.entry.Entry.{Entry}
 use Rattle.pgp_log.specs.Fits.{fits}

@@ -41,10 +41,8 @@ fn make_clients<J: Naming>(alloc: Global, taps: Vec<Tap>) -> Result<Vec<Client<J
     ensures empty { IfOk result (λ clients. All IsNew clients.items) }
 {
     let mut taps = taps;
-    let count = taps.len();
-    let mut clients = Vec::with_capacity(alloc, count)?;
-    for _ in 0..count {
-        let tap = taps.pop().unwrap();
+    let mut clients = Vec::with_capacity(alloc, taps.len())?;
+    while let Some(tap) = taps.pop() {
         clients.push(Client::over(alloc, tap))?;
     }
     Ok(clients)

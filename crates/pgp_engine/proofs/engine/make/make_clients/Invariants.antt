@@ -4,10 +4,12 @@ use Rattle.pgp_feed.specs.Taps.{last_of}
 use Rattle.pgp_engine.specs.Clients.{IsNew}
 use Rattle.pgp_engine.proofs.engine.make.make_clients.Given as goal
 
-abbrev pub invariant-loop-i : goal.invariant-loop-i
-invariant-loop-i g l = record {
-  made : length l.clients.items + length l.taps.items ≡ l.count;
-  left : length l.taps.items + l.i ≡ l.count;
+abbrev pub invariant-loop-tap : goal.invariant-loop-tap
+invariant-loop-tap g l = record {
+  made : length l.clients.items + length l.taps.items ≡ length l.initial.taps.items;
   all : All IsNew l.clients.items;
   feed : All (λ tap. feed_of (last_of tap) ≡ g.J.Naming.feed) l.taps.items;
 }
+
+abbrev pub decreases-loop-tap : goal.decreases-loop-tap
+decreases-loop-tap g l = length l.taps.items

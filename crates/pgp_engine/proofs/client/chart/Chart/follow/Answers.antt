@@ -1,6 +1,3 @@
-use Rattle.std.proofs.Common.{◌≡◌, [], List, drop, sym, subst}
-use Rattle.std.specs.Arc.{arc_value}
-use Rattle.pgp_feed.specs.Appends.{Appends}
 use Rattle.pgp_feed.specs.Receipts.{entries_of}
 use Rattle.pgp_engine.proofs.ClientLemmas.{followed, within-whole}
 use Rattle.pgp_engine.proofs.client.chart.Chart.follow.Goals as goal
