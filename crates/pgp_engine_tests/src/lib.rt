@@ -3,6 +3,8 @@
 #![tactic(auto)]
 
 #[cfg(test)]
+mod closes;
+#[cfg(test)]
 mod entries;
 #[cfg(test)]
 mod growths;

@@ -17,17 +17,18 @@ use std::sync::Wait;
 use std::test::Fail;
 use std::thread::{Threads, join};
 
-// One of the two was taken, and the other one was refused by a front that holds it.
-fn other_was_refused<J: Naming, R: Abort>(
+/// The entry was refused with this number, by a front that holds one that was told.
+pub fn was_refused<J: Naming, R: Abort>(
     rt: &R,
     client: &mut Client<J>,
     taken: &Receipt,
     fault: SubmitFault,
+    number: u8,
 ) -> Result<(), Fail>
     requires taken { feed_of taken.now ≡ J.feed }
     requires at { IfSome (refused_at fault) (λ at. feed_of at ≡ J.feed) }
 {
-    assert_eq!(rt; fault.number(), 10);
+    assert_eq!(rt; fault.number(), number);
     let SubmitFault::Refused { why: _, at } = fault else {
         return Err(Fail::new("no receipt"));
     };
@@ -35,17 +36,18 @@ fn other_was_refused<J: Naming, R: Abort>(
     Ok(())
 }
 
-// A submit of the incremental that leads to epoch 1.
-fn submitted<J: Naming, R: Wait + AllocGlobal>(
+/// A submit, of whose receipt the contract says the feed alone.
+pub fn submitted<J: Naming, R: Wait>(
     rt: &R,
     engine: &Engine<J>,
+    entry: Entry,
     q: &Receipt,
 ) -> Result<Receipt, SubmitFault>
     requires { feed_of q.now ≡ J.feed }
     ensures ok { IfOk result (λ r. feed_of r ≡ J.feed) }
     ensures err { IfErr result (λ fault. IfSome (refused_at fault) (λ at. feed_of at ≡ J.feed)) }
 {
-    engine.submit(rt, Entry::Inc(step(rt.alloc(), 1)), q)
+    engine.submit(rt, entry, q)
 }
 
 fn both_submit<J: Naming + Send + Sync, R: Threads + Wait + Abort + AllocGlobal + Sync>(
@@ -59,20 +61,20 @@ fn both_submit<J: Naming + Send + Sync, R: Threads + Wait + Abort + AllocGlobal 
         || -> Result<Receipt, SubmitFault>
             requires { feed_of start ≡ J.feed }
             ensures { IfOk result (λ r. feed_of r ≡ J.feed) × IfErr result (λ fault. IfSome (refused_at fault) (λ at. feed_of at ≡ J.feed)) }
-        { submitted(rt, engine, &start) },
+        { submitted(rt, engine, Entry::Inc(step(rt.alloc(), 1)), &start) },
         || -> Result<Receipt, SubmitFault>
             requires { feed_of start ≡ J.feed }
             ensures { IfOk result (λ r. feed_of r ≡ J.feed) × IfErr result (λ fault. IfSome (refused_at fault) (λ at. feed_of at ≡ J.feed)) }
-        { submitted(rt, engine, &start) },
+        { submitted(rt, engine, Entry::Inc(step(rt.alloc(), 1)), &start) },
     );
     assert_eq!(rt; engine.told(rt).len(), 1);
     match one {
         Ok(taken) => match two {
             Ok(_) => Err(Fail::new("both were taken")),
-            Err(fault) => other_was_refused(rt, client, &taken, fault),
+            Err(fault) => was_refused(rt, client, &taken, fault, 10),
         },
         Err(fault) => match two {
-            Ok(taken) => other_was_refused(rt, client, &taken, fault),
+            Ok(taken) => was_refused(rt, client, &taken, fault, 10),
             Err(_) => Err(Fail::new("none was taken")),
         },
     }
