@@ -1,5 +1,6 @@
 pub mod Bools
 pub mod Options
+pub mod Results
 pub mod Lists
 pub mod Members
 pub mod Pairs

@@ -1,5 +1,5 @@
 -- What stands in lists that are put together, filtered, mapped or searched.
-use Rattle.std.proofs.Common.{◌≡◌, ◌⊎◌, ℕ, zero, suc, ◌<◌, List, [], ◌∷◌, ◌++◌, Bool, true, false, length, map, Some, None, refl, ap, sym, ◌∙◌, subst, inl, inr, arith}
+use Rattle.std.proofs.Common.{◌≡◌, ◌⊎◌, ℕ, zero, suc, ◌<◌, List, [], ◌∷◌, ◌++◌, Bool, true, false, cond, length, map, Some, None, refl, ap, ap₂, sym, ◌∙◌, subst, inl, inr, arith}
 use Rattle.std.specs.List.{All, Contains, filter, find, flat_map, list_any, slice_index_or}
 use Rattle.std.proofs.lemmas.Bool.{cases_Bool}
 use Rattle.std.proofs.lemmas.List.Elements.{All-contains_itself, All-weaker, Contains-append_cases, Contains-append_left, Contains-append_right}
@@ -57,6 +57,12 @@ contains-filter test (x ∷ xs) y in' passes =
           let rest = contains-filter test xs y later passes in
           elim (cases_Bool (test x)) [ inl also ↦ rw also (Contains-later x (filter test xs) y rest) | inr fails ↦ rw fails rest ]
     ]
+
+-- tests that agree at each element keep the same elements
+pub filter-agree : {X : Type 0} (f g : X → Bool) (xs : List X) → ((x : X) → Contains xs x → f x ≡ g x) → filter f xs ≡ filter g xs
+filter-agree {X = X} f g [] same = refl
+filter-agree {X = X} f g (x ∷ xs) same =
+    ap₂ (λ (b : Bool) (l : List X). cond b (x ∷ l) l) (same x (Contains-here x xs)) (filter-agree f g xs (λ y there. same y (Contains-later x xs y there)))
 
 -- ---- maps
 

@@ -10,5 +10,5 @@
 mod ascending;
 mod twice;
 
-pub use ascending::put;
+pub use ascending::insert_in_order;
 pub use twice::has_repeat;

@@ -1,6 +1,6 @@
 use Rattle.std.proofs.Common.{sym, ◌∙◌}
 use Rattle.pgp_lists.proofs.Searched.{put_new, put_there}
-use Rattle.pgp_lists.proofs.ascending.put.Goals as goal
+use Rattle.pgp_lists.proofs.ascending.insert_in_order.Goals as goal
 
 pub returns-in-Ok-clause-ok : goal.returns-in-Ok-clause-ok
 returns-in-Ok-clause-ok g c =
