@@ -10,7 +10,7 @@ use Rattle.std.proofs.lemmas.Option.{slice_get-map, slice_get_past, slice_get_re
 use Rattle.pgp_lists.proofs.Members.{find-some, none-contains}
 use Rattle.pgp_ids.specs.declared.bucket.BucketSpec.{BucketSpec}
 use Rattle.pgp_crush.specs.Bucket.{Bucket, bucket_of}
-use Rattle.pgp_crush.specs.TreeFault.{tree_fault, fault_below_root, has_weight_sum}
+use Rattle.pgp_crush.specs.TreeFault.{tree_fault, fault_below_root, has_too_much_weight}
 
 -- ---- lists that are seen through a map
 
@@ -46,6 +46,6 @@ pub weights_fit : (tree : List Bucket) (test : Bucket → Bool) (r : Option (Bor
 unfolding tree_fault fault_below_root
 weights_fit tree test None h found = tt
 weights_fit tree test (Some b) h found =
-    let light : has_weight_sum tree ≡ false = grind arith in
+    let light : has_too_much_weight tree ≡ false = grind arith in
     let low = none-contains (λ b. nat_lt (2 ^ 32 - 1) (sum b.weights)) tree (bucket_of b.now) light (find-some test tree (bucket_of b.now) (sym found)).0 in
     grind (arith, nat_tests)

@@ -49,8 +49,8 @@ abbrev pub has_too_many : List Bucket → Bool
 has_too_many tree = nat_lt 1024 (length tree) || list_any (λ b. nat_lt 256 (length b.items)) tree
 
 -- a bucket's weights make more than a word
-abbrev pub has_weight_sum : List Bucket → Bool
-has_weight_sum tree = list_any (λ b. nat_lt (2 ^ 32 - 1) (sum b.weights)) tree
+abbrev pub has_too_much_weight : List Bucket → Bool
+has_too_much_weight tree = list_any (λ b. nat_lt (2 ^ 32 - 1) (sum b.weights)) tree
 
 -- the first fault of a list with one root, in this order
 unfoldable pub fault_below_root : List Bucket → Option TreeFault
@@ -60,7 +60,7 @@ fault_below_root tree =
     else (if has_unknown tree then Some Unknown
     else (if is_too_deep tree then Some TooDeep
     else (if has_too_many tree then Some TooMany
-    else (if has_weight_sum tree then Some WeightSum else None)))))
+    else (if has_too_much_weight tree then Some WeightSum else None)))))
 
 -- the first fault
 unfoldable pub tree_fault : List Bucket → Option TreeFault

@@ -1,6 +1,7 @@
 //! What one try of a placement comes to.
 
 ghost use Rattle.std.specs.Prelude.{◌≡◌, ◌+◌, ◌<◌, ◌^◌, length};
+ghost use Rattle.pgp_crush.specs.declared.out.TheConstants.{DEVICES};
 ghost use Rattle.pgp_crush.specs.Descent.{rank_limit};
 ghost use Rattle.pgp_crush.specs.Candidate.{input_of, device_of, leaf_of, candidate};
 
@@ -37,7 +38,7 @@ pub(crate) struct Input<'a> {
     pub x: u32,
     /// The type of the items sought.
     pub kind: u8,
-    ghost weighed: { length weights.now ≡ 4096 },
+    ghost weighed: { length weights.now ≡ DEVICES },
 }
 
 impl Input<'_> {

@@ -6,7 +6,7 @@ ghost use Rattle.std.specs.Ordering.{int_eq};
 ghost use Rattle.std.specs.HashSet as bag;
 ghost use Rattle.std.specs.HashMap as hash;
 ghost use Rattle.pgp_crush.specs.Bucket.{bucket_of, is_held, root_of, place_of};
-ghost use Rattle.pgp_crush.specs.TreeFault.{items_of, fault_below_root, has_no_root, has_twice_held, reaches_kind, has_wrong_type, is_known, has_too_many, has_weight_sum};
+ghost use Rattle.pgp_crush.specs.TreeFault.{items_of, fault_below_root, has_no_root, has_twice_held, reaches_kind, has_wrong_type, is_known, has_too_many, has_too_much_weight};
 
 use super::depth::is_too_deep;
 use super::fault::TreeFault;
@@ -53,7 +53,7 @@ pub(crate) fn fault_below_root(
     if has_too_many(buckets) {
         return Ok(Some(TreeFault::TooMany));
     }
-    if has_weight_sum(buckets) {
+    if has_too_much_weight(buckets) {
         return Ok(Some(TreeFault::WeightSum));
     }
     Ok(None)
@@ -199,8 +199,8 @@ fn has_too_many(buckets: &[BucketSpec]) -> bool
 }
 
 /// The weights of a bucket make more than 2^32 - 1.
-fn has_weight_sum(buckets: &[BucketSpec]) -> bool
-    ensures { result ≡ has_weight_sum (map bucket_of buckets.now) }
+fn has_too_much_weight(buckets: &[BucketSpec]) -> bool
+    ensures { result ≡ has_too_much_weight (map bucket_of buckets.now) }
 {
     for bucket in buckets {
         if exceeds_word(bucket.weights.as_slice()) {

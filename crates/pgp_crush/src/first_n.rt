@@ -7,7 +7,7 @@ ghost use Rattle.pgp_crush.specs.FirstN.{is_failure, taken_by, pick_of, first_n}
 use super::candidate::{Candidate, Input, Pick};
 use super::descent::Rank;
 use super::taken::Taken;
-use pgp_ids::Osds;
+use pgp_ids::{MAX_OSDS, Osds};
 
 /// How many tries a replica or a position has.
 pub(crate) const TRIES: u8 = 51;
@@ -16,7 +16,7 @@ impl Input<'_> {
     /// The devices of `n` replicas, of which fewer may be found.
     #[tactic(auto, unfolding(crate::specs::FirstN::first_picks))]
     pub(crate) fn first_n(&self, n: u8) -> Osds
-        requires { n ≤ 16 }
+        requires { n ≤ MAX_OSDS }
         ensures { result ≡ first_n (input_of self.now.tree.now self.now.weights.now self.now.x self.now.kind) n }
     {
         let mut taken = Taken::new();

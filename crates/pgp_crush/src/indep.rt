@@ -44,7 +44,7 @@ impl Cell {
 impl Input<'_> {
     /// The places of `n` positions.
     pub(crate) fn indep(&self, n: u8) -> Osds
-        requires { n ≤ 16 }
+        requires { n ≤ MAX_OSDS }
         ensures { result ≡ indep (input_of self.now.tree.now self.now.weights.now self.now.x self.now.kind) n }
     {
         let mut room = [Cell::Open; MAX_OSDS];
@@ -118,7 +118,7 @@ fn holds_item(cells: &[Cell], item: i32) -> bool
 
 /// The leaves that the positions hold.
 fn leaves_held(cells: &[Cell]) -> Osds
-    requires { length cells.now ≤ 16 }
+    requires { length cells.now ≤ MAX_OSDS }
     ensures { result ≡ map leaf_held cells.now }
 {
     let mut osds = Osds::new();

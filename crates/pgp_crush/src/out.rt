@@ -6,13 +6,16 @@ ghost use Rattle.pgp_crush.specs.Out.{is_in};
 use pgp_hash::hash2;
 use pgp_ids::OsdId;
 
+/// How many devices there can be, and so how many weights a table of them has.
+pub const DEVICES: usize = 4096;
+
 /// The weight, in units of 1/0x10000, from which on a device is always in.
 const FULL_WEIGHT: u32 = 0x1_0000;
 
 /// The device takes part in the placement of `x`. `weights` has each device's weight, in units of 1/0x10000.
 #[tactic(auto, unfolding(crate::specs::Out::is_in))]
 pub(crate) fn is_in(weights: &[u32], x: u32, osd: OsdId) -> bool
-    requires { length weights.now ≡ 4096 }
+    requires { length weights.now ≡ DEVICES }
     ensures { result ≡ is_in weights.now x osd }
 {
     let weight = weights[usize::from(osd.number())];

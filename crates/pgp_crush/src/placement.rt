@@ -5,19 +5,20 @@ ghost use Rattle.std.specs.Option.{option_copied};
 ghost use Rattle.pgp_crush.specs.Placement.{IsPlacement, placement};
 
 use super::candidate::Input;
+use super::out::DEVICES;
 use super::rule::Rule;
 use super::tree::Tree;
-use pgp_ids::Osds;
+use pgp_ids::{MAX_OSDS, Osds};
 
 /// The devices that `rule` gives `n` places on the tree.
 ///
 /// Of a replicated pool these are at most `n` devices, in the order in which its replicas took them; of an erasure pool `n`
-/// places, some of which may be empty. With no tree there is no device. `weights` has the weight of each of the 4,096
-/// devices in units of 1/0x10000, and `x` is the input of the placement, as its group hashes. This is CRUSH's `firstn` and
+/// places, some of which may be empty. With no tree there is no device. `weights` has the weight of each of the [`DEVICES`]
+/// in units of 1/0x10000, and `x` is the input of the placement, as its group hashes. This is CRUSH's `firstn` and
 /// `indep` (Weil and others, 2006), in this project's profile: tries, rounds and collisions are its own. No memory is taken.
 pub fn place(tree: Option<&Tree>, rule: Rule, weights: &[u32], x: u32, n: u8) -> Osds
-    requires weighed { length weights.now ≡ 4096 }
-    requires room { n ≤ 16 }
+    requires weighed { length weights.now ≡ DEVICES }
+    requires room { n ≤ MAX_OSDS }
     ensures placed { IsPlacement (option_copied tree.entry) rule weights.now x n result }
     ensures value { result ≡ placement (option_copied tree.entry) rule weights.now x n }
 {
@@ -39,7 +40,7 @@ pub fn place(tree: Option<&Tree>, rule: Rule, weights: &[u32], x: u32, n: u8) ->
 
 /// The places where there is no tree: `n` empty ones of an erasure pool, none of a replicated one.
 fn unplaced(rule: Rule, n: u8) -> Osds
-    requires { n ≤ 16 }
+    requires { n ≤ MAX_OSDS }
     ensures { result ≡ if rule.indep then replicate n None else [] }
 {
     let mut osds = Osds::new();

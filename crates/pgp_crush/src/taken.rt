@@ -5,13 +5,13 @@ ghost use Rattle.pgp_crush.specs.Picks.{no_picks, with_pick, is_taken, has_leaf}
 
 use super::candidate::Pick;
 use arrayvec::ArrayVec;
-use pgp_ids::{OsdId, Osds};
+use pgp_ids::{MAX_OSDS, OsdId, Osds};
 use std::marker::Model;
 
 /// The items taken so far, and their leaves.
 #[derive(Debug, Drop)]
 pub(crate) struct Taken {
-    items: ArrayVec<i32, 16>,
+    items: ArrayVec<i32, MAX_OSDS>,
     /// In the order of the items.
     leaves: Osds,
 }
@@ -46,7 +46,7 @@ impl Taken {
 
     /// Takes what was found, if something was.
     pub(crate) fn push(&mut self, found: Option<Pick>)
-        requires { length self.old.leaves < 16 }
+        requires { length self.old.leaves < MAX_OSDS }
         ensures { self.new ≡ with_pick self.old found }
     {
         if let Some(pick) = found {
