@@ -1,7 +1,7 @@
 ghost use Rattle.std.specs.Prelude.{◌≡◌, ◌≤◌, length};
 ghost use Rattle.pgp_interval.specs.ReadWrite.{held_places, acting_slots};
 
-use pgp_ids::{OsdId, Osds, SlotSet};
+use pgp_ids::{MAX_OSDS, OsdId, Osds, SlotSet};
 
 /// The slots of an acting list: its places that hold a device, or slot 0 alone for whole copies.
 pub fn acting_slots(by_place: bool, acting: &Osds) -> SlotSet
@@ -17,7 +17,7 @@ pub fn acting_slots(by_place: bool, acting: &Osds) -> SlotSet
 }
 
 fn held_places(places: &[Option<OsdId>]) -> SlotSet
-    requires { length places.now ≤ 16 }
+    requires { length places.now ≤ MAX_OSDS }
     ensures { result ≡ held_places places.now }
 {
     let mut held = SlotSet::empty();

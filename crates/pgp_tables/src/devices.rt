@@ -74,7 +74,7 @@ pub fn place_told(
 }
 
 /// Puts the device in its place.
-fn put(table: &mut HashMap<OsdId, Device>, osd: OsdId, device: Device)
+fn set_device(table: &mut HashMap<OsdId, Device>, osd: OsdId, device: Device)
     requires { has_place table.old osd ≡ true }
     ensures after { (q : ℕ) → device_at table.new q ≡ (if nat_eq osd q then device else device_at table.old q) }
     ensures kept { (q : ℕ) → has_place table.new q ≡ has_place table.old q }
@@ -132,7 +132,7 @@ fn change_all(table: &mut HashMap<OsdId, Device>, osds: &[OsdId], event: &Event)
 {
     for osd in osds {
         let device = after(event, device_at(table, *osd));
-        put(table, *osd, device);
+        set_device(table, *osd, device);
     }
 }
 
@@ -165,7 +165,7 @@ fn tell_all(table: &mut HashMap<OsdId, Device>, told: &[DeviceEpoch], said: Told
 {
     for entry in told {
         let device = with_told(said, entry, device_at(table, entry.osd));
-        put(table, entry.osd, device);
+        set_device(table, entry.osd, device);
     }
 }
 

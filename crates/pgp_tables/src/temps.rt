@@ -7,13 +7,13 @@ ghost use Rattle.pgp_lists.specs.Last.{last_where};
 ghost use Rattle.pgp_tables.specs.TempTable.{is_same_group};
 ghost use Rattle.pgp_tables.specs.TempTable.{temp_at, has_temp, with_temp};
 
-use pgp_ids::{OsdId, Osds, PgId, TempList};
+use pgp_ids::{MAX_OSDS, OsdId, Osds, PgId, TempList};
 use std::alloc::AllocError;
 use std::collections::HashMap;
 
 /// The pg_temp list of the group, empty where it has none.
 pub fn temp_at(table: &HashMap<PgId, Osds>, pg: PgId) -> &[Option<OsdId>]
-    ensures within { length result.now ≤ 16 }
+    ensures within { length result.now ≤ MAX_OSDS }
     ensures value { result.now ≡ temp_at table.now pg }
 {
     match table.get(&pg) {
@@ -48,7 +48,7 @@ pub fn place_all(table: &mut HashMap<PgId, Osds>, temps: &[TempList]) -> Result<
 
 /// The first sixteen places of the list.
 fn osds_of(places: &[Option<OsdId>]) -> Osds
-    ensures { result ≡ take 16 places.now }
+    ensures { result ≡ take MAX_OSDS places.now }
 {
     let mut osds = Osds::new();
     for place in places {
@@ -60,10 +60,10 @@ fn osds_of(places: &[Option<OsdId>]) -> Osds
     osds
 }
 
-/// Puts the list of the group, which has a place, into the table.
-fn put(table: &mut HashMap<PgId, Osds>, given: &TempList)
+/// Gives the group, which has a place in the table, this list.
+fn set_list(table: &mut HashMap<PgId, Osds>, given: &TempList)
     requires { has_temp table.old given.now.pg ≡ true }
-    ensures after { (q : Group) → temp_at table.new q ≡ (if is_same_group given.now.pg q then take 16 given.now.osds else temp_at table.old q) }
+    ensures after { (q : Group) → temp_at table.new q ≡ (if is_same_group given.now.pg q then take MAX_OSDS given.now.osds else temp_at table.old q) }
     ensures kept { (q : Group) → has_temp table.old q ≡ true → has_temp table.new q ≡ true }
 {
     if let Some(place) = table.get_mut(&given.pg) {
@@ -77,6 +77,6 @@ pub fn put_all(table: &mut HashMap<PgId, Osds>, temps: &[TempList])
     ensures { (q : Group) → temp_at table.new q ≡ with_temp (last_where (λ given. is_same_group given.pg q) temps.now) (temp_at table.old q) }
 {
     for given in temps {
-        put(table, given);
+        set_list(table, given);
     }
 }

@@ -2,7 +2,7 @@ use Rattle.std.proofs.Common.{rules, IsSome}
 use Rattle.std.specs.HashMap as hash
 use Rattle.pgp_tables.specs.TempTable.{is_same_group}
 use Rattle.pgp_tables.proofs.Tables.{kept_with_place}
-use Rattle.pgp_tables.proofs.temps.put.Goals as goal
+use Rattle.pgp_tables.proofs.temps.set_list.Goals as goal
 
 pub returns-in-Some-clause-kept : goal.returns-in-Some-clause-kept
 returns-in-Some-clause-kept c =

@@ -1,7 +1,7 @@
 use Rattle.std.proofs.Common.{nat_eq, rules, IsSome}
 use Rattle.std.specs.HashMap as hash
 use Rattle.pgp_tables.proofs.Tables.{kept_in_place}
-use Rattle.pgp_tables.proofs.devices.put.Goals as goal
+use Rattle.pgp_tables.proofs.devices.set_device.Goals as goal
 
 pub returns-in-Some-clause-kept : goal.returns-in-Some-clause-kept
 returns-in-Some-clause-kept c =
