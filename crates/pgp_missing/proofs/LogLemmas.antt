@@ -1,8 +1,7 @@
 -- What is kept of a log tells all that its reports tell.
-use Rattle.std.proofs.Common.{◌≡◌, ℕ, ◌≤◌, true, false, nat_le, refl, arith, leb-true, List, [], ◌∷◌, ◌++◌, Result, Ok, Err, ap, ap₂, sym, ◌∙◌, subst, inl, inr}
+use Rattle.std.proofs.Common.{◌≡◌, ℕ, ◌≤◌, true, false, nat_le, refl, arith, leb-true, List, [], ◌∷◌, ◌++◌, ap, ap₂, sym, ◌∙◌, subst, inl, inr}
 use Rattle.std.specs.List.{All, AllPairs}
 use Rattle.std.specs.Ordering.{nat_cmp, match_ordering}
-use Rattle.std.specs.Result.{IfOk, OnOk}
 use Rattle.std.specs.declared.cmp.Ordering.{Ordering}
 use Rattle.std.specs.declared.cmp.Ordering.TheVariants.{Less, Equal, Greater}
 use Rattle.std.proofs.lemmas.Bool.{and_parts, and_from, cases_Bool, le-leb}
@@ -69,13 +68,3 @@ pairs-rising epoch [] up = refl
 pairs-rising epoch (x ∷ xs) up =
     and_from (nat_le epoch x.version.epoch) (is_rising_from x.version.epoch xs) (le-leb epoch x.version.epoch (All-head (λ (e : LogEntry). epoch ≤ e.version.epoch) x xs up.0))
     (pairs-rising x.version.epoch xs (AllPairs-first Rise x xs up.1, AllPairs-rest Rise x xs up.1))
-
--- ---- answers
-
-pub on_ok : {T E : Type 0} (r : Result T E) (P Q : Type 0) → (P → Q) → OnOk r P → OnOk r Q
-on_ok (Ok x) P Q gives given = gives given
-on_ok (Err e) P Q gives given = given
-
-pub if_ok : {T E : Type 0} (r : Result T E) (P Q : T → Type 0) → ((x : T) → P x → Q x) → IfOk r P → IfOk r Q
-if_ok (Ok x) P Q gives given = gives x given
-if_ok (Err e) P Q gives given = given
