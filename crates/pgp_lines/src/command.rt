@@ -29,6 +29,7 @@ use objects::unknown_key;
 use pgp_ids::{Entry, EpochState, ObjectName, PgId, PoolId, PoolKind, Seq, TextFault};
 use serde_json::{Category, Value};
 use std::alloc::Global;
+pub use trace::MAX_EPOCHS;
 use trace::{has_empty_places, read_code, read_epochs};
 
 /// What a line asks for.

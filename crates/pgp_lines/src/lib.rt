@@ -8,4 +8,4 @@
 
 mod command;
 
-pub use command::{Command, read_line};
+pub use command::{Command, MAX_EPOCHS, read_line};

@@ -13,7 +13,8 @@ use std::alloc::{AllocError, Global};
 
 const EPOCH_KEYS: [&str; 6] = ["acting", "min_size", "size", "up", "up_from", "up_thru"];
 
-const MAX_EPOCHS: usize = 4096;
+/// How many epochs a trace has at most.
+pub const MAX_EPOCHS: usize = 4096;
 
 const MAX_SHARDS: u64 = 16;
 
@@ -61,7 +62,7 @@ fn read_osds(value: &Value, nulls: bool) -> Option<Osds>
 }
 
 fn read_places(places: &[Value], nulls: bool) -> Option<Osds>
-    requires { length places.now ≤ 16 }
+    requires { length places.now ≤ MAX_OSDS }
     ensures { result ≡ each (place_in nulls) (map view places.now) }
 {
     let mut osds = Osds::new();
