@@ -1,0 +1,97 @@
+#!/usr/bin/env python3
+"""Runs the built program so that it ends in each of its statuses, and says where one differs.
+
+    tools/check_statuses.py [PROGRAM]
+
+PROGRAM is crates/pgpeer/out/pgpeer where none is given. Each case is a command line with a standard input and output, among
+them a script of one line more than it may have, an input that can't be read and an output that can't be written; and the
+status, the output and the errors that docs/FORMAT.md promises of it. Exits with 1 where one of them is another.
+"""
+
+import os
+import pathlib
+import subprocess
+import sys
+import tempfile
+from dataclasses import dataclass
+from typing import Optional
+
+ROOT = pathlib.Path(__file__).resolve().parent.parent
+MAX_LINES = 1_000_000
+CLOSE = b'{"op":"close"}\n'
+CLOSED = b'{"count":1,"epoch":0,"ok":"close"}\n'
+
+
+@dataclass
+class Case:
+    """A run, and what it has to end with; None stands for any text that isn't empty."""
+
+    name: str
+    words: list
+    status: int
+    script: bytes = b""
+    output: Optional[bytes] = b""
+    errors: Optional[bytes] = b""
+    reads: Optional[str] = None
+    writes: Optional[str] = None
+
+
+CASES = [
+    Case("an empty script", ["run"], 0),
+    Case("a script", ["run"], 0, script=CLOSE, output=CLOSED),
+    Case("as many lines as may be", ["run"], 0, script=CLOSE + b"\n" * (MAX_LINES - 1), output=CLOSED),
+    Case("one line too many", ["run"], 3, script=CLOSE + b"\n" * MAX_LINES, output=CLOSED, errors=b"pgpeer: read fault\n"),
+    Case("an input that can't be read", ["run"], 3, reads="/", errors=b"pgpeer: read fault\n"),
+    Case("an output that can't be written", ["run"], 3, script=CLOSE, writes="/dev/full", errors=b"pgpeer: write fault\n"),
+    Case("help", ["--help"], 0, output=None),
+    Case("help on a run", ["run", "--help"], 0, output=None),
+    Case("help that can't be written", ["--help"], 3, writes="/dev/full", errors=b"pgpeer: write fault\n"),
+    Case("the version", ["--version"], 0, output=b"pgpeer 0.1.0\n"),
+    Case("no command", [], 2, script=CLOSE, errors=None),
+    Case("another command", ["peer"], 2, script=CLOSE, errors=None),
+    Case("a word too many", ["run", "now"], 2, script=CLOSE, errors=None),
+    Case("an argument that isn't UTF-8", [b"\xff"], 2, errors=b"error: an argument is not UTF-8\n"),
+]
+
+
+def run(program, case):
+    """Runs a case, and gives its status, its output and its errors."""
+    with tempfile.TemporaryFile() as script:
+        script.write(case.script)
+        script.seek(0)
+        source = script.fileno() if case.reads is None else os.open(case.reads, os.O_RDONLY)
+        sink = subprocess.PIPE if case.writes is None else os.open(case.writes, os.O_WRONLY)
+        ended = subprocess.run([program, *case.words], stdin=source, stdout=sink, stderr=subprocess.PIPE, timeout=120)
+        return ended.returncode, ended.stdout or b"", ended.stderr
+
+
+def is_text(found, wanted):
+    """Tells whether a text is the wanted one, or any where that is all that is wanted."""
+    return found != b"" if wanted is None else found == wanted
+
+
+def wrong(program, case):
+    """Says what is wrong with how a case ends, if anything."""
+    status, output, errors = run(program, case)
+    if status != case.status:
+        return f"status {status} and not {case.status}"
+    if not is_text(output, case.output):
+        return f"output {output[:200]!r}"
+    if not is_text(errors, case.errors):
+        return f"errors {errors[:200]!r}"
+    return None
+
+
+def main(program):
+    found = [(case.name, wrong(program, case)) for case in CASES]
+    differ = [(name, what) for name, what in found if what is not None]
+    for name, what in differ:
+        print(f"{name}: {what}")
+    print(f"{len(found)} runs, {len(differ)} wrong")
+    return 1 if differ else 0
+
+
+if __name__ == "__main__":
+    if len(sys.argv) > 2:
+        sys.exit(__doc__)
+    sys.exit(main(sys.argv[1] if len(sys.argv) == 2 else str(ROOT / "crates" / "pgpeer" / "out" / "pgpeer")))
