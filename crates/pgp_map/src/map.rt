@@ -16,8 +16,8 @@ use super::findings::Findings;
 use super::trees::{check_tree, given_tree};
 use super::weights::Weights;
 use super::{ranges, repeats, standing, temp_check};
-use pgp_crush::Tree;
-use pgp_ids::{Epoch, Incremental, OsdId, Osds, PgId, PoolId, PoolSpec};
+use pgp_crush::{DEVICES, Tree};
+use pgp_ids::{Epoch, Incremental, MAX_OSDS, OsdId, Osds, PgId, PoolId, PoolSpec};
 use pgp_tables::{Device, devices, pools, temps};
 use std::alloc::{AllocError, Global};
 use std::collections::HashMap;
@@ -243,7 +243,7 @@ impl OsdMap {
 
     /// The weights of the devices 0 to 4095, in units of 1/0x10000.
     pub fn weights(&self) -> &[u32]
-        ensures long { length result.now ≡ 4096 }
+        ensures long { length result.now ≡ DEVICES }
         ensures value { Says self.now (λ incs. result.now ≡ weights incs) }
     {
         self.weights.as_slice()
@@ -260,7 +260,7 @@ impl OsdMap {
 
     /// The group's pg_temp list; empty if it has none.
     pub fn temp(&self, pg: PgId) -> &[Option<OsdId>]
-        ensures within { length result.now ≤ 16 }
+        ensures within { length result.now ≤ MAX_OSDS }
         ensures value { Says self.now (λ incs. result.now ≡ temp incs pg) }
     {
         temps::temp_at(&self.temps, pg)

@@ -9,11 +9,17 @@ ghost use Rattle.pgp_map.specs.MapFault.{is_within, are_sizes, is_kind, is_pool,
 use pgp_ids::{PoolId, PoolKind, PoolSizes, PoolSpec};
 use std::collections::HashMap;
 
+/// How many places a pool has for a group at most.
+const MAX_SIZE: u8 = 16;
+
+/// How many groups a pool has at most.
+const MAX_POOL_GROUPS: u16 = 1024;
+
 /// The size is 1 to 16, and min_size 1 to it.
 fn are_sizes(size: u8, min_size: u8) -> bool
     ensures { result ≡ are_sizes size min_size }
 {
-    size >= 1 && size <= 16 && (min_size >= 1 && min_size <= size)
+    size >= 1 && size <= MAX_SIZE && (min_size >= 1 && min_size <= size)
 }
 
 /// In an erasure pool k is 1 to the size.
@@ -31,7 +37,7 @@ fn is_pool(made: &PoolSpec) -> bool
     ensures { result ≡ is_pool made.now }
 {
     made.pg_num >= 1
-        && made.pg_num <= 1024
+        && made.pg_num <= MAX_POOL_GROUPS
         && are_sizes(made.size, made.min_size)
         && is_kind(made.kind, made.size)
 }

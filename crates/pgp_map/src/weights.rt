@@ -4,11 +4,9 @@ ghost use Rattle.std.specs.Prelude.{◌≡◌, ℕ, ◌<◌, true, false, nat_eq
 ghost use Rattle.pgp_lists.specs.Last.{last_where};
 ghost use Rattle.pgp_map.specs.WeightTable.{is_whole, weight_in, with_weight};
 
+use pgp_crush::DEVICES;
 use pgp_ids::{DeviceWeight, OsdId};
 use std::alloc::{AllocError, Global};
-
-/// How many devices there can be.
-const DEVICES: usize = 4096;
 
 /// The weight of a device that is fully in, in units of 1/0x10000.
 const FULL: u32 = 0x10000;
