@@ -10,7 +10,7 @@ ghost use Rattle.pgp_sets.specs.Sets.{membership, raw_set, without_down, acting_
 use super::places::without_down;
 use pgp_crush::{Rule, place};
 use pgp_hash::{hash2, mask_of, stable_mod};
-use pgp_ids::{Membership, Osds, PgId, PoolKind, PoolSpec};
+use pgp_ids::{MAX_OSDS, Membership, Osds, PgId, PoolKind, PoolSpec};
 use pgp_map::OsdMap;
 
 /// Where the group lies by this map: its up set, its acting set and their primaries, with the sizes of its pool.
@@ -68,7 +68,7 @@ pub fn filter(map: &OsdMap, pg: &PgId, raw: &Osds) -> Membership
 fn pool_of(map: &OsdMap, pg: &PgId) -> PoolSpec
     requires { HasGroup map.now pg.now }
     ensures told { (incs : List Incremental) → IsMapOf incs map.now → pool incs pg.now.pool ≡ Some result }
-    ensures size { result.size ≤ 16 }
+    ensures size { result.size ≤ MAX_OSDS }
 {
     map.pool(pg.pool).unwrap()
 }

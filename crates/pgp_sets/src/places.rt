@@ -7,13 +7,13 @@ ghost use Rattle.pgp_map.specs.Held.{held_up};
 ghost use Rattle.pgp_map.specs.MapOf.{IsMapOf};
 ghost use Rattle.pgp_sets.specs.Sets.{without_down};
 
-use pgp_ids::{OsdId, Osds, PoolKind, PoolSpec};
+use pgp_ids::{MAX_OSDS, OsdId, Osds, PoolKind, PoolSpec};
 use pgp_map::OsdMap;
 
 /// The list without devices that aren't up. In an erasure pool their places are empty, in a replicated one they are left
 /// out.
 pub(crate) fn without_down(map: &OsdMap, pool: &PoolSpec, places: &[Option<OsdId>]) -> Osds
-    requires { length places.now ≤ 16 }
+    requires { length places.now ≤ MAX_OSDS }
     ensures { (incs : List Incremental) → IsMapOf incs map.now
         → result ≡ without_down incs pool.now places.now }
 {
@@ -25,7 +25,7 @@ pub(crate) fn without_down(map: &OsdMap, pool: &PoolSpec, places: &[Option<OsdId
 
 /// The places whose devices are up.
 fn left_out(map: &OsdMap, places: &[Option<OsdId>]) -> Osds
-    requires { length places.now ≤ 16 }
+    requires { length places.now ≤ MAX_OSDS }
     ensures { result ≡ filter (λ place. option_map_or (held_up map.now) place false) places.now }
 {
     let mut osds = Osds::new();
@@ -39,7 +39,7 @@ fn left_out(map: &OsdMap, places: &[Option<OsdId>]) -> Osds
 
 /// Each place, emptied if its device isn't up.
 fn emptied(map: &OsdMap, places: &[Option<OsdId>]) -> Osds
-    requires { length places.now ≤ 16 }
+    requires { length places.now ≤ MAX_OSDS }
     ensures { result ≡ map_list (λ place. if option_map_or (held_up map.now) place false then place else None) places.now }
 {
     let mut osds = Osds::new();
