@@ -18,7 +18,7 @@ use Rattle.pgp_prior.specs.Members.{members_of}
 use Rattle.pgp_prior.specs.Prior.{probe, blocked_by}
 use Rattle.pgp_prior.specs.Changes.{allows, IsChangeIn, IsChange}
 use Rattle.pgp_prior.specs.Kept.{IsKept, past_of, later_les, EachKept, IsUnderWay}
-use Rattle.pgp_prior.specs.KeptLists.{does_matter, does_block, up_of, down_of}
+use Rattle.pgp_prior.specs.KeptLists.{kept_matters, kept_blocks, up_of, down_of}
 use Rattle.pgp_prior.specs.Places.{places_of}
 use Rattle.pgp_prior.specs.IndexOf.{Basis, IsIndexOf, prior_by, HasEachPlace}
 use Rattle.pgp_prior.proofs.BetterLemmas.{blocks-same}
@@ -128,11 +128,11 @@ module _ {C : Type 0} (enough : C → List ℕ → Bool) (by_place : C → Bool)
         }
 
   -- the two lists of the index are those of the prior set
-  pub index-prior : (members : List Member) (devices : List ℕ) (none : Bool) → members ≡ ascending is_before (members_of (by_place index.code) index.current.up ++ members_of (by_place index.code) index.current.acting ++ flat_map (up_of (by_place index.code)) (filter (does_matter index.les) index.past.items)) → devices ≡ ascending nat_lt (flat_map (down_of (by_place index.code)) (filter does_block index.past.items)) → none ≡ (length devices == 0) → ◌≡◌ {A = Prior} (record { probe = members; blocked_by = devices; down = not none }) (prior_by enough by_place b)
+  pub index-prior : (members : List Member) (devices : List ℕ) (none : Bool) → members ≡ ascending is_before (members_of (by_place index.code) index.current.up ++ members_of (by_place index.code) index.current.acting ++ flat_map (up_of (by_place index.code)) (filter (kept_matters index.les) index.past.items)) → devices ≡ ascending nat_lt (flat_map (down_of (by_place index.code)) (filter kept_blocks index.past.items)) → none ≡ (length devices == 0) → ◌≡◌ {A = Prior} (record { probe = members; blocked_by = devices; down = not none }) (prior_by enough by_place b)
   index-prior members devices none heard waited empty =
-      let heard' : members ≡ ascending is_before (members_of (by_place b.code) b.current.up ++ members_of (by_place b.code) b.current.acting ++ flat_map (up_of (by_place b.code)) (filter (does_matter b.les) index.past.items)) =
+      let heard' : members ≡ ascending is_before (members_of (by_place b.code) b.current.up ++ members_of (by_place b.code) b.current.acting ++ flat_map (up_of (by_place b.code)) (filter (kept_matters b.les) index.past.items)) =
       rw (is.code_is, is.current_is, is.les_is) at heard in
-      let waited' : devices ≡ ascending nat_lt (flat_map (down_of (by_place b.code)) (filter does_block index.past.items)) = rw is.code_is at waited in
+      let waited' : devices ≡ ascending nat_lt (flat_map (down_of (by_place b.code)) (filter kept_blocks index.past.items)) = rw is.code_is at waited in
       prior-by_lists (enough b.code) (by_place b.code) b.status b.les b.past b.current members devices none
       (heard'
       ∙ ap (λ (ups : List Member). ascending is_before (members_of (by_place b.code) b.current.up ++ members_of (by_place b.code) b.current.acting ++ ups)) (ups-same (enough b.code) (by_place b.code) b.status b.les index.past.items is.each_kept)

@@ -5,13 +5,13 @@ use Rattle.std.proofs.lemmas.Bool.{cases_Bool}
 use Rattle.std.proofs.lemmas.Bool.Decides.{nat_tests}
 use Rattle.pgp_ids.specs.declared.member.Member.{Member}
 use Rattle.pgp_ids.specs.declared.past.Past.{Past}
-use Rattle.pgp_lists.proofs.Members.{Contains-here, Contains-later, Contains-cases, Contains-nil, append-contains, map-contains}
+use Rattle.pgp_lists.proofs.Members.{Contains-here, Contains-later, Contains-cases, Contains-nil, append-contains, filter-agree, map-contains}
 use Rattle.pgp_sets.specs.declared.status.Status.{Status}
 use Rattle.pgp_prior.specs.declared.kept.Kept.{Kept}
 use Rattle.pgp_prior.specs.Members.{members_of}
 use Rattle.pgp_prior.specs.Blocks.{is_up, is_down, matters, acting_where, down_osds, settled_slots, has_down, blocks}
 use Rattle.pgp_prior.specs.Kept.{IsKept, past_of, later_les, EachKept}
-use Rattle.pgp_prior.specs.KeptLists.{kept_status, does_matter, does_block, up_of, down_of}
+use Rattle.pgp_prior.specs.KeptLists.{kept_status, kept_matters, kept_blocks, up_of, down_of}
 use Rattle.pgp_prior.specs.IndexOf.{HasEachPlace}
 use Rattle.pgp_prior.proofs.ToldLemmas.{told_or_gone-is}
 
@@ -85,16 +85,6 @@ module _ (by_place : Bool) (past : List Past) where
 
 -- ---- the two lists
 
-filter-same : {X : Type 0} (test other : X → Bool) (xs : List X) → ((x : X) → Contains xs x → test x ≡ other x) → filter test xs ≡ filter other xs
-filter-same test other [] same = refl
-filter-same test other (x ∷ xs) same =
-    let first : test x ≡ other x = same x (Contains-here x xs) in
-    let rest : filter test xs ≡ filter other xs = filter-same test other xs (λ y in'. same y (Contains-later x xs y in')) in
-    elim (cases_Bool (other x)) [
-      | inl passes ↦ let also : test x ≡ true = first ∙ passes in rw (also, passes) (ap (λ ys. x ∷ ys) rest)
-      | inr fails ↦ let also : test x ≡ false = first ∙ fails in rw (also, fails) rest
-    ]
-
 -- a walk over intervals that are kept is one over the intervals
 walk-same : {X Y Z : Type 0} (of : X → Y) (test : X → Bool) (other : Y → Bool) (read : X → List Z) (reads : Y → List Z) (xs : List X) → ((x : X) → Contains xs x → test x ≡ other (of x)) → ((x : X) → Contains xs x → read x ≡ reads (of x)) → flat_map read (filter test xs) ≡ flat_map reads (filter other (map of xs))
 walk-same of test other read reads [] same alike = refl
@@ -111,15 +101,15 @@ walk-same of test other read reads (x ∷ xs) same alike =
 module _ (enough : List ℕ → Bool) (by_place : Bool) (status : ℕ → ℕ → Status) (les : ℕ) where
   acting-same : (test : Status → Bool) (kept : Kept) → IsKept enough by_place status les kept → acting_where test by_place (kept_status kept) kept.past ≡ acting_where test by_place status kept.past
   acting-same test kept is =
-      filter-same _ _ (members_of by_place kept.past.members.acting)
+      filter-agree _ _ (members_of by_place kept.past.members.acting)
       (λ m in'. ap test (told_or_gone-is kept.statuses.known.items m.osd _ (is.statuses_are m in')))
 
-  pub ups-same : (past : List Kept) → EachKept enough by_place status les past → flat_map (up_of by_place) (filter (does_matter les) past) ≡ flat_map (acting_where is_up by_place status) (filter (matters les) (map past_of past))
+  pub ups-same : (past : List Kept) → EachKept enough by_place status les past → flat_map (up_of by_place) (filter (kept_matters les) past) ≡ flat_map (acting_where is_up by_place status) (filter (matters les) (map past_of past))
   ups-same past each =
-      walk-same past_of (does_matter les) (matters les) (up_of by_place) (acting_where is_up by_place status) past
+      walk-same past_of (kept_matters les) (matters les) (up_of by_place) (acting_where is_up by_place status) past
       (λ kept in'. refl) (λ kept in'. acting-same is_up kept (each kept in'))
 
-  pub downs-same : (past : List Kept) → EachKept enough by_place status les past → flat_map (down_of by_place) (filter does_block past) ≡ flat_map (down_osds by_place status) (filter (blocks enough by_place status les) (map past_of past))
+  pub downs-same : (past : List Kept) → EachKept enough by_place status les past → flat_map (down_of by_place) (filter kept_blocks past) ≡ flat_map (down_osds by_place status) (filter (blocks enough by_place status les) (map past_of past))
   downs-same past each =
-      walk-same past_of does_block (blocks enough by_place status les) (down_of by_place) (down_osds by_place status) past
+      walk-same past_of kept_blocks (blocks enough by_place status les) (down_of by_place) (down_osds by_place status) past
       (λ kept in'. (each kept in').blocks_is) (λ kept in'. ap (map (λ (m : Member). m.osd)) (acting-same is_down kept (each kept in')))

@@ -1,7 +1,6 @@
--- Tables of places that grow, and errors that leave them.
+-- Tables of places that grow.
 use Rattle.std.proofs.Common.{◌≡◌, ℕ, List, [], Option, Some, cond, nat_eq, unwrap_or, subst, inl, inr, eqb-true}
 use Rattle.std.specs.List.{Contains}
-use Rattle.std.specs.Prelude.{Result, Ok, Err, OnErr}
 use Rattle.std.proofs.lemmas.Bool.{cases_Bool}
 
 -- what stood in a list of the table still does, where one list of it was replaced by one that keeps its places
@@ -13,8 +12,3 @@ lookup-kept old new osd q at was now is step keeps in' = elim (cases_Bool (nat_e
       rw found (keeps at (subst (λ l. Contains l at) list in'))
   | inr other ↦ let stays : new q ≡ old q = rw other at step in rw stays in'
 ]
-
--- what holds anyhow holds of an error
-pub on_err : {A E : Type 0} (r : Result A E) (P : Type 0) → P → OnErr r P
-on_err (Ok x) P holds = tt
-on_err (Err e) P holds = holds

@@ -10,11 +10,11 @@ use Rattle.pgp_prior.specs.Told.{told_or_gone}
 abbrev pub kept_status : Kept → ℕ → ℕ → Status
 kept_status kept osd first = told_or_gone kept.statuses.known.items osd
 
-abbrev pub does_matter : ℕ → Kept → Bool
-does_matter les kept = matters les kept.past
+abbrev pub kept_matters : ℕ → Kept → Bool
+kept_matters les kept = matters les kept.past
 
-abbrev pub does_block : Kept → Bool
-does_block kept = kept.blocks
+abbrev pub kept_blocks : Kept → Bool
+kept_blocks kept = kept.blocks
 
 abbrev pub up_of : Bool → Kept → List Member
 up_of by_place kept = acting_where is_up by_place (kept_status kept) kept.past

@@ -6,13 +6,13 @@ use Rattle.pgp_ids.specs.declared.member.Member.{Member}
 use Rattle.pgp_lists.specs.Ordered.{ascending}
 
 -- the member at this place, if a device stands there
-abbrev pub member_at : Bool → List (Option ℕ) → ℕ → Option Member
-member_at by_place places place =
+abbrev pub held_member : Bool → List (Option ℕ) → ℕ → Option Member
+held_member by_place places place =
     option_map (λ osd. record { osd = osd; slot = if by_place then place else 0 }) (slice_index_or places place None)
 
 -- the members of the list, in the order of their places
 abbrev pub members_of : Bool → List (Option ℕ) → List Member
-members_of by_place places = filter_map (member_at by_place places) (range_with_len 0 (length places))
+members_of by_place places = filter_map (held_member by_place places) (range_with_len 0 (length places))
 
 -- the slots in which members are, in ascending order, each once
 abbrev pub slots_of : List Member → List ℕ

@@ -7,7 +7,7 @@ use super::blocks::{blocks, is_down};
 use super::members::members_of;
 use pgp_code::Recoverable;
 use pgp_ids::{Epoch, OsdId, Past, Seq};
-use pgp_lists::put;
+use pgp_lists::insert_in_order;
 use pgp_sets::StatusOf;
 use std::alloc::{AllocError, Global};
 
@@ -45,7 +45,7 @@ pub fn add_down<S: StatusOf>(
 {
     for member in members_of(by_place, &past.members.acting) {
         if is_down(statuses.status(member.osd, past.first)) {
-            put(list, member.osd)?;
+            insert_in_order(list, member.osd)?;
         }
     }
     Ok(())

@@ -4,7 +4,7 @@ ghost use Rattle.std.specs.Prelude.{◌≡◌, ℕ, IfOk, ◌++◌, filter, flat
 ghost use Rattle.pgp_ids.specs.Member.{is_before};
 ghost use Rattle.pgp_lists.specs.Ordered.{ascending};
 ghost use Rattle.pgp_prior.specs.Members.{members_of};
-ghost use Rattle.pgp_prior.specs.KeptLists.{does_matter, does_block, up_of, down_of};
+ghost use Rattle.pgp_prior.specs.KeptLists.{kept_matters, kept_blocks, up_of, down_of};
 
 use super::blocked_by::add_down;
 use super::blocks::matters;
@@ -23,7 +23,7 @@ pub(crate) fn probe(
 ) -> Result<Seq<Member>, AllocError>
     ensures { IfOk result (λ list. list ≡ ascending is_before
         (members_of by_place current.now.up ++ members_of by_place current.now.acting
-        ++ flat_map (up_of by_place) (filter (does_matter les) past.now))) }
+        ++ flat_map (up_of by_place) (filter (kept_matters les) past.now))) }
 {
     let mut list = Vec::new(alloc);
     add_members(&mut list, by_place, &current.up)?;
@@ -43,7 +43,7 @@ pub(crate) fn blocked_by(
     past: &[Kept],
 ) -> Result<Seq<OsdId>, AllocError>
     ensures { IfOk result (λ list. list
-        ≡ ascending nat_lt (flat_map (down_of by_place) (filter does_block past.now))) }
+        ≡ ascending nat_lt (flat_map (down_of by_place) (filter kept_blocks past.now))) }
 {
     let mut list = Vec::new(alloc);
     for kept in past {

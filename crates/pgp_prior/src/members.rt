@@ -18,11 +18,11 @@ impl<'a> Model for Members<'a> {
     ghost use Rattle.std.specs.Prelude.{List, ◌-◌, ◌≤◌, length, filter_map};
     ghost use Rattle.std.specs.List.{range_with_len};
     ghost use Rattle.pgp_ids.specs.declared.member.Member.{Member};
-    ghost use Rattle.pgp_prior.specs.Members.{member_at};
+    ghost use Rattle.pgp_prior.specs.Members.{held_member};
 
     ghost Value = { List Member };
 
-    ghost view = { λ m. filter_map (member_at m.by_place m.places.now)
+    ghost view = { λ m. filter_map (held_member m.by_place m.places.now)
         (range_with_len m.place (length m.places.now - m.place)) };
 
     ghost invariant = { λ m. length m.places.now ≤ 16 };

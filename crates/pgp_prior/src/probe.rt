@@ -8,7 +8,7 @@ ghost use Rattle.pgp_prior.specs.Prior.{probe};
 use super::blocks::matters;
 use super::members::members_of;
 use pgp_ids::{Epoch, Member, Membership, Osds, Past, Seq};
-use pgp_lists::put;
+use pgp_lists::insert_in_order;
 use pgp_sets::{Status, StatusOf};
 use std::alloc::{AllocError, Global};
 
@@ -41,7 +41,7 @@ pub fn add_members(list: &mut Vec<Member>, by_place: bool, osds: &Osds) -> Resul
     ensures { OnOk result (list.new.items ≡ with_items is_before (members_of by_place osds.now) list.old.items) }
 {
     for member in members_of(by_place, osds) {
-        put(list, member)?;
+        insert_in_order(list, member)?;
     }
     Ok(())
 }
@@ -59,7 +59,7 @@ pub fn add_up<S: StatusOf>(
 {
     for member in members_of(by_place, &past.members.acting) {
         if is_up(statuses.status(member.osd, past.first)) {
-            put(list, member)?;
+            insert_in_order(list, member)?;
         }
     }
     Ok(())

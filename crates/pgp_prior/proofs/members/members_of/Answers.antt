@@ -1,12 +1,12 @@
 use Rattle.std.proofs.Common.{◌-◌, length, ap, ◌∙◌, arith}
 use Rattle.std.specs.List.{filter_map, range_with_len}
-use Rattle.pgp_prior.specs.Members.{member_at}
+use Rattle.pgp_prior.specs.Members.{held_member}
 use Rattle.pgp_prior.proofs.MemberLemmas.{left-all, members-slots}
 use Rattle.pgp_prior.proofs.members.members_of.Goals as goal
 
 pub returns-clause-members : goal.returns-clause-members
 returns-clause-members c =
-    ap (λ places. filter_map (member_at c.args.by_place places) (range_with_len 0 (length places - 0))) c.as_slice.ensures.value
+    ap (λ places. filter_map (held_member c.args.by_place places) (range_with_len 0 (length places - 0))) c.as_slice.ensures.value
     ∙ left-all c.args.by_place c.args.osds.now
 
 pub returns-clause-slots : goal.returns-clause-slots

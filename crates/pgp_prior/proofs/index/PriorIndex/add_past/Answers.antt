@@ -4,7 +4,7 @@ use Rattle.pgp_prior.specs.declared.kept.Kept.{Kept}
 use Rattle.pgp_prior.specs.Kept.{AgreeOn}
 use Rattle.pgp_prior.specs.Places.{places_of}
 use Rattle.pgp_prior.proofs.BasisLemmas.{more, kept}
-use Rattle.pgp_prior.proofs.PlaceLemmas.{on_err}
+use Rattle.pgp_lists.proofs.Results.{on_err}
 use Rattle.pgp_prior.proofs.index.PriorIndex.add_past.Goals as goal
 
 pub returns-clause-ok : goal.returns-clause-ok

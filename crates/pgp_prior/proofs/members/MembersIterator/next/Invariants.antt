@@ -1,13 +1,13 @@
 use Rattle.std.proofs.Common.{◌≡◌, ◌-◌, ◌≤◌, length}
 use Rattle.std.specs.List.{filter_map, range_with_len}
-use Rattle.pgp_prior.specs.Members.{member_at}
+use Rattle.pgp_prior.specs.Members.{held_member}
 use Rattle.pgp_prior.proofs.members.MembersIterator.next.Given as goal
 
 -- only empty places were passed over
 abbrev pub invariant-loop-osd : goal.invariant-loop-osd
 invariant-loop-osd l =
     (length l.self-inside.places.now ≤ 16)
-    × (filter_map (member_at l.self-inside.by_place l.self-inside.places.now)
+    × (filter_map (held_member l.self-inside.by_place l.self-inside.places.now)
     (range_with_len l.self-inside.place (length l.self-inside.places.now - l.self-inside.place)) ≡ l.fn.self)
 
 abbrev pub decreases-loop-osd : goal.decreases-loop-osd
