@@ -3,7 +3,7 @@ use Rattle.std.proofs.Common.{◌≡◌, List, [], ◌∷◌, ◌++◌, Option, 
 use Rattle.std.specs.List.{filter}
 use Rattle.std.specs.Option.{option_map}
 use Rattle.std.specs.Prelude.{Result, Ok, Err}
-use Rattle.std.specs.Result.{IfOk, OnOk, OnErr}
+use Rattle.std.specs.Result.{OnOk, OnErr}
 use Rattle.pgp_code.specs.AnyCode.{enough_of, is_by_place}
 use Rattle.pgp_code.specs.Pool.{code_of}
 use Rattle.pgp_code.specs.declared.any.AnyCode.{AnyCode}
@@ -18,6 +18,7 @@ use Rattle.pgp_ids.specs.declared.report.Info.{Info}
 use Rattle.pgp_ids.specs.declared.report.Report.{Report}
 use Rattle.pgp_interval.specs.History.{History, begun, stepped}
 use Rattle.pgp_interval.specs.IntervalsOf.{IsIntervalsOf}
+pub use Rattle.pgp_lists.proofs.Results.{on_err}
 use Rattle.pgp_map.specs.Map.{epoch}
 use Rattle.pgp_map.specs.MapFault.{map_fault, then_with}
 use Rattle.pgp_map.specs.Pools.{pool, has_group, is_same_group}
@@ -164,14 +165,6 @@ on_ok (Err e) P Q gives given = given
 pub on_err_from : {T E : Type 0} (r : Result T E) (P Q : Type 0) → (P → Q) → OnErr r P → OnErr r Q
 on_err_from (Ok x) P Q gives given = given
 on_err_from (Err e) P Q gives given = gives given
-
-pub on_err : {T E : Type 0} (r : Result T E) (P : Type 0) → P → OnErr r P
-on_err (Ok x) P holds = tt
-on_err (Err e) P holds = holds
-
-pub if_ok : {T E : Type 0} (r : Result T E) (P Q : T → Type 0) → ((x : T) → P x → Q x) → IfOk r P → IfOk r Q
-if_ok (Ok x) P Q gives given = gives x given
-if_ok (Err e) P Q gives given = given
 
 -- an incremental brings a map
 pub no_map : {P : Type 0} (e : Entry) (inc : Incremental) → e ≡ entry.Inc inc → inc_of e ≡ None → P

@@ -17,43 +17,22 @@ use Rattle.pgp_interval.specs.History.{History, begun, stepped}
 use Rattle.pgp_map.specs.Checked.{are_checked}
 use Rattle.pgp_map.specs.Last.{last_where}
 use Rattle.pgp_map.specs.Map.{epoch, up_to}
-use Rattle.pgp_map.specs.MapFault.{map_fault, then_with, has_epoch_gap, has_twice, has_unknown_device, has_already_up, has_already_down, has_still_up, has_up_thru_back, has_ahead, has_bad_pool, has_pool_known}
+use Rattle.pgp_map.specs.MapFault.{map_fault, then_with, has_epoch_gap}
+use Rattle.pgp_map.proofs.FaultLemmas.{no_fault}
+pub use Rattle.pgp_map.proofs.MapLemmas.{epoch-push as epoch-snoc}
 use Rattle.pgp_map.specs.Pools.{pool, with_sizes, has_group}
 use Rattle.pgp_sets.specs.Sets.{pool_membership, membership}
 use Rattle.pgp_lists.proofs.Lists.{flat_map-push}
 use Rattle.pgp_lists.proofs.Members.{filter-contains}
-use Rattle.pgp_lists.proofs.Options.{if_none}
 use Rattle.pgp_lists.proofs.Ranges.{range_with_len-suc}
 use Rattle.pgp_group.specs.GroupHistory.{makes, made_at, AreNumbered, primary_facts, state_with, state_at_epoch, states_from, history_of, group_history}
 use Rattle.pgp_group.proofs.HistoryLemmas.{maker_of, history_if, history-length}
-use Rattle.pgp_group.proofs.Lists.{none-narrower, last_or-snoc, last_where-passes, last_where-none, filter_map-agree}
+use Rattle.pgp_group.proofs.Lists.{none-narrower, last_where-passes, last_where-none, filter_map-agree}
 
 -- ---- an incremental that isn't refused
 
--- its epoch is the next one, and it makes no pool that is there
-record IsNext (incs : List Incremental) (inc : Incremental) : Type 0 where
-  gap : has_epoch_gap incs inc ≡ false
-  known : has_pool_known incs inc ≡ false
-
-next_of : (incs : List Incremental) (inc : Incremental) → map_fault incs inc ≡ None → IsNext incs inc
-unfolding map_fault
-next_of incs inc fine =
-    let a = if_none (has_epoch_gap incs inc) _ _ fine in
-    let b = if_none (has_twice inc) _ _ a.1 in
-    let c = if_none (has_unknown_device incs inc) _ _ b.1 in
-    let d = if_none (has_already_up incs inc) _ _ c.1 in
-    let e = if_none (has_already_down incs inc) _ _ d.1 in
-    let f = if_none (has_still_up incs inc) _ _ e.1 in
-    let g = if_none (has_up_thru_back incs inc) _ _ f.1 in
-    let h = if_none (has_ahead inc) _ _ g.1 in
-    let i = if_none (has_bad_pool incs inc) _ _ h.1 in
-    record { gap = a.0; known = (if_none (has_pool_known incs inc) _ _ i.1).0 }
-
 pub next_epoch : (incs : List Incremental) (inc : Incremental) → map_fault incs inc ≡ None → inc.epoch ≡ epoch incs + 1
-next_epoch incs inc fine = let gap : has_epoch_gap incs inc ≡ false = (next_of incs inc fine).gap in grind (arith, nat_tests)
-
-pub epoch-snoc : (incs : List Incremental) (inc : Incremental) → epoch (then_with incs inc) ≡ inc.epoch
-epoch-snoc incs inc = ap (λ (o : Option Incremental). option_map_or (λ i. i.epoch) o 0) (last_or-snoc None incs inc)
+next_epoch incs inc fine = let gap : has_epoch_gap incs inc ≡ false = (no_fault incs inc fine).gap in grind (arith, nat_tests)
 
 -- ---- the epochs of a list count 1, 2, and so on
 
@@ -142,7 +121,7 @@ pool-is incs id = refl
 unmade : (incs : List Incremental) (inc : Incremental) (id : ℕ) → map_fault incs inc ≡ None → is_some (pool incs id) ≡ true → makes id inc ≡ false
 unmade incs inc id fine there =
     none-narrower (λ (made : PoolSpec). nat_eq made.id id) (λ (made : PoolSpec). is_some (pool incs made.id))
-    (λ made same. ap (λ (k : ℕ). is_some (pool incs k)) (eqb-true made.id id same) ∙ there) inc.pools (next_of incs inc fine).known
+    (λ made same. ap (λ (k : ℕ). is_some (pool incs k)) (eqb-true made.id id same) ∙ there) inc.pools (no_fault incs inc fine).known
 
 -- what was told last stays, where the incremental tells nothing of it
 pub told-stays : {E : Type 0} (test : E → Bool) (f : Incremental → List E) (incs : List Incremental) (inc : Incremental)

@@ -6,6 +6,7 @@ use Rattle.std.proofs.lemmas.List.{take_more}
 use Rattle.std.proofs.lemmas.List.Elements.{filter-append, filter_map-append, All-head, All-tail}
 use Rattle.std.proofs.lemmas.List.Folds.{list_any-append}
 use Rattle.pgp_lists.proofs.Members.{Contains-nil, Contains-here, Contains-later, Contains-first, Contains-cases}
+pub use Rattle.pgp_lists.proofs.Members.{filter-agree}
 use Rattle.pgp_map.specs.Last.{last_where}
 
 -- ---- elements that don't pass
@@ -80,11 +81,6 @@ pub map-agree : {X Y : Type 0} (f g : X → Y) (xs : List X) → ((x : X) → Co
 map-agree f g [] same = refl
 map-agree f g (x ∷ xs) same =
     ap₂ (λ y ys. y ∷ ys) (same x (Contains-here x xs)) (map-agree f g xs (λ y there. same y (Contains-later x xs y there)))
-
-pub filter-agree : {X : Type 0} (f g : X → Bool) (xs : List X) → ((x : X) → Contains xs x → f x ≡ g x) → filter f xs ≡ filter g xs
-filter-agree {X = X} f g [] same = refl
-filter-agree {X = X} f g (x ∷ xs) same =
-    ap₂ (λ (b : Bool) (l : List X). cond b (x ∷ l) l) (same x (Contains-here x xs)) (filter-agree f g xs (λ y there. same y (Contains-later x xs y there)))
 
 pub flat_map-agree : {X Y : Type 0} (f g : X → List Y) (xs : List X) → ((x : X) → Contains xs x → f x ≡ g x) → flat_map f xs ≡ flat_map g xs
 flat_map-agree f g [] same = refl

@@ -29,7 +29,7 @@ use Rattle.pgp_map.specs.Map.{epoch}
 use Rattle.pgp_missing.specs.Log.{is_whole}
 use Rattle.pgp_missing.specs.Missing.{peer_state}
 use Rattle.pgp_prior.specs.Blocks as block
-use Rattle.pgp_prior.specs.Members.{member_at, members_of, slots_of}
+use Rattle.pgp_prior.specs.Members.{held_member, members_of, slots_of}
 use Rattle.pgp_prior.specs.Prior.{prior_set}
 use Rattle.pgp_prior.specs.declared.prior_set.Prior.{Prior}
 use Rattle.pgp_lists.specs.Ordered.{ascending}
@@ -83,7 +83,7 @@ prior-same enough by_place old now les past current agree =
 -- the device of a member stands in the list
 member-there : (by_place : Bool) (places : List (Option ℕ)) (member : Member) → Contains (members_of by_place places) member → has_osd member.osd places ≡ true
 member-there by_place places member there =
-    let at = filter_map-contains (member_at by_place places) (range_with_len 0 (length places)) member there in
+    let at = filter_map-contains (held_member by_place places) (range_with_len 0 (length places)) member there in
     let found = map_some (λ osd. record { osd = osd; slot = if by_place then at.0 else 0 }) (slice_index_or places at.0 None) member at.1 in
     let is : found.0 ≡ member.osd = ap (λ (m : Member). m.osd) found.2 in
     osd-there places member.osd (index-contains places at.0 member.osd (found.1 ∙ ap Some is))

@@ -1,4 +1,5 @@
 use Rattle.std.proofs.Common.{◌≡◌, ap, ◌∙◌}
+use Rattle.std.proofs.lemmas.Result.{IfOk-weaker}
 use Rattle.pgp_code.specs.AnyCode.{is_by_place}
 use Rattle.pgp_code.specs.declared.any.AnyCode.{AnyCode}
 use Rattle.pgp_info.specs.Heard.{Heard}
@@ -10,11 +11,10 @@ use Rattle.pgp_group.specs.GroupOf.{Keeps}
 use Rattle.pgp_group.specs.Heard.{heard}
 use Rattle.pgp_group.specs.Present.{IsPresent}
 use Rattle.pgp_group.proofs.FoundLemmas.{prefer-is}
-use Rattle.pgp_group.proofs.GroupLemmas.{if_ok}
 use Rattle.pgp_group.proofs.group.Group.heard.Goals as goal
 
 pub returns : goal.returns
-returns c = if_ok c.heard.result
+returns c = IfOk-weaker c.heard.result
     (λ found. (g : GroupLog) → IsPresent g c.args.map.now c.args.first → c.as_slice.result.now ≡ infos g → found ≡ record { prefer = c.of_pool-prefer.result; infos = heard g })
     (λ found. (g : GroupLog) → Keeps g c.args.self.now → IsPresent g c.args.map.now c.args.first → c.args.current.now ≡ g.history.current → AreHeard g found)
     (λ found is g keeps here current.
