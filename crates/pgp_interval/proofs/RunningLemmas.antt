@@ -1,5 +1,5 @@
 -- The running intervals stay those of the history as it grows.
-use Rattle.std.proofs.Common.{◌≡◌, ℕ, ◌+◌, List, [], ◌∷◌, ◌++◌, Bool, true, false, refl, ap, sym, ◌∙◌, arith}
+use Rattle.std.proofs.Common.{◌≡◌, ℕ, ◌+◌, List, [], ◌∷◌, ◌++◌, Bool, true, false, length, map, refl, ap, sym, ◌∙◌, subst, arith, add-zero, append_assoc, append-nil}
 use Rattle.std.proofs.lemmas.Bool.{true≢false}
 use Rattle.std.proofs.lemmas.List.{length_push}
 use Rattle.pgp_ids.specs.declared.history.EpochState.{EpochState}
@@ -7,7 +7,7 @@ use Rattle.pgp_ids.specs.declared.history.PrimaryFacts.{PrimaryFacts}
 use Rattle.pgp_ids.specs.declared.membership.Membership.{Membership}
 use Rattle.pgp_ids.specs.declared.past.Past.{Past}
 use Rattle.pgp_interval.specs.SameMembers.{is_same}
-use Rattle.pgp_interval.specs.History.{History, stepped, last_place}
+use Rattle.pgp_interval.specs.History.{History, stepped, stayed, last_place}
 use Rattle.pgp_interval.specs.Runs.{past_of, past_intervals, current_first, current_ending}
 use Rattle.pgp_interval.specs.IntervalsOf.{Running, IsIntervalsOf}
 use Rattle.pgp_interval.proofs.Same.{is_same-eq, eq-is_same}
@@ -53,3 +53,16 @@ module _ {C : Type 0} (enough : C → List ℕ → Bool) (by_place : C → Bool)
         last_is = omega (arith, here, length_push h.lived (record { members = h.current; facts = facts }));
         current_is = refl;
       }
+
+  -- some steps to the same membership
+  pub stays : (h : History C) (running : Running C) → IsIntervalsOf enough by_place h running → (told : List PrimaryFacts) (to : ℕ) → to ≡ running.last + length told → IsIntervalsOf enough by_place (stayed h told) (record running { last = to })
+  stays h running is [] to here =
+      let same : h.lived ++ [] ≡ h.lived = append-nil h.lived in
+      rw (here, add-zero running.last)
+      (subst (λ (l : List EpochState). IsIntervalsOf enough by_place (record h { lived = l }) running) (sym same) is)
+  stays h running is (facts ∷ told) to here =
+      let next = goes_on h running is h.current facts (running.last + 1) refl (eq-is_same _ _ is.current_is) in
+      let lasting : PrimaryFacts → EpochState = λ told. record { members = h.current; facts = told } in
+      subst (λ (l : List EpochState). IsIntervalsOf enough by_place (record h { lived = l }) (record running { last = to }))
+      (append_assoc h.lived (lasting facts ∷ []) (map lasting told))
+      (stays (stepped h h.current facts) (record running { last = running.last + 1 }) next told to (omega (arith, here)))

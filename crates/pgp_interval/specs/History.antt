@@ -1,6 +1,6 @@
 -- The history of a placement group: from its first epoch on, an epoch after another, its membership and what the map
 -- of that epoch says of its acting primary. The place i stands for the epoch first + i.
-use Rattle.std.specs.Prelude.{ℕ, List, [], ◌∷◌, ◌++◌, length, slice_index_or}
+use Rattle.std.specs.Prelude.{ℕ, List, [], ◌∷◌, ◌++◌, length, map, slice_index_or}
 use Rattle.pgp_ids.specs.declared.membership.Membership.{Membership}
 use Rattle.pgp_ids.specs.declared.history.EpochState.{EpochState}
 use Rattle.pgp_ids.specs.declared.history.PrimaryFacts.{PrimaryFacts}
@@ -21,6 +21,13 @@ abbrev pub stepped : {C : Type 0} → History C → Membership → PrimaryFacts 
 stepped h members facts =
     let ended : EpochState = record { members = h.current; facts = facts } in
     record h { lived = h.lived ++ ended ∷ []; current = members }
+
+-- the history with some epochs more, all of the current membership; each of the facts completes one epoch, the one that was
+-- current first
+abbrev pub stayed : {C : Type 0} → History C → List PrimaryFacts → History C
+stayed h told =
+    let lasting : PrimaryFacts → EpochState = λ facts. record { members = h.current; facts = facts } in
+    record h { lived = h.lived ++ map lasting told }
 
 -- the place of the current epoch
 abbrev pub last_place : {C : Type 0} → History C → ℕ

@@ -1,5 +1,6 @@
-ghost use Rattle.std.specs.Prelude.{◌≡◌, ◌+◌, IfOk, OnOk, OnErr};
-ghost use Rattle.pgp_interval.specs.History.{History, begun, stepped};
+ghost use Rattle.std.specs.Prelude.{◌≡◌, ◌+◌, ◌<◌, ◌≤◌, List, length, slice_get, Some, IfOk, OnOk, OnErr};
+ghost use Rattle.pgp_ids.specs.declared.history.PrimaryFacts.{PrimaryFacts as Facts};
+ghost use Rattle.pgp_interval.specs.History.{History, begun, stepped, stayed};
 ghost use Rattle.pgp_interval.specs.IntervalsOf.{IsIntervalsOf};
 ghost use Rattle.pgp_interval.specs.Runs.{past_intervals, current_first};
 
@@ -84,6 +85,17 @@ impl<R: Recoverable> Intervals<R> {
         Ok(())
     }
 
+    /// The epochs after the current one up to `to`, all with the membership of the current one. It takes no memory.
+    ///
+    /// What the maps of these epochs say of the primary plays no part as long as the membership stays.
+    pub fn stay(&mut self, to: Epoch)
+        requires { self.old.last ≤ to }
+        ensures { (h : History R) (told : List Facts) → IsIntervalsOf R.enough R.by_place h self.old
+            → to ≡ self.old.last + length told → IsIntervalsOf R.enough R.by_place (stayed h told) self.new }
+    {
+        self.last = to;
+    }
+
     pub fn code(&self) -> &R
         ensures { result.now ≡ self.now.code }
     {
@@ -107,6 +119,23 @@ impl<R: Recoverable> Intervals<R> {
             past.push(copy_of_past(interval))?;
         }
         Ok(past)
+    }
+
+    /// How many past intervals there are.
+    pub fn past_len(&self) -> usize
+        ensures { (h : History R) → IsIntervalsOf R.enough R.by_place h self.now
+            → result ≡ length (past_intervals R.enough R.by_place h) }
+    {
+        self.past.len()
+    }
+
+    /// The past interval at this place, in ascending order. It takes no memory.
+    pub fn past_at(&self, place: usize) -> Past
+        requires { place < length self.now.past }
+        ensures { (h : History R) → IsIntervalsOf R.enough R.by_place h self.now
+            → slice_get (past_intervals R.enough R.by_place h) place ≡ Some result }
+    {
+        copy_of_past(&self.past[place])
     }
 
     /// The interval that reaches the current epoch: its first epoch and its membership.
