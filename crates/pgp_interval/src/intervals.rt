@@ -123,7 +123,8 @@ impl<R: Recoverable> Intervals<R> {
 
     /// How many past intervals there are.
     pub fn past_len(&self) -> usize
-        ensures { (h : History R) → IsIntervalsOf R.enough R.by_place h self.now
+        ensures kept { result ≡ length self.now.past }
+        ensures past { (h : History R) → IsIntervalsOf R.enough R.by_place h self.now
             → result ≡ length (past_intervals R.enough R.by_place h) }
     {
         self.past.len()
