@@ -1,7 +1,7 @@
 -- What a group keeps as its log grows.
-use Rattle.std.proofs.Common.{◌≡◌, List, [], ◌∷◌, ◌++◌, Option, Some, None, true, false, refl, ap, sym, ◌∙◌, subst}
-use Rattle.std.specs.List.{filter}
-use Rattle.std.specs.Option.{option_map}
+use Rattle.std.proofs.Common.{◌≡◌, ℕ, List, [], ◌∷◌, ◌++◌, Option, Some, None, true, false, ◌||◌, nat_eq, refl, ap, sym, ◌∙◌, subst}
+use Rattle.std.specs.List.{filter, list_any}
+use Rattle.std.specs.Option.{option_map, option_map_or}
 use Rattle.std.specs.Prelude.{Result, Ok, Err}
 use Rattle.std.specs.Result.{OnOk, OnErr}
 use Rattle.pgp_code.specs.AnyCode.{enough_of, is_by_place}
@@ -25,7 +25,10 @@ use Rattle.pgp_map.specs.Pools.{pool, has_group, is_same_group}
 use Rattle.pgp_sets.specs.Sets.{pool_membership, membership}
 use Rattle.pgp_group.specs.Entries.{inc_of, info_of, report_of, incs_of, infos_of, reports_of}
 use Rattle.pgp_group.specs.GroupHistory.{AreNumbered, made_at, primary_facts, group_history}
+use Rattle.pgp_group.specs.GroupLog.{GroupLog, group_in, group_with, infos, reports}
 use Rattle.pgp_group.specs.GroupOf.{IsGroupOf, IsSilent}
+use Rattle.pgp_group.specs.Peering.{past}
+use Rattle.pgp_group.specs.Touched.{was_member, names}
 use Rattle.pgp_group.specs.declared.group.Group.{Group}
 use Rattle.pgp_group.proofs.GrowthLemmas.{history-begins, history-grows, numbered-more}
 use Rattle.pgp_group.proofs.Lists.{nothing_new, one_new, kept_new, left_new}
@@ -172,3 +175,13 @@ no_map {P = P} e inc is none = absurd (contradicts (ap inc_of (sym is) ∙ none)
   where
     contradicts : Some inc ≡ None → ⊥
     contradicts same = cc
+
+-- ---- of which devices it speaks
+
+pub names-there : (osd : ℕ) (log : List Entry) (pg : PgId) (h : History AnyCode) → group_history (incs_of log) pg ≡ Some h → option_map_or (names osd) (group_in log pg) false ≡ names osd (group_with log pg h)
+names-there osd log pg h is = ap (λ (found : Option (History AnyCode)). option_map_or (names osd) (option_map (group_with log pg) found) false) is
+
+-- those of no past interval
+pub names-by_reports : (osd : ℕ) (g : GroupLog) → list_any (was_member osd) (past g) ≡ false
+    → names osd g ≡ (list_any (λ info. nat_eq info.member.osd osd) (infos g) || list_any (λ report. nat_eq report.member.osd osd) (reports g))
+names-by_reports osd g stood = rw stood refl

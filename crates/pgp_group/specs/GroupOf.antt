@@ -1,5 +1,5 @@
 -- What the code of a group keeps of the log that it was made by.
-use Rattle.std.specs.Prelude.{◌≡◌, ◌+◌, List, [], Some, filter}
+use Rattle.std.specs.Prelude.{◌≡◌, ℕ, ◌+◌, List, [], Some, filter}
 use Rattle.pgp_code.specs.AnyCode.{enough_of, is_by_place}
 use Rattle.pgp_code.specs.declared.any.AnyCode.{AnyCode}
 use Rattle.pgp_ids.specs.declared.entry.Entry.{Entry}
@@ -42,3 +42,10 @@ pub record Follows (group : Group) (map : OsdMap) : Type 0 where
   pub is : IsMapOf incs map
   pub there : HasGroup map group.pg
   pub next : epoch incs ≡ group.intervals.last + 1
+
+-- the epoch is the one after that of the group's log
+pub record IsNext (group : Group) (at : ℕ) : Type 0 where
+  pub log : List Entry
+  pub pg : PgId
+  pub is : IsGroupOf log pg group
+  pub next : at ≡ epoch (incs_of log) + 1

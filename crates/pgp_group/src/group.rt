@@ -35,9 +35,12 @@ ghost use Rattle.pgp_group.specs.Present.{IsPresent};
 ghost use Rattle.pgp_group.specs.Verdict.{verdict as verdict_of};
 ghost use Rattle.pgp_group.specs.View.{view_of, scratch};
 
+mod names;
+mod next;
+
 use super::causes::Causes;
 use super::copies::copy_of;
-use super::counted::{last_started, primary_facts};
+use super::counted::last_started;
 use super::found::{Found, Needs};
 use super::heard::{heard, is_waiting, leader};
 use super::peers::states;
@@ -98,10 +101,8 @@ impl Group {
             → IsGroupOf (log ++ entry.Inc inc ∷ []) pg self.new) }
         ensures err { OnErr result ((log : List Told) (pg : Id) → IsGroupOf log pg self.old → IsGroupOf log pg self.new) }
     {
-        let (_, current) = self.intervals.current();
-        let facts = primary_facts(before, current.acting_primary);
         let members = lies_at(after, &self.pg);
-        self.intervals.step(after.epoch(), members, facts)
+        self.absorb_members(before, after, members)
     }
 
     /// Takes a report, or another entry that brings no map: of those that aren't reports of this group nothing is kept.

@@ -17,18 +17,16 @@ use Rattle.pgp_group.specs.GroupHistory.{primary_facts}
 use Rattle.pgp_group.specs.GroupOf.{IsGroupOf}
 use Rattle.pgp_group.specs.declared.group.Group.{Group}
 use Rattle.pgp_group.proofs.GroupLemmas.{on_err_from, StandsLike, on_ok, IsGroupOf-inc, IsGroupOf-same}
-use Rattle.pgp_group.proofs.group.Group.absorb_map.Goals as goal
+use Rattle.pgp_group.proofs.group.Group.absorb_members.Goals as goal
 
 pub returns-clause-ok : goal.returns-clause-ok
 returns-clause-ok c =
     let group : Group = record { alloc = c.args.self.now.alloc; pg = c.args.self.now.pg; intervals = c.step.new.self; infos = c.args.self.now.infos; reports = c.args.self.now.reports } in
     on_ok c.step.result
-    ((h : History AnyCode) → IsIntervalsOf enough_of is_by_place h c.args.self.now.intervals → IsIntervalsOf enough_of is_by_place (stepped h c.lies_at-members.result c.primary_facts-facts.result) c.step.new.self)
-    ((log : List Entry) (pg : PgId) (inc : Incremental) → IsGroupOf log pg c.args.self.now → map_fault (incs_of log) inc ≡ None → IsMapOf (incs_of log) c.args.before.now → IsMapOf (then_with (incs_of log) inc) c.args.after.now → IsGroupOf (log ++ entry.Inc inc ∷ []) pg group)
-    (λ given log pg inc is fine before after.
-    let members = c.lies_at-members.result in
-    let lies : membership (then_with (incs_of log) inc) pg ≡ Some members =
-    subst (λ (q : PgId). membership (then_with (incs_of log) inc) q ≡ Some members) is.keeps.pg_is (c.lies_at-members.ensures (then_with (incs_of log) inc) after) in
+    ((h : History AnyCode) → IsIntervalsOf enough_of is_by_place h c.args.self.now.intervals → IsIntervalsOf enough_of is_by_place (stepped h c.args.members c.primary_facts-facts.result) c.step.new.self)
+    ((log : List Entry) (pg : PgId) (inc : Incremental) → IsGroupOf log pg c.args.self.now → map_fault (incs_of log) inc ≡ None → IsMapOf (incs_of log) c.args.before.now → IsMapOf (then_with (incs_of log) inc) c.args.after.now → membership (then_with (incs_of log) inc) pg ≡ Some c.args.members → IsGroupOf (log ++ entry.Inc inc ∷ []) pg group)
+    (λ given log pg inc is fine before after lies.
+    let members = c.args.members in
     let facts : c.primary_facts-facts.result ≡ primary_facts (incs_of log) is.history.current.acting_primary =
     c.primary_facts-facts.ensures (incs_of log) before
     ∙ ap (λ (m : Membership). primary_facts (incs_of log) m.acting_primary) (c.current-current.ensures.members is.history is.keeps.intervals_are) in

@@ -1,0 +1,53 @@
+//! The next map, where it is known how the group lies by it.
+
+ghost use Rattle.std.specs.Prelude.{◌≡◌, ◌++◌, [], ◌∷◌, List, Some, None, OnOk, OnErr};
+ghost use Rattle.pgp_ids.specs.declared.entry.Entry.{Entry as Told};
+ghost use Rattle.pgp_ids.specs.declared.entry.Entry.TheVariants as entry;
+ghost use Rattle.pgp_ids.specs.declared.incremental.Incremental.{Incremental};
+ghost use Rattle.pgp_ids.specs.declared.pg_id.PgId.{PgId as Id};
+ghost use Rattle.pgp_map.specs.MapFault.{map_fault, then_with};
+ghost use Rattle.pgp_map.specs.MapOf.{IsMapOf};
+ghost use Rattle.pgp_sets.specs.Sets.{membership};
+ghost use Rattle.pgp_group.specs.Entries.{incs_of};
+ghost use Rattle.pgp_group.specs.GroupOf.{IsGroupOf, Follows, IsNext};
+
+use super::Group;
+use crate::counted::primary_facts;
+use pgp_ids::{Epoch, Membership};
+use pgp_map::OsdMap;
+use std::alloc::AllocError;
+
+impl Group {
+    /// Takes the next map, by which the group lies at these members: it looks for none itself. `before` is the map that it
+    /// was until now. After an error the group stands for the same log.
+    pub fn absorb_members(
+        &mut self,
+        before: &OsdMap,
+        after: &OsdMap,
+        members: Membership,
+    ) -> Result<(), AllocError>
+        requires { Follows self.old after.now }
+        ensures ok { OnOk result ((log : List Told) (pg : Id) (inc : Incremental)
+            → IsGroupOf log pg self.old → map_fault (incs_of log) inc ≡ None
+            → IsMapOf (incs_of log) before.now → IsMapOf (then_with (incs_of log) inc) after.now
+            → membership (then_with (incs_of log) inc) pg ≡ Some members
+            → IsGroupOf (log ++ entry.Inc inc ∷ []) pg self.new) }
+        ensures err { OnErr result ((log : List Told) (pg : Id) → IsGroupOf log pg self.old → IsGroupOf log pg self.new) }
+    {
+        let (_, current) = self.intervals.current();
+        let facts = primary_facts(before, current.acting_primary);
+        self.intervals.step(after.epoch(), members, facts)
+    }
+
+    /// Takes the next map, which is of this epoch and by which the group lies as before: its current interval goes on. It
+    /// looks for no placement and takes no memory.
+    pub fn stay(&mut self, epoch: Epoch)
+        requires { IsNext self.old epoch }
+        ensures { (log : List Told) (pg : Id) (inc : Incremental)
+            → IsGroupOf log pg self.old → map_fault (incs_of log) inc ≡ None → inc.epoch ≡ epoch
+            → membership (then_with (incs_of log) inc) pg ≡ membership (incs_of log) pg
+            → IsGroupOf (log ++ entry.Inc inc ∷ []) pg self.new }
+    {
+        self.intervals.stay(epoch);
+    }
+}
