@@ -1,5 +1,5 @@
 -- A judge that has taken a front of the log, and what became of the log.
-use Rattle.std.proofs.Common.{◌≡◌, List, [], ◌∷◌, ◌++◌, length, drop, true, None, Result, Ok, Err, OnOk, OnErr, MatchResult, refl, ap, ap₂, sym, ◌∙◌, subst}
+use Rattle.std.proofs.Common.{◌≡◌, List, [], ◌∷◌, ◌++◌, length, drop, true, None, Result, Ok, Err, OnOk, OnErr, refl, ap, ap₂, sym, ◌∙◌, subst}
 use Rattle.pgp_ids.specs.declared.entry.Entry.{Entry}
 use Rattle.pgp_log.specs.declared.judge.Judge.{Judge}
 use Rattle.pgp_log.specs.Fits.{fits}
@@ -8,8 +8,6 @@ use Rattle.pgp_log.specs.Log.{IsFrontOf, is_legal}
 use Rattle.pgp_feed.specs.declared.receipt.Receipt.{Receipt}
 use Rattle.pgp_feed.specs.Receipts.{entries_of}
 use Rattle.pgp_feed.proofs.Fronts.{front_self}
-use Rattle.pgp_engine.specs.declared.fault.SubmitFault.{SubmitFault}
-use Rattle.pgp_engine.specs.declared.fault.SubmitFault.TheVariants as submit
 use Rattle.pgp_engine.specs.Fronts.{Follows}
 use Rattle.pgp_engine.proofs.FrontLemmas.{front_rest}
 
@@ -31,9 +29,8 @@ took_or_not (Ok x) log new before after is fit ok err = follows_log (log ++ new 
 took_or_not (Err x) log new before after is fit ok err =
     record { taken = log; is_front = record { rest = new ∷ []; whole = refl }; is_judge = err log is }
 
--- what the log is after a publish that succeeded or not
-pub published_or_not : (r : Result Receipt SubmitFault) (old new : Receipt) (log : List Entry) (entry given : Entry) → entries_of old ≡ log → entry ≡ given
-    → MatchResult r (λ told. (told ≡ new) × (entries_of told ≡ entries_of old ++ entry ∷ [])) (λ fault. (fault ≡ submit.Memory) × (new ≡ old))
-    → MatchResult r (λ _. entries_of new ≡ log ++ given ∷ []) (λ _. entries_of new ≡ log)
-published_or_not (Ok told) old new log entry given is same p = ap entries_of (sym p.0) ∙ (p.1 ∙ ap₂ (λ (l : List Entry) (x : Entry). l ++ x ∷ []) is same)
-published_or_not (Err fault) old new log entry given is same p = ap entries_of p.1 ∙ is
+-- what the log is after a publish that succeeded
+pub published : (told old new : Receipt) (log : List Entry) (entry given : Entry) → entries_of old ≡ log → entry ≡ given
+    → (told ≡ new) × (entries_of told ≡ entries_of old ++ entry ∷ []) → entries_of new ≡ log ++ given ∷ []
+published told old new log entry given is same p =
+    ap entries_of (sym p.0) ∙ (p.1 ∙ ap₂ (λ (l : List Entry) (x : Entry). l ++ x ∷ []) is same)

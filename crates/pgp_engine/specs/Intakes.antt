@@ -1,11 +1,12 @@
 -- What an intake keeps, and what a submit is answered.
-use Rattle.std.specs.Prelude.{◌≡◌, ◌≢◌, ◌<◌, List, [], ◌∷◌, ◌++◌, length, Some}
+use Rattle.std.specs.Prelude.{◌≡◌, ◌≢◌, ◌<◌, List, [], ◌∷◌, ◌++◌, length, true, Some}
 use Rattle.logbook.specs.Pages.{Book}
 use Rattle.pgp_refusals.specs.declared.refusal.Refusal.{Refusal}
 use Rattle.pgp_refusals.specs.declared.refusal.Refusal.TheVariants as refusal
 use Rattle.pgp_ids.specs.declared.entry.Entry.{Entry}
 use Rattle.pgp_log.specs.declared.judge.Judge.{Judge}
 use Rattle.pgp_log.specs.Fits.{fits}
+use Rattle.pgp_log.specs.Log.{is_legal}
 use Rattle.pgp_feed.specs.declared.receipt.Receipt.{Receipt}
 use Rattle.pgp_feed.specs.Receipts.{entries_of, feed_of, Holds}
 use Rattle.pgp_engine.specs.declared.fault.SubmitFault.{SubmitFault}
@@ -30,17 +31,20 @@ MayRefuse feed log entry (Refused why at) = IsRefused feed log entry why at
 MayRefuse feed log entry Memory = Unit {0}
 MayRefuse feed log entry NoReader = Unit {0}
 
--- the receipt names a longer front than the caller's, which it holds; its last entry is the one that was submitted
+-- the receipt names a longer front than the caller's, which it holds; its last entry is the one that was submitted, and it is
+-- legal
 pub record IsSubmitted (q : Receipt) (entry : Entry) (r : Receipt) : Type 0 where
   pub holds : Holds r q
   pub longer : length (entries_of q) < length (entries_of r)
   pub before : List Entry
   pub last : entries_of r ≡ before ++ entry ∷ []
+  pub legal : is_legal (entries_of r) ≡ true
 
--- the receipt names a front that holds the caller's, and which the entry doesn't fit for this reason
+-- the receipt names a legal front that holds the caller's, and which the entry doesn't fit for this reason
 pub record IsRefusedAt (q : Receipt) (entry : Entry) (why : Refusal) (at : Receipt) : Type 0 where
   pub holds : Holds at q
   pub refused : fits (entries_of at) entry ≡ Some why
+  pub legal : is_legal (entries_of at) ≡ true
 
 -- why a submit may have failed
 abbrev pub MayFailToSubmit : Receipt → Entry → SubmitFault → Type 0

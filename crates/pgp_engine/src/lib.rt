@@ -15,6 +15,7 @@ mod fault;
 mod intake;
 mod naming;
 mod shard;
+mod submitted;
 
 pub use answer::Answer;
 pub use client::{Client, LocateFault, Place};
@@ -24,3 +25,4 @@ pub use intake::Intake;
 pub use naming::Naming;
 pub use pgp_feed::MakeFault;
 pub use shard::Shard;
+pub use submitted::Submitted;

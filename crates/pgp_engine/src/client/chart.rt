@@ -4,7 +4,7 @@ ghost use Rattle.std.specs.Arc.{arc_value};
 ghost use Rattle.pgp_ids.specs.declared.entry.Entry.{Entry as AnyEntry};
 ghost use Rattle.pgp_map.specs.Pools.{pool};
 ghost use Rattle.pgp_group.specs.Entries.{incs_of};
-ghost use Rattle.pgp_log.specs.Log.{is_legal};
+ghost use Rattle.pgp_log.specs.Log.{epoch_of, is_legal};
 ghost use Rattle.pgp_log.specs.Locate.{place_of_object, place_with};
 ghost use Rattle.pgp_feed.specs.Receipts.{entries_of, feed_of};
 ghost use Rattle.pgp_feed.specs.Taps.{last_of};
@@ -86,14 +86,17 @@ impl Chart {
         ensures kept { IsChartOf (entries_of at) self.new }
         ensures placed { IfOk result (λ place. (place.at ≡ at)
             × (place_of_object (incs_of (entries_of at)) id name.now ≡ Some (place_with place.pg place.members))) }
+        ensures epoch { IfOk result (λ place. place.epoch ≡ epoch_of (entries_of at)) }
         ensures unknown { (front : AnyReceipt) → result ≡ Err (UnknownPool front)
             → (front ≡ at) × (pool (incs_of (entries_of at)) id ≡ None) }
     {
-        match self.sets.locate(self.judge.map(), id, name) {
+        let map = self.judge.map();
+        match self.sets.locate(map, id, name) {
             Some(found) => Ok(Place {
                 pg: found.pg,
                 members: found.members,
                 at,
+                epoch: map.epoch(),
             }),
             None => Err(LocateFault::UnknownPool { at }),
         }

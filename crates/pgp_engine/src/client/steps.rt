@@ -3,7 +3,7 @@ ghost use Rattle.std.specs.Prelude.{◌≡◌, ◌≤◌, [], ◌⊎◌, length,
 ghost use Rattle.std.specs.Ordering.{nat_cmp};
 ghost use Rattle.pgp_map.specs.Pools.{pool};
 ghost use Rattle.pgp_group.specs.Entries.{incs_of};
-ghost use Rattle.pgp_log.specs.Log.{IsFrontOf};
+ghost use Rattle.pgp_log.specs.Log.{epoch_of, IsFrontOf};
 ghost use Rattle.pgp_log.specs.Locate.{place_of_object, place_with};
 ghost use Rattle.pgp_feed.specs.Receipts.{entries_of, feed_of, Holds};
 ghost use Rattle.pgp_feed.specs.Taps.{last_of};
@@ -78,6 +78,7 @@ impl<J: Naming> Client<J> {
         ensures later { Holds self.new self.old }
         ensures placed { IfOk result (λ place. (place.at ≡ self.new)
             × (place_of_object (incs_of (entries_of self.new)) id name.now ≡ Some (place_with place.pg place.members))) }
+        ensures epoch { IfOk result (λ place. place.epoch ≡ epoch_of (entries_of self.new)) }
         ensures unknown { (at : AnyReceipt) → result ≡ Err (UnknownPool at)
             → (at ≡ self.new) × (pool (incs_of (entries_of self.new)) id ≡ None) }
     {

@@ -1,5 +1,6 @@
 //! What any thread asks of an engine.
 ghost use Rattle.std.specs.Prelude.{◌≡◌, ◌<◌, None, IfOk, IfErr, MatchResult};
+ghost use Rattle.pgp_log.specs.Log.{epoch_of};
 ghost use Rattle.pgp_feed.specs.Receipts.{entries_of, feed_of};
 ghost use Rattle.pgp_engine.specs.Asks.{IsAnswer, MayFailToAnswer};
 ghost use Rattle.pgp_engine.specs.Faults.{fault_at};
@@ -10,6 +11,7 @@ use super::locks::{holding, serving};
 use crate::answer::Answer;
 use crate::fault::{AskFault, SubmitFault};
 use crate::naming::Naming;
+use crate::submitted::Submitted;
 use pgp_feed::Receipt;
 use pgp_ids::{Entry, PgId};
 use std::sync::{MutexGuard, Wait};
@@ -21,8 +23,23 @@ impl<J: Naming> Engine<J> {
         requires { feed_of q.now ≡ J.feed }
         ensures { MatchResult result (IsSubmitted q.now entry) (MayFailToSubmit q.now entry) }
     {
+        self.submit_with_epoch(rt, entry, q)
+            .map(|submitted| submitted.at)
+    }
+
+    /// The same, with the epoch of the map that the log makes with the entry.
+    pub fn submit_with_epoch<R: Wait>(
+        &self,
+        rt: &R,
+        entry: Entry,
+        q: &Receipt,
+    ) -> Result<Submitted, SubmitFault>
+        requires { feed_of q.now ≡ J.feed }
+        ensures submitted { MatchResult result (λ submitted. IsSubmitted q.now entry submitted.at) (MayFailToSubmit q.now entry) }
+        ensures epoch { IfOk result (λ submitted. submitted.epoch ≡ epoch_of (entries_of submitted.at)) }
+    {
         let mut turn = holding(rt, &self.intake, q);
-        let submitted = turn.submit(rt, entry);
+        let submitted = turn.submit_with_epoch(rt, entry);
         MutexGuard::unlock(turn);
         submitted
     }

@@ -1,6 +1,6 @@
 //! What an intake does.
-ghost use Rattle.std.specs.Prelude.{◌≡◌, ◌<◌, [], ◌∷◌, ◌++◌, length, MatchBool, MatchResult};
-ghost use Rattle.pgp_log.specs.Log.{IsFrontOf};
+ghost use Rattle.std.specs.Prelude.{◌≡◌, ◌<◌, [], ◌∷◌, ◌++◌, length, IfOk, MatchBool, MatchResult};
+ghost use Rattle.pgp_log.specs.Log.{epoch_of, IsFrontOf};
 ghost use Rattle.pgp_feed.specs.Receipts.{entries_of, feed_of};
 ghost use Rattle.pgp_feed.specs.Feeds.{told_of};
 ghost use Rattle.pgp_feed.specs.Taps.{last_of};
@@ -11,6 +11,7 @@ use super::Intake;
 use super::judging::{catch_up, fits, publish};
 use crate::fault::SubmitFault;
 use crate::naming::Naming;
+use crate::submitted::Submitted;
 use pgp_feed::{Feed, Receipt, Tap};
 use pgp_ids::Entry;
 use pgp_log::Judge;
@@ -59,13 +60,29 @@ impl<J: Naming> Intake<J> {
         ensures log { MatchResult result (λ _. self.new ≡ self.old ++ entry ∷ []) (λ _. self.new ≡ self.old) }
         ensures told { MatchResult result (Names J.feed self.new) (MayRefuse J.feed self.old entry) }
     {
+        self.submit_with_epoch(rt, entry)
+            .map(|submitted| submitted.at)
+    }
+
+    /// The same, with the epoch of the map that the log makes with the entry.
+    pub fn submit_with_epoch<R: Wait>(
+        &mut self,
+        rt: &R,
+        entry: Entry,
+    ) -> Result<Submitted, SubmitFault>
+        ensures log { MatchResult result (λ _. self.new ≡ self.old ++ entry ∷ []) (λ _. self.new ≡ self.old) }
+        ensures told { MatchResult result (λ submitted. Names J.feed self.new submitted.at) (MayRefuse J.feed self.old entry) }
+        ensures epoch { IfOk result (λ submitted. submitted.epoch ≡ epoch_of (entries_of submitted.at)) }
+    {
         let told = self.feed.told();
         catch_up(&mut self.judge, &told, &mut self.tap, &mut self.unread)?;
         fits(&self.judge, &told, &entry)?;
+        let epoch = self.judge.epoch_with(&entry);
         let Ok(entry) = Arc::new(self.alloc, entry) else {
             return Err(SubmitFault::Memory);
         };
-        publish(rt, &mut self.feed, &mut self.judge, entry)
+        let at = publish(rt, &mut self.feed, &mut self.judge, entry)?;
+        Ok(Submitted { at, epoch })
     }
 
     /// Ends the feed. Its taps find no copy from then on.

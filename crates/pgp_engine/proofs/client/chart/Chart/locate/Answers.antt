@@ -8,6 +8,6 @@ locate-requires c =
     let log = entries_of c.args.at in
     let judge_is = c.requires.judge_is in record {
       incs = incs_of log;
-      is = c.map.ensures log judge_is;
+      is = c.map-map.ensures log judge_is;
       checked = legal-checked log judge_is.legal;
     }

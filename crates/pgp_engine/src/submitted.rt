@@ -1,0 +1,10 @@
+//! What a submit is answered.
+use pgp_feed::Receipt;
+use pgp_ids::Epoch;
+
+/// The front that ends with the entry, and the epoch of its map.
+#[derive(Drop)]
+pub struct Submitted {
+    pub at: Receipt,
+    pub epoch: Epoch,
+}
