@@ -6,14 +6,15 @@ use Rattle.pgp_lists.proofs.Lists.{get-append}
 use Rattle.pgp_lists.proofs.Options.{none_is}
 use Rattle.pgp_lists.proofs.Taken.{taken-front, taken-induction, taken-last, taken-more, taken-take}
 use Rattle.pgp_ids.specs.declared.entry.Entry.{Entry}
+use Rattle.pgp_ids.specs.declared.entry.Entry.TheVariants as entry
 use Rattle.pgp_ids.specs.declared.incremental.Incremental.{Incremental}
 use Rattle.pgp_map.proofs.CheckedLemmas.{front-checked, last-checked}
 use Rattle.pgp_map.specs.Checked.{are_checked}
 use Rattle.pgp_group.proofs.GrowthLemmas.{checked-numbered}
 use Rattle.pgp_group.specs.Entries.{incs_of}
 use Rattle.pgp_group.specs.GroupHistory.{AreNumbered}
-use Rattle.pgp_log.specs.Fits.{fits, is_closed}
-use Rattle.pgp_log.specs.Log.{is_accepted, is_taken_at, is_legal, EpochsCount}
+use Rattle.pgp_log.specs.Fits.{fits, is_close, is_closed}
+use Rattle.pgp_log.specs.Log.{is_accepted, is_taken_at, is_legal, EndsWithClose, EpochsCount}
 use Rattle.pgp_log.proofs.TakeLemmas.{checked-push, closed-push, fits-faultless, fits-open_log, room-push}
 
 -- ---- fronts, and one entry more
@@ -77,3 +78,20 @@ legal-short log legal = (legal_short log legal).few
 
 pub open-short : (log : List Entry) → is_legal log ≡ true → is_closed log ≡ false → length log ≤ 65535
 open-short log legal = (legal_short log legal).room
+
+-- ---- its end
+
+closes : (new : Entry) → is_close new ≡ true → new ≡ entry.Close
+closes (entry.Inc inc) is = cc
+closes (entry.Info info) is = cc
+closes (entry.Entries report) is = cc
+closes entry.Close is = refl
+
+end-push : (log : List Entry) (new : Entry) → fits log new ≡ None → is_closed (log ++ new ∷ []) ≡ true → EndsWithClose (log ++ new ∷ [])
+end-push log new fit closed =
+    let is : new ≡ entry.Close = closes new (sym (closed-push log new (fits-open_log log new fit)) ∙ closed) in
+    record { before = log; whole = ap (λ (e : Entry). log ++ e ∷ []) is }
+
+-- a log that was closed ends with the Close
+pub closed-ends : (log : List Entry) → is_legal log ≡ true → is_closed log ≡ true → EndsWithClose log
+closed-ends = legal-induction (λ log. is_closed log ≡ true → EndsWithClose log) (λ closed. cc) (λ log new fit before closed. end-push log new fit closed)

@@ -1,10 +1,11 @@
 -- Logs whose entries have other owners too: each element of a list stands for an entry.
-use Rattle.std.proofs.Common.{◌≡◌, ℕ, ◌+◌, ◌<◌, List, [], ◌∷◌, ◌++◌, Result, Ok, Err, OnErr, None, true, length, map, take, drop, get_or, ap, sym, ◌∙◌, append_assoc}
-use Rattle.std.proofs.lemmas.List.{map-append, map_more, take-append-drop}
+use Rattle.std.proofs.Common.{◌≡◌, ℕ, ◌+◌, ◌<◌, List, [], ◌∷◌, ◌++◌, Result, Ok, Err, OnErr, None, true, length, map, take, drop, get_or, ap, sym, ◌∙◌, arith, append_assoc}
+use Rattle.std.proofs.lemmas.List.{map-append, map_more, take-append-drop, take_all}
 use Rattle.pgp_ids.specs.declared.entry.Entry.{Entry}
-use Rattle.pgp_log.specs.Fits.{fits}
+use Rattle.pgp_log.specs.Fits.{fits, is_close, is_closed}
 use Rattle.pgp_log.specs.Log.{is_legal}
 use Rattle.pgp_log.proofs.LogLemmas.{front-legal, legal-last}
+use Rattle.pgp_log.proofs.TakeLemmas.{closed-push, fits-open_log}
 
 pub map-next : {X : Type 0} (f : X → Entry) (xs : List X) (i : ℕ) (x : X) → i < length xs → x ≡ get_or xs i x
     → map f (take (i + 1) xs) ≡ map f (take i xs) ++ f x ∷ []
@@ -32,6 +33,15 @@ next-of-legal front f xs i x legal within item =
     ap is_legal (append_assoc front (map f (take (i + 1) xs)) (map f (drop (i + 1) xs)) ∙ ap (λ l. front ++ l) parts) ∙ legal in
     legal-last (front ++ map f (take i xs)) (f x)
     (ap is_legal (sym (next-after front f xs i x within item)) ∙ front-legal (front ++ map f (take (i + 1) xs)) (map f (drop (i + 1) xs)) whole)
+
+-- whether a legal log was closed, by its last entry
+pub closed-by-last : {X : Type 0} (f : X → Entry) (xs : List X) (i : ℕ) (x : X) → is_legal (map f xs) ≡ true → length xs ≡ i + 1
+    → x ≡ get_or xs i x → is_closed (map f xs) ≡ is_close (f x)
+closed-by-last f xs i x legal last item =
+    let within : i < length xs = omega (arith, last) in
+    let parts : map f xs ≡ map f (take i xs) ++ f x ∷ [] = ap (map f) (sym (take_all (i + 1) xs (omega (arith, last)))) ∙ map-next f xs i x within item in
+    let fit : fits (map f (take i xs)) (f x) ≡ None = legal-last (map f (take i xs)) (f x) (ap is_legal (sym parts) ∙ legal) in
+    ap is_closed parts ∙ closed-push (map f (take i xs)) (f x) (fits-open_log (map f (take i xs)) (f x) fit)
 
 -- what holds anyway holds where a call fails
 pub on_err : {T E : Type 0} (r : Result T E) (P : Type 0) → P → OnErr r P

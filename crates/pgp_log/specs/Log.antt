@@ -1,7 +1,8 @@
 -- The log of all that monitor and devices told, and its fronts.
-use Rattle.std.specs.Prelude.{map, ◌≡◌, ℕ, ◌<◌, List, length, ◌++◌, Bool, is_none, take}
+use Rattle.std.specs.Prelude.{map, ◌≡◌, ℕ, ◌<◌, List, [], ◌∷◌, length, ◌++◌, Bool, is_none, take}
 use Rattle.std.specs.List.{range_with_len}
 use Rattle.pgp_ids.specs.declared.entry.Entry.{Entry}
+use Rattle.pgp_ids.specs.declared.entry.Entry.TheVariants as entry
 use Rattle.pgp_lists.specs.Taken as taken
 use Rattle.pgp_map.specs.Map.{epoch}
 use Rattle.pgp_group.specs.Entries.{incs_of}
@@ -35,6 +36,11 @@ is_taken_at log n = taken.is_taken_at is_accepted log n
 -- each entry was taken by the front before it
 abbrev pub is_legal : List Entry → Bool
 is_legal log = taken.are_taken is_accepted log
+
+-- the log's last entry is a Close
+pub record EndsWithClose (log : List Entry) : Type 0 where
+  pub before : List Entry
+  pub whole : log ≡ before ++ entry.Close ∷ []
 
 -- the epochs of the log's incrementals are 1, 2, and so on
 abbrev pub EpochsCount : List Entry → Type 0

@@ -18,7 +18,7 @@ ghost use Rattle.pgp_group.specs.Touched.{is_touched, told_at};
 ghost use Rattle.pgp_group.specs.View.{scratch};
 ghost use Rattle.pgp_group.specs.Examples.{at, in_slot, copy, copy_up_to, shard, known_up, maps, on_three, two_shards_down, entries_of_first, modify, before_serving, until_serving};
 ghost use Rattle.pgp_log.specs.Fits.{fits, entry_fault, is_close, is_closed};
-ghost use Rattle.pgp_log.specs.Log.{epoch_of, is_taken_at, is_legal, EpochsCount};
+ghost use Rattle.pgp_log.specs.Log.{epoch_of, is_taken_at, is_legal, EndsWithClose, EpochsCount};
 ghost use Rattle.pgp_log.specs.Shard.{shard_of};
 ghost use Rattle.pgp_log.specs.World.{World, Step, Reply, opening, after, after_all, replies, view_reply};
 ghost use Rattle.pgp_log.specs.WorldRun.{MayRun, IsDone, is_want, taken_of};
@@ -68,6 +68,11 @@ pub fn legal_logs_are_checked_and_short()
     ensures checked { (log : List Entry) → is_legal log ≡ true → are_checked (incs_of log) ≡ true }
     ensures short { (log : List Entry) → is_legal log ≡ true → length log ≤ 65536 }
     ensures room { (log : List Entry) → is_legal log ≡ true → is_closed log ≡ false → length log ≤ 65535 }
+{}
+
+/// A log that was closed ends with its Close.
+pub fn closed_logs_end_with_a_close()
+    ensures { (log : List Entry) → is_legal log ≡ true → is_closed log ≡ true → EndsWithClose log }
 {}
 
 /// An entry that a legal log takes changes the view of a group that it doesn't touch in count and epoch alone. A group that

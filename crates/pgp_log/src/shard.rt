@@ -6,10 +6,11 @@ ghost use Rattle.pgp_refusals.specs.declared.ask_refusal.AskRefusal.TheVariants.
 ghost use Rattle.pgp_map.specs.Pools.{has_group};
 ghost use Rattle.pgp_group.specs.Entries.{incs_of};
 ghost use Rattle.pgp_group.specs.View.{scratch};
-ghost use Rattle.pgp_log.specs.Fits.{fits};
+ghost use Rattle.pgp_log.specs.Fits.{is_closed, fits};
 ghost use Rattle.pgp_log.specs.Log.{HasInc, is_legal};
 ghost use Rattle.pgp_log.specs.Shard.{opening_shard, having_read, having_read_all, HasReadSome, shard_of};
 
+use super::entry::is_close;
 use super::replay::view_of;
 use pgp_ids::{AskRefusal, Entry, PgId, View};
 use std::alloc::{AllocError, Global};
@@ -56,6 +57,16 @@ impl ShardState {
         ensures { result ≡ length self.now.front }
     {
         self.front.len()
+    }
+
+    /// The log that it has read was closed.
+    pub fn is_closed(&self) -> bool
+        ensures { result ≡ is_closed self.now.front }
+    {
+        match self.front.last() {
+            Some(last) => is_close(last),
+            None => false,
+        }
     }
 
     /// Reads the next entry. Without memory for it, the shard has read what it had before.

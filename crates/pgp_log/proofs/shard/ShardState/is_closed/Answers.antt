@@ -1,0 +1,16 @@
+use Rattle.std.proofs.Common.{◌≡◌, ◌-◌, length, map, true, ap, sym, ◌∙◌, arith}
+use Rattle.std.specs.Arc.{arc_value}
+use Rattle.pgp_log.proofs.SharedLemmas.{closed-by-last}
+use Rattle.pgp_log.specs.Fits.{is_close, is_closed}
+use Rattle.pgp_log.specs.Log.{is_legal}
+use Rattle.pgp_log.specs.Shard.{Shard}
+use Rattle.pgp_log.proofs.shard.ShardState.is_closed.Goals as goal
+
+pub returns-in-Some : goal.returns-in-Some
+returns-in-Some c =
+    let entries = c.deref.result.now in
+    let item = c.in-Some.ensures.item in
+    let legal : is_legal (map arc_value entries) ≡ true = ap (λ l. is_legal (map arc_value l)) c.deref.ensures.value ∙ c.self.invariant in
+    c.is_close.ensures ∙ (ap is_close c.deref-in-Some.ensures
+    ∙ (sym (closed-by-last arc_value entries (length entries - 1) c.in-Some.last.now legal (omega (arith, item.3.0)) item.1)
+    ∙ (ap (λ l. is_closed (map arc_value l)) c.deref.ensures.value ∙ ap (λ (s : Shard). is_closed s.front) c.self.view_is)))
