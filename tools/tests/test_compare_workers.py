@@ -1,0 +1,147 @@
+"""Tests of compare_workers.py and repeat_run.py."""
+
+import contextlib
+import io
+import json
+import os
+import pathlib
+import stat
+import subprocess
+import sys
+import tempfile
+import unittest
+
+HERE = pathlib.Path(__file__).resolve().parent
+sys.path.insert(0, str(HERE.parent))
+
+import compare_workers  # noqa: E402
+import repeat_run  # noqa: E402
+from compare_workers import End, difference  # noqa: E402
+
+PROGRAM = os.environ.get("PGPEER", str(compare_workers.PROGRAM))
+HELP = subprocess.run([PROGRAM, "run", "--help"], capture_output=True).stdout if os.access(PROGRAM, os.X_OK) else b""
+HAS_WORKERS = b"--workers" in HELP
+
+# Answers each line by itself, and goes wrong with workers as its name says.
+FAKE = """#!{python}
+import pathlib, sys, time
+name, workers = pathlib.Path(sys.argv[0]).name, int(sys.argv[sys.argv.index("--workers") + 1])
+wrong = workers > 1
+if name == "slow" and wrong:
+    time.sleep(60)
+lines = sys.stdin.buffer.read().splitlines(True)
+if name == "short" and wrong:
+    lines = lines[:-1]
+for place, line in enumerate(lines):
+    sys.stdout.buffer.write(b"other\\n" if name == "other" and wrong and place == 1 else line)
+if name == "loud" and wrong:
+    sys.stderr.write("told\\n")
+sys.exit(3 if name == "fails" and wrong else 0)
+"""
+
+
+def written(tool, words):
+    """The status of a call of a tool, and what it wrote to standard output."""
+    out = io.StringIO()
+    with contextlib.redirect_stdout(out), contextlib.redirect_stderr(io.StringIO()):
+        try:
+            status = tool.main(words)
+        except SystemExit as ended:
+            status = ended.code
+    return status, out.getvalue()
+
+
+class WithFakes(unittest.TestCase):
+    def setUp(self):
+        self.folder = tempfile.TemporaryDirectory()
+        self.addCleanup(self.folder.cleanup)
+
+    def fake(self, name):
+        """A program that goes wrong as its name says."""
+        path = pathlib.Path(self.folder.name) / name
+        path.write_text(FAKE.format(python=sys.executable))
+        path.chmod(path.stat().st_mode | stat.S_IXUSR)
+        return str(path)
+
+    def scripts(self, **texts):
+        """A folder with these scripts."""
+        folder = pathlib.Path(self.folder.name) / "scripts"
+        folder.mkdir()
+        for name, text in texts.items():
+            (folder / name.replace("_", ".")).write_text(text)
+        return folder
+
+
+class Differences(unittest.TestCase):
+    def test_equal_runs_differ_in_nothing(self):
+        self.assertIsNone(difference(End(b"a\n", b"", 0), End(b"a\n", b"", 0)))
+        self.assertIsNone(difference(None, None))
+
+    def test_the_first_answer_that_differs_is_told(self):
+        what = difference(End(b"a\nb\n", b"", 0), End(b"a\nc\n", b"", 0))
+        self.assertEqual(what, "answer 2 is c and not b")
+
+    def test_lengths_statuses_and_runs_without_end_are_told(self):
+        whole = End(b"a\nb\n", b"", 0)
+        self.assertIn("2 bytes were written and not 4", difference(whole, End(b"a\n", b"", 0)))
+        self.assertIn("status 3", difference(whole, End(b"a\nb\n", b"", 3)))
+        self.assertIn("told", difference(whole, End(b"a\nb\n", b"told\n", 0)))
+        self.assertIn("didn't end", difference(whole, None))
+
+
+class CompareWorkers(WithFakes):
+    def test_a_program_that_heeds_no_workers_is_the_same(self):
+        status, out = written(compare_workers, [self.fake("same"), "--folder", str(self.scripts(a_jsonl="x\ny\n"))])
+        self.assertEqual(status, 0)
+        self.assertTrue(out.endswith("scripts, 3 runs of each with workers, 0 wrong\n"))
+
+    def test_each_way_to_differ_is_found(self):
+        folder = self.scripts(a_in="x\ny\n", b_out="left aside", c_answers_jsonl="left aside")
+        for name, told in [("other", "answer 2"), ("short", "bytes"), ("loud", "told"), ("fails", "status 3")]:
+            words = [self.fake(name), "--with", "1x1", "3x2", "--folder", str(folder)]
+            status, out = written(compare_workers, words)
+            self.assertEqual(status, 1)
+            self.assertIn(f"{folder}/a.in with --shards 3 --workers 2: ", out)
+            self.assertNotIn("--shards 1", out)
+            self.assertIn(told, out)
+
+    def test_scripts_are_those_without_answers(self):
+        folder = self.scripts(b_jsonl="", a_in="", b_answers_jsonl="", a_out="")
+        self.assertEqual([file.name for file in compare_workers.scripts_in(folder)], ["a.in", "b.jsonl"])
+
+    @unittest.skipUnless(HAS_WORKERS, f"{PROGRAM} isn't there, or has no workers")
+    def test_the_built_program_writes_the_same_bytes(self):
+        self.assertEqual(written(compare_workers, [PROGRAM])[0], 0)
+
+
+class RepeatRun(WithFakes):
+    def test_its_script_asks_about_two_groups_of_each_shard(self):
+        lines = [json.loads(line) for line in repeat_run.script().splitlines()]
+        asked = {(sum(line["pg"])) % 4 for line in lines if line["op"] == "ask"}
+        self.assertEqual(asked, {0, 1, 2, 3})
+        self.assertEqual(repeat_run.script(), repeat_run.script())
+        self.assertEqual({line["op"] for line in lines}, {"inc", "info", "entries", "ask", "locate", "close"})
+
+    def test_equal_runs_are_counted(self):
+        status, out = written(repeat_run, [self.fake("same"), "--times", "3"])
+        self.assertEqual(status, 0)
+        self.assertIn("3 runs of 304 answers with --shards 4 --workers 4: the same bytes each time", out)
+
+    def test_it_ends_at_the_first_run_that_differs(self):
+        for name in ("other", "short", "fails"):
+            status, out = written(repeat_run, [self.fake(name), "--times", "3"])
+            self.assertEqual(status, 1)
+            self.assertTrue(out.startswith("run 1: "))
+
+    def test_a_run_without_end_is_told(self):
+        status, out = written(repeat_run, [self.fake("slow"), "--seconds", "1"])
+        self.assertEqual(status, 1)
+        self.assertIn("didn't end in time", out)
+
+    @unittest.skipUnless(HAS_WORKERS, f"{PROGRAM} isn't there, or has no workers")
+    def test_the_built_program_writes_the_same_bytes(self):
+        self.assertEqual(written(repeat_run, [PROGRAM, "--times", "10"])[0], 0)
+
+
+if __name__ == "__main__":
+    unittest.main()
