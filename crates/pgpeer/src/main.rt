@@ -12,6 +12,7 @@ use streams::Watched;
 
 mod laws;
 mod options;
+mod run_options;
 mod status;
 mod streams;
 #[cfg(test)]

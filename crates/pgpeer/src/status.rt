@@ -49,7 +49,7 @@ pub fn status_of<R: Source, W: Sink, E: Write>(
         ⊎ (AsksForHelp (map string_bytes words.now) × (reader.new ≡ reader.old) × (W.failed writer.new ≡ true))) }
 {
     match options(alloc, words) {
-        Ok(()) => run(alloc, reader, writer, errors),
+        Ok(_) => run(alloc, reader, writer, errors),
         Err(error) => explain(alloc, &error, writer, errors),
     }
 }

@@ -10,6 +10,10 @@ use std::test::Fail;
 /// A line and its answer.
 const SCRIPT: &[u8] = b"{\"op\":\"close\"}\n";
 
+/// How the text begins that refuses a number.
+const WRONG_COUNT: &[u8] =
+    b"error: --shards takes a number from 1 to 64, and --workers one from 0 to 64\n";
+
 /// Fails at each call.
 #[derive(Drop)]
 struct Broken;
@@ -96,6 +100,12 @@ fn reads_the_command_line(rt: HostRuntime) -> Result<(), Fail> {
         (["pgpeer", "peer"].as_slice(), USAGE, false, false),
         (["pgpeer"].as_slice(), USAGE, false, false),
         (["pgpeer", "run", "now"].as_slice(), USAGE, false, false),
+        (
+            ["pgpeer", "run", "--workers", "0"].as_slice(),
+            DONE,
+            true,
+            true,
+        ),
     ] {
         let (status, out, errors) = run_with(alloc, words, SCRIPT, Vec::new(alloc))?;
         assert_eq!(rt; status, wanted);
@@ -115,6 +125,34 @@ fn tells_faults(rt: HostRuntime) -> Result<(), Fail> {
         let (status, _, errors) = run_with(alloc, &["pgpeer", word], SCRIPT, Broken)?;
         assert_eq!(rt; status, FAULT);
         assert_eq!(rt; errors.as_slice(), b"pgpeer: write fault\n".as_slice());
+    }
+    Ok(())
+}
+
+/// A number out of its bounds, or none where one has to be.
+#[test]
+fn refuses_wrong_counts(rt: HostRuntime) -> Result<(), Fail> {
+    let alloc = rt.alloc();
+    for (option, number) in [
+        ("--shards", "0"),
+        ("--shards", "65"),
+        ("--shards", "many"),
+        ("--workers", "65"),
+        ("--workers", "1.5"),
+        ("--workers", ""),
+    ] {
+        let words = ["pgpeer", "run", option, number];
+        let (status, out, errors) = run_with(alloc, words.as_slice(), SCRIPT, Vec::new(alloc))?;
+        assert_eq!(rt; status, USAGE);
+        assert!(rt; out.is_empty());
+        assert!(rt; errors.starts_with(WRONG_COUNT));
+    }
+    for option in ["--shards", "--workers"] {
+        let words = ["pgpeer", "run", option];
+        let (status, out, errors) = run_with(alloc, words.as_slice(), SCRIPT, Vec::new(alloc))?;
+        assert_eq!(rt; status, USAGE);
+        assert!(rt; out.is_empty());
+        assert!(rt; errors.starts_with(b"error: a value is required for '--"));
     }
     Ok(())
 }
