@@ -6,6 +6,7 @@ use Rattle.std.specs.Prelude.{Result, Ok, Err, OnOk, OnErr, is_some, length, nat
 use Rattle.std.proofs.Common.{◌≡◌, ℕ, List, [], ◌∷◌, ◌++◌, Bool, true, false, ◌||◌, cond, Option, Some, None, IfSome, option_map, refl, sym, ap, ◌∙◌, subst, arith}
 use Rattle.std.proofs.lemmas.Bool.{and_parts, or_parts, eqb-true}
 use Rattle.std.proofs.lemmas.Bool.Decides.{nat_tests}
+use Rattle.std.proofs.lemmas.Option.{same_Some}
 use Rattle.pgp_ids.specs.declared.entry.Entry.{Entry}
 use Rattle.pgp_ids.specs.declared.entry.Entry.TheVariants as entry
 use Rattle.pgp_ids.specs.declared.incremental.Incremental.{Incremental}
@@ -23,9 +24,6 @@ use Rattle.pgp_log.specs.RawSets.{AreRawSets, IsRawSet, moves_any}
 use Rattle.pgp_log.specs.declared.raw_sets.RawSets.{RawSets}
 use Rattle.pgp_log.proofs.TakeLemmas.{faultless-inc, fits-faultless, incs-inc, incs-other}
 
-some_is : {X : Type 0} (x y : X) → Some x ≡ Some y → x ≡ y
-some_is x y same = cc
-
 -- where the filter of the raw set is this membership, it is the group's
 pub filtered : (incs : List Incremental) (pg : PgId) (raw : List (Option ℕ)) (members : Membership) → IsRawSet incs pg raw
     → option_map (λ made. members_from_up incs made pg (without_down incs made raw)) (pool incs pg.pool) ≡ Some members
@@ -36,7 +34,7 @@ filtered incs pg raw members is lies = at (pool incs pg.pool) is lies where
       → option_map (pool_membership incs pg) found ≡ Some members
   at None is lies = cc
   at (Some made) is lies =
-      ap (λ (places : List (Option ℕ)). Some (members_from_up incs made pg (without_down incs made places))) (some_is _ _ is) ∙ lies
+      ap (λ (places : List (Option ℕ)). Some (members_from_up incs made pg (without_down incs made places))) (same_Some _ _ is) ∙ lies
 
 -- the raw set of a group that is there
 pub known-is : (incs : List Incremental) (pg : PgId) (found : Option (List (Option ℕ))) (raw : List (Option ℕ)) → found ≡ Some raw

@@ -1,7 +1,8 @@
 -- Logs whose entries have other owners too: each element of a list stands for an entry.
-use Rattle.std.proofs.Common.{◌≡◌, ℕ, ◌+◌, ◌<◌, List, [], ◌∷◌, ◌++◌, Result, Ok, Err, OnErr, None, true, length, map, take, drop, get_or, ap, sym, ◌∙◌, arith, append_assoc}
+use Rattle.std.proofs.Common.{◌≡◌, ℕ, ◌+◌, ◌<◌, List, [], ◌∷◌, ◌++◌, None, true, length, map, take, drop, get_or, ap, sym, ◌∙◌, arith, append_assoc}
 use Rattle.std.proofs.lemmas.List.{map-append, map_more, take-append-drop, take_all}
 use Rattle.pgp_ids.specs.declared.entry.Entry.{Entry}
+pub use Rattle.pgp_lists.proofs.Results.{on_err}
 use Rattle.pgp_log.specs.Fits.{fits, is_close, is_closed}
 use Rattle.pgp_log.specs.Log.{is_legal}
 use Rattle.pgp_log.proofs.LogLemmas.{front-legal, legal-last}
@@ -42,8 +43,3 @@ closed-by-last f xs i x legal last item =
     let parts : map f xs ≡ map f (take i xs) ++ f x ∷ [] = ap (map f) (sym (take_all (i + 1) xs (omega (arith, last)))) ∙ map-next f xs i x within item in
     let fit : fits (map f (take i xs)) (f x) ≡ None = legal-last (map f (take i xs)) (f x) (ap is_legal (sym parts) ∙ legal) in
     ap is_closed parts ∙ closed-push (map f (take i xs)) (f x) (fits-open_log (map f (take i xs)) (f x) fit)
-
--- what holds anyway holds where a call fails
-pub on_err : {T E : Type 0} (r : Result T E) (P : Type 0) → P → OnErr r P
-on_err (Ok x) P here = tt
-on_err (Err e) P here = here

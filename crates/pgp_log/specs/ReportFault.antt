@@ -45,8 +45,8 @@ is_bad_version stamp version = is_half version || nat_lt stamp version.epoch
 
 -- the two versions can't be the ends of one log: the tail is above the last update, or the tail's number is, or the numbers
 -- are equal and the versions aren't
-abbrev pub are_no_ends : Version → Version → Bool
-are_no_ends tail last =
+abbrev pub are_bad_ends : Version → Version → Bool
+are_bad_ends tail last =
     is_older last tail || nat_lt last.v tail.v || nat_eq tail.v last.v && not (is_same_version tail last)
 
 -- a version of the info is bad, or an epoch is above the stamp, or its versions can't be the ends of one log
@@ -56,7 +56,7 @@ has_bad_info info =
     || is_bad_version info.stamp info.log_tail
     || nat_lt info.stamp info.les
     || nat_lt info.stamp info.history_les
-    || are_no_ends info.log_tail info.last_update
+    || are_bad_ends info.log_tail info.last_update
 
 -- both parts of the version are 0
 abbrev pub is_zero : Version → Bool

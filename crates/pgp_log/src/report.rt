@@ -4,7 +4,7 @@ ghost use Rattle.std.specs.List.{list_any};
 ghost use Rattle.pgp_ids.specs.declared.incremental.Incremental.{Incremental as AnyIncremental};
 ghost use Rattle.pgp_map.specs.MapOf.{IsMapOf};
 ghost use Rattle.pgp_map.specs.Pools.{has_group};
-ghost use Rattle.pgp_log.specs.ReportFault.{is_slot_of, has_unknown_member, is_half, is_bad_version, are_no_ends, is_zero, has_bad_info, has_bad_entries, report_fault, info_fault, entries_fault};
+ghost use Rattle.pgp_log.specs.ReportFault.{is_slot_of, has_unknown_member, is_half, is_bad_version, are_bad_ends, is_zero, has_bad_info, has_bad_entries, report_fault, info_fault, entries_fault};
 
 use pgp_ids::{Epoch, Info, LogEntry, Member, PgId, PoolKind, PoolSpec, Refusal, Report, Version};
 use pgp_map::OsdMap;
@@ -87,7 +87,7 @@ fn has_bad_info(info: &Info) -> bool
         || is_bad_version(info.stamp, info.log_tail)
         || info.stamp < info.les
         || info.stamp < info.history_les
-        || are_no_ends(info.log_tail, info.last_update)
+        || are_bad_ends(info.log_tail, info.last_update)
 }
 
 fn has_bad_entries(stamp: Epoch, log: &[LogEntry]) -> bool
@@ -117,8 +117,8 @@ fn is_zero(version: Version) -> bool
 }
 
 /// The two versions can't be the ends of one log.
-fn are_no_ends(tail: Version, last: Version) -> bool
-    ensures { result ≡ are_no_ends tail last }
+fn are_bad_ends(tail: Version, last: Version) -> bool
+    ensures { result ≡ are_bad_ends tail last }
 {
     last.is_older_than(tail) || last.v < tail.v || (tail.v == last.v && tail != last)
 }
