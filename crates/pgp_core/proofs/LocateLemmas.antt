@@ -1,5 +1,6 @@
 -- The reply to the question where an object lies, by the map of a log.
 use Rattle.std.proofs.Common.{◌≡◌, ℕ, List, Option, Some, None, option_map, option_and_then, refl, sym, ap, ap₂, ◌∙◌}
+use Rattle.std.proofs.lemmas.Option.{same_Some}
 use Rattle.pgp_refusals.specs.declared.locate_refusal.LocateRefusal.TheVariants.{UnknownPool}
 use Rattle.pgp_ids.specs.declared.entry.Entry.{Entry}
 use Rattle.pgp_ids.specs.declared.pg_id.PgId.{PgId}
@@ -13,9 +14,6 @@ use Rattle.pgp_log.specs.Locate.{group_in_pool, place_with, place_of_object}
 use Rattle.pgp_log.specs.Log.{epoch_of}
 use Rattle.pgp_log.specs.declared.place.Place.{Place}
 use Rattle.pgp_core.specs.Answer.{located_reply}
-
-some_is : {X : Type 0} (x y : X) → Some x ≡ Some y → x ≡ y
-some_is x y same = cc
 
 -- the place of the object in this pool
 place_in : (log : List Entry) (id : ℕ) (name : List ℕ) (made : PoolSpec) → pool (incs_of log) id ≡ Some made
@@ -35,7 +33,7 @@ located-there log id name place now lies epoch = go (pool (incs_of log) id) refl
       let nowhere : place_of_object (incs_of log) id name ≡ None =
       ap (λ (found : Option PoolSpec). option_and_then (λ (pg : PgId). option_map (place_with pg) (membership (incs_of log) pg)) (option_map (group_in_pool id name) found)) none in
       cc
-  go (Some made) there = ap₂ (λ (p : Place) (e : ℕ). Located p.pg p.members e) (some_is _ _ (sym lies ∙ place_in log id name made there)) epoch
+  go (Some made) there = ap₂ (λ (p : Place) (e : ℕ). Located p.pg p.members e) (same_Some _ _ (sym lies ∙ place_in log id name made there)) epoch
 
 -- the reply, where it lies nowhere
 pub located-nowhere : (log : List Entry) (id : ℕ) (name : List ℕ) → place_of_object (incs_of log) id name ≡ None

@@ -1,5 +1,5 @@
 -- What has gone out after one write more, and after two texts.
-use Rattle.std.proofs.Common.{◌≡◌, ℕ, List, [], ◌++◌, Option, Some, None, refl, sym, ap, ◌∙◌, append_assoc, append-nil, take, drop, take-append-drop, subst, Result, Ok, Err, OnErr}
+use Rattle.std.proofs.Common.{◌≡◌, ℕ, List, [], ◌++◌, Option, Some, None, refl, sym, ap, ◌∙◌, append_assoc, append-nil, take, drop, take-append-drop, subst}
 use Rattle.std.specs.Io.KnownBytes.{Appends}
 use Rattle.pgp_core.specs.Output.{Went, FrontWent}
 use Rattle.pgp_core.specs.Telling.{WentBy}
@@ -90,7 +90,3 @@ pub WentBy-pending : (fault : AnswerFault) (a b c : Option (List ℕ)) (text pen
 WentBy-pending Read a b c text pending before rest = Went-flushed a b c text pending before rest
 WentBy-pending Write a b c text pending before front = FrontWent-pending a b c text pending before front
 WentBy-pending Gone a b c text pending before rest = Went-flushed a b c text pending before rest
-
-pub on_err : {T E : Type 0} {P : Type 0} (r : Result T E) → P → OnErr r P
-on_err (Ok x) p = tt
-on_err (Err e) p = p

@@ -7,6 +7,7 @@ ghost use Rattle.pgp_core.specs.ToldHistory.{told_history};
 use pgp_code::AnyCode;
 use pgp_ids::{Epoch, EpochState};
 use pgp_interval::Intervals;
+use pgp_lines::MAX_EPOCHS;
 use std::alloc::{AllocError, Global};
 use std::vec::IntoIter;
 
@@ -18,7 +19,7 @@ pub fn history(
     opening: EpochState,
     others: IntoIter<EpochState>,
 ) -> Result<Intervals<AnyCode>, AllocError>
-    requires { length (into_iter_items others) < 4096 }
+    requires { length (into_iter_items others) < MAX_EPOCHS }
     ensures { IfOk result (IsIntervalsOf enough_of is_by_place (told_history code opening (into_iter_items others))) }
 {
     let mut history = Intervals::begin(alloc, code, Epoch::new(1), opening.members);

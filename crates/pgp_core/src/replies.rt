@@ -10,6 +10,7 @@ use super::history::history;
 use super::log::Log;
 use pgp_code::AnyCode;
 use pgp_ids::{AskRefusal, Entry, Epoch, EpochState, PgId, PoolKind, Refusal, Seq, View};
+use pgp_lines::MAX_EPOCHS;
 use pgp_text::{Command, EntryOp, Refused, Reply};
 use std::alloc::{AllocError, Global};
 
@@ -80,7 +81,7 @@ pub fn asked(pg: PgId, view: Option<View>) -> Reply
 
 /// The reply to a trace of a group whose pool is of this kind: its intervals in these epochs.
 pub fn traced(alloc: Global, kind: PoolKind, epochs: Seq<EpochState>) -> Result<Reply, AllocError>
-    requires { length epochs ≤ 4096 }
+    requires { length epochs ≤ MAX_EPOCHS }
     ensures { IfOk result (λ reply. reply ≡ traced_reply kind epochs) }
 {
     let mut states = epochs.into_vec().into_iter();

@@ -1,10 +1,9 @@
 -- Fronts of one log.
-use Rattle.std.proofs.Common.{◌≡◌, ℕ, ◌≤◌, List, [], ◌++◌, length, take, drop, true, ap, sym, ◌∙◌, subst, arith, append_assoc, length-append}
+use Rattle.std.proofs.Common.{◌≡◌, ℕ, ◌≤◌, List, [], ◌++◌, length, take, drop, ap, sym, ◌∙◌, arith, append_assoc, length-append}
 use Rattle.std.proofs.lemmas.List.{take-append-le, take-append-drop, length-take-le, append-nil}
 use mathlib.Core.List.{IsPrefix}
 use Rattle.pgp_ids.specs.declared.entry.Entry.{Entry}
-use Rattle.pgp_log.specs.Log.{IsFrontOf, is_legal}
-use Rattle.pgp_log.proofs.LogLemmas.{front-legal}
+use Rattle.pgp_log.specs.Log.{IsFrontOf}
 
 pub front_self : (log : List Entry) → IsFrontOf log log
 front_self log = record { rest = []; whole = sym (append-nil log) }
@@ -31,7 +30,3 @@ shorter_front n m a b both p q na mb le =
     let less : n ≤ m = omega (arith, length-take-le n a na, length-take-le m b mb, le) in
     let within : m ≤ length both = omega (arith, sym (ap length q.1) ∙ length-append b q.0) in
     rw (take_prefix n a both p na, take_prefix m b both q mb) (takes_front n m both less within)
-
--- the first entries of a legal log are legal
-pub take_legal : (n : ℕ) (log : List Entry) → is_legal log ≡ true → is_legal (take n log) ≡ true
-take_legal n log legal = front-legal (take n log) (drop n log) (subst (λ (l : List Entry). is_legal l ≡ true) (sym (take-append-drop n log)) legal)

@@ -1,5 +1,6 @@
 -- The rule over the two copies is kept by each step.
 use Rattle.std.proofs.Common.{◌≡◌, ℕ, zero, suc, ◌≢◌, List, [], ◌∷◌, Option, Some, None, option_map, set, refl, ap, sym, ◌∙◌, subst, ⊎_elim}
+use Rattle.std.proofs.lemmas.Option.{same_Some}
 use mathlib.Core.Option.{some}
 use lib.ListN.{get_elem?}
 use Rattle.logbook.specs.Pages.{Book}
@@ -17,9 +18,6 @@ holds_self r = record { feed = refl; front = front_self (entries_of r) }
 pub holds_trans : (p q r : Receipt) → Holds p q → Holds q r → Holds p r
 holds_trans p q r a b = record { feed = b.feed ∙ a.feed; front = front_trans (entries_of r) (entries_of q) (entries_of p) b.front a.front }
 
-some_is : (r q : Receipt) → Some r ≡ Some q → r ≡ q
-some_is r q e = cc e
-
 pub admits : Admits IsOneLog None
 admits x views h = record {
   told = h.told;
@@ -33,7 +31,7 @@ turns seat v x y told step views h at = (
   record {
     told = told h.told;
     fronts = λ j r e. ⊎_elim
-        (λ (t : (j ≡ seat) × (Some y.told ≡ Some r)). subst (Holds y.told) (some_is y.told r t.1) (holds_self y.told))
+        (λ (t : (j ≡ seat) × (Some y.told ≡ Some r)). subst (Holds y.told) (same_Some y.told r t.1) (holds_self y.told))
         (λ (t : (j ≢ seat) × (get_elem? views j ≡ some (Some r))). holds_trans y.told x.told r (step h.told) (h.fronts j r t.1))
         (at_set views seat j (Some y.told) (Some r) e);
   },

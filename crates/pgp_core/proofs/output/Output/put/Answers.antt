@@ -1,10 +1,11 @@
 use Rattle.std.proofs.lemmas.Result.{on_err_weaker, on_ok_weaker}
-use Rattle.pgp_core.proofs.OutputLemmas.{Went-direct, FrontWent-longer, FrontWent-after, on_err}
+use Rattle.pgp_core.proofs.OutputLemmas.{Went-direct, FrontWent-longer, FrontWent-after}
+use Rattle.pgp_lists.proofs.Results.{on_err}
 use Rattle.pgp_core.proofs.output.Output.put.Goals as goal
 
 pub returns-in_err-flush-in-Err-clause-err : goal.returns-in_err-flush-in-Err-clause-err
 returns-in_err-flush-in-Err-clause-err g c =
-    on_err _ (FrontWent-longer _ _ _ _ (rw c.in-Err.ensures.items at c.in_err-flush-in-Err.ensures.err))
+    on_err _ _ (FrontWent-longer _ _ _ _ (rw c.in-Err.ensures.items at c.in_err-flush-in-Err.ensures.err))
 
 pub returns-in_ok-flush-in-Err-clause-err : goal.returns-in_ok-flush-in-Err-clause-err
 returns-in_ok-flush-in-Err-clause-err g c =

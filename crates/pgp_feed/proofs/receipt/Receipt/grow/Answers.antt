@@ -1,9 +1,9 @@
 use Rattle.std.proofs.Common.{◌≡◌, List, length, take, None, sym, ◌∙◌, ap, subst, arith}
 use Rattle.pgp_ids.specs.declared.entry.Entry.{Entry}
 use Rattle.pgp_log.specs.Fits.{fits}
-use Rattle.pgp_feed.proofs.Lengths.{legal-short, legal-room}
+use Rattle.pgp_feed.proofs.Lengths.{legal-room}
 use Rattle.pgp_feed.proofs.Adding.{adds_moves, take-whole}
-use Rattle.pgp_feed.proofs.Fronts.{take_legal}
+use Rattle.pgp_log.proofs.LogLemmas.{legal-short, legal-take}
 use Rattle.pgp_feed.proofs.receipt.Receipt.grow.Goals as goal
 
 pub overflow_add-len : goal.overflow_add-len
@@ -30,4 +30,4 @@ compare_exchange-found-requires c =
 
 pub returns-clause-room : goal.returns-clause-room
 returns-clause-room c =
-    let r = c.args.self.now in legal-room (take r.len r.seen.log) c.args.entry.now (take_legal r.len r.seen.log r.legal) c.requires.fit
+    let r = c.args.self.now in legal-room (take r.len r.seen.log) c.args.entry.now (legal-take r.len r.seen.log r.legal) c.requires.fit
