@@ -135,7 +135,13 @@ def by_turns(program: str) -> bool:
 def words(program: str) -> bool:
     """The command line, by the statuses of docs/FORMAT.md."""
     wrong: List[Tuple[Any, ...]] = [("--nothing",), ("run", "x"), ("walk",), ("run", "--nothing"), (b"\xff",), ("run", b"\xff")]
+    wrong += [("run", "--shards", it) for it in ("0", "65", "-1", "1.0", "many", "", "256", "99999999999999999999")]
+    wrong += [("run", "--workers", it) for it in ("65", "-1", "0x1", " 1", "320")]
+    wrong += [("run", "--shards"), ("run", "--workers"), ("--workers", "1", "run"), ("run", "--workers", "1", "--workers", "1")]
     if any(ended(program, b"", *it).status != 2 or ended(program, b"", *it).out for it in wrong):
+        return False
+    right = [("--shards", "64", "--workers", "0"), ("--shards=1", "--workers=64"), ("--workers", "+1", "--shards", "064")]
+    if any(ended(program, CLOSE, "run", *it) != End(CLOSED, b"", 0) for it in right):
         return False
     shown = [ended(program, b"", *it) for it in (("--version",), ("--help",), ("run", "--help"))]
     return shown[0] == End(b"pgpeer 0.1.0\n", b"", 0) and all(it.status == 0 and it.out and not it.errors for it in shown)

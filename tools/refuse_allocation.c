@@ -1,6 +1,7 @@
 // Refuses one call of the C library's allocator, for the program into which it is loaded by LD_PRELOAD.
 //
-// REFUSE=N refuses the Nth call, counted from 1. COUNT_TO=FILE writes the number of calls to that file at the end.
+// REFUSE=N refuses the Nth call of all threads, counted from 1. COUNT_TO=FILE writes the number of calls to that file at the
+// end.
 #define _GNU_SOURCE
 #include <dlfcn.h>
 #include <errno.h>
@@ -35,7 +36,7 @@ __attribute__((destructor)) static void end(void) {
 }
 
 static int is_refused(void) {
-    if (++calls != refused) return 0;
+    if (__atomic_add_fetch(&calls, 1, __ATOMIC_SEQ_CST) != refused) return 0;
     errno = ENOMEM;
     return 1;
 }
