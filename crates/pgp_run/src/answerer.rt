@@ -1,0 +1,138 @@
+//! The replies of an engine to commands.
+ghost use Rattle.std.specs.Prelude.{◌≡◌, [], false, IfOk, OnErr};
+ghost use Rattle.pgp_lines.specs.declared.command.Command.TheVariants.{Submit, Locate};
+ghost use Rattle.pgp_group.specs.View.{scratch};
+ghost use Rattle.pgp_log.specs.Log.{IsFrontOf};
+ghost use Rattle.pgp_core.specs.Answerer.{Replies};
+
+use pgp_core::{Answerer, NoReply, asked, traced};
+use pgp_engine::{
+    Answer, AskFault, Client, Engine, LocateFault, Naming, Place, SubmitFault, Submitted,
+};
+use pgp_feed::Receipt;
+use pgp_ids::{Entry, LocateRefusal, ObjectName, PgId, PoolId, View};
+use pgp_text::{Command, EntryOp, Refused, Reply};
+use std::alloc::Global;
+use std::marker::Model;
+use std::sync::Wait;
+
+/// It answers by an engine, as one of those who submit and ask. Each call hands in the receipt of the last front that it was
+/// told of, and is answered by one that holds that front. Contracts see it as the entries of that front.
+#[derive(Drop)]
+pub struct EngineAnswerer<'a, J: Naming, T> {
+    rt: &'a T,
+    engine: &'a Engine<J>,
+    client: Client<J>,
+    at: Receipt,
+}
+
+impl<'a, J: Naming, T> Model for EngineAnswerer<'a, J, T> {
+    ghost use Rattle.std.specs.Prelude.{◌≡◌, List};
+    ghost use Rattle.pgp_ids.specs.declared.entry.Entry.{Entry};
+    ghost use Rattle.pgp_feed.specs.Receipts.{entries_of, feed_of};
+
+    ghost Value = { List Entry };
+
+    ghost view = { λ a. entries_of a.at };
+
+    ghost invariant = { λ a. feed_of a.at ≡ J.feed };
+}
+
+impl<'a, J: Naming, T: Wait> EngineAnswerer<'a, J, T> {
+    /// It was told of nothing yet.
+    pub fn new(rt: &'a T, engine: &'a Engine<J>, client: Client<J>) -> Self
+        ensures { result ≡ [] }
+    {
+        let mut client = client;
+        let at = client.newest().front(0);
+        EngineAnswerer {
+            rt,
+            engine,
+            client,
+            at,
+        }
+    }
+
+    /// The reply to an entry. `Gone`: no copy of the log was lent to judge it by.
+    fn submit(&mut self, entry: Entry) -> Result<Reply, NoReply>
+        ensures reply { IfOk result (λ reply. Replies false self.old self.new (Submit entry) reply) }
+        ensures kept { OnErr result (IsFrontOf self.old self.new) }
+    {
+        let op = EntryOp::of(&entry);
+        match self.engine.submit_with_epoch(self.rt, entry, &self.at) {
+            Ok(Submitted { at, epoch }) => {
+                let count = at.len();
+                self.at = at;
+                Ok(Reply::Accepted { op, count, epoch })
+            }
+            Err(SubmitFault::Refused { why, at }) => {
+                self.at = at;
+                Ok(Reply::Refused(Refused::Entry(why)))
+            }
+            Err(SubmitFault::Memory) => Err(NoReply::Memory),
+            Err(SubmitFault::NoReader) => Err(NoReply::Gone),
+        }
+    }
+
+    /// All that a front which the engine answers by says of a group, where its map has it. `Gone`: no copy of the log was lent
+    /// to the group's shard.
+    fn ask(&mut self, pg: PgId) -> Result<Option<View>, NoReply>
+        ensures view { IfOk result (λ view. view ≡ scratch self.new pg) }
+        ensures later { IsFrontOf self.old self.new }
+    {
+        match self.engine.ask(self.rt, pg, &self.at) {
+            Ok(Answer { view, at }) => {
+                self.at = at;
+                Ok(Some(view))
+            }
+            Err(AskFault::UnknownGroup { at }) => {
+                self.at = at;
+                Ok(None)
+            }
+            Err(AskFault::Memory) => Err(NoReply::Memory),
+            Err(AskFault::NoReader) => Err(NoReply::Gone),
+        }
+    }
+
+    /// The reply to the question where an object lies. `Gone`: no copy of the log was lent to the client.
+    fn locate(&mut self, pool: PoolId, name: &ObjectName) -> Result<Reply, NoReply>
+        ensures reply { IfOk result (λ reply. Replies false self.old self.new (Locate pool name.now) reply) }
+        ensures kept { OnErr result (IsFrontOf self.old self.new) }
+    {
+        self.client.learn(&self.at);
+        match self.client.locate(pool, name) {
+            Ok(
+                Place {
+                    pg,
+                    members,
+                    at,
+                    epoch,
+                },
+            ) => {
+                self.at = at;
+                Ok(Reply::Located { pg, members, epoch })
+            }
+            Err(LocateFault::UnknownPool { at }) => {
+                self.at = at;
+                Ok(Reply::Refused(Refused::Locate(LocateRefusal::UnknownPool)))
+            }
+            Err(LocateFault::Memory) => Err(NoReply::Memory),
+            Err(LocateFault::NoReader) => Err(NoReply::Gone),
+        }
+    }
+}
+
+impl<'a, J: Naming, T: Wait> Answerer for EngineAnswerer<'a, J, T> {
+    ghost alone = { false };
+
+    ghost log = { λ answerer. answerer };
+
+    fn reply(&mut self, alloc: Global, command: Command) -> Result<Reply, NoReply> {
+        match command {
+            Command::Submit(entry) => self.submit(entry),
+            Command::Ask(pg) => Ok(asked(pg, self.ask(pg)?)),
+            Command::Locate { pool, name } => self.locate(pool, &name),
+            Command::Trace { code, epochs } => Ok(traced(alloc, code, epochs)?),
+        }
+    }
+}
