@@ -1,0 +1,16 @@
+//! Tests of runs over an engine, of what their contract leaves open: that the answers are those of one thread, whatever the
+//! size of the engine, also where a read or a write fails, and where one allocation is refused.
+#![tactic(auto)]
+
+#[cfg(test)]
+mod faults;
+#[cfg(test)]
+mod memory;
+#[cfg(test)]
+mod runs;
+#[cfg(test)]
+mod same;
+#[cfg(test)]
+mod script;
+#[cfg(test)]
+mod streams;
