@@ -18,6 +18,9 @@ Writes into FOLDER (by default bench/out) these files, which are the same at eve
                   question about each group
   churn.jsonl     400 incrementals as those of incs.jsonl, with a question about a group after each
   asks.jsonl      an outage of one group in seven entries, and then 20,000 questions about it with nothing between
+  ask_heavy.jsonl     an outage in a pool of eight groups, and then 8,000 questions about them by turns, with an info
+                      after each hundred
+  submit_heavy.jsonl  the same pool, and then 30,000 infos, with a question after each thousand
   empty.jsonl     nothing, for what a start takes
 
 and beside each NAME.jsonl a NAME.tenth.jsonl with the first tenth of its lines.
@@ -179,6 +182,37 @@ def asks(_rng, count):
         yield compact({"op": "ask", "pg": [1, 0]})
 
 
+def eight_groups():
+    """Gives a map of six devices and a pool of eight groups, whose lists are all by pg_temp."""
+    devices = list(range(6))
+    temps = [[1, pg, [(pg + place) % 6 for place in range(3)]] for pg in range(8)]
+    root = {"id": -1, "type": HOST, "alg": "uniform", "items": devices}
+    first = {"op": "inc", "epoch": 1, "up": devices, "weight": [[osd, 0] for osd in devices], "temp": temps}
+    return compact({**first, "pools": [{**copies(1, 8), "leaf": DEVICE}], "crush": [root]})
+
+
+def ask_heavy(rng, count):
+    """Gives an outage in a pool of eight groups, what their members report, and then questions with few entries between."""
+    yield eight_groups()
+    yield compact({"op": "inc", "epoch": 2, "down": [0], "up_thru": [[osd, 2] for osd in range(1, 6)]})
+    for pg in range(8):
+        yield from reports(rng, pg, [(pg + place) % 6 for place in range(3) if (pg + place) % 6 != 0])
+    for number in range(count):
+        yield compact({"op": "ask", "pg": [1, number % 8]})
+        if number % 100 == 99:
+            yield compact(info(number % 8, 1 + number % 5, [1, 1 + rng.randrange(16)]))
+
+
+def submit_heavy(rng, count):
+    """Gives a map of eight groups, and then infos with few questions between."""
+    yield eight_groups()
+    yield compact({"op": "inc", "epoch": 2})
+    for number in range(count):
+        yield compact(info(number % 8, number // 8 % 6, [1, 1 + rng.randrange(16)]))
+        if number % 1000 == 999:
+            yield compact({"op": "ask", "pg": [1, number % 8]})
+
+
 def traces(rng, count):
     """Gives traces, by turns of a replicated and of an erasure pool."""
     for number in range(count):
@@ -233,6 +267,8 @@ INPUTS = {
     "churn": (churn, 800),
     "asks": (asks, 20_000),
     "traces": (traces, 500),
+    "ask_heavy": (ask_heavy, 8_000),
+    "submit_heavy": (submit_heavy, 30_000),
     "empty": (empty, 0),
 }
 
