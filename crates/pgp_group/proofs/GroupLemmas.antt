@@ -29,8 +29,11 @@ use Rattle.pgp_group.specs.GroupLog.{GroupLog, group_in, group_with, infos, repo
 use Rattle.pgp_group.specs.GroupOf.{IsGroupOf, IsSilent}
 use Rattle.pgp_group.specs.Peering.{past}
 use Rattle.pgp_group.specs.Touched.{was_member, names}
+use Rattle.pgp_group.specs.KeptInfos.{KeepsInfos, IsToldBy}
 use Rattle.pgp_group.specs.declared.group.Group.{Group}
-use Rattle.pgp_group.proofs.GrowthLemmas.{history-begins, history-grows, numbered-more}
+use Rattle.pgp_group.specs.declared.infos.Infos.{Infos}
+use Rattle.pgp_group.proofs.GrowthLemmas.{history-begins, history-grows, next_epoch, numbered-more}
+use Rattle.pgp_group.proofs.InfosLemmas.{KeepsInfos-same, KeepsInfos-inc, moves}
 use Rattle.pgp_group.proofs.Lists.{nothing_new, one_new, kept_new, left_new}
 
 -- ---- an entry that brings no map
@@ -38,7 +41,7 @@ use Rattle.pgp_group.proofs.Lists.{nothing_new, one_new, kept_new, left_new}
 -- what a group has, after an entry that brings no map
 pub IsGroupOf-other : (log : List Entry) (new : Entry) (pg : PgId) (old group : Group) (is : IsGroupOf log pg old) → inc_of new ≡ None
     → group.pg ≡ old.pg → group.intervals ≡ old.intervals
-    → group.infos.items ≡ filter (λ (info : Info). is_same_group info.pg pg) (infos_of (log ++ new ∷ []))
+    → KeepsInfos (group_with (log ++ new ∷ []) pg is.history) group.infos
     → group.reports.items ≡ filter (λ (report : Report). is_same_group report.pg pg) (reports_of (log ++ new ∷ []))
     → IsGroupOf (log ++ new ∷ []) pg group
 IsGroupOf-other log new pg old group is none pg_is intervals infos' reports' =
@@ -82,11 +85,27 @@ pub reports-same : (log : List Entry) (new : Entry) (pg : PgId) → report_of ne
     → filter (λ (r : Report). is_same_group r.pg pg) (reports_of (log ++ new ∷ [])) ≡ filter (λ (r : Report). is_same_group r.pg pg) (reports_of log)
 reports-same log new pg none = ap (filter (λ (r : Report). is_same_group r.pg pg)) (nothing_new report_of log new none)
 
+-- the infos of a group, after an entry that brings neither a map nor an info of the group
+pub infos-kept : (log : List Entry) (new : Entry) (pg : PgId) (h : History AnyCode) (kept : Infos) → inc_of new ≡ None
+    → filter (λ (info : Info). is_same_group info.pg pg) (infos_of (log ++ new ∷ [])) ≡ filter (λ (info : Info). is_same_group info.pg pg) (infos_of log)
+    → KeepsInfos (group_with log pg h) kept → KeepsInfos (group_with (log ++ new ∷ []) pg h) kept
+infos-kept log new pg h kept none told is =
+    KeepsInfos-same (group_with log pg h) (group_with (log ++ new ∷ []) pg h) kept told (nothing_new inc_of log new none) refl is
+
+-- an info of the group
+pub infos-told : (log : List Entry) (info : Info) (pg : PgId) (h : History AnyCode) → is_same_group info.pg pg ≡ true
+    → IsToldBy (group_with log pg h) info (group_with (log ++ entry.Info info ∷ []) pg h)
+infos-told log info pg h same = record {
+  infos_are = infos-new log info pg same;
+  incs_are = nothing_new inc_of log (entry.Info info) refl;
+  history_is = refl;
+}
+
 -- ---- an incremental
 
 pub IsGroupOf-inc : (log : List Entry) (inc : Incremental) (pg : PgId) (old group : Group) (members : Membership) (is : IsGroupOf log pg old) → map_fault (incs_of log) inc ≡ None
     → membership (then_with (incs_of log) inc) pg ≡ Some members
-    → group.pg ≡ old.pg → group.infos.items ≡ old.infos.items → group.reports.items ≡ old.reports.items
+    → group.pg ≡ old.pg → group.infos ≡ old.infos → group.reports.items ≡ old.reports.items
     → IsIntervalsOf enough_of is_by_place (stepped is.history members (primary_facts (incs_of log) is.history.current.acting_primary)) group.intervals
     → IsGroupOf (log ++ entry.Inc inc ∷ []) pg group
 IsGroupOf-inc log inc pg old group members is fine lies pg_is infos' reports' intervals =
@@ -101,7 +120,11 @@ IsGroupOf-inc log inc pg old group members is fine lies pg_is infos' reports' in
       keeps = record {
         pg_is = pg_is ∙ is.keeps.pg_is;
         intervals_are = intervals;
-        infos_are = infos' ∙ is.keeps.infos_are ∙ sym (infos-same log (entry.Inc inc) pg refl);
+        infos_are = subst (KeepsInfos (group_with (log ++ entry.Inc inc ∷ []) pg after)) (sym infos')
+            (KeepsInfos-inc (group_with log pg is.history) (group_with (log ++ entry.Inc inc ∷ []) pg after) inc old.infos
+            (infos-same log (entry.Inc inc) pg refl) incs (next_epoch (incs_of log) inc fine)
+            (moves (incs_of log) pg is.history members (primary_facts (incs_of log) is.history.current.acting_primary) is.numbered is.history_is)
+            is.keeps.infos_are);
         reports_are = reports' ∙ is.keeps.reports_are ∙ sym (reports-same log (entry.Inc inc) pg refl);
       };
     }
@@ -118,7 +141,7 @@ begun_as incs pg kind members (Some made) is lies =
 
 pub IsGroupOf-begun : (log : List Entry) (pg : PgId) (kind : PoolKind) (members : Membership) (group : Group) → AreNumbered (incs_of log) → has_group (incs_of log) pg ≡ true → made_at (incs_of log) pg.pool ≡ epoch (incs_of log) → IsSilent log pg
     → option_map (λ made. made.kind) (pool (incs_of log) pg.pool) ≡ Some kind → membership (incs_of log) pg ≡ Some members
-    → group.pg ≡ pg → group.infos.items ≡ [] → group.reports.items ≡ []
+    → group.pg ≡ pg → ((g : GroupLog) → infos g ≡ [] → KeepsInfos g group.infos) → group.reports.items ≡ []
     → IsIntervalsOf enough_of is_by_place (begun (code_of kind) (epoch (incs_of log)) members) group.intervals
     → IsGroupOf log pg group
 IsGroupOf-begun log pg kind members group counts there now silent is lies pg_is none nothing intervals = record {
@@ -128,13 +151,13 @@ IsGroupOf-begun log pg kind members group counts there now silent is lies pg_is 
   keeps = record {
     pg_is = pg_is;
     intervals_are = intervals;
-    infos_are = none ∙ sym silent.infos;
+    infos_are = none (group_with log pg (begun (code_of kind) (epoch (incs_of log)) members)) silent.infos;
     reports_are = nothing ∙ sym silent.reports;
   };
 }
 
 -- the group stands for the log, also where its parts are kept elsewhere
-pub IsGroupOf-same : (log : List Entry) (pg : PgId) (old group : Group) → IsGroupOf log pg old → group.pg ≡ old.pg → group.intervals ≡ old.intervals → group.infos.items ≡ old.infos.items → group.reports.items ≡ old.reports.items → IsGroupOf log pg group
+pub IsGroupOf-same : (log : List Entry) (pg : PgId) (old group : Group) → IsGroupOf log pg old → group.pg ≡ old.pg → group.intervals ≡ old.intervals → ((g : GroupLog) → KeepsInfos g old.infos → KeepsInfos g group.infos) → group.reports.items ≡ old.reports.items → IsGroupOf log pg group
 IsGroupOf-same log pg old group is pg_is intervals infos' reports' = record {
   history = is.history;
   history_is = is.history_is;
@@ -142,7 +165,7 @@ IsGroupOf-same log pg old group is pg_is intervals infos' reports' = record {
   keeps = record {
     pg_is = pg_is ∙ is.keeps.pg_is;
     intervals_are = subst (IsIntervalsOf enough_of is_by_place is.history) (sym intervals) is.keeps.intervals_are;
-    infos_are = infos' ∙ is.keeps.infos_are;
+    infos_are = infos' (group_with log pg is.history) is.keeps.infos_are;
     reports_are = reports' ∙ is.keeps.reports_are;
   };
 }

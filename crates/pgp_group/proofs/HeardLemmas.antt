@@ -20,7 +20,7 @@ same_member_itself a = grind (arith, nat_tests)
 of_same_member : (a b : Info) → a.member ≡ b.member → is_same_member b.member a.member ≡ true
 of_same_member a b same = subst (λ m. is_same_member m a.member ≡ true) same (same_member_itself a.member)
 
-last_of-contains : (infos : List Info) (info : Info) → Contains (last_of_each_member infos) info → Contains infos info
+pub last_of-contains : (infos : List Info) (info : Info) → Contains (last_of_each_member infos) info → Contains infos info
 last_of-contains [] info in' = in'
 last_of-contains (first ∷ later) info in' = elim (cases_Bool (has_member first.member later)) [
   | inl again ↦ Contains-later first later info (last_of-contains later info (rw again at in'))

@@ -1,8 +1,8 @@
 -- Which reports count as more of the log comes.
-use Rattle.std.proofs.Common.{◌≡◌, ◌≢◌, ℕ, ◌+◌, ◌<◌, ◌≤◌, List, [], ◌∷◌, ◌++◌, Option, Some, Bool, true, false, ◌&&◌, ◌||◌, nat_le, map, fold, max, refl, append-nil, ap, ap₂, sym, ◌∙◌, subst, inl, inr, arith}
+use Rattle.std.proofs.Common.{◌≡◌, ◌≢◌, ℕ, ◌+◌, ◌<◌, ◌≤◌, List, [], ◌∷◌, ◌++◌, Option, Some, Bool, true, false, not, ◌&&◌, ◌||◌, nat_le, map, fold, max, refl, append-nil, ap, ap₂, sym, ◌∙◌, subst, inl, inr, ◌⊎◌, arith}
 use Rattle.std.specs.List.{All, filter, flat_map, list_any}
 use Rattle.std.specs.Option.{option_map_or}
-use Rattle.std.proofs.lemmas.Bool.{cases_Bool, and_parts, true≢false}
+use Rattle.std.proofs.lemmas.Bool.{cases_Bool, and_parts, or_parts, true≢false}
 use Rattle.std.proofs.lemmas.Bool.Decides.{nat_tests}
 use Rattle.std.proofs.lemmas.List.{map-append}
 use Rattle.std.proofs.lemmas.List.Elements.{filter-append, filter_map-append, All-weaker}
@@ -31,7 +31,7 @@ use Rattle.pgp_group.specs.Heard.{is_counted, heard, last_of_each_member, report
 use Rattle.pgp_group.specs.Later.{IsAfter, AreSentBy}
 use Rattle.pgp_group.proofs.FirstLemmas.{Steps, Decides, Opens, first-opens, first-step, along}
 use Rattle.pgp_group.proofs.GrowthLemmas.{Shortens, EndsWell, epoch-snoc, next_epoch}
-use Rattle.pgp_group.proofs.Lists.{last_where-passes, last_where-none, filter-fail, and_fails}
+use Rattle.pgp_group.proofs.Lists.{last_where-passes, last_where-none, left_new, filter-fail, and_fails}
 use Rattle.pgp_group.proofs.RiseLemmas.{fold_max-least}
 
 -- ---- the histories of a group and of the same group later
@@ -138,7 +138,7 @@ is_up-before incs inc osd still up = elim (cases_Bool (tells_of osd inc)) [
 ]
 
 -- a report of this member and stamp counts by this history and map
-abbrev counts_by : List Incremental → History AnyCode → Member → ℕ → Bool
+abbrev pub counts_by : List Incremental → History AnyCode → Member → ℕ → Bool
 counts_by incs h member stamp = nat_le (current_first h) stamp && is_up incs member.osd && nat_le (up_from incs member.osd) stamp
 
 counted-before : (incs : List Incremental) (inc : Incremental) (h after : History AnyCode) (member : Member) (stamp : ℕ) → current_first h ≤ current_first after → stamp < inc.epoch
@@ -154,6 +154,78 @@ counted-before incs inc h after member stamp rises early counts =
       | inr still ↦ is_up-before incs inc member.osd still b.1
     ] in
     rw (first, up, since) refl
+
+-- ---- what counted before and still counts
+
+and_false : (b : Bool) → (b && false) ≡ false
+and_false true = refl
+and_false false = refl
+
+and_true : (b : Bool) → (b && true) ≡ b
+and_true true = refl
+and_true false = refl
+
+-- a device of which the incremental tells counts no more by what it sent before
+told_off : (incs : List Incremental) (inc : Incremental) (osd stamp : ℕ) (first : Bool) → stamp < inc.epoch → tells_of osd inc ≡ true
+    → (first && is_up (then_with incs inc) osd && nat_le (up_from (then_with incs inc) osd) stamp) ≡ false
+unfolding tells_of
+told_off incs inc osd stamp first early told = elim (cases_Bool (boots osd inc)) [
+  | inl booting ↦
+      let from : inc.epoch ≤ up_from (then_with incs inc) osd = up_from-boots incs inc osd booting in
+      let later : nat_le (up_from (then_with incs inc) osd) stamp ≡ false = grind (arith, nat_tests) in
+      ap (λ (b : Bool). first && is_up (then_with incs inc) osd && b) later ∙ and_false (first && is_up (then_with incs inc) osd)
+  | inr still ↦
+      let down : is_up (then_with incs inc) osd ≡ false = ap (λ (o : Option Incremental). option_map_or (boots osd) o false) (last_where-passes (tells_of osd) incs inc told) ∙ still in
+      ap (λ (b : Bool). first && b && nat_le (up_from (then_with incs inc) osd) stamp) down
+      ∙ ap (λ (b : Bool). b && nat_le (up_from (then_with incs inc) osd) stamp) (and_false first)
+]
+
+-- a device of which it tells nothing stays up or down
+still_up : (incs : List Incremental) (inc : Incremental) (osd : ℕ) → tells_of osd inc ≡ false → (is_up (then_with incs inc) osd ≡ is_up incs osd) × (up_from (then_with incs inc) osd ≡ up_from incs osd)
+unfolding tells_of
+still_up incs inc osd silent =
+    let none : list_any (tells_of osd) (inc ∷ []) ≡ false = rw silent refl in
+    let boots' : boots osd inc ≡ false = (or_parts (boots osd inc) (takes_down osd inc) (or_parts (boots osd inc || takes_down osd inc) (destroys osd inc) silent).0).0 in (
+      ap (λ (o : Option Incremental). option_map_or (boots osd) o false) (last_where-none (tells_of osd) incs (inc ∷ []) none),
+      ap greatest_epoch (left_new (boots osd) incs inc boots'),
+    )
+
+-- what the device sent before still counts if it did: the current interval goes on, whose first epoch is this, and the
+-- incremental tells nothing of the device
+pub outlasts : List Incremental → Incremental → ℕ → ℕ → Bool
+outlasts incs inc first osd = nat_le first (epoch incs) && not (tells_of osd inc)
+
+-- the first epoch of the current interval stays, or is the next epoch
+abbrev pub Moves : List Incremental → History AnyCode → History AnyCode → Type 0
+Moves incs h after = ((current_first after ≡ current_first h) × (current_first h ≤ epoch incs)) ⊎ (current_first after ≡ epoch incs + 1)
+
+pub counts-after : (incs : List Incremental) (inc : Incremental) (h after : History AnyCode) (member : Member) (stamp : ℕ) → inc.epoch ≡ epoch incs + 1 → stamp ≤ epoch incs → Moves incs h after
+    → counts_by (then_with incs inc) after member stamp ≡ (counts_by incs h member stamp && outlasts incs inc (current_first after) member.osd)
+unfolding outlasts
+counts-after incs inc h after member stamp next sent (inr opened) =
+    let early : nat_le (current_first after) stamp ≡ false = grind (arith, nat_tests) in
+    let over : nat_le (current_first after) (epoch incs) ≡ false = grind (arith, nat_tests) in
+    let before : counts_by (then_with incs inc) after member stamp ≡ false =
+    ap (λ (b : Bool). b && is_up (then_with incs inc) member.osd && nat_le (up_from (then_with incs inc) member.osd) stamp) early in
+    before
+    ∙ sym (ap (λ (b : Bool). counts_by incs h member stamp && (b && not (tells_of member.osd inc))) over ∙ and_false (counts_by incs h member stamp))
+counts-after incs inc h after member stamp next sent (inl on) = elim (cases_Bool (tells_of member.osd inc)) [
+  | inl told ↦
+      told_off incs inc member.osd stamp (nat_le (current_first after) stamp) (omega (arith, next, sent)) told
+      ∙ sym (ap (λ (b : Bool). counts_by incs h member stamp && (nat_le (current_first after) (epoch incs) && not b)) told
+      ∙ ap (λ (b : Bool). counts_by incs h member stamp && b) (and_false (nat_le (current_first after) (epoch incs)))
+      ∙ and_false (counts_by incs h member stamp))
+  | inr silent ↦
+      let same = still_up incs inc member.osd silent in
+      let going : current_first after ≡ current_first h = on.0 in
+      let within : current_first h ≤ epoch incs = on.1 in
+      let lasts : nat_le (current_first after) (epoch incs) ≡ true = grind (arith, nat_tests) in
+      let stays : counts_by (then_with incs inc) after member stamp ≡ counts_by incs h member stamp =
+      λ k. nat_le (going k) stamp && same.0 k && nat_le (same.1 k) stamp in
+      stays
+      ∙ sym (ap (λ (b : Bool). counts_by incs h member stamp && (nat_le (current_first after) (epoch incs) && not b)) silent
+      ∙ ap (λ (b : Bool). counts_by incs h member stamp && (b && true)) lasts ∙ and_true (counts_by incs h member stamp))
+]
 
 -- a report of this stamp was sent, and doesn't count
 abbrev Silent : Member → ℕ → List Incremental → History AnyCode → Type 0

@@ -14,3 +14,4 @@ pub mod UntoldLemmas
 pub mod SameViewLemmas
 pub mod UntouchedLemmas
 pub mod InterleavingLemmas
+pub mod InfosLemmas

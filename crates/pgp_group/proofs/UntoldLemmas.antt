@@ -1,6 +1,6 @@
 -- What an incremental leaves as it was: devices that it doesn't name, and a group that it doesn't touch.
 use Rattle.std.proofs.Common.{◌≡◌, ℕ, arith, List, [], ◌∷◌, ◌++◌, Option, Some, None, is_some, Bool, true, false, ◌||◌, nat_eq, nat_lt, map, length, refl, ap, ap₂, sym, ◌∙◌, subst, inl, inr, ◌⊎◌, if◌then◌else◌}
-use Rattle.std.specs.List.{Contains, filter, flat_map, list_any}
+use Rattle.std.specs.List.{Contains, filter, list_any}
 use Rattle.std.specs.Option.{option_eq, option_map, option_map_or}
 use Rattle.std.proofs.lemmas.Bool.{or_parts, eqb-true}
 use Rattle.std.proofs.lemmas.Bool.Decides.{nat_tests}
@@ -16,7 +16,6 @@ use Rattle.pgp_ids.specs.declared.pool.PoolSpec.{PoolSpec}
 use Rattle.pgp_lists.proofs.Members.{Contains-first, Contains-later, contains-any, filter-contains, map-contains}
 use Rattle.pgp_lists.proofs.Options.{if_some}
 use Rattle.pgp_map.specs.Devices.{boots, takes_down, destroys, device, greatest_epoch, is_up}
-use Rattle.pgp_map.specs.Last.{last_where}
 use Rattle.pgp_map.specs.MapFault.{map_fault, then_with, is_erasure}
 use Rattle.pgp_map.specs.Pools.{pool, temp, is_same_group, with_sizes}
 use Rattle.pgp_sets.specs.Sets.{moves, raw_set, raw_set_of, members_with, pool_membership}

@@ -10,6 +10,7 @@ pub mod Examples
 pub mod Worked
 pub mod Present
 pub mod Causes
+pub mod KeptInfos
 pub mod GroupOf
 pub mod Found
 pub mod Later

@@ -1,6 +1,6 @@
-//! Which reports count, and what the others tell.
+//! Which reports count, and what the map says of a primary.
 
-ghost use Rattle.std.specs.Prelude.{◌≡◌, List, fold, max, map};
+ghost use Rattle.std.specs.Prelude.{◌≡◌, List};
 ghost use Rattle.pgp_ids.specs.declared.incremental.Incremental.{Incremental};
 ghost use Rattle.pgp_map.specs.MapOf.{IsMapOf};
 ghost use Rattle.pgp_group.specs.GroupHistory.{primary_facts};
@@ -8,7 +8,7 @@ ghost use Rattle.pgp_group.specs.GroupLog.{GroupLog};
 ghost use Rattle.pgp_group.specs.Heard.{is_counted};
 ghost use Rattle.pgp_group.specs.Present.{IsPresent};
 
-use pgp_ids::{Epoch, Info, Member, OsdId, PrimaryFacts};
+use pgp_ids::{Epoch, Member, OsdId, PrimaryFacts};
 use pgp_map::OsdMap;
 
 /// Whether a report of this member and stamp counts: it is of the interval that began at the epoch `first`, and its device
@@ -17,19 +17,6 @@ pub(crate) fn is_counted(map: &OsdMap, first: Epoch, member: Member, stamp: Epoc
     ensures { (g : GroupLog) → IsPresent g map.now first → result ≡ is_counted g member stamp }
 {
     first <= stamp && map.is_up(member.osd) && map.up_from(member.osd) <= stamp
-}
-
-/// The last epoch in which a group is known to have begun to serve, by all infos of it.
-pub(crate) fn last_started(infos: &[Info]) -> Epoch
-    ensures { result ≡ fold max 0 (map (λ info. info.history_les) infos.now) }
-{
-    let mut les = Epoch::new(0);
-    for info in infos {
-        if les < info.history_les {
-            les = info.history_les;
-        }
-    }
-    les
 }
 
 /// What the map says of an acting primary; where there is none, both epochs are 0.

@@ -40,9 +40,9 @@ mod next;
 
 use super::causes::Causes;
 use super::copies::copy_of;
-use super::counted::last_started;
 use super::found::{Found, Needs};
-use super::heard::{heard, is_waiting, leader};
+use super::heard::{is_waiting, leader};
+use super::infos::Infos;
 use super::peers::states;
 use super::reported::member_log;
 use super::standing::{is_short, needs_up_thru};
@@ -66,8 +66,8 @@ pub struct Group {
     alloc: Global,
     pg: PgId,
     intervals: Intervals<AnyCode>,
-    /// All infos of the group, counted or not, in the order in which they came.
-    infos: Vec<Info>,
+    /// All infos of the group, counted or not, and whom it has heard.
+    infos: Infos,
     /// All reports of log entries of the group, counted or not, in the order in which they came.
     reports: Vec<Report>,
 }
@@ -87,7 +87,7 @@ impl Group {
             alloc,
             pg,
             intervals,
-            infos: Vec::new(alloc),
+            infos: Infos::new(alloc),
             reports: Vec::new(alloc),
         }
     }
@@ -126,7 +126,7 @@ impl Group {
         ensures err { OnErr result ((log : List Told) (pg : Id) → IsGroupOf log pg self.old → IsGroupOf log pg self.new) }
     {
         if info.pg == self.pg {
-            self.infos.push(*info)?;
+            self.infos.push(info, self.intervals.last())?;
         }
         Ok(())
     }
@@ -143,15 +143,50 @@ impl Group {
         Ok(())
     }
 
-    /// All that the log so far says of the group. `map` is the last map, and `count` the number of the log's entries.
-    pub fn view(&self, map: &OsdMap, count: usize) -> Result<View, AllocError>
-        ensures { IfOk result (λ view. (log : List Told) (pg : Id) → IsGroupOf log pg self.now
+    /// All that the log so far says of the group. `map` is the last map, and `count` the number of the log's entries. It
+    /// looks at each info once, and then keeps the last of each member that counts. After an error the group stands for the
+    /// same log.
+    pub fn view(&mut self, map: &OsdMap, count: usize) -> Result<View, AllocError>
+        ensures view { IfOk result (λ view. (log : List Told) (pg : Id) → IsGroupOf log pg self.old
             → IsMapOf (incs_of log) map.now → length log ≡ count → scratch log pg ≡ Some view) }
+        ensures same { (log : List Told) (pg : Id) → IsGroupOf log pg self.old → IsMapOf (incs_of log) map.now
+            → IsGroupOf log pg self.new }
     {
         let (first, current) = self.intervals.current();
-        let heard = self.heard(map, first, &current)?;
-        let found = self.found(map, first, &current, &heard)?;
-        let needs = self.needs(map, &current, &heard)?;
+        self.hear_more(map, first, &current)?;
+        self.view_of_heard(map, count, first, current)
+    }
+
+    /// Hears the infos that came since, and no more those that don't count any more.
+    fn hear_more(
+        &mut self,
+        map: &OsdMap,
+        first: Epoch,
+        current: &Membership,
+    ) -> Result<(), AllocError>
+        ensures heard { OnOk result ((g : GroupLog) → Keeps g self.old → IsPresent g map.now first
+            → current.now ≡ g.history.current → AreHeard g self.new.infos.heard) }
+        ensures kept { (g : GroupLog) → Keeps g self.old → IsPresent g map.now first → Keeps g self.new }
+    {
+        let by_place = self.intervals.code().by_place();
+        let prefer = Preference::of_pool(by_place, leader(by_place, &current.acting));
+        self.infos.look(self.alloc, map, first, prefer)
+    }
+
+    /// The view of the group, which has heard all that count.
+    fn view_of_heard(
+        &self,
+        map: &OsdMap,
+        count: usize,
+        first: Epoch,
+        current: Membership,
+    ) -> Result<View, AllocError>
+        ensures { IfOk result (λ view. (g : GroupLog) → Keeps g self.now → IsPresent g map.now first
+            → current ≡ g.history.current → AreHeard g self.now.infos.heard → length g.log ≡ count → view_of g ≡ view) }
+    {
+        let heard = self.infos.heard();
+        let found = self.found(map, first, &current, heard)?;
+        let needs = self.needs(map, &current, heard)?;
         let causes = self.causes(map, first, &current, &found, &needs);
         Ok(seen(
             count,
@@ -162,21 +197,6 @@ impl Group {
             needs,
             causes.verdict(),
         ))
-    }
-
-    /// The last counted info of each member, by the preference of the group's pool.
-    fn heard(
-        &self,
-        map: &OsdMap,
-        first: Epoch,
-        current: &Membership,
-    ) -> Result<Best<Preference>, AllocError>
-        ensures { IfOk result (λ heard. (g : GroupLog) → Keeps g self.now → IsPresent g map.now first
-            → current.now ≡ g.history.current → AreHeard g heard) }
-    {
-        let by_place = self.intervals.code().by_place();
-        let prefer = Preference::of_pool(by_place, leader(by_place, &current.acting));
-        heard(self.alloc, map, first, self.infos.as_slice(), prefer)
     }
 
     /// The best copy of those that were heard, and the states of the others.
@@ -233,7 +253,7 @@ impl Group {
         ensures { IfOk result (λ needs. (g : GroupLog) → Keeps g self.now → IsMapOf (incs g) map.now
             → current.now ≡ g.history.current → AreHeard g heard.now → AreNeeds g needs) }
     {
-        let les = last_started(self.infos.as_slice());
+        let les = self.infos.les();
         let intervals = self.intervals.past(self.alloc)?;
         let prior = prior(
             self.alloc,

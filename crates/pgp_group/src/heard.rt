@@ -1,10 +1,12 @@
 //! Whom a group has heard.
 
-ghost use Rattle.std.specs.Prelude.{◌≡◌, not, slice_get, IfOk};
+ghost use Rattle.std.specs.Prelude.{◌≡◌, not, slice_get, filter, IfOk, OnOk};
 ghost use Rattle.std.specs.List.{list_any};
 ghost use Rattle.pgp_prior.specs.Members.{members_of};
-ghost use Rattle.pgp_group.specs.GroupLog.{GroupLog, infos};
-ghost use Rattle.pgp_group.specs.Heard.{heard, has_member};
+ghost use Rattle.pgp_info.specs.Heard.{with_infos};
+ghost use Rattle.pgp_group.specs.GroupLog.{GroupLog};
+ghost use Rattle.pgp_group.specs.Heard.{has_member, last_of_each_member};
+ghost use Rattle.pgp_group.specs.KeptInfos.{counts};
 ghost use Rattle.pgp_group.specs.Present.{IsPresent};
 
 use super::counted::is_counted;
@@ -21,7 +23,7 @@ pub(crate) fn leader(by_place: bool, acting: &Osds) -> Option<Member>
     members_of(by_place, acting).next()
 }
 
-/// Of each member that has an info which counts, the last one.
+/// Of each member that has one of these infos which counts, the last one.
 pub(crate) fn heard(
     alloc: Global,
     map: &OsdMap,
@@ -29,16 +31,30 @@ pub(crate) fn heard(
     told: &[Info],
     prefer: Preference,
 ) -> Result<Best<Preference>, AllocError>
-    ensures { IfOk result (λ best. (g : GroupLog) → IsPresent g map.now first → told.now ≡ infos g
-        → best ≡ record { prefer = prefer; infos = heard g }) }
+    ensures { IfOk result (λ best. (g : GroupLog) → IsPresent g map.now first
+        → best ≡ record { prefer = prefer; infos = last_of_each_member (filter (counts g) told.now) }) }
 {
-    let mut heard = Best::new(alloc, prefer);
+    let mut best = Best::new(alloc, prefer);
+    hear(&mut best, map, first, told)?;
+    Ok(best)
+}
+
+/// Puts those of these infos that count, in their order.
+pub(crate) fn hear(
+    best: &mut Best<Preference>,
+    map: &OsdMap,
+    first: Epoch,
+    told: &[Info],
+) -> Result<(), AllocError>
+    ensures { OnOk result ((g : GroupLog) → IsPresent g map.now first
+        → best.new ≡ record best.old { infos = with_infos (filter (counts g) told.now) best.old.infos }) }
+{
     for info in told {
         if is_counted(map, first, info.member, info.stamp) {
-            heard.put(*info)?;
+            best.put(*info)?;
         }
     }
-    Ok(heard)
+    Ok(())
 }
 
 /// Whether one of these members wasn't heard.

@@ -11,6 +11,7 @@ mod counted;
 mod found;
 mod group;
 mod heard;
+mod infos;
 pub mod laws;
 mod peers;
 mod reported;

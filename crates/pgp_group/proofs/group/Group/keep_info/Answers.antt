@@ -1,24 +1,28 @@
-use Rattle.std.proofs.Common.{◌≡◌, ◌++◌, [], ◌∷◌, List, true, false, ap, refl, subst, sym, ◌∙◌}
+use Rattle.std.proofs.Common.{◌≡◌, ◌++◌, [], ◌∷◌, true, false, arith, refl, subst, sym, ◌∙◌}
 use Rattle.pgp_ids.specs.declared.entry.Entry.TheVariants as entry
 use Rattle.pgp_ids.specs.declared.pg_id.PgId.{PgId}
-use Rattle.pgp_ids.specs.declared.report.Info.{Info}
 use Rattle.pgp_map.specs.Pools.{is_same_group}
+use Rattle.pgp_group.specs.Entries.{incs_of}
+use Rattle.pgp_group.specs.GroupLog.{group_with}
 use Rattle.pgp_group.specs.declared.group.Group.{Group}
-use Rattle.pgp_group.proofs.GroupLemmas.{on_err, StandsLike, IsGroupOf-other, IsGroupOf-same, infos-new, infos-other, reports-same}
+use Rattle.pgp_group.proofs.GroupLemmas.{on_err, StandsLike, IsGroupOf-other, IsGroupOf-same, infos-kept, infos-other, infos-told, reports-same}
+use Rattle.pgp_group.proofs.GrowthLemmas.{history-last}
 use Rattle.pgp_group.proofs.group.Group.keep_info.Goals as goal
 
 pub returns-in_err-push-clause-err : goal.returns-in_err-push-clause-err
 returns-in_err-push-clause-err c =
     let group : Group = record { alloc = c.args.self.now.alloc; pg = c.args.self.now.pg; intervals = c.args.self.now.intervals; infos = c.push.new.self; reports = c.args.self.now.reports } in
     on_err c.from_residual.result (StandsLike c.args.self.now group)
-    (λ log pg is. IsGroupOf-same log pg c.args.self.now group is refl refl c.in_err-push.ensures.items refl)
+    (λ log pg is. IsGroupOf-same log pg c.args.self.now group is refl refl c.in_err-push.ensures.err refl)
 
 pub returns-in_ok-push-clause-ok : goal.returns-in_ok-push-clause-ok
 returns-in_ok-push-clause-ok c = λ log pg is.
     let info = c.args.info.now in
     let same : is_same_group info.pg pg ≡ true = subst (λ (q : PgId). is_same_group info.pg q ≡ true) is.keeps.pg_is (sym c.eq.ensures ∙ c.if-eq.true) in
     IsGroupOf-other log (entry.Info info) pg c.args.self.now _ is refl refl refl
-    (c.in_ok-push.ensures.items ∙ ap (λ (l : List Info). l ++ info ∷ []) is.keeps.infos_are ∙ sym (infos-new log info pg same))
+    (c.in_ok-push.ensures.ok (group_with log pg is.history) (group_with (log ++ entry.Info info ∷ []) pg is.history)
+    (omega (arith, c.last.ensures, is.keeps.intervals_are.last_is, history-last (incs_of log) pg is.history is.numbered is.history_is))
+    (infos-told log info pg is.history same) is.keeps.infos_are)
     (is.keeps.reports_are ∙ sym (reports-same log (entry.Info info) pg refl))
 
 pub returns-else-eq-clause-ok : goal.returns-else-eq-clause-ok
@@ -26,5 +30,5 @@ returns-else-eq-clause-ok c = λ log pg is.
     let info = c.args.info.now in
     let differ : is_same_group info.pg pg ≡ false = subst (λ (q : PgId). is_same_group info.pg q ≡ false) is.keeps.pg_is (sym c.eq.ensures ∙ c.if-eq.false) in
     IsGroupOf-other log (entry.Info info) pg c.args.self.now _ is refl refl refl
-    (is.keeps.infos_are ∙ sym (infos-other log info pg differ))
+    (infos-kept log (entry.Info info) pg is.history c.args.self.now.infos refl (infos-other log info pg differ) is.keeps.infos_are)
     (is.keeps.reports_are ∙ sym (reports-same log (entry.Info info) pg refl))

@@ -1,4 +1,4 @@
-use Rattle.std.proofs.Common.{◌≡◌, [], ◌∷◌, List, arith, refl, sym, ◌∙◌}
+use Rattle.std.proofs.Common.{[], ◌∷◌, arith, refl, ◌∙◌}
 use Rattle.pgp_group.specs.Entries.{incs_of}
 use Rattle.pgp_group.specs.GroupHistory.{primary_facts}
 use Rattle.pgp_group.proofs.GroupLemmas.{IsGroupOf-inc}

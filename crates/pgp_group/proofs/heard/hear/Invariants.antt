@@ -1,0 +1,12 @@
+use Rattle.std.proofs.Common.{◌≡◌, take}
+use Rattle.std.specs.List.{filter}
+use Rattle.pgp_info.specs.Heard.{with_infos}
+use Rattle.pgp_group.specs.GroupLog.{GroupLog}
+use Rattle.pgp_group.specs.KeptInfos.{counts}
+use Rattle.pgp_group.specs.Present.{IsPresent}
+use Rattle.pgp_group.proofs.heard.hear.Given as goal
+
+abbrev pub invariant-loop-info : goal.invariant-loop-info
+invariant-loop-info l =
+    (g : GroupLog) → IsPresent g l.map l.first
+    → l.best ≡ record l.initial.best { infos = with_infos (filter (counts g) (take l.info-index l.told)) l.initial.best.infos }

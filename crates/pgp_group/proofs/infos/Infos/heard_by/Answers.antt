@@ -1,0 +1,34 @@
+use Rattle.std.proofs.Common.{◌≡◌, ◌≤◌, List, false, length, drop, ap, ap₂, subst, sym, ◌∙◌}
+use Rattle.std.specs.List.{filter}
+use Rattle.pgp_ids.specs.declared.report.Info.{Info}
+use Rattle.pgp_info.specs.Heard.{Heard, with_infos}
+use Rattle.pgp_info.specs.declared.preference.Preference.{Preference}
+use Rattle.pgp_group.specs.GroupLog.{GroupLog, infos}
+use Rattle.pgp_group.specs.Heard.{heard, last_of_each_member}
+use Rattle.pgp_group.specs.KeptInfos.{counts, KeepsInfos}
+use Rattle.pgp_group.specs.Present.{IsPresent}
+use Rattle.pgp_group.proofs.GroupLemmas.{if_ok}
+use Rattle.pgp_group.proofs.InfosLemmas.{heard-more}
+use Rattle.pgp_group.proofs.infos.Infos.heard_by.Goals as goal
+
+pub returns-then-self : goal.returns-then-self
+returns-then-self c =
+    let by : List Info → Heard Preference = λ l. record { prefer = c.args.prefer; infos = l } in
+    if_ok c.heard.result
+    (λ best. (g : GroupLog) → IsPresent g c.args.map.now c.args.first → best ≡ by (last_of_each_member (filter (counts g) c.as_slice.result.now)))
+    (λ best. (g : GroupLog) → IsPresent g c.args.map.now c.args.first → KeepsInfos g c.args.self.now → best ≡ by (heard g))
+    (λ best is g here kept. is g here ∙ ap (λ (l : List Info). by (last_of_each_member (filter (counts g) l))) (c.as_slice.ensures.value ∙ kept.all_are))
+    c.heard.ensures
+
+pub returns : goal.returns
+returns c = λ g here kept.
+    let old = c.args.self.now in
+    let by : List Info → Heard Preference = λ l. record { prefer = c.args.prefer; infos = l } in
+    let more : Heard Preference → List Info → Heard Preference = λ h l. record h { infos = with_infos (filter (counts g) l) h.infos } in
+    let settled : old.ahead ≡ false = c.if-self.false in
+    let within : old.seen ≤ length old.all.items = subst (λ (l : List Info). old.seen ≤ length l) (sym kept.all_are) kept.seen_within in
+    let unseen : c.unseen.result.now ≡ drop old.seen (infos g) = c.unseen.ensures within ∙ ap (drop old.seen) kept.all_are in
+    c.in_ok-hear.ensures g here
+    ∙ ap₂ more (c.in_ok-best.ensures g here) unseen
+    ∙ ap (λ (l : List Info). more (by (last_of_each_member (filter (counts g) l))) (drop old.seen (infos g))) c.infos.ensures
+    ∙ ap by (heard-more g old kept settled)

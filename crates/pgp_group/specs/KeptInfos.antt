@@ -1,0 +1,28 @@
+-- What is kept of the infos of a group while more come (this project's own choice).
+use Rattle.std.specs.Prelude.{◌≡◌, ◌≤◌, [], ◌∷◌, ◌++◌, Bool, false, length, take, filter, Contains}
+use Rattle.pgp_ids.specs.declared.report.Info.{Info}
+use Rattle.pgp_map.specs.Map.{epoch}
+use Rattle.pgp_group.specs.GroupLog.{GroupLog, incs, infos}
+use Rattle.pgp_group.specs.Heard.{is_counted, last_of_each_member, les}
+use Rattle.pgp_group.specs.declared.infos.Infos.{Infos}
+
+-- the info counts
+abbrev pub counts : GroupLog → Info → Bool
+counts g info = is_counted g info.member info.stamp
+
+-- all infos are kept, with the last epoch in which the group is known to have begun to serve. Where each was sent in this
+-- epoch or before, those are kept of which the ones that count are the last of their members, of the infos that were
+-- looked at
+pub record KeepsInfos (g : GroupLog) (kept : Infos) : Type 0 where
+  pub all_are : kept.all.items ≡ infos g
+  pub les_is : kept.les ≡ les g
+  pub seen_within : kept.seen ≤ length (infos g)
+  pub each_sent : kept.ahead ≡ false → (info : Info) → Contains (infos g) info → info.stamp ≤ epoch (incs g)
+  pub heard_sent : kept.ahead ≡ false → (info : Info) → Contains kept.heard.infos info → info.stamp ≤ epoch (incs g)
+  pub heard_are : kept.ahead ≡ false → last_of_each_member (filter (counts g) (take kept.seen (infos g))) ≡ filter (counts g) kept.heard.infos
+
+-- the group with one info more, and no other map
+pub record IsToldBy (g : GroupLog) (info : Info) (after : GroupLog) : Type 0 where
+  pub infos_are : infos after ≡ infos g ++ info ∷ []
+  pub incs_are : incs after ≡ incs g
+  pub history_is : after.history ≡ g.history

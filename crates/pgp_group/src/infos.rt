@@ -1,0 +1,153 @@
+//! The infos of a group, and whom it has heard by them.
+
+ghost use Rattle.std.specs.Prelude.{◌≡◌, ◌≤◌, ◌||◌, [], nat_lt, max, length, drop, IfOk, OnOk, OnErr};
+ghost use Rattle.pgp_map.specs.Map.{epoch as epoch_of};
+ghost use Rattle.pgp_group.specs.GroupLog.{GroupLog, incs, infos};
+ghost use Rattle.pgp_group.specs.Heard.{heard};
+ghost use Rattle.pgp_group.specs.KeptInfos.{KeepsInfos, IsToldBy};
+ghost use Rattle.pgp_group.specs.Present.{IsPresent};
+
+use super::heard::{hear, heard};
+use pgp_ids::{Epoch, Info};
+use pgp_info::{Best, Preference};
+use pgp_map::OsdMap;
+use std::alloc::{AllocError, Global};
+
+/// All infos of a group, and those by which members are heard.
+///
+/// Each info is judged once when it is looked at first: one that doesn't count then never counts. Those that counted are
+/// kept, the last of each member, and judged again at each look, since a device may have gone down or an interval ended.
+#[derive(Debug, Drop)]
+pub(crate) struct Infos {
+    /// All infos, counted or not, in the order in which they came.
+    all: Vec<Info>,
+    /// The last epoch in which the group is known to have begun to serve, by all infos.
+    les: Epoch,
+    /// Of the infos that were looked at, the last of each member that counted then.
+    heard: Best<Preference>,
+    /// How many were looked at.
+    seen: usize,
+    /// Whether an info came before the epoch in which it says that it was sent. Such an info may begin to count later, so
+    /// from then on all are judged at each look.
+    ahead: bool,
+}
+
+impl Infos {
+    /// No infos. It takes no memory.
+    pub(crate) fn new(alloc: Global) -> Self
+        ensures { (g : GroupLog) → infos g ≡ [] → KeepsInfos g result }
+    {
+        Infos {
+            all: Vec::new(alloc),
+            les: Epoch::new(0),
+            heard: Best::new(alloc, Preference::of_pool(false, None)),
+            seen: 0,
+            ahead: false,
+        }
+    }
+
+    /// Takes an info, which came at this epoch. After an error the infos are as before.
+    pub(crate) fn push(&mut self, info: &Info, at: Epoch) -> Result<(), AllocError>
+        ensures ok { OnOk result ((g after : GroupLog) → at ≡ epoch_of (incs g) → IsToldBy g info.now after
+            → KeepsInfos g self.old → KeepsInfos after self.new) }
+        ensures err { OnErr result ((g : GroupLog) → KeepsInfos g self.old → KeepsInfos g self.new) }
+    {
+        self.all.push(*info)?;
+        self.les = later_of(self.les, info.history_les);
+        self.ahead = is_ahead(self.ahead, at, info.stamp);
+        Ok(())
+    }
+
+    /// All infos, counted or not, in the order in which they came.
+    pub(crate) fn all(&self) -> &[Info]
+        ensures { result.now ≡ self.now.all.items }
+    {
+        self.all.as_slice()
+    }
+
+    /// The last epoch in which the group is known to have begun to serve.
+    pub(crate) fn les(&self) -> Epoch
+        ensures { result ≡ self.now.les }
+    {
+        self.les
+    }
+
+    /// Whom the group has heard, as of the last look.
+    pub(crate) fn heard(&self) -> &Best<Preference>
+        ensures { result.now ≡ self.now.heard }
+    {
+        &self.heard
+    }
+
+    /// Looks at the infos that came since the last look, and again at those that are kept, by the last map and the first
+    /// epoch of the current interval. After an error the infos are as before.
+    pub(crate) fn look(
+        &mut self,
+        alloc: Global,
+        map: &OsdMap,
+        first: Epoch,
+        prefer: Preference,
+    ) -> Result<(), AllocError>
+        ensures ok { OnOk result ((g : GroupLog) → IsPresent g map.now first → KeepsInfos g self.old
+            → self.new.heard ≡ record { prefer = prefer; infos = heard g }) }
+        ensures kept { (g : GroupLog) → IsPresent g map.now first → KeepsInfos g self.old → KeepsInfos g self.new }
+    {
+        let heard = self.heard_by(alloc, map, first, prefer)?;
+        self.heard = heard;
+        self.seen = self.told();
+        Ok(())
+    }
+
+    /// Whom the group has heard.
+    fn heard_by(
+        &self,
+        alloc: Global,
+        map: &OsdMap,
+        first: Epoch,
+        prefer: Preference,
+    ) -> Result<Best<Preference>, AllocError>
+        ensures { IfOk result (λ best. (g : GroupLog) → IsPresent g map.now first → KeepsInfos g self.now
+            → best ≡ record { prefer = prefer; infos = heard g }) }
+    {
+        if self.ahead {
+            return heard(alloc, map, first, self.all.as_slice(), prefer);
+        }
+        let mut best = heard(alloc, map, first, self.heard.infos(), prefer)?;
+        hear(&mut best, map, first, self.unseen())?;
+        Ok(best)
+    }
+
+    /// How many infos there are.
+    fn told(&self) -> usize
+        ensures { result ≡ length self.now.all.items }
+    {
+        self.all.len()
+    }
+
+    /// The infos that weren't looked at.
+    fn unseen(&self) -> &[Info]
+        ensures { self.now.seen ≤ length self.now.all.items → result.now ≡ drop self.now.seen self.now.all.items }
+    {
+        let all = self.all.as_slice();
+        if self.seen <= all.len() {
+            let (_, unseen) = all.split_at(self.seen);
+            unseen
+        } else {
+            all
+        }
+    }
+}
+
+/// The later one of two epochs.
+fn later_of(a: Epoch, b: Epoch) -> Epoch
+    ensures { result ≡ max a b }
+{
+    if a < b { b } else { a }
+}
+
+/// Whether one was ahead, or this one is, which came at this epoch and was sent in that one.
+fn is_ahead(before: bool, at: Epoch, stamp: Epoch) -> bool
+    ensures { result ≡ (before || nat_lt at stamp) }
+{
+    before || at < stamp
+}
