@@ -9,7 +9,7 @@ use Rattle.pgp_group.specs.GroupLog.{GroupLog, group_with}
 use Rattle.pgp_group.specs.GroupOf.{Keeps, IsGroupOf}
 use Rattle.pgp_group.specs.Present.{IsPresent}
 use Rattle.pgp_group.specs.View.{view_of, scratch}
-use Rattle.pgp_group.proofs.GroupLemmas.{if_ok}
+use Rattle.std.proofs.lemmas.Result.{IfOk-weaker}
 use Rattle.pgp_group.proofs.group.Group.view.Goals as goal
 
 pub returns-clause-view : goal.returns-clause-view
@@ -17,7 +17,7 @@ returns-clause-view c =
     let map' = c.args.map.now in
     let first = c.current-first.result.0 in
     let group = c.hear_more.new.self in
-    if_ok c.view_of_heard.result
+    IfOk-weaker c.view_of_heard.result
     (λ view. (g : GroupLog) → Keeps g group → IsPresent g map' first → c.current-first.result.1 ≡ g.history.current → AreHeard g group.infos.heard → length g.log ≡ c.args.count → view_of g ≡ view)
     (λ view. (log : List Entry) (pg : PgId) → IsGroupOf log pg c.args.self.now → IsMapOf (incs_of log) map' → length log ≡ c.args.count → scratch log pg ≡ Some view)
     (λ view is log pg kept map_is count_is.

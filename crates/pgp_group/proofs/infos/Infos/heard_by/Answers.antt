@@ -7,14 +7,14 @@ use Rattle.pgp_group.specs.GroupLog.{GroupLog, infos}
 use Rattle.pgp_group.specs.Heard.{heard, last_of_each_member}
 use Rattle.pgp_group.specs.KeptInfos.{counts, KeepsInfos}
 use Rattle.pgp_group.specs.Present.{IsPresent}
-use Rattle.pgp_group.proofs.GroupLemmas.{if_ok}
+use Rattle.std.proofs.lemmas.Result.{IfOk-weaker}
 use Rattle.pgp_group.proofs.InfosLemmas.{heard-more}
 use Rattle.pgp_group.proofs.infos.Infos.heard_by.Goals as goal
 
 pub returns-then-self : goal.returns-then-self
 returns-then-self c =
     let by : List Info → Heard Preference = λ l. record { prefer = c.args.prefer; infos = l } in
-    if_ok c.heard.result
+    IfOk-weaker c.heard.result
     (λ best. (g : GroupLog) → IsPresent g c.args.map.now c.args.first → best ≡ by (last_of_each_member (filter (counts g) c.as_slice.result.now)))
     (λ best. (g : GroupLog) → IsPresent g c.args.map.now c.args.first → KeepsInfos g c.args.self.now → best ≡ by (heard g))
     (λ best is g here kept. is g here ∙ ap (λ (l : List Info). by (last_of_each_member (filter (counts g) l))) (c.as_slice.ensures.value ∙ kept.all_are))
