@@ -5,6 +5,9 @@ use Rattle.std.proofs.lemmas.List.{drop_at, take-append-drop}
 use Rattle.pgp_ids.specs.declared.entry.Entry.{Entry}
 use Rattle.pgp_log.specs.Log.{IsFrontOf, is_legal}
 use Rattle.pgp_log.proofs.LogLemmas.{front-legal}
+use Rattle.pgp_feed.proofs.Fronts.{take_legal}
+use Rattle.pgp_feed.specs.Receipts.{entries_of}
+use Rattle.pgp_feed.specs.declared.receipt.Receipt.{Receipt}
 
 pub front_none : (log : List Entry) → IsFrontOf [] log
 front_none log = record { rest = log; whole = refl }
@@ -36,3 +39,7 @@ take_front n log = record { rest = drop n log; whole = sym (take-append-drop n l
 
 pub front_legal : (a b : List Entry) → IsFrontOf a b → is_legal b ≡ true → is_legal a ≡ true
 front_legal a b f legal = front-legal a f.rest (subst (λ (l : List Entry). is_legal l ≡ true) f.whole legal)
+
+-- what any receipt names is legal
+pub receipt_legal : (r : Receipt) → is_legal (entries_of r) ≡ true
+receipt_legal r = take_legal r.len r.seen.log r.legal

@@ -3,3 +3,4 @@ pub mod FrontLemmas
 pub mod JudgeLemmas
 pub mod ReadLemmas
 pub mod SubmitLemmas
+pub mod WorkLemmas

@@ -1,22 +1,17 @@
 -- What an intake's answer says of the front that the caller's receipt names.
-use Rattle.std.proofs.Common.{◌≡◌, List, [], ◌∷◌, ◌++◌, length, Some, true, Result, Ok, Err, MatchResult, ap, sym, ◌∙◌, subst, arith, append_assoc, length-append}
+use Rattle.std.proofs.Common.{◌≡◌, List, [], ◌∷◌, ◌++◌, length, Some, Result, Ok, Err, MatchResult, ap, sym, ◌∙◌, subst, arith, append_assoc, length-append}
 use Rattle.logbook.specs.Pages.{Book}
 use Rattle.pgp_ids.specs.declared.entry.Entry.{Entry}
 use Rattle.pgp_log.specs.Fits.{fits}
-use Rattle.pgp_log.specs.Log.{is_legal, IsFrontOf}
+use Rattle.pgp_log.specs.Log.{IsFrontOf}
 use Rattle.pgp_feed.specs.declared.receipt.Receipt.{Receipt}
 use Rattle.pgp_feed.specs.Receipts.{entries_of, feed_of}
-use Rattle.pgp_feed.proofs.Fronts.{take_legal}
 use Rattle.pgp_engine.specs.declared.fault.SubmitFault.{SubmitFault}
 use Rattle.pgp_engine.specs.declared.submitted.Submitted.{Submitted}
 use Rattle.pgp_engine.specs.declared.fault.SubmitFault.TheVariants.{Refused, Memory, NoReader}
 use Rattle.pgp_engine.specs.Fronts.{Names}
 use Rattle.pgp_engine.specs.Intakes.{MayRefuse, MayFailToSubmit, IsSubmitted}
-use Rattle.pgp_engine.proofs.FrontLemmas.{front_short}
-
--- what any receipt names is legal
-legal_of : (r : Receipt) → is_legal (entries_of r) ≡ true
-legal_of r = take_legal r.len r.seen.log r.legal
+use Rattle.pgp_engine.proofs.FrontLemmas.{front_short, receipt_legal}
 
 pub submitted : (r : Result Submitted SubmitFault) (feed : Book) (q : Receipt) (old new : List Entry) (entry : Entry)
     → feed_of q ≡ feed → IsFrontOf (entries_of q) old
@@ -36,7 +31,7 @@ submitted (Ok s) feed q old new entry of f is named =
       longer = omega (arith, ap length whole, length-append old (entry ∷ []), front_short (entries_of q) old f);
       before = old;
       last = whole;
-      legal = legal_of s.at;
+      legal = receipt_legal s.at;
     }
 submitted (Err (Refused why at)) feed q old new entry of f is refused =
     let there : old ≡ entries_of at = sym refused.named.entries in
@@ -46,7 +41,7 @@ submitted (Err (Refused why at)) feed q old new entry of f is refused =
         front = subst (λ (l : List Entry). IsFrontOf (entries_of q) l) there f;
       };
       refused = subst (λ (l : List Entry). fits l entry ≡ Some why) there refused.refused;
-      legal = legal_of at;
+      legal = receipt_legal at;
     }
 submitted (Err Memory) feed q old new entry of f is refused = tt
 submitted (Err NoReader) feed q old new entry of f is refused = tt

@@ -6,3 +6,4 @@ pub mod Intakes
 pub mod Shards
 pub mod Asks
 pub mod Sizes
+pub mod Works

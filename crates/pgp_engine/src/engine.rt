@@ -3,15 +3,18 @@ use crate::intake::Intake;
 use crate::naming::Naming;
 use crate::shard::Shard;
 use std::marker::{Model, PhantomData};
-use std::sync::Mutex;
+use std::sync::{Condvar, Mutex};
 
 mod locks;
 mod make;
 mod steps;
+mod work;
 
 /// One log, with its intake and its shards, for any number of threads. It is not `Drop`: end it by `give_up`.
 pub struct Engine<J: Naming> {
     intake: Mutex<Intake<J>>,
+    // Whoever sleeps here looks at the log under the intake's lock. A submit that was taken wakes all.
+    grown: Condvar,
     shards: Vec<Mutex<Shard<J>>>,
     workers: usize,
 }

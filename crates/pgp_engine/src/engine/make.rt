@@ -12,7 +12,7 @@ use crate::naming::Naming;
 use crate::shard::Shard;
 use pgp_feed::{Feed, MakeFault, Tap};
 use std::alloc::{AllocError, Global};
-use std::sync::{Mutex, Wait};
+use std::sync::{Condvar, Mutex, Wait};
 
 // So many shards, each with one of the taps, of which the others are left.
 fn make_shards<J: Naming>(
@@ -107,6 +107,7 @@ impl<J: Naming> Engine<J> {
         let tap = taps.pop().unwrap();
         let engine = Engine {
             intake: Mutex::new(Intake::start(alloc, feed, tap)),
+            grown: Condvar::new(),
             shards: all,
             workers,
         };

@@ -38,6 +38,22 @@ impl<J: Naming> Engine<J> {
         ensures submitted { MatchResult result (λ submitted. IsSubmitted q.now entry submitted.at) (MayFailToSubmit q.now entry) }
         ensures epoch { IfOk result (λ submitted. submitted.epoch ≡ epoch_of (entries_of submitted.at)) }
     {
+        let submitted = self.submit_in_turn(rt, entry, q)?;
+        self.grown.notify_all();
+        Ok(submitted)
+    }
+
+    // The turn of the intake's lock in which it is submitted.
+    fn submit_in_turn<R: Wait>(
+        &self,
+        rt: &R,
+        entry: Entry,
+        q: &Receipt,
+    ) -> Result<Submitted, SubmitFault>
+        requires { feed_of q.now ≡ J.feed }
+        ensures submitted { MatchResult result (λ submitted. IsSubmitted q.now entry submitted.at) (MayFailToSubmit q.now entry) }
+        ensures epoch { IfOk result (λ submitted. submitted.epoch ≡ epoch_of (entries_of submitted.at)) }
+    {
         let mut turn = holding(rt, &self.intake, q);
         let submitted = turn.submit_with_epoch(rt, entry);
         MutexGuard::unlock(turn);
@@ -82,6 +98,7 @@ impl<J: Naming> Engine<J> {
     pub fn give_up(self, rt: &impl Wait) {
         let Engine {
             intake,
+            grown: _,
             shards: _,
             workers: _,
         } = self;

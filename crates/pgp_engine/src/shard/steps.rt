@@ -3,6 +3,7 @@ ghost use Rattle.std.specs.Prelude.{◌≡◌, ◌<◌, ◌↔◌, [], true, fal
 ghost use Rattle.pgp_map.specs.Pools.{has_group};
 ghost use Rattle.pgp_group.specs.Entries.{incs_of};
 ghost use Rattle.pgp_group.specs.View.{scratch};
+ghost use Rattle.pgp_log.specs.Fits.{is_closed};
 ghost use Rattle.pgp_log.specs.Log.{is_legal, IsFrontOf};
 ghost use Rattle.pgp_feed.specs.Receipts.{entries_of, feed_of};
 ghost use Rattle.pgp_feed.specs.Taps.{last_of};
@@ -91,6 +92,13 @@ impl<J: Naming> Shard<J> {
         let target = after(&newest, self.front.len(), max);
         self.absorb_to(&target)?;
         Ok(self.front.again())
+    }
+
+    /// The log that it has read was closed.
+    pub fn is_closed(&self) -> bool
+        ensures { result ≡ is_closed self.now.front }
+    {
+        self.state.is_closed()
     }
 
     /// What the shard has read says of one of its groups.

@@ -3,7 +3,7 @@ use Rattle.pgp_ids.specs.declared.entry.Entry.{Entry}
 use Rattle.pgp_log.specs.Log.{IsFrontOf}
 use Rattle.pgp_feed.specs.Receipts.{entries_of}
 use Rattle.pgp_engine.proofs.SubmitLemmas.{submitted}
-use Rattle.pgp_engine.proofs.engine.Engine.submit_with_epoch.Goals as goal
+use Rattle.pgp_engine.proofs.engine.Engine.submit_in_turn.Goals as goal
 
 pub returns-clause-submitted : goal.returns-clause-submitted
 returns-clause-submitted g c =

@@ -1,0 +1,111 @@
+//! How an engine's workers have its shards read on.
+ghost use Rattle.std.specs.Prelude.{◌≡◌, ◌<◌, ◌≤◌, ◌↔◌, length, None, Ok, IfOk, IfErr, IfSome};
+ghost use Rattle.pgp_engine.specs.Faults.{fault_at};
+ghost use Rattle.pgp_engine.specs.Works.{IsEnd, IsStand};
+
+use super::Engine;
+use crate::fault::AskFault;
+use crate::gate::Gate;
+use crate::naming::Naming;
+use crate::shard::Shard;
+use pgp_feed::Receipt;
+use std::sync::{MutexGuard, Wait};
+
+/// How many entries a shard reads at most in one turn of a worker, so that whoever asks never waits for more.
+const ENTRIES_A_TURN: usize = 64;
+
+/// How far a shard has read.
+#[derive(Drop)]
+pub(super) struct Stand {
+    pub front: Receipt,
+    pub closed: bool,
+}
+
+/// Has the shard read on, by one turn's entries at most.
+fn read_on<J: Naming>(shard: &mut Shard<J>) -> Result<Stand, AskFault>
+    ensures stand { IfOk result (IsStand J.feed) }
+    ensures err { IfErr result (λ fault. fault_at fault ≡ None) }
+{
+    let front = shard.absorb_some(ENTRIES_A_TURN)?;
+    Ok(Stand {
+        front,
+        closed: shard.is_closed(),
+    })
+}
+
+impl<J: Naming> Engine<J> {
+    /// Serves the shards of this seat, which are each so many-th one as there are workers, until all of them have read the
+    /// Close, and answers the receipt of the closed log. There is none where no shard is of this seat. `Memory` and
+    /// `NoReader` end the work, and leave the shards as far as they have read.
+    ///
+    /// In each of its turns a shard reads a few entries, between the gate's two calls. Between the turns the lock is free;
+    /// and where the shards of the seat have read all that there is, the worker sleeps until the next submit.
+    pub fn work<R: Wait, G: Gate>(
+        &self,
+        rt: &R,
+        seat: usize,
+        gate: &G,
+    ) -> Result<Option<Receipt>, AskFault>
+        requires { seat < self.now.workers }
+        ensures idle { result ≡ Ok None ↔ self.now.shards ≤ seat }
+        ensures end { IfOk result (λ end. IfSome end (IsEnd J.feed)) }
+        ensures err { IfErr result (λ fault. fault_at fault ≡ None) }
+    {
+        if self.shards.len() <= seat {
+            return Ok(None);
+        }
+        for _ in rt.forever() {
+            let shortest = self.pass(rt, seat, gate)?;
+            if shortest.closed {
+                return Ok(Some(shortest.front));
+            }
+            self.sleep(rt, shortest.front.len());
+        }
+        unreachable!()
+    }
+
+    // One turn of each shard of the seat. It tells how far the one that has read least has come: of fronts of one log, this
+    // is closed only where all are.
+    fn pass<R: Wait, G: Gate>(&self, rt: &R, seat: usize, gate: &G) -> Result<Stand, AskFault>
+        requires workers { seat < self.now.workers }
+        requires shards { seat < self.now.shards }
+        ensures stand { IfOk result (IsStand J.feed) }
+        ensures err { IfErr result (λ fault. fault_at fault ≡ None) }
+    {
+        let shards = self.shards.len();
+        let mut shortest = self.turn(rt, seat, gate)?;
+        for shard in seat + 1..shards {
+            if shard % self.workers == seat {
+                let stand = self.turn(rt, shard, gate)?;
+                if stand.front.len() < shortest.front.len() {
+                    shortest = stand;
+                }
+            }
+        }
+        Ok(shortest)
+    }
+
+    // A turn of the shard's lock, in which it reads on.
+    fn turn<R: Wait, G: Gate>(&self, rt: &R, shard: usize, gate: &G) -> Result<Stand, AskFault>
+        requires { shard < self.now.shards }
+        ensures stand { IfOk result (IsStand J.feed) }
+        ensures err { IfErr result (λ fault. fault_at fault ≡ None) }
+    {
+        let mut turn = self.shards[shard].lock(rt);
+        gate.enter(rt, shard);
+        let stand = read_on(&mut *turn);
+        MutexGuard::unlock(turn);
+        gate.left(rt, shard);
+        stand
+    }
+
+    // Waits until the log is longer than this. A submit that comes after the look at the log finds this thread asleep, and
+    // wakes it.
+    fn sleep<R: Wait>(&self, rt: &R, len: usize) {
+        let intake = self.intake.lock(rt);
+        let turn = self
+            .grown
+            .wait_while(rt, intake, |intake| intake.told().len() <= len);
+        MutexGuard::unlock(turn);
+    }
+}
