@@ -1,5 +1,5 @@
 -- What the words of a command line ask for, by clap's own account of a command.
-use Rattle.std.specs.Prelude.{◌≡◌, ◌⊎◌, ℕ, true, List, [], ◌∷◌, Option, Some, None, is_some, option_map, option_and_then, codes, if◌then◌else◌}
+use Rattle.std.specs.Prelude.{◌≡◌, ◌⊎◌, ℕ, ◌≤◌, true, List, [], ◌∷◌, Option, Some, None, is_some, option_map, option_and_then, codes, if◌then◌else◌}
 use Rattle.std.specs.Str.Parse.{digits_value, without_leading_plus}
 use Rattle.clap.specs.Kinds.{Kinds, IsAmong, or_else}
 use Rattle.clap.specs.Faults.{fault_of}
@@ -60,9 +60,13 @@ abbrev pub faults_in : List (List ℕ) → Kinds
 faults_in words =
     or_else (fault_of pgpeer_app words) (if is_some (counts_asked words) then [] else ValueValidation ∷ [])
 
--- the words have no fault: they ask for a run
-abbrev pub AsksForRun : List (List ℕ) → Type 0
-AsksForRun words = faults_in words ≡ []
+-- the words have no fault: they ask for a run of so many shards and workers
+abbrev pub AsksForRun : List (List ℕ) → Counts → Type 0
+AsksForRun words counts = (faults_in words ≡ []) × (counts_asked words ≡ Some counts)
+
+-- they ask for a run with workers
+abbrev pub AsksForWorkers : List (List ℕ) → Type 0
+AsksForWorkers words = (counts : Counts) × (AsksForRun words counts × (1 ≤ counts.workers))
 
 -- a kind of error that stands for a request: help, or the version
 abbrev pub IsRequest : ErrorKind → Type 0

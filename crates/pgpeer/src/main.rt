@@ -1,7 +1,8 @@
 //! The program: lines of JSON in, one answer for each.
 //!
 //! Everything but the standard streams is a function over any reader and writers: `status::status_of` does what the
-//! command line asks for, and `pgp_core::run_script` answers a script.
+//! command line asks for, `pgp_core::run_script` answers a script on one thread, and `pgp_run::run_engine` answers one with
+//! workers.
 #![tactic(auto)]
 
 use status::{status_of, without_words};
@@ -28,6 +29,7 @@ fn main(rt: HostRuntime) -> ExitCode {
     };
     let status = match words {
         Ok(words) => status_of(
+            &rt,
             alloc,
             words.as_slice(),
             &mut Watched::new(rt.stdin()),

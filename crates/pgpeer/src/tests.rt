@@ -5,7 +5,15 @@ use super::streams::Watched;
 use std::alloc::Global;
 use std::io;
 use std::io::{ErrorKind, Read, Write};
+use std::sync::Wait;
 use std::test::Fail;
+use std::thread::Threads;
+
+/// A run on one thread, and one over an engine.
+const RUNS: [&[&str]; 2] = [
+    &["pgpeer", "run"],
+    &["pgpeer", "run", "--shards", "3", "--workers", "2"],
+];
 
 /// A line and its answer.
 const SCRIPT: &[u8] = b"{\"op\":\"close\"}\n";
@@ -73,7 +81,8 @@ impl<W: Write + Drop> Write for Failing<W> {
 }
 
 /// What a run with these words, reader and writer ends with: its status, the writer and its errors.
-fn run_with<R: Read + Drop, W: Write + Drop>(
+fn run_with<R: Read + Drop, W: Write + Drop, T: Threads + Wait + Sync>(
+    rt: &T,
     alloc: Global,
     words: &[&str],
     reader: R,
@@ -86,7 +95,14 @@ fn run_with<R: Read + Drop, W: Write + Drop>(
     let mut out = Watched::new(writer);
     let mut errors = Vec::new(alloc);
     let mut source = Watched::new(reader);
-    let status = status_of(alloc, given.as_slice(), &mut source, &mut out, &mut errors);
+    let status = status_of(
+        rt,
+        alloc,
+        given.as_slice(),
+        &mut source,
+        &mut out,
+        &mut errors,
+    );
     Ok((status, out.into_inner(), errors))
 }
 
@@ -107,7 +123,7 @@ fn reads_the_command_line(rt: HostRuntime) -> Result<(), Fail> {
             true,
         ),
     ] {
-        let (status, out, errors) = run_with(alloc, words, SCRIPT, Vec::new(alloc))?;
+        let (status, out, errors) = run_with(&rt, alloc, words, SCRIPT, Vec::new(alloc))?;
         assert_eq!(rt; status, wanted);
         assert_eq!(rt; out.is_empty(), !answered);
         assert_eq!(rt; errors.is_empty(), silent);
@@ -118,11 +134,13 @@ fn reads_the_command_line(rt: HostRuntime) -> Result<(), Fail> {
 #[test]
 fn tells_faults(rt: HostRuntime) -> Result<(), Fail> {
     let alloc = rt.alloc();
-    let (status, _, errors) = run_with(alloc, &["pgpeer", "run"], Broken, Vec::new(alloc))?;
-    assert_eq!(rt; status, FAULT);
-    assert_eq!(rt; errors.as_slice(), b"pgpeer: read fault\n".as_slice());
-    for word in ["run", "--help"] {
-        let (status, _, errors) = run_with(alloc, &["pgpeer", word], SCRIPT, Broken)?;
+    for words in RUNS {
+        let (status, _, errors) = run_with(&rt, alloc, words, Broken, Vec::new(alloc))?;
+        assert_eq!(rt; status, FAULT);
+        assert_eq!(rt; errors.as_slice(), b"pgpeer: read fault\n".as_slice());
+    }
+    for words in [RUNS[0], RUNS[1], &["pgpeer", "--help"]] {
+        let (status, _, errors) = run_with(&rt, alloc, words, SCRIPT, Broken)?;
         assert_eq!(rt; status, FAULT);
         assert_eq!(rt; errors.as_slice(), b"pgpeer: write fault\n".as_slice());
     }
@@ -142,14 +160,26 @@ fn refuses_wrong_counts(rt: HostRuntime) -> Result<(), Fail> {
         ("--workers", ""),
     ] {
         let words = ["pgpeer", "run", option, number];
-        let (status, out, errors) = run_with(alloc, words.as_slice(), SCRIPT, Vec::new(alloc))?;
+        let (status, out, errors) = run_with(
+            &rt,
+            alloc,
+            words.as_slice(),
+            SCRIPT,
+            Vec::new(alloc),
+        )?;
         assert_eq!(rt; status, USAGE);
         assert!(rt; out.is_empty());
         assert!(rt; errors.starts_with(WRONG_COUNT));
     }
     for option in ["--shards", "--workers"] {
         let words = ["pgpeer", "run", option];
-        let (status, out, errors) = run_with(alloc, words.as_slice(), SCRIPT, Vec::new(alloc))?;
+        let (status, out, errors) = run_with(
+            &rt,
+            alloc,
+            words.as_slice(),
+            SCRIPT,
+            Vec::new(alloc),
+        )?;
         assert_eq!(rt; status, USAGE);
         assert!(rt; out.is_empty());
         assert!(rt; errors.starts_with(b"error: a value is required for '--"));
@@ -160,7 +190,13 @@ fn refuses_wrong_counts(rt: HostRuntime) -> Result<(), Fail> {
 #[test]
 fn tells_its_version(rt: HostRuntime) -> Result<(), Fail> {
     let alloc = rt.alloc();
-    let (status, out, _) = run_with(alloc, &["pgpeer", "--version"], SCRIPT, Vec::new(alloc))?;
+    let (status, out, _) = run_with(
+        &rt,
+        alloc,
+        &["pgpeer", "--version"],
+        SCRIPT,
+        Vec::new(alloc),
+    )?;
     assert_eq!(rt; status, DONE);
     assert_eq!(rt; out.as_slice(), b"pgpeer 0.1.0\n".as_slice());
     Ok(())
@@ -184,6 +220,19 @@ const LINES: &[u8] = b"{\"op\":\"act\"}\n[]\n{\"op\":\"close\"}";
 const ANSWERS: &[u8] =
     b"{\"code\":32,\"refused\":\"NoOp\"}\n{\"code\":32,\"refused\":\"NoOp\"}\n{\"count\":1,\"epoch\":0,\"ok\":\"close\"}\n";
 
+#[test]
+fn answers_the_same_with_workers(rt: HostRuntime) -> Result<(), Fail> {
+    let alloc = rt.alloc();
+    for (shards, workers) in [("1", "1"), ("3", "2"), ("64", "64")] {
+        let words = ["pgpeer", "run", "--shards", shards, "--workers", workers];
+        let (status, out, errors) = run_with(&rt, alloc, words.as_slice(), LINES, Vec::new(alloc))?;
+        assert_eq!(rt; status, DONE);
+        assert_eq!(rt; out.as_slice(), ANSWERS);
+        assert!(rt; errors.is_empty());
+    }
+    Ok(())
+}
+
 /// The status that a failed call leaves, with what is told of it, and the status where none failed.
 fn is_told(status: u8, errors: &[u8], fault: &[u8]) -> bool {
     if status == DONE {
@@ -196,16 +245,18 @@ fn is_told(status: u8, errors: &[u8], fault: &[u8]) -> bool {
 #[test]
 fn tells_of_each_read_that_fails(rt: HostRuntime) -> Result<(), Fail> {
     let alloc = rt.alloc();
-    for calls_left in 0..6 {
-        let reader = Failing {
-            stream: LINES,
-            calls_left,
-        };
-        let (status, out, errors) = run_with(alloc, &["pgpeer", "run"], reader, Vec::new(alloc))?;
-        assert!(rt; is_told(status, errors.as_slice(), b"pgpeer: read fault\n"));
-        assert_eq!(rt; status == DONE, calls_left >= 4);
-        assert!(rt; ANSWERS.starts_with(out.as_slice()));
-        assert_eq!(rt; out.as_slice() == ANSWERS, status == DONE);
+    for words in RUNS {
+        for calls_left in 0..6 {
+            let reader = Failing {
+                stream: LINES,
+                calls_left,
+            };
+            let (status, out, errors) = run_with(&rt, alloc, words, reader, Vec::new(alloc))?;
+            assert!(rt; is_told(status, errors.as_slice(), b"pgpeer: read fault\n"));
+            assert_eq!(rt; status == DONE, calls_left >= 4);
+            assert!(rt; ANSWERS.starts_with(out.as_slice()));
+            assert_eq!(rt; out.as_slice() == ANSWERS, status == DONE);
+        }
     }
     Ok(())
 }
@@ -213,19 +264,21 @@ fn tells_of_each_read_that_fails(rt: HostRuntime) -> Result<(), Fail> {
 #[test]
 fn tells_of_each_write_that_fails(rt: HostRuntime) -> Result<(), Fail> {
     let alloc = rt.alloc();
-    let mut done = false;
-    for calls_left in 0..30 {
-        let writer = Failing {
-            stream: Vec::new(alloc),
-            calls_left,
-        };
-        let (status, out, errors) = run_with(alloc, &["pgpeer", "run"], LINES, writer)?;
-        assert!(rt; is_told(status, errors.as_slice(), b"pgpeer: write fault\n"));
-        assert!(rt; ANSWERS.starts_with(out.stream.as_slice()));
-        assert!(rt; status == FAULT || out.stream.as_slice() == ANSWERS);
-        assert!(rt; status == DONE || !done);
-        done = status == DONE;
+    for words in RUNS {
+        let mut done = false;
+        for calls_left in 0..30 {
+            let writer = Failing {
+                stream: Vec::new(alloc),
+                calls_left,
+            };
+            let (status, out, errors) = run_with(&rt, alloc, words, LINES, writer)?;
+            assert!(rt; is_told(status, errors.as_slice(), b"pgpeer: write fault\n"));
+            assert!(rt; ANSWERS.starts_with(out.stream.as_slice()));
+            assert!(rt; status == FAULT || out.stream.as_slice() == ANSWERS);
+            assert!(rt; status == DONE || !done);
+            done = status == DONE;
+        }
+        assert!(rt; done);
     }
-    assert!(rt; done);
     Ok(())
 }
