@@ -46,7 +46,7 @@ pub(crate) fn view_of(
     ensures view { IfOk result (λ view. view ≡ scratch (map arc_value entries.now) pg.now) }
     ensures wants { OnErr result (HasInc (map arc_value entries.now)) }
 {
-    let replay = replay_front(alloc, entries, pg)?;
+    let mut replay = replay_front(alloc, entries, pg)?;
     replay.view(entries.len())
 }
 
@@ -141,13 +141,15 @@ impl Replay {
         }
     }
 
-    /// All that the entries say of the group, where the map that they make has it. `count` is their number.
-    pub fn view(&self, count: usize) -> Result<Option<View>, AllocError>
-        ensures view { IfOk result (λ view. (log : List AnyEntry) (pg : Id) → IsReplayOf log pg self.now → length log ≡ count
+    /// All that the entries say of the group, where the map that they make has it. `count` is their number. After an error
+    /// the replay stands for the same entries.
+    pub fn view(&mut self, count: usize) -> Result<Option<View>, AllocError>
+        ensures view { IfOk result (λ view. (log : List AnyEntry) (pg : Id) → IsReplayOf log pg self.old → length log ≡ count
             → view ≡ scratch log pg) }
-        ensures wants { OnErr result (is_some self.now.group ≡ true) }
+        ensures same { (log : List AnyEntry) (pg : Id) → IsReplayOf log pg self.old → IsReplayOf log pg self.new }
+        ensures wants { OnErr result (is_some self.old.group ≡ true) }
     {
-        match &self.group {
+        match &mut self.group {
             Some(group) => Ok(Some(group.view(&self.after, count)?)),
             None => Ok(None),
         }
