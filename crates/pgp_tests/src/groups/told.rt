@@ -92,9 +92,11 @@ impl Told {
     }
 
     /// What is answered of the group after so many entries.
-    pub fn answer(&self, alloc: Global, count: usize) -> Result<Vec<u8>, Fail> {
-        let view = self.group.view(&self.after, count);
-        let view = view.or_else(|_| self.group.view(&self.after, count))?;
+    pub fn answer(&mut self, alloc: Global, count: usize) -> Result<Vec<u8>, Fail> {
+        let view = match self.group.view(&self.after, count) {
+            Ok(view) => view,
+            Err(_) => self.group.view(&self.after, count)?,
+        };
         let reply = Reply::Asked(group()?, view);
         let text = write_reply(alloc, &reply);
         Ok(text.or_else(|_| write_reply(alloc, &reply))?)
