@@ -5,7 +5,6 @@ use Rattle.std.proofs.lemmas.List.{drop_at, take-append-drop}
 use Rattle.pgp_ids.specs.declared.entry.Entry.{Entry}
 use Rattle.pgp_log.specs.Log.{IsFrontOf, is_legal}
 use Rattle.pgp_log.proofs.LogLemmas.{front-legal}
-use Rattle.pgp_feed.proofs.Fronts.{take_legal}
 use Rattle.pgp_feed.specs.Receipts.{entries_of}
 use Rattle.pgp_feed.specs.declared.receipt.Receipt.{Receipt}
 
@@ -42,4 +41,4 @@ front_legal a b f legal = front-legal a f.rest (subst (λ (l : List Entry). is_l
 
 -- what any receipt names is legal
 pub receipt_legal : (r : Receipt) → is_legal (entries_of r) ≡ true
-receipt_legal r = take_legal r.len r.seen.log r.legal
+receipt_legal r = front_legal (take r.len r.seen.log) r.seen.log (take_front r.len r.seen.log) r.legal
