@@ -7,6 +7,8 @@
 #include <errno.h>
 #include <stdio.h>
 #include <stdlib.h>
+#include <sys/syscall.h>
+#include <unistd.h>
 
 static void *(*next_malloc)(size_t);
 static void *(*next_calloc)(size_t, size_t);
@@ -33,6 +35,12 @@ __attribute__((destructor)) static void end(void) {
         fprintf(file, "%ld\n", counted);
         fclose(file);
     }
+}
+
+// A program with threads ends by this, which runs no destructors.
+void _exit(int status) {
+    end();
+    for (;;) syscall(SYS_exit_group, status);
 }
 
 static int is_refused(void) {
