@@ -1,135 +1,137 @@
 //! That a call which lacked memory has changed no log and shortened no front, and can be made again. Under
 //! `rt try --test --fail-alloc N` the Nth allocation is refused; in the gate none is.
-ghost use Rattle.std.specs.Prelude.{◌≡◌, ◌<◌, [], length, All, IfOk};
-ghost use Rattle.pgp_feed.specs.Receipts.{entries_of, feed_of};
-ghost use Rattle.pgp_feed.specs.Feeds.{told_of};
-ghost use Rattle.pgp_feed.specs.Taps.{last_of};
+ghost use Rattle.std.specs.Prelude.{◌<◌};
 
-use crate::entries::{first_map, group, info, step};
-use crate::opened::{TAPS, opened};
-use pgp_engine::{Answer, AskFault, Engine, Naming, SubmitFault};
-use pgp_feed::{Feed, Receipt, Tap};
-use pgp_ids::Entry;
-use std::alloc::{AllocError, Global};
-use std::marker::Brand;
+use crate::desk::{Desk, Placed, Placer, Ticket, Told};
+use crate::lines::{OBJECT, SERVES, SHARD, TO_SERVE, entry, group, is_told, object};
+use crate::opened::{SHARDS, Trial, tried};
+use crate::steps::put;
+use pgp_engine::{AskFault, LocateFault, Naming};
+use pgp_ids::{Entry, ObjectName, PoolId, View};
+use std::alloc::Global;
 use std::process::Abort;
 use std::sync::Wait;
-use std::test::Fail;
 
-const ENTRIES: usize = 6;
-
-// The entry that comes after so many: maps at the start and in the middle, and infos.
-fn entry(alloc: Global, before: usize) -> Result<Entry, AllocError> {
-    match before {
-        0 => Ok(Entry::Inc(first_map(alloc)?)),
-        3 => Ok(Entry::Inc(step(alloc, 2))),
-        _ => Ok(info(1)),
-    }
-}
-
-// Submits the entry that comes next.
-fn submit_next<J: Naming, R: Wait + AllocGlobal>(
+pub fn call_again<J: Naming, R: Wait + Abort + AllocGlobal>(
     rt: &R,
-    engine: &Engine<J>,
-    q: &Receipt,
-) -> Result<Receipt, SubmitFault>
-    requires { feed_of q.now ≡ J.feed }
-    ensures { IfOk result (λ r. feed_of r ≡ J.feed) }
-{
-    let next = entry(rt.alloc(), q.len())?;
-    engine.submit(rt, next, q)
+    desk: &Desk<J>,
+    client: &mut Placer<J>,
+) {
+    submit_and_ask(rt, desk);
+    read_on(rt, desk, TO_SERVE.len() - 1);
+    read_on(rt, desk, TO_SERVE.len());
+    place(rt, client, TO_SERVE.len());
 }
 
-// The same, and once more where there was no memory.
+// Submits each entry, and asks about the group by a front that holds it.
+fn submit_and_ask<J: Naming, R: Wait + Abort + AllocGlobal>(rt: &R, desk: &Desk<J>) {
+    let mut told = desk.told(rt);
+    for taken in 0..TO_SERVE.len() {
+        told = submit_surely(rt, desk, TO_SERVE[taken], &told);
+        assert_eq!(rt; told.len(), taken + 1);
+        view_of(rt, desk, &told, taken + 1);
+    }
+    let view = view_of(rt, desk, &told, TO_SERVE.len());
+    let text = is_told(rt.alloc(), view, SERVES);
+    assert!(rt; text.ok().expect(rt, "memory"));
+}
+
+// What is answered of the group by a log of so many entries.
+fn view_of<J: Naming, R: Wait + Abort>(
+    rt: &R,
+    desk: &Desk<J>,
+    known: &Ticket<J>,
+    count: usize,
+) -> View {
+    let answer = ask_surely(rt, desk, known).ok().expect(rt, "an answer");
+    assert_eq!(rt; answer.at.len(), count);
+    assert_eq!(rt; answer.view.count, count);
+    answer.view
+}
+
+// Lets the first shard read, which asks passed by, and which has then read so many entries.
+fn read_on<J: Naming, R: Wait + Abort>(rt: &R, desk: &Desk<J>, count: usize) {
+    let read = absorb_surely(rt, desk, 0, count).ok().expect(rt, "read");
+    assert!(rt; read.len() >= count);
+}
+
+// Places an object by the whole log.
+fn place<J: Naming, R: Abort + AllocGlobal>(rt: &R, client: &mut Placer<J>, whole: usize) {
+    let asked = object(rt.alloc(), OBJECT).or_else(|| object(rt.alloc(), OBJECT));
+    let (pool, name) = asked.expect(rt, "an object");
+    let place = locate_surely(client, pool, &name);
+    let place = place.ok().expect(rt, "a place");
+    assert_eq!(rt; place.at.len(), whole);
+    assert!(rt; place.pg == group());
+}
+
+fn entry_surely(alloc: Global, line: &str) -> Option<Entry> {
+    entry(alloc, line).or_else(|| entry(alloc, line))
+}
+
 fn submit_surely<J: Naming, R: Wait + Abort + AllocGlobal>(
     rt: &R,
-    engine: &Engine<J>,
-    q: &Receipt,
-) -> Result<Receipt, SubmitFault>
-    requires { feed_of q.now ≡ J.feed }
-    ensures { IfOk result (λ r. feed_of r ≡ J.feed) }
-{
-    match submit_next(rt, engine, q) {
-        Err(SubmitFault::Memory) => {
-            assert_eq!(rt; engine.told(rt).len(), q.len());
-            submit_next(rt, engine, q)
+    desk: &Desk<J>,
+    line: &str,
+    known: &Ticket<J>,
+) -> Ticket<J> {
+    let next = entry_surely(rt.alloc(), line).expect(rt, "an entry");
+    match desk.submit(rt, next, known) {
+        Ok(told) => told,
+        Err(refused) => {
+            assert_eq!(rt; refused.number, 51);
+            assert_eq!(rt; desk.told(rt).len(), known.len());
+            put(rt, desk, line, known)
         }
-        submitted => submitted,
     }
 }
 
-// Asks about a group, and once more where there was no memory.
-fn ask_surely<J: Naming, R: Wait>(
+fn ask_surely<J: Naming, R: Wait + Abort>(
     rt: &R,
-    engine: &Engine<J>,
-    q: &Receipt,
-) -> Result<Answer, AskFault>
-    requires { feed_of q.now ≡ J.feed }
-{
-    match engine.ask(rt, group(1), q) {
-        Err(AskFault::Memory) => engine.ask(rt, group(1), q),
+    desk: &Desk<J>,
+    known: &Ticket<J>,
+) -> Result<Told<J>, AskFault> {
+    let before = desk.absorb(rt, SHARD, 0)?.len();
+    match desk.ask(rt, group(), known) {
+        Err(AskFault::Memory) => {
+            assert_eq!(rt; desk.told(rt).len(), known.len());
+            assert!(rt; desk.absorb(rt, SHARD, 0)?.len() >= before);
+            desk.ask(rt, group(), known)
+        }
         answered => answered,
     }
 }
 
-// Lets the other shard read on by some entries, and once more where there was no memory.
-fn absorb_surely<J: Naming, R: Wait>(
+fn absorb_surely<J: Naming, R: Wait + Abort>(
     rt: &R,
-    engine: &Engine<J>,
+    desk: &Desk<J>,
+    shard: usize,
     max: usize,
-) -> Result<Receipt, AskFault>
-    requires { 0 < engine.now.shards }
+) -> Result<Ticket<J>, AskFault>
+    requires { shard < SHARDS }
 {
-    match engine.absorb_some(rt, 0, max) {
-        Err(AskFault::Memory) => engine.absorb_some(rt, 0, max),
+    let before = desk.absorb(rt, shard, 0)?.len();
+    match desk.absorb(rt, shard, max) {
+        Err(AskFault::Memory) => {
+            assert!(rt; desk.absorb(rt, shard, 0)?.len() >= before);
+            desk.absorb(rt, shard, max)
+        }
         absorbed => absorbed,
     }
 }
 
-fn each_call_again<J: Naming, R: Wait + Abort + AllocGlobal>(
-    rt: &R,
-    engine: &Engine<J>,
-) -> Result<(), Fail>
-    requires { 0 < engine.now.shards }
-{
-    let mut told = engine.told(rt);
-    for before in 0..ENTRIES {
-        told = submit_surely(rt, engine, &told)?;
-        assert_eq!(rt; told.len(), before + 1);
-        let answer = ask_surely(rt, engine, &told)?;
-        assert_eq!(rt; answer.view.count, before + 1);
-        assert_eq!(rt; answer.at.len(), before + 1);
+fn locate_surely<J: Naming>(
+    client: &mut Placer<J>,
+    pool: PoolId,
+    name: &ObjectName,
+) -> Result<Placed<J>, LocateFault> {
+    match client.locate(pool, name) {
+        Err(LocateFault::Memory) => client.locate(pool, name),
+        located => located,
     }
-    let first = absorb_surely(rt, engine, ENTRIES - 1)?;
-    assert!(rt; first.len() + 1 >= ENTRIES);
-    let rest = absorb_surely(rt, engine, ENTRIES)?;
-    assert_eq!(rt; rest.len(), ENTRIES);
-    Ok(())
-}
-
-fn over<J: Naming, R: Wait + Abort + AllocGlobal>(
-    rt: &R,
-    feed: Feed,
-    taps: Vec<Tap>,
-) -> Result<(), Fail>
-    requires named { feed_of (told_of feed) ≡ J.feed }
-    requires empty { entries_of (told_of feed) ≡ [] }
-    requires count { length taps.items ≡ TAPS }
-    requires each { All (λ tap. last_of tap ≡ told_of feed) taps.items }
-{
-    // Without memory no engine is made, and the feed is given up.
-    let Ok((engine, _)) = opened::<J, R>(rt, rt.alloc(), feed, taps) else {
-        return Ok(());
-    };
-    let outcome = each_call_again(rt, &engine);
-    engine.give_up(rt);
-    outcome
 }
 
 #[test]
-fn each_call_can_be_made_again(rt: HostRuntime) -> Result<(), Fail> {
-    let Ok((feed, taps)) = Feed::make(&rt, rt.alloc(), TAPS) else {
-        return Ok(());
-    };
-    over::<Brand, _>(&rt, feed, taps)
+fn each_call_can_be_made_again(rt: HostRuntime) {
+    tried(&rt, Trial::EachCallAgain);
 }

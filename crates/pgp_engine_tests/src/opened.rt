@@ -1,33 +1,108 @@
-//! An engine over a feed that was just made.
-ghost use Rattle.std.specs.Prelude.{◌≡◌, [], length, All, IfOk};
-ghost use Rattle.pgp_feed.specs.Receipts.{entries_of, feed_of};
-ghost use Rattle.pgp_feed.specs.Feeds.{told_of};
-ghost use Rattle.pgp_feed.specs.Taps.{last_of};
+//! How a test gets its engine, over a feed that was just made.
+ghost use Rattle.std.specs.Prelude.{◌≡◌, length};
+ghost use Rattle.pgp_engine_tests.specs.Opened.{IsOpened};
 
+use crate::absorbs::{absorb_by_two, ask_by_older};
+use crate::clients::place_by_two;
+use crate::closes::close_and_submit;
+use crate::desk::{Desk, Placer};
+use crate::growths::call_again;
+use crate::races::race;
+use crate::submits::{submit_many_times, submit_twice};
+use crate::workers::{close_beside, hold_one, place_past_both, work_at_once};
 use pgp_engine::{Client, Engine, MakeFault, Naming};
 use pgp_feed::{Feed, Tap};
-use std::alloc::Global;
+use std::marker::Brand;
+use std::process::Abort;
 use std::sync::Wait;
+use std::thread::Threads;
+use std::time::Clock;
 
 /// How many shards the engines of the tests have.
 pub const SHARDS: usize = 2;
 
-/// How many taps their feeds have: one for each shard and for the intake, and two for clients.
-pub const TAPS: usize = SHARDS + 3;
+/// How many workers serve them.
+pub const WORKERS: usize = 2;
 
-/// The engine over this feed, and its two clients.
-pub fn opened<J: Naming, R: Wait>(
+/// How many taps their feeds have: one for each shard and for the intake, and two for clients.
+const TAPS: usize = SHARDS + 3;
+
+/// What is tried with an engine to which nothing was submitted yet, and with its two clients.
+#[derive(Clone, Copy)]
+pub enum Trial {
+    Closes,
+    ManySubmits,
+    TwoSubmits,
+    OneEpoch,
+    TwoAbsorb,
+    OlderReceipts,
+    TwoClients,
+    EachCallAgain,
+    HeldShard,
+    BothAtOnce,
+    ClientPasses,
+    CloseBeside,
+}
+
+fn run<
+    J: Naming + Send + Sync,
+    R: Threads + Wait + Abort + Clock + AllocGlobal + Sync + Copy + Drop,
+>(rt: &R, trial: Trial, desk: &Desk<J>, one: &mut Placer<J>, other: &mut Placer<J>) {
+    match trial {
+        Trial::Closes => close_and_submit(rt, desk, one),
+        Trial::ManySubmits => submit_many_times(rt, desk),
+        Trial::TwoSubmits => submit_twice(rt, desk),
+        Trial::OneEpoch => race(rt, desk, one),
+        Trial::TwoAbsorb => absorb_by_two(rt, desk, one),
+        Trial::OlderReceipts => ask_by_older(rt, desk, one),
+        Trial::TwoClients => place_by_two(rt, desk, one, other),
+        Trial::EachCallAgain => call_again(rt, desk, one),
+        Trial::HeldShard => hold_one(rt, desk, one),
+        Trial::BothAtOnce => work_at_once(rt, desk, one),
+        Trial::ClientPasses => place_past_both(rt, desk, one),
+        Trial::CloseBeside => close_beside(rt, desk, one),
+    }
+}
+
+/// Tries it. Where one allocation is refused as the feed and the engine are made, they are made once more.
+pub fn tried<R: Threads + Wait + Abort + Clock + AllocGlobal + Sync + Copy + Drop>(
     rt: &R,
-    alloc: Global,
-    feed: Feed,
-    taps: Vec<Tap>,
-) -> Result<(Engine<J>, Vec<Client<J>>), MakeFault>
-    requires named { feed_of (told_of feed) ≡ J.feed }
-    requires empty { entries_of (told_of feed) ≡ [] }
+    trial: Trial,
+) {
+    if made_and_tried(rt, trial).is_err() {
+        assert!(rt; made_and_tried(rt, trial).is_ok(), "an engine");
+    }
+}
+
+fn made_and_tried<R: Threads + Wait + Abort + Clock + AllocGlobal + Sync + Copy + Drop>(
+    rt: &R,
+    trial: Trial,
+) -> Result<(), MakeFault> {
+    let (feed, taps) = Feed::make(rt, rt.alloc(), TAPS)?;
+    over::<Brand, R>(rt, trial, feed, taps)
+}
+
+fn over<
+    J: Naming + Send + Sync,
+    R: Threads + Wait + Abort + Clock + AllocGlobal + Sync + Copy + Drop,
+>(rt: &R, trial: Trial, feed: Feed, taps: Vec<Tap>) -> Result<(), MakeFault>
+    requires opened { IsOpened feed taps.items J.feed }
     requires count { length taps.items ≡ TAPS }
-    requires each { All (λ tap. last_of tap ≡ told_of feed) taps.items }
-    ensures sizes { IfOk result (λ made. made.0 ≡ record { shards = SHARDS; workers = 1 }) }
-    ensures clients { IfOk result (λ made. length made.1.items ≡ 2) }
 {
-    Engine::make(rt, alloc, feed, taps, SHARDS, 1)
+    let (engine, clients) = Engine::<J>::make(rt, rt.alloc(), feed, taps, SHARDS, WORKERS)?;
+    let desk = Desk::over(engine);
+    let (mut one, mut other) = both(clients);
+    run(rt, trial, &desk, &mut one, &mut other);
+    desk.end(rt);
+    Ok(())
+}
+
+// The two clients.
+fn both<J: Naming>(clients: Vec<Client<J>>) -> (Placer<J>, Placer<J>)
+    requires { length clients.items ≡ 2 }
+{
+    let mut clients = clients;
+    let one = clients.pop().unwrap();
+    let other = clients.pop().unwrap();
+    (Placer::over(one), Placer::over(other))
 }

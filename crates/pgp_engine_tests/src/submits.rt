@@ -1,58 +1,92 @@
 //! Which entries the log has after many submits.
-ghost use Rattle.std.specs.Prelude.{◌≡◌, [], length, All};
-ghost use Rattle.pgp_feed.specs.Receipts.{entries_of, feed_of};
-ghost use Rattle.pgp_feed.specs.Feeds.{told_of};
-ghost use Rattle.pgp_feed.specs.Taps.{last_of};
-
-use crate::entries::{first_map, group, info};
-use crate::opened::{TAPS, opened};
-use pgp_engine::{Engine, Naming};
-use pgp_feed::{Feed, Tap};
-use pgp_ids::Entry;
-use std::marker::Brand;
+use crate::desk::{Desk, Ticket};
+use crate::lines::{EMPTY_0, group};
+use crate::opened::{Trial, tried};
+use crate::steps::{put, put_map};
+use pgp_engine::Naming;
 use std::process::Abort;
 use std::sync::Wait;
-use std::test::Fail;
+use std::thread::{Threads, join};
 
-const AGAIN: usize = 200;
+/// How often one thread submits.
+const AGAIN: usize = 100;
 
-// One info is submitted again and again, each time with a receipt of the empty log.
-fn submits_again<J: Naming, R: Wait + Abort + AllocGlobal>(
+// One info is submitted as often, each time with this front.
+fn submit_again<J: Naming, R: Wait + Abort + AllocGlobal>(
     rt: &R,
-    engine: &Engine<J>,
-) -> Result<(), Fail> {
-    let empty = engine.told(rt);
-    assert_eq!(rt; empty.len(), 0);
-    let first = engine.submit(rt, Entry::Inc(first_map(rt.alloc())?), &empty)?;
-    assert_eq!(rt; first.len(), 1);
-    for before in 1..AGAIN + 1 {
-        let told = engine.submit(rt, info(0), &empty)?;
-        assert_eq!(rt; told.len(), before + 1);
+    desk: &Desk<J>,
+    known: &Ticket<J>,
+) {
+    for _ in 0..AGAIN {
+        let told = put(rt, desk, EMPTY_0, known);
+        assert!(rt; told.len() > known.len());
     }
-    let answer = engine.ask(rt, group(0), &engine.told(rt))?;
-    assert_eq!(rt; answer.at.len(), AGAIN + 1);
-    assert_eq!(rt; answer.view.count, AGAIN + 1);
-    Ok(())
 }
 
-fn one_info_many_times<J: Naming, R: Wait + Abort + AllocGlobal>(
+// It asks and reads on meanwhile.
+fn ask_again<J: Naming, R: Wait + Abort>(rt: &R, desk: &Desk<J>, known: &Ticket<J>) {
+    let mut newest = known.again();
+    for _ in 0..AGAIN {
+        let answer = desk.ask(rt, group(), known).ok().expect(rt, "an answer");
+        assert!(rt; answer.at.len() >= newest.len(), "no shard goes back");
+        assert_eq!(rt; answer.view.count, answer.at.len());
+        newest = answer.at;
+        assert!(rt; desk.absorb(rt, 0, 1).is_ok());
+    }
+}
+
+fn both_submit<J: Naming + Send + Sync, R: Threads + Wait + Abort + AllocGlobal + Sync>(
     rt: &R,
-    feed: Feed,
-    taps: Vec<Tap>,
-) -> Result<(), Fail>
-    requires named { feed_of (told_of feed) ≡ J.feed }
-    requires empty { entries_of (told_of feed) ≡ [] }
-    requires count { length taps.items ≡ TAPS }
-    requires each { All (λ tap. last_of tap ≡ told_of feed) taps.items }
-{
-    let (engine, _) = opened::<J, R>(rt, rt.alloc(), feed, taps)?;
-    let outcome = submits_again(rt, &engine);
-    engine.give_up(rt);
-    outcome
+    desk: &Desk<J>,
+    known: &Ticket<J>,
+) {
+    join(
+        rt,
+        || submit_again(rt, desk, known),
+        || submit_again(rt, desk, known),
+    );
+}
+
+fn submit_beside<J: Naming + Send + Sync, R: Threads + Wait + Abort + AllocGlobal + Sync>(
+    rt: &R,
+    desk: &Desk<J>,
+    known: &Ticket<J>,
+) {
+    join(
+        rt,
+        || both_submit(rt, desk, known),
+        || ask_again(rt, desk, known),
+    );
+}
+
+// No gate forces an interleaving: two threads submit and a third asks as they are scheduled, which makes it likely that
+// submits meet at the intake's lock, and that an ask reads the log while it grows.
+pub fn submit_many_times<J: Naming + Send + Sync, R: Threads + Wait + Abort + AllocGlobal + Sync>(
+    rt: &R,
+    desk: &Desk<J>,
+) {
+    let map = put_map(rt, desk);
+    submit_beside(rt, desk, &map);
+    let told = desk.told(rt);
+    assert_eq!(rt; told.len(), 1 + 2 * AGAIN);
+    let answer = desk.ask(rt, group(), &told).ok().expect(rt, "an answer");
+    assert_eq!(rt; answer.view.count, 1 + 2 * AGAIN);
 }
 
 #[test]
-fn one_info_is_published_as_often_as_it_is_submitted(rt: HostRuntime) -> Result<(), Fail> {
-    let (feed, taps) = Feed::make(&rt, rt.alloc(), TAPS)?;
-    one_info_many_times::<Brand, _>(&rt, feed, taps)
+fn one_info_is_published_as_often_as_it_is_submitted(rt: HostRuntime) {
+    tried(&rt, Trial::ManySubmits);
+}
+
+pub fn submit_twice<J: Naming, R: Wait + Abort + AllocGlobal>(rt: &R, desk: &Desk<J>) {
+    let map = put_map(rt, desk);
+    let first = put(rt, desk, EMPTY_0, &map);
+    let second = put(rt, desk, EMPTY_0, &first);
+    assert_eq!(rt; first.len(), 2);
+    assert_eq!(rt; second.len(), 3);
+}
+
+#[test]
+fn an_info_that_was_submitted_is_taken_once_more(rt: HostRuntime) {
+    tried(&rt, Trial::TwoSubmits);
 }

@@ -1,6 +1,6 @@
-use Rattle.pgp_feed.specs.Feeds.{told_of}
 use Rattle.pgp_feed.specs.Receipts.{feed_of}
-use Rattle.pgp_engine_tests.proofs.growths.each_call_can_be_made_again.Given as goal
+use Rattle.pgp_feed.specs.Feeds.{told_of}
+use Rattle.pgp_engine_tests.proofs.opened.made_and_tried.Given as goal
 
 -- the feed that was just made
 abbrev pub ghosts-over : goal.ghosts-over

@@ -1,0 +1,170 @@
+//! The engine of a test, its clients, and receipts of its feed. Their types say of which feed they are, so that a test may
+//! hand any of them to any thread.
+ghost use Rattle.std.specs.Prelude.{◌≡◌, ◌<◌};
+ghost use Rattle.pgp_feed.specs.Receipts.{feed_of};
+ghost use Rattle.pgp_engine_tests.specs.declared.opened.TheConstants.{SHARDS, WORKERS};
+
+use crate::opened::{SHARDS, WORKERS};
+use pgp_engine::{AskFault, Client, Engine, Gate, LocateFault, Naming, SubmitFault};
+use pgp_feed::Receipt;
+use pgp_ids::{Entry, Epoch, Membership, ObjectName, PgId, PoolId, View};
+use std::cmp::Ordering;
+use std::marker::PhantomData;
+use std::sync::Wait;
+
+/// A receipt of the engine's feed.
+#[derive(Drop)]
+pub struct Ticket<J: Naming> {
+    receipt: Receipt,
+    of: PhantomData<J>,
+    ghost named: { feed_of receipt ≡ J.feed },
+}
+
+impl<J: Naming> Ticket<J> {
+    fn over(receipt: Receipt) -> Ticket<J>
+        requires { feed_of receipt ≡ J.feed }
+        ensures { result.receipt ≡ receipt }
+    {
+        Ticket {
+            receipt,
+            of: PhantomData,
+        }
+    }
+
+    pub fn len(&self) -> usize {
+        self.receipt.len()
+    }
+
+    pub fn again(&self) -> Ticket<J> {
+        Ticket::over(self.receipt.again())
+    }
+}
+
+/// The number of a refusal or a fault, and of a refused entry the front that doesn't take it.
+#[derive(Drop)]
+pub struct Refused<J: Naming> {
+    pub number: u8,
+    pub at: Option<Ticket<J>>,
+}
+
+/// What an ask was answered, and by which front.
+#[derive(Drop)]
+pub struct Told<J: Naming> {
+    pub view: View,
+    pub at: Ticket<J>,
+}
+
+/// An engine of two shards and two workers.
+pub struct Desk<J: Naming> {
+    engine: Engine<J>,
+    ghost sizes: { engine ≡ record { shards = SHARDS; workers = WORKERS } },
+}
+
+impl<J: Naming> Desk<J> {
+    pub fn over(engine: Engine<J>) -> Desk<J>
+        requires { engine ≡ record { shards = SHARDS; workers = WORKERS } }
+    {
+        Desk { engine }
+    }
+
+    pub fn told<R: Wait>(&self, rt: &R) -> Ticket<J> {
+        Ticket::over(self.engine.told(rt))
+    }
+
+    pub fn submit<R: Wait>(
+        &self,
+        rt: &R,
+        entry: Entry,
+        known: &Ticket<J>,
+    ) -> Result<Ticket<J>, Refused<J>> {
+        match self.engine.submit(rt, entry, &known.receipt) {
+            Ok(receipt) => Ok(Ticket::over(receipt)),
+            Err(SubmitFault::Refused { why, at }) => Err(Refused {
+                number: why.number(),
+                at: Some(Ticket::over(at)),
+            }),
+            Err(fault) => Err(Refused {
+                number: fault.number(),
+                at: None,
+            }),
+        }
+    }
+
+    pub fn ask<R: Wait>(&self, rt: &R, pg: PgId, known: &Ticket<J>) -> Result<Told<J>, AskFault> {
+        let answer = self.engine.ask(rt, pg, &known.receipt)?;
+        Ok(Told {
+            view: answer.view,
+            at: Ticket::over(answer.at),
+        })
+    }
+
+    /// Lets one of the two shards read on.
+    pub fn absorb<R: Wait>(&self, rt: &R, shard: usize, max: usize) -> Result<Ticket<J>, AskFault>
+        requires { shard < SHARDS }
+    {
+        Ok(Ticket::over(self.engine.absorb_some(rt, shard, max)?))
+    }
+
+    /// Serves the shards of a seat until they have read a Close. It has none: there is no ticket.
+    pub fn work<R: Wait, G: Gate>(
+        &self,
+        rt: &R,
+        seat: usize,
+        gate: &G,
+    ) -> Result<Option<Ticket<J>>, AskFault>
+        requires { seat < WORKERS }
+    {
+        match self.engine.work(rt, seat, gate)? {
+            Some(receipt) => Ok(Some(Ticket::over(receipt))),
+            None => Ok(None),
+        }
+    }
+
+    pub fn end(self, rt: &impl Wait) {
+        let Desk { engine } = self;
+        engine.give_up(rt);
+    }
+}
+
+/// Where an object lies, in the map of which epoch, and by which front.
+#[derive(Drop)]
+pub struct Placed<J: Naming> {
+    pub pg: PgId,
+    pub members: Membership,
+    pub epoch: Epoch,
+    pub at: Ticket<J>,
+}
+
+/// A client of the engine.
+#[derive(Drop)]
+pub struct Placer<J: Naming> {
+    client: Client<J>,
+}
+
+impl<J: Naming> Placer<J> {
+    pub fn over(client: Client<J>) -> Placer<J> {
+        Placer { client }
+    }
+
+    pub fn newest(&mut self) -> Ticket<J> {
+        Ticket::over(self.client.newest())
+    }
+
+    pub fn learn(&mut self, ticket: &Ticket<J>) {
+        self.client.learn(&ticket.receipt);
+    }
+
+    pub fn meet(&mut self, one: &Ticket<J>, other: &Ticket<J>) -> Ordering {
+        self.client.meet(&one.receipt, &other.receipt)
+    }
+
+    pub fn locate(&mut self, pool: PoolId, name: &ObjectName) -> Result<Placed<J>, LocateFault> {
+        let place = self.client.locate(pool, name)?;
+        Ok(Placed {
+            pg: place.pg,
+            members: place.members,
+            epoch: place.epoch,
+            at: Ticket::over(place.at),
+        })
+    }
+}

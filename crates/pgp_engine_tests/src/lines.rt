@@ -1,0 +1,96 @@
+//! What the tests submit and ask, by lines of the project's own format.
+use crate::desk::Placed;
+use pgp_engine::Naming;
+use pgp_ids::{Entry, ObjectName, PgId, PoolId, View};
+use pgp_text::{Command, Reply, read_line, write_reply};
+use std::alloc::{AllocError, Global};
+
+/// Pool 1 of three copies over the devices 0, 1 and 2, of which device 0 alone has weight; pg_temp puts its one group on
+/// all three. The second of two shards answers for the group.
+pub const MAP: &str =
+    r#"{"op":"inc","epoch":1,"up":[0,1,2],"weight":[[1,0],[2,0]],"crush":[{"id":-1,"type":1,"alg":"uniform","items":[0,1,2]}],"pools":[{"id":1,"pg_num":1,"kind":"replicated","size":3,"min_size":2,"leaf":0}],"temp":[[1,0,[0,1,2]]]}"#;
+
+/// The shard that answers for the group.
+pub const SHARD: usize = 1;
+
+/// An incremental of epoch 1 that changes nothing.
+pub const STEP: &str = r#"{"op":"inc","epoch":1}"#;
+
+/// Infos of the devices 0 and 1, which have no write.
+pub const EMPTY_0: &str =
+    r#"{"op":"info","pg":[1,0],"from":[0,0],"stamp":1,"les":0,"history_les":0,"last_update":[0,0],"log_tail":[0,0],"complete":true}"#;
+
+pub const EMPTY_1: &str =
+    r#"{"op":"info","pg":[1,0],"from":[1,0],"stamp":1,"les":0,"history_les":0,"last_update":[0,0],"log_tail":[0,0],"complete":true}"#;
+
+pub const CLOSE: &str = r#"{"op":"close"}"#;
+
+/// The entries after which the group serves.
+pub const TO_SERVE: [&str; 6] = [
+    MAP,
+    r#"{"op":"info","pg":[1,0],"from":[0,0],"stamp":1,"les":0,"history_les":0,"last_update":[1,2],"log_tail":[0,0],"complete":true}"#,
+    r#"{"op":"info","pg":[1,0],"from":[1,0],"stamp":1,"les":0,"history_les":0,"last_update":[1,1],"log_tail":[0,0],"complete":true}"#,
+    r#"{"op":"info","pg":[1,0],"from":[2,0],"stamp":1,"les":0,"history_les":0,"last_update":[0,0],"log_tail":[0,0],"complete":true}"#,
+    r#"{"op":"entries","pg":[1,0],"from":[0,0],"stamp":1,"log":[[1,1,"modify","a"],[1,2,"modify","b"]]}"#,
+    r#"{"op":"inc","epoch":2,"up_thru":[[0,1]]}"#,
+];
+
+/// What is answered of the group then.
+pub const SERVES: &str =
+    r#"{"acting":[0,1,2],"acting_primary":0,"best":[0,0],"blocked_by":[],"count":6,"epoch":2,"first":1,"intervals":[],"les":0,"missing":[{"member":[1,0],"objects":{"b":[1,2]},"state":"missing"},{"member":[2,0],"objects":{"a":[1,1],"b":[1,2]},"state":"missing"}],"ok":"ask","pg":[1,0],"probe":[[0,0],[1,0],[2,0]],"up":[0],"up_primary":0,"verdict":"Serve"}"#;
+
+/// Where the map puts the object of `OBJECT`.
+pub const PLACE: &str =
+    r#"{"acting":[0,1,2],"acting_primary":0,"epoch":1,"ok":"locate","pg":[1,0],"up":[0],"up_primary":0}"#;
+
+/// An object of the pool.
+pub const OBJECT: &str = r#"{"op":"locate","pool":1,"name":"a"}"#;
+
+/// The one group of the pool.
+pub fn group() -> PgId {
+    PgId {
+        pool: PoolId::new(1).unwrap(),
+        pg: 0,
+    }
+}
+
+/// The entry that the line is.
+pub fn entry(alloc: Global, line: &str) -> Option<Entry> {
+    match read_line(alloc, line.as_bytes()).ok()? {
+        Command::Submit(entry) => Some(entry),
+        _other => None,
+    }
+}
+
+/// The object that the line asks for.
+pub fn object(alloc: Global, line: &str) -> Option<(PoolId, ObjectName)> {
+    match read_line(alloc, line.as_bytes()).ok()? {
+        Command::Locate { pool, name } => Some((pool, name)),
+        _other => None,
+    }
+}
+
+/// This is what is answered of the group.
+pub fn is_told(alloc: Global, view: View, answer: &str) -> Result<bool, AllocError> {
+    is_written(alloc, &Reply::Asked(group(), view), answer)
+}
+
+/// This is what is answered of an object that lies there.
+pub fn is_placed<J: Naming>(
+    alloc: Global,
+    place: Placed<J>,
+    answer: &str,
+) -> Result<bool, AllocError> {
+    let reply = Reply::Located {
+        pg: place.pg,
+        members: place.members,
+        epoch: place.epoch,
+    };
+    is_written(alloc, &reply, answer)
+}
+
+// This is the reply's text, for which one allocation may be refused.
+fn is_written(alloc: Global, reply: &Reply, answer: &str) -> Result<bool, AllocError> {
+    let text = write_reply(alloc, reply).or_else(|_| write_reply(alloc, reply))?;
+    Ok(text.as_slice() == answer.as_bytes())
+}

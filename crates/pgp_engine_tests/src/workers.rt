@@ -1,0 +1,265 @@
+//! What workers do, each on a thread of its own.
+use crate::desk::{Desk, Placer, Ticket};
+use crate::gates::{Both, Held, rest};
+use crate::lines::{CLOSE, EMPTY_0, EMPTY_1, OBJECT, PLACE, entry, group, is_placed, object};
+use crate::opened::{Trial, tried};
+use crate::races::{Outcome, both_submit};
+use crate::refusals::was_refused;
+use crate::steps::{are_level, put, put_map};
+use pgp_engine::{Gate, Naming, Open};
+use pgp_ids::Entry;
+use std::cmp::Ordering;
+use std::process::Abort;
+use std::sync::Wait;
+use std::thread::{Threads, join};
+use std::time::Clock;
+
+/// How often a thread looks at most.
+const TURNS: u32 = 1_000_000;
+
+// The receipts with which two workers end.
+type Ends<J> = (Ticket<J>, Ticket<J>);
+
+// Has two workers serve until the log is closed.
+fn both_work<J: Naming + Send + Sync, R: Threads + Wait + Abort + Clock + Sync, G: Gate + Sync>(
+    rt: &R,
+    desk: &Desk<J>,
+    gate: &G,
+) -> Ends<J> {
+    let (one, other) = join(rt, || desk.work(rt, 0, gate), || desk.work(rt, 1, gate));
+    let one = one.ok().expect(rt, "no fault").expect(rt, "a shard");
+    let other = other.ok().expect(rt, "no fault").expect(rt, "a shard");
+    (one, other)
+}
+
+// Closes the log, whatever it is, and says by which front.
+fn close<J: Naming, R: Wait + Abort + AllocGlobal>(rt: &R, desk: &Desk<J>) -> Ticket<J> {
+    put(rt, desk, CLOSE, &desk.told(rt))
+}
+
+// Adds an info, on a thread of its own.
+fn add_elsewhere<J: Naming + Send + Sync, R: Threads + Wait + Abort + AllocGlobal + Sync>(
+    rt: &R,
+    desk: &Desk<J>,
+    known: &Ticket<J>,
+) -> Ticket<J> {
+    let info = entry(rt.alloc(), EMPTY_0).expect(rt, "an entry");
+    let (told, ()) = join(rt, || desk.submit(rt, info, known), || ());
+    told.ok().expect(rt, "taken")
+}
+
+// The gate forces it: the worker of the first shard holds that shard's lock until the ask of the second has its answer.
+pub fn hold_one<
+    J: Naming + Send + Sync,
+    R: Threads + Wait + Abort + Clock + AllocGlobal + Sync + Copy + Drop,
+>(rt: &R, desk: &Desk<J>, client: &mut Placer<J>) {
+    let map = put_map(rt, desk);
+    let gate = Held::new(*rt, [true, false]);
+    let (ends, closed) = work_and_ask(rt, desk, &gate, &map);
+    assert!(rt; !gate.ran_out());
+    are_level(rt, client, &ends, &closed);
+}
+
+// The ends of two workers, and the Close that comes after the ask.
+fn work_and_ask<
+    J: Naming + Send + Sync,
+    R: Threads + Wait + Abort + Clock + AllocGlobal + Sync + Copy + Drop,
+>(rt: &R, desk: &Desk<J>, gate: &Held<R>, map: &Ticket<J>) -> (Ends<J>, Ticket<J>) {
+    join(
+        rt,
+        || both_work(rt, desk, gate),
+        || {
+            ask_past(rt, desk, gate, map);
+            gate.open();
+            close(rt, desk)
+        },
+    )
+}
+
+// Once the first shard is held, the second answers by what was told after that.
+fn ask_past<
+    J: Naming + Send + Sync,
+    R: Threads + Wait + Abort + Clock + AllocGlobal + Sync + Copy + Drop,
+>(rt: &R, desk: &Desk<J>, gate: &Held<R>, map: &Ticket<J>) {
+    assert!(rt; gate.is_reached());
+    let told = add_elsewhere(rt, desk, map);
+    let answer = desk.ask(rt, group(), &told).ok().expect(rt, "an answer");
+    assert_eq!(rt; answer.at.len(), told.len());
+    assert_eq!(rt; answer.view.count, told.len());
+    assert_eq!(rt; desk.told(rt).len(), told.len());
+    let again = desk.ask(rt, group(), map).ok().expect(rt, "an answer");
+    assert!(rt; again.at.len() >= answer.at.len());
+}
+
+#[test]
+fn a_shard_answers_while_another_is_held(rt: HostRuntime) {
+    tried(&rt, Trial::HeldShard);
+}
+
+// The gate forces it: neither worker gets on before both are at the gate, each under its own shard's lock.
+pub fn work_at_once<
+    J: Naming + Send + Sync,
+    R: Threads + Wait + Abort + Clock + AllocGlobal + Sync + Copy + Drop,
+>(rt: &R, desk: &Desk<J>, client: &mut Placer<J>) {
+    let map = put_map(rt, desk);
+    let gate = Both::new(*rt);
+    let (ends, closed) = work_and_look(rt, desk, &gate, map.len());
+    assert!(rt; !gate.ran_out());
+    are_level(rt, client, &ends, &closed);
+}
+
+// The ends of two workers, and the Close that comes once both shards have read so many entries.
+fn work_and_look<
+    J: Naming + Send + Sync,
+    R: Threads + Wait + Abort + Clock + AllocGlobal + Sync + Copy + Drop,
+>(rt: &R, desk: &Desk<J>, gate: &Both<R>, count: usize) -> (Ends<J>, Ticket<J>) {
+    join(
+        rt,
+        || both_work(rt, desk, gate),
+        || {
+            assert!(rt;
+                is_read(rt, desk, count),
+                "both shards read on by themselves"
+            );
+            close(rt, desk)
+        },
+    )
+}
+
+// Waits until both shards have read so many entries.
+fn is_read<J: Naming, R: Wait + Abort + Clock>(rt: &R, desk: &Desk<J>, count: usize) -> bool {
+    for _ in 0..TURNS {
+        let one = desk.absorb(rt, 0, 0).ok().expect(rt, "a front");
+        let other = desk.absorb(rt, 1, 0).ok().expect(rt, "a front");
+        if one.len() >= count && other.len() >= count {
+            return true;
+        }
+        rest(rt);
+    }
+    false
+}
+
+#[test]
+fn two_workers_are_in_at_once(rt: HostRuntime) {
+    tried(&rt, Trial::BothAtOnce);
+}
+
+// The gate forces it: both shards are held until the client has placed its object.
+pub fn place_past_both<
+    J: Naming + Send + Sync,
+    R: Threads + Wait + Abort + Clock + AllocGlobal + Sync + Copy + Drop,
+>(rt: &R, desk: &Desk<J>, client: &mut Placer<J>) {
+    let map = put_map(rt, desk);
+    let gate = Held::new(*rt, [true, true]);
+    let (ends, closed) = work_and_place(rt, desk, &gate, &map, client);
+    assert!(rt; !gate.ran_out());
+    are_level(rt, client, &ends, &closed);
+}
+
+// The ends of two workers, and the Close that comes once the object is placed.
+fn work_and_place<
+    J: Naming + Send + Sync,
+    R: Threads + Wait + Abort + Clock + AllocGlobal + Sync + Copy + Drop,
+>(
+    rt: &R,
+    desk: &Desk<J>,
+    gate: &Held<R>,
+    map: &Ticket<J>,
+    client: &mut Placer<J>,
+) -> (Ends<J>, Ticket<J>) {
+    join(
+        rt,
+        || both_work(rt, desk, gate),
+        || {
+            place_past(rt, desk, gate, map, client);
+            gate.open();
+            close(rt, desk)
+        },
+    )
+}
+
+// Once both shards are held, a client places an object by a front that holds what it learnt.
+fn place_past<
+    J: Naming + Send + Sync,
+    R: Threads + Wait + Abort + Clock + AllocGlobal + Sync + Copy + Drop,
+>(rt: &R, desk: &Desk<J>, gate: &Held<R>, map: &Ticket<J>, client: &mut Placer<J>) {
+    assert!(rt; gate.is_reached());
+    let told = add_elsewhere(rt, desk, map);
+    client.learn(&told);
+    let (pool, name) = object(rt.alloc(), OBJECT).expect(rt, "an object");
+    let place = client.locate(pool, &name).ok().expect(rt, "a place");
+    assert!(rt; client.meet(&place.at, &told) != Ordering::Less);
+    let text = is_placed(rt.alloc(), place, PLACE);
+    assert!(rt; text.ok().expect(rt, "memory"));
+}
+
+#[test]
+fn a_client_places_while_both_shards_are_held(rt: HostRuntime) {
+    tried(&rt, Trial::ClientPasses);
+}
+
+// What two threads are answered that submit these entries, beside a third that closes the log.
+fn submit_and_close<
+    J: Naming + Send + Sync,
+    R: Threads + Wait + Abort + Clock + AllocGlobal + Sync,
+>(
+    rt: &R,
+    desk: &Desk<J>,
+    entries: (Entry, Entry),
+    known: &Ticket<J>,
+) -> ((Outcome<J>, Outcome<J>), Ticket<J>) {
+    join(
+        rt,
+        || both_submit(rt, desk, entries, known),
+        || close(rt, desk),
+    )
+}
+
+// The same beside two workers, and their ends.
+fn work_and_submit<J: Naming + Send + Sync, R: Threads + Wait + Abort + Clock + AllocGlobal + Sync>(
+    rt: &R,
+    desk: &Desk<J>,
+    entries: (Entry, Entry),
+    known: &Ticket<J>,
+) -> (Ends<J>, ((Outcome<J>, Outcome<J>), Ticket<J>)) {
+    join(
+        rt,
+        || both_work(rt, desk, &Open),
+        || submit_and_close(rt, desk, entries, known),
+    )
+}
+
+// The info was taken before the Close, or refused for it.
+fn is_taken_or_refused<J: Naming, R: Abort>(
+    rt: &R,
+    client: &mut Placer<J>,
+    info: Outcome<J>,
+    closed: &Ticket<J>,
+) {
+    match info {
+        Ok(told) => assert!(rt; client.meet(&told, closed) == Ordering::Less),
+        Err(refused) => was_refused(rt, client, closed, refused, 64),
+    }
+}
+
+// No gate forces an interleaving: the Close comes before, between or after the infos.
+pub fn close_beside<
+    J: Naming + Send + Sync,
+    R: Threads + Wait + Abort + Clock + AllocGlobal + Sync,
+>(rt: &R, desk: &Desk<J>, client: &mut Placer<J>) {
+    let map = put_map(rt, desk);
+    let one = entry(rt.alloc(), EMPTY_0).expect(rt, "an entry");
+    let other = entry(rt.alloc(), EMPTY_1).expect(rt, "an entry");
+    let (ends, (infos, closed)) = work_and_submit(rt, desk, (one, other), &map);
+    let (one, other) = infos;
+    is_taken_or_refused(rt, client, one, &closed);
+    is_taken_or_refused(rt, client, other, &closed);
+    are_level(rt, client, &ends, &closed);
+    let answer = desk.ask(rt, group(), &map).ok().expect(rt, "an answer");
+    assert_eq!(rt; answer.at.len(), closed.len());
+}
+
+#[test]
+fn infos_beside_a_close_are_taken_or_refused_by_it(rt: HostRuntime) {
+    tried(&rt, Trial::CloseBeside);
+}
