@@ -16,7 +16,9 @@ Writes into FOLDER (by default bench/out) these files, which are the same at eve
   full.jsonl      65,535 incrementals as those of incs.jsonl, which fill the log
   peering.jsonl   an outage of 8 devices of 64: the infos and log entries of all 256 groups of a pool, and then a
                   question about each group
-  churn.jsonl     400 incrementals as those of incs.jsonl, with a question about a group after each
+  peering_wide.jsonl  the same with all 4,096 groups of four pools
+  churn.jsonl     2,000 incrementals as those of incs.jsonl, with a question about a group after each
+  churn_twice.jsonl   the same with 4,000 incrementals
   asks.jsonl      an outage of one group in seven entries, and then 20,000 questions about it with nothing between
   ask_heavy.jsonl     an outage in a pool of eight groups, and then 8,000 questions about them by turns, with an info
                       after each hundred
@@ -124,37 +126,48 @@ def steps(rng, count):
 
 
 def peering(rng, _count):
-    """Gives an outage, what the members of each group report, and a question about each group."""
-    devices, groups = list(range(64)), range(256)
+    """Gives an outage, what the members of each group of a pool report, and a question about each group."""
+    yield from outage(rng, [[1, pg] for pg in range(256)], [copies(1, 256)])
+
+
+def peering_wide(rng, _count):
+    """The same with four pools of as many groups as a pool may have."""
+    pools = [copies(pool, 1024) for pool in range(1, 5)]
+    yield from outage(rng, [[pool["id"], pg] for pool in pools for pg in range(1024)], pools)
+
+
+def outage(rng, groups, pools):
+    """Gives an outage, what the members of each of these groups report, and a question about each."""
+    devices = list(range(64))
     acting = [rng.sample(devices, 3) for _ in groups]
-    temps = [[1, pg, acting[pg]] for pg in groups]
+    temps = [[*group, members] for group, members in zip(groups, acting)]
     told = [[osd, 1] for osd in devices]
-    first = {"op": "inc", "epoch": 1, "up": devices, "up_thru": told, "pools": [copies(1, len(groups))]}
+    first = {"op": "inc", "epoch": 1, "up": devices, "up_thru": told, "pools": pools}
     yield compact({**first, "temp": temps, "crush": tree(4, 4, 4)})
     down = rng.sample(devices, 8)
     yield compact({"op": "inc", "epoch": 2, "down": down})
-    for pg in groups:
-        yield from reports(rng, pg, [osd for osd in acting[pg] if osd not in down])
+    for group, members in zip(groups, acting):
+        yield from reports(rng, group, [osd for osd in members if osd not in down])
     yield compact({"op": "inc", "epoch": 3, "up_thru": [[osd, 2] for osd in devices if osd not in down]})
-    for pg in groups:
-        yield compact({"op": "ask", "pg": [1, pg]})
+    for group in groups:
+        yield compact({"op": "ask", "pg": group})
 
 
-def reports(rng, pg, members):
+def reports(rng, group, members):
     """Gives an info of each of these members, the first of which is ahead, and the log entries of that one."""
     writes = 16
     for place, osd in enumerate(members):
         last = writes if place == 0 else rng.randint(1, writes)
-        yield compact(info(pg, osd, [1, last]))
+        yield compact(info(group, osd, [1, last]))
     if members:
         log = [[1, 1 + n, rng.choice(["modify", "delete"]), f"object-{rng.randrange(8)}"] for n in range(writes)]
-        yield compact({"op": "entries", "pg": [1, pg], "from": [members[0], 0], "stamp": 2, "log": log})
+        yield compact({"op": "entries", "pg": group, "from": [members[0], 0], "stamp": 2, "log": log})
 
 
-def info(pg, osd, last):
-    """Gives the info of a member of a group of pool 1, whose last write has this version."""
+def info(group, osd, last):
+    """Gives the info of a member of a group, whose last write has this version."""
     progress = {"les": 0, "history_les": 0, "last_update": last, "log_tail": [0, 0], "complete": True}
-    return {"op": "info", "pg": [1, pg], "from": [osd, 0], "stamp": 2, **progress}
+    return {"op": "info", "pg": group, "from": [osd, 0], "stamp": 2, **progress}
 
 
 def churn(rng, count):
@@ -172,8 +185,8 @@ def asks(_rng, count):
     pool = {**copies(1, 1), "leaf": DEVICE}
     yield compact({"op": "inc", "epoch": 1, "up": devices, **outs, "pools": [pool], "crush": [root]})
     yield compact({"op": "inc", "epoch": 2, "down": [0]})
-    yield compact(info(0, 1, [1, 2]))
-    yield compact(info(0, 2, [1, 1]))
+    yield compact(info([1, 0], 1, [1, 2]))
+    yield compact(info([1, 0], 2, [1, 1]))
     log = [[1, 1, "modify", "a"], [1, 2, "modify", "b"]]
     yield compact({"op": "entries", "pg": [1, 0], "from": [1, 0], "stamp": 2, "log": log})
     yield compact({"op": "inc", "epoch": 3, "up_thru": [[1, 2]]})
@@ -196,11 +209,11 @@ def ask_heavy(rng, count):
     yield eight_groups()
     yield compact({"op": "inc", "epoch": 2, "down": [0], "up_thru": [[osd, 2] for osd in range(1, 6)]})
     for pg in range(8):
-        yield from reports(rng, pg, [(pg + place) % 6 for place in range(3) if (pg + place) % 6 != 0])
+        yield from reports(rng, [1, pg], [(pg + place) % 6 for place in range(3) if (pg + place) % 6 != 0])
     for number in range(count):
         yield compact({"op": "ask", "pg": [1, number % 8]})
         if number % 100 == 99:
-            yield compact(info(number % 8, 1 + number % 5, [1, 1 + rng.randrange(16)]))
+            yield compact(info([1, number % 8], 1 + number % 5, [1, 1 + rng.randrange(16)]))
 
 
 def submit_heavy(rng, count):
@@ -208,7 +221,7 @@ def submit_heavy(rng, count):
     yield eight_groups()
     yield compact({"op": "inc", "epoch": 2})
     for number in range(count):
-        yield compact(info(number % 8, number // 8 % 6, [1, 1 + rng.randrange(16)]))
+        yield compact(info([1, number % 8], number // 8 % 6, [1, 1 + rng.randrange(16)]))
         if number % 1000 == 999:
             yield compact({"op": "ask", "pg": [1, number % 8]})
 
@@ -264,7 +277,9 @@ INPUTS = {
     "steps": (steps, 2_256),
     "full": (incs, 65_535),
     "peering": (peering, 1_185),
-    "churn": (churn, 800),
+    "peering_wide": (peering_wide, 18_953),
+    "churn": (churn, 4_000),
+    "churn_twice": (churn, 8_000),
     "asks": (asks, 20_000),
     "traces": (traces, 500),
     "ask_heavy": (ask_heavy, 8_000),
