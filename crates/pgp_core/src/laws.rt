@@ -1,4 +1,5 @@
-//! What the definitions say of small scripts.
+//! What the definitions say of logs, and of small scripts.
 #![tactic(auto)]
 
+pub mod logs;
 pub mod scripts;

@@ -1,0 +1,18 @@
+//! What the definitions say of logs.
+
+ghost use Rattle.std.specs.Prelude.{◌≡◌, List, length, option_map};
+ghost use Rattle.pgp_ids.specs.declared.entry.Entry.{Entry};
+ghost use Rattle.pgp_ids.specs.declared.pg_id.PgId.{PgId};
+ghost use Rattle.pgp_group.specs.Interleaving.{TellTheSame, with_count};
+ghost use Rattle.pgp_group.specs.View.{scratch};
+
+use pgp_group::laws::interleaving as group_laws;
+
+/// Two logs with the same incrementals and, for a group, the same reports of each member in the same order have views of it
+/// that are equal but for count. A group that one of them doesn't have, the other doesn't have either.
+pub fn interleaving()
+    ensures { (log other : List Entry) (pg : PgId) → TellTheSame log other pg
+        → scratch other pg ≡ option_map (with_count (length other)) (scratch log pg) }
+{
+    group_laws::interleaving();
+}
