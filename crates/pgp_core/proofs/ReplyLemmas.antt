@@ -1,5 +1,5 @@
 -- What a reply says of the log.
-use Rattle.std.proofs.Common.{◌≡◌, ◌≢◌, ℕ, List, [], ◌∷◌, ◌++◌, Bool, true, false, Option, Some, None, Result, Ok, Err, refl, subst, sym, ap, ◌∙◌}
+use Rattle.std.proofs.Common.{◌≡◌, ℕ, List, [], ◌∷◌, ◌++◌, Bool, true, false, Option, Some, None, Result, Ok, Err, refl, subst, sym, ap, ◌∙◌}
 use Rattle.std.specs.Prelude.{OnOk, IfSome}
 use Rattle.pgp_ids.specs.declared.entry.Entry.{Entry}
 use Rattle.pgp_refusals.specs.declared.refusal.Refusal.{Refusal}
@@ -7,11 +7,6 @@ use Rattle.pgp_lines.specs.declared.command.Command.{Command}
 use Rattle.pgp_lines.specs.declared.command.Command.TheVariants.{Submit, Ask, Locate, Trace}
 use Rattle.pgp_replies.specs.declared.reply.Reply.{Reply}
 use Rattle.pgp_log.specs.Fits.{fits}
-use Rattle.pgp_refusals.specs.declared.text_fault.TextFault.{TextFault}
-use Rattle.pgp_refusals.specs.declared.text_fault.TextFault.TheVariants as faults
-use Rattle.pgp_lines.specs.LineFault.{told}
-use Rattle.pgp_replies.specs.declared.reply.Reply.TheVariants.{Refused}
-use Rattle.pgp_replies.specs.declared.reply.refused.Refused.TheVariants as why
 use Rattle.pgp_text.specs.Command.{command_of}
 use Rattle.pgp_text.specs.LineFault.{LineFault}
 use Rattle.pgp_text.specs.Reply.{reply_text}
@@ -74,12 +69,3 @@ puts-fault (Ok x) alone log line (Some fault) old new reads puts = record {
   text = puts ∙ ap (λ c. old ++ (text_of log c ++ 10 ∷ [])) (sym reads);
   log = ap (log_of log) (sym reads);
 }
-
--- the fault of a line is written as it was told
-pub put-as-told : (fault : TextFault) (old new : List ℕ) → fault ≢ faults.Memory → new ≡ old ++ (reply_text (Refused (why.Line fault)) ++ 10 ∷ []) → PutsFault (told fault) old new
-put-as-told faults.LineTooLong old new known is = is
-put-as-told faults.NotJson old new known is = is
-put-as-told faults.NoOp old new known is = is
-put-as-told (faults.UnknownKey key) old new known is = is
-put-as-told (faults.BadField key) old new known is = is
-put-as-told faults.Memory old new known is = absurd (known refl)

@@ -97,14 +97,8 @@ pub fn put_long(alloc: Global, text: &mut Vec<u8>) -> Result<(), NoAnswer>
     ensures lacks { IfErr result (λ why. why ≡ NoAnswer.Memory Want.Line) }
     ensures err { OnErr result (text.new.items ≡ text.old.items) }
 {
-    match put_reply(
-        alloc,
-        &Reply::Refused(Refused::Line(TextFault::LineTooLong)),
-        text,
-    ) {
-        Ok(()) => Ok(()),
-        Err(_) => Err(NoAnswer::Memory(Want::Line)),
-    }
+    let reply = Reply::Refused(Refused::Line(TextFault::LineTooLong));
+    put_reply(alloc, &reply, text).or(Err(NoAnswer::Memory(Want::Line)))
 }
 
 /// Puts the answer to a line that has this fault behind the text, with a line feed.
@@ -114,10 +108,8 @@ fn put_fault(alloc: Global, fault: TextFault, text: &mut Vec<u8>) -> Result<(), 
     ensures lacks { IfErr result (λ why. why ≡ NoAnswer.Memory Want.Line) }
     ensures err { OnErr result (text.new.items ≡ text.old.items) }
 {
-    match put_reply(alloc, &Reply::Refused(Refused::Line(fault)), text) {
-        Ok(()) => Ok(()),
-        Err(_) => Err(NoAnswer::Memory(Want::Line)),
-    }
+    let reply = Reply::Refused(Refused::Line(fault));
+    put_reply(alloc, &reply, text).or(Err(NoAnswer::Memory(Want::Line)))
 }
 
 /// Puts the text of a reply behind the text, with a line feed. It succeeds where an entry was taken and the text has room
