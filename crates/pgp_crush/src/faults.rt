@@ -134,12 +134,9 @@ fn has_wrong_type(buckets: &[BucketSpec], index: &HashMap<i32, usize>) -> bool
     requires { (q : ℤ) → hash.get int_eq index.now q ≡ place_of (map bucket_of buckets.now) q 0 }
     ensures { result ≡ has_wrong_type (map bucket_of buckets.now) }
 {
-    for bucket in buckets {
-        if bucket.kind == 0 || any_reaches(buckets, index, bucket.kind, bucket.items.as_slice()) {
-            return true;
-        }
-    }
-    false
+    buckets.iter().any(|bucket| {
+        bucket.kind == 0 || any_reaches(buckets, index, bucket.kind, bucket.items.as_slice())
+    })
 }
 
 /// Some item is a bucket of this type or of one above it.
@@ -187,27 +184,16 @@ fn is_known(buckets: &[BucketSpec], index: &HashMap<i32, usize>, item: i32) -> b
 fn has_too_many(buckets: &[BucketSpec]) -> bool
     ensures { result ≡ has_too_many (map bucket_of buckets.now) }
 {
-    if buckets.len() > MAX_BUCKETS {
-        return true;
-    }
-    for bucket in buckets {
-        if bucket.items.len() > MAX_ITEMS {
-            return true;
-        }
-    }
-    false
+    buckets.len() > MAX_BUCKETS || buckets.iter().any(|bucket| bucket.items.len() > MAX_ITEMS)
 }
 
 /// The weights of a bucket make more than 2^32 - 1.
 fn has_too_much_weight(buckets: &[BucketSpec]) -> bool
     ensures { result ≡ has_too_much_weight (map bucket_of buckets.now) }
 {
-    for bucket in buckets {
-        if exceeds_word(bucket.weights.as_slice()) {
-            return true;
-        }
-    }
-    false
+    buckets
+        .iter()
+        .any(|bucket| exceeds_word(bucket.weights.as_slice()))
 }
 
 /// The weights make more than 2^32 - 1.

@@ -1,0 +1,15 @@
+use Rattle.std.proofs.Common.{◌||◌, nat_eq, map, rules, tests}
+use Rattle.std.specs.List.{list_any}
+use Rattle.std.proofs.lemmas.Iterator.{YieldsList-from_slice}
+use Rattle.std.proofs.lemmas.Iterator.Search.{any_from_yields_List}
+use Rattle.pgp_crush.specs.Bucket.{bucket_of}
+use Rattle.pgp_crush.specs.TreeFault.{reaches_kind}
+use Rattle.pgp_crush.proofs.TreeLemmas.{any_mapped}
+use Rattle.pgp_crush.proofs.faults.has_wrong_type.Goals as goal
+
+pub returns : goal.returns
+returns c =
+    let tree = map bucket_of c.args.buckets.now in
+    any_mapped bucket_of (λ b. nat_eq b.kind 0 || list_any (reaches_kind tree b.kind) b.items) c.args.buckets.now _
+    (any_from_yields_List (λ b. nat_eq b.kind 0 || list_any (reaches_kind tree b.kind) b.items) _ _ c.any.result c.any.ensures.ran
+    (YieldsList-from_slice c.args.buckets.now cc) (λ x b q k. search (rules, tests)))
