@@ -29,12 +29,7 @@ fn unknown_member<'v>(members: &'v Map<String, Value>, keys: &[&str]) -> Option<
 fn is_one_of(key: &str, keys: &[&str]) -> bool
     ensures { result ≡ is_key (map (λ k. k.now) keys.now) key.now }
 {
-    for k in keys {
-        if key == *k {
-            return true;
-        }
-    }
-    false
+    keys.iter().any(|k| key == *k)
 }
 
 /// Whether an object has no keys but these.
