@@ -44,12 +44,9 @@ fn settled_slots<S: StatusOf>(by_place: bool, statuses: &S, past: &Past) -> Slot
 fn has_down<S: StatusOf>(by_place: bool, statuses: &S, past: &Past) -> bool
     ensures { result ≡ has_down by_place (S.status_of statuses.now) past.now }
 {
-    for member in members_of(by_place, &past.members.acting) {
-        if is_down(statuses.status(member.osd, past.first)) {
-            return true;
-        }
-    }
-    false
+    members_of(by_place, &past.members.acting).any(|member| is_down(statuses.status(
+        member.osd, past.first,
+    )))
 }
 
 /// Whether what a device of this status held is at hand, or was given up.
