@@ -2,6 +2,7 @@
 //! world of one log and several readers answers (the log and its order of refusals are this project's own choice).
 #![tactic(auto)]
 
+mod copies;
 mod entry;
 mod judge;
 pub mod laws;
@@ -10,6 +11,7 @@ mod raw_sets;
 mod replay;
 mod report;
 mod shard;
+mod touch;
 mod world;
 
 pub use entry::{inc_of, is_close};

@@ -1,0 +1,57 @@
+//! What an incremental changes of a group.
+
+ghost use Rattle.std.specs.List.{list_any};
+ghost use Rattle.std.specs.Prelude.{◌≡◌, nat_eq};
+ghost use Rattle.pgp_group.specs.Touched.{changes_pool, changes_temp, has_osd, moves_all};
+ghost use Rattle.pgp_sets.specs.Sets.{moves};
+
+use pgp_ids::{Incremental, OsdId, PgId, PoolId, PoolSizes, PoolSpec};
+
+/// The incremental changes placements at large: it has weights or a tree.
+pub(crate) fn moves_all(inc: &Incremental) -> bool
+    ensures { result ≡ moves_all inc.now }
+{
+    !inc.weight.is_empty() || inc.crush.is_some()
+}
+
+/// The incremental may move groups of the pool: it gives a tree, weights, or sizes of the pool.
+pub(crate) fn moves(inc: &Incremental, id: PoolId) -> bool
+    ensures { result ≡ moves inc.now id }
+{
+    moves_all(inc) || has_sizes(inc.sizes.as_slice(), id)
+}
+
+/// The incremental makes the pool, or changes its sizes.
+pub(crate) fn changes_pool(inc: &Incremental, id: PoolId) -> bool
+    ensures { result ≡ changes_pool inc.now id }
+{
+    makes_pool(inc.pools.as_slice(), id) || has_sizes(inc.sizes.as_slice(), id)
+}
+
+/// One of the pools is this one.
+fn makes_pool(pools: &[PoolSpec], id: PoolId) -> bool
+    ensures { result ≡ list_any (λ made. nat_eq made.id id) pools.now }
+{
+    pools.iter().any(|made| made.id == id)
+}
+
+/// One of the sizes is of the pool.
+fn has_sizes(sizes: &[PoolSizes], id: PoolId) -> bool
+    ensures { result ≡ list_any (λ given. nat_eq given.pool id) sizes.now }
+{
+    sizes.iter().any(|given| given.pool == id)
+}
+
+/// The incremental gives the group a pg_temp list, or takes it away.
+pub(crate) fn changes_temp(inc: &Incremental, pg: &PgId) -> bool
+    ensures { result ≡ changes_temp inc.now pg.now }
+{
+    inc.temp.as_slice().iter().any(|given| given.pg == *pg)
+}
+
+/// The device stands in the list.
+pub(crate) fn has_osd(places: &[Option<OsdId>], osd: OsdId) -> bool
+    ensures { result ≡ has_osd osd places.now }
+{
+    places.iter().any(|place| Some(osd) == *place)
+}
