@@ -7,3 +7,5 @@ pub mod LogLemmas
 pub mod LocateLemmas
 pub mod RawSetLemmas
 pub mod ReplayLemmas
+pub mod KeptLemmas
+pub mod TouchLemmas

@@ -9,5 +9,6 @@ pub mod Running
 pub mod Locate
 pub mod RawSets
 pub mod Replay
+pub mod Kept
 pub mod Examples
 pub mod Worked

@@ -5,6 +5,7 @@
 mod copies;
 mod entry;
 mod judge;
+mod kept;
 pub mod laws;
 mod place;
 mod raw_sets;

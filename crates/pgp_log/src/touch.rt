@@ -1,14 +1,21 @@
 //! What an incremental changes of a group.
 
 ghost use Rattle.std.specs.List.{list_any};
-ghost use Rattle.std.specs.Prelude.{◌≡◌, nat_eq};
+ghost use Rattle.std.specs.Prelude.{◌≡◌, ◌||◌, nat_eq};
 ghost use Rattle.pgp_group.specs.Touched.{changes_pool, changes_temp, has_osd, moves_all};
 ghost use Rattle.pgp_sets.specs.Sets.{moves};
 
 use pgp_ids::{Incremental, OsdId, PgId, PoolId, PoolSizes, PoolSpec};
 
+/// The incremental may change where the group lies, whatever becomes of devices.
+pub(crate) fn changes_placement(inc: &Incremental, pg: &PgId) -> bool
+    ensures { result ≡ (moves_all inc.now || changes_pool inc.now pg.now.pool || changes_temp inc.now pg.now) }
+{
+    moves_all(inc) || changes_pool(inc, pg.pool) || changes_temp(inc, pg)
+}
+
 /// The incremental changes placements at large: it has weights or a tree.
-pub(crate) fn moves_all(inc: &Incremental) -> bool
+fn moves_all(inc: &Incremental) -> bool
     ensures { result ≡ moves_all inc.now }
 {
     !inc.weight.is_empty() || inc.crush.is_some()
@@ -22,7 +29,7 @@ pub(crate) fn moves(inc: &Incremental, id: PoolId) -> bool
 }
 
 /// The incremental makes the pool, or changes its sizes.
-pub(crate) fn changes_pool(inc: &Incremental, id: PoolId) -> bool
+fn changes_pool(inc: &Incremental, id: PoolId) -> bool
     ensures { result ≡ changes_pool inc.now id }
 {
     makes_pool(inc.pools.as_slice(), id) || has_sizes(inc.sizes.as_slice(), id)
@@ -43,7 +50,7 @@ fn has_sizes(sizes: &[PoolSizes], id: PoolId) -> bool
 }
 
 /// The incremental gives the group a pg_temp list, or takes it away.
-pub(crate) fn changes_temp(inc: &Incremental, pg: &PgId) -> bool
+fn changes_temp(inc: &Incremental, pg: &PgId) -> bool
     ensures { result ≡ changes_temp inc.now pg.now }
 {
     inc.temp.as_slice().iter().any(|given| given.pg == *pg)

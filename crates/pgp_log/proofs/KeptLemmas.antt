@@ -1,0 +1,254 @@
+-- What a shard keeps of its groups, as the log grows.
+use Rattle.std.proofs.Common.{◌≡◌, ℕ, List, [], ◌∷◌, ◌++◌, true, false, Option, Some, None, IfSome, is_some, length, option_map, refl, sym, ap, ◌∙◌, subst, inl, inr}
+use Rattle.std.specs.List.{filter}
+use Rattle.std.proofs.lemmas.Bool.{cases_Bool, true≢false}
+use Rattle.pgp_ids.specs.declared.entry.Entry.{Entry}
+use Rattle.pgp_ids.specs.declared.entry.Entry.TheVariants as entry
+use Rattle.pgp_ids.specs.declared.incremental.Incremental.{Incremental}
+use Rattle.pgp_ids.specs.declared.membership.Membership.{Membership}
+use Rattle.pgp_ids.specs.declared.pg_id.PgId.{PgId}
+use Rattle.pgp_ids.specs.declared.report.Info.{Info}
+use Rattle.pgp_ids.specs.declared.report.Report.{Report}
+use Rattle.pgp_ids.specs.declared.view.View.{View}
+use Rattle.pgp_interval.proofs.StepLemmas.{current_first-continues, past_intervals-continues}
+use Rattle.pgp_map.proofs.CheckedLemmas.{checked-more, front-checked, last-checked}
+use Rattle.pgp_map.specs.Checked.{are_checked}
+use Rattle.pgp_map.specs.Devices.{device}
+use Rattle.pgp_map.specs.Held.{HasGroup}
+use Rattle.pgp_map.specs.Map.{epoch}
+use Rattle.pgp_map.specs.MapFault.{map_fault, then_with}
+use Rattle.pgp_map.specs.MapOf.{IsMapOf}
+use Rattle.pgp_map.specs.Pools.{has_group, is_same_group, pool}
+use Rattle.pgp_map.specs.declared.map.OsdMap.{OsdMap}
+use Rattle.pgp_sets.proofs.RawSetLemmas.{raw_set-stays}
+use Rattle.pgp_sets.specs.Sets.{members_from_up, membership, moves, raw_set_of, without_down}
+use Rattle.pgp_group.proofs.GroupLemmas.{infos-kept, infos-other, infos-same, reports-other, reports-same, IsGroupOf-other}
+use Rattle.pgp_group.proofs.GrowthLemmas.{has_group-grows}
+use Rattle.pgp_group.proofs.SameViewLemmas.{view-same}
+use Rattle.pgp_group.proofs.UntouchedLemmas.{Stays, untouched-stays}
+use Rattle.pgp_group.proofs.ViewLemmas.{history_there}
+use Rattle.pgp_group.specs.Entries.{inc_of, incs_of, infos_of, reports_of}
+use Rattle.pgp_group.specs.GroupHistory.{AreNumbered, group_history, made_at}
+use Rattle.pgp_group.specs.GroupOf.{IsGroupOf, IsSilent, Follows}
+use Rattle.pgp_group.specs.GroupLog.{group_with}
+use Rattle.pgp_group.specs.Touched.{is_touched, told_at}
+use Rattle.pgp_group.specs.View.{scratch, view_of}
+use Rattle.pgp_group.specs.declared.group.Group.{Group}
+use Rattle.pgp_log.specs.Fits.{fits}
+use Rattle.pgp_log.specs.Kept.{IsKeptOf, IsStep, IsViewOf}
+use Rattle.pgp_log.specs.Log.{HasInc, is_legal}
+use Rattle.pgp_log.specs.RawSets.{IsRawSet}
+use Rattle.pgp_log.specs.Replay.{IsAbsent}
+use Rattle.pgp_log.specs.declared.kept.Kept.{Kept}
+use Rattle.pgp_log.proofs.LogLemmas.{legal-checked, legal-induction, numbered}
+use Rattle.pgp_log.proofs.RawSetLemmas.{filtered}
+use Rattle.pgp_log.proofs.ReplayLemmas.{absent-other, inc-of-kept, made-now, next-follows, silent-inc}
+use Rattle.pgp_log.proofs.TakeLemmas.{faultless-inc, fits-faultless, incs-inc, incs-other}
+
+-- ---- a step to the next map
+
+pub step-fine : (log : List Entry) (inc : Incremental) (before after : OsdMap) → IsStep log inc before after → map_fault (incs_of log) inc ≡ None
+step-fine log inc before after step = faultless-inc log (entry.Inc inc) inc refl (fits-faultless log (entry.Inc inc) step.fits)
+
+pub step-checked : (log : List Entry) (inc : Incremental) (before after : OsdMap) → IsStep log inc before after → are_checked (then_with (incs_of log) inc) ≡ true
+step-checked log inc before after step = checked-more (incs_of log) inc (legal-checked log step.legal) (step-fine log inc before after step)
+
+pub grown : (log : List Entry) (inc : Incremental) → incs_of (log ++ entry.Inc inc ∷ []) ≡ then_with (incs_of log) inc
+grown log inc = incs-inc log (entry.Inc inc) inc refl
+
+-- the group takes the map that comes next
+pub kept-follows : (log : List Entry) (inc : Incremental) (before after : OsdMap) (kept : Kept) → IsKeptOf log kept → IsStep log inc before after → Follows kept.group after
+kept-follows log inc before after kept is step =
+    next-follows log kept.pg inc kept.group after is.group_is (step-fine log inc before after step) (step-checked log inc before after step) step.after_is
+
+pub kept-there : (log : List Entry) (inc : Incremental) (before after : OsdMap) (kept : Kept) → IsKeptOf log kept → IsStep log inc before after → HasGroup after kept.pg
+kept-there log inc before after kept is step =
+    subst (HasGroup after) is.group_is.keeps.pg_is (kept-follows log inc before after kept is step).there
+
+-- the raw set stays, where the incremental doesn't move the group
+pub kept_raw-stays : (log : List Entry) (inc : Incremental) (before after : OsdMap) (kept : Kept) → IsKeptOf log kept → IsStep log inc before after → moves inc kept.pg.pool ≡ false
+    → IsRawSet (incs_of (log ++ entry.Inc inc ∷ [])) kept.pg kept.raw
+kept_raw-stays log inc before after kept is step still =
+    subst (λ (l : List Incremental). IsRawSet l kept.pg kept.raw) (sym (grown log inc))
+    (raw_set-stays (incs_of log) inc kept.pg kept.raw (step-fine log inc before after step) still is.raw_is)
+
+-- it is found anew
+pub raw-anew : (log : List Entry) (inc : Incremental) (before after : OsdMap) (pg : PgId) (raw : List (Option ℕ)) → IsStep log inc before after
+    → ((incs : List Incremental) → IsMapOf incs after → raw_set_of incs pg ≡ Some raw) → IsRawSet (incs_of (log ++ entry.Inc inc ∷ [])) pg raw
+raw-anew log inc before after pg raw step placed =
+    placed (incs_of (log ++ entry.Inc inc ∷ [])) (subst (λ (l : List Incremental). IsMapOf l after) (sym (grown log inc)) step.after_is)
+
+-- ---- groups that a legal log doesn't have
+
+some_of : {X : Type 0} (found : Option X) → is_some found ≡ true → (x : X) × (found ≡ Some x)
+some_of None some = cc
+some_of (Some x) some = (x, refl)
+
+-- a group that is absent after an incremental was absent before
+absent-before : (incs : List Incremental) (inc : Incremental) (pg : PgId) → map_fault incs inc ≡ None → has_group (then_with incs inc) pg ≡ false → has_group incs pg ≡ false
+absent-before incs inc pg fine absent = elim (cases_Bool (has_group incs pg)) [
+  | inl there ↦
+      let history = some_of (group_history incs pg) (history_there incs pg ∙ there) in
+      absurd (true≢false (sym (has_group-grows incs inc pg history.0 fine history.1) ∙ absent))
+  | inr none ↦ none
+]
+
+absent-more : (log : List Entry) (new : Entry) → fits log new ≡ None → ((pg : PgId) → has_group (incs_of log) pg ≡ false → IsAbsent log pg)
+    → (pg : PgId) → has_group (incs_of (log ++ new ∷ [])) pg ≡ false → IsAbsent (log ++ new ∷ []) pg
+absent-more log (entry.Inc inc) fit each pg absent =
+    let fine : map_fault (incs_of log) inc ≡ None = faultless-inc log (entry.Inc inc) inc refl (fits-faultless log (entry.Inc inc) fit) in
+    let before : has_group (incs_of log) pg ≡ false = absent-before (incs_of log) inc pg fine (sym (ap (λ (l : List Incremental). has_group l pg) (grown log inc)) ∙ absent) in
+    record { absent = absent; silent = silent-inc log inc pg (each pg before).silent }
+absent-more log (entry.Info info) fit each pg absent =
+    absent-other log (entry.Info info) pg refl (fits-faultless log (entry.Info info) fit)
+    (each pg (sym (ap (λ (l : List Incremental). has_group l pg) (incs-other log (entry.Info info) refl)) ∙ absent))
+absent-more log (entry.Entries report) fit each pg absent =
+    absent-other log (entry.Entries report) pg refl (fits-faultless log (entry.Entries report) fit)
+    (each pg (sym (ap (λ (l : List Incremental). has_group l pg) (incs-other log (entry.Entries report) refl)) ∙ absent))
+absent-more log entry.Close fit each pg absent =
+    absent-other log entry.Close pg refl (fits-faultless log entry.Close fit)
+    (each pg (sym (ap (λ (l : List Incremental). has_group l pg) (incs-other log entry.Close refl)) ∙ absent))
+
+pub legal-absent : (log : List Entry) → is_legal log ≡ true → (pg : PgId) → has_group (incs_of log) pg ≡ false → IsAbsent log pg
+legal-absent = legal-induction (λ log. (pg : PgId) → has_group (incs_of log) pg ≡ false → IsAbsent log pg)
+    (λ pg absent. record { absent = absent; silent = record { infos = refl; reports = refl } })
+    absent-more
+
+-- ---- views
+
+no_view : (log : List Entry) (pg : PgId) (view : Option View) → view ≡ None → IfSome view (IsViewOf log pg)
+no_view log pg view none = subst (λ (o : Option View). IfSome o (IsViewOf log pg)) (sym none) tt
+
+-- the view stays that of the log, where the entry changes it in count and epoch alone
+pub view-stays : (log : List Entry) (new : Entry) (pg : PgId) (view : Option View) → Stays log new pg → IfSome view (IsViewOf log pg) → IfSome view (IsViewOf (log ++ new ∷ []) pg)
+view-stays log new pg None stays is = tt
+view-stays log new pg (Some view) stays is = stays ∙ ap (option_map (told_at (length (log ++ new ∷ [])) (epoch (incs_of (log ++ new ∷ []))))) is
+
+-- an incremental that doesn't touch the group does so
+pub untouched-inc : (log : List Entry) (inc : Incremental) (before after : OsdMap) (pg : PgId) → IsStep log inc before after → is_touched log (entry.Inc inc) pg ≡ false → Stays log (entry.Inc inc) pg
+untouched-inc log inc before after pg step untouched =
+    untouched-stays front-checked last-checked raw_set-stays (record { past = λ h facts. search past_intervals-continues; first = current_first-continues })
+    log (entry.Inc inc) pg (ap are_checked (grown log inc) ∙ step-checked log inc before after step) untouched
+
+mapped-same : {X Y Z : Type 0} (f : Y → Z) (k : Z → Z) (g g' : X → Y) (found : Option X) → ((x : X) → f (g x) ≡ k (f (g' x))) → option_map f (option_map g found) ≡ option_map k (option_map f (option_map g' found))
+mapped-same f k g g' None same = refl
+mapped-same f k g g' (Some x) same = ap Some (same x)
+
+-- a view that was just worked out has the count and the epoch of its log
+pub view-now : (log : List Entry) (pg : PgId) (view : View) → scratch log pg ≡ Some view → IsViewOf log pg view
+view-now log pg view is =
+    mapped-same view_of (told_at (length log) (epoch (incs_of log))) (group_with log pg) (group_with log pg) (group_history (incs_of log) pg) (λ h. refl)
+    ∙ ap (option_map (told_at (length log) (epoch (incs_of log)))) is
+
+-- ---- a group comes
+
+pub kept-begun : (log : List Entry) (inc : Incremental) (before after : OsdMap) (kept : Kept) → kept.view ≡ None → IsStep log inc before after → has_group (incs_of log) kept.pg ≡ false → has_group (then_with (incs_of log) inc) kept.pg ≡ true
+    → ((l : List Entry) → AreNumbered (incs_of l) → IsMapOf (incs_of l) after → has_group (incs_of l) kept.pg ≡ true → made_at (incs_of l) kept.pg.pool ≡ epoch (incs_of l) → IsSilent l kept.pg → IsGroupOf l kept.pg kept.group)
+    → ((incs : List Incremental) → IsMapOf incs after → raw_set_of incs kept.pg ≡ Some kept.raw)
+    → IsKeptOf (log ++ entry.Inc inc ∷ []) kept
+kept-begun log inc before after kept none step absent there begins placed =
+    let later : List Entry = log ++ entry.Inc inc ∷ [] in
+    let back : then_with (incs_of log) inc ≡ incs_of later = sym (grown log inc) in
+    record {
+      group_is = begins later
+          (numbered (incs_of later) (ap are_checked (grown log inc) ∙ step-checked log inc before after step))
+          (subst (λ (l : List Incremental). IsMapOf l after) back step.after_is)
+          (ap (λ (l : List Incremental). has_group l kept.pg) (grown log inc) ∙ there)
+          (subst (λ (l : List Incremental). made_at l kept.pg.pool ≡ epoch l) back (made-now (incs_of log) inc kept.pg absent there))
+          (silent-inc log inc kept.pg (legal-absent log step.legal kept.pg absent).silent);
+      raw_is = raw-anew log inc before after kept.pg kept.raw step placed;
+      view_is = no_view later kept.pg kept.view none;
+    }
+
+-- ---- an entry that brings no map
+
+-- the entry brings no report of the group
+record IsOfOthers (log : List Entry) (new : Entry) (pg : PgId) : Type 0 where
+  infos : filter (λ (i : Info). is_same_group i.pg pg) (infos_of (log ++ new ∷ [])) ≡ filter (λ (i : Info). is_same_group i.pg pg) (infos_of log)
+  reports : filter (λ (r : Report). is_same_group r.pg pg) (reports_of (log ++ new ∷ [])) ≡ filter (λ (r : Report). is_same_group r.pg pg) (reports_of log)
+
+of-others : (log : List Entry) (new : Entry) (pg : PgId) → inc_of new ≡ None → is_touched log new pg ≡ false → IsOfOthers log new pg
+of-others log (entry.Inc inc) pg none untouched = cc
+of-others log (entry.Info info) pg none untouched = record { infos = infos-other log info pg untouched; reports = reports-same log (entry.Info info) pg refl }
+of-others log (entry.Entries report) pg none untouched = record { infos = infos-same log (entry.Entries report) pg refl; reports = reports-other log report pg untouched }
+of-others log entry.Close pg none untouched = record { infos = infos-same log entry.Close pg refl; reports = reports-same log entry.Close pg refl }
+
+group-untold : (log : List Entry) (new : Entry) (pg : PgId) (group : Group) → inc_of new ≡ None → IsOfOthers log new pg → IsGroupOf log pg group → IsGroupOf (log ++ new ∷ []) pg group
+group-untold log new pg group none others is =
+    IsGroupOf-other log new pg group group is none refl refl
+    (infos-kept log new pg is.history group.infos none others.infos is.keeps.infos_are) (is.keeps.reports_are ∙ sym others.reports)
+
+view-untold : (log : List Entry) (new : Entry) (pg : PgId) → inc_of new ≡ None → IsOfOthers log new pg → Stays log new pg
+view-untold log new pg none others =
+    let later : List Entry = log ++ new ∷ [] in
+    let same : incs_of later ≡ incs_of log = incs-other log new none in
+    ap (λ (l : List Incremental). option_map view_of (option_map (group_with later pg) (group_history l pg))) same
+    ∙ mapped-same view_of (told_at (length later) (epoch (incs_of later))) (group_with later pg) (group_with log pg) (group_history (incs_of log) pg)
+    (λ h. view-same log later pg h h.lived (record {
+      first = refl;
+      past = refl;
+      infos = others.infos;
+      reports = others.reports;
+      named = λ osd named. ap (λ (l : List Incremental). device l osd) same;
+      leads = λ osd leads. ap (λ (l : List Incremental). device l osd) same;
+    }))
+
+-- it isn't of the group
+pub kept-untold : (log : List Entry) (new : Entry) (kept : Kept) → inc_of new ≡ None → is_touched log new kept.pg ≡ false → IsKeptOf log kept → IsKeptOf (log ++ new ∷ []) kept
+kept-untold log new kept none untouched is =
+    let others : IsOfOthers log new kept.pg = of-others log new kept.pg none untouched in
+    record {
+      group_is = group-untold log new kept.pg kept.group none others is.group_is;
+      raw_is = subst (λ (l : List Incremental). IsRawSet l kept.pg kept.raw) (sym (incs-other log new none)) is.raw_is;
+      view_is = view-stays log new kept.pg kept.view (view-untold log new kept.pg none others) is.view_is;
+    }
+
+-- the group has taken it
+pub kept-told : (log : List Entry) (new : Entry) (old : Kept) (group : Group) → inc_of new ≡ None → IsKeptOf log old → IsGroupOf (log ++ new ∷ []) old.pg group
+    → IsKeptOf (log ++ new ∷ []) (record old { group = group; view = None })
+kept-told log new old group none is told = record {
+  group_is = told;
+  raw_is = subst (λ (l : List Incremental). IsRawSet l old.pg old.raw) (sym (incs-other log new none)) is.raw_is;
+  view_is = tt;
+}
+
+-- a group is there by an incremental
+pub kept-inc : (log : List Entry) (kept : Kept) → IsKeptOf log kept → HasInc log
+kept-inc log kept is = inc-of-kept log kept.pg (Some kept.group) refl is.group_is
+
+-- ---- an incremental that the group takes
+
+pub kept-moved : (log : List Entry) (inc : Incremental) (before after : OsdMap) (old moved : Kept) (group : Group) (members : Membership) → IsStep log inc before after → IsKeptOf log old
+    → moved.pg ≡ old.pg → moved.group ≡ old.group → IsRawSet (incs_of (log ++ entry.Inc inc ∷ [])) old.pg moved.raw
+    → ((incs : List Incremental) → IsMapOf incs after → option_map (λ made. members_from_up incs made moved.pg (without_down incs made moved.raw)) (pool incs moved.pg.pool) ≡ Some members)
+    → ((l : List Entry) (pg : PgId) (i : Incremental) → IsGroupOf l pg moved.group → map_fault (incs_of l) i ≡ None → IsMapOf (incs_of l) before → IsMapOf (then_with (incs_of l) i) after
+    → membership (then_with (incs_of l) i) pg ≡ Some members → IsGroupOf (l ++ entry.Inc i ∷ []) pg group)
+    → IsKeptOf (log ++ entry.Inc inc ∷ []) (record moved { group = group; view = None })
+kept-moved log inc before after old moved group members step is same stays placed lies takes =
+    let here : IsRawSet (incs_of (log ++ entry.Inc inc ∷ [])) moved.pg moved.raw = subst (λ (pg : PgId). IsRawSet (incs_of (log ++ entry.Inc inc ∷ [])) pg moved.raw) (sym same) placed in
+    let now : IsRawSet (then_with (incs_of log) inc) moved.pg moved.raw = subst (λ (l : List Incremental). IsRawSet l moved.pg moved.raw) (grown log inc) here in
+    let was : IsGroupOf log moved.pg moved.group =
+    subst (λ (pg : PgId). IsGroupOf log pg moved.group) (sym same) (subst (λ (g : Group). IsGroupOf log old.pg g) (sym stays) is.group_is) in
+    record {
+      group_is = takes log moved.pg inc was (step-fine log inc before after step) step.before_is step.after_is
+          (filtered (then_with (incs_of log) inc) moved.pg moved.raw members now (lies (then_with (incs_of log) inc) step.after_is));
+      raw_is = here;
+      view_is = tt;
+    }
+
+-- ---- the group is worked out
+
+-- what it keeps may change, as long as it stands for the same log
+pub kept-anew : (log : List Entry) (old : Kept) (group : Group) → IsKeptOf log old → IsGroupOf log old.pg group → IsKeptOf log (record old { group = group })
+kept-anew log old group is stands = record { group_is = stands; raw_is = is.raw_is; view_is = is.view_is }
+
+pub kept-worked_out : (log : List Entry) (old : Kept) (group : Group) (view : View) → IsKeptOf log old → IsGroupOf log old.pg group → scratch log old.pg ≡ Some view
+    → IsKeptOf log (record old { group = group; view = Some view })
+kept-worked_out log old group view is stands says = record { group_is = stands; raw_is = is.raw_is; view_is = view-now log old.pg view says }
+
+-- the view that is kept, told at the epoch and the count of the log
+pub view-again : (log : List Entry) (kept : Kept) (view : View) (count at : ℕ) → kept.view ≡ Some view → IsKeptOf log kept → length log ≡ count → at ≡ epoch (incs_of log)
+    → scratch log kept.pg ≡ Some (told_at count at view)
+view-again log kept view count at there is long here =
+    let says : IsViewOf log kept.pg view = subst (λ (o : Option View). IfSome o (IsViewOf log kept.pg)) there is.view_is in
+    says ∙ ap (λ n. Some (told_at n (epoch (incs_of log)) view)) long ∙ ap (λ n. Some (told_at count n view)) (sym here)

@@ -1,0 +1,244 @@
+//! What a shard keeps of one of its groups.
+
+ghost use Rattle.std.specs.List.{list_any};
+ghost use Rattle.std.specs.Prelude.{◌≡◌, ◌||◌, ◌++◌, [], ◌∷◌, List, Some, None, true, false, length, is_some, IfOk, OnOk, OnErr};
+ghost use Rattle.pgp_ids.specs.declared.entry.Entry.{Entry as AnyEntry};
+ghost use Rattle.pgp_ids.specs.declared.entry.Entry.TheVariants as entry;
+ghost use Rattle.pgp_ids.specs.declared.incremental.Incremental.{Incremental as AnyIncremental};
+ghost use Rattle.pgp_map.specs.Held.{HasGroup};
+ghost use Rattle.pgp_map.specs.MapFault.{then_with};
+ghost use Rattle.pgp_map.specs.MapOf.{IsMapOf};
+ghost use Rattle.pgp_map.specs.Pools.{has_group, temp as temp_of};
+ghost use Rattle.pgp_map.specs.declared.map.OsdMap.{OsdMap as AnyMap};
+ghost use Rattle.pgp_group.specs.Entries.{inc_of, incs_of};
+ghost use Rattle.pgp_group.specs.Touched.{is_touched, has_to_do_with, told_at};
+ghost use Rattle.pgp_group.specs.View.{scratch};
+ghost use Rattle.pgp_log.specs.Kept.{IsKeptOf, IsStep, CanStep, is_marked};
+ghost use Rattle.pgp_log.specs.RawSets.{IsRawSet};
+
+use super::copies::copy_of_view;
+use super::touch::{changes_placement, has_osd, moves};
+use pgp_group::Group;
+use pgp_ids::{DeviceEpoch, Entry, Epoch, Incremental, OsdId, Osds, PgId, View};
+use pgp_map::OsdMap;
+use pgp_sets::{filter, raw};
+use std::alloc::{AllocError, Global};
+
+/// A group, as the entries so far tell of it.
+#[derive(Debug, Drop)]
+pub(crate) struct Kept {
+    pub(crate) pg: PgId,
+    group: Group,
+    /// Where the tree of the last map puts the group.
+    raw: Osds,
+    /// What the entries said of the group when it was last worked out, but for count and epoch. Not there where something
+    /// touched the group since.
+    view: Option<View>,
+}
+
+impl Kept {
+    /// The group, which the incremental that leads to this map brings. It takes no memory.
+    pub(crate) fn begin(alloc: Global, after: &OsdMap, pg: PgId) -> Self
+        requires { HasGroup after.now pg }
+        ensures is { (log : List AnyEntry) (inc : AnyIncremental) (before : AnyMap) → IsStep log inc before after.now
+            → has_group (incs_of log) pg ≡ false → has_group (then_with (incs_of log) inc) pg ≡ true
+            → IsKeptOf (log ++ entry.Inc inc ∷ []) result }
+        ensures pg { result.pg ≡ pg }
+    {
+        Kept {
+            pg,
+            group: Group::begin(alloc, after, pg),
+            raw: raw(after, &pg),
+            view: None,
+        }
+    }
+
+    /// The group has to be worked out anew, since something touched it.
+    pub(crate) fn is_marked(&self) -> bool
+        ensures { result ≡ is_marked self.now }
+    {
+        self.view.is_none()
+    }
+
+    /// Takes an incremental, which leads from the one map to the other. Where it doesn't touch the group, that takes no
+    /// memory, no placement and no hash. After an `Err` it is of no further use.
+    pub(crate) fn absorb_inc(
+        &mut self,
+        before: &OsdMap,
+        after: &OsdMap,
+        inc: &Incremental,
+    ) -> Result<(), AllocError>
+        requires { CanStep self.old inc.now before.now after.now }
+        ensures ok { OnOk result ((log : List AnyEntry) → IsKeptOf log self.old → IsStep log inc.now before.now after.now
+            → IsKeptOf (log ++ entry.Inc inc.now ∷ []) self.new) }
+        ensures marks { OnOk result ((log : List AnyEntry) → IsKeptOf log self.old → IsStep log inc.now before.now after.now
+            → is_touched log (entry.Inc inc.now) self.old.pg ≡ false → self.new.view ≡ self.old.view) }
+        ensures wants { OnErr result ((log : List AnyEntry) → IsKeptOf log self.old
+            → IsStep log inc.now before.now after.now → is_touched log (entry.Inc inc.now) self.old.pg ≡ true) }
+        ensures pg { self.new.pg ≡ self.old.pg }
+    {
+        if self.is_touched(before, inc) {
+            self.move_on(before, after, inc)
+        } else {
+            self.group.stay(inc.epoch);
+            Ok(())
+        }
+    }
+
+    /// Takes an incremental that touches the group.
+    fn move_on(
+        &mut self,
+        before: &OsdMap,
+        after: &OsdMap,
+        inc: &Incremental,
+    ) -> Result<(), AllocError>
+        requires { CanStep self.old inc.now before.now after.now }
+        ensures ok { OnOk result ((log : List AnyEntry) → IsKeptOf log self.old → IsStep log inc.now before.now after.now
+            → IsKeptOf (log ++ entry.Inc inc.now ∷ []) self.new) }
+        ensures pg { self.new.pg ≡ self.old.pg }
+    {
+        self.place_again(after, inc);
+        self.view = None;
+        let members = filter(after, &self.pg, &self.raw);
+        self.group.absorb_members(before, after, members)
+    }
+
+    /// Finds where the tree of the incremental's map puts the group, where that may be elsewhere.
+    fn place_again(&mut self, after: &OsdMap, inc: &Incremental)
+        requires { HasGroup after.now self.old.pg }
+        ensures raw { (log : List AnyEntry) (before : AnyMap) → IsKeptOf log self.old → IsStep log inc.now before after.now
+            → IsRawSet (incs_of (log ++ entry.Inc inc.now ∷ [])) self.old.pg self.new.raw }
+        ensures group { self.new.group ≡ self.old.group }
+        ensures pg { self.new.pg ≡ self.old.pg }
+    {
+        if moves(inc, self.pg.pool) {
+            self.raw = raw(after, &self.pg);
+        }
+    }
+
+    /// Whether the incremental touches the group. `map` is the one that it was until now.
+    fn is_touched(&self, map: &OsdMap, inc: &Incremental) -> bool
+        ensures { (log : List AnyEntry) → IsKeptOf log self.now → IsMapOf (incs_of log) map.now
+            → result ≡ is_touched log (entry.Inc inc.now) self.now.pg }
+    {
+        changes_placement(inc, &self.pg) || self.knows_changed(map.temp(self.pg), inc)
+    }
+
+    /// Whether the group has to do with a device whose state the incremental changes. `temp` is the group's pg_temp list.
+    fn knows_changed(&self, temp: &[Option<OsdId>], inc: &Incremental) -> bool
+        ensures { (log : List AnyEntry) → IsKeptOf log self.now → temp.now ≡ temp_of (incs_of log) self.now.pg
+            → let knows = has_to_do_with log self.now.pg in result ≡ (list_any knows inc.now.up || list_any knows inc.now.down
+            || list_any knows inc.now.gone || list_any (λ told. knows told.osd) inc.now.up_thru
+            || list_any (λ told. knows told.osd) inc.now.lost) }
+    {
+        self.knows_any(temp, inc.up.as_slice())
+            || self.knows_any(temp, inc.down.as_slice())
+            || self.knows_any(temp, inc.gone.as_slice())
+            || self.knows_told(temp, inc.up_thru.as_slice())
+            || self.knows_told(temp, inc.lost.as_slice())
+    }
+
+    /// Whether the group has to do with one of these devices.
+    fn knows_any(&self, temp: &[Option<OsdId>], osds: &[OsdId]) -> bool
+        ensures { (log : List AnyEntry) → IsKeptOf log self.now → temp.now ≡ temp_of (incs_of log) self.now.pg
+            → result ≡ list_any (has_to_do_with log self.now.pg) osds.now }
+    {
+        for osd in osds {
+            if self.knows(temp, *osd) {
+                return true;
+            }
+        }
+        false
+    }
+
+    /// Whether the group has to do with a device of which this is told.
+    fn knows_told(&self, temp: &[Option<OsdId>], all: &[DeviceEpoch]) -> bool
+        ensures { (log : List AnyEntry) → IsKeptOf log self.now → temp.now ≡ temp_of (incs_of log) self.now.pg
+            → result ≡ list_any (λ told. has_to_do_with log self.now.pg told.osd) all.now }
+    {
+        for told in all {
+            if self.knows(temp, told.osd) {
+                return true;
+            }
+        }
+        false
+    }
+
+    /// Whether the group has to do with the device: it stands in the raw set, in pg_temp or in a past interval, or sent a
+    /// report.
+    fn knows(&self, temp: &[Option<OsdId>], osd: OsdId) -> bool
+        ensures { (log : List AnyEntry) → IsKeptOf log self.now → temp.now ≡ temp_of (incs_of log) self.now.pg
+            → result ≡ has_to_do_with log self.now.pg osd }
+    {
+        has_osd(self.raw.as_slice(), osd) || has_osd(temp, osd) || self.group.names(osd)
+    }
+
+    /// Takes a report of the group, or another entry that brings no map. After an `Err` it is of no further use.
+    pub(crate) fn absorb_report(&mut self, entry: &Entry) -> Result<(), AllocError>
+        ensures ok { OnOk result ((log : List AnyEntry) → inc_of entry.now ≡ None → IsKeptOf log self.old
+            → IsKeptOf (log ++ entry.now ∷ []) self.new) }
+        ensures pg { self.new.pg ≡ self.old.pg }
+    {
+        self.view = None;
+        self.group.absorb_report(entry)
+    }
+
+    /// All that the entries say of the group. `map` is the last map, and `count` their number. It is worked out where
+    /// something touched the group since it was last worked out, and else copied. After an `Err` it stands for the same log.
+    pub(crate) fn ask(
+        &mut self,
+        alloc: Global,
+        map: &OsdMap,
+        count: usize,
+    ) -> Result<View, AllocError>
+        ensures view { IfOk result (λ view. (log : List AnyEntry) → IsKeptOf log self.old → IsMapOf (incs_of log) map.now
+            → length log ≡ count → scratch log self.old.pg ≡ Some view) }
+        ensures kept { (log : List AnyEntry) → IsKeptOf log self.old → IsMapOf (incs_of log) map.now → length log ≡ count
+            → IsKeptOf log self.new }
+        ensures marks { OnOk result (is_some self.new.view ≡ true) }
+        ensures pg { self.new.pg ≡ self.old.pg }
+    {
+        match &self.view {
+            Some(view) => told_again(alloc, view, map.epoch(), count),
+            None => self.work_out(alloc, map, count),
+        }
+    }
+
+    /// Works out what the entries say of the group, and keeps a copy of that.
+    fn work_out(&mut self, alloc: Global, map: &OsdMap, count: usize) -> Result<View, AllocError>
+        ensures view { IfOk result (λ view. (log : List AnyEntry) → IsKeptOf log self.old → IsMapOf (incs_of log) map.now
+            → length log ≡ count → scratch log self.old.pg ≡ Some view) }
+        ensures kept { (log : List AnyEntry) → IsKeptOf log self.old → IsMapOf (incs_of log) map.now → length log ≡ count
+            → IsKeptOf log self.new }
+        ensures marks { OnOk result (is_some self.new.view ≡ true) }
+        ensures pg { self.new.pg ≡ self.old.pg }
+    {
+        let view = self.group.view(map, count)?;
+        self.view = Some(copy_of_view(alloc, &view)?);
+        Ok(view)
+    }
+
+    /// Works out what the entries say of the group, where something touched it since that was last done. `map` is the last
+    /// map, and `count` the number of entries. After an `Err` it stands for the same log.
+    pub(crate) fn renew(&mut self, map: &OsdMap, count: usize) -> Result<(), AllocError>
+        ensures kept { (log : List AnyEntry) → IsKeptOf log self.old → IsMapOf (incs_of log) map.now → length log ≡ count
+            → IsKeptOf log self.new }
+        ensures marks { OnOk result (is_some self.new.view ≡ true) }
+        ensures pg { self.new.pg ≡ self.old.pg }
+    {
+        if self.is_marked() {
+            self.view = Some(self.group.view(map, count)?);
+        }
+        Ok(())
+    }
+}
+
+/// A copy of the view, at this epoch and after so many entries.
+fn told_again(alloc: Global, view: &View, epoch: Epoch, count: usize) -> Result<View, AllocError>
+    ensures { IfOk result (λ copy. copy ≡ told_at count epoch view.now) }
+{
+    let mut copy = copy_of_view(alloc, view)?;
+    copy.epoch = epoch;
+    copy.count = count;
+    Ok(copy)
+}
