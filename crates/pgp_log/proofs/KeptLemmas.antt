@@ -245,10 +245,3 @@ kept-anew log old group is stands = record { group_is = stands; raw_is = is.raw_
 pub kept-worked_out : (log : List Entry) (old : Kept) (group : Group) (view : View) → IsKeptOf log old → IsGroupOf log old.pg group → scratch log old.pg ≡ Some view
     → IsKeptOf log (record old { group = group; view = Some view })
 kept-worked_out log old group view is stands says = record { group_is = stands; raw_is = is.raw_is; view_is = view-now log old.pg view says }
-
--- the view that is kept, told at the epoch and the count of the log
-pub view-again : (log : List Entry) (kept : Kept) (view : View) (count at : ℕ) → kept.view ≡ Some view → IsKeptOf log kept → length log ≡ count → at ≡ epoch (incs_of log)
-    → scratch log kept.pg ≡ Some (told_at count at view)
-view-again log kept view count at there is long here =
-    let says : IsViewOf log kept.pg view = subst (λ (o : Option View). IfSome o (IsViewOf log kept.pg)) there is.view_is in
-    says ∙ ap (λ n. Some (told_at n (epoch (incs_of log)) view)) long ∙ ap (λ n. Some (told_at count n view)) (sym here)

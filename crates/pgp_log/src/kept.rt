@@ -60,8 +60,9 @@ impl Kept {
         self.view.is_none()
     }
 
-    /// Takes an incremental, which leads from the one map to the other. Where it doesn't touch the group, that takes no
-    /// memory, no placement and no hash. After an `Err` it is of no further use.
+    /// Takes an incremental, which leads from the one map to the other. One that doesn't touch the group takes no memory and
+    /// no placement: the group is held against the devices that it changes, by its raw set, its pg_temp list, and what
+    /// `Group::names`. After an `Err` it is of no further use.
     pub(crate) fn absorb_inc(
         &mut self,
         before: &OsdMap,

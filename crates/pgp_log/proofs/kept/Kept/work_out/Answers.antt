@@ -1,5 +1,4 @@
-use Rattle.std.proofs.Common.{◌≡◌, Some, ap, sym, ◌∙◌}
-use Rattle.pgp_ids.specs.declared.view.View.{View}
+use Rattle.std.proofs.Common.{Some, ap, sym, ◌∙◌}
 use Rattle.pgp_log.proofs.KeptLemmas.{kept-anew, kept-worked_out}
 use Rattle.pgp_log.proofs.kept.Kept.work_out.Goals as goal
 
