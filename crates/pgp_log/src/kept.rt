@@ -79,14 +79,16 @@ impl Kept {
         ensures pg { self.new.pg ≡ self.old.pg }
     {
         if self.is_touched(before, inc) {
-            self.move_on(before, after, inc)
+            self.move_on(before, after, inc)?;
+            self.view = None;
+            Ok(())
         } else {
             self.group.stay(inc.epoch);
             Ok(())
         }
     }
 
-    /// Takes an incremental that touches the group.
+    /// Takes an incremental that touches the group, all but the view, which is to be forgotten.
     fn move_on(
         &mut self,
         before: &OsdMap,
@@ -95,11 +97,10 @@ impl Kept {
     ) -> Result<(), AllocError>
         requires { CanStep self.old inc.now before.now after.now }
         ensures ok { OnOk result ((log : List AnyEntry) → IsKeptOf log self.old → IsStep log inc.now before.now after.now
-            → IsKeptOf (log ++ entry.Inc inc.now ∷ []) self.new) }
+            → IsKeptOf (log ++ entry.Inc inc.now ∷ []) (record self.new { view = None })) }
         ensures pg { self.new.pg ≡ self.old.pg }
     {
         self.place_again(after, inc);
-        self.view = None;
         let members = filter(after, &self.pg, &self.raw);
         self.group.absorb_members(before, after, members)
     }
