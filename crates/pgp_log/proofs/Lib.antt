@@ -9,3 +9,7 @@ pub mod RawSetLemmas
 pub mod ReplayLemmas
 pub mod KeptLemmas
 pub mod TouchLemmas
+pub mod GroupsLemmas
+pub mod PassingLemmas
+pub mod MarksLemmas
+pub mod DerivedLemmas

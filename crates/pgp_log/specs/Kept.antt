@@ -1,5 +1,7 @@
--- What a shard keeps of one of its groups, as far as the entries that it has read tell of it.
-use Rattle.std.specs.Prelude.{◌≡◌, List, length, Bool, is_none, Some, None, IfSome, true}
+-- What a shard keeps of its groups, as far as the entries that it has read tell of them.
+use Rattle.std.specs.Prelude.{◌≡◌, ℕ, List, length, map, slice_get, Bool, is_none, Some, None, IfSome, true, false, not}
+use Rattle.std.specs.HashMap as hash
+use Rattle.std.specs.List.{filter, list_any}
 use Rattle.pgp_ids.specs.declared.entry.Entry.{Entry}
 use Rattle.pgp_ids.specs.declared.entry.Entry.TheVariants as entry
 use Rattle.pgp_ids.specs.declared.incremental.Incremental.{Incremental}
@@ -8,14 +10,16 @@ use Rattle.pgp_ids.specs.declared.view.View.{View}
 use Rattle.pgp_map.specs.Map.{epoch}
 use Rattle.pgp_map.specs.MapFault.{then_with}
 use Rattle.pgp_map.specs.MapOf.{IsMapOf}
+use Rattle.pgp_map.specs.Pools.{is_same_group}
 use Rattle.pgp_map.specs.declared.map.OsdMap.{OsdMap}
 use Rattle.pgp_group.specs.Entries.{incs_of}
 use Rattle.pgp_group.specs.GroupOf.{IsGroupOf}
-use Rattle.pgp_group.specs.Touched.{told_at}
+use Rattle.pgp_group.specs.Touched.{is_touched, told_at}
 use Rattle.pgp_group.specs.View.{scratch}
 use Rattle.pgp_log.specs.Fits.{fits}
 use Rattle.pgp_log.specs.Log.{is_legal}
 use Rattle.pgp_log.specs.RawSets.{IsRawSet}
+use Rattle.pgp_log.specs.declared.groups.Groups.{Groups}
 use Rattle.pgp_log.specs.declared.kept.Kept.{Kept}
 
 -- the view is what the log says of the group, but for count and epoch
@@ -45,3 +49,48 @@ pub record CanStep (kept : Kept) (inc : Incremental) (before after : OsdMap) : T
   pub log : List Entry
   pub is : IsKeptOf log kept
   pub step : IsStep log inc before after
+
+-- each group of the list is kept
+pub record AreKeptOf (log : List Entry) (groups : List Kept) : Type 0 where
+  pub each : (place : ℕ) (kept : Kept) → slice_get groups place ≡ Some kept → IsKeptOf log kept
+
+-- the incremental comes next in some log of which the groups are kept
+pub record CanStepAll (groups : List Kept) (inc : Incremental) (before after : OsdMap) : Type 0 where
+  pub log : List Entry
+  pub are : AreKeptOf log groups
+  pub step : IsStep log inc before after
+
+-- which groups they are
+abbrev pub ids_of : List Kept → List PgId
+ids_of groups = map (λ kept. kept.pg) groups
+
+-- the groups of the list that are marked, in its order
+abbrev pub marks_in : List Kept → List PgId
+marks_in groups = ids_of (filter is_marked groups)
+
+-- the table says of each group at which place it stands, and of no other
+pub record AreAtPlaces (groups : Groups) : Type 0 where
+  pub there : (pg : PgId) (place : ℕ) → hash.get is_same_group groups.places pg ≡ Some place → slice_get (ids_of groups.kept.items) place ≡ Some pg
+  pub found : (pg : PgId) (place : ℕ) → slice_get (ids_of groups.kept.items) place ≡ Some pg → hash.get is_same_group groups.places pg ≡ Some place
+
+-- the groups are kept, each at its place
+pub record AreGroupsOf (log : List Entry) (groups : Groups) : Type 0 where
+  pub each : AreKeptOf log groups.kept.items
+  pub places_are : AreAtPlaces groups
+
+-- the groups that are marked: they have to be worked out anew at the next question
+abbrev pub marks_of : Groups → List PgId
+marks_of groups = marks_in groups.kept.items
+
+-- the group is one of these
+abbrev pub is_among : PgId → List PgId → Bool
+is_among pg ids = list_any (is_same_group pg) ids
+
+-- these groups without this one
+abbrev pub without : PgId → List PgId → List PgId
+without pg ids = filter (λ other. not (is_same_group pg other)) ids
+
+-- the entry marks none but the groups that it touches: each other is marked after it where it was before
+abbrev pub MarksTouched : List Entry → Entry → Groups → Groups → Type 0
+MarksTouched log new before after =
+    (pg : PgId) → is_touched log new pg ≡ false → is_among pg (marks_of after) ≡ is_among pg (marks_of before)

@@ -10,5 +10,6 @@ pub mod Locate
 pub mod RawSets
 pub mod Replay
 pub mod Kept
+pub mod Derived
 pub mod Examples
 pub mod Worked

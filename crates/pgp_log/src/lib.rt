@@ -3,10 +3,13 @@
 #![tactic(auto)]
 
 mod copies;
+mod derived;
 mod entry;
+mod groups;
 mod judge;
 mod kept;
 pub mod laws;
+mod part;
 mod place;
 mod raw_sets;
 mod replay;

@@ -157,7 +157,7 @@ impl Replay {
 }
 
 /// Whether the map has the group.
-fn has_group(map: &OsdMap, pg: &PgId) -> bool
+pub(crate) fn has_group(map: &OsdMap, pg: &PgId) -> bool
     ensures { (incs : List AnyIncremental) → IsMapOf incs map.now → result ≡ has_group incs pg.now }
 {
     map.pool(pg.pool).is_some_and(|pool| pg.pg < pool.pg_num)

@@ -11,7 +11,7 @@ ghost use Rattle.pgp_log.specs.Log.{HasInc, is_legal};
 ghost use Rattle.pgp_log.specs.Shard.{opening_shard, having_read, having_read_all, HasReadSome, shard_of};
 
 use super::entry::is_close;
-use super::replay::view_of;
+use super::part::Part;
 use pgp_ids::{AskRefusal, Entry, PgId, View};
 use std::alloc::{AllocError, Global};
 use std::marker::Model;
@@ -20,23 +20,22 @@ use std::sync::Arc;
 /// The front of the log that one of several shards has read. It answers for its own groups alone.
 #[derive(Debug, Drop)]
 pub struct ShardState {
-    alloc: Global,
-    shard: usize,
-    shards: usize,
     front: Vec<Arc<Entry>>,
+    /// What follows from the front, for the groups of this shard of so many.
+    part: Part,
 }
 
 impl Model for ShardState {
-    ghost use Rattle.std.specs.Prelude.{◌≡◌, true, map};
+    ghost use Rattle.std.specs.Prelude.{map};
     ghost use Rattle.std.specs.Arc.{arc_value};
-    ghost use Rattle.pgp_log.specs.Log.{is_legal};
+    ghost use Rattle.pgp_log.specs.Derived.{IsShardOf};
     ghost use Rattle.pgp_log.specs.Shard.{Shard};
 
     ghost Value = { Shard };
 
-    ghost view = { λ s. record { front = map arc_value s.front.items; shard = s.shard; shards = s.shards } };
+    ghost view = { λ s. record { front = map arc_value s.front.items; shard = s.part.shard; shards = s.part.shards } };
 
-    ghost invariant = { λ s. is_legal (map arc_value s.front.items) ≡ true };
+    ghost invariant = { λ s. IsShardOf (map arc_value s.front.items) s.part.derived };
 }
 
 impl ShardState {
@@ -45,10 +44,8 @@ impl ShardState {
         ensures { result ≡ opening_shard shard shards }
     {
         ShardState {
-            alloc,
-            shard,
-            shards,
             front: Vec::new(alloc),
+            part: Part::new(alloc, shard, shards),
         }
     }
 
@@ -76,7 +73,11 @@ impl ShardState {
         ensures err { OnErr result (self.new ≡ self.old) }
     {
         self.front.push(Arc::try_clone(entry)?)?;
-        Ok(())
+        let followed = self.part.absorb(entry);
+        if followed.is_err() {
+            self.front.pop();
+        }
+        followed
     }
 
     /// Reads these entries, which come next. Without memory for one of them, the shard has read those before it.
@@ -100,10 +101,20 @@ impl ShardState {
         ensures wants { result ≡ Err Memory → HasInc self.old.front }
         ensures same { self.new ≡ self.old }
     {
-        match view_of(self.alloc, self.front.as_slice(), &pg)? {
+        match self.part.ask(self.front.as_slice(), &pg)? {
             Some(view) => Ok(view),
             None => Err(AskRefusal::UnknownGroup),
         }
+    }
+
+    /// Works out up to `max` of the shard's groups that something touched since they were last worked out, so that a question
+    /// for one of them finds it done. How many groups of the shard still have to be worked out anew. What the shard has read
+    /// stays.
+    pub fn renew(&mut self, max: usize) -> Result<usize, AllocError>
+        ensures wants { OnErr result (HasInc self.old.front) }
+        ensures same { self.new ≡ self.old }
+    {
+        self.part.renew(self.front.as_slice(), max)
     }
 }
 

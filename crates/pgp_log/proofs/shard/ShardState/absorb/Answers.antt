@@ -1,18 +1,22 @@
-use Rattle.std.proofs.Common.{◌≡◌, List, [], ◌∷◌, ◌++◌, true, None, map, ap, sym, ◌∙◌, subst}
+use Rattle.std.proofs.Common.{◌≡◌, List, [], ◌∷◌, ◌++◌, None, IfSome, map, ap, sym, ◌∙◌, subst}
 use Rattle.std.proofs.lemmas.List.{map-append}
 use Rattle.std.specs.Arc.{arc_value}
 use Rattle.pgp_ids.specs.declared.entry.Entry.{Entry}
+use Rattle.pgp_log.specs.Derived.{IsDerivedOf, IsShardOf}
 use Rattle.pgp_log.specs.Fits.{fits}
-use Rattle.pgp_log.specs.Log.{is_legal}
 use Rattle.pgp_log.specs.Shard.{Shard}
-use Rattle.pgp_log.proofs.LogLemmas.{legal-snoc}
+use Rattle.pgp_log.proofs.DerivedLemmas.{ok-holds, shard-more}
 use Rattle.pgp_log.proofs.shard.ShardState.absorb.Goals as goal
 
-pub invariant_of-self-2 : goal.invariant_of-self-2
-invariant_of-self-2 c =
+pub invariant_of-self-else-is_err : goal.invariant_of-self-else-is_err
+invariant_of-self-else-is_err c =
     let log : List Entry = map arc_value c.self.inside.front.items in
-    let new : Entry = arc_value c.args.entry.now in
+    let new : Entry = c.deref.result.now in
     let longer : map arc_value c.push.new.self.items ≡ log ++ new ∷ [] =
     ap (map arc_value) c.in_ok-push.ensures.items ∙ map-append arc_value c.self.inside.front.items (c.in_ok-try_clone.field-0 ∷ [])
-    ∙ ap (λ (copy : Entry). log ++ copy ∷ []) c.in_ok-try_clone.ensures in
-    subst (λ (l : List Entry). is_legal l ≡ true) (sym longer) (legal-snoc log new c.self.invariant (subst (λ (s : Shard). fits s.front new ≡ None) (sym c.self.view_is) c.requires))
+    ∙ ap (λ (copy : Entry). log ++ copy ∷ []) (c.in_ok-try_clone.ensures ∙ sym c.deref.ensures) in
+    let fit : fits log new ≡ None = ap (fits log) c.deref.ensures ∙ subst (λ (s : Shard). fits s.front (arc_value c.args.entry.now) ≡ None) (sym c.self.view_is) c.requires in
+    let told : IfSome c.absorb-followed.new.self.derived (IsDerivedOf (log ++ new ∷ [])) =
+    ok-holds c.absorb-followed.result _ (sym c.is_err.ensures.value ∙ c.if-is_err.false) c.absorb-followed.ensures.ok log fit c.self.invariant.derived_is in
+    subst (λ (l : List Entry). IsShardOf l c.absorb-followed.new.self.derived) (sym longer)
+    (shard-more log new c.absorb-followed.new.self.derived c.self.invariant.legal fit told)

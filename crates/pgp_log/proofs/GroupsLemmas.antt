@@ -1,0 +1,218 @@
+-- Lists of groups of which one changes, or with one more, and the table of their places.
+use Rattle.std.proofs.Common.{◌≡◌, ℕ, zero, suc, ◌<◌, List, [], ◌∷◌, ◌++◌, inl, inr, Bool, true, false, cond, Option, Some, None, is_some, length, set, refl, sym, ap, ◌∙◌, subst, arith, length-append, eq-eqb}
+use Rattle.std.specs.HashMap as hash
+use Rattle.std.specs.Option.{option_map}
+use Rattle.std.specs.Prelude.{slice_get}
+use Rattle.std.proofs.Math.Seq.{map-set_same}
+use Rattle.std.proofs.lemmas.Bool.{cases_Bool, cases_eq, cases_lt, true≢false}
+use Rattle.std.proofs.lemmas.List.{length-map, map-append}
+use Rattle.std.proofs.lemmas.Option.{get_or_from_slice_get, slice_get-map, slice_get_within}
+use Rattle.pgp_lists.proofs.Lists.{get-append, get-last}
+use Rattle.pgp_ids.specs.declared.entry.Entry.{Entry}
+use Rattle.pgp_ids.specs.declared.pg_id.PgId.{PgId}
+use Rattle.pgp_map.specs.Pools.{is_same_group}
+use Rattle.pgp_group.specs.Entries.{inc_of}
+use Rattle.pgp_group.specs.Touched.{is_touched}
+use Rattle.pgp_log.specs.Kept.{AreAtPlaces, AreGroupsOf, AreKeptOf, IsKeptOf, ids_of}
+use Rattle.pgp_log.specs.declared.groups.Groups.{Groups}
+use Rattle.pgp_log.specs.declared.kept.Kept.{Kept}
+use Rattle.pgp_log.specs.Log.{HasInc}
+use Rattle.pgp_log.proofs.KeptLemmas.{kept-inc, kept-untold}
+use Rattle.pgp_log.proofs.RawSetLemmas.{same_group}
+
+-- ---- elements by their places
+
+pub same_some : {X : Type 0} (x y : X) → Some x ≡ Some y → x ≡ y
+same_some x y same = cc
+
+pub get-set_same : {X : Type 0} (xs : List X) (i : ℕ) (x : X) → i < length xs → slice_get (set xs i x) i ≡ Some x
+get-set_same [] i x within = absurd (omega arith)
+get-set_same (y ∷ xs) zero x within = refl
+get-set_same (y ∷ xs) (suc i) x within = get-set_same xs i x (omega arith)
+
+pub get-set_other : {X : Type 0} (xs : List X) (i j : ℕ) (x : X) → (j ≡ i → ⊥) → slice_get (set xs i x) j ≡ slice_get xs j
+get-set_other [] i j x other = refl
+get-set_other (y ∷ xs) zero zero x other = absurd (other refl)
+get-set_other (y ∷ xs) zero (suc j) x other = refl
+get-set_other (y ∷ xs) (suc i) zero x other = refl
+get-set_other (y ∷ xs) (suc i) (suc j) x other = get-set_other xs i j x (λ same. other (ap suc same))
+
+-- what holds of the elements, where one of them is another now
+pub each-set : {X : Type 0} (P Q : X → Type 0) (xs : List X) (i : ℕ) (x y : X) → i < length xs → Q y
+    → ((j : ℕ) (z : X) → (j ≡ i → ⊥) → slice_get xs j ≡ Some z → Q z)
+    → (j : ℕ) (z : X) → slice_get (set xs i y) j ≡ Some z → Q z
+each-set P Q xs i x y within holds others j z at = elim (cases_eq j i) [
+  | inl here ↦ subst Q (same_some y z (sym (get-set_same xs i y within) ∙ ap (slice_get (set xs i y)) (sym here) ∙ at)) holds
+  | inr other ↦ others j z other (sym (get-set_other xs i j y other) ∙ at)
+]
+
+-- the groups stay the same ones, where one of them is kept anew
+pub ids-set : (xs : List Kept) (i : ℕ) (old new : Kept) → slice_get xs i ≡ Some old → new.pg ≡ old.pg → ids_of (set xs i new) ≡ ids_of xs
+ids-set xs i old new at same =
+    map-set_same (λ (kept : Kept). kept.pg) xs i new old (same ∙ ap (λ (kept : Kept). kept.pg) (sym (get_or_from_slice_get xs i old old at)))
+
+-- ---- the table of places
+
+pub at-places : (old groups : Groups) → groups.places ≡ old.places → ids_of groups.kept.items ≡ ids_of old.kept.items → AreAtPlaces old → AreAtPlaces groups
+at-places old groups same ids are = record {
+  there = λ pg place is. ap (λ (l : List PgId). slice_get l place) ids ∙ are.there pg place (rw same at is);
+  found = λ pg place is. rw same (are.found pg place (ap (λ (l : List PgId). slice_get l place) (sym ids) ∙ is));
+}
+
+-- the place that the table says is one of the list
+pub place-within : (groups : Groups) (pg : PgId) (place : ℕ) → AreAtPlaces groups → hash.get is_same_group groups.places pg ≡ Some place → place < length groups.kept.items
+place-within groups pg place are is =
+    omega (arith, slice_get_within (ids_of groups.kept.items) place pg (are.there pg place is), length-map groups.kept.items (λ (kept : Kept). kept.pg))
+
+-- and the group there is the one that was looked for
+pub place-holds : (groups : Groups) (pg : PgId) (place : ℕ) (kept : Kept) → AreAtPlaces groups → hash.get is_same_group groups.places pg ≡ Some place → slice_get groups.kept.items place ≡ Some kept → kept.pg ≡ pg
+place-holds groups pg place kept are is at =
+    same_some kept.pg pg (sym (slice_get-map (λ (k : Kept). k.pg) groups.kept.items place ∙ ap (option_map (λ (k : Kept). k.pg)) at) ∙ are.there pg place is)
+
+id-at : (xs : List Kept) (place : ℕ) (kept : Kept) → slice_get xs place ≡ Some kept → slice_get (ids_of xs) place ≡ Some kept.pg
+id-at xs place kept at = slice_get-map (λ (k : Kept). k.pg) xs place ∙ ap (option_map (λ (k : Kept). k.pg)) at
+
+-- ---- an entry that brings no map
+
+-- it is of no group of the list
+pub groups-untold : (log : List Entry) (new : Entry) (groups : Groups) → inc_of new ≡ None → ((place : ℕ) (kept : Kept) → slice_get groups.kept.items place ≡ Some kept → is_touched log new kept.pg ≡ false)
+    → AreGroupsOf log groups → AreGroupsOf (log ++ new ∷ []) groups
+groups-untold log new groups none untouched are = record {
+  each = record { each = λ place kept at. kept-untold log new kept none (untouched place kept at) (are.each.each place kept at) };
+  places_are = are.places_are;
+}
+
+-- another group than the one at this place
+pub other-group : (groups : Groups) (pg : PgId) (place j : ℕ) (kept : Kept) → AreAtPlaces groups → hash.get is_same_group groups.places pg ≡ Some place → slice_get groups.kept.items j ≡ Some kept → (j ≡ place → ⊥) → is_same_group pg kept.pg ≡ false
+other-group groups pg place j kept are is at other = elim (cases_Bool (is_same_group pg kept.pg)) [
+  | inl same ↦
+      let e : pg ≡ kept.pg = same_group pg kept.pg same in
+      let found : hash.get is_same_group groups.places pg ≡ Some j = are.found pg j (id-at groups.kept.items j kept at ∙ ap Some (sym e)) in
+      absurd (other (same_some j place (sym found ∙ is)))
+  | inr differs ↦ differs
+]
+
+-- a group that isn't in the table isn't in the list
+pub missing-group : (groups : Groups) (pg : PgId) (j : ℕ) (kept : Kept) → AreAtPlaces groups → hash.get is_same_group groups.places pg ≡ None → slice_get groups.kept.items j ≡ Some kept → is_same_group pg kept.pg ≡ false
+missing-group groups pg j kept are none at = elim (cases_Bool (is_same_group pg kept.pg)) [
+  | inl same ↦
+      let e : pg ≡ kept.pg = same_group pg kept.pg same in
+      let found : hash.get is_same_group groups.places pg ≡ Some j = are.found pg j (id-at groups.kept.items j kept at ∙ ap Some (sym e)) in
+      absurd (none_some (sym none ∙ found))
+  | inr differs ↦ differs
+]
+  where
+    none_some : {X : Type 0} {x : X} → None ≡ Some x → ⊥
+    none_some same = cc
+
+-- the group at this place has taken it
+pub groups-told : (log : List Entry) (new : Entry) (old groups : Groups) (pg : PgId) (place : ℕ) (kept after : Kept) → inc_of new ≡ None
+    → ((other : PgId) → is_same_group pg other ≡ false → is_touched log new other ≡ false)
+    → hash.get is_same_group old.places pg ≡ Some place → slice_get old.kept.items place ≡ Some kept → (IsKeptOf log kept → IsKeptOf (log ++ new ∷ []) after) → after.pg ≡ kept.pg
+    → groups.places ≡ old.places → groups.kept.items ≡ set old.kept.items place after → AreGroupsOf log old → AreGroupsOf (log ++ new ∷ []) groups
+groups-told log new old groups pg place kept after none untouched is at takes same places items are =
+    let within : place < length old.kept.items = place-within old pg place are.places_are is in
+    let each : AreKeptOf (log ++ new ∷ []) (set old.kept.items place after) = record {
+      each = each-set (IsKeptOf log) (IsKeptOf (log ++ new ∷ [])) old.kept.items place kept after within (takes (are.each.each place kept at))
+          (λ j other differs there. kept-untold log new other none (untouched other.pg (other-group old pg place j other are.places_are is there differs)) (are.each.each j other there));
+    } in
+    record {
+      each = subst (AreKeptOf (log ++ new ∷ [])) (sym items) each;
+      places_are = at-places old groups places (ap ids_of items ∙ ids-set old.kept.items place kept after at same) are.places_are;
+    }
+
+-- each of them is kept, where one is kept anew
+pub each-kept : (log : List Entry) (xs : List Kept) (i : ℕ) (old after : Kept) → i < length xs → IsKeptOf log after → AreKeptOf log xs → AreKeptOf log (set xs i after)
+each-kept log xs i old after within is are = record { each = each-set (IsKeptOf log) (IsKeptOf log) xs i old after within is (λ j other differs there. are.each j other there) }
+
+-- the group at this place was asked
+pub groups-asked : (log : List Entry) (old groups : Groups) (pg : PgId) (place : ℕ) (kept after : Kept) → hash.get is_same_group old.places pg ≡ Some place → slice_get old.kept.items place ≡ Some kept
+    → (IsKeptOf log kept → IsKeptOf log after) → after.pg ≡ kept.pg → groups.places ≡ old.places → groups.kept.items ≡ set old.kept.items place after → AreGroupsOf log old → AreGroupsOf log groups
+groups-asked log old groups pg place kept after is at stays same places items are =
+    let within : place < length old.kept.items = place-within old pg place are.places_are is in
+    let each : AreKeptOf log (set old.kept.items place after) = each-kept log old.kept.items place kept after within (stays (are.each.each place kept at)) are.each in
+    record {
+      each = subst (AreKeptOf log) (sym items) each;
+      places_are = at-places old groups places (ap ids_of items ∙ ids-set old.kept.items place kept after at same) are.places_are;
+    }
+
+-- ---- a group comes
+
+pub same-self : (pg : PgId) → is_same_group pg pg ≡ true
+same-self pg = rw (eq-eqb pg.pool pg.pool refl, eq-eqb pg.pg pg.pg refl) refl
+
+-- each of a list with one more
+each-push : {X : Type 0} (Q : X → Type 0) (xs : List X) (x : X) → ((j : ℕ) (z : X) → slice_get xs j ≡ Some z → Q z) → Q x
+    → (j : ℕ) (z : X) → slice_get (xs ++ x ∷ []) j ≡ Some z → Q z
+each-push Q xs x each last j z at = elim (cases_lt j (length xs)) [
+  | inl below ↦ each j z (sym (get-append xs (x ∷ []) j below) ∙ at)
+  | inr past ↦
+      let within : j < length (xs ++ x ∷ []) = slice_get_within (xs ++ x ∷ []) j z at in
+      let here : j ≡ length xs = omega (arith, within, past, length-append xs (x ∷ [])) in
+      subst Q (same_some x z (sym (get-last xs x) ∙ ap (slice_get (xs ++ x ∷ [])) (sym here) ∙ at)) last
+]
+
+ids-push : (xs : List Kept) (kept : Kept) → ids_of (xs ++ kept ∷ []) ≡ ids_of xs ++ kept.pg ∷ []
+ids-push xs kept = map-append (λ (k : Kept). k.pg) xs (kept ∷ [])
+
+there-push : (ids : List PgId) (pg : PgId) (old : PgId → Option ℕ) → ((q : PgId) (place : ℕ) → old q ≡ Some place → slice_get ids place ≡ Some q)
+    → (q : PgId) (place : ℕ) (same : Bool) → is_same_group pg q ≡ same → cond same (Some (length ids)) (old q) ≡ Some place → slice_get (ids ++ pg ∷ []) place ≡ Some q
+there-push ids pg old are q place true same is =
+    ap (slice_get (ids ++ pg ∷ [])) (sym (same_some (length ids) place is)) ∙ get-last ids pg ∙ ap Some (same_group pg q same)
+there-push ids pg old are q place false same is =
+    let at : slice_get ids place ≡ Some q = are q place is in get-append ids (pg ∷ []) place (slice_get_within ids place q at) ∙ at
+
+found-push : (ids : List PgId) (pg : PgId) (old : PgId → Option ℕ) → is_some (old pg) ≡ false → ((q : PgId) (place : ℕ) → slice_get ids place ≡ Some q → old q ≡ Some place)
+    → (q : PgId) (place : ℕ) → slice_get (ids ++ pg ∷ []) place ≡ Some q → cond (is_same_group pg q) (Some (length ids)) (old q) ≡ Some place
+found-push ids pg old absent are q place at = elim (cases_lt place (length ids)) [
+  | inl below ↦
+      let before : old q ≡ Some place = are q place (sym (get-append ids (pg ∷ []) place below) ∙ at) in
+      earlier (is_same_group pg q) refl before
+  | inr past ↦
+      let within : place < length (ids ++ pg ∷ []) = slice_get_within (ids ++ pg ∷ []) place q at in
+      let here : place ≡ length ids = omega (arith, within, past, length-append ids (pg ∷ [])) in
+      let e : pg ≡ q = same_some pg q (sym (get-last ids pg) ∙ ap (slice_get (ids ++ pg ∷ [])) (sym here) ∙ at) in
+      ap (λ b. cond b (Some (length ids)) (old q)) (ap (is_same_group pg) (sym e) ∙ same-self pg) ∙ ap Some (sym here)
+]
+  where
+    lost : {P : Type 0} → old q ≡ Some place → pg ≡ q → P
+    lost before e = absurd (true≢false (sym (ap is_some (ap old e ∙ before)) ∙ absent))
+
+    earlier : (same : Bool) → is_same_group pg q ≡ same → old q ≡ Some place → cond (is_same_group pg q) (Some (length ids)) (old q) ≡ Some place
+    earlier true same before = lost before (same_group pg q same)
+    earlier false same before = ap (λ b. cond b (Some (length ids)) (old q)) same ∙ before
+
+pub groups-more : (later : List Entry) (old groups : Groups) (kept : Kept) → is_some (hash.get is_same_group old.places kept.pg) ≡ false
+    → ((q : PgId) → hash.get is_same_group groups.places q ≡ cond (is_same_group kept.pg q) (Some (length old.kept.items)) (hash.get is_same_group old.places q))
+    → groups.kept.items ≡ old.kept.items ++ kept ∷ [] → IsKeptOf later kept → AreGroupsOf later old → AreGroupsOf later groups
+groups-more later old groups kept absent step items is are =
+    let ids : ids_of groups.kept.items ≡ ids_of old.kept.items ++ kept.pg ∷ [] = ap ids_of items ∙ ids-push old.kept.items kept in
+    let places : PgId → Option ℕ = hash.get is_same_group old.places in
+    let long : length (ids_of old.kept.items) ≡ length old.kept.items = length-map old.kept.items (λ (k : Kept). k.pg) in
+    let grows : (q : PgId) → hash.get is_same_group groups.places q ≡ cond (is_same_group kept.pg q) (Some (length (ids_of old.kept.items))) (places q) =
+    λ q. step q ∙ ap (λ n. cond (is_same_group kept.pg q) (Some n) (places q)) (sym long) in
+    record {
+      each = record {
+        each = subst (λ (l : List Kept). (j : ℕ) (z : Kept) → slice_get l j ≡ Some z → IsKeptOf later z) (sym items)
+            (each-push (IsKeptOf later) old.kept.items kept are.each.each is);
+      };
+      places_are = record {
+        there = λ q place found. ap (λ (l : List PgId). slice_get l place) ids
+            ∙ there-push (ids_of old.kept.items) kept.pg places are.places_are.there q place (is_same_group kept.pg q) refl (sym (grows q) ∙ found);
+        found = λ q place at. grows q
+            ∙ found-push (ids_of old.kept.items) kept.pg places absent are.places_are.found q place (ap (λ (l : List PgId). slice_get l place) (sym ids) ∙ at);
+      };
+    }
+
+-- a group is there by an incremental
+pub groups-inc : (log : List Entry) (groups : Groups) (pg : PgId) → is_some (hash.get is_same_group groups.places pg) ≡ true → AreGroupsOf log groups → HasInc log
+groups-inc log groups pg some are = at (hash.get is_same_group groups.places pg) refl some where
+  of-place : (place : ℕ) (found : Option Kept) → slice_get groups.kept.items place ≡ found → option_map (λ (k : Kept). k.pg) found ≡ Some pg → HasInc log
+  of-place place None is same = cc
+  of-place place (Some kept) is same = kept-inc log kept (are.each.each place kept is)
+
+  at : (found : Option ℕ) → hash.get is_same_group groups.places pg ≡ found → is_some found ≡ true → HasInc log
+  at None is some = cc
+  at (Some place) is some =
+      of-place place (slice_get groups.kept.items place) refl
+      (sym (slice_get-map (λ (k : Kept). k.pg) groups.kept.items place) ∙ are.places_are.there pg place is)

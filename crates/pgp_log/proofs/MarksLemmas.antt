@@ -1,0 +1,168 @@
+-- Which groups have to be worked out anew, as the groups change.
+use Rattle.std.proofs.Common.{◌≡◌, ℕ, zero, suc, ◌+◌, ◌-◌, ◌<◌, ◌≤◌, List, [], ◌∷◌, ◌++◌, Bool, true, false, ◌&&◌, ◌||◌, Option, Some, None, is_some, is_none, Result, Ok, Err, OnOk, length, take, drop, set, slice_get, inl, inr, refl, sym, ap, ◌∙◌, arith, eq-eqb, length-append}
+use Rattle.std.specs.HashMap as hash
+use Rattle.std.specs.List.{list_any}
+use Rattle.std.specs.Prelude.{nat_eq}
+use Rattle.std.proofs.lemmas.Bool.{cases_Bool, or_parts, true≢false}
+use Rattle.std.proofs.Math.ListN.{drop_of_length-le}
+use Rattle.std.proofs.lemmas.List.{take_more_set}
+use Rattle.std.proofs.lemmas.List.Folds.{list_any-append}
+use Rattle.std.proofs.lemmas.Option.{slice_get_within}
+use Rattle.pgp_ids.specs.declared.entry.Entry.{Entry}
+use Rattle.pgp_ids.specs.declared.entry.Entry.TheVariants as entry
+use Rattle.pgp_ids.specs.declared.incremental.Incremental.{Incremental}
+use Rattle.pgp_ids.specs.declared.view.View.{View}
+use Rattle.pgp_ids.specs.declared.pg_id.PgId.{PgId}
+use Rattle.pgp_map.specs.Pools.{is_same_group}
+use Rattle.pgp_group.specs.Touched.{changes_pool, changes_temp, is_touched, moves_all}
+use Rattle.pgp_log.specs.Kept.{AreAtPlaces, is_among, is_marked, marks_in, marks_of, without}
+use Rattle.pgp_log.specs.declared.groups.Groups.{Groups}
+use Rattle.pgp_log.specs.declared.kept.Kept.{Kept}
+use Rattle.pgp_log.proofs.GroupsLemmas.{missing-group, other-group, place-holds, same-self}
+use Rattle.pgp_log.proofs.PassingLemmas.{all-other, any-passing, drop-few, drop-more, front-fails, front-passes, passing-fails, unmarked}
+use Rattle.pgp_log.proofs.RawSetLemmas.{same_group}
+
+abbrev pg_of : Kept → PgId
+pg_of kept = kept.pg
+
+-- ---- one of the groups changes
+
+any-set : {X : Type 0} (p : X → Bool) (xs : List X) (i : ℕ) (old new : X) → slice_get xs i ≡ Some old → p new ≡ p old → list_any p (set xs i new) ≡ list_any p xs
+any-set p [] i old new at same = refl
+any-set p (x ∷ xs) zero old new at same = let here : x ≡ old = cc in ap (λ b. b || list_any p xs) (same ∙ ap p (sym here))
+any-set p (x ∷ xs) (suc i) old new at same = ap (λ b. p x || b) (any-set p xs i old new at same)
+
+and-false : (b : Bool) → (b && false) ≡ false
+and-false true = refl
+and-false false = refl
+
+-- another group is marked where it was before
+pub marks-set : (xs : List Kept) (i : ℕ) (old new : Kept) (pg : PgId) → slice_get xs i ≡ Some old → new.pg ≡ old.pg → (is_same_group pg old.pg ≡ true → new.view ≡ old.view)
+    → is_among pg (marks_in (set xs i new)) ≡ is_among pg (marks_in xs)
+marks-set xs i old new pg at same keeps =
+    any-passing is_marked pg_of (is_same_group pg) (set xs i new)
+    ∙ any-set (λ k. is_marked k && is_same_group pg k.pg) xs i old new at (ap (λ (p : PgId). is_marked new && is_same_group pg p) same ∙ alike (is_same_group pg old.pg) refl)
+    ∙ sym (any-passing is_marked pg_of (is_same_group pg) xs)
+  where
+    alike : (b : Bool) → is_same_group pg old.pg ≡ b → (is_marked new && is_same_group pg old.pg) ≡ (is_marked old && is_same_group pg old.pg)
+    alike true is = ap (λ (v : Option View). is_none v && is_same_group pg old.pg) (keeps is)
+    alike false is = ap (λ b. is_marked new && b) is ∙ and-false (is_marked new) ∙ sym (ap (λ b. is_marked old && b) is ∙ and-false (is_marked old))
+
+-- another group is marked where it was before one comes
+pub marks-push : (xs : List Kept) (kept : Kept) (pg : PgId) → is_same_group pg kept.pg ≡ false → is_among pg (marks_in (xs ++ kept ∷ [])) ≡ is_among pg (marks_in xs)
+marks-push xs kept pg differs =
+    any-passing is_marked pg_of (is_same_group pg) (xs ++ kept ∷ [])
+    ∙ list_any-append (λ k. is_marked k && is_same_group pg k.pg) xs (kept ∷ [])
+    ∙ ap (λ b. list_any (λ k. is_marked k && is_same_group pg k.pg) xs || (b || false)) (ap (λ b. is_marked kept && b) differs ∙ and-false (is_marked kept))
+    ∙ or-false (list_any (λ k. is_marked k && is_same_group pg k.pg) xs)
+    ∙ sym (any-passing is_marked pg_of (is_same_group pg) xs)
+  where
+    or-false : (b : Bool) → (b || (false || false)) ≡ b
+    or-false true = refl
+    or-false false = refl
+
+-- ---- a group is asked
+
+unmarked_by : (view : Option View) → is_some view ≡ true → is_none view ≡ false
+unmarked_by None is = cc
+unmarked_by (Some x) is = refl
+
+pub marks-asked : (old groups : Groups) (pg : PgId) (place : ℕ) (kept after : Kept) → AreAtPlaces old → hash.get is_same_group old.places pg ≡ Some place → slice_get old.kept.items place ≡ Some kept
+    → is_some after.view ≡ true → groups.kept.items ≡ set old.kept.items place after → marks_of groups ≡ without pg (marks_of old)
+marks-asked old groups pg place kept after are is at there items =
+    ap marks_in items
+    ∙ unmarked is_marked pg_of (is_same_group pg) old.kept.items place kept after at
+    (ap (is_same_group pg) (place-holds old pg place kept are is at) ∙ same-self pg) (unmarked_by after.view there)
+    (λ j other differs found. other-group old pg place j other are is found differs)
+
+pub marks-elsewhere : (groups : Groups) (pg : PgId) → AreAtPlaces groups → hash.get is_same_group groups.places pg ≡ None → marks_of groups ≡ without pg (marks_of groups)
+marks-elsewhere groups pg are none = all-other is_marked pg_of (is_same_group pg) groups.kept.items (λ j kept at. missing-group groups pg j kept are none at)
+
+-- ---- marked groups are worked out, as many as may be
+
+-- the groups before this place: the marked ones but the first are marked still
+pub record IsRenewing (first now : List Kept) (max i more left : ℕ) : Type 0 where
+  pub marks : marks_in (take i now) ≡ drop max (marks_in (take i first))
+  pub room : more ≡ max - length (marks_in (take i first))
+  pub still : left ≡ length (marks_in (take i now))
+  pub few : left ≤ i
+
+pub renewing-begins : (first : List Kept) (max : ℕ) → IsRenewing first first max 0 max 0
+renewing-begins first max = record { marks = sym (drop_of_length-le [] (omega arith)); room = omega arith; still = refl; few = omega arith }
+
+-- a group that isn't marked
+pub renewing-passes : (first now : List Kept) (max i more left : ℕ) (kept : Kept) → slice_get first i ≡ Some kept → slice_get now i ≡ Some kept → is_marked kept ≡ false
+    → IsRenewing first now max i more left → IsRenewing first now max (i + 1) more left
+renewing-passes first now max i more left kept was at fails is =
+    let before : marks_in (take (i + 1) first) ≡ marks_in (take i first) = front-fails is_marked pg_of first i kept was fails in
+    let after : marks_in (take (i + 1) now) ≡ marks_in (take i now) = front-fails is_marked pg_of now i kept at fails in
+    record {
+      marks = after ∙ is.marks ∙ ap (drop max) (sym before);
+      room = is.room ∙ ap (λ (l : List PgId). max - length l) (sym before);
+      still = is.still ∙ ap length (sym after);
+      few = omega (arith, is.few);
+    }
+
+-- a marked group, where no more may be worked out
+pub renewing-leaves : (first now : List Kept) (max i more left : ℕ) (kept : Kept) → slice_get first i ≡ Some kept → slice_get now i ≡ Some kept → is_marked kept ≡ true → more ≡ 0
+    → IsRenewing first now max i more left → IsRenewing first now max (i + 1) more (left + 1)
+renewing-leaves first now max i more left kept was at passes none is =
+    let before : marks_in (take (i + 1) first) ≡ marks_in (take i first) ++ kept.pg ∷ [] = front-passes is_marked pg_of first i kept was passes in
+    let after : marks_in (take (i + 1) now) ≡ marks_in (take i now) ++ kept.pg ∷ [] = front-passes is_marked pg_of now i kept at passes in
+    let long : length (marks_in (take i first) ++ kept.pg ∷ []) ≡ length (marks_in (take i first)) + 1 = length-append (marks_in (take i first)) (kept.pg ∷ []) in
+    let longer : length (marks_in (take i now) ++ kept.pg ∷ []) ≡ length (marks_in (take i now)) + 1 = length-append (marks_in (take i now)) (kept.pg ∷ []) in
+    let past : max ≤ length (marks_in (take i first)) = omega (arith, none, is.room) in
+    let out : 0 ≡ max - length (marks_in (take i first) ++ kept.pg ∷ []) = omega (arith, past, long) in
+    record {
+      marks = after ∙ ap (λ (l : List PgId). l ++ kept.pg ∷ []) is.marks ∙ sym (drop-more max (marks_in (take i first)) kept.pg past) ∙ ap (drop max) (sym before);
+      room = none ∙ out ∙ ap (λ (l : List PgId). max - length l) (sym before);
+      still = ap (λ n. n + 1) is.still ∙ sym longer ∙ ap length (sym after);
+      few = omega (arith, is.few);
+    }
+
+-- a marked group is worked out
+pub renewing-renews : (first now : List Kept) (max i more left : ℕ) (kept after : Kept) → slice_get first i ≡ Some kept → slice_get now i ≡ Some kept → is_marked kept ≡ true → is_some after.view ≡ true → 0 < more
+    → IsRenewing first now max i more left → IsRenewing first (set now i after) max (i + 1) (more - 1) left
+renewing-renews first now max i more left kept after was at passes there some is =
+    let before : marks_in (take (i + 1) first) ≡ marks_in (take i first) ++ kept.pg ∷ [] = front-passes is_marked pg_of first i kept was passes in
+    let long : length (marks_in (take i first) ++ kept.pg ∷ []) ≡ length (marks_in (take i first)) + 1 = length-append (marks_in (take i first)) (kept.pg ∷ []) in
+    let within : i < length now = slice_get_within now i kept at in
+    let same : marks_in (take (i + 1) (set now i after)) ≡ marks_in (take i now) =
+    ap marks_in (take_more_set now i after within) ∙ passing-fails is_marked pg_of (take i now) after (unmarked_by after.view there) in
+    let room : length (marks_in (take i first)) < max = omega (arith, some, is.room) in
+    let fewer : more - 1 ≡ max - length (marks_in (take i first) ++ kept.pg ∷ []) = omega (arith, some, is.room, long) in
+    record {
+      marks = same ∙ is.marks ∙ sym (drop-few max (marks_in (take i first)) kept.pg room) ∙ ap (drop max) (sym before);
+      room = fewer ∙ ap (λ (l : List PgId). max - length l) (sym before);
+      still = is.still ∙ ap length (sym same);
+      few = omega (arith, is.few);
+    }
+
+-- ---- other groups
+
+-- a group that isn't of this one isn't the one that is kept at its place
+pub another : {P : Type 0} (pg here other : PgId) → here ≡ pg → is_same_group pg other ≡ false → is_same_group other here ≡ true → P
+another pg here other same differs is =
+    let e : other ≡ here = same_group other here is in absurd (true≢false (sym (ap (is_same_group pg) (e ∙ same) ∙ same-self pg) ∙ differs))
+
+-- groups of different pools are different
+pub other-pool : (pg other : PgId) → nat_eq pg.pool other.pool ≡ false → is_same_group other pg ≡ false
+other-pool pg other differs = elim (cases_Bool (is_same_group other pg)) [
+  | inl same ↦
+      let e : other ≡ pg = same_group other pg same in
+      absurd (true≢false (sym (ap (λ (p : PgId). nat_eq pg.pool p.pool) e ∙ eq-eqb pg.pool pg.pool refl) ∙ differs))
+  | inr not ↦ not
+]
+
+-- an incremental that doesn't touch a group doesn't make its pool
+pub pool-left : (log : List Entry) (inc : Incremental) (pg : PgId) → is_touched log (entry.Inc inc) pg ≡ false → list_any (λ made. nat_eq made.id pg.pool) inc.pools ≡ false
+pool-left log inc pg untouched =
+    let most = or_parts (moves_all inc || changes_pool inc pg.pool || changes_temp inc pg) _ untouched in
+    let some = or_parts (moves_all inc || changes_pool inc pg.pool) _ most.0 in
+    let pool = or_parts (moves_all inc) _ some.0 in
+    (or_parts (list_any (λ made. nat_eq made.id pg.pool) inc.pools) _ pool.1).0
+
+-- what holds anyhow holds where a call succeeds
+pub ok-anyhow : {T E : Type 0} (r : Result T E) (P : Type 0) → P → OnOk r P
+ok-anyhow (Ok x) P holds = holds
+ok-anyhow (Err e) P holds = tt

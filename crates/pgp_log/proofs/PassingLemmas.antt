@@ -1,0 +1,71 @@
+-- The names of the elements that pass a test, as one of the elements comes to fail it.
+use Rattle.std.proofs.Common.{◌≡◌, ℕ, zero, suc, ◌+◌, ◌<◌, ◌≤◌, List, [], ◌∷◌, ◌++◌, Bool, true, false, not, ◌&&◌, ◌||◌, cond, Some, map, length, take, drop, set, slice_get, append-nil, length-append, refl, sym, ap, ◌∙◌, arith}
+use Rattle.std.specs.List.{filter, list_any}
+use Rattle.std.proofs.lemmas.List.{map-append, drop-append-le}
+use Rattle.std.proofs.lemmas.List.Elements.{filter-append, filter_more}
+use Rattle.std.proofs.lemmas.Option.{get_or_from_slice_get, slice_get_within}
+use Rattle.std.proofs.Math.ListN.{drop_of_length-le}
+
+-- a name of one that passes, found from the elements
+pub any-passing : {X Y : Type 0} (m : X → Bool) (f : X → Y) (q : Y → Bool) (xs : List X) → list_any q (map f (filter m xs)) ≡ list_any (λ x. m x && q (f x)) xs
+any-passing m f q [] = refl
+any-passing m f q (x ∷ xs) = at (m x) refl (any-passing m f q xs) where
+  at : (b : Bool) → m x ≡ b → list_any q (map f (filter m xs)) ≡ list_any (λ x. m x && q (f x)) xs → list_any q (map f (cond (m x) (x ∷ filter m xs) (filter m xs))) ≡ ((m x && q (f x)) || list_any (λ x. m x && q (f x)) xs)
+  at true is rest = rw is (ap (λ b. q (f x) || b) rest)
+  at false is rest = rw is rest
+
+-- none of them has such a name
+pub all-other : {X Y : Type 0} (m : X → Bool) (f : X → Y) (q : Y → Bool) (xs : List X) → ((j : ℕ) (x : X) → slice_get xs j ≡ Some x → q (f x) ≡ false)
+    → map f (filter m xs) ≡ filter (λ y. not (q y)) (map f (filter m xs))
+all-other m f q [] other = refl
+all-other m f q (x ∷ xs) other = at (m x) refl (all-other m f q xs (λ j y is. other (suc j) y is)) where
+  at : (b : Bool) → m x ≡ b → map f (filter m xs) ≡ filter (λ y. not (q y)) (map f (filter m xs)) → map f (cond (m x) (x ∷ filter m xs) (filter m xs)) ≡ filter (λ y. not (q y)) (map f (cond (m x) (x ∷ filter m xs) (filter m xs)))
+  at true is rest = rw is (rw (other 0 x refl) (ap (λ l. f x ∷ l) rest))
+  at false is rest = rw is rest
+
+-- the one at this place, which alone has such a name, fails the test now
+pub unmarked : {X Y : Type 0} (m : X → Bool) (f : X → Y) (q : Y → Bool) (xs : List X) (i : ℕ) (old after : X) → slice_get xs i ≡ Some old → q (f old) ≡ true → m after ≡ false
+    → ((j : ℕ) (x : X) → (j ≡ i → ⊥) → slice_get xs j ≡ Some x → q (f x) ≡ false)
+    → map f (filter m (set xs i after)) ≡ filter (λ y. not (q y)) (map f (filter m xs))
+unmarked m f q [] i old after is name fails other = cc
+unmarked m f q (x ∷ xs) zero old after is name fails other = at (m x) refl where
+  first : q (f x) ≡ true
+  first = let same : x ≡ old = cc in ap (λ z. q (f z)) same ∙ name
+
+  rest : map f (filter m xs) ≡ filter (λ y. not (q y)) (map f (filter m xs))
+  rest = all-other m f q xs (λ j y there. other (suc j) y (λ e. absurd (omega (arith, e))) there)
+
+  at : (b : Bool) → m x ≡ b → map f (cond (m after) (after ∷ filter m xs) (filter m xs)) ≡ filter (λ y. not (q y)) (map f (cond (m x) (x ∷ filter m xs) (filter m xs)))
+  at true is = rw (fails, is) (rw first rest)
+  at false is = rw (fails, is) rest
+unmarked m f q (x ∷ xs) (suc i) old after is name fails other =
+    at (m x) refl (unmarked m f q xs i old after is name fails (λ j y differs there. other (suc j) y (λ e. differs (omega (arith, e))) there)) where
+      at : (b : Bool) → m x ≡ b → map f (filter m (set xs i after)) ≡ filter (λ y. not (q y)) (map f (filter m xs))
+          → map f (cond (m x) (x ∷ filter m (set xs i after)) (filter m (set xs i after))) ≡ filter (λ y. not (q y)) (map f (cond (m x) (x ∷ filter m xs) (filter m xs)))
+      at true is rest = rw is (rw (other 0 x (λ e. absurd (omega (arith, e))) refl) (ap (λ l. f x ∷ l) rest))
+      at false is rest = rw is rest
+
+-- ---- up to a place
+
+pub front-passes : {X Y : Type 0} (m : X → Bool) (f : X → Y) (xs : List X) (i : ℕ) (x : X) → slice_get xs i ≡ Some x → m x ≡ true
+    → map f (filter m (take (i + 1) xs)) ≡ map f (filter m (take i xs)) ++ f x ∷ []
+front-passes m f xs i x at passes =
+    ap (map f) (filter_more m xs i x (slice_get_within xs i x at) ∙ rw (get_or_from_slice_get xs i x x at) (rw passes refl))
+    ∙ map-append f (filter m (take i xs)) (x ∷ [])
+
+pub front-fails : {X Y : Type 0} (m : X → Bool) (f : X → Y) (xs : List X) (i : ℕ) (x : X) → slice_get xs i ≡ Some x → m x ≡ false
+    → map f (filter m (take (i + 1) xs)) ≡ map f (filter m (take i xs))
+front-fails m f xs i x at fails =
+    ap (map f) (filter_more m xs i x (slice_get_within xs i x at) ∙ rw (get_or_from_slice_get xs i x x at) (rw fails (append-nil (filter m (take i xs)))))
+
+-- dropping some of a list with one more
+pub drop-more : {X : Type 0} (n : ℕ) (xs : List X) (x : X) → n ≤ length xs → drop n (xs ++ x ∷ []) ≡ drop n xs ++ x ∷ []
+drop-more n xs x few = drop-append-le n xs (x ∷ []) few
+
+pub drop-few : {X : Type 0} (n : ℕ) (xs : List X) (x : X) → length xs < n → drop n (xs ++ x ∷ []) ≡ drop n xs
+drop-few n xs x many =
+    drop_of_length-le (xs ++ x ∷ []) (omega (arith, many, length-append xs (x ∷ []))) ∙ sym (drop_of_length-le xs (omega (arith, many)))
+
+-- one more, which fails
+pub passing-fails : {X Y : Type 0} (m : X → Bool) (f : X → Y) (xs : List X) (x : X) → m x ≡ false → map f (filter m (xs ++ x ∷ [])) ≡ map f (filter m xs)
+passing-fails m f xs x fails = ap (map f) (filter-append m xs (x ∷ []) ∙ rw fails (append-nil (filter m xs)))

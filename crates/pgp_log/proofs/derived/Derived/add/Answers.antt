@@ -1,0 +1,24 @@
+use Rattle.std.proofs.Common.{◌≡◌, true, false, sym, ◌∙◌}
+use Rattle.pgp_map.specs.MapFault.{then_with}
+use Rattle.pgp_map.specs.Pools.{has_group}
+use Rattle.pgp_group.specs.Entries.{incs_of}
+use Rattle.pgp_log.proofs.DerivedLemmas.{next-has_group}
+use Rattle.pgp_log.proofs.MarksLemmas.{other-pool}
+use Rattle.pgp_log.proofs.derived.Derived.add.Goals as goal
+
+pub add-requires : goal.add-requires
+add-requires c =
+    let log = c.requires.log in
+    let inc = c.args.inc.now in
+    let there : has_group (then_with (incs_of log) inc) c.args.pg ≡ true = sym (c.has_group.ensures (then_with (incs_of log) inc) c.requires.is.step.after_is) ∙ c.if-has_group.true in
+    next-has_group log inc c.args.self.now c.args.pg c.requires.is there
+
+pub returns-in_ok-add-clause-ok : goal.returns-in_ok-add-clause-ok
+returns-in_ok-add-clause-ok c = λ log is.
+    let inc = c.args.inc.now in
+    let there : has_group (then_with (incs_of log) inc) c.args.pg ≡ true = sym (c.has_group.ensures (then_with (incs_of log) inc) is.step.after_is) ∙ c.if-has_group.true in
+    let absent : has_group (incs_of log) c.args.pg ≡ false = sym (c.has_group-then-has_group.ensures (incs_of log) is.step.before_is) ∙ c.if-not-has_group.true in
+    record { step = is.step; groups_are = c.in_ok-add.ensures.ok log inc c.args.self.now.before is.step absent there is.groups_are }
+
+pub returns-in_ok-add-clause-marks : goal.returns-in_ok-add-clause-marks
+returns-in_ok-add-clause-marks c = λ other differs. c.in_ok-add.ensures.marks other (other-pool c.args.pg other differs)

@@ -1,0 +1,13 @@
+use Rattle.std.proofs.Common.{◌≡◌, false, List}
+use Rattle.std.specs.Prelude.{nat_eq}
+use Rattle.pgp_ids.specs.declared.entry.Entry.{Entry}
+use Rattle.pgp_ids.specs.declared.pg_id.PgId.{PgId}
+use Rattle.pgp_log.specs.Kept.{is_among, marks_of}
+use Rattle.pgp_log.specs.Derived.{IsStepping}
+use Rattle.pgp_log.proofs.derived.Derived.add_pool.Given as goal
+
+abbrev pub invariant-loop-number : goal.invariant-loop-number
+invariant-loop-number l = record {
+  is : (log : List Entry) → IsStepping log l.inc l.initial.self → IsStepping log l.inc l.self;
+  marks : (other : PgId) → nat_eq l.id other.pool ≡ false → is_among other (marks_of l.self.groups) ≡ is_among other (marks_of l.initial.self.groups);
+}

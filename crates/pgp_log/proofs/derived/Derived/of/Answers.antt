@@ -1,0 +1,45 @@
+use Rattle.std.proofs.Common.{◌≡◌, ◌+◌, List, [], ◌∷◌, ◌++◌, None, map, take, drop, ap, sym, subst}
+use Rattle.std.proofs.lemmas.List.{take_all}
+use Rattle.std.specs.Arc.{arc_value}
+use Rattle.pgp_ids.specs.declared.entry.Entry.{Entry}
+use Rattle.pgp_log.specs.Derived.{CanAbsorb, IsDerivedOf}
+use Rattle.pgp_log.specs.Fits.{fits}
+use Rattle.pgp_log.specs.Log.{HasInc}
+use Rattle.pgp_log.proofs.ReplayLemmas.{inc-front}
+use Rattle.pgp_log.proofs.SharedLemmas.{map-next, next-front, next-of-legal, on_err}
+use Rattle.pgp_log.proofs.derived.Derived.of.Goals as goal
+
+pub absorb-requires : goal.absorb-requires
+absorb-requires c =
+    let i = c.loop-entry.entry-index in
+    let shared = c.args.entries.now in
+    subst (CanAbsorb c.loop-entry.derived) (sym c.deref.ensures) (record {
+      log = map arc_value (take i shared);
+      is = c.loop-entry.invariant;
+      fits = next-of-legal [] arc_value shared i c.entry-item.result c.requires c.loop-entry-test.true c.entry-item.is;
+    })
+
+pub loop-entry-preserved : goal.loop-entry-preserved
+loop-entry-preserved c =
+    let shared = c.args.entries.now in
+    let i = c.loop-entry.entry-index in
+    let new = c.entry-item.result in
+    let log = map arc_value (take i shared) in
+    let fit : fits log (arc_value new) ≡ None = next-of-legal [] arc_value shared i new c.requires c.loop-entry-test.true c.entry-item.is in
+    rw (map-next arc_value shared i new c.loop-entry-test.true c.entry-item.is, ← c.deref.ensures)
+    (c.in_ok-absorb.ensures.ok log c.loop-entry.invariant (rw c.deref.ensures fit))
+
+pub returns-in_err-absorb-clause-wants : goal.returns-in_err-absorb-clause-wants
+returns-in_err-absorb-clause-wants c =
+    let shared = c.args.entries.now in
+    let i = c.loop-entry.entry-index in
+    let new = c.entry-item.result in
+    let log = map arc_value (take i shared) in
+    let has : HasInc (log ++ arc_value new ∷ []) = rw (← c.deref.ensures) (c.in_err-absorb.ensures.wants log c.loop-entry.invariant) in
+    on_err c.from_residual.result (HasInc (map arc_value shared))
+    (subst HasInc (sym (next-front arc_value shared i new c.loop-entry-test.true c.entry-item.is)) (inc-front (log ++ arc_value new ∷ []) (map arc_value (drop (i + 1) shared)) has))
+
+pub returns-clause-is : goal.returns-clause-is
+returns-clause-is c =
+    let shared = c.args.entries.now in
+    subst (λ (l : List Entry). IsDerivedOf l c.loop-entry.derived) (ap (map arc_value) (take_all c.loop-entry.entry-index shared c.loop-entry-test.false)) c.loop-entry.invariant

@@ -1,0 +1,48 @@
+use Rattle.std.proofs.Common.{◌≡◌, false, List, [], ◌∷◌, ◌++◌, length, refl, sym, ap, ◌∙◌, subst}
+use Rattle.std.proofs.lemmas.List.{length-map, with_items_is}
+use Rattle.std.specs.Vec.{with_items}
+use Rattle.pgp_ids.specs.declared.entry.Entry.{Entry}
+use Rattle.pgp_ids.specs.declared.entry.Entry.TheVariants as entry
+use Rattle.pgp_group.proofs.GroupLemmas.{on_ok}
+use Rattle.pgp_ids.specs.declared.pg_id.PgId.{PgId}
+use Rattle.pgp_group.specs.Touched.{is_touched}
+use Rattle.pgp_log.specs.Kept.{AreGroupsOf, AreKeptOf, IsStep, MarksTouched, ids_of, is_among, marks_in}
+use Rattle.pgp_log.specs.declared.groups.Groups.{Groups}
+use Rattle.pgp_log.specs.declared.kept.Kept.{Kept}
+use Rattle.pgp_log.proofs.GroupsLemmas.{at-places}
+use Rattle.pgp_log.proofs.groups.Groups.absorb_inc.Goals as goal
+
+pub returns-clause-ok : goal.returns-clause-ok
+returns-clause-ok c =
+    let inc = c.args.inc.now in
+    let old : Groups = c.args.self.now in
+    let kept : List Kept = c.absorb_inc.new.groups in
+    let new : Groups = record old { kept = with_items old.kept kept } in
+    let first : List Kept = c.as_mut_slice.result.now in
+    let same : ids_of kept ≡ ids_of old.kept.items = c.absorb_inc.ensures.ids ∙ ap ids_of c.as_mut_slice.ensures.value in
+    let long : length kept ≡ old.kept.len = sym (length-map kept (λ (k : Kept). k.pg)) ∙ ap length same ∙ length-map old.kept.items (λ (k : Kept). k.pg) ∙ sym old.kept.ok.0 in
+    let is : (with_items old.kept kept).items ≡ kept = with_items_is old.kept kept long in
+    on_ok c.absorb_inc.result
+    ((log : List Entry) → AreKeptOf log first → IsStep log inc c.args.before.now c.args.after.now → AreKeptOf (log ++ entry.Inc inc ∷ []) kept)
+    ((log : List Entry) → AreGroupsOf log old → IsStep log inc c.args.before.now c.args.after.now → AreGroupsOf (log ++ entry.Inc inc ∷ []) new)
+    (λ given log are step. record { each = subst (AreKeptOf (log ++ entry.Inc inc ∷ [])) (sym is) (given log (subst (AreKeptOf log) (sym c.as_mut_slice.ensures.value) are.each) step); places_are = at-places old new refl (ap ids_of is ∙ same) are.places_are })
+    c.absorb_inc.ensures.ok
+
+pub returns-clause-marks : goal.returns-clause-marks
+returns-clause-marks c =
+    let inc = c.args.inc.now in
+    let old : Groups = c.args.self.now in
+    let kept : List Kept = c.absorb_inc.new.groups in
+    let new : Groups = record old { kept = with_items old.kept kept } in
+    let first : List Kept = c.as_mut_slice.result.now in
+    let same : ids_of kept ≡ ids_of old.kept.items = c.absorb_inc.ensures.ids ∙ ap ids_of c.as_mut_slice.ensures.value in
+    let long : length kept ≡ old.kept.len = sym (length-map kept (λ (k : Kept). k.pg)) ∙ ap length same ∙ length-map old.kept.items (λ (k : Kept). k.pg) ∙ sym old.kept.ok.0 in
+    let is : (with_items old.kept kept).items ≡ kept = with_items_is old.kept kept long in
+    on_ok c.absorb_inc.result
+    ((log : List Entry) → AreKeptOf log first → IsStep log inc c.args.before.now c.args.after.now
+    → (pg : PgId) → is_touched log (entry.Inc inc) pg ≡ false → is_among pg (marks_in kept) ≡ is_among pg (marks_in first))
+    ((log : List Entry) → AreGroupsOf log old → IsStep log inc c.args.before.now c.args.after.now → MarksTouched log (entry.Inc inc) old new)
+    (λ given log are step pg untouched. ap (λ (l : List Kept). is_among pg (marks_in l)) is
+    ∙ given log (subst (AreKeptOf log) (sym c.as_mut_slice.ensures.value) are.each) step pg untouched
+    ∙ ap (λ (l : List Kept). is_among pg (marks_in l)) c.as_mut_slice.ensures.value)
+    c.absorb_inc.ensures.marks

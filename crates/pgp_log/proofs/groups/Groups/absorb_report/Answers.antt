@@ -1,0 +1,64 @@
+use Rattle.std.proofs.Common.{◌≡◌, ◌<◌, List, [], ◌∷◌, ◌++◌, Some, None, false, is_some, length, refl, sym, ap, ◌∙◌, subst}
+use Rattle.std.specs.HashMap as hash
+use Rattle.std.specs.Prelude.{slice_get}
+use Rattle.std.specs.Vec.{with_item}
+use Rattle.std.proofs.lemmas.Option.{slice_get_read}
+use Rattle.pgp_ids.specs.declared.entry.Entry.{Entry}
+use Rattle.pgp_ids.specs.declared.pg_id.PgId.{PgId}
+use Rattle.pgp_map.specs.Pools.{is_same_group}
+use Rattle.pgp_group.proofs.GroupLemmas.{on_ok}
+use Rattle.pgp_group.specs.Entries.{inc_of}
+use Rattle.pgp_group.specs.Touched.{is_touched}
+use Rattle.pgp_log.specs.Kept.{AreGroupsOf, IsKeptOf}
+use Rattle.pgp_log.specs.declared.groups.Groups.{Groups}
+use Rattle.pgp_log.specs.declared.kept.Kept.{Kept}
+use Rattle.pgp_log.proofs.GroupsLemmas.{groups-inc, groups-told, groups-untold, missing-group, place-holds, place-within}
+use Rattle.pgp_log.proofs.MarksLemmas.{another, marks-set, ok-anyhow}
+use Rattle.pgp_log.proofs.SharedLemmas.{on_err}
+use Rattle.pgp_log.proofs.groups.Groups.absorb_report.Goals as goal
+
+pub index_mut-kept-requires : goal.index_mut-kept-requires
+index_mut-kept-requires c =
+    subst (λ n. c.in-Some.place < n) (sym c.args.self.now.kept.ok.0)
+    (place-within c.args.self.now c.args.pg.now c.in-Some.place c.requires (sym c.find.ensures ∙ c.in-Some.is))
+
+pub returns-in-Some-clause-ok : goal.returns-in-Some-clause-ok
+returns-in-Some-clause-ok c =
+    let old : Groups = c.args.self.now in
+    let new = c.args.entry.now in
+    let pg = c.args.pg.now in
+    let place = c.in-Some.place in
+    let kept : Kept = c.index_mut-kept.result.now in
+    let after : Kept = c.absorb_report.new.self in
+    let groups : Groups = record old { kept = with_item old.kept place after } in
+    let is : hash.get is_same_group old.places pg ≡ Some place = sym c.find.ensures ∙ c.in-Some.is in
+    let within : place < length old.kept.items = place-within old pg place c.requires is in
+    let at : slice_get old.kept.items place ≡ Some kept = slice_get_read old.kept.items (length old.kept.items) place kept refl within c.index_mut-kept.ensures.value in
+    on_ok c.absorb_report.result
+    ((log : List Entry) → inc_of new ≡ None → IsKeptOf log kept → IsKeptOf (log ++ new ∷ []) after)
+    ((log : List Entry) → inc_of new ≡ None → ((other : PgId) → is_same_group pg other ≡ false → is_touched log new other ≡ false) → AreGroupsOf log old → AreGroupsOf (log ++ new ∷ []) groups)
+    (λ given log none untouched are. groups-told log new old groups pg place kept after none untouched is at (given log none) c.absorb_report.ensures.pg refl refl are)
+    c.absorb_report.ensures.ok
+
+pub returns-in-Some-clause-wants : goal.returns-in-Some-clause-wants
+returns-in-Some-clause-wants c =
+    on_err c.absorb_report.result _ (λ log are. groups-inc log c.args.self.now c.args.pg.now (ap is_some (sym c.find.ensures ∙ c.in-Some.is)) are)
+
+pub returns-in-None-clause-ok : goal.returns-in-None-clause-ok
+returns-in-None-clause-ok c = λ log none untouched are.
+    groups-untold log c.args.entry.now c.args.self.now none
+    (λ place kept at. untouched kept.pg (missing-group c.args.self.now c.args.pg.now place kept c.requires (sym c.find.ensures ∙ c.in-None.is) at)) are
+
+pub returns-in-Some-clause-marks : goal.returns-in-Some-clause-marks
+returns-in-Some-clause-marks c =
+    let old : Groups = c.args.self.now in
+    let pg = c.args.pg.now in
+    let place = c.in-Some.place in
+    let kept : Kept = c.index_mut-kept.result.now in
+    let after : Kept = c.absorb_report.new.self in
+    let is : hash.get is_same_group old.places pg ≡ Some place = sym c.find.ensures ∙ c.in-Some.is in
+    let within : place < length old.kept.items = place-within old pg place c.requires is in
+    let at : slice_get old.kept.items place ≡ Some kept = slice_get_read old.kept.items (length old.kept.items) place kept refl within c.index_mut-kept.ensures.value in
+    ok-anyhow c.absorb_report.result _
+    (λ other differs. marks-set old.kept.items place kept after other at c.absorb_report.ensures.pg
+    (another pg kept.pg other (place-holds old pg place kept c.requires is at) differs))

@@ -1,0 +1,22 @@
+use Rattle.std.proofs.Common.{List, [], ◌∷◌, ◌++◌, ℕ, Some, cond, sym, ap, ◌∙◌}
+use Rattle.std.specs.HashMap as hash
+use Rattle.pgp_ids.specs.declared.entry.Entry.TheVariants as entry
+use Rattle.pgp_map.specs.Pools.{is_same_group}
+use Rattle.pgp_log.specs.Kept.{is_among, marks_in}
+use Rattle.pgp_log.specs.declared.kept.Kept.{Kept}
+use Rattle.pgp_log.proofs.GroupsLemmas.{groups-more}
+use Rattle.pgp_log.proofs.MarksLemmas.{marks-push}
+use Rattle.pgp_log.proofs.groups.Groups.add.Goals as goal
+
+pub returns-clause-ok : goal.returns-clause-ok
+returns-clause-ok c = λ log inc before step absent there are.
+    groups-more (log ++ entry.Inc inc ∷ []) c.args.self.now _ c.begin.result
+    (rw c.begin.ensures.pg (sym c.contains_key.ensures ∙ c.if-contains_key.false))
+    (λ q. rw c.begin.ensures.pg (c.in_ok-insert.ensures.updates.0 q
+    ∙ ap (λ (n : ℕ). cond (is_same_group c.args.pg q) (Some n) (hash.get is_same_group c.args.self.now.places q)) (c.len-place.ensures ∙ c.args.self.now.kept.ok.0)))
+    c.in_ok-push.ensures.items (c.begin.ensures.is log inc before step absent there) are
+
+pub returns-clause-marks : goal.returns-clause-marks
+returns-clause-marks c = λ other differs.
+    ap (λ (l : List Kept). is_among other (marks_in l)) c.in_ok-push.ensures.items
+    ∙ marks-push c.args.self.now.kept.items c.begin.result other (ap (is_same_group other) c.begin.ensures.pg ∙ differs)

@@ -1,0 +1,192 @@
+//! The groups of a shard.
+
+ghost use Rattle.std.specs.Prelude.{◌≡◌, ◌++◌, [], ◌∷◌, List, Some, None, true, false, length, drop, IfOk, IfSome, OnOk, OnErr};
+ghost use Rattle.std.specs.HashMap as hash;
+ghost use Rattle.pgp_ids.specs.declared.entry.Entry.{Entry as AnyEntry};
+ghost use Rattle.pgp_ids.specs.declared.entry.Entry.TheVariants as entry;
+ghost use Rattle.pgp_ids.specs.declared.incremental.Incremental.{Incremental as AnyIncremental};
+ghost use Rattle.pgp_ids.specs.declared.pg_id.PgId.{PgId as Id};
+ghost use Rattle.pgp_map.specs.Pools.{is_same_group, has_group};
+ghost use Rattle.pgp_map.specs.Held.{HasGroup};
+ghost use Rattle.pgp_map.specs.MapFault.{then_with};
+ghost use Rattle.pgp_map.specs.MapOf.{IsMapOf};
+ghost use Rattle.pgp_map.specs.declared.map.OsdMap.{OsdMap as AnyMap};
+ghost use Rattle.pgp_group.specs.Entries.{inc_of, incs_of};
+ghost use Rattle.pgp_group.specs.Touched.{is_touched};
+ghost use Rattle.pgp_group.specs.View.{scratch};
+ghost use Rattle.pgp_log.specs.Kept.{AreKeptOf, AreAtPlaces, AreGroupsOf, IsStep, CanStepAll, ids_of, marks_in, marks_of, is_among, without, MarksTouched};
+ghost use Rattle.pgp_log.specs.Log.{HasInc};
+
+use super::kept::Kept;
+use pgp_ids::{Entry, Incremental, PgId, View};
+use pgp_map::OsdMap;
+use std::alloc::{AllocError, Global};
+use std::collections::HashMap;
+
+/// Groups, each of them once.
+#[derive(Debug, Drop)]
+pub(crate) struct Groups {
+    /// At which place of the list each group stands.
+    places: HashMap<PgId, usize>,
+    kept: Vec<Kept>,
+}
+
+impl Groups {
+    /// No groups. It takes no memory.
+    pub(crate) fn new(alloc: Global) -> Self
+        ensures { (log : List AnyEntry) → AreGroupsOf log result }
+    {
+        Groups {
+            places: HashMap::new(alloc),
+            kept: Vec::new(alloc),
+        }
+    }
+
+    /// At which place the group stands.
+    fn find(&self, pg: &PgId) -> Option<usize>
+        ensures { result ≡ hash.get is_same_group self.now.places pg.now }
+    {
+        self.places.get(pg).copied()
+    }
+
+    /// Adds the group, which the incremental that leads to this map brings. After an `Err` they are of no further use.
+    pub(crate) fn add(&mut self, alloc: Global, after: &OsdMap, pg: PgId) -> Result<(), AllocError>
+        requires { HasGroup after.now pg }
+        ensures ok { OnOk result ((log : List AnyEntry) (inc : AnyIncremental) (before : AnyMap) → IsStep log inc before after.now
+            → has_group (incs_of log) pg ≡ false → has_group (then_with (incs_of log) inc) pg ≡ true
+            → AreGroupsOf (log ++ entry.Inc inc ∷ []) self.old → AreGroupsOf (log ++ entry.Inc inc ∷ []) self.new) }
+        ensures marks { OnOk result ((other : Id) → is_same_group other pg ≡ false
+            → is_among other (marks_of self.new) ≡ is_among other (marks_of self.old)) }
+    {
+        if self.places.contains_key(&pg) {
+            return Ok(());
+        }
+        let place = self.kept.len();
+        self.kept.push(Kept::begin(alloc, after, pg))?;
+        self.places.insert(pg, place)?;
+        Ok(())
+    }
+
+    /// Takes an incremental, which leads from the one map to the other. After an `Err` they are of no further use.
+    pub(crate) fn absorb_inc(
+        &mut self,
+        before: &OsdMap,
+        after: &OsdMap,
+        inc: &Incremental,
+    ) -> Result<(), AllocError>
+        requires { CanStepAll self.old.kept.items inc.now before.now after.now }
+        ensures ok { OnOk result ((log : List AnyEntry) → AreGroupsOf log self.old → IsStep log inc.now before.now after.now
+            → AreGroupsOf (log ++ entry.Inc inc.now ∷ []) self.new) }
+        ensures marks { OnOk result ((log : List AnyEntry) → AreGroupsOf log self.old → IsStep log inc.now before.now after.now
+            → MarksTouched log (entry.Inc inc.now) self.old self.new) }
+    {
+        absorb_inc(self.kept.as_mut_slice(), before, after, inc)
+    }
+
+    /// Takes an entry that brings no map, but perhaps a report of this group. After an `Err` they are of no further use.
+    pub(crate) fn absorb_report(&mut self, entry: &Entry, pg: &PgId) -> Result<(), AllocError>
+        requires { AreAtPlaces self.old }
+        ensures ok { OnOk result ((log : List AnyEntry) → inc_of entry.now ≡ None
+            → ((other : Id) → is_same_group pg.now other ≡ false → is_touched log entry.now other ≡ false)
+            → AreGroupsOf log self.old → AreGroupsOf (log ++ entry.now ∷ []) self.new) }
+        ensures marks { OnOk result ((other : Id) → is_same_group pg.now other ≡ false
+            → is_among other (marks_of self.new) ≡ is_among other (marks_of self.old)) }
+        ensures wants { OnErr result ((log : List AnyEntry) → AreGroupsOf log self.old → HasInc log) }
+    {
+        match self.find(pg) {
+            Some(place) => {
+                let kept = &mut self.kept[place];
+                kept.absorb_report(entry)
+            }
+            None => Ok(()),
+        }
+    }
+
+    /// All that the entries say of the group, where it is one of these. `map` is the last map, and `count` the number of the
+    /// entries. After an error they stand for the same entries.
+    pub(crate) fn ask(
+        &mut self,
+        alloc: Global,
+        map: &OsdMap,
+        count: usize,
+        pg: &PgId,
+    ) -> Result<Option<View>, AllocError>
+        requires { AreAtPlaces self.old }
+        ensures view { IfOk result (λ view. IfSome view (λ told. (log : List AnyEntry) → AreGroupsOf log self.old
+            → IsMapOf (incs_of log) map.now → length log ≡ count → scratch log pg.now ≡ Some told)) }
+        ensures are { (log : List AnyEntry) → AreGroupsOf log self.old → IsMapOf (incs_of log) map.now → length log ≡ count
+            → AreGroupsOf log self.new }
+        ensures marks { OnOk result (marks_of self.new ≡ without pg.now (marks_of self.old)) }
+        ensures wants { OnErr result ((log : List AnyEntry) → AreGroupsOf log self.old → HasInc log) }
+    {
+        match self.find(pg) {
+            Some(place) => {
+                let kept = &mut self.kept[place];
+                Ok(Some(kept.ask(alloc, map, count)?))
+            }
+            None => Ok(None),
+        }
+    }
+
+    /// Works out up to `max` of the groups that are marked. How many are marked still. `map` is the last map, and `count` the
+    /// number of the entries. After an error they stand for the same entries.
+    pub(crate) fn renew(
+        &mut self,
+        map: &OsdMap,
+        count: usize,
+        max: usize,
+    ) -> Result<usize, AllocError>
+        ensures are { (log : List AnyEntry) → AreGroupsOf log self.old → IsMapOf (incs_of log) map.now → length log ≡ count
+            → AreGroupsOf log self.new }
+        ensures marks { OnOk result (marks_of self.new ≡ drop max (marks_of self.old)) }
+        ensures left { IfOk result (λ left. left ≡ length (marks_of self.new)) }
+        ensures wants { OnErr result ((log : List AnyEntry) → AreGroupsOf log self.old → HasInc log) }
+    {
+        renew(self.kept.as_mut_slice(), map, count, max)
+    }
+}
+
+/// Lets each of the groups take an incremental.
+fn absorb_inc(
+    groups: &mut [Kept],
+    before: &OsdMap,
+    after: &OsdMap,
+    inc: &Incremental,
+) -> Result<(), AllocError>
+    requires { CanStepAll groups.old inc.now before.now after.now }
+    ensures ok { OnOk result ((log : List AnyEntry) → AreKeptOf log groups.old → IsStep log inc.now before.now after.now
+        → AreKeptOf (log ++ entry.Inc inc.now ∷ []) groups.new) }
+    ensures marks { OnOk result ((log : List AnyEntry) → AreKeptOf log groups.old → IsStep log inc.now before.now after.now
+        → (pg : Id) → is_touched log (entry.Inc inc.now) pg ≡ false
+        → is_among pg (marks_in groups.new) ≡ is_among pg (marks_in groups.old)) }
+    ensures ids { ids_of groups.new ≡ ids_of groups.old }
+{
+    for kept in groups.iter_mut() {
+        kept.absorb_inc(before, after, inc)?;
+    }
+    Ok(())
+}
+
+/// Works out up to `max` of the groups that are marked. How many are marked still.
+fn renew(groups: &mut [Kept], map: &OsdMap, count: usize, max: usize) -> Result<usize, AllocError>
+    ensures are { (log : List AnyEntry) → AreKeptOf log groups.old → IsMapOf (incs_of log) map.now → length log ≡ count
+        → AreKeptOf log groups.new }
+    ensures ids { ids_of groups.new ≡ ids_of groups.old }
+    ensures marks { OnOk result (marks_in groups.new ≡ drop max (marks_in groups.old)) }
+    ensures left { IfOk result (λ left. left ≡ length (marks_in groups.new)) }
+    ensures wants { OnErr result ((log : List AnyEntry) → AreKeptOf log groups.old → HasInc log) }
+{
+    let mut more = max;
+    let mut left = 0;
+    for kept in groups.iter_mut() {
+        if kept.is_marked() {
+            if more > 0 {
+                kept.renew(map, count)?;
+                more -= 1;
+            } else {
+                left += 1;
+            }
+        }
+    }
+    Ok(left)
+}
