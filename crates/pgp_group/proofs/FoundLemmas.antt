@@ -17,6 +17,7 @@ use Rattle.pgp_info.specs.Preference.{newest_first, oldest_first}
 use Rattle.pgp_info.specs.Prefers.{prefers as prefers_by}
 use Rattle.pgp_info.specs.declared.preference.Preference.{Preference}
 use Rattle.pgp_lists.specs.Ordered.{ascending}
+use Rattle.pgp_missing.specs.Kept.{KeptLog}
 use Rattle.pgp_map.specs.MapOf.{IsMapOf}
 use Rattle.pgp_map.specs.declared.map.OsdMap.{OsdMap}
 use Rattle.pgp_prior.specs.Members.{members_of}
@@ -31,6 +32,7 @@ use Rattle.pgp_group.specs.Peering.{past, prior, leader, best, has_whole_log, if
 use Rattle.pgp_group.specs.Prefers.{prefers}
 use Rattle.pgp_group.specs.Verdict.{is_waiting}
 use Rattle.pgp_group.specs.declared.found.Found.{Found}
+use Rattle.pgp_group.specs.declared.logs.CountedLog.{CountedLog}
 
 -- ---- the best copy
 
@@ -92,3 +94,18 @@ prior-is g map' c found_les intervals current is code_is les_is past_is current_
 
 pub waiting-is : (g : GroupLog) (found : Prior) (infos' : List Info) → found ≡ prior g → infos' ≡ heard g → list_any (λ member. not (has_member member infos')) found.probe ≡ is_waiting g
 waiting-is g found infos' prior_is infos_is = λ i. list_any (λ member. not (has_member member (infos_is i))) (prior_is i).probe
+
+-- ---- what was looked at
+
+pub heard-is : (g : GroupLog) (found : Heard Preference) (prefer : Preference) → found ≡ record { prefer = prefer; infos = heard g } → prefers_by prefer ≡ prefers g.history.code (leader g) → AreHeard g found
+heard-is g found prefer is by = record {
+  infos = ap (λ (h : Heard Preference). h.infos) is;
+  prefer = ap (λ (h : Heard Preference). prefers_by h.prefer) is ∙ by;
+}
+
+pub log-there : (found : Option CountedLog) (log : KeptLog) → Some log ≡ option_map (λ l. l.log) found → (l : CountedLog) × (found ≡ Some l) × (l.log ≡ log)
+log-there None log is = absurd (nothing is)
+  where
+    nothing : Some log ≡ None → ⊥
+    nothing same = cc
+log-there (Some l) log is = (l, refl, let same : Some log ≡ Some l.log = is in cc)

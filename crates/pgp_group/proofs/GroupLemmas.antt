@@ -30,11 +30,14 @@ use Rattle.pgp_group.specs.GroupOf.{IsGroupOf, IsSilent}
 use Rattle.pgp_group.specs.Peering.{past}
 use Rattle.pgp_group.specs.Touched.{was_member, names}
 use Rattle.pgp_group.specs.KeptInfos.{KeepsInfos, IsToldBy}
+use Rattle.pgp_group.specs.KeptReports.{KeepsReports, IsReportedBy}
 use Rattle.pgp_group.specs.declared.group.Group.{Group}
 use Rattle.pgp_group.specs.declared.infos.Infos.{Infos}
+use Rattle.pgp_group.specs.declared.reports.Reports.{Reports}
 use Rattle.pgp_group.proofs.GrowthLemmas.{history-begins, history-grows, next_epoch, numbered-more}
 use Rattle.pgp_group.proofs.InfosLemmas.{KeepsInfos-same, KeepsInfos-inc, moves}
 use Rattle.pgp_group.proofs.Lists.{nothing_new, one_new, kept_new, left_new}
+use Rattle.pgp_group.proofs.ReportsLemmas.{KeepsReports-same, KeepsReports-inc}
 
 -- ---- an entry that brings no map
 
@@ -42,7 +45,7 @@ use Rattle.pgp_group.proofs.Lists.{nothing_new, one_new, kept_new, left_new}
 pub IsGroupOf-other : (log : List Entry) (new : Entry) (pg : PgId) (old group : Group) (is : IsGroupOf log pg old) → inc_of new ≡ None
     → group.pg ≡ old.pg → group.intervals ≡ old.intervals
     → KeepsInfos (group_with (log ++ new ∷ []) pg is.history) group.infos
-    → group.reports.items ≡ filter (λ (report : Report). is_same_group report.pg pg) (reports_of (log ++ new ∷ []))
+    → KeepsReports (group_with (log ++ new ∷ []) pg is.history) group.reports
     → IsGroupOf (log ++ new ∷ []) pg group
 IsGroupOf-other log new pg old group is none pg_is intervals infos' reports' =
     let incs : incs_of (log ++ new ∷ []) ≡ incs_of log = nothing_new inc_of log new none in
@@ -92,6 +95,13 @@ pub infos-kept : (log : List Entry) (new : Entry) (pg : PgId) (h : History AnyCo
 infos-kept log new pg h kept none told is =
     KeepsInfos-same (group_with log pg h) (group_with (log ++ new ∷ []) pg h) kept told (nothing_new inc_of log new none) refl is
 
+-- the same of reports of log entries
+pub reports-kept : (log : List Entry) (new : Entry) (pg : PgId) (h : History AnyCode) (kept : Reports) → inc_of new ≡ None
+    → filter (λ (report : Report). is_same_group report.pg pg) (reports_of (log ++ new ∷ [])) ≡ filter (λ (report : Report). is_same_group report.pg pg) (reports_of log)
+    → KeepsReports (group_with log pg h) kept → KeepsReports (group_with (log ++ new ∷ []) pg h) kept
+reports-kept log new pg h kept none told is =
+    KeepsReports-same (group_with log pg h) (group_with (log ++ new ∷ []) pg h) kept told (nothing_new inc_of log new none) refl is
+
 -- an info of the group
 pub infos-told : (log : List Entry) (info : Info) (pg : PgId) (h : History AnyCode) → is_same_group info.pg pg ≡ true
     → IsToldBy (group_with log pg h) info (group_with (log ++ entry.Info info ∷ []) pg h)
@@ -101,11 +111,20 @@ infos-told log info pg h same = record {
   history_is = refl;
 }
 
+-- a report of the group
+pub reports-told : (log : List Entry) (report : Report) (pg : PgId) (h : History AnyCode) → is_same_group report.pg pg ≡ true
+    → IsReportedBy (group_with log pg h) report (group_with (log ++ entry.Entries report ∷ []) pg h)
+reports-told log report pg h same = record {
+  reports_are = reports-new log report pg same;
+  incs_are = nothing_new inc_of log (entry.Entries report) refl;
+  history_is = refl;
+}
+
 -- ---- an incremental
 
 pub IsGroupOf-inc : (log : List Entry) (inc : Incremental) (pg : PgId) (old group : Group) (members : Membership) (is : IsGroupOf log pg old) → map_fault (incs_of log) inc ≡ None
     → membership (then_with (incs_of log) inc) pg ≡ Some members
-    → group.pg ≡ old.pg → group.infos ≡ old.infos → group.reports.items ≡ old.reports.items
+    → group.pg ≡ old.pg → group.infos ≡ old.infos → group.reports ≡ old.reports
     → IsIntervalsOf enough_of is_by_place (stepped is.history members (primary_facts (incs_of log) is.history.current.acting_primary)) group.intervals
     → IsGroupOf (log ++ entry.Inc inc ∷ []) pg group
 IsGroupOf-inc log inc pg old group members is fine lies pg_is infos' reports' intervals =
@@ -125,7 +144,11 @@ IsGroupOf-inc log inc pg old group members is fine lies pg_is infos' reports' in
             (infos-same log (entry.Inc inc) pg refl) incs (next_epoch (incs_of log) inc fine)
             (moves (incs_of log) pg is.history members (primary_facts (incs_of log) is.history.current.acting_primary) is.numbered is.history_is)
             is.keeps.infos_are);
-        reports_are = reports' ∙ is.keeps.reports_are ∙ sym (reports-same log (entry.Inc inc) pg refl);
+        reports_are = subst (KeepsReports (group_with (log ++ entry.Inc inc ∷ []) pg after)) (sym reports')
+            (KeepsReports-inc (group_with log pg is.history) (group_with (log ++ entry.Inc inc ∷ []) pg after) inc old.reports
+            (reports-same log (entry.Inc inc) pg refl) incs (next_epoch (incs_of log) inc fine)
+            (moves (incs_of log) pg is.history members (primary_facts (incs_of log) is.history.current.acting_primary) is.numbered is.history_is)
+            is.keeps.reports_are);
       };
     }
 
@@ -141,7 +164,7 @@ begun_as incs pg kind members (Some made) is lies =
 
 pub IsGroupOf-begun : (log : List Entry) (pg : PgId) (kind : PoolKind) (members : Membership) (group : Group) → AreNumbered (incs_of log) → has_group (incs_of log) pg ≡ true → made_at (incs_of log) pg.pool ≡ epoch (incs_of log) → IsSilent log pg
     → option_map (λ made. made.kind) (pool (incs_of log) pg.pool) ≡ Some kind → membership (incs_of log) pg ≡ Some members
-    → group.pg ≡ pg → ((g : GroupLog) → infos g ≡ [] → KeepsInfos g group.infos) → group.reports.items ≡ []
+    → group.pg ≡ pg → ((g : GroupLog) → infos g ≡ [] → KeepsInfos g group.infos) → ((g : GroupLog) → reports g ≡ [] → KeepsReports g group.reports)
     → IsIntervalsOf enough_of is_by_place (begun (code_of kind) (epoch (incs_of log)) members) group.intervals
     → IsGroupOf log pg group
 IsGroupOf-begun log pg kind members group counts there now silent is lies pg_is none nothing intervals = record {
@@ -152,12 +175,12 @@ IsGroupOf-begun log pg kind members group counts there now silent is lies pg_is 
     pg_is = pg_is;
     intervals_are = intervals;
     infos_are = none (group_with log pg (begun (code_of kind) (epoch (incs_of log)) members)) silent.infos;
-    reports_are = nothing ∙ sym silent.reports;
+    reports_are = nothing (group_with log pg (begun (code_of kind) (epoch (incs_of log)) members)) silent.reports;
   };
 }
 
 -- the group stands for the log, also where its parts are kept elsewhere
-pub IsGroupOf-same : (log : List Entry) (pg : PgId) (old group : Group) → IsGroupOf log pg old → group.pg ≡ old.pg → group.intervals ≡ old.intervals → ((g : GroupLog) → KeepsInfos g old.infos → KeepsInfos g group.infos) → group.reports.items ≡ old.reports.items → IsGroupOf log pg group
+pub IsGroupOf-same : (log : List Entry) (pg : PgId) (old group : Group) → IsGroupOf log pg old → group.pg ≡ old.pg → group.intervals ≡ old.intervals → ((g : GroupLog) → KeepsInfos g old.infos → KeepsInfos g group.infos) → ((g : GroupLog) → KeepsReports g old.reports → KeepsReports g group.reports) → IsGroupOf log pg group
 IsGroupOf-same log pg old group is pg_is intervals infos' reports' = record {
   history = is.history;
   history_is = is.history_is;
@@ -166,7 +189,7 @@ IsGroupOf-same log pg old group is pg_is intervals infos' reports' = record {
     pg_is = pg_is ∙ is.keeps.pg_is;
     intervals_are = subst (IsIntervalsOf enough_of is_by_place is.history) (sym intervals) is.keeps.intervals_are;
     infos_are = infos' (group_with log pg is.history) is.keeps.infos_are;
-    reports_are = reports' ∙ is.keeps.reports_are;
+    reports_are = reports' (group_with log pg is.history) is.keeps.reports_are;
   };
 }
 

@@ -15,3 +15,5 @@ pub mod SameViewLemmas
 pub mod UntouchedLemmas
 pub mod InterleavingLemmas
 pub mod InfosLemmas
+pub mod LogsLemmas
+pub mod ReportsLemmas

@@ -25,7 +25,7 @@ use Rattle.pgp_group.specs.Peering.{up_members, acting_members, present_members,
 
 -- ---- members
 
-same_member : (a b : Member) → is_same_member a b ≡ true → a ≡ b
+pub same_member : (a b : Member) → is_same_member a b ≡ true → a ≡ b
 same_member a b same =
     let parts = and_parts _ _ same in
     λ i. record { osd = eqb-true a.osd b.osd parts.0 i; slot = eqb-true a.slot b.slot parts.1 i }

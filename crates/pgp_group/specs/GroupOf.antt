@@ -14,17 +14,18 @@ use Rattle.pgp_map.specs.Pools.{is_same_group}
 use Rattle.pgp_map.specs.declared.map.OsdMap.{OsdMap}
 use Rattle.pgp_group.specs.Entries.{incs_of, infos_of, reports_of}
 use Rattle.pgp_group.specs.GroupHistory.{AreNumbered, group_history}
-use Rattle.pgp_group.specs.GroupLog.{GroupLog, group_with, reports}
+use Rattle.pgp_group.specs.GroupLog.{GroupLog, group_with}
 use Rattle.pgp_group.specs.KeptInfos.{KeepsInfos}
+use Rattle.pgp_group.specs.KeptReports.{KeepsReports}
 use Rattle.pgp_group.specs.declared.group.Group.{Group}
 
--- the group keeps the intervals of its history in the log, all that its members reported, in the order in which it came, and
--- whom it has heard
+-- the group keeps the intervals of its history in the log, all that its members reported, in the order in which it came,
+-- whom it has heard, and the logs of members
 pub record Keeps (g : GroupLog) (group : Group) : Type 0 where
   pub pg_is : group.pg ≡ g.pg
   pub intervals_are : IsIntervalsOf enough_of is_by_place g.history group.intervals
   pub infos_are : KeepsInfos g group.infos
-  pub reports_are : group.reports.items ≡ reports g
+  pub reports_are : KeepsReports g group.reports
 
 -- the group stands for this group of the log, whose incrementals have the epochs 1, 2, and so on
 pub record IsGroupOf (log : List Entry) (pg : PgId) (group : Group) : Type 0 where

@@ -11,6 +11,7 @@ pub mod Worked
 pub mod Present
 pub mod Causes
 pub mod KeptInfos
+pub mod KeptReports
 pub mod GroupOf
 pub mod Found
 pub mod Later

@@ -26,7 +26,7 @@ ghost use Rattle.pgp_missing.specs.Log.{is_whole};
 ghost use Rattle.pgp_group.specs.Entries.{inc_of, incs_of};
 ghost use Rattle.pgp_group.specs.GroupHistory.{AreNumbered, made_at};
 ghost use Rattle.pgp_group.specs.Causes.{AreCauses};
-ghost use Rattle.pgp_group.specs.Found.{AreHeard, IsFound, AreNeeds};
+ghost use Rattle.pgp_group.specs.Found.{AreHeard, AreLogsHeard, IsFound, AreNeeds};
 ghost use Rattle.pgp_group.specs.GroupLog.{GroupLog, incs};
 ghost use Rattle.pgp_group.specs.GroupOf.{Keeps, IsGroupOf, IsSilent, Follows};
 ghost use Rattle.pgp_group.specs.Heard.{reported};
@@ -39,12 +39,11 @@ mod names;
 mod next;
 
 use super::causes::Causes;
-use super::copies::copy_of;
 use super::found::{Found, Needs};
 use super::heard::{is_waiting, leader};
 use super::infos::Infos;
 use super::peers::states;
-use super::reported::member_log;
+use super::reports::Reports;
 use super::standing::{is_short, needs_up_thru};
 use pgp_code::{AnyCode, Recoverable};
 use pgp_ids::{
@@ -68,8 +67,8 @@ pub struct Group {
     intervals: Intervals<AnyCode>,
     /// All infos of the group, counted or not, and whom it has heard.
     infos: Infos,
-    /// All reports of log entries of the group, counted or not, in the order in which they came.
-    reports: Vec<Report>,
+    /// All reports of log entries of the group, counted or not, and the logs of its members.
+    reports: Reports,
 }
 
 impl Group {
@@ -88,7 +87,7 @@ impl Group {
             pg,
             intervals,
             infos: Infos::new(alloc),
-            reports: Vec::new(alloc),
+            reports: Reports::new(alloc),
         }
     }
 
@@ -137,15 +136,15 @@ impl Group {
         ensures err { OnErr result ((log : List Told) (pg : Id) → IsGroupOf log pg self.old → IsGroupOf log pg self.new) }
     {
         if report.pg == self.pg {
-            let copy = copy_of(self.alloc, report)?;
-            self.reports.push(copy)?;
+            self.reports
+                .push(self.alloc, report, self.intervals.last())?;
         }
         Ok(())
     }
 
     /// All that the log so far says of the group. `map` is the last map, and `count` the number of the log's entries. It
-    /// looks at each info once, and then keeps the last of each member that counts. After an error the group stands for the
-    /// same log.
+    /// looks at each info and each report once, and then keeps the last info and the log of each member that has some which
+    /// count. After an error the group stands for the same log.
     pub fn view(&mut self, map: &OsdMap, count: usize) -> Result<View, AllocError>
         ensures view { IfOk result (λ view. (log : List Told) (pg : Id) → IsGroupOf log pg self.old
             → IsMapOf (incs_of log) map.now → length log ≡ count → scratch log pg ≡ Some view) }
@@ -157,7 +156,8 @@ impl Group {
         self.view_of_heard(map, count, first, current)
     }
 
-    /// Hears the infos that came since, and no more those that don't count any more.
+    /// Hears the infos and reports that came since, and no more those that don't count any more. The best member's log goes by
+    /// its info.
     fn hear_more(
         &mut self,
         map: &OsdMap,
@@ -166,11 +166,18 @@ impl Group {
     ) -> Result<(), AllocError>
         ensures heard { OnOk result ((g : GroupLog) → Keeps g self.old → IsPresent g map.now first
             → current.now ≡ g.history.current → AreHeard g self.new.infos.heard) }
+        ensures logs { OnOk result ((g : GroupLog) → Keeps g self.old → IsPresent g map.now first
+            → current.now ≡ g.history.current → AreLogsHeard g self.new.reports.logs.of_members.items) }
         ensures kept { (g : GroupLog) → Keeps g self.old → IsPresent g map.now first → Keeps g self.new }
     {
         let by_place = self.intervals.code().by_place();
         let prefer = Preference::of_pool(by_place, leader(by_place, &current.acting));
-        self.infos.look(self.alloc, map, first, prefer)
+        self.infos.look(self.alloc, map, first, prefer)?;
+        self.reports.look(self.alloc, map, first)?;
+        if let Some(best) = self.infos.heard().best() {
+            self.reports.renew(best);
+        }
+        Ok(())
     }
 
     /// The view of the group, which has heard all that count.
@@ -182,10 +189,11 @@ impl Group {
         current: Membership,
     ) -> Result<View, AllocError>
         ensures { IfOk result (λ view. (g : GroupLog) → Keeps g self.now → IsPresent g map.now first
-            → current ≡ g.history.current → AreHeard g self.now.infos.heard → length g.log ≡ count → view_of g ≡ view) }
+            → current ≡ g.history.current → AreHeard g self.now.infos.heard
+            → AreLogsHeard g self.now.reports.logs.of_members.items → length g.log ≡ count → view_of g ≡ view) }
     {
         let heard = self.infos.heard();
-        let found = self.found(map, first, &current, heard)?;
+        let found = self.found(map, &current, heard)?;
         let needs = self.needs(map, &current, heard)?;
         let causes = self.causes(map, first, &current, &found, &needs);
         Ok(seen(
@@ -203,24 +211,47 @@ impl Group {
     fn found(
         &self,
         map: &OsdMap,
-        first: Epoch,
         current: &Membership,
         heard: &Best<Preference>,
     ) -> Result<Found, AllocError>
-        ensures { IfOk result (λ found. (g : GroupLog) → Keeps g self.now → IsPresent g map.now first
-            → current.now ≡ g.history.current → AreHeard g heard.now → IsFound g found) }
+        ensures { IfOk result (λ found. (g : GroupLog) → Keeps g self.now → current.now ≡ g.history.current
+            → AreHeard g heard.now → AreLogsHeard g self.now.reports.logs.of_members.items → IsFound g found) }
     {
         let Some(best) = heard.best() else {
             return Ok(nothing_to_go_by(self.alloc, None));
         };
-        let log = member_log(self.alloc, map, first, self.reports.as_slice(), best)?;
+        match self.reports.log_of(best.member) {
+            Some(log) => self.found_by(map, current, log, best, heard),
+            None => self.found_by(
+                map,
+                current,
+                &MemberLog::begin(self.alloc, best),
+                best,
+                heard,
+            ),
+        }
+    }
+
+    /// The best copy is that of the member with this info and this log; where the log is whole, the states of the others.
+    fn found_by(
+        &self,
+        map: &OsdMap,
+        current: &Membership,
+        log: &MemberLog,
+        best: &Info,
+        heard: &Best<Preference>,
+    ) -> Result<Found, AllocError>
+        ensures { IfOk result (λ found. (g : GroupLog) → Keeps g self.now → current.now ≡ g.history.current
+            → AreHeard g heard.now → best_of g ≡ Some best.now
+            → IsLogOf best.now (reported g best.now.member) log.now → IsFound g found) }
+    {
         if !log.whole() {
             return Ok(nothing_to_go_by(self.alloc, Some(best.member)));
         }
         Ok(Found {
             best: Some(best.member),
             whole: true,
-            states: self.states(map, current, &log, best.member, heard)?,
+            states: self.states(map, current, log, best.member, heard)?,
         })
     }
 

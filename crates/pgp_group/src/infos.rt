@@ -146,7 +146,7 @@ fn later_of(a: Epoch, b: Epoch) -> Epoch
 }
 
 /// Whether one was ahead, or this one is, which came at this epoch and was sent in that one.
-fn is_ahead(before: bool, at: Epoch, stamp: Epoch) -> bool
+pub(crate) fn is_ahead(before: bool, at: Epoch, stamp: Epoch) -> bool
     ensures { result ≡ (before || nat_lt at stamp) }
 {
     before || at < stamp

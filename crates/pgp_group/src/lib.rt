@@ -13,8 +13,9 @@ mod group;
 mod heard;
 mod infos;
 pub mod laws;
+mod logs;
 mod peers;
-mod reported;
+mod reports;
 mod standing;
 
 pub use group::Group;

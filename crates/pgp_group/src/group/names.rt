@@ -34,10 +34,10 @@ impl Group {
     /// Whether the device sent a report of the group.
     fn has_heard_from(&self, osd: OsdId) -> bool
         ensures { result ≡ (list_any (λ info. nat_eq info.member.osd osd) self.now.infos.all.items
-            || list_any (λ report. nat_eq report.member.osd osd) self.now.reports.items) }
+            || list_any (λ report. nat_eq report.member.osd osd) self.now.reports.all.items) }
     {
         let infos = sent_info(self.infos.all(), osd);
-        let entries = sent_entries(self.reports.as_slice(), osd);
+        let entries = sent_entries(self.reports.all(), osd);
         infos || entries
     }
 }

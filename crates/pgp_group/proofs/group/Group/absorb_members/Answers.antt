@@ -38,4 +38,4 @@ pub returns-clause-err : goal.returns-clause-err
 returns-clause-err c =
     let group : Group = record { alloc = c.args.self.now.alloc; pg = c.args.self.now.pg; intervals = c.step.new.self; infos = c.args.self.now.infos; reports = c.args.self.now.reports } in
     on_err_from c.step.result (c.step.new.self ≡ c.args.self.now.intervals) (StandsLike c.args.self.now group)
-    (λ same log pg is. IsGroupOf-same log pg c.args.self.now group is refl same (λ g kept. kept) refl) c.step.ensures.err
+    (λ same log pg is. IsGroupOf-same log pg c.args.self.now group is refl same (λ g kept. kept) (λ g kept. kept)) c.step.ensures.err

@@ -5,7 +5,7 @@ use Rattle.pgp_map.specs.Pools.{is_same_group}
 use Rattle.pgp_group.specs.Entries.{incs_of}
 use Rattle.pgp_group.specs.GroupLog.{group_with}
 use Rattle.pgp_group.specs.declared.group.Group.{Group}
-use Rattle.pgp_group.proofs.GroupLemmas.{on_err, StandsLike, IsGroupOf-other, IsGroupOf-same, infos-kept, infos-other, infos-told, reports-same}
+use Rattle.pgp_group.proofs.GroupLemmas.{on_err, StandsLike, IsGroupOf-other, IsGroupOf-same, infos-kept, infos-other, infos-told, reports-kept, reports-same}
 use Rattle.pgp_group.proofs.GrowthLemmas.{history-last}
 use Rattle.pgp_group.proofs.group.Group.keep_info.Goals as goal
 
@@ -13,7 +13,7 @@ pub returns-in_err-push-clause-err : goal.returns-in_err-push-clause-err
 returns-in_err-push-clause-err c =
     let group : Group = record { alloc = c.args.self.now.alloc; pg = c.args.self.now.pg; intervals = c.args.self.now.intervals; infos = c.push.new.self; reports = c.args.self.now.reports } in
     on_err c.from_residual.result (StandsLike c.args.self.now group)
-    (λ log pg is. IsGroupOf-same log pg c.args.self.now group is refl refl c.in_err-push.ensures.err refl)
+    (λ log pg is. IsGroupOf-same log pg c.args.self.now group is refl refl c.in_err-push.ensures.err (λ g kept. kept))
 
 pub returns-in_ok-push-clause-ok : goal.returns-in_ok-push-clause-ok
 returns-in_ok-push-clause-ok c = λ log pg is.
@@ -23,7 +23,7 @@ returns-in_ok-push-clause-ok c = λ log pg is.
     (c.in_ok-push.ensures.ok (group_with log pg is.history) (group_with (log ++ entry.Info info ∷ []) pg is.history)
     (omega (arith, c.last.ensures, is.keeps.intervals_are.last_is, history-last (incs_of log) pg is.history is.numbered is.history_is))
     (infos-told log info pg is.history same) is.keeps.infos_are)
-    (is.keeps.reports_are ∙ sym (reports-same log (entry.Info info) pg refl))
+    (reports-kept log (entry.Info info) pg is.history c.args.self.now.reports refl (reports-same log (entry.Info info) pg refl) is.keeps.reports_are)
 
 pub returns-else-eq-clause-ok : goal.returns-else-eq-clause-ok
 returns-else-eq-clause-ok c = λ log pg is.
@@ -31,4 +31,4 @@ returns-else-eq-clause-ok c = λ log pg is.
     let differ : is_same_group info.pg pg ≡ false = subst (λ (q : PgId). is_same_group info.pg q ≡ false) is.keeps.pg_is (sym c.eq.ensures ∙ c.if-eq.false) in
     IsGroupOf-other log (entry.Info info) pg c.args.self.now _ is refl refl refl
     (infos-kept log (entry.Info info) pg is.history c.args.self.now.infos refl (infos-other log info pg differ) is.keeps.infos_are)
-    (is.keeps.reports_are ∙ sym (reports-same log (entry.Info info) pg refl))
+    (reports-kept log (entry.Info info) pg is.history c.args.self.now.reports refl (reports-same log (entry.Info info) pg refl) is.keeps.reports_are)

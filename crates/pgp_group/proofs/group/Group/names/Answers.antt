@@ -14,5 +14,5 @@ returns-else-stood c = λ log pg is.
     let g = group_with log pg is.history in
     let stood : list_any (was_member osd) (past g) ≡ false = sym (c.stood_in_past-stood.ensures is.history is.keeps.intervals_are) ∙ c.if-stood.false in
     c.has_heard_from-sent.ensures
-    ∙ ap₂ (λ (infos : List Info) (reports : List Report). list_any (λ info. nat_eq info.member.osd osd) infos || list_any (λ report. nat_eq report.member.osd osd) reports) is.keeps.infos_are.all_are is.keeps.reports_are
+    ∙ ap₂ (λ (infos : List Info) (reports : List Report). list_any (λ info. nat_eq info.member.osd osd) infos || list_any (λ report. nat_eq report.member.osd osd) reports) is.keeps.infos_are.all_are is.keeps.reports_are.all_are
     ∙ sym (names-by_reports osd g stood) ∙ sym (names-there osd log pg is.history is.history_is)

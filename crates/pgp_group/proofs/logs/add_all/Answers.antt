@@ -3,7 +3,7 @@ use Rattle.std.proofs.lemmas.List.{take_all}
 use Rattle.pgp_ids.specs.declared.log_entry.LogEntry.{LogEntry}
 use Rattle.pgp_missing.specs.Kept.{IsLogOf}
 use Rattle.pgp_group.proofs.Lists.{append-next}
-use Rattle.pgp_group.proofs.reported.add_all.Goals as goal
+use Rattle.pgp_group.proofs.logs.add_all.Goals as goal
 
 pub loop-entry-preserved : goal.loop-entry-preserved
 loop-entry-preserved c = λ info reported is.

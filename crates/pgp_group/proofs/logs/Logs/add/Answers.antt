@@ -1,0 +1,52 @@
+use Rattle.std.proofs.Common.{◌≡◌, ℕ, List, [], ◌++◌, Bool, true, if◌then◌else◌, ap, ap₂, subst, sym, ◌∙◌}
+use Rattle.std.specs.List.{All, slice_set}
+use Rattle.std.proofs.lemmas.List.Elements.{All-set}
+use Rattle.std.proofs.lemmas.List.Quantifiers.{position-Some}
+use Rattle.std.proofs.lemmas.Result.{on_ok_weaker}
+use Rattle.pgp_ids.specs.Member.{is_same_member}
+use Rattle.pgp_ids.specs.declared.log_entry.LogEntry.{LogEntry}
+use Rattle.pgp_ids.specs.declared.member.Member.{Member}
+use Rattle.pgp_missing.specs.Log.{by_number}
+use Rattle.pgp_group.specs.KeptReports.{is_of, entries_of}
+use Rattle.pgp_group.specs.declared.logs.CountedLog.{CountedLog}
+use Rattle.pgp_group.proofs.LogsLemmas.{added, added-first}
+use Rattle.pgp_group.proofs.PeerLemmas.{same_member}
+use Rattle.pgp_group.proofs.logs.Logs.add.Goals as goal
+
+pub returns-in-Some-clause-logs : goal.returns-in-Some-clause-logs
+returns-in-Some-clause-logs c =
+    let logs = c.args.self.now.of_members.items in
+    let report = c.args.report.now in
+    let old = c.index_mut.result.now in
+    let new = c.add.new.self in
+    on_ok_weaker {P = (r : List LogEntry) → old.log.entries ≡ by_number r → new.log.entries ≡ by_number (r ++ report.log)}
+    {Q = (member : Member) (reported : List LogEntry) → entries_of member logs ≡ by_number reported
+    → entries_of member (slice_set logs c.in-Some.place new) ≡ by_number (reported ++ (if is_same_member report.member member then report.log else []))}
+    c.add.result
+    (λ add member reported is. added report.member member logs c.in-Some.place old new report.log reported
+    (sym c.place_of.ensures ∙ c.in-Some.is) c.index_mut.ensures.value c.add.ensures.member add is)
+    c.add.ensures.log
+
+pub returns-in-Some-clause-each : goal.returns-in-Some-clause-each
+returns-in-Some-clause-each c =
+    let logs = c.args.self.now.of_members.items in
+    let report = c.args.report.now in
+    let old = c.index_mut.result.now in
+    let new = c.add.new.self in
+    let p = position-Some (is_of report.member) logs c.in-Some.place old (sym c.place_of.ensures ∙ c.in-Some.is) in
+    let by : new.member ≡ report.member = c.add.ensures.member ∙ same_member old.member report.member (ap (is_of report.member) c.index_mut.ensures.value ∙ p.1) in
+    on_ok_weaker {P = (r : List LogEntry) → old.log.entries ≡ by_number r → new.log.entries ≡ by_number (r ++ report.log)}
+    {Q = (test : Member → ℕ → Bool) → test report.member report.stamp ≡ true → All (λ (log : CountedLog). test log.member log.stamp ≡ true) logs
+    → All (λ (log : CountedLog). test log.member log.stamp ≡ true) (slice_set logs c.in-Some.place new)}
+    c.add.result
+    (λ _ test passes each. All-set (λ (log : CountedLog). test log.member log.stamp ≡ true) logs c.in-Some.place new (ap₂ test by c.add.ensures.stamp ∙ passes) each)
+    c.add.ensures.log
+
+pub returns-in_ok-push-in-None-clause-logs : goal.returns-in_ok-push-in-None-clause-logs
+returns-in_ok-push-in-None-clause-logs c = λ member reported is.
+    let logs = c.args.self.now.of_members.items in
+    let report = c.args.report.now in
+    let first = c.in_ok-of_first-in-None.field-0 in
+    let of = c.in_ok-of_first-in-None.ensures in
+    subst (λ (l : List CountedLog). entries_of member l ≡ by_number (reported ++ (if is_same_member report.member member then report.log else []))) (sym c.in_ok-push-in-None.ensures.items)
+    (added-first report.member member logs first report.log reported (sym c.place_of.ensures ∙ c.in-None.is) of.member of.log is)

@@ -1,0 +1,26 @@
+use Rattle.std.proofs.Common.{◌≡◌, Some, None, sym, ◌∙◌}
+use Rattle.std.proofs.lemmas.List.Quantifiers.{position-Some}
+use Rattle.pgp_group.specs.KeptReports.{is_of, log_of}
+use Rattle.pgp_group.proofs.LogsLemmas.{found-none, renewed, renewed-one}
+use Rattle.pgp_group.proofs.logs.Logs.renew.Goals as goal
+
+pub returns-in-Some-clause-entries : goal.returns-in-Some-clause-entries
+returns-in-Some-clause-entries c = λ test member reported is.
+    let logs = c.args.self.now.of_members.items in
+    let old = c.index_mut.result.now in
+    let within = (position-Some (is_of c.args.info.now.member) logs c.in-Some.place old (sym c.place_of.ensures ∙ c.in-Some.is)).0 in
+    renewed test member logs c.in-Some.place old c.renew.new.self reported within c.index_mut.ensures.value c.renew.ensures.member c.renew.ensures.stamp
+    (λ r was. (c.renew.ensures.bounds r was).of_reported) is
+
+pub returns-in-Some-clause-bounds : goal.returns-in-Some-clause-bounds
+returns-in-Some-clause-bounds c = λ log reported is found.
+    renewed-one c.args.info.now.member c.args.self.now.of_members.items c.in-Some.place c.index_mut.result.now c.renew.new.self log c.args.info.now reported
+    (sym c.place_of.ensures ∙ c.in-Some.is) c.index_mut.ensures.value c.renew.ensures.member c.renew.ensures.bounds is found
+
+pub returns-in_default-clause-bounds : goal.returns-in_default-clause-bounds
+returns-in_default-clause-bounds c = λ log reported is found.
+    let none : log_of c.args.info.now.member c.args.self.now.of_members.items ≡ None = found-none (is_of c.args.info.now.member) c.args.self.now.of_members.items (sym c.place_of.ensures ∙ c.in_default.is) in
+    absurd (nothing (sym none ∙ found))
+  where
+    nothing : {X : Type 0} {x : X} → None ≡ Some x → ⊥
+    nothing same = cc

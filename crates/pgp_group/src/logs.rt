@@ -1,0 +1,208 @@
+//! The logs of a group's members, by those of their reports that count.
+
+ghost use Rattle.std.specs.Prelude.{◌≡◌, ℕ, ◌≤◌, ◌++◌, [], Bool, true, List, All, filter, option_map, if◌then◌else◌, IfOk, OnOk};
+ghost use Rattle.std.specs.List.{position};
+ghost use Rattle.std.specs.Option.{option_copied};
+ghost use Rattle.pgp_ids.specs.Member.{is_same_member};
+ghost use Rattle.pgp_ids.specs.declared.log_entry.LogEntry.{LogEntry as Write};
+ghost use Rattle.pgp_ids.specs.declared.member.Member.{Member as Sender};
+ghost use Rattle.pgp_ids.specs.declared.report.Info.{Info as Sent};
+ghost use Rattle.pgp_ids.specs.declared.report.Report.{Report as Told};
+ghost use Rattle.pgp_missing.specs.Kept.{IsLogOf};
+ghost use Rattle.pgp_missing.specs.Log.{by_number};
+ghost use Rattle.pgp_group.specs.GroupLog.{GroupLog};
+ghost use Rattle.pgp_group.specs.KeptReports.{is_of, log_of, entries_of, counts, counts_by, AreLogsOf};
+ghost use Rattle.pgp_group.specs.Present.{IsPresent};
+ghost use Rattle.pgp_group.specs.declared.logs.CountedLog.{CountedLog as Kept};
+
+use super::counted::is_counted;
+use pgp_ids::{Epoch, Info, LogEntry, Member, Report, Version};
+use pgp_map::OsdMap;
+use pgp_missing::MemberLog;
+use std::alloc::{AllocError, Global};
+
+/// The log of a member, by those of its reports that count.
+#[derive(Debug, Drop)]
+pub(crate) struct CountedLog {
+    member: Member,
+    /// The epoch in which the last of these reports was sent.
+    stamp: Epoch,
+    log: MemberLog,
+}
+
+impl CountedLog {
+    /// The log of a member by this report, the first of it that counts.
+    fn of_first(alloc: Global, report: &Report) -> Result<Self, AllocError>
+        ensures member { IfOk result (λ log. log.member ≡ report.now.member) }
+        ensures stamp { IfOk result (λ log. log.stamp ≡ report.now.stamp) }
+        ensures log { IfOk result (λ log. log.log.entries ≡ by_number report.now.log) }
+    {
+        let mut first = CountedLog {
+            member: report.member,
+            stamp: report.stamp,
+            log: MemberLog::begin(alloc, &unknown(report)),
+        };
+        first.add(report)?;
+        Ok(first)
+    }
+
+    /// Adds the entries of a report that the member sent after the others.
+    fn add(&mut self, report: &Report) -> Result<(), AllocError>
+        ensures member { self.new.member ≡ self.old.member }
+        ensures stamp { self.new.stamp ≡ report.now.stamp }
+        ensures log { OnOk result ((reported : List Write) → self.old.log.entries ≡ by_number reported
+            → self.new.log.entries ≡ by_number (reported ++ report.now.log)) }
+    {
+        self.stamp = report.stamp;
+        add_all(&mut self.log, report.log.as_slice())
+    }
+
+    /// Lets the log go by this info, which sets its bounds.
+    fn renew(&mut self, info: &Info)
+        ensures member { self.new.member ≡ self.old.member }
+        ensures stamp { self.new.stamp ≡ self.old.stamp }
+        ensures bounds { (reported : List Write) → self.old.log.entries ≡ by_number reported
+            → IsLogOf info.now reported self.new.log }
+    {
+        self.log.renew(info);
+    }
+}
+
+/// The logs of the members that have reports which count.
+#[derive(Debug, Drop)]
+pub(crate) struct Logs {
+    of_members: Vec<CountedLog>,
+}
+
+impl Logs {
+    /// No logs. It takes no memory.
+    pub(crate) fn new(alloc: Global) -> Self
+        ensures { result.of_members.items ≡ [] }
+    {
+        Logs {
+            of_members: Vec::new(alloc),
+        }
+    }
+
+    /// Drops the logs of the members whose reports count no more.
+    pub(crate) fn keep_counted(&mut self, map: &OsdMap, first: Epoch)
+        ensures { (g : GroupLog) → IsPresent g map.now first
+            → self.new.of_members.items ≡ filter (counts g) self.old.of_members.items }
+    {
+        self.of_members
+            .retain(|log| is_counted(map, first, log.member, log.stamp));
+    }
+
+    /// Adds the entries of those of these reports that count, in their order. After an error some are added.
+    pub(crate) fn hear(
+        &mut self,
+        alloc: Global,
+        map: &OsdMap,
+        first: Epoch,
+        told: &[Report],
+    ) -> Result<(), AllocError>
+        ensures logs { OnOk result ((g : GroupLog) (before : List Told) → IsPresent g map.now first
+            → AreLogsOf g before self.old.of_members.items → AreLogsOf g (before ++ told.now) self.new.of_members.items) }
+        ensures count { OnOk result ((g : GroupLog) (at : ℕ) → IsPresent g map.now first → All (λ report. report.stamp ≤ at) told.now
+            → All (λ log. counts_by g at log ≡ true) self.old.of_members.items
+            → All (λ log. counts_by g at log ≡ true) self.new.of_members.items) }
+    {
+        for report in told {
+            if is_counted(map, first, report.member, report.stamp) {
+                self.add(alloc, report)?;
+            }
+        }
+        Ok(())
+    }
+
+    /// Adds the entries of a report that counts.
+    fn add(&mut self, alloc: Global, report: &Report) -> Result<(), AllocError>
+        ensures logs { OnOk result ((member : Sender) (reported : List Write)
+            → entries_of member self.old.of_members.items ≡ by_number reported
+            → entries_of member self.new.of_members.items
+            ≡ by_number (reported ++ (if is_same_member report.now.member member then report.now.log else []))) }
+        ensures each { OnOk result ((test : Sender → ℕ → Bool) → test report.now.member report.now.stamp ≡ true
+            → All (λ log. test log.member log.stamp ≡ true) self.old.of_members.items
+            → All (λ log. test log.member log.stamp ≡ true) self.new.of_members.items) }
+    {
+        match self.place_of(report.member) {
+            Some(place) => self.of_members[place].add(report),
+            None => {
+                self.of_members.push(CountedLog::of_first(alloc, report)?)?;
+                Ok(())
+            }
+        }
+    }
+
+    /// Lets the log of the member with this info go by it: the info sets the bounds.
+    pub(crate) fn renew(&mut self, info: &Info)
+        ensures entries { (test : Sender → ℕ → Bool) (member : Sender) (reported : List Write)
+            → entries_of member (filter (λ log. test log.member log.stamp) self.old.of_members.items) ≡ by_number reported
+            → entries_of member (filter (λ log. test log.member log.stamp) self.new.of_members.items) ≡ by_number reported }
+        ensures each { (test : Sender → ℕ → Bool) → All (λ log. test log.member log.stamp ≡ true) self.old.of_members.items
+            → All (λ log. test log.member log.stamp ≡ true) self.new.of_members.items }
+        ensures bounds { (log : Kept) (reported : List Write) → entries_of info.now.member self.old.of_members.items ≡ by_number reported
+            → log_of info.now.member self.new.of_members.items ≡ Some log → IsLogOf info.now reported log.log }
+    {
+        if let Some(place) = self.place_of(info.member) {
+            self.of_members[place].renew(info);
+        }
+    }
+
+    /// The log of this member, where it has reports that count.
+    pub(crate) fn log_of(&self, member: Member) -> Option<&MemberLog>
+        ensures { option_copied result ≡ option_map (λ log. log.log) (log_of member self.now.of_members.items) }
+    {
+        match self.place_of(member) {
+            Some(place) => Some(&self.of_members[place].log),
+            None => None,
+        }
+    }
+
+    /// The place of the member's log.
+    fn place_of(&self, member: Member) -> Option<usize>
+        ensures { result ≡ position (is_of member) self.now.of_members.items }
+    {
+        self.of_members
+            .as_slice()
+            .iter()
+            .position(|log| log.member == member)
+    }
+}
+
+/// An info of the report's sender before one is known: by it the log has no number.
+fn unknown(report: &Report) -> Info
+    ensures { result.member ≡ report.now.member }
+{
+    Info {
+        pg: report.pg,
+        member: report.member,
+        stamp: report.stamp,
+        les: Epoch::new(0),
+        history_les: Epoch::new(0),
+        last_update: no_write(),
+        log_tail: no_write(),
+        complete: false,
+    }
+}
+
+/// The version before the first write.
+fn no_write() -> Version
+    ensures { result ≡ record { epoch = 0; v = 0 } }
+{
+    Version {
+        epoch: Epoch::new(0),
+        v: 0,
+    }
+}
+
+/// Adds the entries in their order.
+fn add_all(log: &mut MemberLog, entries: &[LogEntry]) -> Result<(), AllocError>
+    ensures { OnOk result ((info : Sent) (reported : List Write)
+        → IsLogOf info reported log.old → IsLogOf info (reported ++ entries.now) log.new) }
+{
+    for entry in entries {
+        log.add(entry)?;
+    }
+    Ok(())
+}

@@ -1,0 +1,163 @@
+//! The reports of log entries of a group, and the logs of its members by them.
+
+ghost use Rattle.std.specs.Prelude.{◌≡◌, ◌≤◌, [], Some, length, drop, option_map, OnOk, OnErr};
+ghost use Rattle.std.specs.Option.{option_copied};
+ghost use Rattle.pgp_map.specs.Map.{epoch as epoch_of};
+ghost use Rattle.pgp_missing.specs.Kept.{IsLogOf};
+ghost use Rattle.pgp_group.specs.GroupLog.{GroupLog, incs, reports};
+ghost use Rattle.pgp_group.specs.Heard.{reported};
+ghost use Rattle.pgp_group.specs.KeptReports.{KeepsReports, IsReportedBy, AreCounted, AreLogsOf, log_of};
+ghost use Rattle.pgp_group.specs.Present.{IsPresent};
+ghost use Rattle.pgp_group.specs.declared.logs.CountedLog.{CountedLog as Kept};
+
+use super::copies::copy_of;
+use super::infos::is_ahead;
+use super::logs::Logs;
+use pgp_ids::{Epoch, Info, Member, Report};
+use pgp_map::OsdMap;
+use pgp_missing::MemberLog;
+use std::alloc::{AllocError, Global};
+
+/// All reports of log entries of a group, and the logs of the members that have reports which count.
+///
+/// Each report is judged once when it is looked at first: one that doesn't count then never counts. Of one member all
+/// reports that counted still count, or none does: its device went down, or the interval ended. So a log is judged by the
+/// last report that went into it, and dropped whole.
+#[derive(Debug, Drop)]
+pub(crate) struct Reports {
+    /// All reports, counted or not, in the order in which they came.
+    all: Vec<Report>,
+    /// By the reports that were looked at, the logs of the members.
+    logs: Logs,
+    /// How many were looked at.
+    seen: usize,
+    /// Whether a report came before the epoch in which it says that it was sent. Such a report may begin to count later, so
+    /// from then on all are judged at each look.
+    ahead: bool,
+}
+
+impl Reports {
+    /// No reports. It takes no memory.
+    pub(crate) fn new(alloc: Global) -> Self
+        ensures { (g : GroupLog) → reports g ≡ [] → KeepsReports g result }
+    {
+        Reports {
+            all: Vec::new(alloc),
+            logs: Logs::new(alloc),
+            seen: 0,
+            ahead: false,
+        }
+    }
+
+    /// Takes a report, which came at this epoch. After an error the reports are as before.
+    pub(crate) fn push(
+        &mut self,
+        alloc: Global,
+        report: &Report,
+        at: Epoch,
+    ) -> Result<(), AllocError>
+        ensures ok { OnOk result ((g after : GroupLog) → at ≡ epoch_of (incs g) → IsReportedBy g report.now after
+            → KeepsReports g self.old → KeepsReports after self.new) }
+        ensures err { OnErr result ((g : GroupLog) → KeepsReports g self.old → KeepsReports g self.new) }
+    {
+        let copy = copy_of(alloc, report)?;
+        self.all.push(copy)?;
+        self.ahead = is_ahead(self.ahead, at, report.stamp);
+        Ok(())
+    }
+
+    /// All reports, counted or not, in the order in which they came.
+    pub(crate) fn all(&self) -> &[Report]
+        ensures { result.now ≡ self.now.all.items }
+    {
+        self.all.as_slice()
+    }
+
+    /// The log of this member as of the last look, where it has reports that count.
+    pub(crate) fn log_of(&self, member: Member) -> Option<&MemberLog>
+        ensures { option_copied result ≡ option_map (λ log. log.log) (log_of member self.now.logs.of_members.items) }
+    {
+        self.logs.log_of(member)
+    }
+
+    /// Looks at the reports that came since the last look, and again at the logs that are kept, by the last map and the first
+    /// epoch of the current interval. Then the logs are those of all reports that count. After an error all reports will be
+    /// looked at again.
+    pub(crate) fn look(
+        &mut self,
+        alloc: Global,
+        map: &OsdMap,
+        first: Epoch,
+    ) -> Result<(), AllocError>
+        ensures ok { OnOk result ((g : GroupLog) → IsPresent g map.now first → KeepsReports g self.old
+            → AreLogsOf g (reports g) self.new.logs.of_members.items) }
+        ensures kept { (g : GroupLog) → IsPresent g map.now first → KeepsReports g self.old → KeepsReports g self.new }
+    {
+        if self.ahead {
+            self.forget(alloc);
+        }
+        self.logs.keep_counted(map, first);
+        self.hear_unseen(alloc, map, first)
+    }
+
+    /// Lets the log of the member with this info go by it: the info sets the bounds.
+    pub(crate) fn renew(&mut self, info: &Info)
+        ensures logs { (g : GroupLog) → AreLogsOf g (reports g) self.old.logs.of_members.items
+            → AreLogsOf g (reports g) self.new.logs.of_members.items }
+        ensures bounds { (g : GroupLog) (log : Kept) → AreLogsOf g (reports g) self.old.logs.of_members.items
+            → log_of info.now.member self.new.logs.of_members.items ≡ Some log
+            → IsLogOf info.now (reported g info.now.member) log.log }
+        ensures kept { (g : GroupLog) → KeepsReports g self.old → KeepsReports g self.new }
+    {
+        self.logs.renew(info);
+    }
+
+    /// Adds the entries of the reports that weren't looked at and count to the logs, all of which count.
+    fn hear_unseen(&mut self, alloc: Global, map: &OsdMap, first: Epoch) -> Result<(), AllocError>
+        ensures ok { OnOk result ((g : GroupLog) → IsPresent g map.now first → AreCounted g self.old
+            → AreLogsOf g (reports g) self.new.logs.of_members.items) }
+        ensures kept { (g : GroupLog) → IsPresent g map.now first → AreCounted g self.old → KeepsReports g self.new }
+    {
+        let unseen = unseen(self.all.as_slice(), self.seen);
+        match self.logs.hear(alloc, map, first, unseen) {
+            Ok(()) => {
+                self.seen = self.told();
+                Ok(())
+            }
+            Err(fault) => {
+                self.forget(alloc);
+                Err(fault)
+            }
+        }
+    }
+
+    /// How many reports there are.
+    fn told(&self) -> usize
+        ensures { result ≡ length self.now.all.items }
+    {
+        self.all.len()
+    }
+
+    /// Forgets what was looked at.
+    fn forget(&mut self, alloc: Global)
+        ensures all { self.new.all.items ≡ self.old.all.items }
+        ensures ahead { self.new.ahead ≡ self.old.ahead }
+        ensures seen { self.new.seen ≡ 0 }
+        ensures logs { self.new.logs.of_members.items ≡ [] }
+    {
+        self.logs = Logs::new(alloc);
+        self.seen = 0;
+    }
+}
+
+/// The reports after those that were looked at.
+fn unseen(all: &[Report], seen: usize) -> &[Report]
+    ensures { seen ≤ length all.now → result.now ≡ drop seen all.now }
+{
+    if seen <= all.len() {
+        let (_, unseen) = all.split_at(seen);
+        unseen
+    } else {
+        all
+    }
+}
