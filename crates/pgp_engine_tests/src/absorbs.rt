@@ -107,3 +107,22 @@ pub fn ask_by_older<J: Naming, R: Wait + Abort + AllocGlobal>(
 fn an_ask_with_an_older_receipt_is_answered_by_what_was_read(rt: HostRuntime) {
     tried(&rt, Trial::OlderReceipts);
 }
+
+// Asks with the receipt that was told first, after each submit, and lets no shard read meanwhile.
+pub fn ask_by_first<J: Naming, R: Wait + Abort + AllocGlobal>(
+    rt: &R,
+    desk: &Desk<J>,
+    client: &mut Placer<J>,
+) {
+    let first = put(rt, desk, TO_SERVE[0], &desk.told(rt));
+    for line in &TO_SERVE[1..] {
+        let told = put(rt, desk, line, &first);
+        let answer = desk.ask(rt, group(), &first).ok().expect(rt, "an answer");
+        assert_eq!(rt; client.meet(&answer.at, &told), Ordering::Equal);
+    }
+}
+
+#[test]
+fn an_ask_reads_past_the_callers_receipt(rt: HostRuntime) {
+    tried(&rt, Trial::FirstReceipt);
+}

@@ -2,7 +2,7 @@
 ghost use Rattle.std.specs.Prelude.{◌≡◌, length};
 ghost use Rattle.pgp_engine_tests.specs.Opened.{IsOpened};
 
-use crate::absorbs::{absorb_by_two, ask_by_older};
+use crate::absorbs::{absorb_by_two, ask_by_first, ask_by_older};
 use crate::clients::place_by_two;
 use crate::closes::close_and_submit;
 use crate::desk::{Desk, Placer};
@@ -36,6 +36,7 @@ pub enum Trial {
     OneEpoch,
     TwoAbsorb,
     OlderReceipts,
+    FirstReceipt,
     TwoClients,
     EachCallAgain,
     HeldShard,
@@ -55,6 +56,7 @@ fn run<
         Trial::OneEpoch => race(rt, desk, one),
         Trial::TwoAbsorb => absorb_by_two(rt, desk, one),
         Trial::OlderReceipts => ask_by_older(rt, desk, one),
+        Trial::FirstReceipt => ask_by_first(rt, desk, one),
         Trial::TwoClients => place_by_two(rt, desk, one, other),
         Trial::EachCallAgain => call_again(rt, desk, one),
         Trial::HeldShard => hold_one(rt, desk, one),
