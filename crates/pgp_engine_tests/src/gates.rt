@@ -10,7 +10,7 @@ use std::thread;
 use std::time::{Clock, Duration};
 
 /// How many turns a thread waits at most. A turn is one look and a short sleep.
-const TURNS: u32 = 1_000_000;
+const TURNS: u32 = 100_000;
 
 /// What one thread brings about, and others wait for.
 #[derive(Drop)]

@@ -15,7 +15,7 @@ use std::thread::{Threads, join};
 use std::time::Clock;
 
 /// How often a thread looks at most.
-const TURNS: u32 = 1_000_000;
+const TURNS: u32 = 100_000;
 
 // The receipts with which two workers end.
 type Ends<J> = (Ticket<J>, Ticket<J>);
