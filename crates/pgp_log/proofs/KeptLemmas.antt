@@ -22,7 +22,7 @@ use Rattle.pgp_map.specs.Pools.{has_group, is_same_group, pool}
 use Rattle.pgp_map.specs.declared.map.OsdMap.{OsdMap}
 use Rattle.pgp_sets.proofs.RawSetLemmas.{raw_set-stays}
 use Rattle.pgp_sets.specs.Sets.{members_from_up, membership, moves, raw_set_of, without_down}
-use Rattle.pgp_group.proofs.GroupLemmas.{infos-kept, infos-other, infos-same, reports-other, reports-same, IsGroupOf-other}
+use Rattle.pgp_group.proofs.GroupLemmas.{infos-kept, infos-other, infos-same, reports-kept, reports-other, reports-same, IsGroupOf-other}
 use Rattle.pgp_group.proofs.GrowthLemmas.{has_group-grows}
 use Rattle.pgp_group.proofs.SameViewLemmas.{view-same}
 use Rattle.pgp_group.proofs.UntouchedLemmas.{Stays, untouched-stays}
@@ -176,7 +176,7 @@ of-others log entry.Close pg none untouched = record { infos = infos-same log en
 group-untold : (log : List Entry) (new : Entry) (pg : PgId) (group : Group) → inc_of new ≡ None → IsOfOthers log new pg → IsGroupOf log pg group → IsGroupOf (log ++ new ∷ []) pg group
 group-untold log new pg group none others is =
     IsGroupOf-other log new pg group group is none refl refl
-    (infos-kept log new pg is.history group.infos none others.infos is.keeps.infos_are) (is.keeps.reports_are ∙ sym others.reports)
+    (infos-kept log new pg is.history group.infos none others.infos is.keeps.infos_are) (reports-kept log new pg is.history group.reports none others.reports is.keeps.reports_are)
 
 view-untold : (log : List Entry) (new : Entry) (pg : PgId) → inc_of new ≡ None → IsOfOthers log new pg → Stays log new pg
 view-untold log new pg none others =

@@ -33,3 +33,8 @@ returns-in-Some c =
     with-kept log (log ++ entry.Inc inc ∷ []) log (log ++ entry.Inc inc ∷ []) pg old (Some group) is
     (given log pg inc kept fine is.before_is (made-after log inc pg old is)))
     c.absorb_map.ensures.ok
+
+pub returns-in-None : goal.returns-in-None
+returns-in-None c = λ log inc pg fine is.
+    with-kept log (log ++ entry.Inc inc ∷ []) log (log ++ entry.Inc inc ∷ []) pg c.args.self.now c.begun.result is
+    (c.begun.ensures log inc pg fine is c.in-None.is)
