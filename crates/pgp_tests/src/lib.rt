@@ -15,6 +15,8 @@ mod hashes;
 #[cfg(test)]
 mod infos;
 #[cfg(test)]
+mod marks;
+#[cfg(test)]
 mod missing;
 #[cfg(test)]
 mod peering;
