@@ -38,8 +38,9 @@ impl<J: Naming> Engine<J> {
     /// Close, and answers the receipt of the closed log. There is none where no shard is of this seat. `Memory` and
     /// `NoReader` end the work, and leave the shards as far as they have read.
     ///
-    /// In each of its turns a shard reads a few entries, between the gate's two calls. Between the turns the lock is free;
-    /// and where the shards of the seat have read all that there is, the worker sleeps until the next submit.
+    /// In each of its turns a shard reads a few entries, between the gate's two calls, or works out anew a few of its groups
+    /// where there is nothing to read. Between the turns the lock is free; and after a round in which nothing was read, the
+    /// worker sleeps until the next submit.
     pub fn work<R: Wait, G: Gate>(
         &self,
         rt: &R,
@@ -54,12 +55,17 @@ impl<J: Naming> Engine<J> {
         if self.shards.len() <= seat {
             return Ok(None);
         }
+        let mut read = 0;
         for _ in rt.forever() {
             let shortest = self.pass(rt, seat, gate)?;
             if shortest.closed {
                 return Ok(Some(shortest.front));
             }
-            self.sleep(rt, shortest.front.len());
+            let len = shortest.front.len();
+            if len == read {
+                self.sleep(rt, len);
+            }
+            read = len;
         }
         unreachable!()
     }

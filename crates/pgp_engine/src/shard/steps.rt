@@ -81,8 +81,24 @@ impl<J: Naming> Shard<J> {
     }
 
     /// Reads at most so many further entries of the log, and answers the receipt of what it has read then. Without memory
-    /// it may have read some of them.
+    /// it may have read some of them. Where there is nothing to read, it works out anew as many of its groups.
     pub fn absorb_some(&mut self, max: usize) -> Result<Receipt, AskFault>
+        ensures on { GoesOn self.old self.new }
+        ensures absorbed { OnOk result (HasAbsorbed self.old self.new max) }
+        ensures named { IfOk result (Names J.feed self.new.front) }
+        ensures err { IfErr result (λ fault. fault_at fault ≡ None) }
+    {
+        let read = self.front.len();
+        let front = self.read_some(max)?;
+        if front.len() > read {
+            return Ok(front);
+        }
+        self.renew(max)?;
+        Ok(front)
+    }
+
+    /// Reads at most so many further entries of the log.
+    fn read_some(&mut self, max: usize) -> Result<Receipt, AskFault>
         ensures on { GoesOn self.old self.new }
         ensures absorbed { OnOk result (HasAbsorbed self.old self.new max) }
         ensures named { IfOk result (Names J.feed self.new.front) }
@@ -92,6 +108,17 @@ impl<J: Naming> Shard<J> {
         let target = after(&newest, self.front.len(), max);
         self.absorb_to(&target)?;
         Ok(self.front.again())
+    }
+
+    /// Works out anew at most so many of its groups that an entry touched, so that the next to ask about them needn't.
+    fn renew(&mut self, max: usize) -> Result<(), AskFault>
+        ensures same { self.new ≡ self.old }
+        ensures err { IfErr result (λ fault. fault_at fault ≡ None) }
+    {
+        match self.state.renew(max) {
+            Ok(_) => Ok(()),
+            Err(AllocError) => Err(AskFault::Memory),
+        }
     }
 
     /// The log that it has read was closed.

@@ -5,7 +5,7 @@ use Rattle.pgp_feed.specs.Receipts.{entries_of}
 use Rattle.pgp_feed.specs.Taps.{last_of}
 use Rattle.pgp_feed.proofs.Fronts.{front_trans}
 use Rattle.pgp_engine.proofs.FrontLemmas.{front_between}
-use Rattle.pgp_engine.proofs.shard.Shard.absorb_some.Goals as goal
+use Rattle.pgp_engine.proofs.shard.Shard.read_some.Goals as goal
 
 pub absorb_to-requires-clause-more : goal.absorb_to-requires-clause-more
 absorb_to-requires-clause-more g c =
