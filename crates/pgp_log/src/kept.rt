@@ -60,10 +60,34 @@ impl Kept {
         self.view.is_none()
     }
 
-    /// Takes an incremental, which leads from the one map to the other. One that doesn't touch the group takes no memory and
-    /// no placement: the group is held against the devices that it changes, by its raw set, its pg_temp list, and what
-    /// `Group::names`. After an `Err` it is of no further use.
+    /// Takes an incremental, which leads from the one map to the other. A group that isn't marked is held against it, and takes
+    /// no memory and no placement where it isn't touched; of one that is marked the view is gone anyhow. After an `Err` it is
+    /// of no further use.
     pub(crate) fn absorb_inc(
+        &mut self,
+        before: &OsdMap,
+        after: &OsdMap,
+        inc: &Incremental,
+    ) -> Result<(), AllocError>
+        requires { CanStep self.old inc.now before.now after.now }
+        ensures ok { OnOk result ((log : List AnyEntry) → IsKeptOf log self.old → IsStep log inc.now before.now after.now
+            → IsKeptOf (log ++ entry.Inc inc.now ∷ []) self.new) }
+        ensures marks { OnOk result ((log : List AnyEntry) → IsKeptOf log self.old → IsStep log inc.now before.now after.now
+            → is_touched log (entry.Inc inc.now) self.old.pg ≡ false → self.new.view ≡ self.old.view) }
+        ensures wants { OnErr result ((log : List AnyEntry) → IsKeptOf log self.old → IsStep log inc.now before.now after.now
+            → is_marked self.old ≡ false → is_touched log (entry.Inc inc.now) self.old.pg ≡ true) }
+        ensures pg { self.new.pg ≡ self.old.pg }
+    {
+        if self.is_marked() {
+            self.move_on(before, after, inc)?;
+            self.view = None;
+            return Ok(());
+        }
+        self.follow(before, after, inc)
+    }
+
+    /// Takes an incremental, having held the group against it: by its raw set, its pg_temp list, and what `Group::names`.
+    fn follow(
         &mut self,
         before: &OsdMap,
         after: &OsdMap,
@@ -88,7 +112,7 @@ impl Kept {
         }
     }
 
-    /// Takes an incremental that touches the group, all but the view, which is to be forgotten.
+    /// Takes an incremental that may touch the group, all but the view, which is to be forgotten.
     fn move_on(
         &mut self,
         before: &OsdMap,

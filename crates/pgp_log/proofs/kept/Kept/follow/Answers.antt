@@ -1,6 +1,6 @@
 use Rattle.pgp_log.proofs.TouchLemmas.{kept-next, kept-stays}
 use Rattle.std.proofs.Common.{sym, ◌∙◌}
-use Rattle.pgp_log.proofs.kept.Kept.absorb_inc.Goals as goal
+use Rattle.pgp_log.proofs.kept.Kept.follow.Goals as goal
 
 pub stay-requires : goal.stay-requires
 stay-requires c = kept-next c.requires.log c.args.inc.now c.args.before.now c.args.after.now c.args.self.now c.requires.is c.requires.step
