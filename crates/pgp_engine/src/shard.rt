@@ -11,7 +11,6 @@ mod steps;
 
 /// It reads one front of the log after another, and answers for its own groups by the front that it has read. Its receipt
 /// names that front.
-#[derive(Drop)]
 pub struct Shard<J: Naming> {
     shard: usize,
     shards: usize,
@@ -21,6 +20,21 @@ pub struct Shard<J: Naming> {
     // What is read next, kept from one turn to the next for its room.
     unread: Vec<Arc<Entry>>,
     of: PhantomData<J>,
+}
+
+// Written out, so that a crate which lets one go has nothing to prove of what lies within.
+impl<J: Naming> Drop for Shard<J> {
+    fn drop(self) {
+        let Shard {
+            shard: _,
+            shards: _,
+            state: _,
+            front: _,
+            tap: _,
+            unread: _,
+            of: _,
+        } = self;
+    }
 }
 
 impl<J: Naming> Model for Shard<J> {

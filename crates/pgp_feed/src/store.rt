@@ -10,11 +10,20 @@ mod absorb;
 mod read;
 
 /// What readers take. It has room for the longest log: as many entries as a log takes, and a Close.
-#[derive(Drop)]
 pub struct Store {
     pub entries: Vec<Arc<Entry>>,
     pub told: Receipt,
     ghost room: { longest_log + 1 ≤ vec_capacity entries },
+}
+
+// Written out, so that a crate which lets one go has nothing to prove of what lies within.
+impl Drop for Store {
+    fn drop(self) {
+        let Store {
+            entries: _,
+            told: _,
+        } = self;
+    }
 }
 
 /// What the two copies have in common. No value of it is made.

@@ -13,12 +13,23 @@ use std::marker::Model;
 /// The last info of each member, and the best of them by the preference `P`.
 ///
 /// The best one is kept, so that asking for it is free.
-#[derive(Debug, Drop)]
+#[derive(Debug)]
 pub struct Best<P: Prefer> {
     prefer: P,
     /// No two are of one member.
     infos: Vec<Info>,
     lead: Lead,
+}
+
+// Written out, so that a crate which lets one go has nothing to prove of what lies within.
+impl<P: Prefer + Drop> Drop for Best<P> {
+    fn drop(self) {
+        let Best {
+            prefer: _,
+            infos: _,
+            lead: _,
+        } = self;
+    }
 }
 
 impl<P: Prefer> Model for Best<P> {

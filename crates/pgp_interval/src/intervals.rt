@@ -15,7 +15,7 @@ use std::mem;
 /// The intervals of a placement group, of a pool with the code `R`, as its history grows by an epoch after another.
 ///
 /// It keeps the past intervals and the current one, and nothing of single epochs.
-#[derive(Debug, Drop)]
+#[derive(Debug)]
 pub struct Intervals<R> {
     code: R,
     /// The past intervals, in ascending order.
@@ -26,6 +26,19 @@ pub struct Intervals<R> {
     last: Epoch,
     /// The membership of the current interval.
     current: Membership,
+}
+
+// Written out, so that a crate which lets one go has nothing to prove of what lies within.
+impl<R: Drop> Drop for Intervals<R> {
+    fn drop(self) {
+        let Intervals {
+            code: _,
+            past: _,
+            first: _,
+            last: _,
+            current: _,
+        } = self;
+    }
 }
 
 impl<R> Model for Intervals<R> {

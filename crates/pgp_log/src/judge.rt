@@ -22,11 +22,22 @@ pub const LONGEST_LOG: usize = 65535;
 
 /// What judging the next entry of a log takes: the map that the entries make, how many they are, and whether one of them
 /// closed the log. It keeps no entry.
-#[derive(Debug, Drop)]
+#[derive(Debug)]
 pub struct Judge {
     map: OsdMap,
     count: usize,
     closed: bool,
+}
+
+// Written out, so that a crate which lets one go has nothing to prove of what lies within.
+impl Drop for Judge {
+    fn drop(self) {
+        let Judge {
+            map: _,
+            count: _,
+            closed: _,
+        } = self;
+    }
 }
 
 impl Judge {

@@ -26,7 +26,7 @@ use std::sync::Arc;
 ///
 /// It has the map twice. Each incremental is applied to `after`, then shown to the group, which takes what the map before
 /// said of its primary, and then applied to `before`.
-#[derive(Debug, Drop)]
+#[derive(Debug)]
 pub struct Replay {
     alloc: Global,
     pg: PgId,
@@ -34,6 +34,19 @@ pub struct Replay {
     after: OsdMap,
     /// There from the incremental on that makes its pool.
     group: Option<Group>,
+}
+
+// Written out, so that a crate which lets one go has nothing to prove of what lies within.
+impl Drop for Replay {
+    fn drop(self) {
+        let Replay {
+            alloc: _,
+            pg: _,
+            before: _,
+            after: _,
+            group: _,
+        } = self;
+    }
 }
 
 /// All that these entries say of the group, where the map that they make has it. Without an incremental it takes no memory.

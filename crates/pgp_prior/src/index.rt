@@ -23,7 +23,7 @@ use std::collections::HashMap;
 /// its acting members and whether it blocks. The caller tells it which way the statuses of a device changed, by one of three
 /// calls, and so which of the device's intervals may have begun or ceased to block: the code is asked about these, once
 /// each, and about no other. None of the three takes memory.
-#[derive(Debug, Drop)]
+#[derive(Debug)]
 pub struct PriorIndex<R> {
     alloc: Global,
     code: R,
@@ -33,6 +33,20 @@ pub struct PriorIndex<R> {
     places: HashMap<OsdId, Seq<usize>>,
     current: Membership,
     les: Epoch,
+}
+
+// Written out, so that a crate which lets one go has nothing to prove of what lies within.
+impl<R: Drop> Drop for PriorIndex<R> {
+    fn drop(self) {
+        let PriorIndex {
+            alloc: _,
+            code: _,
+            past: _,
+            places: _,
+            current: _,
+            les: _,
+        } = self;
+    }
 }
 
 impl<R: Recoverable> PriorIndex<R> {

@@ -21,11 +21,21 @@ use std::alloc::{AllocError, Global};
 use std::sync::Arc;
 
 /// The map of the entries that were taken, which the judge of these has, and where it puts groups.
-#[derive(Drop)]
 pub struct Chart {
     alloc: Global,
     judge: Judge,
     sets: RawSets,
+}
+
+// Written out, so that a crate which lets one go has nothing to prove of what lies within.
+impl Drop for Chart {
+    fn drop(self) {
+        let Chart {
+            alloc: _,
+            judge: _,
+            sets: _,
+        } = self;
+    }
 }
 
 impl Chart {
