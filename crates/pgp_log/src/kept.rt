@@ -31,8 +31,8 @@ pub(crate) struct Kept {
     group: Group,
     /// Where the tree of the last map puts the group.
     raw: Osds,
-    /// What the entries said of the group when it was last worked out, but for count and epoch. Not there where something
-    /// touched the group since.
+    /// What the entries said of the group when it was last worked out, but for count and epoch. Not there before that, and
+    /// where something touched the group since.
     view: Option<View>,
 }
 
@@ -53,7 +53,7 @@ impl Kept {
         }
     }
 
-    /// The group has to be worked out anew, since something touched it.
+    /// The group has to be worked out: it never was, or something touched it since.
     pub(crate) fn is_marked(&self) -> bool
         ensures { result ≡ is_marked self.now }
     {

@@ -14,8 +14,8 @@ use pgp_ids::{Entry, PgId, View};
 use std::alloc::{AllocError, Global};
 use std::sync::Arc;
 
-/// What follows from the entries that a shard has read. It isn't there before the first question, and after it found no memory
-/// for an entry.
+/// What follows from the entries that a shard has read. The first question or the first `renew` makes it, and the next one makes
+/// it again after it found no memory for an entry; in between it isn't there.
 #[derive(Debug, Drop)]
 pub(crate) struct Part {
     alloc: Global,

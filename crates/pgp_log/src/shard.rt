@@ -114,9 +114,9 @@ impl ShardState {
         }
     }
 
-    /// Works out up to `max` of the shard's groups that something touched since they were last worked out, so that a question
-    /// for one of them finds it done. How many groups of the shard still have to be worked out anew. What the shard has read
-    /// stays.
+    /// Works out up to `max` of the shard's groups that never were worked out, or that something touched since, so that a
+    /// question for one of them finds it done. How many groups of the shard still have to be worked out. What the shard has
+    /// read stays.
     pub fn renew(&mut self, max: usize) -> Result<usize, AllocError>
         ensures wants { OnErr result (HasInc self.old.front) }
         ensures same { self.new ≡ self.old }

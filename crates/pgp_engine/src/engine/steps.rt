@@ -80,7 +80,8 @@ impl<J: Naming> Engine<J> {
     }
 
     /// Lets a shard read at most so many further entries of the log, and answers the receipt of what it has read then.
-    /// Without memory it may have read some of them.
+    /// Without memory it may have read some of them. Where there is nothing to read, the shard works out anew as many of its
+    /// groups.
     pub fn absorb_some<R: Wait>(
         &self,
         rt: &R,

@@ -11,7 +11,10 @@ use crate::shard::Shard;
 use pgp_feed::Receipt;
 use std::sync::{MutexGuard, Wait};
 
-/// How many entries a shard reads at most in one turn of a worker, so that whoever asks never waits for more.
+/// How many entries a shard reads at most in one turn of a worker, or how many of its groups it works out at most where there
+/// is nothing to read: so whoever asks waits for no more of them than these. It bounds no time, since an incremental goes over
+/// all groups of the shard. Where the shard doesn't keep its groups yet, working them out makes all of them first, from all
+/// that it has read.
 const ENTRIES_A_TURN: usize = 64;
 
 /// How far a shard has read.
