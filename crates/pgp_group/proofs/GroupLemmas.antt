@@ -1,5 +1,5 @@
 -- What a group keeps as its log grows.
-use Rattle.std.proofs.Common.{◌≡◌, ℕ, List, [], ◌∷◌, ◌++◌, Option, Some, None, true, false, ◌||◌, nat_eq, refl, ap, sym, ◌∙◌, subst}
+use Rattle.std.proofs.Common.{◌≡◌, ◌≢◌, ℕ, List, [], ◌∷◌, ◌++◌, Option, Some, None, true, false, ◌||◌, nat_eq, refl, ap, sym, ◌∙◌, subst}
 use Rattle.std.specs.List.{filter, list_any}
 use Rattle.std.specs.Option.{option_map, option_map_or}
 use Rattle.std.specs.Prelude.{Result, Ok, Err}
@@ -9,6 +9,7 @@ use Rattle.pgp_code.specs.Pool.{code_of}
 use Rattle.pgp_code.specs.declared.any.AnyCode.{AnyCode}
 use Rattle.pgp_ids.specs.declared.entry.Entry.{Entry}
 use Rattle.pgp_ids.specs.declared.entry.Entry.TheVariants as entry
+use Rattle.pgp_ids.specs.declared.history.PrimaryFacts.{PrimaryFacts}
 use Rattle.pgp_ids.specs.declared.incremental.Incremental.{Incremental}
 use Rattle.pgp_ids.specs.declared.membership.Membership.{Membership}
 use Rattle.pgp_ids.specs.declared.pg_id.PgId.{PgId}
@@ -18,6 +19,8 @@ use Rattle.pgp_ids.specs.declared.report.Info.{Info}
 use Rattle.pgp_ids.specs.declared.report.Report.{Report}
 use Rattle.pgp_interval.specs.History.{History, begun, stepped}
 use Rattle.pgp_interval.specs.IntervalsOf.{IsIntervalsOf}
+use Rattle.pgp_interval.specs.Runs.{current_ending}
+use Rattle.pgp_interval.proofs.StepLemmas.{past_intervals-continues, past_intervals-ends}
 pub use Rattle.pgp_lists.proofs.Results.{on_err}
 use Rattle.pgp_map.specs.Map.{epoch}
 use Rattle.pgp_map.specs.MapFault.{map_fault, then_with}
@@ -27,16 +30,18 @@ use Rattle.pgp_group.specs.Entries.{inc_of, info_of, report_of, incs_of, infos_o
 use Rattle.pgp_group.specs.GroupHistory.{AreNumbered, made_at, primary_facts, group_history}
 use Rattle.pgp_group.specs.GroupLog.{GroupLog, group_in, group_with, infos, reports}
 use Rattle.pgp_group.specs.GroupOf.{IsGroupOf, IsSilent}
-use Rattle.pgp_group.specs.Peering.{past}
-use Rattle.pgp_group.specs.Touched.{was_member, names}
+use Rattle.pgp_group.specs.Touched.{has_osd, names}
 use Rattle.pgp_group.specs.KeptInfos.{KeepsInfos, IsToldBy}
+use Rattle.pgp_group.specs.KeptNames.{KeepsNames}
 use Rattle.pgp_group.specs.KeptReports.{KeepsReports, IsReportedBy}
 use Rattle.pgp_group.specs.declared.group.Group.{Group}
 use Rattle.pgp_group.specs.declared.infos.Infos.{Infos}
+use Rattle.pgp_group.specs.declared.named.Named.{Named}
 use Rattle.pgp_group.specs.declared.reports.Reports.{Reports}
 use Rattle.pgp_group.proofs.GrowthLemmas.{history-begins, history-grows, next_epoch, numbered-more}
 use Rattle.pgp_group.proofs.InfosLemmas.{KeepsInfos-same, KeepsInfos-inc, moves}
 use Rattle.pgp_group.proofs.Lists.{nothing_new, one_new, kept_new, left_new}
+use Rattle.pgp_group.proofs.NamesLemmas.{KeepsNames-begun, KeepsNames-same, KeepsNames-ended}
 use Rattle.pgp_group.proofs.ReportsLemmas.{KeepsReports-same, KeepsReports-inc}
 
 -- ---- an entry that brings no map
@@ -46,8 +51,9 @@ pub IsGroupOf-other : (log : List Entry) (new : Entry) (pg : PgId) (old group : 
     → group.pg ≡ old.pg → group.intervals ≡ old.intervals
     → KeepsInfos (group_with (log ++ new ∷ []) pg is.history) group.infos
     → KeepsReports (group_with (log ++ new ∷ []) pg is.history) group.reports
+    → KeepsNames (group_with (log ++ new ∷ []) pg is.history) group.named
     → IsGroupOf (log ++ new ∷ []) pg group
-IsGroupOf-other log new pg old group is none pg_is intervals infos' reports' =
+IsGroupOf-other log new pg old group is none pg_is intervals infos' reports' named' =
     let incs : incs_of (log ++ new ∷ []) ≡ incs_of log = nothing_new inc_of log new none in
     record {
       history = is.history;
@@ -58,6 +64,7 @@ IsGroupOf-other log new pg old group is none pg_is intervals infos' reports' =
         intervals_are = subst (IsIntervalsOf enough_of is_by_place is.history) (sym intervals) is.keeps.intervals_are;
         infos_are = infos';
         reports_are = reports';
+        named_are = named';
       };
     }
 
@@ -102,6 +109,14 @@ pub reports-kept : (log : List Entry) (new : Entry) (pg : PgId) (h : History Any
 reports-kept log new pg h kept none told is =
     KeepsReports-same (group_with log pg h) (group_with (log ++ new ∷ []) pg h) kept told (nothing_new inc_of log new none) refl is
 
+-- the same of the devices of which it speaks
+pub names-kept : (log : List Entry) (new : Entry) (pg : PgId) (h : History AnyCode) (named : Named)
+    → filter (λ (info : Info). is_same_group info.pg pg) (infos_of (log ++ new ∷ [])) ≡ filter (λ (info : Info). is_same_group info.pg pg) (infos_of log)
+    → filter (λ (report : Report). is_same_group report.pg pg) (reports_of (log ++ new ∷ [])) ≡ filter (λ (report : Report). is_same_group report.pg pg) (reports_of log)
+    → KeepsNames (group_with log pg h) named → KeepsNames (group_with (log ++ new ∷ []) pg h) named
+names-kept log new pg h named told sent is =
+    KeepsNames-same (group_with log pg h) (group_with (log ++ new ∷ []) pg h) named named refl told sent refl is
+
 -- an info of the group
 pub infos-told : (log : List Entry) (info : Info) (pg : PgId) (h : History AnyCode) → is_same_group info.pg pg ≡ true
     → IsToldBy (group_with log pg h) info (group_with (log ++ entry.Info info ∷ []) pg h)
@@ -126,8 +141,9 @@ pub IsGroupOf-inc : (log : List Entry) (inc : Incremental) (pg : PgId) (old grou
     → membership (then_with (incs_of log) inc) pg ≡ Some members
     → group.pg ≡ old.pg → group.infos ≡ old.infos → group.reports ≡ old.reports
     → IsIntervalsOf enough_of is_by_place (stepped is.history members (primary_facts (incs_of log) is.history.current.acting_primary)) group.intervals
+    → KeepsNames (group_with (log ++ entry.Inc inc ∷ []) pg (stepped is.history members (primary_facts (incs_of log) is.history.current.acting_primary))) group.named
     → IsGroupOf (log ++ entry.Inc inc ∷ []) pg group
-IsGroupOf-inc log inc pg old group members is fine lies pg_is infos' reports' intervals =
+IsGroupOf-inc log inc pg old group members is fine lies pg_is infos' reports' intervals named' =
     let incs : incs_of (log ++ entry.Inc inc ∷ []) ≡ then_with (incs_of log) inc = one_new inc_of log (entry.Inc inc) inc refl in
     let after : History AnyCode = stepped is.history members (primary_facts (incs_of log) is.history.current.acting_primary) in
     record {
@@ -149,8 +165,25 @@ IsGroupOf-inc log inc pg old group members is fine lies pg_is infos' reports' in
             (reports-same log (entry.Inc inc) pg refl) incs (next_epoch (incs_of log) inc fine)
             (moves (incs_of log) pg is.history members (primary_facts (incs_of log) is.history.current.acting_primary) is.numbered is.history_is)
             is.keeps.reports_are);
+        named_are = named';
       };
     }
+
+-- the interval goes on
+pub names-stay : (log : List Entry) (inc : Incremental) (pg : PgId) (h : History AnyCode) (facts : PrimaryFacts) (named : Named)
+    → KeepsNames (group_with log pg h) named → KeepsNames (group_with (log ++ entry.Inc inc ∷ []) pg (stepped h h.current facts)) named
+names-stay log inc pg h facts named is =
+    KeepsNames-same (group_with log pg h) (group_with (log ++ entry.Inc inc ∷ []) pg (stepped h h.current facts)) named named
+    (past_intervals-continues enough_of is_by_place h facts) (infos-same log (entry.Inc inc) pg refl) (reports-same log (entry.Inc inc) pg refl) refl is
+
+-- the interval ends
+pub names-end : (log : List Entry) (inc : Incremental) (pg : PgId) (h : History AnyCode) (members : Membership) (facts : PrimaryFacts) (old mid new : Named) → members ≢ h.current
+    → ((osd : ℕ) → list_any (nat_eq osd) mid.osds.items ≡ (has_osd osd h.current.up || list_any (nat_eq osd) old.osds.items))
+    → ((osd : ℕ) → list_any (nat_eq osd) new.osds.items ≡ (has_osd osd h.current.acting || list_any (nat_eq osd) mid.osds.items))
+    → KeepsNames (group_with log pg h) old → KeepsNames (group_with (log ++ entry.Inc inc ∷ []) pg (stepped h members facts)) new
+names-end log inc pg h members facts old mid new differ up acting is =
+    KeepsNames-ended (group_with log pg h) (group_with (log ++ entry.Inc inc ∷ []) pg (stepped h members facts)) old mid new (current_ending enough_of is_by_place h facts)
+    (past_intervals-ends enough_of is_by_place h members facts differ) (infos-same log (entry.Inc inc) pg refl) (reports-same log (entry.Inc inc) pg refl) up acting is
 
 -- ---- the first epoch
 
@@ -165,9 +198,9 @@ begun_as incs pg kind members (Some made) is lies =
 pub IsGroupOf-begun : (log : List Entry) (pg : PgId) (kind : PoolKind) (members : Membership) (group : Group) → AreNumbered (incs_of log) → has_group (incs_of log) pg ≡ true → made_at (incs_of log) pg.pool ≡ epoch (incs_of log) → IsSilent log pg
     → option_map (λ made. made.kind) (pool (incs_of log) pg.pool) ≡ Some kind → membership (incs_of log) pg ≡ Some members
     → group.pg ≡ pg → ((g : GroupLog) → infos g ≡ [] → KeepsInfos g group.infos) → ((g : GroupLog) → reports g ≡ [] → KeepsReports g group.reports)
-    → IsIntervalsOf enough_of is_by_place (begun (code_of kind) (epoch (incs_of log)) members) group.intervals
+    → IsIntervalsOf enough_of is_by_place (begun (code_of kind) (epoch (incs_of log)) members) group.intervals → group.named.osds.items ≡ []
     → IsGroupOf log pg group
-IsGroupOf-begun log pg kind members group counts there now silent is lies pg_is none nothing intervals = record {
+IsGroupOf-begun log pg kind members group counts there now silent is lies pg_is none nothing intervals nobody = record {
   history = begun (code_of kind) (epoch (incs_of log)) members;
   history_is = history-begins (incs_of log) pg now there ∙ begun_as (incs_of log) pg kind members (pool (incs_of log) pg.pool) is lies;
   numbered = counts;
@@ -176,12 +209,13 @@ IsGroupOf-begun log pg kind members group counts there now silent is lies pg_is 
     intervals_are = intervals;
     infos_are = none (group_with log pg (begun (code_of kind) (epoch (incs_of log)) members)) silent.infos;
     reports_are = nothing (group_with log pg (begun (code_of kind) (epoch (incs_of log)) members)) silent.reports;
+    named_are = KeepsNames-begun (group_with log pg (begun (code_of kind) (epoch (incs_of log)) members)) group.named refl silent.infos silent.reports nobody;
   };
 }
 
 -- the group stands for the log, also where its parts are kept elsewhere
-pub IsGroupOf-same : (log : List Entry) (pg : PgId) (old group : Group) → IsGroupOf log pg old → group.pg ≡ old.pg → group.intervals ≡ old.intervals → ((g : GroupLog) → KeepsInfos g old.infos → KeepsInfos g group.infos) → ((g : GroupLog) → KeepsReports g old.reports → KeepsReports g group.reports) → IsGroupOf log pg group
-IsGroupOf-same log pg old group is pg_is intervals infos' reports' = record {
+pub IsGroupOf-same : (log : List Entry) (pg : PgId) (old group : Group) → IsGroupOf log pg old → group.pg ≡ old.pg → group.intervals ≡ old.intervals → ((g : GroupLog) → KeepsInfos g old.infos → KeepsInfos g group.infos) → ((g : GroupLog) → KeepsReports g old.reports → KeepsReports g group.reports) → group.named.osds.items ≡ old.named.osds.items → IsGroupOf log pg group
+IsGroupOf-same log pg old group is pg_is intervals infos' reports' named' = record {
   history = is.history;
   history_is = is.history_is;
   numbered = is.numbered;
@@ -190,6 +224,7 @@ IsGroupOf-same log pg old group is pg_is intervals infos' reports' = record {
     intervals_are = subst (IsIntervalsOf enough_of is_by_place is.history) (sym intervals) is.keeps.intervals_are;
     infos_are = infos' (group_with log pg is.history) is.keeps.infos_are;
     reports_are = reports' (group_with log pg is.history) is.keeps.reports_are;
+    named_are = KeepsNames-same (group_with log pg is.history) (group_with log pg is.history) old.named group.named refl refl refl named' is.keeps.named_are;
   };
 }
 
@@ -226,8 +261,3 @@ no_map {P = P} e inc is none = absurd (contradicts (ap inc_of (sym is) ∙ none)
 
 pub names-there : (osd : ℕ) (log : List Entry) (pg : PgId) (h : History AnyCode) → group_history (incs_of log) pg ≡ Some h → option_map_or (names osd) (group_in log pg) false ≡ names osd (group_with log pg h)
 names-there osd log pg h is = ap (λ (found : Option (History AnyCode)). option_map_or (names osd) (option_map (group_with log pg) found) false) is
-
--- those of no past interval
-pub names-by_reports : (osd : ℕ) (g : GroupLog) → list_any (was_member osd) (past g) ≡ false
-    → names osd g ≡ (list_any (λ info. nat_eq info.member.osd osd) (infos g) || list_any (λ report. nat_eq report.member.osd osd) (reports g))
-names-by_reports osd g stood = rw stood refl

@@ -17,3 +17,5 @@ pub mod InterleavingLemmas
 pub mod InfosLemmas
 pub mod LogsLemmas
 pub mod ReportsLemmas
+pub mod NamedLemmas
+pub mod NamesLemmas

@@ -1,13 +1,10 @@
 -- Lists that grow, ranges, and last elements that pass a test.
 use Rattle.std.proofs.Common.{◌≡◌, ℕ, zero, suc, ◌+◌, ◌<◌, List, [], ◌∷◌, ◌++◌, Option, Some, None, Bool, true, false, ◌&&◌, ◌||◌, length, map, refl, ap, ap₂, sym, ◌∙◌, inl, inr, arith, append-nil, append_assoc, get_or, take}
-use Rattle.std.specs.List.{All, Contains, cons_option, filter, filter_map, flat_map, last_or, list_any, range_with_len, slice_get, slice_index_or}
-use Rattle.std.proofs.Math.Bool.{or-true}
+use Rattle.std.specs.List.{All, Contains, cons_option, filter, filter_map, flat_map, last_or, list_any, range_with_len, slice_index_or}
 use Rattle.std.proofs.lemmas.Bool.{cases_Bool, or_parts, true≢false}
 use Rattle.std.proofs.lemmas.List.{take_more}
 use Rattle.std.proofs.lemmas.List.Elements.{filter-append, filter_map-append, All-head, All-tail}
-use Rattle.std.proofs.lemmas.List.Folds.{list_any-append, list_any_more}
-use Rattle.std.proofs.lemmas.Option.{get_or_from_slice_get, slice_get_within}
-use Rattle.pgp_lists.proofs.Lists.{any-front}
+use Rattle.std.proofs.lemmas.List.Folds.{list_any-append}
 use Rattle.pgp_lists.proofs.Members.{Contains-nil, Contains-here, Contains-later, Contains-first, Contains-cases}
 pub use Rattle.pgp_lists.proofs.Members.{filter-agree}
 use Rattle.pgp_map.specs.Last.{last_where}
@@ -137,17 +134,3 @@ pub filter-fails : {X : Type 0} (test : X → Bool) (xs : List X) (i : ℕ) (x :
 filter-fails {X = X} test xs i x within item fails =
     let new : filter test (x ∷ []) ≡ [] = rw fails refl in
     ap (filter test) (take-next xs i x within item) ∙ filter-append test (take i xs) (x ∷ []) ∙ ap (λ (l : List X). filter test (take i xs) ++ l) new ∙ append-nil (filter test (take i xs))
-
--- ---- one element after another
-
-pub any-at : {E : Type 0} (test : E → Bool) (xs : List E) (i : ℕ) (x : E) → slice_get xs i ≡ Some x → test x ≡ true → list_any test xs ≡ true
-any-at test xs i x at passes =
-    let more = list_any_more test xs i x (slice_get_within xs i x at) in
-    let here : test (get_or xs i x) ≡ true = ap test (get_or_from_slice_get xs i x x at) ∙ passes in
-    any-front test xs (i + 1) (more ∙ rw (here, or-true) refl)
-
-pub any-so_far : {E : Type 0} (test : E → Bool) (xs : List E) (i : ℕ) (x : E) → list_any test (take i xs) ≡ false → slice_get xs i ≡ Some x → test x ≡ false → list_any test (take (i + 1) xs) ≡ false
-any-so_far test xs i x none at fails =
-    let more = list_any_more test xs i x (slice_get_within xs i x at) in
-    let here : test (get_or xs i x) ≡ false = ap test (get_or_from_slice_get xs i x x at) ∙ fails in
-    more ∙ rw (none, here) refl

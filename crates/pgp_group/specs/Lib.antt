@@ -16,4 +16,5 @@ pub mod GroupOf
 pub mod Found
 pub mod Later
 pub mod Touched
+pub mod KeptNames
 pub mod Interleaving

@@ -42,6 +42,7 @@ use super::causes::Causes;
 use super::found::{Found, Needs};
 use super::heard::{is_waiting, leader};
 use super::infos::Infos;
+use super::named::Named;
 use super::peers::states;
 use super::reports::Reports;
 use super::standing::{is_short, needs_up_thru};
@@ -69,6 +70,8 @@ pub struct Group {
     infos: Infos,
     /// All reports of log entries of the group, counted or not, and the logs of its members.
     reports: Reports,
+    /// The devices that stand in up or acting of a past interval, or sent a report.
+    named: Named,
 }
 
 // Written out, so that a crate which lets one go has nothing to prove of what lies within.
@@ -80,6 +83,7 @@ impl Drop for Group {
             intervals: _,
             infos: _,
             reports: _,
+            named: _,
         } = self;
     }
 }
@@ -101,6 +105,7 @@ impl Group {
             intervals,
             infos: Infos::new(alloc),
             reports: Reports::new(alloc),
+            named: Named::new(alloc),
         }
     }
 
@@ -138,7 +143,9 @@ impl Group {
         ensures err { OnErr result ((log : List Told) (pg : Id) → IsGroupOf log pg self.old → IsGroupOf log pg self.new) }
     {
         if info.pg == self.pg {
+            self.named.make_room(1)?;
             self.infos.push(info, self.intervals.last())?;
+            self.named.add(info.member.osd);
         }
         Ok(())
     }
@@ -149,8 +156,10 @@ impl Group {
         ensures err { OnErr result ((log : List Told) (pg : Id) → IsGroupOf log pg self.old → IsGroupOf log pg self.new) }
     {
         if report.pg == self.pg {
+            self.named.make_room(1)?;
             self.reports
                 .push(self.alloc, report, self.intervals.last())?;
+            self.named.add(report.member.osd);
         }
         Ok(())
     }

@@ -58,13 +58,6 @@ impl Infos {
         Ok(())
     }
 
-    /// All infos, counted or not, in the order in which they came.
-    pub(crate) fn all(&self) -> &[Info]
-        ensures { result.now ≡ self.now.all.items }
-    {
-        self.all.as_slice()
-    }
-
     /// The last epoch in which the group is known to have begun to serve.
     pub(crate) fn les(&self) -> Epoch
         ensures { result ≡ self.now.les }

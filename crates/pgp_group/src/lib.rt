@@ -14,6 +14,7 @@ mod heard;
 mod infos;
 pub mod laws;
 mod logs;
+mod named;
 mod peers;
 mod reports;
 mod standing;

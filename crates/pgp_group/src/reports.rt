@@ -66,13 +66,6 @@ impl Reports {
         Ok(())
     }
 
-    /// All reports, counted or not, in the order in which they came.
-    pub(crate) fn all(&self) -> &[Report]
-        ensures { result.now ≡ self.now.all.items }
-    {
-        self.all.as_slice()
-    }
-
     /// The log of this member as of the last look, where it has reports that count.
     pub(crate) fn log_of(&self, member: Member) -> Option<&MemberLog>
         ensures { option_copied result ≡ option_map (λ log. log.log) (log_of member self.now.logs.of_members.items) }

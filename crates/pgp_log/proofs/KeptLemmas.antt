@@ -22,7 +22,7 @@ use Rattle.pgp_map.specs.Pools.{has_group, is_same_group, pool}
 use Rattle.pgp_map.specs.declared.map.OsdMap.{OsdMap}
 use Rattle.pgp_sets.proofs.RawSetLemmas.{raw_set-stays}
 use Rattle.pgp_sets.specs.Sets.{members_from_up, membership, moves, raw_set_of, without_down}
-use Rattle.pgp_group.proofs.GroupLemmas.{infos-kept, infos-other, infos-same, reports-kept, reports-other, reports-same, IsGroupOf-other}
+use Rattle.pgp_group.proofs.GroupLemmas.{infos-kept, infos-other, infos-same, names-kept, reports-kept, reports-other, reports-same, IsGroupOf-other}
 use Rattle.pgp_group.proofs.GrowthLemmas.{has_group-grows}
 use Rattle.pgp_group.proofs.SameViewLemmas.{view-same}
 use Rattle.pgp_group.proofs.UntouchedLemmas.{Stays, untouched-stays}
@@ -177,6 +177,7 @@ group-untold : (log : List Entry) (new : Entry) (pg : PgId) (group : Group) → 
 group-untold log new pg group none others is =
     IsGroupOf-other log new pg group group is none refl refl
     (infos-kept log new pg is.history group.infos none others.infos is.keeps.infos_are) (reports-kept log new pg is.history group.reports none others.reports is.keeps.reports_are)
+    (names-kept log new pg is.history group.named others.infos others.reports is.keeps.named_are)
 
 view-untold : (log : List Entry) (new : Entry) (pg : PgId) → inc_of new ≡ None → IsOfOthers log new pg → Stays log new pg
 view-untold log new pg none others =

@@ -5,6 +5,7 @@ ghost use Rattle.pgp_ids.specs.declared.entry.Entry.{Entry as Told};
 ghost use Rattle.pgp_ids.specs.declared.entry.Entry.TheVariants as entry;
 ghost use Rattle.pgp_ids.specs.declared.incremental.Incremental.{Incremental};
 ghost use Rattle.pgp_ids.specs.declared.pg_id.PgId.{PgId as Id};
+ghost use Rattle.pgp_interval.specs.SameMembers.{is_same};
 ghost use Rattle.pgp_map.specs.MapFault.{map_fault, then_with};
 ghost use Rattle.pgp_map.specs.MapOf.{IsMapOf};
 ghost use Rattle.pgp_sets.specs.Sets.{membership};
@@ -35,8 +36,17 @@ impl Group {
         ensures err { OnErr result ((log : List Told) (pg : Id) → IsGroupOf log pg self.old → IsGroupOf log pg self.new) }
     {
         let (_, current) = self.intervals.current();
+        if is_same(&members, &current) {
+            self.intervals.stay(after.epoch());
+            return Ok(());
+        }
         let facts = primary_facts(before, current.acting_primary);
-        self.intervals.step(after.epoch(), members, facts)
+        self.named
+            .make_room(current.up.len() + current.acting.len())?;
+        self.intervals.step(after.epoch(), members, facts)?;
+        self.named.add_places(&current.up);
+        self.named.add_places(&current.acting);
+        Ok(())
     }
 
     /// Takes the next map, which is of this epoch and by which the group lies as before: its current interval goes on. It
@@ -50,4 +60,11 @@ impl Group {
     {
         self.intervals.stay(epoch);
     }
+}
+
+/// Whether the group lies alike by both: then its interval goes on.
+fn is_same(a: &Membership, b: &Membership) -> bool
+    ensures { result ≡ is_same a.now b.now }
+{
+    a == b
 }

@@ -1,41 +1,55 @@
-use Rattle.std.proofs.Common.{◌≡◌, ◌++◌, [], ◌∷◌, List, Some, None, ap, refl, subst, ◌∙◌}
+use Rattle.std.proofs.Common.{◌≡◌, ◌≢◌, ◌||◌, [], ◌∷◌, Some, nat_eq, ap, refl, subst, sym, ◌∙◌}
+use Rattle.std.specs.List.{list_any}
+use Rattle.std.proofs.lemmas.Bool.{true≢false}
 use Rattle.pgp_code.specs.AnyCode.{enough_of, is_by_place}
-use Rattle.pgp_code.specs.declared.any.AnyCode.{AnyCode}
-use Rattle.pgp_ids.specs.declared.entry.Entry.{Entry}
-use Rattle.pgp_ids.specs.declared.entry.Entry.TheVariants as entry
-use Rattle.pgp_ids.specs.declared.incremental.Incremental.{Incremental}
 use Rattle.pgp_ids.specs.declared.history.PrimaryFacts.{PrimaryFacts}
 use Rattle.pgp_ids.specs.declared.membership.Membership.{Membership}
-use Rattle.pgp_ids.specs.declared.pg_id.PgId.{PgId}
-use Rattle.pgp_interval.specs.History.{History, stepped}
+use Rattle.pgp_interval.specs.History.{stepped}
 use Rattle.pgp_interval.specs.IntervalsOf.{IsIntervalsOf}
-use Rattle.pgp_map.specs.MapFault.{map_fault, then_with}
-use Rattle.pgp_map.specs.MapOf.{IsMapOf}
-use Rattle.pgp_sets.specs.Sets.{membership}
+use Rattle.pgp_interval.proofs.Same.{is_same-eq, eq-is_same}
 use Rattle.pgp_group.specs.Entries.{incs_of}
 use Rattle.pgp_group.specs.GroupHistory.{primary_facts}
-use Rattle.pgp_group.specs.GroupOf.{IsGroupOf}
+use Rattle.pgp_group.specs.Touched.{has_osd}
 use Rattle.pgp_group.specs.declared.group.Group.{Group}
-use Rattle.pgp_group.proofs.GroupLemmas.{on_err_from, StandsLike, on_ok, IsGroupOf-inc, IsGroupOf-same}
+use Rattle.pgp_group.proofs.GroupLemmas.{on_err, StandsLike, IsGroupOf-inc, IsGroupOf-same, names-end, names-stay}
 use Rattle.pgp_group.proofs.group.Group.absorb_members.Goals as goal
 
-pub returns-clause-ok : goal.returns-clause-ok
-returns-clause-ok c =
-    let group : Group = record { alloc = c.args.self.now.alloc; pg = c.args.self.now.pg; intervals = c.step.new.self; infos = c.args.self.now.infos; reports = c.args.self.now.reports } in
-    on_ok c.step.result
-    ((h : History AnyCode) → IsIntervalsOf enough_of is_by_place h c.args.self.now.intervals → IsIntervalsOf enough_of is_by_place (stepped h c.args.members c.primary_facts-facts.result) c.step.new.self)
-    ((log : List Entry) (pg : PgId) (inc : Incremental) → IsGroupOf log pg c.args.self.now → map_fault (incs_of log) inc ≡ None → IsMapOf (incs_of log) c.args.before.now → IsMapOf (then_with (incs_of log) inc) c.args.after.now → membership (then_with (incs_of log) inc) pg ≡ Some c.args.members → IsGroupOf (log ++ entry.Inc inc ∷ []) pg group)
-    (λ given log pg inc is fine before after lies.
-    let members = c.args.members in
-    let facts : c.primary_facts-facts.result ≡ primary_facts (incs_of log) is.history.current.acting_primary =
-    c.primary_facts-facts.ensures (incs_of log) before
-    ∙ ap (λ (m : Membership). primary_facts (incs_of log) m.acting_primary) (c.current-current.ensures.members is.history is.keeps.intervals_are) in
-    IsGroupOf-inc log inc pg c.args.self.now group members is fine lies refl refl refl
-    (subst (λ (f : PrimaryFacts). IsIntervalsOf enough_of is_by_place (stepped is.history members f) c.step.new.self) facts (given is.history is.keeps.intervals_are)))
-    c.step.ensures.ok
+pub returns-then-is_same-clause-ok : goal.returns-then-is_same-clause-ok
+returns-then-is_same-clause-ok c = λ log pg inc is fine before after lies.
+    let h = is.history in
+    let facts : PrimaryFacts = primary_facts (incs_of log) h.current.acting_primary in
+    let stays : c.args.members ≡ h.current =
+    is_same-eq c.args.members c.current-current.result.1 (sym c.is_same.ensures ∙ c.if-is_same.true) ∙ c.current-current.ensures.members h is.keeps.intervals_are in
+    IsGroupOf-inc log inc pg c.args.self.now _ h.current is fine (lies ∙ ap Some stays) refl refl refl
+    (c.stay.ensures h (facts ∷ []) is.keeps.intervals_are (c.epoch.ensures c.requires.incs c.requires.is ∙ c.requires.next))
+    (names-stay log inc pg h facts c.args.self.now.named is.keeps.named_are)
 
-pub returns-clause-err : goal.returns-clause-err
-returns-clause-err c =
-    let group : Group = record { alloc = c.args.self.now.alloc; pg = c.args.self.now.pg; intervals = c.step.new.self; infos = c.args.self.now.infos; reports = c.args.self.now.reports } in
-    on_err_from c.step.result (c.step.new.self ≡ c.args.self.now.intervals) (StandsLike c.args.self.now group)
-    (λ same log pg is. IsGroupOf-same log pg c.args.self.now group is refl same (λ g kept. kept) (λ g kept. kept)) c.step.ensures.err
+pub returns-clause-ok : goal.returns-clause-ok
+returns-clause-ok c = λ log pg inc is fine before after lies.
+    let h = is.history in
+    let members = c.args.members in
+    let current : c.current-current.result.1 ≡ h.current = c.current-current.ensures.members h is.keeps.intervals_are in
+    let differ : members ≢ h.current = λ same.
+    true≢false (sym (eq-is_same members c.current-current.result.1 (same ∙ sym current)) ∙ sym c.is_same.ensures ∙ c.if-is_same.false) in
+    let facts : c.primary_facts-facts.result ≡ primary_facts (incs_of log) h.current.acting_primary =
+    c.primary_facts-facts.ensures (incs_of log) before ∙ ap (λ (m : Membership). primary_facts (incs_of log) m.acting_primary) current in
+    IsGroupOf-inc log inc pg c.args.self.now _ members is fine lies refl refl refl
+    (subst (λ (f : PrimaryFacts). IsIntervalsOf enough_of is_by_place (stepped h members f) c.step.new.self) facts (c.in_ok-step.ensures.ok h is.keeps.intervals_are))
+    (names-end log inc pg h members (primary_facts (incs_of log) h.current.acting_primary) c.args.self.now.named c.add_places.new.self c.add_places-2.new.self differ
+    (λ osd. c.add_places.ensures.osds osd ∙ (λ i. has_osd osd (current i).up || list_any (nat_eq osd) (c.make_room.ensures.same i)))
+    (λ osd. c.add_places-2.ensures.osds osd ∙ (λ i. has_osd osd (current i).acting || list_any (nat_eq osd) c.add_places.new.self.osds.items))
+    is.keeps.named_are)
+
+pub returns-in_err-make_room-clause-err : goal.returns-in_err-make_room-clause-err
+returns-in_err-make_room-clause-err c =
+    let now = c.args.self.now in
+    let group : Group = record { alloc = now.alloc; pg = now.pg; intervals = now.intervals; infos = now.infos; reports = now.reports; named = c.make_room.new.self } in
+    on_err c.from_residual.result (StandsLike now group)
+    (λ log pg is. IsGroupOf-same log pg now group is refl refl (λ g kept. kept) (λ g kept. kept) c.make_room.ensures.same)
+
+pub returns-in_err-step-clause-err : goal.returns-in_err-step-clause-err
+returns-in_err-step-clause-err c =
+    let now = c.args.self.now in
+    let group : Group = record { alloc = now.alloc; pg = now.pg; intervals = c.step.new.self; infos = now.infos; reports = now.reports; named = c.make_room.new.self } in
+    on_err c.from_residual-in_err-step.result (StandsLike now group)
+    (λ log pg is. IsGroupOf-same log pg now group is refl c.in_err-step.ensures.err (λ g kept. kept) (λ g kept. kept) c.make_room.ensures.same)

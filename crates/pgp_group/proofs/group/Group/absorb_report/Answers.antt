@@ -2,7 +2,7 @@ use Rattle.std.proofs.Common.{◌++◌, [], ◌∷◌, refl, subst, sym}
 use Rattle.pgp_ids.specs.declared.entry.Entry.{Entry}
 use Rattle.pgp_ids.specs.declared.entry.Entry.TheVariants as entry
 use Rattle.pgp_group.specs.GroupOf.{IsGroupOf}
-use Rattle.pgp_group.proofs.GroupLemmas.{on_ok, StandsWith, TakesReport, IsGroupOf-other, infos-kept, infos-same, reports-kept, reports-same, no_map}
+use Rattle.pgp_group.proofs.GroupLemmas.{on_ok, StandsWith, TakesReport, IsGroupOf-other, infos-kept, infos-same, names-kept, reports-kept, reports-same, no_map}
 use Rattle.pgp_group.proofs.group.Group.absorb_report.Goals as goal
 
 pub returns-in-Info-clause-ok : goal.returns-in-Info-clause-ok
@@ -22,4 +22,5 @@ pub returns-in-Close-clause-ok : goal.returns-in-Close-clause-ok
 returns-in-Close-clause-ok c = λ log pg none is.
     subst (λ (e : Entry). IsGroupOf (log ++ e ∷ []) pg c.args.self.now) (sym c.in-Close.is)
     (IsGroupOf-other log entry.Close pg c.args.self.now _ is refl refl refl
-    (infos-kept log entry.Close pg is.history c.args.self.now.infos refl (infos-same log entry.Close pg refl) is.keeps.infos_are) (reports-kept log entry.Close pg is.history c.args.self.now.reports refl (reports-same log entry.Close pg refl) is.keeps.reports_are))
+    (infos-kept log entry.Close pg is.history c.args.self.now.infos refl (infos-same log entry.Close pg refl) is.keeps.infos_are) (reports-kept log entry.Close pg is.history c.args.self.now.reports refl (reports-same log entry.Close pg refl) is.keeps.reports_are)
+    (names-kept log entry.Close pg is.history c.args.self.now.named (infos-same log entry.Close pg refl) (reports-same log entry.Close pg refl) is.keeps.named_are))

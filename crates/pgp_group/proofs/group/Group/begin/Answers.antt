@@ -13,4 +13,4 @@ returns c = λ log counts is there now silent.
     let members = c.lies_at-members.result in
     IsGroupOf-begun log c.args.pg kind members _ counts there now silent
     (c.kind_of-kind.ensures (incs_of log) is) (c.lies_at-members.ensures (incs_of log) is) refl c.new.ensures c.new-2.ensures
-    (subst (λ (e : ℕ). IsIntervalsOf enough_of is_by_place (begun (code_of kind) e members) c.opening-intervals.result) (c.epoch.ensures (incs_of log) is) c.opening-intervals.ensures)
+    (subst (λ (e : ℕ). IsIntervalsOf enough_of is_by_place (begun (code_of kind) e members) c.opening-intervals.result) (c.epoch.ensures (incs_of log) is) c.opening-intervals.ensures) c.new-3.ensures

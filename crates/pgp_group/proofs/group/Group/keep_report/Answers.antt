@@ -1,19 +1,30 @@
-use Rattle.std.proofs.Common.{◌≡◌, ◌++◌, [], ◌∷◌, true, false, arith, refl, subst, sym, ◌∙◌}
+use Rattle.std.proofs.Common.{◌≡◌, ◌++◌, [], ◌∷◌, true, false, ap, arith, refl, subst, sym, ◌∙◌}
 use Rattle.pgp_ids.specs.declared.entry.Entry.TheVariants as entry
 use Rattle.pgp_ids.specs.declared.pg_id.PgId.{PgId}
+use Rattle.pgp_lists.specs.Ordered.{with_item}
 use Rattle.pgp_map.specs.Pools.{is_same_group}
 use Rattle.pgp_group.specs.Entries.{incs_of}
 use Rattle.pgp_group.specs.GroupLog.{group_with}
 use Rattle.pgp_group.specs.declared.group.Group.{Group}
-use Rattle.pgp_group.proofs.GroupLemmas.{on_err, StandsLike, IsGroupOf-other, IsGroupOf-same, infos-kept, infos-same, reports-kept, reports-other, reports-told}
+use Rattle.pgp_group.proofs.GroupLemmas.{on_err, StandsLike, IsGroupOf-other, IsGroupOf-same, infos-kept, infos-same, names-kept, reports-kept, reports-new, reports-other, reports-told}
 use Rattle.pgp_group.proofs.GrowthLemmas.{history-last}
+use Rattle.pgp_group.proofs.NamedLemmas.{before}
+use Rattle.pgp_group.proofs.NamesLemmas.{KeepsNames-report}
 use Rattle.pgp_group.proofs.group.Group.keep_report.Goals as goal
+
+pub returns-in_err-make_room-clause-err : goal.returns-in_err-make_room-clause-err
+returns-in_err-make_room-clause-err c =
+    let now = c.args.self.now in
+    let group : Group = record { alloc = now.alloc; pg = now.pg; intervals = now.intervals; infos = now.infos; reports = now.reports; named = c.make_room.new.self } in
+    on_err c.from_residual.result (StandsLike now group)
+    (λ log pg is. IsGroupOf-same log pg now group is refl refl (λ g kept. kept) (λ g kept. kept) c.make_room.ensures.same)
 
 pub returns-in_err-push-clause-err : goal.returns-in_err-push-clause-err
 returns-in_err-push-clause-err c =
-    let group : Group = record { alloc = c.args.self.now.alloc; pg = c.args.self.now.pg; intervals = c.args.self.now.intervals; infos = c.args.self.now.infos; reports = c.push.new.self } in
-    on_err c.from_residual.result (StandsLike c.args.self.now group)
-    (λ log pg is. IsGroupOf-same log pg c.args.self.now group is refl refl (λ g kept. kept) c.in_err-push.ensures.err)
+    let now = c.args.self.now in
+    let group : Group = record { alloc = now.alloc; pg = now.pg; intervals = now.intervals; infos = now.infos; reports = c.push.new.self; named = c.make_room.new.self } in
+    on_err c.from_residual-in_err-push.result (StandsLike now group)
+    (λ log pg is. IsGroupOf-same log pg now group is refl refl (λ g kept. kept) c.in_err-push.ensures.err c.make_room.ensures.same)
 
 pub returns-in_ok-push-clause-ok : goal.returns-in_ok-push-clause-ok
 returns-in_ok-push-clause-ok c = λ log pg is.
@@ -24,6 +35,8 @@ returns-in_ok-push-clause-ok c = λ log pg is.
     (c.in_ok-push.ensures.ok (group_with log pg is.history) (group_with (log ++ entry.Entries report ∷ []) pg is.history)
     (omega (arith, c.last.ensures, is.keeps.intervals_are.last_is, history-last (incs_of log) pg is.history is.numbered is.history_is))
     (reports-told log report pg is.history same) is.keeps.reports_are)
+    (KeepsNames-report (group_with log pg is.history) (group_with (log ++ entry.Entries report ∷ []) pg is.history) c.args.self.now.named c.add.new.self report refl
+    (infos-same log (entry.Entries report) pg refl) (reports-new log report pg same) (c.add.ensures.osds ∙ ap (with_item before report.member.osd) c.make_room.ensures.same) is.keeps.named_are)
 
 pub returns-else-eq-clause-ok : goal.returns-else-eq-clause-ok
 returns-else-eq-clause-ok c = λ log pg is.
@@ -32,3 +45,4 @@ returns-else-eq-clause-ok c = λ log pg is.
     IsGroupOf-other log (entry.Entries report) pg c.args.self.now _ is refl refl refl
     (infos-kept log (entry.Entries report) pg is.history c.args.self.now.infos refl (infos-same log (entry.Entries report) pg refl) is.keeps.infos_are)
     (reports-kept log (entry.Entries report) pg is.history c.args.self.now.reports refl (reports-other log report pg differ) is.keeps.reports_are)
+    (names-kept log (entry.Entries report) pg is.history c.args.self.now.named (infos-same log (entry.Entries report) pg refl) (reports-other log report pg differ) is.keeps.named_are)
