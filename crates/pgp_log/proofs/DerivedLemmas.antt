@@ -1,51 +1,66 @@
 -- What a shard keeps beside its entries, as the log grows.
-use Rattle.std.proofs.Common.{◌≡◌, List, [], ◌∷◌, ◌++◌, Option, Some, None, is_some, Result, Ok, Err, is_err, OnOk, true, false, IfSome, refl, sym, ◌∙◌, subst}
+use Rattle.std.proofs.Common.{◌≡◌, ℕ, List, [], ◌∷◌, ◌++◌, Option, Some, None, is_some, Result, Ok, Err, is_err, OnOk, Bool, true, false, ◌||◌, IfSome, ◌+◌, ◌<◌, length, take, get_or, nat_eq, nat_lt, inl, inr, arith, refl, sym, ap, ap₂, ◌∙◌, subst}
+use Rattle.std.specs.List.{list_any}
+use Rattle.std.specs.Option.{option_map_or}
+use Rattle.std.proofs.lemmas.Bool.{cases_Bool, cases_lt, eqb-true, true≢false}
+use Rattle.std.proofs.lemmas.List.Folds.{list_any_more}
 use Rattle.pgp_ids.specs.declared.entry.Entry.{Entry}
 use Rattle.pgp_ids.specs.declared.entry.Entry.TheVariants as entry
 use Rattle.pgp_ids.specs.declared.incremental.Incremental.{Incremental}
 use Rattle.pgp_ids.specs.declared.pg_id.PgId.{PgId}
+use Rattle.pgp_ids.specs.declared.pool.PoolSpec.{PoolSpec}
 use Rattle.pgp_map.proofs.CheckedLemmas.{checked-has_group}
 use Rattle.pgp_map.specs.Held.{HasGroup}
 use Rattle.pgp_map.specs.MapFault.{then_with}
 use Rattle.pgp_map.specs.MapOf.{IsMapOf}
-use Rattle.pgp_map.specs.Pools.{has_group}
+use Rattle.pgp_map.specs.Pools.{has_group, pool}
 use Rattle.pgp_map.specs.declared.map.OsdMap.{OsdMap}
 use Rattle.pgp_group.proofs.ViewLemmas.{scratch_there}
 use Rattle.pgp_group.specs.Entries.{inc_of, incs_of}
+use Rattle.pgp_group.specs.GroupHistory.{makes}
 use Rattle.pgp_group.specs.View.{scratch}
-use Rattle.pgp_log.specs.Derived.{CanAbsorb, IsDerivedOf, IsShardOf, IsStepping}
+use Rattle.pgp_log.specs.Derived.{CanAbsorb, HasIfOwn, HasOwn, HasStill, IsDerivedOf, IsFor, IsShardOf, IsStepping}
 use Rattle.pgp_log.specs.Fits.{fits}
-use Rattle.pgp_log.specs.Kept.{AreGroupsOf, IsStep}
+use Rattle.pgp_log.specs.Kept.{AreGroupsOf, IsStep, ids_of, is_among, keeps}
 use Rattle.pgp_log.specs.Log.{is_legal}
+use Rattle.pgp_log.specs.Shard.{is_own}
 use Rattle.pgp_log.specs.declared.derived.Derived.{Derived}
 use Rattle.pgp_log.specs.declared.groups.Groups.{Groups}
 use Rattle.pgp_log.proofs.KeptLemmas.{grown, step-checked}
 use Rattle.pgp_log.proofs.LogLemmas.{legal-snoc}
+use Rattle.pgp_log.proofs.ReplayLemmas.{comes-with_pool}
 use Rattle.pgp_log.proofs.TakeLemmas.{incs-other}
 
 -- one of the maps has taken an incremental
 pub step-begins : (log : List Entry) (inc : Incremental) (old : Derived) (after : OsdMap) → IsDerivedOf log old → fits log (entry.Inc inc) ≡ None → IsMapOf (then_with (incs_of log) inc) after → IsStep log inc old.before after
 step-begins log inc old after is fit made = record { legal = is.legal; fits = fit; before_is = is.before_is; after_is = made }
 
--- the other has taken it too
-pub step-ends : (log : List Entry) (inc : Incremental) (moved : Derived) (before : OsdMap) → IsStepping log inc moved → IsMapOf (then_with (incs_of log) inc) before
+-- and so have the groups
+pub groups-step : (log : List Entry) (inc : Incremental) (old : Derived) (after : OsdMap) (groups : Groups) → IsDerivedOf log old → IsStep log inc old.before after → AreGroupsOf (log ++ entry.Inc inc ∷ []) groups
+    → ids_of groups.kept.items ≡ ids_of old.groups.kept.items → IsStepping log inc (record old { after = after; groups = groups })
+groups-step log inc old after groups is step are ids = record { step = step; groups_are = are; own_are = λ pg own there. ap (is_among pg) ids ∙ is.own_are pg own there }
+
+-- the other map has taken it too
+pub step-ends : (log : List Entry) (inc : Incremental) (moved : Derived) (before : OsdMap) → IsStepping log inc moved → HasOwn (then_with (incs_of log) inc) moved → IsMapOf (then_with (incs_of log) inc) before
     → IsDerivedOf (log ++ entry.Inc inc ∷ []) (record moved { before = before })
-step-ends log inc moved before is made = record {
+step-ends log inc moved before is own made = record {
   legal = legal-snoc log (entry.Inc inc) is.step.legal is.step.fits;
   before_is = subst (λ (l : List Incremental). IsMapOf l before) (sym (grown log inc)) made;
   after_is = subst (λ (l : List Incremental). IsMapOf l moved.after) (sym (grown log inc)) is.step.after_is;
   groups_are = is.groups_are;
+  own_are = λ pg mine there. own pg mine (ap (λ (l : List Incremental). has_group l pg) (sym (grown log inc)) ∙ there);
 }
 
 -- the groups have taken an entry that brings no map
 pub told-on : (log : List Entry) (new : Entry) (old : Derived) (groups : Groups) → inc_of new ≡ None → fits log new ≡ None → IsDerivedOf log old → AreGroupsOf (log ++ new ∷ []) groups
-    → IsDerivedOf (log ++ new ∷ []) (record old { groups = groups })
-told-on log new old groups none fit is are =
+    → ids_of groups.kept.items ≡ ids_of old.groups.kept.items → IsDerivedOf (log ++ new ∷ []) (record old { groups = groups })
+told-on log new old groups none fit is are ids =
     let same : incs_of (log ++ new ∷ []) ≡ incs_of log = incs-other log new none in record {
       legal = legal-snoc log new is.legal fit;
       before_is = subst (λ (l : List Incremental). IsMapOf l old.before) (sym same) is.before_is;
       after_is = subst (λ (l : List Incremental). IsMapOf l old.after) (sym same) is.after_is;
       groups_are = are;
+      own_are = λ pg own there. ap (is_among pg) ids ∙ is.own_are pg own (ap (λ (l : List Incremental). has_group l pg) (sym same) ∙ there);
     }
 
 -- the next map has a group that its list has
@@ -54,8 +69,9 @@ next-has_group log inc derived pg is there =
     checked-has_group (then_with (incs_of log) inc) derived.after pg is.step.after_is (step-checked log inc derived.before derived.after is.step) there
 
 -- the groups have answered
-pub asked-on : (log : List Entry) (old : Derived) (groups : Groups) → IsDerivedOf log old → AreGroupsOf log groups → IsDerivedOf log (record old { groups = groups })
-asked-on log old groups is are = record { legal = is.legal; before_is = is.before_is; after_is = is.after_is; groups_are = are }
+pub asked-on : (log : List Entry) (old : Derived) (groups : Groups) → IsDerivedOf log old → AreGroupsOf log groups → ids_of groups.kept.items ≡ ids_of old.groups.kept.items → IsDerivedOf log (record old { groups = groups })
+asked-on log old groups is are ids =
+    record { legal = is.legal; before_is = is.before_is; after_is = is.after_is; groups_are = are; own_are = λ pg own there. ap (is_among pg) ids ∙ is.own_are pg own there }
 
 -- a group that the last map doesn't have has no view
 pub no-view : (log : List Entry) (pg : PgId) → has_group (incs_of log) pg ≡ false → None ≡ scratch log pg
@@ -63,6 +79,68 @@ no-view log pg absent = none-there (scratch log pg) (scratch_there log pg ∙ ab
   none-there : {X : Type 0} (found : Option X) → is_some found ≡ false → None ≡ found
   none-there None none = refl
   none-there (Some x) none = cc
+
+-- ---- the shard's groups
+
+-- a group that was kept is kept still
+pub has-still : (incs : List Incremental) (before after : Derived) (pg : PgId) → HasStill before after → HasIfOwn incs before pg → HasIfOwn incs after pg
+has-still incs before after pg still has = λ own there.
+    still.groups_are pg (has (ap₂ (λ (shard shards : ℕ). is_own shard shards pg) (sym still.is_for.shard_is) (sym still.is_for.shards_are) ∙ own) there)
+
+pub still-on : (first before after : Derived) → HasStill first before → HasStill before after → HasStill first after
+still-on first before after one two = record {
+  is_for = record { shard_is = two.is_for.shard_is ∙ one.is_for.shard_is; shards_are = two.is_for.shards_are ∙ one.is_for.shards_are };
+  groups_are = λ pg was. two.groups_are pg (one.groups_are pg was);
+}
+
+-- those of the map before are there, so are those of the pools that the incremental makes
+pub own-next : (log : List Entry) (inc : Incremental) (moved : Derived) → IsStepping log inc moved → ((pg : PgId) → makes pg.pool inc ≡ true → HasIfOwn (then_with (incs_of log) inc) moved pg)
+    → HasOwn (then_with (incs_of log) inc) moved
+own-next log inc moved is made = λ pg own there. elim (cases_Bool (has_group (incs_of log) pg)) [
+  | inl was ↦ is.own_are pg own was
+  | inr new ↦ made pg (comes-with_pool (incs_of log) inc pg new there) own there
+]
+
+-- ---- the groups of a pool
+
+-- a group that the map has is one of those that its pool has
+pub of-pool : (incs : List Incremental) (id : ℕ) (pg : PgId) (found : Option PoolSpec) → found ≡ pool incs id → nat_eq id pg.pool ≡ true → has_group incs pg ≡ true → option_map_or (λ made. nat_lt pg.pg made.pg_num) found false ≡ true
+of-pool incs id pg found is same there =
+    ap (λ (o : Option PoolSpec). option_map_or (λ made. nat_lt pg.pg made.pg_num) o false) (is ∙ ap (pool incs) (eqb-true id pg.pool same)) ∙ there
+
+-- one of its groups more is there
+pub pool-more : (incs : List Incremental) (before after : Derived) (id number : ℕ) → HasStill before after → ((pg : PgId) → nat_eq id pg.pool ≡ true → pg.pg < number → HasIfOwn incs before pg)
+    → HasIfOwn incs after (record { pool = id; pg = number }) → (pg : PgId) → nat_eq id pg.pool ≡ true → pg.pg < number + 1 → HasIfOwn incs after pg
+pool-more incs before after id number still has next pg same below = elim (cases_lt pg.pg number) [
+  | inl earlier ↦ has-still incs before after pg still (has pg same earlier)
+  | inr past ↦
+      let here : number ≡ pg.pg = omega arith in
+      let is : pg_at id number ≡ pg = λ i. record { pool = eqb-true id pg.pool same i; pg = here i } in
+      subst (HasIfOwn incs after) is next
+]
+  where
+    pg_at : ℕ → ℕ → PgId
+    pg_at in_pool at = record { pool = in_pool; pg = at }
+
+-- and so are those of one pool more that the incremental makes
+pub pools-more : (incs : List Incremental) (inc : Incremental) (before after : Derived) (i : ℕ) (new : PoolSpec) → HasStill before after → i < length inc.pools → new ≡ get_or inc.pools i new
+    → ((pg : PgId) → list_any (λ made. nat_eq made.id pg.pool) (take i inc.pools) ≡ true → HasIfOwn incs before pg) → ((pg : PgId) → nat_eq new.id pg.pool ≡ true → HasIfOwn incs after pg)
+    → (pg : PgId) → list_any (λ made. nat_eq made.id pg.pool) (take (i + 1) inc.pools) ≡ true → HasIfOwn incs after pg
+pools-more incs inc before after i new still within item has next pg made = elim (cases_Bool (list_any (λ (p : PoolSpec). nat_eq p.id pg.pool) (take i inc.pools))) [
+  | inl earlier ↦ has-still incs before after pg still (has pg earlier)
+  | inr none ↦
+      let test : PoolSpec → Bool = λ p. nat_eq p.id pg.pool in
+      let here : nat_eq new.id pg.pool ≡ true =
+      ap test item ∙ ap (λ b. b || test (get_or inc.pools i new)) (sym none) ∙ sym (list_any_more test inc.pools i new within) ∙ made in
+      next pg here
+]
+
+-- a group of the shard that isn't kept isn't in the map, and has no view
+pub no-own-view : (log : List Entry) (derived : Derived) (pg : PgId) → IsDerivedOf log derived → is_own derived.shard derived.shards pg ≡ true → false ≡ keeps pg derived.groups → None ≡ scratch log pg
+no-own-view log derived pg is own gone = no-view log pg (absent (has_group (incs_of log) pg) refl) where
+  absent : (there : Bool) → has_group (incs_of log) pg ≡ there → has_group (incs_of log) pg ≡ false
+  absent true there = absurd (true≢false (sym (is.own_are pg own there) ∙ sym gone))
+  absent false there = there
 
 -- what holds of something if it is there
 pub some-holds : {X : Type 0} (found : Option X) (P : X → Type 0) (x : X) → found ≡ Some x → IfSome found P → P x
@@ -80,5 +158,6 @@ pub can-follow : (log : List Entry) (new : Entry) (derived : Option Derived) →
 can-follow log new None fit is = tt
 can-follow log new (Some part) fit is = record { log = log; is = is; fits = fit }
 
-pub shard-more : (log : List Entry) (new : Entry) (derived : Option Derived) → is_legal log ≡ true → fits log new ≡ None → IfSome derived (IsDerivedOf (log ++ new ∷ [])) → IsShardOf (log ++ new ∷ []) derived
-shard-more log new derived legal fit is = record { legal = legal-snoc log new legal fit; derived_is = is }
+pub shard-more : (log : List Entry) (new : Entry) (shard shards : ℕ) (derived : Option Derived) → is_legal log ≡ true → fits log new ≡ None → IfSome derived (IsDerivedOf (log ++ new ∷ [])) → IfSome derived (IsFor shard shards)
+    → IsShardOf (log ++ new ∷ []) shard shards derived
+shard-more log new shard shards derived legal fit is own = record { legal = legal-snoc log new legal fit; derived_is = is; is_for = own }

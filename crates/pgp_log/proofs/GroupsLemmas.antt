@@ -1,19 +1,22 @@
 -- Lists of groups of which one changes, or with one more, and the table of their places.
-use Rattle.std.proofs.Common.{◌≡◌, ℕ, zero, suc, ◌<◌, List, [], ◌∷◌, ◌++◌, inl, inr, Bool, true, false, cond, Option, Some, None, is_some, length, set, refl, sym, ap, ◌∙◌, subst, arith, length-append, eq-eqb}
+use Rattle.std.proofs.Common.{◌≡◌, ℕ, zero, suc, ◌<◌, List, [], ◌∷◌, ◌++◌, inl, inr, Bool, true, false, ◌||◌, cond, Option, Some, None, is_some, length, set, refl, sym, ap, ◌∙◌, subst, arith, length-append, eq-eqb}
 use Rattle.std.specs.HashMap as hash
+use Rattle.std.specs.List.{list_any}
 use Rattle.std.specs.Option.{option_map}
 use Rattle.std.specs.Prelude.{slice_get}
 use Rattle.std.proofs.Math.Seq.{map-set_same}
 use Rattle.std.proofs.lemmas.Bool.{cases_Bool, cases_eq, cases_lt, true≢false}
+use Rattle.std.proofs.Math.Bool.{or-true}
 use Rattle.std.proofs.lemmas.List.{length-map, map-append}
+use Rattle.std.proofs.lemmas.List.Folds.{list_any-append}
 use Rattle.std.proofs.lemmas.Option.{get_or_from_slice_get, slice_get-map, slice_get_within}
-use Rattle.pgp_lists.proofs.Lists.{get-append, get-last}
+use Rattle.pgp_lists.proofs.Lists.{get-append, get-last, none-at}
 use Rattle.pgp_ids.specs.declared.entry.Entry.{Entry}
 use Rattle.pgp_ids.specs.declared.pg_id.PgId.{PgId}
 use Rattle.pgp_map.specs.Pools.{is_same_group}
 use Rattle.pgp_group.specs.Entries.{inc_of}
 use Rattle.pgp_group.specs.Touched.{is_touched}
-use Rattle.pgp_log.specs.Kept.{AreAtPlaces, AreGroupsOf, AreKeptOf, IsKeptOf, ids_of}
+use Rattle.pgp_log.specs.Kept.{AreAtPlaces, AreGroupsOf, AreKeptOf, IsKeptOf, ids_of, is_among, keeps}
 use Rattle.pgp_log.specs.declared.groups.Groups.{Groups}
 use Rattle.pgp_log.specs.declared.kept.Kept.{Kept}
 use Rattle.pgp_log.specs.Log.{HasInc}
@@ -93,17 +96,17 @@ other-group groups pg place j kept are is at other = elim (cases_Bool (is_same_g
 ]
 
 -- a group that isn't in the table isn't in the list
-pub missing-group : (groups : Groups) (pg : PgId) (j : ℕ) (kept : Kept) → AreAtPlaces groups → hash.get is_same_group groups.places pg ≡ None → slice_get groups.kept.items j ≡ Some kept → is_same_group pg kept.pg ≡ false
-missing-group groups pg j kept are none at = elim (cases_Bool (is_same_group pg kept.pg)) [
-  | inl same ↦
-      let e : pg ≡ kept.pg = same_group pg kept.pg same in
-      let found : hash.get is_same_group groups.places pg ≡ Some j = are.found pg j (id-at groups.kept.items j kept at ∙ ap Some (sym e)) in
-      absurd (none_some (sym none ∙ found))
+missing-id : (groups : Groups) (pg other : PgId) (j : ℕ) → AreAtPlaces groups → hash.get is_same_group groups.places pg ≡ None → slice_get (ids_of groups.kept.items) j ≡ Some other → is_same_group pg other ≡ false
+missing-id groups pg other j are none at = elim (cases_Bool (is_same_group pg other)) [
+  | inl same ↦ absurd (none_some (sym none ∙ are.found pg j (at ∙ ap Some (sym (same_group pg other same)))))
   | inr differs ↦ differs
 ]
   where
     none_some : {X : Type 0} {x : X} → None ≡ Some x → ⊥
     none_some same = cc
+
+pub missing-group : (groups : Groups) (pg : PgId) (j : ℕ) (kept : Kept) → AreAtPlaces groups → hash.get is_same_group groups.places pg ≡ None → slice_get groups.kept.items j ≡ Some kept → is_same_group pg kept.pg ≡ false
+missing-group groups pg j kept are none at = missing-id groups pg kept.pg j are none (id-at groups.kept.items j kept at)
 
 -- the group at this place has taken it
 pub groups-told : (log : List Entry) (new : Entry) (old groups : Groups) (pg : PgId) (place : ℕ) (kept after : Kept) → inc_of new ≡ None
@@ -203,6 +206,35 @@ groups-more later old groups kept absent step items is are =
             ∙ found-push (ids_of old.kept.items) kept.pg places absent are.places_are.found q place (ap (λ (l : List PgId). slice_get l place) (sym ids) ∙ at);
       };
     }
+
+-- ---- which groups are kept
+
+none-of : {X : Type 0} (test : X → Bool) (xs : List X) → ((j : ℕ) (x : X) → slice_get xs j ≡ Some x → test x ≡ false) → list_any test xs ≡ false
+none-of test [] each = refl
+none-of test (x ∷ xs) each = rw (each 0 x refl) (none-of test xs (λ j y at. each (suc j) y at))
+
+-- those that the table has, and no other
+pub keeps-found : (groups : Groups) (pg : PgId) → AreAtPlaces groups → is_some (hash.get is_same_group groups.places pg) ≡ keeps pg groups
+keeps-found groups pg are = at (hash.get is_same_group groups.places pg) refl where
+  at : (found : Option ℕ) → hash.get is_same_group groups.places pg ≡ found → is_some found ≡ keeps pg groups
+  at None none = sym (none-of (is_same_group pg) (ids_of groups.kept.items) (λ j other there. missing-id groups pg other j are none there))
+  at (Some place) is = elim (cases_Bool (keeps pg groups)) [
+    | inl kept ↦ sym kept
+    | inr none ↦ absurd (true≢false (sym (same-self pg) ∙ none-at (is_same_group pg) (ids_of groups.kept.items) place pg none (are.there pg place is)))
+  ]
+
+-- those that were kept before one came
+pub keeps-push : (xs : List Kept) (kept : Kept) (pg : PgId) → is_among pg (ids_of xs) ≡ true → is_among pg (ids_of (xs ++ kept ∷ [])) ≡ true
+keeps-push xs kept pg was =
+    ap (is_among pg) (ids-push xs kept) ∙ list_any-append (is_same_group pg) (ids_of xs) (kept.pg ∷ [])
+    ∙ ap (λ b. b || (is_same_group pg kept.pg || false)) was
+
+-- and that one
+pub keeps-last : (xs : List Kept) (kept : Kept) → is_among kept.pg (ids_of (xs ++ kept ∷ [])) ≡ true
+keeps-last xs kept =
+    ap (is_among kept.pg) (ids-push xs kept) ∙ list_any-append (is_same_group kept.pg) (ids_of xs) (kept.pg ∷ [])
+    ∙ ap (λ b. list_any (is_same_group kept.pg) (ids_of xs) || (b || false)) (same-self kept.pg)
+    ∙ or-true (list_any (is_same_group kept.pg) (ids_of xs))
 
 -- a group is there by an incremental
 pub groups-inc : (log : List Entry) (groups : Groups) (pg : PgId) → is_some (hash.get is_same_group groups.places pg) ≡ true → AreGroupsOf log groups → HasInc log

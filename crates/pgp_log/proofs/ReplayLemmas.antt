@@ -59,7 +59,7 @@ has_group-same incs inc pg unmade =
     ∙ groups-sized pg (sizes (then_with incs inc)) (sizes incs) (last_where (λ made. nat_eq made.id pg.pool) (flat_map (λ i. i.pools) incs))
 
 -- the incremental with which a group comes makes its pool
-comes-with_pool : (incs : List Incremental) (inc : Incremental) (pg : PgId) → has_group incs pg ≡ false → has_group (then_with incs inc) pg ≡ true → makes pg.pool inc ≡ true
+pub comes-with_pool : (incs : List Incremental) (inc : Incremental) (pg : PgId) → has_group incs pg ≡ false → has_group (then_with incs inc) pg ≡ true → makes pg.pool inc ≡ true
 comes-with_pool incs inc pg absent there = elim (cases_Bool (makes pg.pool inc)) [
   | inl makes' ↦ makes'
   | inr unmade ↦ absurd (true≢false (sym there ∙ has_group-same incs inc pg unmade ∙ absent))

@@ -1,26 +1,50 @@
 -- What a shard keeps beside the entries that it has read: the map that they make, twice, and groups.
-use Rattle.std.specs.Prelude.{◌≡◌, ◌++◌, List, [], ◌∷◌, Option, None, IfSome, true}
+use Rattle.std.specs.Prelude.{◌≡◌, ℕ, ◌++◌, List, [], ◌∷◌, Option, None, IfSome, true}
 use Rattle.pgp_ids.specs.declared.entry.Entry.{Entry}
 use Rattle.pgp_ids.specs.declared.entry.Entry.TheVariants as entry
 use Rattle.pgp_ids.specs.declared.incremental.Incremental.{Incremental}
+use Rattle.pgp_ids.specs.declared.pg_id.PgId.{PgId}
 use Rattle.pgp_map.specs.MapOf.{IsMapOf}
+use Rattle.pgp_map.specs.Pools.{has_group}
 use Rattle.pgp_group.specs.Entries.{incs_of}
 use Rattle.pgp_log.specs.Fits.{fits}
-use Rattle.pgp_log.specs.Kept.{AreGroupsOf, IsStep}
+use Rattle.pgp_log.specs.Kept.{AreGroupsOf, IsStep, KeepsAll, keeps}
 use Rattle.pgp_log.specs.Log.{is_legal}
+use Rattle.pgp_log.specs.Shard.{is_own}
 use Rattle.pgp_log.specs.declared.derived.Derived.{Derived}
 
--- the two maps are that of the legal log, and the groups are its groups
+-- it is what this shard keeps, of so many
+pub record IsFor (shard shards : ℕ) (derived : Derived) : Type 0 where
+  pub shard_is : derived.shard ≡ shard
+  pub shards_are : derived.shards ≡ shards
+
+-- the group is kept, where it is one of the shard's and the map has it
+abbrev pub HasIfOwn : List Incremental → Derived → PgId → Type 0
+HasIfOwn incs derived pg =
+    is_own derived.shard derived.shards pg ≡ true → has_group incs pg ≡ true → keeps pg derived.groups ≡ true
+
+-- each group of the shard that the map has is kept
+abbrev pub HasOwn : List Incremental → Derived → Type 0
+HasOwn incs derived = (pg : PgId) → HasIfOwn incs derived pg
+
+-- it is the same shard's, and each group that was kept is kept still
+pub record HasStill (before after : Derived) : Type 0 where
+  pub is_for : IsFor before.shard before.shards after
+  pub groups_are : KeepsAll before.groups after.groups
+
+-- the two maps are that of the legal log, and the groups are its groups, with each of the shard's that the map has
 pub record IsDerivedOf (log : List Entry) (derived : Derived) : Type 0 where
   pub legal : is_legal log ≡ true
   pub before_is : IsMapOf (incs_of log) derived.before
   pub after_is : IsMapOf (incs_of log) derived.after
   pub groups_are : AreGroupsOf log derived.groups
+  pub own_are : HasOwn (incs_of log) derived
 
--- one of the maps has an incremental that comes next in the log
+-- one of the maps has an incremental that comes next in the log; the shard's groups of the map before are there
 pub record IsStepping (log : List Entry) (inc : Incremental) (derived : Derived) : Type 0 where
   pub step : IsStep log inc derived.before derived.after
   pub groups_are : AreGroupsOf (log ++ entry.Inc inc ∷ []) derived.groups
+  pub own_are : HasOwn (incs_of log) derived
 
 -- it does in some log
 pub record CanStepOn (derived : Derived) (inc : Incremental) : Type 0 where
@@ -33,7 +57,8 @@ pub record CanAbsorb (derived : Derived) (new : Entry) : Type 0 where
   pub is : IsDerivedOf log derived
   pub fits : fits log new ≡ None
 
--- the log is legal, and what is kept of it, if it is there, is right
-pub record IsShardOf (log : List Entry) (derived : Option Derived) : Type 0 where
+-- the log is legal, and what this shard, of so many, keeps of it, if it is there, is right
+pub record IsShardOf (log : List Entry) (shard shards : ℕ) (derived : Option Derived) : Type 0 where
   pub legal : is_legal log ≡ true
   pub derived_is : IfSome derived (IsDerivedOf log)
+  pub is_for : IfSome derived (IsFor shard shards)

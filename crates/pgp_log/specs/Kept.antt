@@ -86,6 +86,14 @@ marks_of groups = marks_in groups.kept.items
 abbrev pub is_among : PgId → List PgId → Bool
 is_among pg ids = list_any (is_same_group pg) ids
 
+-- the group is one of those that are kept
+abbrev pub keeps : PgId → Groups → Bool
+keeps pg groups = is_among pg (ids_of groups.kept.items)
+
+-- each group that was kept is kept still
+abbrev pub KeepsAll : Groups → Groups → Type 0
+KeepsAll before after = (pg : PgId) → keeps pg before ≡ true → keeps pg after ≡ true
+
 -- these groups without this one
 abbrev pub without : PgId → List PgId → List PgId
 without pg ids = filter (λ other. not (is_same_group pg other)) ids

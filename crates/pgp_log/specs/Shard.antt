@@ -1,5 +1,5 @@
 -- A shard: the front of the log that it has read, and for which groups it answers (this project's own choice).
-use Rattle.std.specs.Prelude.{◌≡◌, ℕ, ◌+◌, ◌%◌, ◌<◌, List, [], ◌∷◌, ◌++◌, length, take}
+use Rattle.std.specs.Prelude.{◌≡◌, ℕ, ◌+◌, ◌%◌, ◌<◌, List, [], ◌∷◌, ◌++◌, length, take, Bool, ◌&&◌, nat_eq, nat_lt}
 use Rattle.pgp_ids.specs.declared.entry.Entry.{Entry}
 use Rattle.pgp_ids.specs.declared.pg_id.PgId.{PgId}
 
@@ -30,3 +30,7 @@ pub record HasReadSome (s : Shard) (news : List Entry) (after : Shard) : Type 0 
 -- the number of the shard that answers for a group
 abbrev pub shard_of : ℕ → PgId → ℕ
 shard_of shards pg = (pg.pool + pg.pg) % shards
+
+-- the group is one of this shard's, of so many
+abbrev pub is_own : ℕ → ℕ → PgId → Bool
+is_own shard shards pg = nat_lt 0 shards && nat_eq (shard_of shards pg) shard

@@ -7,13 +7,16 @@ ghost use Rattle.pgp_ids.specs.declared.entry.Entry.{Entry as AnyEntry};
 ghost use Rattle.pgp_ids.specs.declared.entry.Entry.TheVariants as entry;
 ghost use Rattle.pgp_ids.specs.declared.incremental.Incremental.{Incremental as AnyIncremental};
 ghost use Rattle.pgp_ids.specs.declared.pg_id.PgId.{PgId as Id};
+ghost use Rattle.pgp_map.specs.MapFault.{then_with};
 ghost use Rattle.pgp_map.specs.MapOf.{IsMapOf};
 ghost use Rattle.pgp_map.specs.Pools.{has_group};
+ghost use Rattle.pgp_group.specs.Entries.{incs_of};
 ghost use Rattle.pgp_group.specs.View.{scratch};
-ghost use Rattle.pgp_log.specs.Derived.{IsDerivedOf, IsStepping, CanStepOn, CanAbsorb};
+ghost use Rattle.pgp_log.specs.Derived.{IsDerivedOf, IsStepping, CanStepOn, CanAbsorb, IsFor, HasIfOwn, HasOwn, HasStill};
 ghost use Rattle.pgp_log.specs.Fits.{fits};
 ghost use Rattle.pgp_log.specs.Kept.{is_among, marks_of, without, MarksTouched};
 ghost use Rattle.pgp_log.specs.Log.{HasInc, is_legal};
+ghost use Rattle.pgp_log.specs.Shard.{is_own};
 
 use super::groups::Groups;
 use super::replay::{has_group, view_of};
@@ -47,6 +50,7 @@ impl Derived {
     ) -> Result<Self, AllocError>
         requires { is_legal (map arc_value entries.now) ≡ true }
         ensures is { IfOk result (IsDerivedOf (map arc_value entries.now)) }
+        ensures own { IfOk result (IsFor shard shards) }
         ensures wants { OnErr result (HasInc (map arc_value entries.now)) }
     {
         let mut derived = Derived::start(alloc, shard, shards);
@@ -58,7 +62,8 @@ impl Derived {
 
     /// What it keeps before any entry. It takes no memory.
     fn start(alloc: Global, shard: usize, shards: usize) -> Self
-        ensures { IsDerivedOf [] result }
+        ensures is { IsDerivedOf [] result }
+        ensures own { IsFor shard shards result }
     {
         Derived {
             alloc,
@@ -77,6 +82,7 @@ impl Derived {
             → IsDerivedOf (log ++ entry.now ∷ []) self.new) }
         ensures marks { OnOk result ((log : List AnyEntry) → IsDerivedOf log self.old → fits log entry.now ≡ None
             → MarksTouched log entry.now self.old.groups self.new.groups) }
+        ensures own { OnOk result (IsFor self.old.shard self.old.shards self.new) }
         ensures wants { OnErr result ((log : List AnyEntry) → IsDerivedOf log self.old → HasInc (log ++ entry.now ∷ [])) }
     {
         match entry {
@@ -93,6 +99,7 @@ impl Derived {
             → IsDerivedOf (log ++ entry.Inc inc.now ∷ []) self.new) }
         ensures marks { OnOk result ((log : List AnyEntry) → IsDerivedOf log self.old → fits log (entry.Inc inc.now) ≡ None
             → MarksTouched log (entry.Inc inc.now) self.old.groups self.new.groups) }
+        ensures own { OnOk result (IsFor self.old.shard self.old.shards self.new) }
     {
         self.after.apply(inc)?;
         self.groups.absorb_inc(&self.before, &self.after, inc)?;
@@ -104,6 +111,9 @@ impl Derived {
     fn add_pools(&mut self, inc: &Incremental) -> Result<(), AllocError>
         requires { CanStepOn self.old inc.now }
         ensures ok { OnOk result ((log : List AnyEntry) → IsStepping log inc.now self.old → IsStepping log inc.now self.new) }
+        ensures own { OnOk result ((log : List AnyEntry) → IsStepping log inc.now self.old
+            → HasOwn (then_with (incs_of log) inc.now) self.new) }
+        ensures still { OnOk result (HasStill self.old self.new) }
         ensures marks { OnOk result ((other : Id) → list_any (λ made. nat_eq made.id other.pool) inc.now.pools ≡ false
             → is_among other (marks_of self.new.groups) ≡ is_among other (marks_of self.old.groups)) }
     {
@@ -117,6 +127,9 @@ impl Derived {
     fn add_pool(&mut self, id: PoolId, inc: &Incremental) -> Result<(), AllocError>
         requires { CanStepOn self.old inc.now }
         ensures ok { OnOk result ((log : List AnyEntry) → IsStepping log inc.now self.old → IsStepping log inc.now self.new) }
+        ensures own { OnOk result ((log : List AnyEntry) → IsStepping log inc.now self.old
+            → (pg : Id) → nat_eq id pg.pool ≡ true → HasIfOwn (then_with (incs_of log) inc.now) self.new pg) }
+        ensures still { OnOk result (HasStill self.old self.new) }
         ensures marks { OnOk result ((other : Id) → nat_eq id other.pool ≡ false
             → is_among other (marks_of self.new.groups) ≡ is_among other (marks_of self.old.groups)) }
     {
@@ -137,6 +150,9 @@ impl Derived {
     fn add(&mut self, pg: PgId, inc: &Incremental) -> Result<(), AllocError>
         requires { CanStepOn self.old inc.now }
         ensures ok { OnOk result ((log : List AnyEntry) → IsStepping log inc.now self.old → IsStepping log inc.now self.new) }
+        ensures own { OnOk result ((log : List AnyEntry) → IsStepping log inc.now self.old
+            → HasIfOwn (then_with (incs_of log) inc.now) self.new pg) }
+        ensures still { OnOk result (HasStill self.old self.new) }
         ensures marks { OnOk result ((other : Id) → nat_eq pg.pool other.pool ≡ false
             → is_among other (marks_of self.new.groups) ≡ is_among other (marks_of self.old.groups)) }
     {
@@ -147,12 +163,14 @@ impl Derived {
     }
 
     /// Whether the group is one of the shard's.
-    fn is_own(&self, pg: &PgId) -> bool {
+    fn is_own(&self, pg: &PgId) -> bool
+        ensures { result ≡ is_own self.now.shard self.now.shards pg.now }
+    {
         self.shards > 0 && shard_of(self.shards, pg) == self.shard
     }
 
-    /// All that these entries say of the group, where the map that they make has it. After an error it stands for the same
-    /// entries.
+    /// All that these entries say of the group, where the map that they make has it. Each of the shard's groups is kept, so that
+    /// only one of another shard is looked for in the entries. After an error it stands for the same entries.
     pub(crate) fn ask(
         &mut self,
         entries: &[Arc<Entry>],
@@ -161,11 +179,13 @@ impl Derived {
         requires { IsDerivedOf (map arc_value entries.now) self.old }
         ensures view { IfOk result (λ view. view ≡ scratch (map arc_value entries.now) pg.now) }
         ensures is { IsDerivedOf (map arc_value entries.now) self.new }
+        ensures own { IsFor self.old.shard self.old.shards self.new }
         ensures marks { OnOk result (marks_of self.new.groups ≡ without pg.now (marks_of self.old.groups)) }
         ensures wants { OnErr result (HasInc (map arc_value entries.now)) }
     {
         match self.groups.ask(self.alloc, &self.after, entries.len(), pg)? {
             Some(view) => Ok(Some(view)),
+            None if self.is_own(pg) => Ok(None),
             None => self.view_elsewhere(entries, pg),
         }
     }
@@ -174,6 +194,7 @@ impl Derived {
     /// After an error it stands for the same entries.
     pub(crate) fn renew(&mut self, max: usize, count: usize) -> Result<usize, AllocError>
         ensures is { (log : List AnyEntry) → IsDerivedOf log self.old → length log ≡ count → IsDerivedOf log self.new }
+        ensures own { IsFor self.old.shard self.old.shards self.new }
         ensures marks { OnOk result (marks_of self.new.groups ≡ drop max (marks_of self.old.groups)) }
         ensures left { IfOk result (λ left. left ≡ length (marks_of self.new.groups)) }
         ensures wants { OnErr result ((log : List AnyEntry) → IsDerivedOf log self.old → HasInc log) }

@@ -1,6 +1,6 @@
 //! The groups of a shard.
 
-ghost use Rattle.std.specs.Prelude.{◌≡◌, ◌++◌, [], ◌∷◌, List, Some, None, true, false, length, drop, IfOk, IfSome, OnOk, OnErr};
+ghost use Rattle.std.specs.Prelude.{◌≡◌, ◌++◌, [], ◌∷◌, List, Some, None, true, false, length, drop, is_some, IfOk, IfSome, OnOk, OnErr};
 ghost use Rattle.std.specs.HashMap as hash;
 ghost use Rattle.pgp_ids.specs.declared.entry.Entry.{Entry as AnyEntry};
 ghost use Rattle.pgp_ids.specs.declared.entry.Entry.TheVariants as entry;
@@ -14,7 +14,7 @@ ghost use Rattle.pgp_map.specs.declared.map.OsdMap.{OsdMap as AnyMap};
 ghost use Rattle.pgp_group.specs.Entries.{inc_of, incs_of};
 ghost use Rattle.pgp_group.specs.Touched.{is_touched};
 ghost use Rattle.pgp_group.specs.View.{scratch};
-ghost use Rattle.pgp_log.specs.Kept.{AreKeptOf, AreAtPlaces, AreGroupsOf, IsStep, CanStepAll, ids_of, marks_in, marks_of, is_among, without, MarksTouched};
+ghost use Rattle.pgp_log.specs.Kept.{AreKeptOf, AreAtPlaces, AreGroupsOf, IsStep, CanStepAll, ids_of, marks_in, marks_of, is_among, without, keeps, KeepsAll, MarksTouched};
 ghost use Rattle.pgp_log.specs.Log.{HasInc};
 
 use super::kept::Kept;
@@ -55,6 +55,8 @@ impl Groups {
         ensures ok { OnOk result ((log : List AnyEntry) (inc : AnyIncremental) (before : AnyMap) → IsStep log inc before after.now
             → has_group (incs_of log) pg ≡ false → has_group (then_with (incs_of log) inc) pg ≡ true
             → AreGroupsOf (log ++ entry.Inc inc ∷ []) self.old → AreGroupsOf (log ++ entry.Inc inc ∷ []) self.new) }
+        ensures there { OnOk result (AreAtPlaces self.old → keeps pg self.new ≡ true) }
+        ensures still { OnOk result (KeepsAll self.old self.new) }
         ensures marks { OnOk result ((other : Id) → is_same_group other pg ≡ false
             → is_among other (marks_of self.new) ≡ is_among other (marks_of self.old)) }
     {
@@ -79,6 +81,7 @@ impl Groups {
             → AreGroupsOf (log ++ entry.Inc inc.now ∷ []) self.new) }
         ensures marks { OnOk result ((log : List AnyEntry) → AreGroupsOf log self.old → IsStep log inc.now before.now after.now
             → MarksTouched log (entry.Inc inc.now) self.old self.new) }
+        ensures ids { ids_of self.new.kept.items ≡ ids_of self.old.kept.items }
     {
         absorb_inc(self.kept.as_mut_slice(), before, after, inc)
     }
@@ -91,6 +94,7 @@ impl Groups {
             → AreGroupsOf log self.old → AreGroupsOf (log ++ entry.now ∷ []) self.new) }
         ensures marks { OnOk result ((other : Id) → is_same_group pg.now other ≡ false
             → is_among other (marks_of self.new) ≡ is_among other (marks_of self.old)) }
+        ensures ids { ids_of self.new.kept.items ≡ ids_of self.old.kept.items }
         ensures wants { OnErr result ((log : List AnyEntry) → AreGroupsOf log self.old → HasInc log) }
     {
         match self.find(pg) {
@@ -116,6 +120,8 @@ impl Groups {
             → IsMapOf (incs_of log) map.now → length log ≡ count → scratch log pg.now ≡ Some told)) }
         ensures are { (log : List AnyEntry) → AreGroupsOf log self.old → IsMapOf (incs_of log) map.now → length log ≡ count
             → AreGroupsOf log self.new }
+        ensures there { IfOk result (λ view. is_some view ≡ keeps pg.now self.old) }
+        ensures ids { ids_of self.new.kept.items ≡ ids_of self.old.kept.items }
         ensures marks { OnOk result (marks_of self.new ≡ without pg.now (marks_of self.old)) }
         ensures wants { OnErr result ((log : List AnyEntry) → AreGroupsOf log self.old → HasInc log) }
     {
@@ -138,6 +144,7 @@ impl Groups {
     ) -> Result<usize, AllocError>
         ensures are { (log : List AnyEntry) → AreGroupsOf log self.old → IsMapOf (incs_of log) map.now → length log ≡ count
             → AreGroupsOf log self.new }
+        ensures ids { ids_of self.new.kept.items ≡ ids_of self.old.kept.items }
         ensures marks { OnOk result (marks_of self.new ≡ drop max (marks_of self.old)) }
         ensures left { IfOk result (λ left. left ≡ length (marks_of self.new)) }
         ensures wants { OnErr result ((log : List AnyEntry) → AreGroupsOf log self.old → HasInc log) }

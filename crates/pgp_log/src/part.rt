@@ -4,7 +4,7 @@ ghost use Rattle.std.specs.Prelude.{◌≡◌, ◌++◌, [], ◌∷◌, List, No
 ghost use Rattle.std.specs.Arc.{arc_value};
 ghost use Rattle.pgp_ids.specs.declared.entry.Entry.{Entry as AnyEntry};
 ghost use Rattle.pgp_group.specs.View.{scratch};
-ghost use Rattle.pgp_log.specs.Derived.{CanAbsorb, IsDerivedOf, IsShardOf};
+ghost use Rattle.pgp_log.specs.Derived.{CanAbsorb, IsDerivedOf, IsFor, IsShardOf};
 ghost use Rattle.pgp_log.specs.Fits.{fits};
 ghost use Rattle.pgp_log.specs.Kept.{marks_of, without, MarksTouched};
 ghost use Rattle.pgp_log.specs.Log.{HasInc};
@@ -46,6 +46,8 @@ impl Part {
             → IfSome self.new.derived (IsDerivedOf (log ++ entry.now ∷ []))) }
         ensures marks { OnOk result ((log : List AnyEntry) → fits log entry.now ≡ None → IfSome self.old.derived (IsDerivedOf log)
             → IfSome self.old.derived (λ was. IfSome self.new.derived (λ is. MarksTouched log entry.now was.groups is.groups))) }
+        ensures own { OnOk result (IfSome self.old.derived (IsFor self.old.shard self.old.shards)
+            → IfSome self.new.derived (IsFor self.new.shard self.new.shards)) }
         ensures keeps { OnOk result (is_some self.new.derived ≡ is_some self.old.derived) }
         ensures gives_up { OnErr result (self.new.derived ≡ None) }
         ensures shard { self.new.shard ≡ self.old.shard }
@@ -66,9 +68,9 @@ impl Part {
         entries: &[Arc<Entry>],
         pg: &PgId,
     ) -> Result<Option<View>, AllocError>
-        requires { IsShardOf (map arc_value entries.now) self.old.derived }
+        requires { IsShardOf (map arc_value entries.now) self.old.shard self.old.shards self.old.derived }
         ensures view { IfOk result (λ view. view ≡ scratch (map arc_value entries.now) pg.now) }
-        ensures is { IsShardOf (map arc_value entries.now) self.new.derived }
+        ensures is { IsShardOf (map arc_value entries.now) self.new.shard self.new.shards self.new.derived }
         ensures there { OnOk result (is_some self.new.derived ≡ true) }
         ensures marks { OnOk result (IfSome self.old.derived (λ was. IfSome self.new.derived (λ is.
             marks_of is.groups ≡ without pg.now (marks_of was.groups)))) }
@@ -85,8 +87,8 @@ impl Part {
     /// Works out up to `max` of the groups that are marked. How many are marked still. It is there afterwards, but where there
     /// was no memory to make it.
     pub(crate) fn renew(&mut self, entries: &[Arc<Entry>], max: usize) -> Result<usize, AllocError>
-        requires { IsShardOf (map arc_value entries.now) self.old.derived }
-        ensures is { IsShardOf (map arc_value entries.now) self.new.derived }
+        requires { IsShardOf (map arc_value entries.now) self.old.shard self.old.shards self.old.derived }
+        ensures is { IsShardOf (map arc_value entries.now) self.new.shard self.new.shards self.new.derived }
         ensures there { OnOk result (is_some self.new.derived ≡ true) }
         ensures marks { OnOk result (IfSome self.old.derived (λ was. IfSome self.new.derived (λ is.
             marks_of is.groups ≡ drop max (marks_of was.groups)))) }
@@ -103,8 +105,9 @@ impl Part {
 
     /// Takes it out of here, or makes it of these entries where it isn't there.
     fn take(&mut self, entries: &[Arc<Entry>]) -> Result<Derived, AllocError>
-        requires { IsShardOf (map arc_value entries.now) self.old.derived }
+        requires { IsShardOf (map arc_value entries.now) self.old.shard self.old.shards self.old.derived }
         ensures is { IfOk result (IsDerivedOf (map arc_value entries.now)) }
+        ensures own { IfOk result (IsFor self.old.shard self.old.shards) }
         ensures same { IfOk result (λ derived. IfSome self.old.derived (λ was. derived ≡ was)) }
         ensures taken { self.new ≡ record self.old { derived = None } }
         ensures wants { OnErr result (HasInc (map arc_value entries.now)) }

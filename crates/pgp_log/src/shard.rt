@@ -42,7 +42,7 @@ impl Model for ShardState {
 
     ghost view = { λ s. record { front = map arc_value s.front.items; shard = s.part.shard; shards = s.part.shards } };
 
-    ghost invariant = { λ s. IsShardOf (map arc_value s.front.items) s.part.derived };
+    ghost invariant = { λ s. IsShardOf (map arc_value s.front.items) s.part.shard s.part.shards s.part.derived };
 }
 
 impl ShardState {

@@ -1,4 +1,4 @@
-use Rattle.std.proofs.Common.{◌≡◌, List, [], ◌∷◌, ◌++◌, None, false, ap, sym, ◌∙◌}
+use Rattle.std.proofs.Common.{◌≡◌, List, [], ◌∷◌, ◌++◌, None, false, refl, ap, sym, ◌∙◌}
 use Rattle.std.proofs.lemmas.Result.{on_err_weaker, on_ok_weaker}
 use Rattle.pgp_ids.specs.declared.entry.Entry.{Entry}
 use Rattle.pgp_ids.specs.declared.pg_id.PgId.{PgId}
@@ -13,6 +13,7 @@ use Rattle.pgp_log.specs.declared.derived.Derived.{Derived}
 use Rattle.pgp_log.specs.declared.groups.Groups.{Groups}
 use Rattle.pgp_log.proofs.DerivedLemmas.{told-on}
 use Rattle.pgp_log.proofs.GroupsLemmas.{groups-untold}
+use Rattle.pgp_log.proofs.MarksLemmas.{ok-anyhow}
 use Rattle.pgp_log.proofs.ReplayLemmas.{inc-after, inc-front}
 use Rattle.pgp_log.proofs.SharedLemmas.{on_err}
 use Rattle.pgp_log.proofs.derived.Derived.absorb.Goals as goal
@@ -31,7 +32,7 @@ returns-in-Info-clause-ok c =
     ((log : List Entry) → inc_of new ≡ None → ((other : PgId) → is_same_group pg other ≡ false → is_touched log new other ≡ false) → AreGroupsOf log old.groups → AreGroupsOf (log ++ new ∷ []) groups)
     ((log : List Entry) → IsDerivedOf log old → fits log new ≡ None → IsDerivedOf (log ++ new ∷ []) (record old { groups = groups }))
     (λ given log is fit. told-on log new old groups none fit is
-    (given log none (λ other differs. ap (λ (e : Entry). is_touched log e other) c.in-Info.is ∙ differs) is.groups_are))
+    (given log none (λ other differs. ap (λ (e : Entry). is_touched log e other) c.in-Info.is ∙ differs) is.groups_are) c.absorb_report.ensures.ids)
     c.absorb_report.ensures.ok
 
 pub returns-in-Info-clause-wants : goal.returns-in-Info-clause-wants
@@ -51,7 +52,7 @@ returns-in-Entries-clause-ok c =
     ((log : List Entry) → inc_of new ≡ None → ((other : PgId) → is_same_group pg other ≡ false → is_touched log new other ≡ false) → AreGroupsOf log old.groups → AreGroupsOf (log ++ new ∷ []) groups)
     ((log : List Entry) → IsDerivedOf log old → fits log new ≡ None → IsDerivedOf (log ++ new ∷ []) (record old { groups = groups }))
     (λ given log is fit. told-on log new old groups none fit is
-    (given log none (λ other differs. ap (λ (e : Entry). is_touched log e other) c.in-Entries.is ∙ differs) is.groups_are))
+    (given log none (λ other differs. ap (λ (e : Entry). is_touched log e other) c.in-Entries.is ∙ differs) is.groups_are) c.absorb_report-in-Entries.ensures.ids)
     c.absorb_report-in-Entries.ensures.ok
 
 pub returns-in-Entries-clause-wants : goal.returns-in-Entries-clause-wants
@@ -65,7 +66,7 @@ returns-in-Close-clause-ok c = λ log is fit.
     let new = c.args.entry.now in
     let none : inc_of new ≡ None = ap inc_of c.in-Close.is in
     told-on log new c.args.self.now c.args.self.now.groups none fit is
-    (groups-untold log new c.args.self.now.groups none (λ place kept at. ap (λ (e : Entry). is_touched log e kept.pg) c.in-Close.is) is.groups_are)
+    (groups-untold log new c.args.self.now.groups none (λ place kept at. ap (λ (e : Entry). is_touched log e kept.pg) c.in-Close.is) is.groups_are) refl
 
 pub returns-in-Info-clause-marks : goal.returns-in-Info-clause-marks
 returns-in-Info-clause-marks c =
@@ -78,3 +79,9 @@ returns-in-Entries-clause-marks c =
     on_ok_weaker c.absorb_report-in-Entries.result
     (λ given log is fit other untouched. given other (ap (λ (e : Entry). is_touched log e other) (sym c.in-Entries.is) ∙ untouched))
     c.absorb_report-in-Entries.ensures.marks
+
+pub returns-in-Info-clause-own : goal.returns-in-Info-clause-own
+returns-in-Info-clause-own c = ok-anyhow c.absorb_report.result _ (record { shard_is = refl; shards_are = refl })
+
+pub returns-in-Entries-clause-own : goal.returns-in-Entries-clause-own
+returns-in-Entries-clause-own c = ok-anyhow c.absorb_report-in-Entries.result _ (record { shard_is = refl; shards_are = refl })

@@ -10,7 +10,7 @@ use Rattle.pgp_log.specs.Derived.{IsDerivedOf, IsStepping}
 use Rattle.pgp_log.specs.Fits.{fits}
 use Rattle.pgp_log.specs.Kept.{IsStep}
 use Rattle.pgp_log.specs.declared.derived.Derived.{Derived}
-use Rattle.pgp_log.proofs.DerivedLemmas.{step-begins, step-ends}
+use Rattle.pgp_log.proofs.DerivedLemmas.{groups-step, step-begins, step-ends}
 use Rattle.pgp_log.proofs.MarksLemmas.{ok-anyhow, pool-left}
 use Rattle.pgp_log.proofs.TakeLemmas.{faultless-inc, faultless-tree, fits-faultless}
 use Rattle.pgp_log.proofs.derived.Derived.absorb_inc.Goals as goal
@@ -39,7 +39,7 @@ add_pools-requires c =
     let fine : map_fault (incs_of log) inc ≡ None = faultless-inc log (entry.Inc inc) inc refl (fits-faultless log (entry.Inc inc) c.requires.fits) in
     let step : IsStep log inc c.args.self.now.before c.apply.new.self =
     step-begins log inc c.args.self.now c.apply.new.self c.requires.is c.requires.fits (c.in_ok-apply.ensures.ok (incs_of log) c.requires.is.after_is fine) in
-    record { log = log; is = record { step = step; groups_are = c.in_ok-absorb_inc.ensures.ok log c.requires.is.groups_are step } }
+    record { log = log; is = groups-step log inc c.args.self.now c.apply.new.self c.absorb_inc.new.self c.requires.is step (c.in_ok-absorb_inc.ensures.ok log c.requires.is.groups_are step) c.absorb_inc.ensures.ids }
 
 pub returns-clause-ok : goal.returns-clause-ok
 returns-clause-ok c =
@@ -53,8 +53,10 @@ returns-clause-ok c =
     (λ given log is fit.
     let fine : map_fault (incs_of log) inc ≡ None = faultless-inc log (entry.Inc inc) inc refl (fits-faultless log (entry.Inc inc) fit) in
     let step : IsStep log inc old.before c.apply.new.self = step-begins log inc old c.apply.new.self is fit (c.in_ok-apply.ensures.ok (incs_of log) is.after_is fine) in
-    let stepping : IsStepping log inc moved = c.in_ok-add_pools.ensures.ok log (record { step = step; groups_are = c.in_ok-absorb_inc.ensures.ok log is.groups_are step }) in
-    step-ends log inc moved before stepping (given (incs_of log) stepping.step.before_is fine))
+    let first : IsStepping log inc (record old { after = c.apply.new.self; groups = c.absorb_inc.new.self }) =
+    groups-step log inc old c.apply.new.self c.absorb_inc.new.self is step (c.in_ok-absorb_inc.ensures.ok log is.groups_are step) c.absorb_inc.ensures.ids in
+    let stepping : IsStepping log inc moved = c.in_ok-add_pools.ensures.ok log first in
+    step-ends log inc moved before stepping (c.in_ok-add_pools.ensures.own log first) (given (incs_of log) stepping.step.before_is fine))
     c.apply-2.ensures.ok
 
 pub returns-clause-marks : goal.returns-clause-marks
@@ -65,3 +67,8 @@ returns-clause-marks c =
     let fine : map_fault (incs_of log) inc ≡ None = faultless-inc log (entry.Inc inc) inc refl (fits-faultless log (entry.Inc inc) fit) in
     let step : IsStep log inc old.before c.apply.new.self = step-begins log inc old c.apply.new.self is fit (c.in_ok-apply.ensures.ok (incs_of log) is.after_is fine) in
     c.in_ok-add_pools.ensures.marks pg (pool-left log inc pg untouched) ∙ c.in_ok-absorb_inc.ensures.marks log is.groups_are step pg untouched)
+
+pub returns-clause-own : goal.returns-clause-own
+returns-clause-own c =
+    let same = c.in_ok-add_pools.ensures.still.is_for in
+    ok-anyhow c.apply-2.result _ (record { shard_is = same.shard_is; shards_are = same.shards_are })

@@ -1,4 +1,4 @@
-use Rattle.std.proofs.Common.{◌≡◌, true, false, sym, ◌∙◌}
+use Rattle.std.proofs.Common.{◌≡◌, true, false, refl, sym, ◌∙◌}
 use Rattle.pgp_map.specs.MapFault.{then_with}
 use Rattle.pgp_map.specs.Pools.{has_group}
 use Rattle.pgp_group.specs.Entries.{incs_of}
@@ -18,7 +18,13 @@ returns-in_ok-add-clause-ok c = λ log is.
     let inc = c.args.inc.now in
     let there : has_group (then_with (incs_of log) inc) c.args.pg ≡ true = sym (c.has_group.ensures (then_with (incs_of log) inc) is.step.after_is) ∙ c.if-has_group.true in
     let absent : has_group (incs_of log) c.args.pg ≡ false = sym (c.has_group-then-has_group.ensures (incs_of log) is.step.before_is) ∙ c.if-not-has_group.true in
-    record { step = is.step; groups_are = c.in_ok-add.ensures.ok log inc c.args.self.now.before is.step absent there is.groups_are }
+    record { step = is.step; groups_are = c.in_ok-add.ensures.ok log inc c.args.self.now.before is.step absent there is.groups_are; own_are = λ pg own was. c.in_ok-add.ensures.still pg (is.own_are pg own was) }
 
 pub returns-in_ok-add-clause-marks : goal.returns-in_ok-add-clause-marks
 returns-in_ok-add-clause-marks c = λ other differs. c.in_ok-add.ensures.marks other (other-pool c.args.pg other differs)
+
+pub returns-in_ok-add-clause-own : goal.returns-in_ok-add-clause-own
+returns-in_ok-add-clause-own c = λ log is own there. c.in_ok-add.ensures.there is.groups_are.places_are
+
+pub returns-in_ok-add-clause-still : goal.returns-in_ok-add-clause-still
+returns-in_ok-add-clause-still c = record { is_for = record { shard_is = refl; shards_are = refl }; groups_are = c.in_ok-add.ensures.still }

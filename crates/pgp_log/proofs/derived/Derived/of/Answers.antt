@@ -1,4 +1,4 @@
-use Rattle.std.proofs.Common.{◌≡◌, ◌+◌, List, [], ◌∷◌, ◌++◌, None, map, take, drop, ap, sym, subst}
+use Rattle.std.proofs.Common.{◌≡◌, ◌+◌, List, [], ◌∷◌, ◌++◌, None, map, take, drop, ap, sym, ◌∙◌, subst}
 use Rattle.std.proofs.lemmas.List.{take_all}
 use Rattle.std.specs.Arc.{arc_value}
 use Rattle.pgp_ids.specs.declared.entry.Entry.{Entry}
@@ -15,7 +15,7 @@ absorb-requires c =
     let shared = c.args.entries.now in
     subst (CanAbsorb c.loop-entry.derived) (sym c.deref.ensures) (record {
       log = map arc_value (take i shared);
-      is = c.loop-entry.invariant;
+      is = c.loop-entry.invariant.is;
       fits = next-of-legal [] arc_value shared i c.entry-item.result c.requires c.loop-entry-test.true c.entry-item.is;
     })
 
@@ -26,8 +26,13 @@ loop-entry-preserved c =
     let new = c.entry-item.result in
     let log = map arc_value (take i shared) in
     let fit : fits log (arc_value new) ≡ None = next-of-legal [] arc_value shared i new c.requires c.loop-entry-test.true c.entry-item.is in
+    let now : IsDerivedOf (map arc_value (take (i + 1) shared)) c.absorb.new.self =
     rw (map-next arc_value shared i new c.loop-entry-test.true c.entry-item.is, ← c.deref.ensures)
-    (c.in_ok-absorb.ensures.ok log c.loop-entry.invariant (rw c.deref.ensures fit))
+    (c.in_ok-absorb.ensures.ok log c.loop-entry.invariant.is (rw c.deref.ensures fit)) in
+    record {
+      is = now;
+      own = record { shard_is = c.in_ok-absorb.ensures.own.shard_is ∙ c.loop-entry.invariant.own.shard_is; shards_are = c.in_ok-absorb.ensures.own.shards_are ∙ c.loop-entry.invariant.own.shards_are };
+    }
 
 pub returns-in_err-absorb-clause-wants : goal.returns-in_err-absorb-clause-wants
 returns-in_err-absorb-clause-wants c =
@@ -35,11 +40,11 @@ returns-in_err-absorb-clause-wants c =
     let i = c.loop-entry.entry-index in
     let new = c.entry-item.result in
     let log = map arc_value (take i shared) in
-    let has : HasInc (log ++ arc_value new ∷ []) = rw (← c.deref.ensures) (c.in_err-absorb.ensures.wants log c.loop-entry.invariant) in
+    let has : HasInc (log ++ arc_value new ∷ []) = rw (← c.deref.ensures) (c.in_err-absorb.ensures.wants log c.loop-entry.invariant.is) in
     on_err c.from_residual.result (HasInc (map arc_value shared))
     (subst HasInc (sym (next-front arc_value shared i new c.loop-entry-test.true c.entry-item.is)) (inc-front (log ++ arc_value new ∷ []) (map arc_value (drop (i + 1) shared)) has))
 
 pub returns-clause-is : goal.returns-clause-is
 returns-clause-is c =
     let shared = c.args.entries.now in
-    subst (λ (l : List Entry). IsDerivedOf l c.loop-entry.derived) (ap (map arc_value) (take_all c.loop-entry.entry-index shared c.loop-entry-test.false)) c.loop-entry.invariant
+    subst (λ (l : List Entry). IsDerivedOf l c.loop-entry.derived) (ap (map arc_value) (take_all c.loop-entry.entry-index shared c.loop-entry-test.false)) c.loop-entry.invariant.is

@@ -1,7 +1,10 @@
 use Rattle.std.proofs.Common.{map, take}
 use Rattle.std.specs.Arc.{arc_value}
-use Rattle.pgp_log.specs.Derived.{IsDerivedOf}
+use Rattle.pgp_log.specs.Derived.{IsDerivedOf, IsFor}
 use Rattle.pgp_log.proofs.derived.Derived.of.Given as goal
 
 abbrev pub invariant-loop-entry : goal.invariant-loop-entry
-invariant-loop-entry l = IsDerivedOf (map arc_value (take l.entry-index l.entries)) l.derived
+invariant-loop-entry l = record {
+  is : IsDerivedOf (map arc_value (take l.entry-index l.entries)) l.derived;
+  own : IsFor l.shard l.shards l.derived;
+}

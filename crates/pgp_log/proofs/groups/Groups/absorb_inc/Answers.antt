@@ -46,3 +46,11 @@ returns-clause-marks c =
     ∙ given log (subst (AreKeptOf log) (sym c.as_mut_slice.ensures.value) are.each) step pg untouched
     ∙ ap (λ (l : List Kept). is_among pg (marks_in l)) c.as_mut_slice.ensures.value)
     c.absorb_inc.ensures.marks
+
+pub returns-clause-ids : goal.returns-clause-ids
+returns-clause-ids c =
+    let old : Groups = c.args.self.now in
+    let kept : List Kept = c.absorb_inc.new.groups in
+    let same : ids_of kept ≡ ids_of old.kept.items = c.absorb_inc.ensures.ids ∙ ap ids_of c.as_mut_slice.ensures.value in
+    let long : length kept ≡ old.kept.len = sym (length-map kept (λ (k : Kept). k.pg)) ∙ ap length same ∙ length-map old.kept.items (λ (k : Kept). k.pg) ∙ sym old.kept.ok.0 in
+    ap ids_of (with_items_is old.kept kept long) ∙ same

@@ -12,7 +12,7 @@ use Rattle.pgp_group.specs.Touched.{is_touched}
 use Rattle.pgp_log.specs.Kept.{AreGroupsOf, IsKeptOf}
 use Rattle.pgp_log.specs.declared.groups.Groups.{Groups}
 use Rattle.pgp_log.specs.declared.kept.Kept.{Kept}
-use Rattle.pgp_log.proofs.GroupsLemmas.{groups-inc, groups-told, groups-untold, missing-group, place-holds, place-within}
+use Rattle.pgp_log.proofs.GroupsLemmas.{groups-inc, groups-told, groups-untold, ids-set, missing-group, place-holds, place-within}
 use Rattle.pgp_log.proofs.MarksLemmas.{another, marks-set, ok-anyhow}
 use Rattle.pgp_log.proofs.SharedLemmas.{on_err}
 use Rattle.pgp_log.proofs.groups.Groups.absorb_report.Goals as goal
@@ -62,3 +62,12 @@ returns-in-Some-clause-marks c =
     ok-anyhow c.absorb_report.result _
     (λ other differs. marks-set old.kept.items place kept after other at c.absorb_report.ensures.pg
     (another pg kept.pg other (place-holds old pg place kept c.requires is at) differs))
+
+pub returns-in-Some-clause-ids : goal.returns-in-Some-clause-ids
+returns-in-Some-clause-ids c =
+    let old : Groups = c.args.self.now in
+    let place = c.in-Some.place in
+    let kept : Kept = c.index_mut-kept.result.now in
+    let within : place < length old.kept.items = place-within old c.args.pg.now place c.requires (sym c.find.ensures ∙ c.in-Some.is) in
+    let at : slice_get old.kept.items place ≡ Some kept = slice_get_read old.kept.items (length old.kept.items) place kept refl within c.index_mut-kept.ensures.value in
+    ids-set old.kept.items place kept c.absorb_report.new.self at c.absorb_report.ensures.pg

@@ -1,10 +1,11 @@
-use Rattle.std.proofs.Common.{List, [], ◌∷◌, ◌++◌, ℕ, Some, cond, sym, ap, ◌∙◌}
+use Rattle.std.proofs.Common.{◌≡◌, true, List, [], ◌∷◌, ◌++◌, ℕ, Some, cond, sym, ap, ◌∙◌, subst}
 use Rattle.std.specs.HashMap as hash
 use Rattle.pgp_ids.specs.declared.entry.Entry.TheVariants as entry
+use Rattle.pgp_ids.specs.declared.pg_id.PgId.{PgId}
 use Rattle.pgp_map.specs.Pools.{is_same_group}
-use Rattle.pgp_log.specs.Kept.{is_among, marks_in}
+use Rattle.pgp_log.specs.Kept.{ids_of, is_among, marks_in}
 use Rattle.pgp_log.specs.declared.kept.Kept.{Kept}
-use Rattle.pgp_log.proofs.GroupsLemmas.{groups-more}
+use Rattle.pgp_log.proofs.GroupsLemmas.{groups-more, keeps-found, keeps-last, keeps-push}
 use Rattle.pgp_log.proofs.MarksLemmas.{marks-push}
 use Rattle.pgp_log.proofs.groups.Groups.add.Goals as goal
 
@@ -20,3 +21,16 @@ pub returns-clause-marks : goal.returns-clause-marks
 returns-clause-marks c = λ other differs.
     ap (λ (l : List Kept). is_among other (marks_in l)) c.in_ok-push.ensures.items
     ∙ marks-push c.args.self.now.kept.items c.begin.result other (ap (is_same_group other) c.begin.ensures.pg ∙ differs)
+
+pub returns-then-contains_key-clause-there : goal.returns-then-contains_key-clause-there
+returns-then-contains_key-clause-there c = λ are. sym (keeps-found c.args.self.now c.args.pg are) ∙ (sym c.contains_key.ensures ∙ c.if-contains_key.true)
+
+pub returns-clause-there : goal.returns-clause-there
+returns-clause-there c = λ are.
+    let old : List Kept = c.args.self.now.kept.items in
+    ap (λ (l : List Kept). is_among c.args.pg (ids_of l)) c.in_ok-push.ensures.items
+    ∙ subst (λ (p : PgId). is_among p (ids_of (old ++ c.begin.result ∷ [])) ≡ true) c.begin.ensures.pg (keeps-last old c.begin.result)
+
+pub returns-clause-still : goal.returns-clause-still
+returns-clause-still c = λ other was.
+    ap (λ (l : List Kept). is_among other (ids_of l)) c.in_ok-push.ensures.items ∙ keeps-push c.args.self.now.kept.items c.begin.result other was

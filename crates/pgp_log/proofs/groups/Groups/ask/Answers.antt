@@ -7,7 +7,7 @@ use Rattle.pgp_map.specs.Pools.{is_same_group}
 use Rattle.pgp_group.specs.View.{scratch}
 use Rattle.pgp_log.specs.declared.groups.Groups.{Groups}
 use Rattle.pgp_log.specs.declared.kept.Kept.{Kept}
-use Rattle.pgp_log.proofs.GroupsLemmas.{groups-asked, groups-inc, place-holds, place-within}
+use Rattle.pgp_log.proofs.GroupsLemmas.{groups-asked, groups-inc, ids-set, keeps-found, place-holds, place-within}
 use Rattle.pgp_log.proofs.MarksLemmas.{marks-asked, marks-elsewhere}
 use Rattle.pgp_log.proofs.SharedLemmas.{on_err}
 use Rattle.pgp_log.proofs.groups.Groups.ask.Goals as goal
@@ -73,3 +73,27 @@ returns-in_ok-ask-in-Some-clause-marks c =
 
 pub returns-in-None-clause-marks : goal.returns-in-None-clause-marks
 returns-in-None-clause-marks c = marks-elsewhere c.args.self.now c.args.pg.now c.requires (sym c.find.ensures ∙ c.in-None.is)
+
+pub returns-in_ok-ask-in-Some-clause-ids : goal.returns-in_ok-ask-in-Some-clause-ids
+returns-in_ok-ask-in-Some-clause-ids c =
+    let old : Groups = c.args.self.now in
+    let place = c.in-Some.place in
+    let kept : Kept = c.index_mut-kept.result.now in
+    let within : place < length old.kept.items = place-within old c.args.pg.now place c.requires (sym c.find.ensures ∙ c.in-Some.is) in
+    let at : slice_get old.kept.items place ≡ Some kept = slice_get_read old.kept.items (length old.kept.items) place kept refl within c.index_mut-kept.ensures.value in
+    ids-set old.kept.items place kept c.ask.new.self at c.ask.ensures.pg
+
+pub returns-in_err-ask-in-Some-clause-ids : goal.returns-in_err-ask-in-Some-clause-ids
+returns-in_err-ask-in-Some-clause-ids c =
+    let old : Groups = c.args.self.now in
+    let place = c.in-Some.place in
+    let kept : Kept = c.index_mut-kept.result.now in
+    let within : place < length old.kept.items = place-within old c.args.pg.now place c.requires (sym c.find.ensures ∙ c.in-Some.is) in
+    let at : slice_get old.kept.items place ≡ Some kept = slice_get_read old.kept.items (length old.kept.items) place kept refl within c.index_mut-kept.ensures.value in
+    ids-set old.kept.items place kept c.ask.new.self at c.ask.ensures.pg
+
+pub returns-in_ok-ask-in-Some-clause-there : goal.returns-in_ok-ask-in-Some-clause-there
+returns-in_ok-ask-in-Some-clause-there c = ap is_some (sym (sym c.find.ensures ∙ c.in-Some.is)) ∙ keeps-found c.args.self.now c.args.pg.now c.requires
+
+pub returns-in-None-clause-there : goal.returns-in-None-clause-there
+returns-in-None-clause-there c = ap is_some (sym (sym c.find.ensures ∙ c.in-None.is)) ∙ keeps-found c.args.self.now c.args.pg.now c.requires

@@ -1,0 +1,38 @@
+use Rattle.std.proofs.Common.{◌≡◌, ◌<◌, Some, length, slice_get, get_or, refl, ap, ◌∙◌}
+use Rattle.std.specs.List.{list_any}
+use Rattle.std.specs.Prelude.{nat_eq}
+use Rattle.std.proofs.lemmas.List.{take_all}
+use Rattle.std.proofs.lemmas.Option.{slice_get_read}
+use Rattle.pgp_ids.specs.declared.pool.PoolSpec.{PoolSpec}
+use Rattle.pgp_lists.proofs.Lists.{none-at}
+use Rattle.pgp_map.specs.MapFault.{then_with}
+use Rattle.pgp_group.specs.Entries.{incs_of}
+use Rattle.pgp_log.specs.declared.derived.Derived.{Derived}
+use Rattle.pgp_log.proofs.DerivedLemmas.{own-next, pools-more, still-on}
+use Rattle.pgp_log.proofs.derived.Derived.add_pools.Goals as goal
+
+pub loop-pool-preserved : goal.loop-pool-preserved
+loop-pool-preserved c =
+    let before : Derived = c.loop-pool.self in
+    let after : Derived = c.add_pool.new.self in
+    let inc = c.args.inc.now in
+    let i = c.loop-pool.pool-index in
+    let made : PoolSpec = c.pool-item.result in
+    let within : i < length inc.pools = rw (← c.as_slice-pool-items.ensures) c.loop-pool-test.true in
+    let item : made ≡ get_or inc.pools i made = rw (← c.as_slice-pool-items.ensures) c.pool-item.is in
+    let at : slice_get inc.pools i ≡ Some made = slice_get_read inc.pools (length inc.pools) i made refl within item in
+    record {
+      is = λ log is. c.in_ok-add_pool.ensures.ok log (c.loop-pool.invariant.is log is);
+      own = λ log is.
+          pools-more (then_with (incs_of log) inc) inc before after i made c.in_ok-add_pool.ensures.still within item
+          (c.loop-pool.invariant.own log is) (c.in_ok-add_pool.ensures.own log (c.loop-pool.invariant.is log is));
+      still = still-on c.args.self.now before after c.loop-pool.invariant.still c.in_ok-add_pool.ensures.still;
+      marks = λ other none.
+          c.in_ok-add_pool.ensures.marks other (none-at (λ (p : PoolSpec). nat_eq p.id other.pool) inc.pools i made none at) ∙ c.loop-pool.invariant.marks other none;
+    }
+
+pub returns-clause-own : goal.returns-clause-own
+returns-clause-own c = λ log is.
+    own-next log c.args.inc.now c.loop-pool.self (c.loop-pool.invariant.is log is)
+    (λ pg made. c.loop-pool.invariant.own log is pg
+    (ap (list_any (λ (p : PoolSpec). nat_eq p.id pg.pool)) (take_all c.loop-pool.pool-index c.args.inc.now.pools (rw (← c.as_slice-pool-items.ensures) c.loop-pool-test.false)) ∙ made))
