@@ -8,6 +8,7 @@ them a script of one line more than it may have, an input that can't be read and
 status, the output and the errors that docs/FORMAT.md promises of it. Exits with 1 where one of them is another.
 """
 
+import argparse
 import os
 import pathlib
 import subprocess
@@ -92,6 +93,6 @@ def main(program):
 
 
 if __name__ == "__main__":
-    if len(sys.argv) > 2:
-        sys.exit(__doc__)
-    sys.exit(main(sys.argv[1] if len(sys.argv) == 2 else str(ROOT / "crates" / "pgpeer" / "out" / "pgpeer")))
+    parser = argparse.ArgumentParser(description=__doc__, formatter_class=argparse.RawDescriptionHelpFormatter)
+    parser.add_argument("program", metavar="PROGRAM", nargs="?", default=ROOT / "crates" / "pgpeer" / "out" / "pgpeer")
+    sys.exit(main(str(parser.parse_args().program)))

@@ -9,6 +9,7 @@ examples/first.jsonl, whose map it speaks of: it may be answered neither as no c
 the next indented line is its answer, and then that has to be it. Exits with 1 where an answer differs.
 """
 
+import argparse
 import json
 import pathlib
 import subprocess
@@ -81,6 +82,6 @@ def main(program):
 
 
 if __name__ == "__main__":
-    if len(sys.argv) > 2:
-        sys.exit(__doc__)
-    sys.exit(main(sys.argv[1] if len(sys.argv) == 2 else str(ROOT / "crates" / "pgpeer" / "out" / "pgpeer")))
+    parser = argparse.ArgumentParser(description=__doc__, formatter_class=argparse.RawDescriptionHelpFormatter)
+    parser.add_argument("program", metavar="PROGRAM", nargs="?", default=ROOT / "crates" / "pgpeer" / "out" / "pgpeer")
+    sys.exit(main(str(parser.parse_args().program)))
