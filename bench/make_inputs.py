@@ -20,6 +20,9 @@ Writes into FOLDER (by default bench/out) these files, which are the same at eve
   churn.jsonl     2,000 incrementals as those of incs.jsonl, with a question about a group after each
   churn_twice.jsonl   the same with 4,000 incrementals
   asks.jsonl      an outage of one group in seven entries, and then 20,000 questions about it with nothing between
+  long_past.jsonl     4,000 incrementals by turns take a device of one group down and boot it, each of which ends an
+                  interval, and then 100 more with a question after each
+  long_log.jsonl  254 reports of 256 log entries each, of one member of a group, with a question after each
   ask_heavy.jsonl     an outage in a pool of eight groups, and then 8,000 questions about them by turns, with an info
                       after each hundred
   submit_heavy.jsonl  the same pool, and then 30,000 infos, with a question after each thousand
@@ -195,6 +198,36 @@ def asks(_rng, count):
         yield compact({"op": "ask", "pg": [1, 0]})
 
 
+def one_group():
+    """Gives a map of three devices and a pool of one group, which lies on them."""
+    devices = [0, 1, 2]
+    root = {"id": -1, "type": HOST, "alg": "uniform", "items": devices}
+    return compact({"op": "inc", "epoch": 1, "up": devices, "pools": [{**copies(1, 1), "leaf": DEVICE}], "crush": [root]})
+
+
+def long_past(_rng, count):
+    """Gives incrementals each of which ends an interval of one group, and after each of the last 100 a question."""
+    yield one_group()
+    incs = count - 1 - 100
+    for number in range(incs):
+        yield compact({"op": "inc", "epoch": number + 2, "up" if number % 2 else "down": [0]})
+        if number >= incs - 100:
+            yield compact({"op": "ask", "pg": [1, 0]})
+
+
+def long_log(rng, count):
+    """Gives the log entries of one member of a group, 256 at a time, with a question after each part."""
+    yield one_group()
+    yield compact({"op": "inc", "epoch": 2})
+    parts = (count - 4) // 2
+    yield compact(info([1, 0], 0, [1, 256 * parts]))
+    yield compact(info([1, 0], 1, [1, 1]))
+    for part in range(parts):
+        log = [[1, 256 * part + 1 + n, "modify", f"object-{rng.randrange(8)}"] for n in range(256)]
+        yield compact({"op": "entries", "pg": [1, 0], "from": [0, 0], "stamp": 2, "log": log})
+        yield compact({"op": "ask", "pg": [1, 0]})
+
+
 def eight_groups():
     """Gives a map of six devices and a pool of eight groups, whose lists are all by pg_temp."""
     devices = list(range(6))
@@ -281,6 +314,8 @@ INPUTS = {
     "churn": (churn, 4_000),
     "churn_twice": (churn, 8_000),
     "asks": (asks, 20_000),
+    "long_past": (long_past, 4_201),
+    "long_log": (long_log, 512),
     "traces": (traces, 500),
     "ask_heavy": (ask_heavy, 8_000),
     "submit_heavy": (submit_heavy, 30_000),
