@@ -1,6 +1,6 @@
 //! The next map, where it is known how the group lies by it.
 
-ghost use Rattle.std.specs.Prelude.{◌≡◌, ◌++◌, [], ◌∷◌, List, Some, None, OnOk, OnErr};
+ghost use Rattle.std.specs.Prelude.{◌≡◌, ◌≢◌, ◌++◌, [], ◌∷◌, List, Some, None, OnOk, OnErr};
 ghost use Rattle.pgp_ids.specs.declared.entry.Entry.{Entry as Told};
 ghost use Rattle.pgp_ids.specs.declared.entry.Entry.TheVariants as entry;
 ghost use Rattle.pgp_ids.specs.declared.incremental.Incremental.{Incremental};
@@ -20,7 +20,7 @@ use std::alloc::AllocError;
 
 impl Group {
     /// Takes the next map, by which the group lies at these members: it looks for none itself. `before` is the map that it
-    /// was until now. After an error the group stands for the same log.
+    /// was until now. Where the group lies as before it takes no memory. After an error the group stands for the same log.
     pub fn absorb_members(
         &mut self,
         before: &OsdMap,
@@ -34,6 +34,8 @@ impl Group {
             → membership (then_with (incs_of log) inc) pg ≡ Some members
             → IsGroupOf (log ++ entry.Inc inc ∷ []) pg self.new) }
         ensures err { OnErr result ((log : List Told) (pg : Id) → IsGroupOf log pg self.old → IsGroupOf log pg self.new) }
+        ensures wants { OnErr result ((log : List Told) (pg : Id) → IsGroupOf log pg self.old
+            → membership (incs_of log) pg ≢ Some members) }
     {
         let (_, current) = self.intervals.current();
         if is_same(&members, &current) {

@@ -1,18 +1,39 @@
-use Rattle.std.proofs.Common.{◌≡◌, ◌≢◌, ◌||◌, [], ◌∷◌, Some, nat_eq, ap, refl, subst, sym, ◌∙◌}
+use Rattle.std.proofs.Common.{◌≡◌, ◌≢◌, ◌||◌, List, [], ◌∷◌, Some, false, nat_eq, ap, refl, subst, sym, ◌∙◌}
 use Rattle.std.specs.List.{list_any}
 use Rattle.std.proofs.lemmas.Bool.{true≢false}
 use Rattle.pgp_code.specs.AnyCode.{enough_of, is_by_place}
+use Rattle.pgp_code.specs.declared.any.AnyCode.{AnyCode}
+use Rattle.pgp_ids.specs.declared.entry.Entry.{Entry}
 use Rattle.pgp_ids.specs.declared.history.PrimaryFacts.{PrimaryFacts}
 use Rattle.pgp_ids.specs.declared.membership.Membership.{Membership}
-use Rattle.pgp_interval.specs.History.{stepped}
+use Rattle.pgp_ids.specs.declared.pg_id.PgId.{PgId}
+use Rattle.pgp_interval.specs.History.{History, stepped}
 use Rattle.pgp_interval.specs.IntervalsOf.{IsIntervalsOf}
+use Rattle.pgp_interval.specs.SameMembers.{is_same}
 use Rattle.pgp_interval.proofs.Same.{is_same-eq, eq-is_same}
+use Rattle.pgp_sets.specs.Sets.{membership}
 use Rattle.pgp_group.specs.Entries.{incs_of}
 use Rattle.pgp_group.specs.GroupHistory.{primary_facts}
+use Rattle.pgp_group.specs.GroupOf.{IsGroupOf}
 use Rattle.pgp_group.specs.Touched.{has_osd}
 use Rattle.pgp_group.specs.declared.group.Group.{Group}
 use Rattle.pgp_group.proofs.GroupLemmas.{on_err, StandsLike, IsGroupOf-inc, IsGroupOf-same, names-end, names-stay}
+use Rattle.pgp_group.proofs.HistoryLemmas.{history-current}
 use Rattle.pgp_group.proofs.group.Group.absorb_members.Goals as goal
+
+differ : (a b : Membership) → is_same a b ≡ false → a ≢ b
+differ a b is same = true≢false (sym (eq-is_same a b same) ∙ is)
+
+-- by no log for which the group stands does it lie at these members
+abbrev LiesElsewhere : Group → Membership → Type 0
+LiesElsewhere group members = (log : List Entry) (pg : PgId) → IsGroupOf log pg group → membership (incs_of log) pg ≢ Some members
+
+elsewhere : (group : Group) (members current : Membership) → is_same members current ≡ false
+    → ((h : History AnyCode) → IsIntervalsOf enough_of is_by_place h group.intervals → current ≡ h.current) → LiesElsewhere group members
+elsewhere group members current moved was log pg is there =
+    let here : Some members ≡ Some is.history.current = sym there ∙ history-current (incs_of log) pg is.history is.history_is in
+    let same : members ≡ is.history.current = cc in
+    differ members current moved (same ∙ sym (was is.history is.keeps.intervals_are))
 
 pub returns-then-is_same-clause-ok : goal.returns-then-is_same-clause-ok
 returns-then-is_same-clause-ok c = λ log pg inc is fine before after lies.
@@ -29,13 +50,12 @@ returns-clause-ok c = λ log pg inc is fine before after lies.
     let h = is.history in
     let members = c.args.members in
     let current : c.current-current.result.1 ≡ h.current = c.current-current.ensures.members h is.keeps.intervals_are in
-    let differ : members ≢ h.current = λ same.
-    true≢false (sym (eq-is_same members c.current-current.result.1 (same ∙ sym current)) ∙ sym c.is_same.ensures ∙ c.if-is_same.false) in
+    let moved : members ≢ h.current = λ same. differ members c.current-current.result.1 (sym c.is_same.ensures ∙ c.if-is_same.false) (same ∙ sym current) in
     let facts : c.primary_facts-facts.result ≡ primary_facts (incs_of log) h.current.acting_primary =
     c.primary_facts-facts.ensures (incs_of log) before ∙ ap (λ (m : Membership). primary_facts (incs_of log) m.acting_primary) current in
     IsGroupOf-inc log inc pg c.args.self.now _ members is fine lies refl refl refl
     (subst (λ (f : PrimaryFacts). IsIntervalsOf enough_of is_by_place (stepped h members f) c.step.new.self) facts (c.in_ok-step.ensures.ok h is.keeps.intervals_are))
-    (names-end log inc pg h members (primary_facts (incs_of log) h.current.acting_primary) c.args.self.now.named c.add_places.new.self c.add_places-2.new.self differ
+    (names-end log inc pg h members (primary_facts (incs_of log) h.current.acting_primary) c.args.self.now.named c.add_places.new.self c.add_places-2.new.self moved
     (λ osd. c.add_places.ensures.osds osd ∙ (λ i. has_osd osd (current i).up || list_any (nat_eq osd) (c.make_room.ensures.same i)))
     (λ osd. c.add_places-2.ensures.osds osd ∙ (λ i. has_osd osd (current i).acting || list_any (nat_eq osd) c.add_places.new.self.osds.items))
     is.keeps.named_are)
@@ -53,3 +73,13 @@ returns-in_err-step-clause-err c =
     let group : Group = record { alloc = now.alloc; pg = now.pg; intervals = c.step.new.self; infos = now.infos; reports = now.reports; named = c.make_room.new.self } in
     on_err c.from_residual-in_err-step.result (StandsLike now group)
     (λ log pg is. IsGroupOf-same log pg now group is refl c.in_err-step.ensures.err (λ g kept. kept) (λ g kept. kept) c.make_room.ensures.same)
+
+pub returns-in_err-make_room-clause-wants : goal.returns-in_err-make_room-clause-wants
+returns-in_err-make_room-clause-wants c =
+    on_err c.from_residual.result (LiesElsewhere c.args.self.now c.args.members)
+    (elsewhere c.args.self.now c.args.members c.current-current.result.1 (sym c.is_same.ensures ∙ c.if-is_same.false) c.current-current.ensures.members)
+
+pub returns-in_err-step-clause-wants : goal.returns-in_err-step-clause-wants
+returns-in_err-step-clause-wants c =
+    on_err c.from_residual-in_err-step.result (LiesElsewhere c.args.self.now c.args.members)
+    (elsewhere c.args.self.now c.args.members c.current-current.result.1 (sym c.is_same.ensures ∙ c.if-is_same.false) c.current-current.ensures.members)
