@@ -143,7 +143,7 @@ impl Group {
         ensures err { OnErr result ((log : List Told) (pg : Id) → IsGroupOf log pg self.old → IsGroupOf log pg self.new) }
     {
         if info.pg == self.pg {
-            self.named.make_room(1)?;
+            self.named.make_room_for(info.member.osd)?;
             self.infos.push(info, self.intervals.last())?;
             self.named.add(info.member.osd);
         }
@@ -156,7 +156,7 @@ impl Group {
         ensures err { OnErr result ((log : List Told) (pg : Id) → IsGroupOf log pg self.old → IsGroupOf log pg self.new) }
     {
         if report.pg == self.pg {
-            self.named.make_room(1)?;
+            self.named.make_room_for(report.member.osd)?;
             self.reports
                 .push(self.alloc, report, self.intervals.last())?;
             self.named.add(report.member.osd);

@@ -1,6 +1,6 @@
 //! The devices that a group names.
 
-ghost use Rattle.std.specs.Prelude.{◌≡◌, ◌+◌, ◌<◌, ◌≤◌, ◌||◌, ℕ, [], length, nat_eq, OnOk};
+ghost use Rattle.std.specs.Prelude.{◌≡◌, ◌+◌, ◌<◌, ◌≤◌, ◌||◌, ℕ, [], length, nat_eq, false, OnOk, OnErr};
 ghost use Rattle.std.specs.List.{list_any};
 ghost use Rattle.std.specs.Ordering.{nat_cmp, is_lt};
 ghost use Rattle.std.specs.Vec.{vec_len, vec_capacity};
@@ -42,9 +42,23 @@ impl Named {
         self.osds.reserve(more)
     }
 
-    /// Puts the device in, for which there is room, unless it is there. It takes no memory.
+    /// Makes room for the device, unless it is there: then it takes no memory. The devices stay.
+    pub(crate) fn make_room_for(&mut self, osd: OsdId) -> Result<(), AllocError>
+        ensures same { self.new.osds.items ≡ self.old.osds.items }
+        ensures ok { OnOk result (list_any (nat_eq osd) self.new.osds.items ≡ false
+            → vec_len self.new.osds < vec_capacity self.new.osds) }
+        ensures wants { OnErr result (list_any (nat_eq osd) self.old.osds.items ≡ false) }
+    {
+        if self.has(osd) {
+            Ok(())
+        } else {
+            self.osds.reserve(1)
+        }
+    }
+
+    /// Puts the device in, unless it is there. It takes no memory.
     pub(crate) fn add(&mut self, osd: OsdId)
-        requires { vec_len self.old.osds < vec_capacity self.old.osds }
+        requires { list_any (nat_eq osd) self.old.osds.items ≡ false → vec_len self.old.osds < vec_capacity self.old.osds }
         ensures osds { self.new.osds.items ≡ with_item (λ a b. is_lt (nat_cmp a b)) osd self.old.osds.items }
         ensures len { vec_len self.new.osds ≤ vec_len self.old.osds + 1 }
         ensures capacity { vec_capacity self.new.osds ≡ vec_capacity self.old.osds }

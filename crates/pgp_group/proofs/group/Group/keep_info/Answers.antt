@@ -12,19 +12,19 @@ use Rattle.pgp_group.proofs.NamedLemmas.{before}
 use Rattle.pgp_group.proofs.NamesLemmas.{KeepsNames-info}
 use Rattle.pgp_group.proofs.group.Group.keep_info.Goals as goal
 
-pub returns-in_err-make_room-clause-err : goal.returns-in_err-make_room-clause-err
-returns-in_err-make_room-clause-err c =
+pub returns-in_err-make_room_for-clause-err : goal.returns-in_err-make_room_for-clause-err
+returns-in_err-make_room_for-clause-err c =
     let now = c.args.self.now in
-    let group : Group = record { alloc = now.alloc; pg = now.pg; intervals = now.intervals; infos = now.infos; reports = now.reports; named = c.make_room.new.self } in
+    let group : Group = record { alloc = now.alloc; pg = now.pg; intervals = now.intervals; infos = now.infos; reports = now.reports; named = c.make_room_for.new.self } in
     on_err c.from_residual.result (StandsLike now group)
-    (λ log pg is. IsGroupOf-same log pg now group is refl refl (λ g kept. kept) (λ g kept. kept) c.make_room.ensures.same)
+    (λ log pg is. IsGroupOf-same log pg now group is refl refl (λ g kept. kept) (λ g kept. kept) c.make_room_for.ensures.same)
 
 pub returns-in_err-push-clause-err : goal.returns-in_err-push-clause-err
 returns-in_err-push-clause-err c =
     let now = c.args.self.now in
-    let group : Group = record { alloc = now.alloc; pg = now.pg; intervals = now.intervals; infos = c.push.new.self; reports = now.reports; named = c.make_room.new.self } in
+    let group : Group = record { alloc = now.alloc; pg = now.pg; intervals = now.intervals; infos = c.push.new.self; reports = now.reports; named = c.make_room_for.new.self } in
     on_err c.from_residual-in_err-push.result (StandsLike now group)
-    (λ log pg is. IsGroupOf-same log pg now group is refl refl c.in_err-push.ensures.err (λ g kept. kept) c.make_room.ensures.same)
+    (λ log pg is. IsGroupOf-same log pg now group is refl refl c.in_err-push.ensures.err (λ g kept. kept) c.make_room_for.ensures.same)
 
 pub returns-in_ok-push-clause-ok : goal.returns-in_ok-push-clause-ok
 returns-in_ok-push-clause-ok c = λ log pg is.
@@ -36,7 +36,7 @@ returns-in_ok-push-clause-ok c = λ log pg is.
     (infos-told log info pg is.history same) is.keeps.infos_are)
     (reports-kept log (entry.Info info) pg is.history c.args.self.now.reports refl (reports-same log (entry.Info info) pg refl) is.keeps.reports_are)
     (KeepsNames-info (group_with log pg is.history) (group_with (log ++ entry.Info info ∷ []) pg is.history) c.args.self.now.named c.add.new.self info refl
-    (infos-new log info pg same) (reports-same log (entry.Info info) pg refl) (c.add.ensures.osds ∙ ap (with_item before info.member.osd) c.make_room.ensures.same) is.keeps.named_are)
+    (infos-new log info pg same) (reports-same log (entry.Info info) pg refl) (c.add.ensures.osds ∙ ap (with_item before info.member.osd) c.make_room_for.ensures.same) is.keeps.named_are)
 
 pub returns-else-eq-clause-ok : goal.returns-else-eq-clause-ok
 returns-else-eq-clause-ok c = λ log pg is.

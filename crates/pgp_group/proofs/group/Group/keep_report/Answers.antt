@@ -12,19 +12,19 @@ use Rattle.pgp_group.proofs.NamedLemmas.{before}
 use Rattle.pgp_group.proofs.NamesLemmas.{KeepsNames-report}
 use Rattle.pgp_group.proofs.group.Group.keep_report.Goals as goal
 
-pub returns-in_err-make_room-clause-err : goal.returns-in_err-make_room-clause-err
-returns-in_err-make_room-clause-err c =
+pub returns-in_err-make_room_for-clause-err : goal.returns-in_err-make_room_for-clause-err
+returns-in_err-make_room_for-clause-err c =
     let now = c.args.self.now in
-    let group : Group = record { alloc = now.alloc; pg = now.pg; intervals = now.intervals; infos = now.infos; reports = now.reports; named = c.make_room.new.self } in
+    let group : Group = record { alloc = now.alloc; pg = now.pg; intervals = now.intervals; infos = now.infos; reports = now.reports; named = c.make_room_for.new.self } in
     on_err c.from_residual.result (StandsLike now group)
-    (λ log pg is. IsGroupOf-same log pg now group is refl refl (λ g kept. kept) (λ g kept. kept) c.make_room.ensures.same)
+    (λ log pg is. IsGroupOf-same log pg now group is refl refl (λ g kept. kept) (λ g kept. kept) c.make_room_for.ensures.same)
 
 pub returns-in_err-push-clause-err : goal.returns-in_err-push-clause-err
 returns-in_err-push-clause-err c =
     let now = c.args.self.now in
-    let group : Group = record { alloc = now.alloc; pg = now.pg; intervals = now.intervals; infos = now.infos; reports = c.push.new.self; named = c.make_room.new.self } in
+    let group : Group = record { alloc = now.alloc; pg = now.pg; intervals = now.intervals; infos = now.infos; reports = c.push.new.self; named = c.make_room_for.new.self } in
     on_err c.from_residual-in_err-push.result (StandsLike now group)
-    (λ log pg is. IsGroupOf-same log pg now group is refl refl (λ g kept. kept) c.in_err-push.ensures.err c.make_room.ensures.same)
+    (λ log pg is. IsGroupOf-same log pg now group is refl refl (λ g kept. kept) c.in_err-push.ensures.err c.make_room_for.ensures.same)
 
 pub returns-in_ok-push-clause-ok : goal.returns-in_ok-push-clause-ok
 returns-in_ok-push-clause-ok c = λ log pg is.
@@ -36,7 +36,7 @@ returns-in_ok-push-clause-ok c = λ log pg is.
     (omega (arith, c.last.ensures, is.keeps.intervals_are.last_is, history-last (incs_of log) pg is.history is.numbered is.history_is))
     (reports-told log report pg is.history same) is.keeps.reports_are)
     (KeepsNames-report (group_with log pg is.history) (group_with (log ++ entry.Entries report ∷ []) pg is.history) c.args.self.now.named c.add.new.self report refl
-    (infos-same log (entry.Entries report) pg refl) (reports-new log report pg same) (c.add.ensures.osds ∙ ap (with_item before report.member.osd) c.make_room.ensures.same) is.keeps.named_are)
+    (infos-same log (entry.Entries report) pg refl) (reports-new log report pg same) (c.add.ensures.osds ∙ ap (with_item before report.member.osd) c.make_room_for.ensures.same) is.keeps.named_are)
 
 pub returns-else-eq-clause-ok : goal.returns-else-eq-clause-ok
 returns-else-eq-clause-ok c = λ log pg is.
