@@ -3,7 +3,7 @@ use Rattle.std.proofs.Common.{◌≡◌, ◌≢◌, ℕ, List, [], ◌∷◌, �
 use Rattle.std.specs.List.{filter, list_any}
 use Rattle.std.specs.Option.{option_map, option_map_or}
 use Rattle.std.specs.Prelude.{Result, Ok, Err}
-use Rattle.std.specs.Result.{OnOk, OnErr}
+use Rattle.std.specs.Result.{OnOk}
 use Rattle.pgp_code.specs.AnyCode.{enough_of, is_by_place}
 use Rattle.pgp_code.specs.Pool.{code_of}
 use Rattle.pgp_code.specs.declared.any.AnyCode.{AnyCode}
@@ -245,10 +245,6 @@ TakesReport new old group = (log : List Entry) (pg : PgId) → inc_of new ≡ No
 pub on_ok : {T E : Type 0} (r : Result T E) (P Q : Type 0) → (P → Q) → OnOk r P → OnOk r Q
 on_ok (Ok x) P Q gives given = gives given
 on_ok (Err e) P Q gives given = given
-
-pub on_err_from : {T E : Type 0} (r : Result T E) (P Q : Type 0) → (P → Q) → OnErr r P → OnErr r Q
-on_err_from (Ok x) P Q gives given = given
-on_err_from (Err e) P Q gives given = gives given
 
 -- an incremental brings a map
 pub no_map : {P : Type 0} (e : Entry) (inc : Incremental) → e ≡ entry.Inc inc → inc_of e ≡ None → P

@@ -20,8 +20,8 @@ use Rattle.pgp_group.specs.KeptNames.{KeepsNames}
 use Rattle.pgp_group.specs.KeptReports.{KeepsReports}
 use Rattle.pgp_group.specs.declared.group.Group.{Group}
 
--- the group keeps the intervals of its history in the log, all that its members reported, in the order in which it came,
--- whom it has heard, the logs of members, and of which devices it speaks
+-- the group keeps the intervals of its history in the log; all that its members reported, in the order in which it came;
+-- whom it has heard; the logs of members; and the devices of which it speaks
 pub record Keeps (g : GroupLog) (group : Group) : Type 0 where
   pub pg_is : group.pg ≡ g.pg
   pub intervals_are : IsIntervalsOf enough_of is_by_place g.history group.intervals
