@@ -1,8 +1,8 @@
 -- What a shard keeps beside its entries, as the log grows.
-use Rattle.std.proofs.Common.{◌≡◌, ℕ, List, [], ◌∷◌, ◌++◌, Option, Some, None, is_some, Result, Ok, Err, is_err, OnOk, Bool, true, false, ◌||◌, IfSome, ◌+◌, ◌<◌, length, take, get_or, nat_eq, nat_lt, inl, inr, arith, refl, sym, ap, ap₂, ◌∙◌, subst}
+use Rattle.std.proofs.Common.{◌≡◌, ℕ, List, [], ◌∷◌, ◌++◌, Option, Some, None, is_some, Result, Ok, Err, is_err, OnOk, Bool, true, false, ◌&&◌, ◌||◌, IfSome, ◌+◌, ◌<◌, length, take, get_or, nat_eq, nat_lt, inl, inr, arith, refl, sym, ap, ap₂, ◌∙◌, subst}
 use Rattle.std.specs.List.{list_any}
 use Rattle.std.specs.Option.{option_map_or}
-use Rattle.std.proofs.lemmas.Bool.{cases_Bool, cases_lt, eqb-true, true≢false}
+use Rattle.std.proofs.lemmas.Bool.{and_from, and_parts, cases_Bool, cases_lt, eqb-true}
 use Rattle.std.proofs.lemmas.List.Folds.{list_any_more}
 use Rattle.pgp_ids.specs.declared.entry.Entry.{Entry}
 use Rattle.pgp_ids.specs.declared.entry.Entry.TheVariants as entry
@@ -13,21 +13,22 @@ use Rattle.pgp_map.proofs.CheckedLemmas.{checked-has_group}
 use Rattle.pgp_map.specs.Held.{HasGroup}
 use Rattle.pgp_map.specs.MapFault.{then_with}
 use Rattle.pgp_map.specs.MapOf.{IsMapOf}
-use Rattle.pgp_map.specs.Pools.{has_group, pool}
+use Rattle.pgp_map.specs.Pools.{has_group, is_same_group, pool}
 use Rattle.pgp_map.specs.declared.map.OsdMap.{OsdMap}
 use Rattle.pgp_group.proofs.ViewLemmas.{scratch_there}
 use Rattle.pgp_group.specs.Entries.{inc_of, incs_of}
 use Rattle.pgp_group.specs.GroupHistory.{makes}
 use Rattle.pgp_group.specs.View.{scratch}
-use Rattle.pgp_log.specs.Derived.{CanAbsorb, HasIfOwn, HasOwn, HasStill, IsDerivedOf, IsFor, IsShardOf, IsStepping}
+use Rattle.pgp_log.specs.Derived.{CanAbsorb, HasOwn, HasStill, IsDerivedOf, IsFor, IsKeptIfOwn, IsOwnIfKept, IsShardOf, IsStepping}
 use Rattle.pgp_log.specs.Fits.{fits}
-use Rattle.pgp_log.specs.Kept.{AreGroupsOf, IsStep, ids_of, is_among, keeps}
+use Rattle.pgp_log.specs.Kept.{AreGroupsOf, IsStep, KeepsAll, ids_of, is_among, keeps}
 use Rattle.pgp_log.specs.Log.{is_legal}
 use Rattle.pgp_log.specs.Shard.{is_own}
 use Rattle.pgp_log.specs.declared.derived.Derived.{Derived}
 use Rattle.pgp_log.specs.declared.groups.Groups.{Groups}
-use Rattle.pgp_log.proofs.KeptLemmas.{grown, step-checked}
+use Rattle.pgp_log.proofs.KeptLemmas.{grown, step-checked, step-fine, still-there}
 use Rattle.pgp_log.proofs.LogLemmas.{legal-snoc}
+use Rattle.pgp_log.proofs.RawSetLemmas.{same_group}
 use Rattle.pgp_log.proofs.ReplayLemmas.{comes-with_pool}
 use Rattle.pgp_log.proofs.TakeLemmas.{incs-other}
 
@@ -38,7 +39,15 @@ step-begins log inc old after is fit made = record { legal = is.legal; fits = fi
 -- and so have the groups
 pub groups-step : (log : List Entry) (inc : Incremental) (old : Derived) (after : OsdMap) (groups : Groups) → IsDerivedOf log old → IsStep log inc old.before after → AreGroupsOf (log ++ entry.Inc inc ∷ []) groups
     → ids_of groups.kept.items ≡ ids_of old.groups.kept.items → IsStepping log inc (record old { after = after; groups = groups })
-groups-step log inc old after groups is step are ids = record { step = step; groups_are = are; own_are = λ pg own there. ap (is_among pg) ids ∙ is.own_are pg own there }
+groups-step log inc old after groups is step are ids = record {
+  step = step;
+  groups_are = are;
+  own_are = λ pg own there. ap (is_among pg) ids ∙ is.own_are pg ∙ and_from (is_own old.shard old.shards pg) (has_group (incs_of log) pg) own there;
+  only_own = λ pg kept.
+      let was = and_parts (is_own old.shard old.shards pg) (has_group (incs_of log) pg) (sym (is.own_are pg) ∙ sym (ap (is_among pg) ids) ∙ kept) in
+      and_from (is_own old.shard old.shards pg) (has_group (then_with (incs_of log) inc) pg) was.0
+      (still-there (incs_of log) inc pg (step-fine log inc old.before after step) was.1);
+}
 
 -- the other map has taken it too
 pub step-ends : (log : List Entry) (inc : Incremental) (moved : Derived) (before : OsdMap) → IsStepping log inc moved → HasOwn (then_with (incs_of log) inc) moved → IsMapOf (then_with (incs_of log) inc) before
@@ -48,7 +57,7 @@ step-ends log inc moved before is own made = record {
   before_is = subst (λ (l : List Incremental). IsMapOf l before) (sym (grown log inc)) made;
   after_is = subst (λ (l : List Incremental). IsMapOf l moved.after) (sym (grown log inc)) is.step.after_is;
   groups_are = is.groups_are;
-  own_are = λ pg mine there. own pg mine (ap (λ (l : List Incremental). has_group l pg) (sym (grown log inc)) ∙ there);
+  own_are = λ pg. own pg ∙ ap (λ (l : List Incremental). is_own moved.shard moved.shards pg && has_group l pg) (sym (grown log inc));
 }
 
 -- the groups have taken an entry that brings no map
@@ -60,7 +69,7 @@ told-on log new old groups none fit is are ids =
       before_is = subst (λ (l : List Incremental). IsMapOf l old.before) (sym same) is.before_is;
       after_is = subst (λ (l : List Incremental). IsMapOf l old.after) (sym same) is.after_is;
       groups_are = are;
-      own_are = λ pg own there. ap (is_among pg) ids ∙ is.own_are pg own (ap (λ (l : List Incremental). has_group l pg) (sym same) ∙ there);
+      own_are = λ pg. ap (is_among pg) ids ∙ is.own_are pg ∙ ap (λ (l : List Incremental). is_own old.shard old.shards pg && has_group l pg) (sym same);
     }
 
 -- the next map has a group that its list has
@@ -71,7 +80,7 @@ next-has_group log inc derived pg is there =
 -- the groups have answered
 pub asked-on : (log : List Entry) (old : Derived) (groups : Groups) → IsDerivedOf log old → AreGroupsOf log groups → ids_of groups.kept.items ≡ ids_of old.groups.kept.items → IsDerivedOf log (record old { groups = groups })
 asked-on log old groups is are ids =
-    record { legal = is.legal; before_is = is.before_is; after_is = is.after_is; groups_are = are; own_are = λ pg own there. ap (is_among pg) ids ∙ is.own_are pg own there }
+    record { legal = is.legal; before_is = is.before_is; after_is = is.after_is; groups_are = are; own_are = λ pg. ap (is_among pg) ids ∙ is.own_are pg }
 
 -- a group that the last map doesn't have has no view
 pub no-view : (log : List Entry) (pg : PgId) → has_group (incs_of log) pg ≡ false → None ≡ scratch log pg
@@ -83,7 +92,7 @@ no-view log pg absent = none-there (scratch log pg) (scratch_there log pg ∙ ab
 -- ---- the shard's groups
 
 -- a group that was kept is kept still
-pub has-still : (incs : List Incremental) (before after : Derived) (pg : PgId) → HasStill before after → HasIfOwn incs before pg → HasIfOwn incs after pg
+pub has-still : (incs : List Incremental) (before after : Derived) (pg : PgId) → HasStill before after → IsKeptIfOwn incs before pg → IsKeptIfOwn incs after pg
 has-still incs before after pg still has = λ own there.
     still.groups_are pg (has (ap₂ (λ (shard shards : ℕ). is_own shard shards pg) (sym still.is_for.shard_is) (sym still.is_for.shards_are) ∙ own) there)
 
@@ -93,13 +102,40 @@ still-on first before after one two = record {
   groups_are = λ pg was. two.groups_are pg (one.groups_are pg was);
 }
 
--- those of the map before are there, so are those of the pools that the incremental makes
-pub own-next : (log : List Entry) (inc : Incremental) (moved : Derived) → IsStepping log inc moved → ((pg : PgId) → makes pg.pool inc ≡ true → HasIfOwn (then_with (incs_of log) inc) moved pg)
-    → HasOwn (then_with (incs_of log) inc) moved
-own-next log inc moved is made = λ pg own there. elim (cases_Bool (has_group (incs_of log) pg)) [
-  | inl was ↦ is.own_are pg own was
-  | inr new ↦ made pg (comes-with_pool (incs_of log) inc pg new there) own there
+-- one of them comes: what was kept is kept still
+pub keeps-still : (old groups : Groups) (pg : PgId) → keeps pg groups ≡ true → ((other : PgId) → is_same_group other pg ≡ false → keeps other groups ≡ keeps other old) → KeepsAll old groups
+keeps-still old groups pg there others = λ other was. elim (cases_Bool (is_same_group other pg)) [
+  | inl same ↦ ap (λ (p : PgId). keeps p groups) (same_group other pg same) ∙ there
+  | inr differs ↦ others other differs ∙ was
 ]
+
+-- and it is the only one that comes
+pub only-more : (incs : List Incremental) (old : Derived) (groups : Groups) (pg : PgId) → is_own old.shard old.shards pg ≡ true → has_group incs pg ≡ true
+    → ((other : PgId) → is_same_group other pg ≡ false → keeps other groups ≡ keeps other old.groups) → ((other : PgId) → IsOwnIfKept incs old other)
+    → (other : PgId) → IsOwnIfKept incs (record old { groups = groups }) other
+only-more incs old groups pg own there others only other kept = elim (cases_Bool (is_same_group other pg)) [
+  | inl same ↦
+      ap (λ (p : PgId). is_own old.shard old.shards p && has_group incs p) (same_group other pg same)
+      ∙ and_from (is_own old.shard old.shards pg) (has_group incs pg) own there
+  | inr differs ↦ only other (sym (others other differs) ∙ kept)
+]
+
+-- those of the map before are kept, so are those of the pools that the incremental makes, and no other
+pub own-next : (log : List Entry) (inc : Incremental) (moved : Derived) → IsStepping log inc moved → ((pg : PgId) → makes pg.pool inc ≡ true → IsKeptIfOwn (then_with (incs_of log) inc) moved pg)
+    → HasOwn (then_with (incs_of log) inc) moved
+own-next log inc moved is made = λ pg. both-ways (keeps pg moved.groups) (is_own moved.shard moved.shards pg && has_group (then_with (incs_of log) inc) pg) (is.only_own pg) (all pg) where
+  both-ways : (x y : Bool) → (x ≡ true → y ≡ true) → (y ≡ true → x ≡ true) → x ≡ y
+  both-ways true y to from = sym (to refl)
+  both-ways false true to from = from refl
+  both-ways false false to from = refl
+
+  all : (pg : PgId) → (is_own moved.shard moved.shards pg && has_group (then_with (incs_of log) inc) pg) ≡ true → keeps pg moved.groups ≡ true
+  all pg is_there =
+      let both = and_parts (is_own moved.shard moved.shards pg) (has_group (then_with (incs_of log) inc) pg) is_there in
+      elim (cases_Bool (has_group (incs_of log) pg)) [
+        | inl was ↦ is.own_are pg both.0 was
+        | inr new ↦ made pg (comes-with_pool (incs_of log) inc pg new both.1) both.0 both.1
+      ]
 
 -- ---- the groups of a pool
 
@@ -109,14 +145,14 @@ of-pool incs id pg found is same there =
     ap (λ (o : Option PoolSpec). option_map_or (λ made. nat_lt pg.pg made.pg_num) o false) (is ∙ ap (pool incs) (eqb-true id pg.pool same)) ∙ there
 
 -- one of its groups more is there
-pub pool-more : (incs : List Incremental) (before after : Derived) (id number : ℕ) → HasStill before after → ((pg : PgId) → nat_eq id pg.pool ≡ true → pg.pg < number → HasIfOwn incs before pg)
-    → HasIfOwn incs after (record { pool = id; pg = number }) → (pg : PgId) → nat_eq id pg.pool ≡ true → pg.pg < number + 1 → HasIfOwn incs after pg
+pub pool-more : (incs : List Incremental) (before after : Derived) (id number : ℕ) → HasStill before after → ((pg : PgId) → nat_eq id pg.pool ≡ true → pg.pg < number → IsKeptIfOwn incs before pg)
+    → IsKeptIfOwn incs after (record { pool = id; pg = number }) → (pg : PgId) → nat_eq id pg.pool ≡ true → pg.pg < number + 1 → IsKeptIfOwn incs after pg
 pool-more incs before after id number still has next pg same below = elim (cases_lt pg.pg number) [
   | inl earlier ↦ has-still incs before after pg still (has pg same earlier)
   | inr past ↦
       let here : number ≡ pg.pg = omega arith in
       let is : pg_at id number ≡ pg = λ i. record { pool = eqb-true id pg.pool same i; pg = here i } in
-      subst (HasIfOwn incs after) is next
+      subst (IsKeptIfOwn incs after) is next
 ]
   where
     pg_at : ℕ → ℕ → PgId
@@ -124,8 +160,8 @@ pool-more incs before after id number still has next pg same below = elim (cases
 
 -- and so are those of one pool more that the incremental makes
 pub pools-more : (incs : List Incremental) (inc : Incremental) (before after : Derived) (i : ℕ) (new : PoolSpec) → HasStill before after → i < length inc.pools → new ≡ get_or inc.pools i new
-    → ((pg : PgId) → list_any (λ made. nat_eq made.id pg.pool) (take i inc.pools) ≡ true → HasIfOwn incs before pg) → ((pg : PgId) → nat_eq new.id pg.pool ≡ true → HasIfOwn incs after pg)
-    → (pg : PgId) → list_any (λ made. nat_eq made.id pg.pool) (take (i + 1) inc.pools) ≡ true → HasIfOwn incs after pg
+    → ((pg : PgId) → list_any (λ made. nat_eq made.id pg.pool) (take i inc.pools) ≡ true → IsKeptIfOwn incs before pg) → ((pg : PgId) → nat_eq new.id pg.pool ≡ true → IsKeptIfOwn incs after pg)
+    → (pg : PgId) → list_any (λ made. nat_eq made.id pg.pool) (take (i + 1) inc.pools) ≡ true → IsKeptIfOwn incs after pg
 pools-more incs inc before after i new still within item has next pg made = elim (cases_Bool (list_any (λ (p : PoolSpec). nat_eq p.id pg.pool) (take i inc.pools))) [
   | inl earlier ↦ has-still incs before after pg still (has pg earlier)
   | inr none ↦
@@ -137,10 +173,7 @@ pools-more incs inc before after i new still within item has next pg made = elim
 
 -- a group of the shard that isn't kept isn't in the map, and has no view
 pub no-own-view : (log : List Entry) (derived : Derived) (pg : PgId) → IsDerivedOf log derived → is_own derived.shard derived.shards pg ≡ true → false ≡ keeps pg derived.groups → None ≡ scratch log pg
-no-own-view log derived pg is own gone = no-view log pg (absent (has_group (incs_of log) pg) refl) where
-  absent : (there : Bool) → has_group (incs_of log) pg ≡ there → has_group (incs_of log) pg ≡ false
-  absent true there = absurd (true≢false (sym (is.own_are pg own there) ∙ sym gone))
-  absent false there = there
+no-own-view log derived pg is own gone = no-view log pg (ap (λ b. b && has_group (incs_of log) pg) (sym own) ∙ sym (is.own_are pg) ∙ sym gone)
 
 -- what holds of something if it is there
 pub some-holds : {X : Type 0} (found : Option X) (P : X → Type 0) (x : X) → found ≡ Some x → IfSome found P → P x

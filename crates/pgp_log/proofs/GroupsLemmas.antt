@@ -6,7 +6,7 @@ use Rattle.std.specs.Option.{option_map}
 use Rattle.std.specs.Prelude.{slice_get}
 use Rattle.std.proofs.Math.Seq.{map-set_same}
 use Rattle.std.proofs.lemmas.Bool.{cases_Bool, cases_eq, cases_lt, true≢false}
-use Rattle.std.proofs.Math.Bool.{or-true}
+use Rattle.std.proofs.Math.Bool.{or-false, or-true}
 use Rattle.std.proofs.lemmas.List.{length-map, map-append}
 use Rattle.std.proofs.lemmas.List.Folds.{list_any-append}
 use Rattle.std.proofs.lemmas.Option.{get_or_from_slice_get, slice_get-map, slice_get_within}
@@ -223,13 +223,13 @@ keeps-found groups pg are = at (hash.get is_same_group groups.places pg) refl wh
     | inr none ↦ absurd (true≢false (sym (same-self pg) ∙ none-at (is_same_group pg) (ids_of groups.kept.items) place pg none (are.there pg place is)))
   ]
 
--- those that were kept before one came
-pub keeps-push : (xs : List Kept) (kept : Kept) (pg : PgId) → is_among pg (ids_of xs) ≡ true → is_among pg (ids_of (xs ++ kept ∷ [])) ≡ true
-keeps-push xs kept pg was =
+-- where one comes, each other is kept where it was before
+pub keeps-others : (xs : List Kept) (kept : Kept) (pg : PgId) → is_same_group pg kept.pg ≡ false → is_among pg (ids_of (xs ++ kept ∷ [])) ≡ is_among pg (ids_of xs)
+keeps-others xs kept pg differs =
     ap (is_among pg) (ids-push xs kept) ∙ list_any-append (is_same_group pg) (ids_of xs) (kept.pg ∷ [])
-    ∙ ap (λ b. b || (is_same_group pg kept.pg || false)) was
+    ∙ ap (λ b. list_any (is_same_group pg) (ids_of xs) || (b || false)) differs ∙ or-false (list_any (is_same_group pg) (ids_of xs))
 
--- and that one
+-- and that one is
 pub keeps-last : (xs : List Kept) (kept : Kept) → is_among kept.pg (ids_of (xs ++ kept ∷ [])) ≡ true
 keeps-last xs kept =
     ap (is_among kept.pg) (ids-push xs kept) ∙ list_any-append (is_same_group kept.pg) (ids_of xs) (kept.pg ∷ [])

@@ -84,12 +84,15 @@ some_of : {X : Type 0} (found : Option X) → is_some found ≡ true → (x : X)
 some_of None some = cc
 some_of (Some x) some = (x, refl)
 
--- a group that is absent after an incremental was absent before
+-- a group that is there before an incremental is there after it
+pub still-there : (incs : List Incremental) (inc : Incremental) (pg : PgId) → map_fault incs inc ≡ None → has_group incs pg ≡ true → has_group (then_with incs inc) pg ≡ true
+still-there incs inc pg fine there =
+    let history = some_of (group_history incs pg) (history_there incs pg ∙ there) in has_group-grows incs inc pg history.0 fine history.1
+
+-- one that is absent after it was absent before
 absent-before : (incs : List Incremental) (inc : Incremental) (pg : PgId) → map_fault incs inc ≡ None → has_group (then_with incs inc) pg ≡ false → has_group incs pg ≡ false
 absent-before incs inc pg fine absent = elim (cases_Bool (has_group incs pg)) [
-  | inl there ↦
-      let history = some_of (group_history incs pg) (history_there incs pg ∙ there) in
-      absurd (true≢false (sym (has_group-grows incs inc pg history.0 fine history.1) ∙ absent))
+  | inl there ↦ absurd (true≢false (sym (still-there incs inc pg fine there) ∙ absent))
   | inr none ↦ none
 ]
 

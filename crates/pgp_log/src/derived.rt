@@ -12,7 +12,7 @@ ghost use Rattle.pgp_map.specs.MapOf.{IsMapOf};
 ghost use Rattle.pgp_map.specs.Pools.{has_group};
 ghost use Rattle.pgp_group.specs.Entries.{incs_of};
 ghost use Rattle.pgp_group.specs.View.{scratch};
-ghost use Rattle.pgp_log.specs.Derived.{IsDerivedOf, IsStepping, CanStepOn, CanAbsorb, IsFor, HasIfOwn, HasOwn, HasStill};
+ghost use Rattle.pgp_log.specs.Derived.{IsDerivedOf, IsStepping, CanStepOn, CanAbsorb, IsFor, IsKeptIfOwn, HasOwn, HasStill};
 ghost use Rattle.pgp_log.specs.Fits.{fits};
 ghost use Rattle.pgp_log.specs.Kept.{is_among, marks_of, without, MarksTouched};
 ghost use Rattle.pgp_log.specs.Log.{HasInc, is_legal};
@@ -128,7 +128,7 @@ impl Derived {
         requires { CanStepOn self.old inc.now }
         ensures ok { OnOk result ((log : List AnyEntry) → IsStepping log inc.now self.old → IsStepping log inc.now self.new) }
         ensures own { OnOk result ((log : List AnyEntry) → IsStepping log inc.now self.old
-            → (pg : Id) → nat_eq id pg.pool ≡ true → HasIfOwn (then_with (incs_of log) inc.now) self.new pg) }
+            → (pg : Id) → nat_eq id pg.pool ≡ true → IsKeptIfOwn (then_with (incs_of log) inc.now) self.new pg) }
         ensures still { OnOk result (HasStill self.old self.new) }
         ensures marks { OnOk result ((other : Id) → nat_eq id other.pool ≡ false
             → is_among other (marks_of self.new.groups) ≡ is_among other (marks_of self.old.groups)) }
@@ -151,7 +151,7 @@ impl Derived {
         requires { CanStepOn self.old inc.now }
         ensures ok { OnOk result ((log : List AnyEntry) → IsStepping log inc.now self.old → IsStepping log inc.now self.new) }
         ensures own { OnOk result ((log : List AnyEntry) → IsStepping log inc.now self.old
-            → HasIfOwn (then_with (incs_of log) inc.now) self.new pg) }
+            → IsKeptIfOwn (then_with (incs_of log) inc.now) self.new pg) }
         ensures still { OnOk result (HasStill self.old self.new) }
         ensures marks { OnOk result ((other : Id) → nat_eq pg.pool other.pool ≡ false
             → is_among other (marks_of self.new.groups) ≡ is_among other (marks_of self.old.groups)) }

@@ -14,7 +14,7 @@ ghost use Rattle.pgp_map.specs.declared.map.OsdMap.{OsdMap as AnyMap};
 ghost use Rattle.pgp_group.specs.Entries.{inc_of, incs_of};
 ghost use Rattle.pgp_group.specs.Touched.{is_touched};
 ghost use Rattle.pgp_group.specs.View.{scratch};
-ghost use Rattle.pgp_log.specs.Kept.{AreKeptOf, AreAtPlaces, AreGroupsOf, IsStep, CanStepAll, ids_of, marks_in, marks_of, is_among, without, keeps, KeepsAll, MarksTouched};
+ghost use Rattle.pgp_log.specs.Kept.{AreKeptOf, AreAtPlaces, AreGroupsOf, IsStep, CanStepAll, ids_of, marks_in, marks_of, is_among, without, keeps, MarksTouched};
 ghost use Rattle.pgp_log.specs.Log.{HasInc};
 
 use super::kept::Kept;
@@ -34,7 +34,8 @@ pub(crate) struct Groups {
 impl Groups {
     /// No groups. It takes no memory.
     pub(crate) fn new(alloc: Global) -> Self
-        ensures { (log : List AnyEntry) → AreGroupsOf log result }
+        ensures are { (log : List AnyEntry) → AreGroupsOf log result }
+        ensures none { (pg : Id) → keeps pg result ≡ false }
     {
         Groups {
             places: HashMap::new(alloc),
@@ -56,7 +57,8 @@ impl Groups {
             → has_group (incs_of log) pg ≡ false → has_group (then_with (incs_of log) inc) pg ≡ true
             → AreGroupsOf (log ++ entry.Inc inc ∷ []) self.old → AreGroupsOf (log ++ entry.Inc inc ∷ []) self.new) }
         ensures there { OnOk result (AreAtPlaces self.old → keeps pg self.new ≡ true) }
-        ensures still { OnOk result (KeepsAll self.old self.new) }
+        ensures others { OnOk result ((other : Id) → is_same_group other pg ≡ false
+            → keeps other self.new ≡ keeps other self.old) }
         ensures marks { OnOk result ((other : Id) → is_same_group other pg ≡ false
             → is_among other (marks_of self.new) ≡ is_among other (marks_of self.old)) }
     {

@@ -2,7 +2,8 @@ use Rattle.std.proofs.Common.{◌≡◌, true, false, refl, sym, ◌∙◌}
 use Rattle.pgp_map.specs.MapFault.{then_with}
 use Rattle.pgp_map.specs.Pools.{has_group}
 use Rattle.pgp_group.specs.Entries.{incs_of}
-use Rattle.pgp_log.proofs.DerivedLemmas.{next-has_group}
+use Rattle.pgp_log.specs.declared.derived.Derived.{Derived}
+use Rattle.pgp_log.proofs.DerivedLemmas.{keeps-still, next-has_group, only-more}
 use Rattle.pgp_log.proofs.MarksLemmas.{other-pool}
 use Rattle.pgp_log.proofs.derived.Derived.add.Goals as goal
 
@@ -16,9 +17,16 @@ add-requires c =
 pub returns-in_ok-add-clause-ok : goal.returns-in_ok-add-clause-ok
 returns-in_ok-add-clause-ok c = λ log is.
     let inc = c.args.inc.now in
+    let old : Derived = c.args.self.now in
     let there : has_group (then_with (incs_of log) inc) c.args.pg ≡ true = sym (c.has_group.ensures (then_with (incs_of log) inc) is.step.after_is) ∙ c.if-has_group.true in
     let absent : has_group (incs_of log) c.args.pg ≡ false = sym (c.has_group-then-has_group.ensures (incs_of log) is.step.before_is) ∙ c.if-not-has_group.true in
-    record { step = is.step; groups_are = c.in_ok-add.ensures.ok log inc c.args.self.now.before is.step absent there is.groups_are; own_are = λ pg own was. c.in_ok-add.ensures.still pg (is.own_are pg own was) }
+    record {
+      step = is.step;
+      groups_are = c.in_ok-add.ensures.ok log inc old.before is.step absent there is.groups_are;
+      own_are = λ pg own was.
+          keeps-still old.groups c.add.new.self c.args.pg (c.in_ok-add.ensures.there is.groups_are.places_are) c.in_ok-add.ensures.others pg (is.own_are pg own was);
+      only_own = only-more (then_with (incs_of log) inc) old c.add.new.self c.args.pg (sym c.is_own.ensures ∙ c.if-is_own.true) there c.in_ok-add.ensures.others is.only_own;
+    }
 
 pub returns-in_ok-add-clause-marks : goal.returns-in_ok-add-clause-marks
 returns-in_ok-add-clause-marks c = λ other differs. c.in_ok-add.ensures.marks other (other-pool c.args.pg other differs)
@@ -27,4 +35,7 @@ pub returns-in_ok-add-clause-own : goal.returns-in_ok-add-clause-own
 returns-in_ok-add-clause-own c = λ log is own there. c.in_ok-add.ensures.there is.groups_are.places_are
 
 pub returns-in_ok-add-clause-still : goal.returns-in_ok-add-clause-still
-returns-in_ok-add-clause-still c = record { is_for = record { shard_is = refl; shards_are = refl }; groups_are = c.in_ok-add.ensures.still }
+returns-in_ok-add-clause-still c = record {
+  is_for = record { shard_is = refl; shards_are = refl };
+  groups_are = keeps-still c.args.self.now.groups c.add.new.self c.args.pg (c.in_ok-add.ensures.there c.requires.is.groups_are.places_are) c.in_ok-add.ensures.others;
+}

@@ -5,7 +5,7 @@ use Rattle.pgp_ids.specs.declared.pg_id.PgId.{PgId}
 use Rattle.pgp_map.specs.Pools.{is_same_group}
 use Rattle.pgp_log.specs.Kept.{ids_of, is_among, marks_in}
 use Rattle.pgp_log.specs.declared.kept.Kept.{Kept}
-use Rattle.pgp_log.proofs.GroupsLemmas.{groups-more, keeps-found, keeps-last, keeps-push}
+use Rattle.pgp_log.proofs.GroupsLemmas.{groups-more, keeps-found, keeps-last, keeps-others}
 use Rattle.pgp_log.proofs.MarksLemmas.{marks-push}
 use Rattle.pgp_log.proofs.groups.Groups.add.Goals as goal
 
@@ -31,6 +31,7 @@ returns-clause-there c = λ are.
     ap (λ (l : List Kept). is_among c.args.pg (ids_of l)) c.in_ok-push.ensures.items
     ∙ subst (λ (p : PgId). is_among p (ids_of (old ++ c.begin.result ∷ [])) ≡ true) c.begin.ensures.pg (keeps-last old c.begin.result)
 
-pub returns-clause-still : goal.returns-clause-still
-returns-clause-still c = λ other was.
-    ap (λ (l : List Kept). is_among other (ids_of l)) c.in_ok-push.ensures.items ∙ keeps-push c.args.self.now.kept.items c.begin.result other was
+pub returns-clause-others : goal.returns-clause-others
+returns-clause-others c = λ other differs.
+    ap (λ (l : List Kept). is_among other (ids_of l)) c.in_ok-push.ensures.items
+    ∙ keeps-others c.args.self.now.kept.items c.begin.result other (ap (is_same_group other) c.begin.ensures.pg ∙ differs)
