@@ -14,7 +14,7 @@ use Rattle.pgp_log.specs.Log.{is_legal}
 use Rattle.pgp_log.specs.Shard.{is_own}
 use Rattle.pgp_log.specs.declared.derived.Derived.{Derived}
 
--- it is what this shard keeps, of so many
+-- it is what the shard of this number keeps, of so many shards
 pub record IsFor (shard shards : ℕ) (derived : Derived) : Type 0 where
   pub shard_is : derived.shard ≡ shard
   pub shards_are : derived.shards ≡ shards
@@ -66,7 +66,7 @@ pub record CanAbsorb (derived : Derived) (new : Entry) : Type 0 where
   pub is : IsDerivedOf log derived
   pub fits : fits log new ≡ None
 
--- the log is legal, and what this shard, of so many, keeps of it, if it is there, is right
+-- the log is legal; what is kept, if it is there, follows from the log, and is kept for the shard of this number, of so many
 pub record IsShardOf (log : List Entry) (shard shards : ℕ) (derived : Option Derived) : Type 0 where
   pub legal : is_legal log ≡ true
   pub derived_is : IfSome derived (IsDerivedOf log)

@@ -14,8 +14,8 @@ use pgp_ids::{Entry, PgId, View};
 use std::alloc::{AllocError, Global};
 use std::sync::Arc;
 
-/// What follows from the entries that a shard has read. The first question or the first `renew` makes it, and the next one makes
-/// it again after it found no memory for an entry; in between it isn't there.
+/// What follows from the entries that a shard has read. It isn't there until the first question or the first `renew` makes it,
+/// and again from an entry for which it found no memory until the next of these.
 #[derive(Debug, Drop)]
 pub(crate) struct Part {
     alloc: Global,
