@@ -119,10 +119,6 @@ absent-other log entry.Close pg none fine absent =
       reports = reports-same log entry.Close pg refl ∙ absent.silent.reports;
     })
 
--- there is no view of a group that is absent
-pub scratch-absent : (log : List Entry) (pg : PgId) → IsAbsent log pg → scratch log pg ≡ None
-scratch-absent log pg absent = rw (absent.absent) refl
-
 -- ---- the group is there
 
 -- the map that an incremental makes follows that of the group
