@@ -19,3 +19,6 @@ pub mod LogsLemmas
 pub mod ReportsLemmas
 pub mod NamedLemmas
 pub mod NamesLemmas
+pub mod IndexLemmas
+pub mod NotedLemmas
+pub mod PriorLemmas

@@ -1,8 +1,8 @@
 -- Lists that grow, ranges, and last elements that pass a test.
-use Rattle.std.proofs.Common.{◌≡◌, ℕ, zero, suc, ◌+◌, ◌<◌, List, [], ◌∷◌, ◌++◌, Option, Some, None, Bool, true, false, ◌&&◌, ◌||◌, length, map, refl, ap, ap₂, sym, ◌∙◌, inl, inr, arith, append-nil, append_assoc, get_or, take}
+use Rattle.std.proofs.Common.{◌≡◌, ℕ, zero, suc, ◌+◌, ◌-◌, ◌<◌, List, [], ◌∷◌, ◌++◌, Option, Some, None, Bool, true, false, ◌&&◌, ◌||◌, length, map, refl, ap, ap₂, sym, ◌∙◌, inl, inr, arith, append-nil, append_assoc, drop, get_or, take}
 use Rattle.std.specs.List.{All, Contains, cons_option, filter, filter_map, flat_map, last_or, list_any, range_with_len, slice_index_or}
 use Rattle.std.proofs.lemmas.Bool.{cases_Bool, or_parts, true≢false}
-use Rattle.std.proofs.lemmas.List.{take_more}
+use Rattle.std.proofs.lemmas.List.{get_or-append_right, get_or-drop, length-map, length-take-le, take_more}
 use Rattle.std.proofs.lemmas.List.Elements.{filter-append, filter_map-append, All-head, All-tail}
 use Rattle.std.proofs.lemmas.List.Folds.{list_any-append}
 use Rattle.pgp_lists.proofs.Members.{Contains-nil, Contains-here, Contains-later, Contains-first, Contains-cases}
@@ -134,3 +134,13 @@ pub filter-fails : {X : Type 0} (test : X → Bool) (xs : List X) (i : ℕ) (x :
 filter-fails {X = X} test xs i x within item fails =
     let new : filter test (x ∷ []) ≡ [] = rw fails refl in
     ap (filter test) (take-next xs i x within item) ∙ filter-append test (take i xs) (x ∷ []) ∙ ap (λ (l : List X). filter test (take i xs) ++ l) new ∙ append-nil (filter test (take i xs))
+
+-- ---- a list that is written over
+
+-- what is left of a list that is written over is as it was
+pub under_way : {X : Type 0} (f : X → X) (xs ys : List X) (i : ℕ) (x : X) → i < length xs → ys ≡ map f (take i xs) ++ drop i xs → get_or ys i x ≡ get_or xs i x
+under_way f xs ys i x within so_far =
+    let sized : length (map f (take i xs)) ≡ i = length-map (take i xs) f ∙ length-take-le i xs (omega arith) in
+    let here : i + (i - i) ≡ i = omega arith in
+    ap (λ l. get_or l i x) so_far ∙ get_or-append_right (map f (take i xs)) (drop i xs) i i x sized (omega arith)
+    ∙ get_or-drop i xs (i - i) x ∙ ap (λ k. get_or xs k x) here

@@ -12,6 +12,8 @@ pub mod Present
 pub mod Causes
 pub mod KeptInfos
 pub mod KeptReports
+pub mod Noted
+pub mod KeptPrior
 pub mod GroupOf
 pub mod Found
 pub mod Later

@@ -15,7 +15,9 @@ mod infos;
 pub mod laws;
 mod logs;
 mod named;
+mod noted;
 mod peers;
+mod reckoned;
 mod reports;
 mod standing;
 

@@ -1,0 +1,144 @@
+-- Statuses as the entries of their devices are renewed, one after another.
+use Rattle.std.proofs.Common.{◌≡◌, ℕ, ◌+◌, ◌<◌, List, [], ◌∷◌, ◌++◌, Bool, true, false, ◌||◌, nat_eq, length, refl, ap, sym, ◌∙◌, subst, inl, inr, eqb-true, eq-eqb, take, get_or, if◌then◌else◌}
+use Rattle.std.specs.List.{list_any}
+use Rattle.std.proofs.Math.Bool.{or-false}
+use Rattle.std.proofs.lemmas.Bool.{cases_Bool, false_from_ne_true}
+use Rattle.std.proofs.lemmas.List.{take_more}
+use Rattle.std.proofs.lemmas.List.Folds.{list_any-append}
+use Rattle.pgp_ids.specs.declared.past.Past.{Past}
+use Rattle.pgp_map.specs.Held.{held_exists, held_lost_at, held_up}
+use Rattle.pgp_map.specs.declared.map.OsdMap.{OsdMap}
+use Rattle.pgp_prior.specs.Better.{is_no_worse}
+use Rattle.pgp_prior.specs.Changes.{is_no_better, IsChange}
+use Rattle.pgp_sets.specs.Status.{held_status, status_by}
+use Rattle.pgp_sets.specs.declared.status.Status.{Status}
+use Rattle.pgp_sets.specs.declared.status.Status.TheVariants.{Up, Gone, Lost, Down}
+use Rattle.pgp_group.specs.Noted.{renoted, has_noted, status_noted, up_of, any_change, HasEachMember, GivesEach}
+use Rattle.pgp_group.specs.declared.noted.EachUp.{EachUp}
+use Rattle.pgp_group.specs.declared.noted.Noted.{Noted}
+use Rattle.pgp_group.proofs.IndexLemmas.{AgreeOnEach}
+
+-- ---- any change of a device is one to up, and then one from up
+
+-- the statuses, where the device is up
+abbrev pub raised : ℕ → (ℕ → ℕ → Status) → ℕ → ℕ → Status
+raised osd status q first = if nat_eq q osd then Up else status q first
+
+raised-it : (osd : ℕ) (status : ℕ → ℕ → Status) (first : ℕ) → raised osd status osd first ≡ Up
+raised-it osd status first = ap (λ (b : Bool). if b then Up else status osd first) (eq-eqb osd osd refl)
+
+raised-other : (osd q : ℕ) (status : ℕ → ℕ → Status) (first : ℕ) → (q ≡ osd → ⊥) → raised osd status q first ≡ status q first
+raised-other osd q status first apart =
+    ap (λ (b : Bool). if b then Up else status q first) (false_from_ne_true (nat_eq q osd) (λ hit. apart (eqb-true q osd hit)))
+
+to_up : (old : Status) → is_no_worse old Up ≡ true
+to_up Up = refl
+to_up Gone = refl
+to_up Lost = refl
+to_up Down = refl
+
+from_up : (new : Status) → is_no_better Up new ≡ true
+from_up Up = refl
+from_up Gone = refl
+from_up Lost = refl
+from_up Down = refl
+
+module _ (by_place : Bool) (osd : ℕ) (told old new : ℕ → ℕ → Status) (past : List Past) (change : IsChange any_change by_place osd told old new past) where
+  pub change-up : (all : EachUp) → IsChange is_no_worse by_place osd (up_of all) old (raised osd old) past
+  change-up all interval there = record {
+    of_it = λ m acts same. raised-it osd old interval.first;
+    allowed_of_it = λ m acts same. ap (is_no_worse (old osd interval.first)) (raised-it osd old interval.first) ∙ to_up (old osd interval.first);
+    of_others = λ m acts apart. raised-other osd m.osd old interval.first apart;
+  }
+
+  -- where it is told that the device is up
+  pub change-to_up : (all : EachUp) → ((first : ℕ) → told osd first ≡ Up) → IsChange is_no_worse by_place osd (up_of all) old new past
+  change-to_up all up interval there =
+      let is = change interval there in
+      record {
+        of_it = λ m acts same. is.of_it m acts same ∙ up interval.first;
+        allowed_of_it = λ m acts same. ap (is_no_worse (old osd interval.first)) (is.of_it m acts same ∙ up interval.first) ∙ to_up (old osd interval.first);
+        of_others = is.of_others;
+      }
+
+  pub change-from_up : IsChange is_no_better by_place osd told (raised osd old) new past
+  change-from_up interval there =
+      let is = change interval there in
+      record {
+        of_it = is.of_it;
+        allowed_of_it = λ m acts same. ap (λ (s : Status). is_no_better s (new osd interval.first)) (raised-it osd old interval.first) ∙ from_up (new osd interval.first);
+        of_others = λ m acts apart. is.of_others m acts apart ∙ sym (raised-other osd m.osd old interval.first apart);
+      }
+
+pub held-up : (map : OsdMap) (osd first : ℕ) → held_up map osd ≡ true → held_status map osd first ≡ Up
+held-up map osd first up = ap (λ (b : Bool). status_by b (held_exists map osd) (held_lost_at map osd) first) up
+
+-- ---- the devices of the entries so far have the statuses of the map
+
+abbrev pub taken : OsdMap → (ℕ → ℕ → Status) → Bool → ℕ → ℕ → Status
+taken map status renewed q first = if renewed then held_status map q first else status q first
+
+abbrev pub partly : OsdMap → List Noted → (ℕ → ℕ → Status) → ℕ → ℕ → Status
+partly map noted status q first = taken map status (has_noted q noted) q first
+
+has-more : (noted : List Noted) (i : ℕ) (entry : Noted) (q : ℕ) → i < length noted → entry ≡ get_or noted i entry
+    → has_noted q (take (i + 1) noted) ≡ (has_noted q (take i noted) || nat_eq entry.osd q)
+has-more noted i entry q within item =
+    let test : Noted → Bool = λ e. nat_eq e.osd q in
+    ap (list_any test) (take_more noted i entry within ∙ ap (λ (e : Noted). take i noted ++ e ∷ []) (sym item))
+    ∙ list_any-append test (take i noted) (entry ∷ []) ∙ ap (λ b. list_any test (take i noted) || b) (or-false (nat_eq entry.osd q))
+
+or_true : (b : Bool) → (b || true) ≡ true
+or_true true = refl
+or_true false = refl
+
+module _ (map : OsdMap) (noted : List Noted) (i : ℕ) (entry : Noted) (within : i < length noted) (item : entry ≡ get_or noted i entry) (status : ℕ → ℕ → Status) where
+  -- the entry's device has the status of the map, and the others stay
+  partly-it : (q first : ℕ) → entry.osd ≡ q → partly map (take (i + 1) noted) status q first ≡ held_status map q first
+  partly-it q first same =
+      ap (λ (b : Bool). taken map status b q first) (has-more noted i entry q within item ∙ ap (λ b. has_noted q (take i noted) || b) (eq-eqb entry.osd q same) ∙ or_true (has_noted q (take i noted)))
+
+  partly-other : (q first : ℕ) → (entry.osd ≡ q → ⊥) → partly map (take (i + 1) noted) status q first ≡ partly map (take i noted) status q first
+  partly-other q first apart =
+      ap (λ (b : Bool). taken map status b q first)
+      (has-more noted i entry q within item ∙ ap (λ b. has_noted q (take i noted) || b) (false_from_ne_true (nat_eq entry.osd q) (λ hit. apart (eqb-true entry.osd q hit))) ∙ or-false (has_noted q (take i noted)))
+
+  -- where the device's entry says something else than the map
+  pub partly-change : (by_place : Bool) (past : List Past) → IsChange any_change by_place entry.osd (held_status map) (partly map (take i noted) status) (partly map (take (i + 1) noted) status) past
+  partly-change by_place past interval there = record {
+    of_it = λ m acts same. partly-it entry.osd interval.first refl;
+    allowed_of_it = λ m acts same. refl;
+    of_others = λ m acts apart. partly-other m.osd interval.first (λ same. apart (sym same));
+  }
+
+  -- where it says the same
+  pub partly-same : (by_place : Bool) (past : List Past) → renoted map entry ≡ entry → GivesEach by_place status past noted
+      → AgreeOnEach by_place (partly map (take i noted) status) (partly map (take (i + 1) noted) status) past
+  partly-same by_place past as_before gives interval m there acts = elim (cases_Bool (nat_eq entry.osd m.osd)) [
+    | inl hit ↦
+        let same : entry.osd ≡ m.osd = eqb-true entry.osd m.osd hit in
+        let was : status m.osd interval.first ≡ held_status map m.osd interval.first =
+        gives interval m entry there acts (i, within, sym item) same
+        ∙ ap (λ (e : Noted). status_noted e interval.first) (sym as_before)
+        ∙ ap (λ q. held_status map q interval.first) same in
+        known (has_noted m.osd (take i noted)) was ∙ sym (partly-it m.osd interval.first same)
+    | inr miss ↦ sym (partly-other m.osd interval.first (λ same. differ miss (eq-eqb entry.osd m.osd same)))
+  ]
+    where
+      known : (b : Bool) → status m.osd interval.first ≡ held_status map m.osd interval.first → taken map status b m.osd interval.first ≡ held_status map m.osd interval.first
+      known true was = refl
+      known false was = was
+
+      differ : {b : Bool} → b ≡ false → b ≡ true → ⊥
+      differ fails passes = cc
+
+-- all entries are renewed, and each member has one
+pub partly-all : (map : OsdMap) (noted : List Noted) (i : ℕ) (status : ℕ → ℕ → Status) (by_place : Bool) (past : List Past) → length noted ≡ i → HasEachMember by_place past noted
+    → AgreeOnEach by_place (partly map (take i noted) status) (held_status map) past
+partly-all map noted i status by_place past done has interval m there acts =
+    let whole : take i noted ≡ noted = subst (λ n. take n noted ≡ noted) done (all noted) in
+    ap (λ (b : Bool). taken map status b m.osd interval.first) (ap (has_noted m.osd) whole ∙ has interval m there acts)
+  where
+    all : (l : List Noted) → take (length l) l ≡ l
+    all [] = refl
+    all (x ∷ l) = ap (λ rest. x ∷ rest) (all l)

@@ -1,0 +1,157 @@
+-- What is kept of the prior set of a group, at a look and while the log grows.
+use Rattle.std.proofs.Common.{◌≡◌, ℕ, ◌+◌, ◌≤◌, List, [], ◌∷◌, ◌++◌, Some, true, length, length-append, refl, ap, sym, ◌∙◌, subst, inl, inr, arith, take, slice_get}
+use Rattle.std.specs.List.{Contains}
+use Rattle.std.proofs.lemmas.List.{take_all, take_more, take-append-le}
+use Rattle.std.proofs.lemmas.Option.{get_or_from_slice_get, slice_get_within}
+use Rattle.pgp_code.specs.AnyCode.{enough_of, is_by_place}
+use Rattle.pgp_code.specs.declared.any.AnyCode.{AnyCode}
+use Rattle.pgp_ids.specs.declared.member.Member.{Member}
+use Rattle.pgp_ids.specs.declared.membership.Membership.{Membership}
+use Rattle.pgp_ids.specs.declared.past.Past.{Past}
+use Rattle.pgp_lists.proofs.Members.{append-contains, map-contains, Contains-cases, Contains-nil}
+use Rattle.pgp_map.specs.MapOf.{IsMapOf}
+use Rattle.pgp_map.specs.declared.map.OsdMap.{OsdMap}
+use Rattle.pgp_prior.specs.IndexOf.{Basis, IsIndexOf}
+use Rattle.pgp_prior.specs.Members.{members_of}
+use Rattle.pgp_prior.specs.declared.index.PriorIndex.{PriorIndex}
+use Rattle.pgp_sets.specs.Status.{held_status}
+use Rattle.pgp_sets.specs.StatusLaws.{held_status-is}
+use Rattle.pgp_sets.specs.declared.status.Status.{Status}
+use Rattle.pgp_group.specs.GroupLog.{GroupLog, incs}
+use Rattle.pgp_group.specs.Heard.{les}
+use Rattle.pgp_group.specs.KeptPrior.{KeepsPrior, IsAbreast, IsReckoned, basis_of, basis_with}
+use Rattle.pgp_group.specs.Noted.{renoted, renoted_all, has_noted, status_noted, HasEachMember, AreOfMap}
+use Rattle.pgp_group.specs.Peering.{past}
+use Rattle.pgp_group.specs.declared.noted.Noted.{Noted}
+use Rattle.pgp_group.specs.declared.reckoned.Reckoned.{Reckoned}
+use Rattle.pgp_group.proofs.Lists.{any-mapped}
+
+-- ---- entries that are renewed
+
+pub has-renoted : (map : OsdMap) (noted : List Noted) (osd : ℕ) → has_noted osd (renoted_all map noted) ≡ has_noted osd noted
+has-renoted map noted osd = any-mapped (renoted map) _ noted
+
+pub renoted-of_map : (map : OsdMap) (noted : List Noted) → AreOfMap map (renoted_all map noted)
+renoted-of_map map noted entry there =
+    let found = map-contains (renoted map) noted entry there in
+    subst (λ (e : Noted). e ≡ renoted map e) found.1.1 refl
+
+-- ---- a look
+
+-- after the statuses, the epoch in which the group last began to serve and the current membership were taken
+pub abreast-renewed : (g : GroupLog) (map : OsdMap) (kept : Reckoned) (index : PriorIndex AnyCode) (noted : List Noted) (is : KeepsPrior g kept) (current : Membership) (since : ℕ)
+    → current ≡ g.history.current → since ≡ les g → noted ≡ renoted_all map kept.noted.items
+    → IsIndexOf enough_of is_by_place (record { code = is.basis.code; past = is.basis.past; current = current; les = since; status = held_status map }) index
+    → IsAbreast g map kept.added index noted
+abreast-renewed g map kept index noted is current since current_is since_is noted_is index_is = record {
+  within = is.within;
+  index_is = subst (λ (b : Basis AnyCode). IsIndexOf enough_of is_by_place b index)
+      (λ i. record { code = is.code_is i; past = is.past_are i; current = current_is i; les = since_is i; status = held_status map }) index_is;
+  has_each = subst (HasEachMember (is_by_place g.history.code) (take kept.added (past g))) (sym noted_is)
+      (λ interval m there acts. has-renoted map kept.noted.items m.osd
+      ∙ is.has_each interval m (subst (λ (l : List Past). Contains l interval) (sym is.past_are) there)
+      (subst (λ (c : AnyCode). Contains (members_of (is_by_place c) interval.members.acting) m) (sym is.code_is) acts));
+  of_map = subst (AreOfMap map) (sym noted_is) (renoted-of_map map kept.noted.items);
+}
+
+-- more was noted
+pub abreast-noted : (g : GroupLog) (map : OsdMap) (n : ℕ) (index : PriorIndex AnyCode) (old new : List Noted) → ((osd : ℕ) → has_noted osd old ≡ true → has_noted osd new ≡ true) → (AreOfMap map old → AreOfMap map new)
+    → IsAbreast g map n index old → IsAbreast g map n index new
+abreast-noted g map n index old new keeps of is = record {
+  within = is.within;
+  index_is = is.index_is;
+  has_each = λ interval m there acts. keeps m.osd (is.has_each interval m there acts);
+  of_map = of is.of_map;
+}
+
+pub abreast-index : (g : GroupLog) (map : OsdMap) (n : ℕ) (old new : PriorIndex AnyCode) (noted : List Noted) → ((b : Basis AnyCode) → IsIndexOf enough_of is_by_place b old → IsIndexOf enough_of is_by_place b new)
+    → IsAbreast g map n old noted → IsAbreast g map n new noted
+abreast-index g map n old new noted keeps is = record {
+  within = is.within;
+  index_is = keeps _ is.index_is;
+  has_each = is.has_each;
+  of_map = is.of_map;
+}
+
+take-at : {X : Type 0} (xs : List X) (n : ℕ) (x : X) → slice_get xs n ≡ Some x → take (n + 1) xs ≡ take n xs ++ x ∷ []
+take-at {X = X} xs n x at =
+    take_more xs n x (slice_get_within xs n x at) ∙ ap (λ (y : X). take n xs ++ y ∷ []) (get_or_from_slice_get xs n x x at)
+
+-- the next past interval was added, each acting member of which is noted
+pub abreast-more : (g : GroupLog) (map : OsdMap) (n : ℕ) (old new : PriorIndex AnyCode) (noted : List Noted) (interval : Past) → slice_get (past g) n ≡ Some interval → IsAbreast g map n old noted
+    → IsIndexOf enough_of is_by_place (basis_with g map (take n (past g) ++ interval ∷ [])) new
+    → ((m : Member) → Contains (members_of (is_by_place g.history.code) interval.members.acting) m → has_noted m.osd noted ≡ true)
+    → IsAbreast g map (n + 1) new noted
+abreast-more g map n old new noted interval at is added has =
+    let below = slice_get_within (past g) n interval at in
+    record {
+      within = omega arith;
+      index_is = subst (λ (l : List Past). IsIndexOf enough_of is_by_place (basis_with g map l) new) (sym (take-at (past g) n interval at)) added;
+      has_each = subst (λ (l : List Past). HasEachMember (is_by_place g.history.code) l noted) (sym (take-at (past g) n interval at))
+          (λ p m there acts. elim (append-contains (take n (past g)) (interval ∷ []) p there) [
+            | inl before ↦ is.has_each p m before acts
+            | inr last ↦ elim (Contains-cases interval [] p last) [
+              | inl here ↦ has m (subst (λ (q : Past). Contains (members_of (is_by_place g.history.code) q.members.acting) m) (sym here) acts)
+              | inr none ↦ absurd (Contains-nil p none)
+            ]
+          ]);
+      of_map = is.of_map;
+    }
+
+-- all past intervals are added
+pub abreast-all : (g : GroupLog) (map : OsdMap) (n : ℕ) (index : PriorIndex AnyCode) (noted : List Noted) → length (past g) ≤ n → IsAbreast g map n index noted → IsAbreast g map (length (past g)) index noted
+abreast-all g map n index noted all is =
+    let same : n ≡ length (past g) = let within = is.within in omega arith in
+    subst (λ k. IsAbreast g map k index noted) same is
+
+pub reckoned : (g : GroupLog) (map : OsdMap) (index : PriorIndex AnyCode) (noted : List Noted) → IsMapOf (incs g) map → IsAbreast g map (length (past g)) index noted → IsReckoned g index
+reckoned g map index noted at is =
+    let whole : take (length (past g)) (past g) ≡ past g = take_all (length (past g)) (past g) (omega arith) in
+    subst (λ (b : Basis AnyCode). IsIndexOf enough_of is_by_place b index)
+    (λ i. record (basis_of g) { past = whole i; status = λ osd first. held_status-is (incs g) map at osd first i }) is.index_is
+
+-- ---- what is kept
+
+pub KeepsPrior-abreast : (g : GroupLog) (map : OsdMap) (kept : Reckoned) → IsAbreast g map kept.added kept.index kept.noted.items → KeepsPrior g kept
+KeepsPrior-abreast g map kept is = record {
+  basis = basis_with g map (take kept.added (past g));
+  code_is = refl;
+  within = is.within;
+  past_are = refl;
+  since = omega arith;
+  index_is = is.index_is;
+  has_each = is.has_each;
+  gives_each = λ interval m entry there acts noted same.
+      ap (λ q. held_status map q interval.first) (sym same) ∙ ap (λ (e : Noted). status_noted e interval.first) (sym (is.of_map entry noted));
+}
+
+-- nothing is reckoned with yet
+pub KeepsPrior-begun : (g : GroupLog) (kept : Reckoned) (current : Membership) (since : ℕ) (code : AnyCode) (status : ℕ → ℕ → Status) → code ≡ g.history.code → kept.added ≡ 0 → since ≡ 0
+    → IsIndexOf enough_of is_by_place (record { code = code; past = []; current = current; les = since; status = status }) kept.index → KeepsPrior g kept
+KeepsPrior-begun g kept current since code status code_is none never index_is = record {
+  basis = record { code = code; past = []; current = current; les = since; status = status };
+  code_is = code_is;
+  within = omega arith;
+  past_are = ap (λ n. take n (past g)) (sym none);
+  since = omega arith;
+  index_is = index_is;
+  has_each = λ interval m there acts. absurd (Contains-nil interval there);
+  gives_each = λ interval m entry there acts noted same. absurd (Contains-nil interval there);
+}
+
+-- past intervals come behind the others, and the group may have begun to serve again
+pub KeepsPrior-grown : (g after : GroupLog) (kept : Reckoned) (later : List Past) → after.history.code ≡ g.history.code → past after ≡ past g ++ later → les g ≤ les after → KeepsPrior g kept → KeepsPrior after kept
+KeepsPrior-grown g after kept later code grown rises is =
+    let within = is.within in
+    let since = is.since in
+    let long : length (past after) ≡ length (past g) + length later = ap length grown ∙ length-append (past g) later in
+    record {
+      basis = is.basis;
+      code_is = is.code_is ∙ sym code;
+      within = omega arith;
+      past_are = is.past_are ∙ sym (ap (take kept.added) grown ∙ take-append-le kept.added (past g) later within);
+      since = omega arith;
+      index_is = is.index_is;
+      has_each = is.has_each;
+      gives_each = is.gives_each;
+    }

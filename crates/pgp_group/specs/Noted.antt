@@ -1,0 +1,58 @@
+-- What a map said of the devices of past intervals, and the statuses that this gives (this project's own choice).
+use Rattle.std.specs.Prelude.{◌≡◌, ℕ, List, Bool, true, Contains, nat_eq, map as mapped}
+use Rattle.std.specs.List.{list_any}
+use Rattle.pgp_ids.specs.declared.member.Member.{Member}
+use Rattle.pgp_ids.specs.declared.past.Past.{Past}
+use Rattle.pgp_map.specs.Held.{held_exists, held_up, held_lost_at}
+use Rattle.pgp_map.specs.declared.map.OsdMap.{OsdMap}
+use Rattle.pgp_prior.specs.Members.{members_of}
+use Rattle.pgp_sets.specs.Status.{status_by}
+use Rattle.pgp_sets.specs.declared.status.Status.{Status}
+use Rattle.pgp_sets.specs.declared.status.Status.TheVariants.{Up}
+use Rattle.pgp_group.specs.declared.noted.Noted.{Noted}
+use Rattle.pgp_group.specs.declared.noted.EachUp.{EachUp}
+
+-- what the map says of the device
+abbrev pub noted_of : OsdMap → ℕ → Noted
+noted_of map osd =
+    record { osd = osd; up = held_up map osd; there = held_exists map osd; lost_at = held_lost_at map osd }
+
+-- what the map says of the device of this entry
+abbrev pub renoted : OsdMap → Noted → Noted
+renoted map entry = noted_of map entry.osd
+
+abbrev pub renoted_all : OsdMap → List Noted → List Noted
+renoted_all map noted = mapped (renoted map) noted
+
+-- an entry is of the device
+abbrev pub has_noted : ℕ → List Noted → Bool
+has_noted osd noted = list_any (λ entry. nat_eq entry.osd osd) noted
+
+-- the status of the entry's device, for an interval that began at the epoch `first`
+abbrev pub status_noted : Noted → ℕ → Status
+status_noted entry first = status_by entry.up entry.there entry.lost_at first
+
+-- each device is up
+abbrev pub up_of : EachUp → ℕ → ℕ → Status
+up_of all osd first = Up
+
+-- a status may change to any
+abbrev pub any_change : Status → Status → Bool
+any_change old new = true
+
+-- each acting member of these intervals is noted
+abbrev pub HasEachMember : Bool → List Past → List Noted → Type 0
+HasEachMember by_place past noted =
+    (interval : Past) (member : Member) → Contains past interval
+    → Contains (members_of by_place interval.members.acting) member → has_noted member.osd noted ≡ true
+
+-- the acting members of these intervals have the statuses that their entries give
+abbrev pub GivesEach : Bool → (ℕ → ℕ → Status) → List Past → List Noted → Type 0
+GivesEach by_place status past noted =
+    (interval : Past) (member : Member) (entry : Noted) → Contains past interval
+    → Contains (members_of by_place interval.members.acting) member → Contains noted entry → entry.osd ≡ member.osd
+    → status member.osd interval.first ≡ status_noted entry interval.first
+
+-- each entry says what the map says
+abbrev pub AreOfMap : OsdMap → List Noted → Type 0
+AreOfMap map noted = (entry : Noted) → Contains noted entry → entry ≡ renoted map entry
