@@ -1,14 +1,13 @@
 -- The parts of a view are those of its definition.
-use Rattle.std.proofs.Common.{◌≡◌, ℕ, List, [], ◌++◌, Option, Some, None, Bool, true, false, not, is_some, map, refl, ap, ap₂, sym, ◌∙◌, if◌then◌else◌}
+use Rattle.std.proofs.Common.{◌≡◌, List, [], ◌++◌, Option, Some, None, Bool, true, false, not, is_some, map, refl, ap, ap₂, sym, ◌∙◌, if◌then◌else◌}
 use Rattle.std.specs.List.{list_any, slice_get}
 use Rattle.std.specs.Option.{option_and_then, option_map, option_map_or}
-use Rattle.pgp_code.specs.AnyCode.{enough_of, is_by_place}
+use Rattle.pgp_code.specs.AnyCode.{is_by_place}
 use Rattle.pgp_code.specs.declared.any.AnyCode.{AnyCode}
 use Rattle.pgp_code.specs.declared.any.AnyCode.TheVariants as code
 use Rattle.pgp_ids.specs.Member.{is_before}
 use Rattle.pgp_ids.specs.declared.member.Member.{Member}
 use Rattle.pgp_ids.specs.declared.membership.Membership.{Membership}
-use Rattle.pgp_ids.specs.declared.past.Past.{Past}
 use Rattle.pgp_ids.specs.declared.peer.PeerMissing.{PeerMissing}
 use Rattle.pgp_ids.specs.declared.report.Info.{Info}
 use Rattle.pgp_info.specs.Best.{best_info}
@@ -18,17 +17,12 @@ use Rattle.pgp_info.specs.Prefers.{prefers as prefers_by}
 use Rattle.pgp_info.specs.declared.preference.Preference.{Preference}
 use Rattle.pgp_lists.specs.Ordered.{ascending}
 use Rattle.pgp_missing.specs.Kept.{KeptLog}
-use Rattle.pgp_map.specs.MapOf.{IsMapOf}
-use Rattle.pgp_map.specs.declared.map.OsdMap.{OsdMap}
 use Rattle.pgp_prior.specs.Members.{members_of}
-use Rattle.pgp_prior.specs.Prior.{prior_set}
 use Rattle.pgp_prior.specs.declared.prior_set.Prior.{Prior}
-use Rattle.pgp_sets.specs.Status.{held_status}
-use Rattle.pgp_sets.specs.StatusLaws.{held_status-is}
 use Rattle.pgp_group.specs.Found.{AreHeard, IsFound}
-use Rattle.pgp_group.specs.GroupLog.{GroupLog, incs}
-use Rattle.pgp_group.specs.Heard.{les, heard, has_member}
-use Rattle.pgp_group.specs.Peering.{past, prior, leader, best, has_whole_log, if_whole, whole_best, present_members, peers, peer_missing, peer_states}
+use Rattle.pgp_group.specs.GroupLog.{GroupLog}
+use Rattle.pgp_group.specs.Heard.{heard, has_member}
+use Rattle.pgp_group.specs.Peering.{prior, leader, best, has_whole_log, if_whole, whole_best, present_members, peers, peer_missing, peer_states}
 use Rattle.pgp_group.specs.Prefers.{prefers}
 use Rattle.pgp_group.specs.Verdict.{is_waiting}
 use Rattle.pgp_group.specs.declared.found.Found.{Found}
@@ -86,11 +80,6 @@ prefer-is g by_place primary current by_is current_is primary_is =
     (λ i. if by_is i then oldest_first (leads i) else newest_first (leads i)) ∙ prefers-by_place g.history.code (leader g)
 
 -- ---- whom the group needs
-
-pub prior-is : (g : GroupLog) (map' : OsdMap) (c : AnyCode) (found_les : ℕ) (intervals : List Past) (current : Membership) → IsMapOf (incs g) map' → c ≡ g.history.code → found_les ≡ les g → intervals ≡ past g → current ≡ g.history.current
-    → prior_set (enough_of c) (is_by_place c) (held_status map') found_les intervals current ≡ prior g
-prior-is g map' c found_les intervals current is code_is les_is past_is current_is =
-    λ i. prior_set (enough_of (code_is i)) (is_by_place (code_is i)) (λ osd first. held_status-is (incs g) map' is osd first i) (les_is i) (past_is i) (current_is i)
 
 pub waiting-is : (g : GroupLog) (found : Prior) (infos' : List Info) → found ≡ prior g → infos' ≡ heard g → list_any (λ member. not (has_member member infos')) found.probe ≡ is_waiting g
 waiting-is g found infos' prior_is infos_is = λ i. list_any (λ member. not (has_member member (infos_is i))) (prior_is i).probe

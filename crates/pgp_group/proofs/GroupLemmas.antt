@@ -1,6 +1,7 @@
 -- What a group keeps as its log grows.
-use Rattle.std.proofs.Common.{◌≡◌, ◌≢◌, ℕ, List, [], ◌∷◌, ◌++◌, Option, Some, None, true, false, ◌||◌, nat_eq, refl, ap, sym, ◌∙◌, subst}
+use Rattle.std.proofs.Common.{◌≡◌, ◌≢◌, ◌≤◌, ℕ, List, [], ◌∷◌, ◌++◌, Option, Some, None, true, false, ◌||◌, nat_eq, refl, ap, sym, ◌∙◌, subst, inl, inr, append-nil}
 use Rattle.std.specs.List.{filter, list_any}
+use Rattle.std.proofs.lemmas.Bool.{cases_Bool, true≢false}
 use Rattle.std.specs.Option.{option_map, option_map_or}
 use Rattle.std.specs.Prelude.{Result, Ok, Err}
 use Rattle.std.specs.Result.{OnOk}
@@ -12,14 +13,17 @@ use Rattle.pgp_ids.specs.declared.entry.Entry.TheVariants as entry
 use Rattle.pgp_ids.specs.declared.history.PrimaryFacts.{PrimaryFacts}
 use Rattle.pgp_ids.specs.declared.incremental.Incremental.{Incremental}
 use Rattle.pgp_ids.specs.declared.membership.Membership.{Membership}
+use Rattle.pgp_ids.specs.declared.past.Past.{Past}
 use Rattle.pgp_ids.specs.declared.pg_id.PgId.{PgId}
 use Rattle.pgp_ids.specs.declared.pool.PoolKind.{PoolKind}
 use Rattle.pgp_ids.specs.declared.pool.PoolSpec.{PoolSpec}
 use Rattle.pgp_ids.specs.declared.report.Info.{Info}
 use Rattle.pgp_ids.specs.declared.report.Report.{Report}
 use Rattle.pgp_interval.specs.History.{History, begun, stepped}
-use Rattle.pgp_interval.specs.IntervalsOf.{IsIntervalsOf}
-use Rattle.pgp_interval.specs.Runs.{current_ending}
+use Rattle.pgp_interval.specs.IntervalsOf.{Running, IsIntervalsOf}
+use Rattle.pgp_interval.specs.Runs.{current_ending, past_intervals}
+use Rattle.pgp_interval.specs.SameMembers.{is_same}
+use Rattle.pgp_interval.proofs.Same.{is_same-eq, eq-is_same}
 use Rattle.pgp_interval.proofs.StepLemmas.{past_intervals-continues, past_intervals-ends}
 pub use Rattle.pgp_lists.proofs.Results.{on_err}
 use Rattle.pgp_map.specs.Map.{epoch}
@@ -29,31 +33,60 @@ use Rattle.pgp_sets.specs.Sets.{pool_membership, membership}
 use Rattle.pgp_group.specs.Entries.{inc_of, info_of, report_of, incs_of, infos_of, reports_of}
 use Rattle.pgp_group.specs.GroupHistory.{AreNumbered, made_at, primary_facts, group_history}
 use Rattle.pgp_group.specs.GroupLog.{GroupLog, group_in, group_with, infos, reports}
-use Rattle.pgp_group.specs.GroupOf.{IsGroupOf, IsSilent}
+use Rattle.pgp_group.specs.GroupOf.{Keeps, IsGroupOf, IsSilent}
 use Rattle.pgp_group.specs.Touched.{has_osd, names}
 use Rattle.pgp_group.specs.KeptInfos.{KeepsInfos, IsToldBy}
 use Rattle.pgp_group.specs.KeptNames.{KeepsNames}
+use Rattle.pgp_group.specs.KeptPrior.{KeepsPrior}
 use Rattle.pgp_group.specs.KeptReports.{KeepsReports, IsReportedBy}
+use Rattle.pgp_group.specs.Heard.{les}
+use Rattle.pgp_group.specs.Peering.{past}
 use Rattle.pgp_group.specs.declared.group.Group.{Group}
 use Rattle.pgp_group.specs.declared.infos.Infos.{Infos}
 use Rattle.pgp_group.specs.declared.named.Named.{Named}
+use Rattle.pgp_group.specs.declared.reckoned.Reckoned.{Reckoned}
 use Rattle.pgp_group.specs.declared.reports.Reports.{Reports}
 use Rattle.pgp_group.proofs.GrowthLemmas.{history-begins, history-grows, next_epoch, numbered-more}
 use Rattle.pgp_group.proofs.InfosLemmas.{KeepsInfos-same, KeepsInfos-inc, moves}
 use Rattle.pgp_group.proofs.Lists.{nothing_new, one_new, kept_new, left_new}
 use Rattle.pgp_group.proofs.NamesLemmas.{KeepsNames-begun, KeepsNames-same, KeepsNames-ended}
+use Rattle.pgp_group.proofs.PriorLemmas.{KeepsPrior-grown}
 use Rattle.pgp_group.proofs.ReportsLemmas.{KeepsReports-same, KeepsReports-inc}
+use Rattle.pgp_group.proofs.RiseLemmas.{les-later}
 
 -- ---- an entry that brings no map
 
+-- the epoch in which the group last began to serve never falls
+les-grows : (log : List Entry) (new : Entry) (pg : PgId) (h after : History AnyCode) → les (group_with log pg h) ≤ les (group_with (log ++ new ∷ []) pg after)
+les-grows log new pg h after = les-later log (new ∷ []) pg
+
+-- the past intervals stay, and the current one may join them
+past-grows : (h : History AnyCode) (members : Membership) (facts : PrimaryFacts) → (later : List Past) × (past_intervals enough_of is_by_place (stepped h members facts) ≡ past_intervals enough_of is_by_place h ++ later)
+past-grows h members facts = elim (cases_Bool (is_same members h.current)) [
+  | inl same ↦
+      let stays : members ≡ h.current = is_same-eq members h.current same in (
+        [],
+        ap (λ (m : Membership). past_intervals enough_of is_by_place (stepped h m facts)) stays
+            ∙ past_intervals-continues enough_of is_by_place h facts ∙ sym (append-nil (past_intervals enough_of is_by_place h)),
+      )
+  | inr moved ↦ (
+    current_ending enough_of is_by_place h facts ∷ [],
+    past_intervals-ends enough_of is_by_place h members facts (λ same. true≢false (sym (eq-is_same members h.current same) ∙ moved)),
+  )
+]
+
+-- what an entry that brings no map leaves as it is: the intervals, and whom the group had to hear
+abbrev pub left_alone : Group → Running AnyCode × Reckoned
+left_alone group = (group.intervals, group.reckoned)
+
 -- what a group has, after an entry that brings no map
 pub IsGroupOf-other : (log : List Entry) (new : Entry) (pg : PgId) (old group : Group) (is : IsGroupOf log pg old) → inc_of new ≡ None
-    → group.pg ≡ old.pg → group.intervals ≡ old.intervals
+    → group.pg ≡ old.pg → left_alone group ≡ left_alone old
     → KeepsInfos (group_with (log ++ new ∷ []) pg is.history) group.infos
     → KeepsReports (group_with (log ++ new ∷ []) pg is.history) group.reports
     → KeepsNames (group_with (log ++ new ∷ []) pg is.history) group.named
     → IsGroupOf (log ++ new ∷ []) pg group
-IsGroupOf-other log new pg old group is none pg_is intervals infos' reports' named' =
+IsGroupOf-other log new pg old group is none pg_is left infos' reports' named' =
     let incs : incs_of (log ++ new ∷ []) ≡ incs_of log = nothing_new inc_of log new none in
     record {
       history = is.history;
@@ -61,10 +94,13 @@ IsGroupOf-other log new pg old group is none pg_is intervals infos' reports' nam
       numbered = subst AreNumbered (sym incs) is.numbered;
       keeps = record {
         pg_is = pg_is ∙ is.keeps.pg_is;
-        intervals_are = subst (IsIntervalsOf enough_of is_by_place is.history) (sym intervals) is.keeps.intervals_are;
+        intervals_are = subst (IsIntervalsOf enough_of is_by_place is.history) (sym (ap (λ (parts : Running AnyCode × Reckoned). parts.0) left)) is.keeps.intervals_are;
         infos_are = infos';
         reports_are = reports';
         named_are = named';
+        prior_is = subst (KeepsPrior (group_with (log ++ new ∷ []) pg is.history)) (sym (ap (λ (parts : Running AnyCode × Reckoned). parts.1) left))
+            (KeepsPrior-grown (group_with log pg is.history) (group_with (log ++ new ∷ []) pg is.history) old.reckoned [] refl
+            (sym (append-nil (past (group_with log pg is.history)))) (les-grows log new pg is.history is.history) is.keeps.prior_is);
       };
     }
 
@@ -139,13 +175,14 @@ reports-told log report pg h same = record {
 
 pub IsGroupOf-inc : (log : List Entry) (inc : Incremental) (pg : PgId) (old group : Group) (members : Membership) (is : IsGroupOf log pg old) → map_fault (incs_of log) inc ≡ None
     → membership (then_with (incs_of log) inc) pg ≡ Some members
-    → group.pg ≡ old.pg → group.infos ≡ old.infos → group.reports ≡ old.reports
+    → group.pg ≡ old.pg → group.infos ≡ old.infos → group.reports ≡ old.reports → group.reckoned ≡ old.reckoned
     → IsIntervalsOf enough_of is_by_place (stepped is.history members (primary_facts (incs_of log) is.history.current.acting_primary)) group.intervals
     → KeepsNames (group_with (log ++ entry.Inc inc ∷ []) pg (stepped is.history members (primary_facts (incs_of log) is.history.current.acting_primary))) group.named
     → IsGroupOf (log ++ entry.Inc inc ∷ []) pg group
-IsGroupOf-inc log inc pg old group members is fine lies pg_is infos' reports' intervals named' =
+IsGroupOf-inc log inc pg old group members is fine lies pg_is infos' reports' reckoned' intervals named' =
     let incs : incs_of (log ++ entry.Inc inc ∷ []) ≡ then_with (incs_of log) inc = one_new inc_of log (entry.Inc inc) inc refl in
     let after : History AnyCode = stepped is.history members (primary_facts (incs_of log) is.history.current.acting_primary) in
+    let grown = past-grows is.history members (primary_facts (incs_of log) is.history.current.acting_primary) in
     record {
       history = after;
       history_is = ap (λ (l : List Incremental). group_history l pg) incs
@@ -166,6 +203,9 @@ IsGroupOf-inc log inc pg old group members is fine lies pg_is infos' reports' in
             (moves (incs_of log) pg is.history members (primary_facts (incs_of log) is.history.current.acting_primary) is.numbered is.history_is)
             is.keeps.reports_are);
         named_are = named';
+        prior_is = subst (KeepsPrior (group_with (log ++ entry.Inc inc ∷ []) pg after)) (sym reckoned')
+            (KeepsPrior-grown (group_with log pg is.history) (group_with (log ++ entry.Inc inc ∷ []) pg after) old.reckoned grown.0 refl
+            grown.1 (les-grows log (entry.Inc inc) pg is.history after) is.keeps.prior_is);
       };
     }
 
@@ -199,8 +239,9 @@ pub IsGroupOf-begun : (log : List Entry) (pg : PgId) (kind : PoolKind) (members 
     → option_map (λ made. made.kind) (pool (incs_of log) pg.pool) ≡ Some kind → membership (incs_of log) pg ≡ Some members
     → group.pg ≡ pg → ((g : GroupLog) → infos g ≡ [] → KeepsInfos g group.infos) → ((g : GroupLog) → reports g ≡ [] → KeepsReports g group.reports)
     → IsIntervalsOf enough_of is_by_place (begun (code_of kind) (epoch (incs_of log)) members) group.intervals → group.named.osds.items ≡ []
+    → ((g : GroupLog) → g.history.code ≡ code_of kind → KeepsPrior g group.reckoned)
     → IsGroupOf log pg group
-IsGroupOf-begun log pg kind members group counts there now silent is lies pg_is none nothing intervals nobody = record {
+IsGroupOf-begun log pg kind members group counts there now silent is lies pg_is none nothing intervals nobody unasked = record {
   history = begun (code_of kind) (epoch (incs_of log)) members;
   history_is = history-begins (incs_of log) pg now there ∙ begun_as (incs_of log) pg kind members (pool (incs_of log) pg.pool) is lies;
   numbered = counts;
@@ -210,12 +251,13 @@ IsGroupOf-begun log pg kind members group counts there now silent is lies pg_is 
     infos_are = none (group_with log pg (begun (code_of kind) (epoch (incs_of log)) members)) silent.infos;
     reports_are = nothing (group_with log pg (begun (code_of kind) (epoch (incs_of log)) members)) silent.reports;
     named_are = KeepsNames-begun (group_with log pg (begun (code_of kind) (epoch (incs_of log)) members)) group.named refl silent.infos silent.reports nobody;
+    prior_is = unasked (group_with log pg (begun (code_of kind) (epoch (incs_of log)) members)) refl;
   };
 }
 
 -- the group stands for the log, also where its parts are kept elsewhere
-pub IsGroupOf-same : (log : List Entry) (pg : PgId) (old group : Group) → IsGroupOf log pg old → group.pg ≡ old.pg → group.intervals ≡ old.intervals → ((g : GroupLog) → KeepsInfos g old.infos → KeepsInfos g group.infos) → ((g : GroupLog) → KeepsReports g old.reports → KeepsReports g group.reports) → group.named.osds.items ≡ old.named.osds.items → IsGroupOf log pg group
-IsGroupOf-same log pg old group is pg_is intervals infos' reports' named' = record {
+pub IsGroupOf-same : (log : List Entry) (pg : PgId) (old group : Group) → IsGroupOf log pg old → group.pg ≡ old.pg → group.intervals ≡ old.intervals → ((g : GroupLog) → KeepsInfos g old.infos → KeepsInfos g group.infos) → ((g : GroupLog) → KeepsReports g old.reports → KeepsReports g group.reports) → group.named.osds.items ≡ old.named.osds.items → group.reckoned ≡ old.reckoned → IsGroupOf log pg group
+IsGroupOf-same log pg old group is pg_is intervals infos' reports' named' reckoned' = record {
   history = is.history;
   history_is = is.history_is;
   numbered = is.numbered;
@@ -225,6 +267,23 @@ IsGroupOf-same log pg old group is pg_is intervals infos' reports' named' = reco
     infos_are = infos' (group_with log pg is.history) is.keeps.infos_are;
     reports_are = reports' (group_with log pg is.history) is.keeps.reports_are;
     named_are = KeepsNames-same (group_with log pg is.history) (group_with log pg is.history) old.named group.named refl refl refl named' is.keeps.named_are;
+    prior_is = subst (KeepsPrior (group_with log pg is.history)) (sym reckoned') is.keeps.prior_is;
+  };
+}
+
+-- the same, where a group that keeps its parts elsewhere has reckoned anew whom it has to hear
+pub IsGroupOf-reckoned : (log : List Entry) (pg : PgId) (old group : Group) (new : Reckoned) (is : IsGroupOf log pg old) → Keeps (group_with log pg is.history) group → (KeepsPrior (group_with log pg is.history) group.reckoned → KeepsPrior (group_with log pg is.history) new) → IsGroupOf log pg (record group { reckoned = new })
+IsGroupOf-reckoned log pg old group new is kept renews = record {
+  history = is.history;
+  history_is = is.history_is;
+  numbered = is.numbered;
+  keeps = record {
+    pg_is = kept.pg_is;
+    intervals_are = kept.intervals_are;
+    infos_are = kept.infos_are;
+    reports_are = kept.reports_are;
+    named_are = kept.named_are;
+    prior_is = renews kept.prior_is;
   };
 }
 

@@ -17,17 +17,19 @@ use Rattle.pgp_group.specs.GroupHistory.{AreNumbered, group_history}
 use Rattle.pgp_group.specs.GroupLog.{GroupLog, group_with}
 use Rattle.pgp_group.specs.KeptInfos.{KeepsInfos}
 use Rattle.pgp_group.specs.KeptNames.{KeepsNames}
+use Rattle.pgp_group.specs.KeptPrior.{KeepsPrior}
 use Rattle.pgp_group.specs.KeptReports.{KeepsReports}
 use Rattle.pgp_group.specs.declared.group.Group.{Group}
 
 -- the group keeps the intervals of its history in the log; all that its members reported, in the order in which it came;
--- whom it has heard; the logs of members; and the devices of which it speaks
+-- whom it has heard; the logs of members; the devices of which it speaks; and whom it had to hear when it was last asked
 pub record Keeps (g : GroupLog) (group : Group) : Type 0 where
   pub pg_is : group.pg ≡ g.pg
   pub intervals_are : IsIntervalsOf enough_of is_by_place g.history group.intervals
   pub infos_are : KeepsInfos g group.infos
   pub reports_are : KeepsReports g group.reports
   pub named_are : KeepsNames g group.named
+  pub prior_is : KeepsPrior g group.reckoned
 
 -- the group stands for this group of the log, whose incrementals have the epochs 1, 2, and so on
 pub record IsGroupOf (log : List Entry) (pg : PgId) (group : Group) : Type 0 where

@@ -30,6 +30,7 @@ ghost use Rattle.pgp_group.specs.Found.{AreHeard, AreLogsHeard, IsFound, AreNeed
 ghost use Rattle.pgp_group.specs.GroupLog.{GroupLog, incs};
 ghost use Rattle.pgp_group.specs.GroupOf.{Keeps, IsGroupOf, IsSilent, Follows};
 ghost use Rattle.pgp_group.specs.Heard.{reported};
+ghost use Rattle.pgp_group.specs.KeptPrior.{IsReckoned};
 ghost use Rattle.pgp_group.specs.Peering.{best as best_of, peer_states};
 ghost use Rattle.pgp_group.specs.Present.{IsPresent};
 ghost use Rattle.pgp_group.specs.Verdict.{verdict as verdict_of};
@@ -44,6 +45,7 @@ use super::heard::{is_waiting, leader};
 use super::infos::Infos;
 use super::named::Named;
 use super::peers::states;
+use super::reckoned::Reckoned;
 use super::reports::Reports;
 use super::standing::{is_short, needs_up_thru};
 use pgp_code::{AnyCode, Recoverable};
@@ -72,6 +74,8 @@ pub struct Group {
     reports: Reports,
     /// The devices that stand in up or acting of a past interval, or sent a report.
     named: Named,
+    /// Whom it has to hear, as of the last view.
+    reckoned: Reckoned,
 }
 
 // Written out, so that a crate which lets one go has nothing to prove of what lies within.
@@ -84,6 +88,7 @@ impl Drop for Group {
             infos: _,
             reports: _,
             named: _,
+            reckoned: _,
         } = self;
     }
 }
@@ -99,6 +104,8 @@ impl Group {
         let kind = kind_of(map, &pg);
         let members = lies_at(map, &pg);
         let intervals = opening(alloc, kind, map.epoch(), members);
+        let (_, current) = intervals.current();
+        let reckoned = Reckoned::begin(alloc, *intervals.code(), current);
         Group {
             alloc,
             pg,
@@ -106,6 +113,7 @@ impl Group {
             infos: Infos::new(alloc),
             reports: Reports::new(alloc),
             named: Named::new(alloc),
+            reckoned,
         }
     }
 
@@ -166,7 +174,8 @@ impl Group {
 
     /// All that the log so far says of the group. `map` is the last map, and `count` the number of the log's entries. It
     /// looks at each info and each report once, and then keeps the last info and the log of each member that has some which
-    /// count. After an error the group stands for the same log.
+    /// count. Of the past intervals it asks the code about those alone that came since the last view, or that have a device
+    /// of which the map says something else than then. After an error the group stands for the same log.
     pub fn view(&mut self, map: &OsdMap, count: usize) -> Result<View, AllocError>
         ensures view { IfOk result (λ view. (log : List Told) (pg : Id) → IsGroupOf log pg self.old
             → IsMapOf (incs_of log) map.now → length log ≡ count → scratch log pg ≡ Some view) }
@@ -175,6 +184,7 @@ impl Group {
     {
         let (first, current) = self.intervals.current();
         self.hear_more(map, first, &current)?;
+        self.reckoned.look(map, &self.intervals, self.infos.les())?;
         self.view_of_heard(map, count, first, current)
     }
 
@@ -202,7 +212,7 @@ impl Group {
         Ok(())
     }
 
-    /// The view of the group, which has heard all that count.
+    /// The view of the group, which has heard all that count and has reckoned whom it has to hear.
     fn view_of_heard(
         &self,
         map: &OsdMap,
@@ -212,11 +222,12 @@ impl Group {
     ) -> Result<View, AllocError>
         ensures { IfOk result (λ view. (g : GroupLog) → Keeps g self.now → IsPresent g map.now first
             → current ≡ g.history.current → AreHeard g self.now.infos.heard
-            → AreLogsHeard g self.now.reports.logs.of_members.items → length g.log ≡ count → view_of g ≡ view) }
+            → AreLogsHeard g self.now.reports.logs.of_members.items → IsReckoned g self.now.reckoned.index
+            → length g.log ≡ count → view_of g ≡ view) }
     {
         let heard = self.infos.heard();
         let found = self.found(map, &current, heard)?;
-        let needs = self.needs(map, &current, heard)?;
+        let needs = self.needs(heard)?;
         let causes = self.causes(map, first, &current, &found, &needs);
         Ok(seen(
             count,
@@ -297,25 +308,13 @@ impl Group {
     }
 
     /// Whom the group has to hear, and whether it was.
-    fn needs(
-        &self,
-        map: &OsdMap,
-        current: &Membership,
-        heard: &Best<Preference>,
-    ) -> Result<Needs, AllocError>
-        ensures { IfOk result (λ needs. (g : GroupLog) → Keeps g self.now → IsMapOf (incs g) map.now
-            → current.now ≡ g.history.current → AreHeard g heard.now → AreNeeds g needs) }
+    fn needs(&self, heard: &Best<Preference>) -> Result<Needs, AllocError>
+        ensures { IfOk result (λ needs. (g : GroupLog) → Keeps g self.now → IsReckoned g self.now.reckoned.index
+            → AreHeard g heard.now → AreNeeds g needs) }
     {
         let les = self.infos.les();
         let intervals = self.intervals.past(self.alloc)?;
-        let prior = prior(
-            self.alloc,
-            self.intervals.code(),
-            intervals.as_slice(),
-            current,
-            les,
-            map,
-        )?;
+        let prior = self.reckoned.prior()?;
         let waiting = is_waiting(prior.probe.as_slice(), heard);
         Ok(Needs {
             intervals: Seq::from_vec(intervals),

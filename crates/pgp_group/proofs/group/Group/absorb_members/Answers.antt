@@ -41,7 +41,7 @@ returns-then-is_same-clause-ok c = λ log pg inc is fine before after lies.
     let facts : PrimaryFacts = primary_facts (incs_of log) h.current.acting_primary in
     let stays : c.args.members ≡ h.current =
     is_same-eq c.args.members c.current-current.result.1 (sym c.is_same.ensures ∙ c.if-is_same.true) ∙ c.current-current.ensures.members h is.keeps.intervals_are in
-    IsGroupOf-inc log inc pg c.args.self.now _ h.current is fine (lies ∙ ap Some stays) refl refl refl
+    IsGroupOf-inc log inc pg c.args.self.now _ h.current is fine (lies ∙ ap Some stays) refl refl refl refl
     (c.stay.ensures h (facts ∷ []) is.keeps.intervals_are (c.epoch.ensures c.requires.incs c.requires.is ∙ c.requires.next))
     (names-stay log inc pg h facts c.args.self.now.named is.keeps.named_are)
 
@@ -53,7 +53,7 @@ returns-clause-ok c = λ log pg inc is fine before after lies.
     let moved : members ≢ h.current = λ same. differ members c.current-current.result.1 (sym c.is_same.ensures ∙ c.if-is_same.false) (same ∙ sym current) in
     let facts : c.primary_facts-facts.result ≡ primary_facts (incs_of log) h.current.acting_primary =
     c.primary_facts-facts.ensures (incs_of log) before ∙ ap (λ (m : Membership). primary_facts (incs_of log) m.acting_primary) current in
-    IsGroupOf-inc log inc pg c.args.self.now _ members is fine lies refl refl refl
+    IsGroupOf-inc log inc pg c.args.self.now _ members is fine lies refl refl refl refl
     (subst (λ (f : PrimaryFacts). IsIntervalsOf enough_of is_by_place (stepped h members f) c.step.new.self) facts (c.in_ok-step.ensures.ok h is.keeps.intervals_are))
     (names-end log inc pg h members (primary_facts (incs_of log) h.current.acting_primary) c.args.self.now.named c.add_places.new.self c.add_places-2.new.self moved
     (λ osd. c.add_places.ensures.osds osd ∙ (λ i. has_osd osd (current i).up || list_any (nat_eq osd) (c.make_room.ensures.same i)))
@@ -63,16 +63,16 @@ returns-clause-ok c = λ log pg inc is fine before after lies.
 pub returns-in_err-make_room-clause-err : goal.returns-in_err-make_room-clause-err
 returns-in_err-make_room-clause-err c =
     let now = c.args.self.now in
-    let group : Group = record { alloc = now.alloc; pg = now.pg; intervals = now.intervals; infos = now.infos; reports = now.reports; named = c.make_room.new.self } in
+    let group : Group = record { alloc = now.alloc; pg = now.pg; intervals = now.intervals; infos = now.infos; reports = now.reports; named = c.make_room.new.self; reckoned = now.reckoned } in
     on_err c.from_residual.result (StandsLike now group)
-    (λ log pg is. IsGroupOf-same log pg now group is refl refl (λ g kept. kept) (λ g kept. kept) c.make_room.ensures.same)
+    (λ log pg is. IsGroupOf-same log pg now group is refl refl (λ g kept. kept) (λ g kept. kept) c.make_room.ensures.same refl)
 
 pub returns-in_err-step-clause-err : goal.returns-in_err-step-clause-err
 returns-in_err-step-clause-err c =
     let now = c.args.self.now in
-    let group : Group = record { alloc = now.alloc; pg = now.pg; intervals = c.step.new.self; infos = now.infos; reports = now.reports; named = c.make_room.new.self } in
+    let group : Group = record { alloc = now.alloc; pg = now.pg; intervals = c.step.new.self; infos = now.infos; reports = now.reports; named = c.make_room.new.self; reckoned = now.reckoned } in
     on_err c.from_residual-in_err-step.result (StandsLike now group)
-    (λ log pg is. IsGroupOf-same log pg now group is refl c.in_err-step.ensures.err (λ g kept. kept) (λ g kept. kept) c.make_room.ensures.same)
+    (λ log pg is. IsGroupOf-same log pg now group is refl c.in_err-step.ensures.err (λ g kept. kept) (λ g kept. kept) c.make_room.ensures.same refl)
 
 pub returns-in_err-make_room-clause-wants : goal.returns-in_err-make_room-clause-wants
 returns-in_err-make_room-clause-wants c =

@@ -15,16 +15,16 @@ use Rattle.pgp_group.proofs.group.Group.keep_info.Goals as goal
 pub returns-in_err-make_room_for-clause-err : goal.returns-in_err-make_room_for-clause-err
 returns-in_err-make_room_for-clause-err c =
     let now = c.args.self.now in
-    let group : Group = record { alloc = now.alloc; pg = now.pg; intervals = now.intervals; infos = now.infos; reports = now.reports; named = c.make_room_for.new.self } in
+    let group : Group = record { alloc = now.alloc; pg = now.pg; intervals = now.intervals; infos = now.infos; reports = now.reports; named = c.make_room_for.new.self; reckoned = now.reckoned } in
     on_err c.from_residual.result (StandsLike now group)
-    (λ log pg is. IsGroupOf-same log pg now group is refl refl (λ g kept. kept) (λ g kept. kept) c.make_room_for.ensures.same)
+    (λ log pg is. IsGroupOf-same log pg now group is refl refl (λ g kept. kept) (λ g kept. kept) c.make_room_for.ensures.same refl)
 
 pub returns-in_err-push-clause-err : goal.returns-in_err-push-clause-err
 returns-in_err-push-clause-err c =
     let now = c.args.self.now in
-    let group : Group = record { alloc = now.alloc; pg = now.pg; intervals = now.intervals; infos = c.push.new.self; reports = now.reports; named = c.make_room_for.new.self } in
+    let group : Group = record { alloc = now.alloc; pg = now.pg; intervals = now.intervals; infos = c.push.new.self; reports = now.reports; named = c.make_room_for.new.self; reckoned = now.reckoned } in
     on_err c.from_residual-in_err-push.result (StandsLike now group)
-    (λ log pg is. IsGroupOf-same log pg now group is refl refl c.in_err-push.ensures.err (λ g kept. kept) c.make_room_for.ensures.same)
+    (λ log pg is. IsGroupOf-same log pg now group is refl refl c.in_err-push.ensures.err (λ g kept. kept) c.make_room_for.ensures.same refl)
 
 pub returns-in_ok-push-clause-ok : goal.returns-in_ok-push-clause-ok
 returns-in_ok-push-clause-ok c = λ log pg is.

@@ -1,23 +1,20 @@
 use Rattle.std.proofs.Common.{◌≡◌, ap, not, ◌∙◌}
 use Rattle.std.specs.List.{list_any}
 use Rattle.pgp_ids.specs.declared.member.Member.{Member}
-use Rattle.pgp_group.specs.Heard.{les, has_member}
+use Rattle.pgp_group.specs.Heard.{has_member}
 use Rattle.pgp_group.specs.Peering.{past, prior}
-use Rattle.pgp_group.proofs.FoundLemmas.{prior-is, waiting-is}
+use Rattle.pgp_group.proofs.FoundLemmas.{waiting-is}
 use Rattle.pgp_group.proofs.group.Group.needs.Goals as goal
 
 pub returns : goal.returns
-returns c = λ g keeps is current heard.
-    let les_is : c.les-les.result ≡ les g = c.les-les.ensures ∙ keeps.infos_are.les_is in
+returns c = λ g keeps reckoned heard.
     let past_is : c.in_ok-intervals.intervals.items ≡ past g = c.in_ok-intervals.ensures g.history keeps.intervals_are in
-    let prior_is : c.in_ok-prior.prior ≡ prior g =
-    c.in_ok-prior.ensures
-    ∙ prior-is g c.args.map.now c.code.result.now c.les-les.result c.as_slice.result.now c.args.current.now is (c.code.ensures ∙ keeps.intervals_are.code_is) les_is (c.as_slice.ensures.value ∙ past_is) current in
+    let prior_is : c.in_ok-prior.prior ≡ prior g = c.in_ok-prior.ensures g reckoned in
     record {
       intervals = c.from_vec.ensures ∙ past_is;
-      les = les_is;
+      les = c.les-les.ensures ∙ keeps.infos_are.les_is;
       prior = prior_is;
       waiting = c.is_waiting-waiting.ensures
-          ∙ ap (list_any (λ (member : Member). not (has_member member c.args.heard.now.infos))) c.as_slice-2.ensures
+          ∙ ap (list_any (λ (member : Member). not (has_member member c.args.heard.now.infos))) c.as_slice.ensures
           ∙ waiting-is g c.in_ok-prior.prior c.args.heard.now.infos prior_is heard.infos;
     }

@@ -14,7 +14,7 @@ stay-requires c =
 pub returns : goal.returns
 returns c = λ log pg inc is fine at stays.
     let facts = primary_facts (incs_of log) is.history.current.acting_primary in
-    IsGroupOf-inc log inc pg c.args.self.now _ is.history.current is fine (stays ∙ history-current (incs_of log) pg is.history is.history_is) refl refl refl
+    IsGroupOf-inc log inc pg c.args.self.now _ is.history.current is fine (stays ∙ history-current (incs_of log) pg is.history is.history_is) refl refl refl refl
     (c.stay.ensures is.history (facts ∷ []) is.keeps.intervals_are
     (omega (arith, at, next_epoch (incs_of log) inc fine, is.keeps.intervals_are.last_is, history-last (incs_of log) pg is.history is.numbered is.history_is)))
     (names-stay log inc pg is.history facts c.args.self.now.named is.keeps.named_are)
