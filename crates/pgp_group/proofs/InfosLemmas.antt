@@ -35,7 +35,7 @@ use Rattle.pgp_group.specs.declared.infos.Infos.{Infos}
 use Rattle.pgp_group.proofs.GrowthLemmas.{epoch-snoc, history-last}
 use Rattle.pgp_group.proofs.HeardLemmas.{last_of-contains, last_of-snoc}
 use Rattle.pgp_group.proofs.LaterLemmas.{counts_by, counts-after, outlasts, Moves}
-use Rattle.pgp_group.proofs.Lists.{filter-agree}
+use Rattle.pgp_group.proofs.Lists.{filter-agree, filter-both, filter-each}
 
 -- ---- infos that are put in their order
 
@@ -91,21 +91,6 @@ last_of-lasting lasts (info ∷ told) =
         | inr once ↦ rw (over, once, over) rest
       ]
     ]
-
-filter-both : {X : Type 0} (p q : X → Bool) (xs : List X) → filter (λ x. p x && q x) xs ≡ filter q (filter p xs)
-filter-both p q [] = refl
-filter-both {X = X} p q (x ∷ xs) = elim (cases_Bool (p x)) [
-  | inl passes ↦ elim (cases_Bool (q x)) [
-    | inl too ↦ rw (passes, too) (ap (λ (l : List X). x ∷ l) (filter-both p q xs))
-    | inr fails ↦ rw (passes, fails) (filter-both p q xs)
-  ]
-  | inr fails ↦ rw fails (filter-both p q xs)
-]
-
-filter-each : {X : Type 0} (p : X → Bool) (xs : List X) → ((x : X) → Contains xs x → p x ≡ true) → filter p xs ≡ xs
-filter-each p [] each = refl
-filter-each {X = X} p (x ∷ xs) each =
-    rw (each x (Contains-here x xs)) (ap (λ (l : List X). x ∷ l) (filter-each p xs (λ y there. each y (Contains-later x xs y there))))
 
 take-contains : {X : Type 0} (n : ℕ) (xs : List X) (x : X) → Contains (take n xs) x → Contains xs x
 take-contains n xs x there = subst (λ l. Contains l x) (take-append-drop n xs) (contains-append (take n xs) (drop n xs) x (inl there))

@@ -39,20 +39,12 @@ use Rattle.pgp_group.specs.Prefers.{prefers}
 use Rattle.pgp_group.specs.Verdict.{holds, in_order}
 use Rattle.pgp_group.specs.View.{view_of, scratch}
 use Rattle.pgp_group.proofs.HeardLemmas.{HasDistinctMembers-last_of, last_of-IsLastOfMember}
-use Rattle.pgp_group.proofs.Lists.{filter-none, last_or-snoc}
+use Rattle.pgp_group.proofs.LaterLemmas.{counts_by}
+use Rattle.pgp_group.proofs.Lists.{filter-both, filter-none, last_or-snoc}
+use Rattle.pgp_group.proofs.PeerLemmas.{same_member, compared}
 use Rattle.pgp_group.proofs.ViewLemmas.{prefers_is_preference}
 
 -- ---- elements that pass two tests
-
-filter-both : {X : Type 0} (p q : X → Bool) (xs : List X) → filter (λ x. p x && q x) xs ≡ filter q (filter p xs)
-filter-both p q [] = refl
-filter-both p q (x ∷ xs) = elim (cases_Bool (p x)) [
-  | inl passes ↦ elim (cases_Bool (q x)) [
-    | inl both ↦ rw (passes, both) (ap (λ l. x ∷ l) (filter-both p q xs))
-    | inr one ↦ rw (passes, one) (filter-both p q xs)
-  ]
-  | inr fails ↦ rw fails (filter-both p q xs)
-]
 
 filter-swap : {X : Type 0} (p q : X → Bool) (xs : List X) → filter p (filter q xs) ≡ filter q (filter p xs)
 filter-swap p q [] = refl
@@ -89,11 +81,6 @@ is_of member info = is_same_member info.member member
 
 is_of_itself : (info : Info) → is_of info.member info ≡ true
 is_of_itself info = grind (arith, nat_tests)
-
-same_member : (a b : Member) → is_same_member a b ≡ true → a ≡ b
-same_member a b same =
-    let parts = and_parts _ _ same in
-    λ i. record { osd = eqb-true a.osd b.osd parts.0 i; slot = eqb-true a.slot b.slot parts.1 i }
 
 -- both lists have the same infos of each member, in the same order
 abbrev AlikeByMember : List Info → List Info → Type 0
@@ -179,16 +166,11 @@ greatest-same f a b alike =
 
 -- ---- what the group has heard, in two logs
 
--- a report counts by the incrementals and the history alone
-abbrev counts : List Incremental → History AnyCode → Member → ℕ → Bool
-counts incs h member stamp =
-    nat_le (current_first h) stamp && is_up incs member.osd && nat_le (up_from incs member.osd) stamp
-
 abbrev info_counts : History AnyCode → List Incremental → Info → Bool
-info_counts h incs info = counts incs h info.member info.stamp
+info_counts h incs info = counts_by incs h info.member info.stamp
 
 abbrev report_counts : History AnyCode → List Incremental → Report → Bool
-report_counts h incs report = counts incs h report.member report.stamp
+report_counts h incs report = counts_by incs h report.member report.stamp
 
 abbrev is_by : Member → Report → Bool
 is_by member report = is_same_member report.member member
@@ -240,10 +222,6 @@ whole_best-same log other pg h same =
     let told = reported-same log other pg h same in
     let by = best-same log other pg h same in
     λ i. option_and_then (λ info. if is_whole info (told info.member i) then Some info else None) (by i)
-
--- how the copy of a peer compares with the best one, whose member reported this log
-abbrev compared : List LogEntry → Info → Info → PeerMissing
-compared log best peer = record { member = peer.member; state = peer_state best log peer }
 
 states-same : (log other : List Entry) (pg : PgId) (h : History AnyCode) → TellTheSame log other pg → peer_states (group_with log pg h) ≡ peer_states (group_with other pg h)
 states-same log other pg h same =

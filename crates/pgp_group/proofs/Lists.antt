@@ -27,6 +27,22 @@ pub filter-fail : {X : Type 0} (test : X → Bool) (xs : List X) → All (λ x. 
 filter-fail test [] each = refl
 filter-fail test (x ∷ xs) each = let here : test x ≡ false = All-head (λ x. test x ≡ false) x xs each in rw here (filter-fail test xs (All-tail (λ x. test x ≡ false) x xs each))
 
+-- the elements that pass two tests
+pub filter-both : {X : Type 0} (p q : X → Bool) (xs : List X) → filter (λ x. p x && q x) xs ≡ filter q (filter p xs)
+filter-both p q [] = refl
+filter-both p q (x ∷ xs) = elim (cases_Bool (p x)) [
+  | inl passes ↦ elim (cases_Bool (q x)) [
+    | inl both ↦ rw (passes, both) (ap (λ l. x ∷ l) (filter-both p q xs))
+    | inr one ↦ rw (passes, one) (filter-both p q xs)
+  ]
+  | inr fails ↦ rw fails (filter-both p q xs)
+]
+
+pub filter-each : {X : Type 0} (p : X → Bool) (xs : List X) → ((x : X) → Contains xs x → p x ≡ true) → filter p xs ≡ xs
+filter-each p [] each = refl
+filter-each {X = X} p (x ∷ xs) each =
+    rw (each x (Contains-here x xs)) (ap (λ (l : List X). x ∷ l) (filter-each p xs (λ y there. each y (Contains-later x xs y there))))
+
 pub and_fails : (a b : Bool) → b ≡ false → (a && b) ≡ false
 and_fails true b fails = fails
 and_fails false b fails = refl

@@ -9,9 +9,11 @@ use Rattle.std.proofs.lemmas.List.Elements.{All-contains, All-contains_itself, A
 use Rattle.std.proofs.lemmas.List.Kept.{AllPairs-cons, AllPairs-filter}
 use Rattle.pgp_ids.specs.Member.{is_before, is_same_member}
 use Rattle.pgp_ids.specs.declared.member.Member.{Member}
+use Rattle.pgp_ids.specs.declared.log_entry.LogEntry.{LogEntry}
 use Rattle.pgp_ids.specs.declared.peer.PeerMissing.{PeerMissing}
 use Rattle.pgp_ids.specs.declared.report.Info.{Info}
 use Rattle.pgp_lists.specs.Ordered.{IsAscending}
+use Rattle.pgp_missing.specs.Missing.{peer_state}
 use Rattle.pgp_lists.proofs.Members.{Contains-first, Contains-later, Contains-cases, Contains-nil, filter-contains, contains-filter, any-contains, contains-any, find-some, find-none}
 use Rattle.pgp_lists.proofs.Pairs.{AllPairs-first, AllPairs-mapped, AllPairs-nil, AllPairs-rest}
 use Rattle.pgp_lists.proofs.Ordered.{ascending-contains, contains-ascending, IsAscending-ascending}
@@ -195,3 +197,7 @@ others-none all kept info i x within item found = elim (cases_Bool (is_same_memb
   | inl same ↦ others-same all kept info i x within item same
   | inr other ↦ others-next all kept info i x None within item other (sym (rw other at found)) ∙ append-nil (others_heard (take i all) kept info)
 ]
+
+-- how the copy of a peer compares with the best one, whose member reported this log
+abbrev pub compared : List LogEntry → Info → Info → PeerMissing
+compared log best peer = record { member = peer.member; state = peer_state best log peer }

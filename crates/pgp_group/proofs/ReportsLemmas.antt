@@ -24,6 +24,7 @@ use Rattle.pgp_group.specs.declared.reports.Reports.{Reports}
 use Rattle.pgp_group.proofs.GrowthLemmas.{epoch-snoc}
 use Rattle.pgp_group.proofs.LaterLemmas as later
 use Rattle.pgp_group.proofs.LaterLemmas.{counts-after, outlasts, Moves}
+use Rattle.pgp_group.proofs.Lists.{filter-each}
 use Rattle.pgp_group.proofs.LogsLemmas.{entries_from, head-found, judged}
 use Rattle.pgp_group.proofs.PeerLemmas.{same_member}
 
@@ -253,13 +254,6 @@ AreCounted-none g kept all seen logs sent = record {
       (subst (AreLogsOf g []) (sym logs) (λ member. refl));
 }
 
-filter-all : {X : Type 0} (p : X → Bool) (xs : List X) → ((x : X) → Contains xs x → p x ≡ true) → filter p xs ≡ xs
-filter-all {X = X} p xs each = filter-agree p (λ _. true) xs each ∙ every xs
-  where
-    every : (ys : List X) → filter (λ _. true) ys ≡ ys
-    every [] = refl
-    every (y ∷ ys) = ap (λ (l : List X). y ∷ l) (every ys)
-
 -- all were looked at, and the logs count
 pub KeepsReports-heard : (g : GroupLog) (old kept : Reports) → AreCounted g old → kept.all.items ≡ old.all.items → kept.ahead ≡ old.ahead → kept.seen ≡ length old.all.items
     → AreLogsOf g (reports g) kept.logs.of_members.items → (old.ahead ≡ false → All (λ log. counts_by g (epoch (incs g)) log ≡ true) kept.logs.of_members.items) → KeepsReports g kept
@@ -275,7 +269,7 @@ KeepsReports-heard g old kept is all ahead seen logs counted =
           (λ log counts'. early log (and_parts (counts g log) (nat_le log.stamp (epoch (incs g))) counts').1) kept.logs.of_members.items (counted (sym ahead ∙ settled));
       logs_are = λ settled.
           let each : filter (counts g) kept.logs.of_members.items ≡ kept.logs.of_members.items =
-          filter-all (counts g) kept.logs.of_members.items
+          filter-each (counts g) kept.logs.of_members.items
           (λ log there. (and_parts (counts g log) (nat_le log.stamp (epoch (incs g)))
           (All-contains (λ (l : CountedLog). counts_by g (epoch (incs g)) l ≡ true) kept.logs.of_members.items log (counted (sym ahead ∙ settled)) there)).0) in
           subst (λ (l : List Report). AreLogsOf g l (filter (counts g) kept.logs.of_members.items)) (sym whole) (subst (AreLogsOf g (reports g)) (sym each) logs);
@@ -316,5 +310,5 @@ pub AreLogsOf-renewed : (g : GroupLog) (told : List Report) (old kept : List Cou
     → ((test : Member → ℕ → Bool) (member : Member) (reported : List LogEntry) → entries_of member (filter (judged test) old) ≡ by_number reported → entries_of member (filter (judged test) kept) ≡ by_number reported)
     → AreLogsOf g told old → AreLogsOf g told kept
 AreLogsOf-renewed g told old kept entries is member =
-    ap (entries_of member) (sym (filter-all (judged (λ _ _. true)) kept (λ _ _. refl)))
-    ∙ entries (λ _ _. true) member (reported_in g told member) (ap (entries_of member) (filter-all (judged (λ _ _. true)) old (λ _ _. refl)) ∙ is member)
+    ap (entries_of member) (sym (filter-each (judged (λ _ _. true)) kept (λ _ _. refl)))
+    ∙ entries (λ _ _. true) member (reported_in g told member) (ap (entries_of member) (filter-each (judged (λ _ _. true)) old (λ _ _. refl)) ∙ is member)

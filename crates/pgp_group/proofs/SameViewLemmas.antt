@@ -45,6 +45,7 @@ use Rattle.pgp_group.specs.Touched.{has_osd, was_member, names, told_at}
 use Rattle.pgp_group.specs.Verdict.{holds, in_order, needs_up_thru}
 use Rattle.pgp_group.specs.View.{view_of}
 use Rattle.pgp_group.proofs.Lists.{filter-agree, flat_map-agree, any-agree, filter_map-contains, index-contains}
+use Rattle.pgp_group.proofs.PeerLemmas.{compared}
 use Rattle.pgp_group.proofs.UntoldLemmas.{osd-there}
 
 -- ---- prior sets by statuses that agree on the members of the past intervals
@@ -165,10 +166,6 @@ whole_best-same log after pg h lived same =
     let told = reported-same log after pg h lived same in
     let by = best-same log after pg h lived same in
     λ i. option_and_then (λ info. if is_whole info (told info.member i) then Some info else None) (by i)
-
--- how the copy of a peer compares with the best one, whose member reported this log
-abbrev compared : List LogEntry → Info → Info → PeerMissing
-compared log best peer = record { member = peer.member; state = peer_state best log peer }
 
 states-same : (log after : List Entry) (pg : PgId) (h : History AnyCode) (lived : List EpochState) → IsSame log after pg h lived → peer_states (lives after pg h lived) ≡ peer_states (group_with log pg h)
 states-same log after pg h lived same =
