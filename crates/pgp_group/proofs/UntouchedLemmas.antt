@@ -70,11 +70,11 @@ pub record GoesOn : Type 0 where
   pub first : (h : History AnyCode) (facts : PrimaryFacts) → current_first (stepped h h.current facts) ≡ current_first h
 
 -- no device that the incremental changes has to do with the group
-record IsApart (log : List Entry) (inc : Incremental) (pg : PgId) : Type 0 where
-  left : IsLeft inc pg
-  devices : list_any (has_to_do_with log pg) (changed_devices inc) ≡ false
+pub record IsApart (log : List Entry) (inc : Incremental) (pg : PgId) : Type 0 where
+  pub left : IsLeft inc pg
+  pub devices : list_any (has_to_do_with log pg) (changed_devices inc) ≡ false
 
-apart : (log : List Entry) (inc : Incremental) (pg : PgId) → is_touched log (entry.Inc inc) pg ≡ false → IsApart log inc pg
+pub apart : (log : List Entry) (inc : Incremental) (pg : PgId) → is_touched log (entry.Inc inc) pg ≡ false → IsApart log inc pg
 apart log inc pg untouched =
     let a = or_parts (moves_all inc || changes_pool inc pg.pool || changes_temp inc pg) (list_any (has_to_do_with log pg) (changed_devices inc)) untouched in
     let b = or_parts (moves_all inc || changes_pool inc pg.pool) (changes_temp inc pg) a.0 in
@@ -91,8 +91,8 @@ second_of_three a b c passes = rw (passes, or-true) refl
 third_of_three : (a b c : Bool) → c ≡ true → (a || b || c) ≡ true
 third_of_three a b c passes = rw (passes, or-true) refl
 
--- devices on which the group lies, or may lie by pg_temp
-devices-stay : (log : List Entry) (inc : Incremental) (pg : PgId) (made : PoolSpec) → IsApart log inc pg → pool (incs_of log) pg.pool ≡ Some made → DevicesStay (incs_of log) inc pg made
+-- the devices on which the group lies, or may lie by pg_temp, stay as they were
+pub devices-stay : (log : List Entry) (inc : Incremental) (pg : PgId) (made : PoolSpec) → IsApart log inc pg → pool (incs_of log) pg.pool ≡ Some made → DevicesStay (incs_of log) inc pg made
 devices-stay log inc pg made is there = record {
   placed = λ osd stands.
       let placed : is_placed (incs_of log) pg osd ≡ true = ap (λ (o : Option PoolSpec). option_map_or (λ p. has_osd osd (raw_set (incs_of log) p pg)) o false) there ∙ stands in

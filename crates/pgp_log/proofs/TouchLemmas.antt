@@ -20,7 +20,8 @@ use Rattle.pgp_sets.proofs.RawSetLemmas.{raw_set-stays}
 use Rattle.pgp_sets.specs.Sets.{membership, moves, pool_membership, raw_set}
 use Rattle.pgp_group.proofs.GrowthLemmas.{next_epoch}
 use Rattle.pgp_group.proofs.Lists.{any-mapped}
-use Rattle.pgp_group.proofs.UntoldLemmas.{DevicesStay, IsLeft, members-same, pool-same, same_device}
+use Rattle.pgp_group.proofs.UntoldLemmas.{IsLeft, members-same, pool-same}
+use Rattle.pgp_group.proofs.UntouchedLemmas.{IsApart, apart, devices-stay}
 use Rattle.pgp_group.specs.Entries.{incs_of}
 use Rattle.pgp_group.specs.GroupLog.{group_in}
 use Rattle.pgp_group.specs.GroupOf.{IsGroupOf, IsNext}
@@ -31,35 +32,6 @@ use Rattle.pgp_log.specs.declared.kept.Kept.{Kept}
 use Rattle.pgp_log.proofs.KeptLemmas.{kept_raw-stays, step-fine, untouched-inc, view-stays}
 
 -- ---- an incremental that doesn't touch the group
-
-record IsApart (log : List Entry) (inc : Incremental) (pg : PgId) : Type 0 where
-  left : IsLeft inc pg
-  devices : list_any (has_to_do_with log pg) (changed_devices inc) ≡ false
-
-apart : (log : List Entry) (inc : Incremental) (pg : PgId) → is_touched log (entry.Inc inc) pg ≡ false → IsApart log inc pg
-apart log inc pg untouched =
-    let a = or_parts (moves_all inc || changes_pool inc pg.pool || changes_temp inc pg) (list_any (has_to_do_with log pg) (changed_devices inc)) untouched in
-    let b = or_parts (moves_all inc || changes_pool inc pg.pool) (changes_temp inc pg) a.0 in
-    let c = or_parts (moves_all inc) (changes_pool inc pg.pool) b.0 in
-    record { left = record { still = c.0; pool = c.1; temp = b.1 }; devices = a.1 }
-
-first_of_three : (a b c : Bool) → a ≡ true → (a || b || c) ≡ true
-first_of_three a b c passes = rw passes refl
-
-second_of_three : (a b c : Bool) → b ≡ true → (a || b || c) ≡ true
-second_of_three a b c passes = rw (passes, or-true) refl
-
--- the devices on which the group lies, or may lie by pg_temp, stay as they were
-devices-stay : (log : List Entry) (inc : Incremental) (pg : PgId) (made : PoolSpec) → IsApart log inc pg → pool (incs_of log) pg.pool ≡ Some made → DevicesStay (incs_of log) inc pg made
-devices-stay log inc pg made is there = record {
-  placed = λ osd stands.
-      let placed : is_placed (incs_of log) pg osd ≡ true = ap (λ (o : Option PoolSpec). option_map_or (λ p. has_osd osd (raw_set (incs_of log) p pg)) o false) there ∙ stands in
-      let near : has_to_do_with log pg osd ≡ true = first_of_three (is_placed (incs_of log) pg osd) (has_osd osd (temp (incs_of log) pg)) (option_map_or (names osd) (group_in log pg) false) placed in
-      same_device (has_to_do_with log pg) (incs_of log) inc osd is.devices near;
-  given = λ osd stands.
-      let near : has_to_do_with log pg osd ≡ true = second_of_three (is_placed (incs_of log) pg osd) (has_osd osd (temp (incs_of log) pg)) (option_map_or (names osd) (group_in log pg) false) stands in
-      same_device (has_to_do_with log pg) (incs_of log) inc osd is.devices near;
-}
 
 -- the group lies as it did
 lies-as-before : (log : List Entry) (inc : Incremental) (pg : PgId) → map_fault (incs_of log) inc ≡ None → IsApart log inc pg → membership (then_with (incs_of log) inc) pg ≡ membership (incs_of log) pg
