@@ -1,5 +1,5 @@
 -- What was read after a piece more, and after a line feed.
-use Rattle.std.proofs.Common.{◌≡◌, ℕ, ◌-◌, ◌<◌, ◌≤◌, List, [], ◌∷◌, ◌++◌, false, length, ap, arith}
+use Rattle.std.proofs.Common.{◌≡◌, ℕ, ◌+◌, ◌-◌, ◌<◌, ◌≤◌, List, [], ◌∷◌, ◌++◌, false, length, sym, ap, ◌∙◌, append_assoc, arith}
 use Rattle.std.specs.List.{list_any}
 use Rattle.std.proofs.lemmas.List.{length-append}
 use Rattle.pgp_core.specs.Input.{HasRead}
@@ -11,9 +11,6 @@ use Rattle.pgp_core.proofs.CutLemmas.{cut-piece, cut-feed}
 
 pub whole-piece : (bytes piece : List ℕ) → list_any is_line_feed piece ≡ false → (cut (bytes ++ piece)).whole ≡ (cut bytes).whole
 whole-piece bytes piece none = ap (λ (c : Cut). c.whole) (cut-piece bytes piece none)
-
-pub whole-feed : (bytes : List ℕ) → (cut (bytes ++ 10 ∷ [])).whole ≡ (cut bytes).whole ++ (cut bytes).rest ∷ []
-whole-feed bytes = ap (λ (c : Cut). c.whole) (cut-feed bytes)
 
 pub read-piece : (bounds : Bounds) (old new : Input) (bytes piece : List ℕ) → list_any is_line_feed piece ≡ false → 0 < old.left.lines → length piece ≤ old.left.bytes
     → ((part : List ℕ) → Holds old.line part → Holds new.line (part ++ piece)) → new.left.lines ≡ old.left.lines → new.left.bytes ≡ old.left.bytes - length piece
@@ -28,14 +25,24 @@ read-piece bounds old new bytes piece none room fits added lines left read =
       closed = λ none_left. absurd (omega (arith, none_left, lines, room));
     }
 
-pub read-feed : (bounds : Bounds) (old new : Input) (bytes : List ℕ) → 0 < old.left.lines → 0 < old.left.bytes
-    → Holds new.line [] → new.left.lines ≡ old.left.lines - 1 → new.left.bytes ≡ old.left.bytes - 1
-    → HasRead bounds old bytes → HasRead bounds new (bytes ++ 10 ∷ [])
-read-feed bounds old new bytes room fits begun lines left read =
-    let rest : (cut (bytes ++ 10 ∷ [])).rest ≡ [] = ap (λ (c : Cut). c.rest) (cut-feed bytes) in
+-- a piece and a line feed end the rest
+cut-line : (bytes piece : List ℕ) → list_any is_line_feed piece ≡ false
+    → cut (bytes ++ (piece ++ 10 ∷ [])) ≡ record { whole = (cut bytes).whole ++ ((cut bytes).rest ++ piece) ∷ []; rest = [] }
+cut-line bytes piece none =
+    ap cut (sym (append_assoc bytes piece (10 ∷ []))) ∙ cut-feed (bytes ++ piece)
+    ∙ ap (λ (c : Cut). record { whole = c.whole ++ c.rest ∷ []; rest = [] }) (cut-piece bytes piece none)
+
+pub whole-line : (bytes piece : List ℕ) → list_any is_line_feed piece ≡ false → (cut (bytes ++ (piece ++ 10 ∷ []))).whole ≡ (cut bytes).whole ++ ((cut bytes).rest ++ piece) ∷ []
+whole-line bytes piece none = ap (λ (c : Cut). c.whole) (cut-line bytes piece none)
+
+pub read-line : (bounds : Bounds) (old new : Input) (bytes piece : List ℕ) → list_any is_line_feed piece ≡ false → 0 < old.left.lines → length piece < old.left.bytes
+    → Holds new.line [] → new.left.lines ≡ old.left.lines - 1 → new.left.bytes ≡ old.left.bytes - (length piece + 1)
+    → HasRead bounds old bytes → HasRead bounds new (bytes ++ (piece ++ 10 ∷ []))
+read-line bounds old new bytes piece none room fits begun lines left read =
+    let rest : (cut (bytes ++ (piece ++ 10 ∷ []))).rest ≡ [] = ap (λ (c : Cut). c.rest) (cut-line bytes piece none) in
     record {
       line = rw rest begun;
-      lines_left = rw (whole-feed bytes) (omega (arith, lines, read.lines_left, room, length-append (cut bytes).whole ((cut bytes).rest ∷ [])));
-      bytes_left = omega (arith, left, read.bytes_left, fits, length-append bytes (10 ∷ []));
+      lines_left = rw (whole-line bytes piece none) (omega (arith, lines, read.lines_left, room, length-append (cut bytes).whole (((cut bytes).rest ++ piece) ∷ [])));
+      bytes_left = omega (arith, left, read.bytes_left, fits, length-append bytes (piece ++ 10 ∷ []), length-append piece (10 ∷ []));
       closed = λ _. rest;
     }

@@ -1,5 +1,6 @@
 -- The answer to a line from what its buffer holds.
-use Rattle.std.proofs.Common.{◌≡◌, ℕ, ◌<◌, ◌≤◌, List, [], ◌∷◌, ◌++◌, Bool, Some, None, true, false, length, nat_lt, refl, sym, ◌∙◌, subst, append-nil, arith}
+use Rattle.std.proofs.Common.{◌≡◌, ℕ, ◌<◌, ◌≤◌, List, [], ◌∷◌, ◌++◌, Bool, ◌&&◌, not, nat_le, Some, None, true, false, length, nat_lt, refl, sym, ◌∙◌, subst, append-nil, arith}
+use Rattle.std.proofs.lemmas.Bool.{and_parts}
 use Rattle.std.proofs.lemmas.Bool.Decides.{nat_tests}
 use Rattle.pgp_ids.specs.declared.entry.Entry.{Entry}
 use Rattle.std.specs.Prelude.{Result, Ok, Err, IfErr}
@@ -35,20 +36,32 @@ too-long buffer line holds fate = subst (λ f. KeptBy f buffer.bytes.items line)
 pub forgotten-some : (buffer : LineBuffer) (line : List ℕ) → Holds buffer line → buffer.fate ≡ NoMemory → 0 < length line
 forgotten-some buffer line holds fate = subst (λ f. KeptBy f buffer.bytes.items line) fate holds.kept
 
-pub has-byte : (buffer : LineBuffer) (line : List ℕ) → Holds buffer line → buffer.blank ≡ false → 0 < length line
-has-byte buffer line holds some = go line (sym holds.blank ∙ some) where
-  go : (line : List ℕ) → is_blank line ≡ false → 0 < length line
-  go [] some = cc
-  go (byte ∷ line) some = omega arith
+some-byte : (line : List ℕ) → is_blank line ≡ false → 0 < length line
+some-byte [] some = cc
+some-byte (byte ∷ line) some = omega arith
+
+has-byte : (buffer : LineBuffer) (line : List ℕ) → Holds buffer line → buffer.blank ≡ false → 0 < length line
+has-byte buffer line holds some = some-byte line (sym holds.blank ∙ some)
+
+pub puts-blank : (alone : Bool) (log : List Entry) (text line : List ℕ) → is_blank line ≡ true → PutsLine alone log log line text text []
+puts-blank alone log text line is = record {
+  text = [];
+  told = record { by = log; may = by-itself alone log; met = None; meets = tt; text_is = rw is refl; log_is = rw is refl };
+  whole = refl;
+}
+
+pub puts-text : (alone : Bool) (before after : List Entry) (line old new : List ℕ) → is_blank line ≡ false → PutsText alone before after line old new
+    → length line ≤ longest_line → PutsLine alone before after line old new []
+puts-text alone before after line old new blank puts few =
+    let short = is_short line few in
+    record {
+      text = line_text puts.by line ++ 10 ∷ [];
+      told = record { by = puts.by; may = puts.may; met = None; meets = tt; text_is = rw (blank, short) refl; log_is = rw (blank, short) puts.log };
+      whole = append-nil new ∙ puts.text;
+    }
 
 pub puts-nothing : (alone : Bool) (log : List Entry) (buffer : LineBuffer) (text line : List ℕ) → Holds buffer line → buffer.blank ≡ true → PutsLine alone log log line text text []
-puts-nothing alone log buffer text line holds blank =
-    let is : is_blank line ≡ true = sym holds.blank ∙ blank in
-    record {
-      text = [];
-      told = record { by = log; may = by-itself alone log; met = None; meets = tt; text_is = rw is refl; log_is = rw is refl };
-      whole = refl;
-    }
+puts-nothing alone log buffer text line holds blank = puts-blank alone log text line (sym holds.blank ∙ blank)
 
 pub puts-long : (alone : Bool) (log : List Entry) (buffer : LineBuffer) (old new : List ℕ) → buffer.fate ≡ TooLong → buffer.blank ≡ false
     → new ≡ old ++ (long_text ++ 10 ∷ []) → (line : List ℕ) → Holds buffer line → PutsLine alone log log line old new []
@@ -61,18 +74,12 @@ puts-long alone log buffer old new fate some is line holds =
       whole = append-nil new ∙ is;
     }
 
-pub puts-kept : (alone : Bool) (before after : List Entry) (buffer : LineBuffer) (old new : List ℕ) → buffer.fate ≡ Kept → buffer.blank ≡ false
-    → PutsText alone before after buffer.bytes.items old new → (line : List ℕ) → Holds buffer line → PutsLine alone before after line old new []
-puts-kept alone before after buffer old new fate some puts line holds =
-    let blank : is_blank line ≡ false = sym holds.blank ∙ some in
+pub puts-kept : (alone : Bool) (before after : List Entry) (buffer : LineBuffer) (old new : List ℕ) → buffer.fate ≡ Kept
+    → (length buffer.bytes.items ≤ longest_line → PutsLine alone before after buffer.bytes.items old new [])
+    → (line : List ℕ) → Holds buffer line → PutsLine alone before after line old new []
+puts-kept alone before after buffer old new fate puts line holds =
     let kept = kept-whole buffer line holds fate in
-    let short = is_short line kept.1 in
-    let here : PutsText alone before after line old new = subst (λ l. PutsText alone before after l old new) kept.0 puts in
-    record {
-      text = line_text here.by line ++ 10 ∷ [];
-      told = record { by = here.by; may = here.may; met = None; meets = tt; text_is = rw (blank, short) refl; log_is = rw (blank, short) here.log };
-      whole = append-nil new ∙ here.text;
-    }
+    (subst (λ l. length l ≤ longest_line → PutsLine alone before after l old new []) kept.0 puts) kept.1
 
 -- a line can meet what its command meets
 line-meets : (line : List ℕ) (command : Command) → 0 < length line → length line ≤ longest_line → command_of line ≡ Ok command → MayMeet (Some (want_of command)) line
@@ -100,13 +107,64 @@ long-lacks (Ok x) alone buffer some is = tt
 long-lacks (Err why) alone buffer some is =
     λ line holds. let may : MayLack alone (Memory Line) line = has-byte buffer line holds some in subst (λ w. MayLack alone w line) (sym is) may
 
-pub kept-lacks : {T : Type 0} (r : Result T NoAnswer) (alone : Bool) (buffer : LineBuffer) → buffer.fate ≡ Kept → buffer.blank ≡ false
-    → IfErr r (λ why. 0 < length buffer.bytes.items → length buffer.bytes.items ≤ longest_line → MayLack alone why buffer.bytes.items)
+pub kept-lacks : {T : Type 0} (r : Result T NoAnswer) (alone : Bool) (buffer : LineBuffer) → buffer.fate ≡ Kept
+    → IfErr r (λ why. length buffer.bytes.items ≤ longest_line → MayLack alone why buffer.bytes.items)
     → IfErr r (λ why. (line : List ℕ) → Holds buffer line → MayLack alone why line)
-kept-lacks (Ok x) alone buffer fate some may = tt
-kept-lacks (Err why) alone buffer fate some may =
+kept-lacks (Ok x) alone buffer fate may = tt
+kept-lacks (Err why) alone buffer fate may =
     λ line holds.
     let kept = kept-whole buffer line holds fate in
-    let lacks : 0 < length line → length line ≤ longest_line → MayLack alone why line =
-    subst (λ l. 0 < length l → length l ≤ longest_line → MayLack alone why l) kept.0 may in
-    lacks (has-byte buffer line holds some) kept.1
+    (subst (λ l. length l ≤ longest_line → MayLack alone why l) kept.0 may) kept.1
+
+-- a line that isn't blank has a byte
+pub text-lacks : {T : Type 0} (r : Result T NoAnswer) (alone : Bool) (line : List ℕ) → is_blank line ≡ false
+    → IfErr r (λ why. 0 < length line → length line ≤ longest_line → MayLack alone why line) → IfErr r (λ why. length line ≤ longest_line → MayLack alone why line)
+text-lacks (Ok x) alone line some may = tt
+text-lacks (Err why) alone line some may = may (some-byte line some)
+
+-- ---- a line that ends with a piece
+
+pub puts-on : (alone : Bool) (before after : List Entry) (buffer added : LineBuffer) (old new piece : List ℕ) → ((line : List ℕ) → Holds buffer line → Holds added (line ++ piece))
+    → ((line : List ℕ) → Holds added line → PutsLine alone before after line old new []) → (line : List ℕ) → Holds buffer line → PutsLine alone before after (line ++ piece) old new []
+puts-on alone before after buffer added old new piece adds puts line holds = puts (line ++ piece) (adds line holds)
+
+pub lacks-on : {T : Type 0} (r : Result T NoAnswer) (alone : Bool) (buffer added : LineBuffer) (piece : List ℕ) → ((line : List ℕ) → Holds buffer line → Holds added (line ++ piece))
+    → IfErr r (λ why. (line : List ℕ) → Holds added line → MayLack alone why line) → IfErr r (λ why. (line : List ℕ) → Holds buffer line → MayLack alone why (line ++ piece))
+lacks-on (Ok x) alone buffer added piece adds may = tt
+lacks-on (Err why) alone buffer added piece adds may = λ line holds. may (line ++ piece) (adds line holds)
+
+-- where no byte of the line was read before, the piece is the whole of it
+not-begun : (buffer : LineBuffer) (line : List ℕ) → buffer.started ≡ false → Holds buffer line → line ≡ []
+not-begun buffer line none holds = go line (sym holds.started ∙ none) where
+  go : (line : List ℕ) → nat_lt 0 (length line) ≡ false → line ≡ []
+  go [] none = refl
+  go (byte ∷ line) none = let some : nat_lt 0 (length (byte ∷ line)) ≡ true = grind (arith, nat_tests) in cc
+
+-- no byte of the line was read before, and the piece isn't too long
+record IsWhole (buffer : LineBuffer) (piece : List ℕ) : Type 0 where
+  none : buffer.started ≡ false
+  short : length piece ≤ longest_line
+
+fails-not : (b : Bool) → not b ≡ true → b ≡ false
+fails-not true fails = cc
+fails-not false fails = refl
+
+is-whole : (buffer : LineBuffer) (piece : List ℕ) → (not buffer.started && nat_le (length piece) longest_line) ≡ true → IsWhole buffer piece
+is-whole buffer piece passes =
+    let parts = and_parts (not buffer.started) (nat_le (length piece) longest_line) passes in
+    let few : nat_le (length piece) longest_line ≡ true = parts.1 in
+    record { none = fails-not buffer.started parts.0; short = grind (arith, nat_tests) }
+
+pub puts-whole : (alone : Bool) (before after : List Entry) (buffer : LineBuffer) (old new piece : List ℕ) → (not buffer.started && nat_le (length piece) longest_line) ≡ true
+    → (length piece ≤ longest_line → PutsLine alone before after piece old new []) → (line : List ℕ) → Holds buffer line → PutsLine alone before after (line ++ piece) old new []
+puts-whole alone before after buffer old new piece passes puts line holds =
+    let is = is-whole buffer piece passes in
+    subst (λ l. PutsLine alone before after (l ++ piece) old new []) (sym (not-begun buffer line is.none holds)) (puts is.short)
+
+pub lacks-whole : {T : Type 0} (r : Result T NoAnswer) (alone : Bool) (buffer : LineBuffer) (piece : List ℕ) → (not buffer.started && nat_le (length piece) longest_line) ≡ true
+    → IfErr r (λ why. length piece ≤ longest_line → MayLack alone why piece) → IfErr r (λ why. (line : List ℕ) → Holds buffer line → MayLack alone why (line ++ piece))
+lacks-whole (Ok x) alone buffer piece passes may = tt
+lacks-whole (Err why) alone buffer piece passes may =
+    λ line holds.
+    let is = is-whole buffer piece passes in
+    subst (λ l. MayLack alone why (l ++ piece)) (sym (not-begun buffer line is.none holds)) (may is.short)

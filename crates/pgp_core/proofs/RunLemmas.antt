@@ -24,7 +24,7 @@ use Rattle.pgp_core.specs.declared.fault.AnswerFault.{AnswerFault}
 use Rattle.pgp_core.specs.declared.fault.AnswerFault.TheVariants.{Read, Write, Gone}
 use Rattle.pgp_core.proofs.OutputLemmas.{Went-none, Went-then, FrontWent-then, FrontWent-pending, Went-flushed, WentBy-pending}
 use Rattle.pgp_core.proofs.CutLemmas.{cut-goes, lines-closed, some-line}
-use Rattle.pgp_core.proofs.InputLemmas.{whole-piece, whole-feed}
+use Rattle.pgp_core.proofs.InputLemmas.{whole-piece, whole-line}
 use Rattle.pgp_core.proofs.ToldLemmas.{told-push}
 
 -- ---- the lines that have ended are the first ones, whatever follows
@@ -79,56 +79,59 @@ after-piece alone began script input log now bytes piece none step after = recor
   text = after.text;
 }
 
-pub after-feed : (alone : Bool) (began : Began) (script : Script) (input : Input) (output : Output) (before after : List Entry) (now new : Option (List ℕ)) (bytes : List ℕ)
-    → ((bounds : Bounds) (bytes : List ℕ) → HasRead bounds script.input bytes → HasRead bounds input (bytes ++ 10 ∷ []))
-    → Puts alone before after (cut bytes).rest now new script.output.pending.items output.pending.items
-    → IsAfter alone began script before now bytes → IsAfter alone began (record { input = input; output = output }) after new (bytes ++ 10 ∷ [])
-after-feed alone began script input output before after now new bytes step puts so_far = record {
+pub after-line : (alone : Bool) (began : Began) (script : Script) (input : Input) (output : Output) (before after : List Entry) (now new : Option (List ℕ)) (bytes piece : List ℕ)
+    → list_any is_line_feed piece ≡ false
+    → ((bounds : Bounds) (bytes : List ℕ) → HasRead bounds script.input bytes → HasRead bounds input (bytes ++ (piece ++ 10 ∷ [])))
+    → Puts alone before after ((cut bytes).rest ++ piece) now new script.output.pending.items output.pending.items
+    → IsAfter alone began script before now bytes → IsAfter alone began (record { input = input; output = output }) after new (bytes ++ (piece ++ 10 ∷ []))
+after-line alone began script input output before after now new bytes piece none step puts so_far = record {
   read = step began.bounds bytes so_far.read;
   out = so_far.out ++ puts.text;
-  told = rw (whole-feed bytes) (told-push alone began.log before after (cut bytes).whole (cut bytes).rest so_far.out puts.text so_far.told puts.told);
+  told = rw (whole-line bytes piece none) (told-push alone began.log before after (cut bytes).whole ((cut bytes).rest ++ piece) so_far.out puts.text so_far.told puts.told);
   text = Went-then began.written now new _ _ _ _ so_far.text puts.went;
 }
 
--- the line that a line feed ends is the next of the lines, where the bounds allow it
-feed_of_cut : (began : Began) (input : Input) (bytes more : List ℕ) → 0 < input.left.lines → 0 < input.left.bytes → HasRead began.bounds input bytes
-    → (others : List (List ℕ)) × (whole_lines began (bytes ++ 10 ∷ more) ≡ ((cut bytes).whole ++ (cut bytes).rest ∷ []) ++ others)
-feed_of_cut began input bytes more room fits read =
-    let whole = whole-feed bytes in
-    let many : length (cut (bytes ++ 10 ∷ [])).whole ≡ length (cut bytes).whole + 1 = ap length whole ∙ length-append (cut bytes).whole ((cut bytes).rest ∷ []) in
-    let few_bytes : length (bytes ++ 10 ∷ []) ≤ began.bounds.bytes = omega (arith, read.bytes_left, length-append bytes (10 ∷ [])) in
-    let few_lines : length (cut (bytes ++ 10 ∷ [])).whole ≤ began.bounds.lines = omega (arith, many, read.lines_left) in
-    let goes = front_of_cut began (bytes ++ 10 ∷ []) more few_bytes few_lines in
-    (goes.0, ap (whole_lines began) (sym (append_assoc bytes (10 ∷ []) more)) ∙ goes.1 ∙ ap (λ w. w ++ goes.0) whole)
+-- the line that a piece and a line feed end is the next of the lines, where the bounds allow it
+line_of_cut : (began : Began) (input : Input) (bytes piece more : List ℕ) → list_any is_line_feed piece ≡ false → 0 < input.left.lines → length piece < input.left.bytes → HasRead began.bounds input bytes
+    → (others : List (List ℕ)) × (whole_lines began (bytes ++ (piece ++ 10 ∷ more)) ≡ ((cut bytes).whole ++ ((cut bytes).rest ++ piece) ∷ []) ++ others)
+line_of_cut began input bytes piece more none room fits read =
+    let whole = whole-line bytes piece none in
+    let line = piece ++ 10 ∷ [] in
+    let many : length (cut (bytes ++ line)).whole ≡ length (cut bytes).whole + 1 = ap length whole ∙ length-append (cut bytes).whole (((cut bytes).rest ++ piece) ∷ []) in
+    let few_bytes : length (bytes ++ line) ≤ began.bounds.bytes = omega (arith, fits, read.bytes_left, length-append bytes line, length-append piece (10 ∷ [])) in
+    let few_lines : length (cut (bytes ++ line)).whole ≤ began.bounds.lines = omega (arith, many, room, read.lines_left) in
+    let goes = front_of_cut began (bytes ++ line) more few_bytes few_lines in
+    let parts : bytes ++ (piece ++ 10 ∷ more) ≡ (bytes ++ line) ++ more = sym (append_assoc bytes line more ∙ ap (λ l. bytes ++ l) (append_assoc piece (10 ∷ []) more)) in
+    (goes.0, ap (whole_lines began) parts ∙ goes.1 ∙ ap (λ w. w ++ goes.0) whole)
 
 -- a write failed as the answer to the line was put
-broken-feed : (alone : Bool) (began : Began) (script : Script) (before after : List Entry) (now new : Option (List ℕ)) (bytes more : List ℕ) → 0 < script.input.left.lines
-    → 0 < script.input.left.bytes → PutsFront alone before after (cut bytes).rest now new script.output.pending.items
-    → IsAfter alone began script before now bytes → IsStopped alone began Write new (whole_lines began (bytes ++ 10 ∷ more))
-broken-feed alone began script before after now new bytes more room fits front so_far =
-    let goes = feed_of_cut began script.input bytes more room fits so_far.read in
+broken-line : (alone : Bool) (began : Began) (script : Script) (before after : List Entry) (now new : Option (List ℕ)) (bytes piece more : List ℕ) → list_any is_line_feed piece ≡ false → 0 < script.input.left.lines
+    → length piece < script.input.left.bytes → PutsFront alone before after ((cut bytes).rest ++ piece) now new script.output.pending.items
+    → IsAfter alone began script before now bytes → IsStopped alone began Write new (whole_lines began (bytes ++ (piece ++ 10 ∷ more)))
+broken-line alone began script before after now new bytes piece more none room fits front so_far =
+    let goes = line_of_cut began script.input bytes piece more none room fits so_far.read in
     record {
-      done = (cut bytes).whole ++ (cut bytes).rest ∷ [];
+      done = (cut bytes).whole ++ ((cut bytes).rest ++ piece) ∷ [];
       others = goes.0;
       parts = goes.1;
       log = after;
       out = so_far.out ++ front.text;
-      told = told-push alone began.log before after (cut bytes).whole (cut bytes).rest so_far.out front.text so_far.told front.told;
+      told = told-push alone began.log before after (cut bytes).whole ((cut bytes).rest ++ piece) so_far.out front.text so_far.told front.told;
       went = FrontWent-then began.written now new _ _ _ so_far.text front.front;
       all = λ read. cc;
       left = λ gone. absurd (cc);
     }
 
 -- nobody answers the line any more
-left-feed : (fault : AnswerFault) (alone : Bool) (began : Began) (script : Script) (log : List Entry) (now new : Option (List ℕ)) (bytes more : List ℕ) → 0 < script.input.left.lines
-    → 0 < script.input.left.bytes → fault ≢ Read → IsLeft alone (cut bytes).rest → WentBy fault now new script.output.pending.items
-    → IsAfter alone began script log now bytes → IsStopped alone began fault new (whole_lines began (bytes ++ 10 ∷ more))
-left-feed fault alone began script log now new bytes more room fits other left went so_far =
-    let goes = feed_of_cut began script.input bytes more room fits so_far.read in
+left-line : (fault : AnswerFault) (alone : Bool) (began : Began) (script : Script) (log : List Entry) (now new : Option (List ℕ)) (bytes piece more : List ℕ) → list_any is_line_feed piece ≡ false → 0 < script.input.left.lines
+    → length piece < script.input.left.bytes → fault ≢ Read → IsLeft alone ((cut bytes).rest ++ piece) → WentBy fault now new script.output.pending.items
+    → IsAfter alone began script log now bytes → IsStopped alone began fault new (whole_lines began (bytes ++ (piece ++ 10 ∷ more)))
+left-line fault alone began script log now new bytes piece more none room fits other left went so_far =
+    let goes = line_of_cut began script.input bytes piece more none room fits so_far.read in
     record {
       done = (cut bytes).whole;
-      others = (cut bytes).rest ∷ goes.0;
-      parts = goes.1 ∙ append_assoc (cut bytes).whole ((cut bytes).rest ∷ []) goes.0;
+      others = ((cut bytes).rest ++ piece) ∷ goes.0;
+      parts = goes.1 ∙ append_assoc (cut bytes).whole (((cut bytes).rest ++ piece) ∷ []) goes.0;
       log = log;
       out = so_far.out;
       told = so_far.told;
@@ -137,26 +140,26 @@ left-feed fault alone began script log now new bytes more room fits other left w
       left = λ gone. left;
     }
 
-stopped-at-feed : (fault : AnswerFault) (alone : Bool) (script : Script) (before after : List Entry) (now new : Option (List ℕ)) → 0 < script.input.left.lines
-    → 0 < script.input.left.bytes → fault ≢ Read → ((line : List ℕ) → Holds script.input.line line → StopsAt alone fault before after line now new script.output.pending.items)
-    → (began : Began) (bytes more : List ℕ) → IsAfter alone began script before now bytes → IsStopped alone began fault new (whole_lines began (bytes ++ 10 ∷ more))
-stopped-at-feed fault alone script before after now new room fits other stops began bytes more so_far =
+stopped-at-line : (fault : AnswerFault) (alone : Bool) (script : Script) (before after : List Entry) (now new : Option (List ℕ)) (piece : List ℕ) → list_any is_line_feed piece ≡ false → 0 < script.input.left.lines
+    → length piece < script.input.left.bytes → fault ≢ Read → ((line : List ℕ) → Holds script.input.line line → StopsAt alone fault before after (line ++ piece) now new script.output.pending.items)
+    → (began : Began) (bytes more : List ℕ) → IsAfter alone began script before now bytes → IsStopped alone began fault new (whole_lines began (bytes ++ (piece ++ 10 ∷ more)))
+stopped-at-line fault alone script before after now new piece none room fits other stops began bytes more so_far =
     elim (stops (cut bytes).rest so_far.read.line) [
       | inl put ↦
-          subst (λ f. IsStopped alone began f new (whole_lines began (bytes ++ 10 ∷ more))) (sym put.0)
-          (broken-feed alone began script before after now new bytes more room fits put.1 so_far)
-      | inr left ↦ left-feed fault alone began script before now new bytes more room fits other left.left left.went so_far
+          subst (λ f. IsStopped alone began f new (whole_lines began (bytes ++ (piece ++ 10 ∷ more)))) (sym put.0)
+          (broken-line alone began script before after now new bytes piece more none room fits put.1 so_far)
+      | inr left ↦ left-line fault alone began script before now new bytes piece more none room fits other left.left left.went so_far
     ]
 
-pub same-feed : {T : Type 0} (r : Result T AnswerFault) (fault : AnswerFault) (alone : Bool) (script : Script) (before after : List Entry) (now new : Option (List ℕ)) → IsErrAnd r (λ f. f ≡ fault)
-    → 0 < script.input.left.lines → 0 < script.input.left.bytes → fault ≢ Read
-    → ((line : List ℕ) → Holds script.input.line line → StopsAt alone fault before after line now new script.output.pending.items)
-    → IfErr r (λ f. (began : Began) (bytes more : List ℕ) → IsAfter alone began script before now bytes → IsStopped alone began f new (whole_lines began (bytes ++ 10 ∷ more)))
-same-feed (Ok x) fault alone script before after now new is room fits other stops = tt
-same-feed (Err f) fault alone script before after now new is room fits other stops =
+pub same-line : {T : Type 0} (r : Result T AnswerFault) (fault : AnswerFault) (alone : Bool) (script : Script) (before after : List Entry) (now new : Option (List ℕ)) (piece : List ℕ) → IsErrAnd r (λ f. f ≡ fault)
+    → list_any is_line_feed piece ≡ false → 0 < script.input.left.lines → length piece < script.input.left.bytes → fault ≢ Read
+    → ((line : List ℕ) → Holds script.input.line line → StopsAt alone fault before after (line ++ piece) now new script.output.pending.items)
+    → IfErr r (λ f. (began : Began) (bytes more : List ℕ) → IsAfter alone began script before now bytes → IsStopped alone began f new (whole_lines began (bytes ++ (piece ++ 10 ∷ more))))
+same-line (Ok x) fault alone script before after now new piece is none room fits other stops = tt
+same-line (Err f) fault alone script before after now new piece is none room fits other stops =
     λ began bytes more so_far.
-    subst (λ f. IsStopped alone began f new (whole_lines began (bytes ++ 10 ∷ more))) (sym is)
-    (stopped-at-feed fault alone script before after now new room fits other stops began bytes more so_far)
+    subst (λ f. IsStopped alone began f new (whole_lines began (bytes ++ (piece ++ 10 ∷ more)))) (sym is)
+    (stopped-at-line fault alone script before after now new piece none room fits other stops began bytes more so_far)
 
 -- what is pending was written, or a write of it failed
 pub stopped : (fault : AnswerFault) (alone : Bool) (began : Began) (script : Script) (log : List Entry) (now new : Option (List ℕ)) (bytes more : List ℕ)
@@ -246,10 +249,9 @@ regroup bytes done rest chunk more whole =
     append_assoc bytes done (rest ++ more) ∙ ap (λ l. bytes ++ l) (sym (append_assoc done rest more) ∙ ap (λ l. l ++ more) whole)
 
 pub regroup_line : (bytes done rest chunk piece others more : List ℕ) → done ++ rest ≡ chunk → rest ≡ piece ++ 10 ∷ others
-    → ((bytes ++ done) ++ piece) ++ 10 ∷ (others ++ more) ≡ bytes ++ (chunk ++ more)
+    → (bytes ++ done) ++ (piece ++ 10 ∷ (others ++ more)) ≡ bytes ++ (chunk ++ more)
 regroup_line bytes done rest chunk piece others more whole parts =
-    append_assoc (bytes ++ done) piece (10 ∷ (others ++ more))
-    ∙ ap (λ l. (bytes ++ done) ++ l) (sym (append_assoc piece (10 ∷ others) more) ∙ ap (λ l. l ++ more) (sym parts))
+    ap (λ l. (bytes ++ done) ++ l) (sym (append_assoc piece (10 ∷ others) more) ∙ ap (λ l. l ++ more) (sym parts))
     ∙ regroup bytes done rest chunk more whole
 
 -- ---- the end of the script
@@ -289,11 +291,11 @@ within_started bounds input bytes started read =
     }
 
 pub done_started : (alone : Bool) (script : Script) (before after : List Entry) (now new : Option (List ℕ)) (still : List ℕ) → script.input.line.started ≡ true
-    → ((line : List ℕ) → Holds script.input.line line → Puts alone before after line now new script.output.pending.items still)
+    → ((line : List ℕ) → Holds script.input.line line → Puts alone before after (line ++ []) now new script.output.pending.items still)
     → (began : Began) (bytes : List ℕ) → IsAfter alone began script before now bytes → IsDone alone began after new still bytes
 done_started alone script before after now new still started puts began bytes so_far =
     let lines = started_line bytes (sym so_far.read.line.started ∙ started) in
-    let put = puts (cut bytes).rest so_far.read.line in
+    let put = subst (λ l. Puts alone before after l now new script.output.pending.items still) (append-nil (cut bytes).rest) (puts (cut bytes).rest so_far.read.line) in
     record {
       within = within_started began.bounds script.input bytes started so_far.read;
       out = so_far.out ++ put.text;
@@ -346,13 +348,13 @@ left_last fault alone began script log now new bytes lines other left went so_fa
 }
 
 stopped-at-last : (fault : AnswerFault) (alone : Bool) (script : Script) (before after : List Entry) (now new : Option (List ℕ)) → script.input.line.started ≡ true → fault ≢ Read
-    → ((line : List ℕ) → Holds script.input.line line → StopsAt alone fault before after line now new script.output.pending.items)
+    → ((line : List ℕ) → Holds script.input.line line → StopsAt alone fault before after (line ++ []) now new script.output.pending.items)
     → (began : Began) (bytes : List ℕ) → IsAfter alone began script before now bytes → StoppedAtLast alone began fault new bytes
 stopped-at-last fault alone script before after now new started other stops began bytes so_far =
     let lines = started_line bytes (sym so_far.read.line.started ∙ started) in
     record {
       within = within_started began.bounds script.input bytes started so_far.read;
-      stopped = elim (stops (cut bytes).rest so_far.read.line) [
+      stopped = elim (subst (λ l. StopsAt alone fault before after l now new script.output.pending.items) (append-nil (cut bytes).rest) (stops (cut bytes).rest so_far.read.line)) [
         | inl put ↦
             subst (λ f. IsStopped alone began f new (lines_of bytes)) (sym put.0)
             (broken_last alone began script before after now new bytes lines put.1 so_far)
@@ -361,7 +363,7 @@ stopped-at-last fault alone script before after now new started other stops bega
     }
 
 pub last_stops : {T : Type 0} (r : Result T AnswerFault) (alone : Bool) (script : Script) (before after : List Entry) (now new : Option (List ℕ)) → script.input.line.started ≡ true
-    → r ≢ Err Read → IfErr r (λ fault. (line : List ℕ) → Holds script.input.line line → StopsAt alone fault before after line now new script.output.pending.items)
+    → r ≢ Err Read → IfErr r (λ fault. (line : List ℕ) → Holds script.input.line line → StopsAt alone fault before after (line ++ []) now new script.output.pending.items)
     → IfErr r (λ fault. (began : Began) (bytes : List ℕ) → IsAfter alone began script before now bytes → StoppedAtLast alone began fault new bytes)
 last_stops (Ok x) alone script before after now new started other stops = tt
 last_stops (Err fault) alone script before after now new started other stops =

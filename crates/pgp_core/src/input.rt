@@ -4,6 +4,7 @@ ghost use Rattle.std.specs.Prelude.{◌≡◌, ℕ, ◌+◌, ◌-◌, ◌<◌, �
 ghost use Rattle.std.specs.List.{list_any};
 ghost use Rattle.pgp_core.specs.Lines.{is_line_feed};
 ghost use Rattle.pgp_core.specs.Input.{HasRead};
+ghost use Rattle.pgp_core.specs.declared.input.Input.{Input as AnyInput};
 
 use super::line::LineBuffer;
 use memchr::memchr;
@@ -48,16 +49,18 @@ impl Input {
         self.left.bytes -= piece.len() as u64;
     }
 
-    /// Takes the line feed that ends the line, and begins the next one.
-    pub fn end_line(&mut self)
+    /// Takes the piece that ends the line and the line feed behind it, and begins the next line.
+    pub fn end_line(&mut self, piece: &[u8])
+        requires one_line { list_any is_line_feed piece.now ≡ false }
         requires room { 0 < self.old.left.lines }
-        requires fits { 0 < self.old.left.bytes }
-        ensures left { self.new.left.bytes ≡ self.old.left.bytes - 1 }
-        ensures read { (bounds : Bounds) (bytes : List ℕ) → HasRead bounds self.old bytes → HasRead bounds self.new (bytes ++ 10 ∷ []) }
+        requires fits { length piece.now < self.old.left.bytes }
+        ensures left { self.new.left.bytes ≡ self.old.left.bytes - (length piece.now + 1) }
+        ensures read { (bounds : Bounds) (before : AnyInput) (bytes : List ℕ) → before.left ≡ self.old.left
+            → HasRead bounds before bytes → HasRead bounds self.new (bytes ++ (piece.now ++ 10 ∷ [])) }
     {
         self.line.clear();
         self.left.lines -= 1;
-        self.left.bytes -= 1;
+        self.left.bytes -= piece.len() as u64 + 1;
     }
 }
 

@@ -1,10 +1,10 @@
 //! The line that is being read, and what is written for it.
 
-ghost use Rattle.std.specs.Prelude.{◌≡◌, ℕ, List, [], ◌∷◌, ◌++◌, OnOk, IfOk, IfErr, OnErr};
+ghost use Rattle.std.specs.Prelude.{◌≡◌, ◌≤◌, ◌&&◌, not, nat_le, ℕ, List, [], ◌∷◌, ◌++◌, length, OnOk, IfOk, IfErr, OnErr};
 ghost use Rattle.pgp_core.specs.Answerer.{MayAnswerBy};
 ghost use Rattle.pgp_core.specs.Line.{Holds};
 ghost use Rattle.pgp_core.specs.Lines.{is_blank};
-ghost use Rattle.pgp_core.specs.Script.{want_text};
+ghost use Rattle.pgp_core.specs.Script.{longest_line, want_text};
 ghost use Rattle.pgp_core.specs.Told.{PutsLine, MayLack, IsLeft};
 
 use super::answer::{answer_line, put_long};
@@ -98,29 +98,59 @@ impl LineBuffer {
         }
     }
 
-    /// Puts the answer to the line behind the text, and gives what is still to be written of it: where memory was
-    /// wanting, a constant text. Where the line is an entry that the log takes, the log has it from now on. Where nobody
-    /// answers it any more, the text stays.
+    /// Puts the answer to the line, which ends with this piece, behind the text, and gives what is still to be written of it:
+    /// where memory was wanting, a constant text. Where the line is an entry that the log takes, the log has it from now on.
+    /// Where nobody answers it any more, the text stays.
     pub fn answer<A: Answerer>(
-        &self,
+        &mut self,
         alloc: Global,
+        piece: &[u8],
         answerer: &mut A,
         text: &mut Vec<u8>,
     ) -> Result<&'static [u8], Unanswered>
-        ensures ok { IfOk result (λ rest. (line : List ℕ) → Holds self.now line
-            → PutsLine A.alone (A.log answerer.old) (A.log answerer.new) line text.old.items text.new.items rest.now) }
-        ensures left { OnErr result ((line : List ℕ) → Holds self.now line → IsLeft A.alone line) }
+        ensures ok { IfOk result (λ rest. (line : List ℕ) → Holds self.old line
+            → PutsLine A.alone (A.log answerer.old) (A.log answerer.new) (line ++ piece.now) text.old.items text.new.items rest.now) }
+        ensures left { OnErr result ((line : List ℕ) → Holds self.old line → IsLeft A.alone (line ++ piece.now)) }
         ensures text { OnErr result (text.new.items ≡ text.old.items) }
     {
-        match self.put_answer(alloc, answerer, text) {
+        match self.put_answer(alloc, piece, answerer, text) {
             Ok(()) => Ok(&[]),
             Err(NoAnswer::Memory(want)) => Ok(want_line(want)),
             Err(NoAnswer::Gone) => Err(Unanswered),
         }
     }
 
-    /// Puts the answer to the line behind the text. Where it has none, the text stays and the line adds nothing to the log.
+    /// Puts the answer to the line, which ends with this piece, behind the text. A line that lies whole in the piece is read
+    /// where it lies. Where the line has no answer, the text stays and the line adds nothing to the log.
     fn put_answer<A: Answerer>(
+        &mut self,
+        alloc: Global,
+        piece: &[u8],
+        answerer: &mut A,
+        text: &mut Vec<u8>,
+    ) -> Result<(), NoAnswer>
+        ensures ok { OnOk result ((line : List ℕ) → Holds self.old line
+            → PutsLine A.alone (A.log answerer.old) (A.log answerer.new) (line ++ piece.now) text.old.items text.new.items []) }
+        ensures lacks { IfErr result (λ why. (line : List ℕ) → Holds self.old line → MayLack A.alone why (line ++ piece.now)) }
+        ensures text { OnErr result (text.new.items ≡ text.old.items) }
+        ensures log { OnErr result (MayAnswerBy A.alone (A.log answerer.old) (A.log answerer.new)) }
+    {
+        if self.is_whole(piece) {
+            return put_line(alloc, piece, answerer, text);
+        }
+        self.add(piece);
+        self.put_kept(alloc, answerer, text)
+    }
+
+    /// Whether the line lies whole in the piece that ends it, and isn't too long.
+    fn is_whole(&self, piece: &[u8]) -> bool
+        ensures { result ≡ (not self.now.started && nat_le (length piece.now) longest_line) }
+    {
+        !self.started && piece.len() <= LONGEST_LINE
+    }
+
+    /// Puts the answer to the line behind the text. Where it has none, the text stays and the line adds nothing to the log.
+    fn put_kept<A: Answerer>(
         &self,
         alloc: Global,
         answerer: &mut A,
@@ -136,9 +166,29 @@ impl LineBuffer {
             Fate::NoMemory => Err(NoAnswer::Memory(Want::Line)),
             Fate::TooLong if self.blank => Ok(()),
             Fate::TooLong => put_long(alloc, text),
-            Fate::Kept if self.blank => Ok(()),
-            Fate::Kept => answer_line(alloc, self.bytes.as_slice(), answerer, text),
+            Fate::Kept => put_line(alloc, self.bytes.as_slice(), answerer, text),
         }
+    }
+}
+
+/// Puts the answer to a line that isn't too long behind the text. Where it has none, the text stays and the line adds nothing
+/// to the log.
+fn put_line<A: Answerer>(
+    alloc: Global,
+    line: &[u8],
+    answerer: &mut A,
+    text: &mut Vec<u8>,
+) -> Result<(), NoAnswer>
+    ensures ok { OnOk result (length line.now ≤ longest_line
+        → PutsLine A.alone (A.log answerer.old) (A.log answerer.new) line.now text.old.items text.new.items []) }
+    ensures lacks { IfErr result (λ why. length line.now ≤ longest_line → MayLack A.alone why line.now) }
+    ensures text { OnErr result (text.new.items ≡ text.old.items) }
+    ensures log { OnErr result (MayAnswerBy A.alone (A.log answerer.old) (A.log answerer.new)) }
+{
+    if all_blank(line) {
+        Ok(())
+    } else {
+        answer_line(alloc, line, answerer, text)
     }
 }
 

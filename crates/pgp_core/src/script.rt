@@ -53,29 +53,31 @@ impl Script {
         self.input.add(piece);
     }
 
-    /// Answers the line that is being read. Where nobody answers it any more, what is pending is written.
+    /// Answers the line that is being read, which ends with this piece. Where nobody answers it any more, what is pending is
+    /// written.
     fn put_answer<A: Answerer, W: Sink>(
         &mut self,
         alloc: Global,
+        piece: &[u8],
         answerer: &mut A,
         writer: &mut W,
     ) -> Result<(), AnswerFault>
         ensures ok { OnOk result ((line : List ℕ) → Holds self.old.input.line line
-            → Puts A.alone (A.log answerer.old) (A.log answerer.new) line (W.contents writer.old) (W.contents writer.new)
+            → Puts A.alone (A.log answerer.old) (A.log answerer.new) (line ++ piece.now) (W.contents writer.old) (W.contents writer.new)
             self.old.output.pending.items self.new.output.pending.items) }
         ensures err { IfErr result (λ fault. (line : List ℕ) → Holds self.old.input.line line
-            → StopsAt A.alone fault (A.log answerer.old) (A.log answerer.new) line (W.contents writer.old) (W.contents writer.new)
+            → StopsAt A.alone fault (A.log answerer.old) (A.log answerer.new) (line ++ piece.now) (W.contents writer.old) (W.contents writer.new)
             self.old.output.pending.items) }
         ensures not_read { result ≢ Err AnswerFault.Read }
         ensures told { result ≡ Err AnswerFault.Write → W.failed writer.new ≡ true }
         ensures kept { OnOk result (W.failed writer.new ≡ W.failed writer.old) }
         ensures kept_at_gone { result ≡ Err AnswerFault.Gone → W.failed writer.new ≡ W.failed writer.old }
-        ensures input { self.new.input ≡ self.old.input }
+        ensures left { self.new.input.left ≡ self.old.input.left }
     {
         let answer = self
             .input
             .line
-            .answer(alloc, answerer, &mut self.output.pending);
+            .answer(alloc, piece, answerer, &mut self.output.pending);
         match answer {
             Ok(rest) => {
                 self.output.put(rest, writer)?;
@@ -101,29 +103,31 @@ impl Script {
         }
     }
 
-    /// Takes the line feed that ends the line.
+    /// Takes the piece that ends the line, and the line feed behind it.
     fn end_line<A: Answerer, W: Sink>(
         &mut self,
         alloc: Global,
+        piece: &[u8],
         answerer: &mut A,
         writer: &mut W,
     ) -> Result<(), AnswerFault>
+        requires one_line { list_any is_line_feed piece.now ≡ false }
         requires room { 0 < self.old.input.left.lines }
-        requires fits { 0 < self.old.input.left.bytes }
-        ensures left { OnOk result (self.new.input.left.bytes + 1 ≡ self.old.input.left.bytes) }
+        requires fits { length piece.now < self.old.input.left.bytes }
+        ensures left { OnOk result (self.new.input.left.bytes + (length piece.now + 1) ≡ self.old.input.left.bytes) }
         ensures ok { OnOk result ((began : Began) (bytes : List ℕ)
             → IsAfter A.alone began self.old (A.log answerer.old) (W.contents writer.old) bytes
-            → IsAfter A.alone began self.new (A.log answerer.new) (W.contents writer.new) (bytes ++ 10 ∷ [])) }
+            → IsAfter A.alone began self.new (A.log answerer.new) (W.contents writer.new) (bytes ++ (piece.now ++ 10 ∷ []))) }
         ensures err { IfErr result (λ fault. (began : Began) (bytes more : List ℕ)
             → IsAfter A.alone began self.old (A.log answerer.old) (W.contents writer.old) bytes
-            → IsStopped A.alone began fault (W.contents writer.new) (whole_lines began (bytes ++ 10 ∷ more))) }
+            → IsStopped A.alone began fault (W.contents writer.new) (whole_lines began (bytes ++ (piece.now ++ 10 ∷ more)))) }
         ensures not_read { result ≢ Err AnswerFault.Read }
         ensures told { result ≡ Err AnswerFault.Write → W.failed writer.new ≡ true }
         ensures kept { OnOk result (W.failed writer.new ≡ W.failed writer.old) }
         ensures kept_at_gone { result ≡ Err AnswerFault.Gone → W.failed writer.new ≡ W.failed writer.old }
     {
-        self.put_answer(alloc, answerer, writer)?;
-        self.input.end_line();
+        self.put_answer(alloc, piece, answerer, writer)?;
+        self.input.end_line(piece);
         Ok(())
     }
 }
@@ -157,8 +161,7 @@ impl Script {
             }
             match split_line(rest) {
                 Some((piece, others)) => {
-                    self.add(piece);
-                    self.end_line(alloc, answerer, writer)?;
+                    self.end_line(alloc, piece, answerer, writer)?;
                     rest = others;
                 }
                 None => {
@@ -219,7 +222,7 @@ impl Script {
         ensures kept_at_gone { result ≡ Err AnswerFault.Gone → W.failed writer.new ≡ W.failed writer.old }
     {
         if self.input.line.started {
-            self.put_answer(alloc, answerer, writer)
+            self.put_answer(alloc, &[], answerer, writer)
         } else {
             Ok(())
         }

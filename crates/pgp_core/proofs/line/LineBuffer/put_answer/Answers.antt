@@ -1,27 +1,18 @@
+use Rattle.std.proofs.Common.{sym, ◌∙◌}
 use Rattle.std.proofs.lemmas.Result.{on_ok_weaker}
-use Rattle.pgp_core.proofs.LineLemmas.{puts-nothing, puts-long, puts-kept, long-lacks, kept-lacks}
+use Rattle.pgp_core.proofs.LineLemmas.{puts-on, lacks-on, puts-whole, lacks-whole}
 use Rattle.pgp_core.proofs.line.LineBuffer.put_answer.Goals as goal
 
-pub returns-in-TooLong-clause-ok : goal.returns-in-TooLong-clause-ok
-returns-in-TooLong-clause-ok g c line holds = puts-nothing g.A.Answerer.alone _ c.args.self.now c.args.text.now.items line holds c.if-self.true
+pub returns-then-is_whole-clause-ok : goal.returns-then-is_whole-clause-ok
+returns-then-is_whole-clause-ok g c =
+    on_ok_weaker _ (puts-whole g.A.Answerer.alone _ _ c.args.self.now _ _ c.args.piece.now (sym c.is_whole.ensures ∙ c.if-is_whole.true)) c.put_line.ensures.ok
 
-pub returns-in-TooLong-2-clause-ok : goal.returns-in-TooLong-2-clause-ok
-returns-in-TooLong-2-clause-ok g c =
-    on_ok_weaker _ (puts-long g.A.Answerer.alone (g.A.Answerer.log c.args.answerer.now) c.args.self.now c.args.text.now.items c.put_long.new.text.items c.in-TooLong-2.is c.if-self.false)
-    c.put_long.ensures.ok
+pub returns-then-is_whole-clause-lacks : goal.returns-then-is_whole-clause-lacks
+returns-then-is_whole-clause-lacks g c =
+    lacks-whole _ g.A.Answerer.alone c.args.self.now c.args.piece.now (sym c.is_whole.ensures ∙ c.if-is_whole.true) c.put_line.ensures.lacks
 
-pub returns-in-TooLong-2-clause-lacks : goal.returns-in-TooLong-2-clause-lacks
-returns-in-TooLong-2-clause-lacks g c = long-lacks _ g.A.Answerer.alone c.args.self.now c.if-self.false c.put_long.ensures.lacks
+pub returns-clause-ok : goal.returns-clause-ok
+returns-clause-ok g c = on_ok_weaker _ (puts-on g.A.Answerer.alone _ _ c.args.self.now c.add.new.self _ _ c.args.piece.now c.add.ensures) c.put_kept.ensures.ok
 
-pub returns-in-Kept-clause-ok : goal.returns-in-Kept-clause-ok
-returns-in-Kept-clause-ok g c line holds = puts-nothing g.A.Answerer.alone _ c.args.self.now c.args.text.now.items line holds c.if-self-2.true
-
-pub returns-in-Kept-2-clause-ok : goal.returns-in-Kept-2-clause-ok
-returns-in-Kept-2-clause-ok g c =
-    on_ok_weaker _ (puts-kept g.A.Answerer.alone (g.A.Answerer.log c.args.answerer.now) (g.A.Answerer.log c.answer_line.new.answerer) c.args.self.now c.args.text.now.items c.answer_line.new.text.items
-    c.in-Kept-2.is c.if-self-2.false)
-    (rw c.as_slice.ensures.value at c.answer_line.ensures.ok)
-
-pub returns-in-Kept-2-clause-lacks : goal.returns-in-Kept-2-clause-lacks
-returns-in-Kept-2-clause-lacks g c =
-    kept-lacks _ g.A.Answerer.alone c.args.self.now c.in-Kept-2.is c.if-self-2.false (rw c.as_slice.ensures.value at c.answer_line.ensures.lacks)
+pub returns-clause-lacks : goal.returns-clause-lacks
+returns-clause-lacks g c = lacks-on _ g.A.Answerer.alone c.args.self.now c.add.new.self c.args.piece.now c.add.ensures c.put_kept.ensures.lacks

@@ -1,4 +1,4 @@
-use Rattle.std.proofs.Common.{◌<◌, [], ◌∷◌, ◌++◌, length, refl, sym, ◌∙◌, ap, Err, subst, append-nil, arith, length-append}
+use Rattle.std.proofs.Common.{◌<◌, [], ◌∷◌, ◌++◌, length, refl, sym, ◌∙◌, ap, Err, subst, append-nil, append_assoc, arith, length-append}
 use Rattle.std.proofs.lemmas.Bool.Decides.{nat_tests}
 use Rattle.pgp_core.specs.Telling.{StopsIn}
 use Rattle.pgp_core.proofs.RunLemmas.{same_amid, stopped, all_lines, beyond_lines, taken-more, regroup, regroup_line}
@@ -24,11 +24,11 @@ returns-in_err-end_line-in-Some-clause-err g c =
     c.from_residual.ensures.1
     (λ began bytes more so_far.
     let taken = c.loop-rest.invariant.taken in
-    let here = c.add.ensures.after g.A.Answerer.alone began _ _ (bytes ++ taken.done) (taken.goes began bytes so_far) in
+    let here = taken.goes began bytes so_far in
     subst (StopsIn g.A.Answerer.alone began c.in_err-end_line-in-Some.field-0.0 (g.W.Sink.contents c.end_line.new.writer))
     (regroup_line bytes taken.done c.loop-rest.rest.now c.args.chunk.now c.in-Some.piece.now c.in-Some.others.now more taken.whole c.in-Some.ensures.whole)
     (record {
-      stopped = c.in_err-end_line-in-Some.ensures.err began ((bytes ++ taken.done) ++ c.in-Some.piece.now) (c.in-Some.others.now ++ more) here;
+      stopped = c.in_err-end_line-in-Some.ensures.err began (bytes ++ taken.done) (c.in-Some.others.now ++ more) here;
       beyond = λ read. absurd (c.in_err-end_line-in-Some.ensures.not_read (ap Err read));
     }))
 
@@ -37,24 +37,22 @@ loop-rest-preserved-in-Some g c =
     let invariant = c.loop-rest.invariant in
     let parts = ap length c.in-Some.ensures.whole in
     let long = length-append c.in-Some.piece.now (10 ∷ c.in-Some.others.now) in
-    let after_add = c.add.ensures.left in
     let after_end = c.in_ok-end_line-in-Some.ensures.left in
+    let ended = sym (append_assoc c.in-Some.piece.now (10 ∷ []) c.in-Some.others.now) in
     record {
-      fits = omega (arith, parts, long, after_add, after_end, invariant.fits);
-      left = omega (arith, parts, long, after_add, after_end, invariant.fits, invariant.left);
+      fits = omega (arith, parts, long, after_end, invariant.fits);
+      left = omega (arith, parts, long, after_end, invariant.fits, invariant.left);
       kept = c.in_ok-end_line-in-Some.ensures.kept ∙ invariant.kept;
-      taken = taken-more _ _ _ _ _ _ _ _ _ _ _ (10 ∷ c.in-Some.others.now) (10 ∷ []) _
-          (taken-more _ _ _ _ _ _ _ _ _ _ _ _ c.in-Some.piece.now (10 ∷ c.in-Some.others.now) invariant.taken c.in-Some.ensures.whole (λ began bytes. c.add.ensures.after g.A.Answerer.alone began _ _ bytes))
-          refl c.in_ok-end_line-in-Some.ensures.ok;
+      taken = taken-more _ _ _ _ _ _ _ _ _ _ _ _ (c.in-Some.piece.now ++ 10 ∷ []) c.in-Some.others.now invariant.taken (c.in-Some.ensures.whole ∙ ended) c.in_ok-end_line-in-Some.ensures.ok;
     }
 
 pub loop-rest-preserved : goal.loop-rest-preserved
 loop-rest-preserved g c =
     let invariant = c.loop-rest.invariant in
-    let after_add = c.add-in-None.ensures.left in
+    let after_add = c.add.ensures.left in
     record {
       fits = omega arith;
       left = omega (arith, after_add, invariant.fits, invariant.left);
       kept = invariant.kept;
-      taken = taken-more _ _ _ _ _ _ _ _ _ _ _ _ c.loop-rest.rest.now [] invariant.taken (sym (append-nil c.loop-rest.rest.now)) (λ began bytes. c.add-in-None.ensures.after g.A.Answerer.alone began _ _ bytes);
+      taken = taken-more _ _ _ _ _ _ _ _ _ _ _ _ c.loop-rest.rest.now [] invariant.taken (sym (append-nil c.loop-rest.rest.now)) (λ began bytes. c.add.ensures.after g.A.Answerer.alone began _ _ bytes);
     }
