@@ -1,5 +1,7 @@
 //! Values that several tests need.
 
+ghost use Rattle.std.specs.Prelude.{◌<◌};
+
 use pgp_ids::{Entry, Incremental, MAX_OSDS, OsdId, Osds, PgId, PoolId};
 use pgp_text::{Command, read_line};
 use std::alloc::Global;
@@ -44,5 +46,29 @@ pub fn incremental(alloc: Global, line: &str) -> Option<Incremental> {
     match entry(alloc, line)? {
         Entry::Inc(inc) => Some(inc),
         _other => None,
+    }
+}
+
+/// A seeded row of numbers that look random.
+#[derive(Drop)]
+pub struct Dice {
+    state: u64,
+}
+
+impl Dice {
+    pub fn seeded(seed: u64) -> Self {
+        Dice { state: seed }
+    }
+
+    /// A number below `bound`.
+    pub fn below(&mut self, bound: u64) -> u64
+        requires { 0 < bound }
+        ensures { result < bound }
+    {
+        self.state = self
+            .state
+            .wrapping_mul(6_364_136_223_846_793_005)
+            .wrapping_add(1_442_695_040_888_963_407);
+        (self.state >> 33) % bound
     }
 }

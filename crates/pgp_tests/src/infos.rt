@@ -11,12 +11,12 @@ use std::test::Fail;
 #[derive(Clone, Copy)]
 struct Told(u16, u8, u32, u32, u32, bool);
 
-fn member(osd: u16, slot: u8) -> Result<Member, Fail> {
+pub fn member(osd: u16, slot: u8) -> Result<Member, Fail> {
     let osd = OsdId::new(osd).ok_or("a device")?;
     Ok(Member { osd, slot })
 }
 
-fn version(epoch: u32, v: u32) -> Version {
+pub fn version(epoch: u32, v: u32) -> Version {
     Version {
         epoch: Epoch::new(epoch),
         v,

@@ -5,6 +5,8 @@
 #![tactic(auto)]
 
 #[cfg(test)]
+mod best_stream;
+#[cfg(test)]
 mod codes;
 #[cfg(test)]
 mod fixtures;
@@ -14,6 +16,8 @@ mod groups;
 mod hashes;
 #[cfg(test)]
 mod infos;
+#[cfg(test)]
+mod log_stream;
 #[cfg(test)]
 mod marks;
 #[cfg(test)]

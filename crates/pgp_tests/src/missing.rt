@@ -8,10 +8,10 @@ use std::test::Fail;
 
 /// An epoch and the number of a write in it.
 #[derive(Clone, Copy)]
-struct At(u32, u32);
+pub struct At(pub u32, pub u32);
 
 impl At {
-    fn version(self) -> Version {
+    pub fn version(self) -> Version {
         Version {
             epoch: Epoch::new(self.0),
             v: self.1,
@@ -21,9 +21,9 @@ impl At {
 
 /// A copy whose log goes from the first version to the second, and whether it is complete.
 #[derive(Clone, Copy)]
-struct Held(At, At, bool);
+pub struct Held(pub At, pub At, pub bool);
 
-fn info(told: Held) -> Result<Info, Fail> {
+pub fn info(told: Held) -> Result<Info, Fail> {
     let Held(tail, last, complete) = told;
     let osd = OsdId::new(0).ok_or("a device")?;
     Ok(Info {
@@ -70,7 +70,7 @@ fn told(alloc: Global, state: &PeerState) -> Result<String, AllocError> {
 }
 
 /// The state of the peer by this log in words, or that the log isn't whole.
-fn judged(alloc: Global, log: &MemberLog, peer: &Info) -> Result<String, AllocError> {
+pub fn judged(alloc: Global, log: &MemberLog, peer: &Info) -> Result<String, AllocError> {
     if log.whole() {
         told(alloc, &log.missing_of(alloc, peer)?)
     } else {

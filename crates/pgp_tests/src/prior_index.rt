@@ -1,9 +1,7 @@
 //! Indexes of prior sets against the plain prior set, over seeded streams of changes, with a code that counts how often it
 //! is asked.
 
-ghost use Rattle.std.specs.Prelude.{◌<◌};
-
-use super::fixtures::places;
+use super::fixtures::{Dice, places};
 use super::prior_sets::told;
 use pgp_code::{Erasure, Recoverable};
 use pgp_ids::{Epoch, Membership, OsdId, Past, SlotSet};
@@ -87,26 +85,6 @@ impl StatusOf for Table {
             Some(status) => *status,
             None => Status::Up,
         }
-    }
-}
-
-/// A seeded row of numbers that look random.
-#[derive(Drop)]
-struct Dice {
-    state: u64,
-}
-
-impl Dice {
-    /// A number below `bound`.
-    fn below(&mut self, bound: u64) -> u64
-        requires { 0 < bound }
-        ensures { result < bound }
-    {
-        self.state = self
-            .state
-            .wrapping_mul(6_364_136_223_846_793_005)
-            .wrapping_add(1_442_695_040_888_963_407);
-        (self.state >> 33) % bound
     }
 }
 
@@ -334,7 +312,7 @@ fn step(
 /// A stream of changes from this seed.
 fn run(alloc: Global, seed: u64) -> Result<(bool, bool), Fail> {
     let asked = AtomicU64::new(0);
-    let mut dice = Dice { state: seed };
+    let mut dice = Dice::seeded(seed);
     let mut group = young(alloc)?;
     let code = Counting {
         code: Erasure::with_shards(2),

@@ -1,0 +1,216 @@
+//! Logs of a member as they are kept, against all entries that it reported, over seeded streams in which entries come and
+//! the bounds of the log change.
+
+use super::fixtures::Dice;
+use super::missing::{At, Held, info, judged};
+use pgp_ids::{Change, Info, LogEntry, ObjectName, Version};
+use pgp_missing::MemberLog;
+use std::alloc::{AllocError, Global};
+use std::test::Fail;
+
+/// The names of the objects, in ascending order of their bytes.
+const NAMES: [&str; 4] = ["B", "a", "ab", "b"];
+
+/// The greatest number of a write.
+const LAST: u32 = 9;
+
+/// An entry as it was reported, with the place of the object's name.
+#[derive(Clone, Copy)]
+struct Wrote {
+    version: Version,
+    change: Change,
+    name: usize,
+}
+
+/// The info that came last, and all entries that were reported, in the order in which they came.
+#[derive(Drop)]
+struct Reported {
+    info: Info,
+    entries: Vec<Wrote>,
+}
+
+impl Reported {
+    /// The entry of the log with this number, the last one that was reported.
+    fn entry(&self, v: u32) -> Option<Wrote> {
+        let mut last = None;
+        for wrote in &self.entries {
+            if wrote.version.v == v && self.info.log_tail.v < v && v <= self.info.last_update.v {
+                last = Some(*wrote);
+            }
+        }
+        last
+    }
+
+    /// Whether no number of the log lacks an entry, its last is last_update, and epochs never fall.
+    fn is_whole(&self) -> bool {
+        let mut before = self.info.log_tail;
+        for v in 1..=LAST {
+            if self.info.log_tail.v < v && v <= self.info.last_update.v {
+                match self.entry(v) {
+                    Some(wrote) if before.epoch <= wrote.version.epoch => before = wrote.version,
+                    _ => return false,
+                }
+            }
+        }
+        before == self.info.last_update
+    }
+
+    fn has(&self, version: Version) -> bool {
+        match self.entry(version.v) {
+            Some(wrote) => wrote.version == version,
+            None => false,
+        }
+    }
+
+    /// The last entry of the object above this number.
+    fn newest_of(&self, name: usize, above: u32) -> Option<Wrote> {
+        let mut newest = None;
+        for v in 1..=LAST {
+            if let Some(wrote) = self.entry(v) {
+                if above < v && wrote.name == name {
+                    newest = Some(wrote);
+                }
+            }
+        }
+        newest
+    }
+
+    /// What a copy with the writes up to this number lacks, in words.
+    fn lacking(&self, alloc: Global, above: u32) -> Result<String, AllocError> {
+        let mut text = String::from_str(alloc, "missing")?;
+        for (name, word) in NAMES.iter().enumerate() {
+            if let Some(
+                Wrote {
+                    version,
+                    change: Change::Modify,
+                    name: _,
+                },
+            ) = self.newest_of(name, above)
+            {
+                let epoch = version.epoch;
+                let v = version.v;
+                write!(text, " {word} [{epoch},{v}]")?;
+            }
+        }
+        Ok(text)
+    }
+
+    /// The state of the peer in words, or that the log isn't whole.
+    fn state_of(&self, alloc: Global, peer: &Info) -> Result<String, AllocError> {
+        let last = peer.last_update;
+        let tail = self.info.log_tail;
+        if !self.is_whole() {
+            String::from_str(alloc, "not whole")
+        } else if !peer.complete || last < tail {
+            String::from_str(alloc, "backfill")
+        } else if last != tail && !self.has(last) {
+            String::from_str(alloc, "diverged")
+        } else {
+            self.lacking(alloc, last.v)
+        }
+    }
+}
+
+/// The version with this number, mostly in the epoch in which most writes with the number were.
+fn at(v: u32, dice: &mut Dice) -> At {
+    let epoch = if dice.below(8) == 0 {
+        dice.below(4) as u32
+    } else {
+        v.div_ceil(3)
+    };
+    At(epoch, v)
+}
+
+/// A copy with some bounds.
+fn any_copy(dice: &mut Dice) -> Result<Info, Fail> {
+    let tail = dice.below(7) as u32;
+    let last = tail + dice.below(4) as u32;
+    let tail = at(tail, dice);
+    let last = at(last, dice);
+    info(Held(tail, last, dice.below(8) > 0))
+}
+
+fn any_write(dice: &mut Dice) -> Wrote {
+    let v = dice.below(9) as u32 + 1;
+    let change = if dice.below(3) == 0 {
+        Change::Delete
+    } else {
+        Change::Modify
+    };
+    Wrote {
+        version: at(v, dice).version(),
+        change,
+        name: dice.below(4) as usize,
+    }
+}
+
+fn entry(alloc: Global, wrote: Wrote) -> Result<LogEntry, Fail> {
+    let name = *NAMES.get(wrote.name).ok_or("a place")?;
+    let object = ObjectName::new(String::from_str(alloc, name)?).ok_or("a name")?;
+    Ok(LogEntry {
+        version: wrote.version,
+        change: wrote.change,
+        object,
+    })
+}
+
+/// One step of a stream: an entry comes, or an info with other bounds.
+fn step(
+    alloc: Global,
+    log: &mut MemberLog,
+    reported: &mut Reported,
+    dice: &mut Dice,
+) -> Result<(), Fail> {
+    if dice.below(3) == 0 {
+        reported.info = any_copy(dice)?;
+        log.renew(&reported.info);
+    } else {
+        let wrote = any_write(dice);
+        log.add(&entry(alloc, wrote)?)?;
+        reported.entries.push(wrote)?;
+    }
+    Ok(())
+}
+
+/// Whether both say the same of some peer, in words.
+fn says_the_same(
+    alloc: Global,
+    log: &MemberLog,
+    reported: &Reported,
+    dice: &mut Dice,
+) -> Result<bool, Fail> {
+    let peer = any_copy(dice)?;
+    let kept = judged(alloc, log, &peer)?;
+    let plain = reported.state_of(alloc, &peer)?;
+    Ok(kept.as_str() == plain.as_str())
+}
+
+/// Whether both say the same at each step of the stream from this seed.
+fn run(alloc: Global, seed: u64) -> Result<bool, Fail> {
+    let mut dice = Dice::seeded(seed);
+    let info = any_copy(&mut dice)?;
+    let mut log = MemberLog::begin(alloc, &info);
+    let mut reported = Reported {
+        info,
+        entries: Vec::new(alloc),
+    };
+    let mut same = true;
+    for _ in 0..300 {
+        step(alloc, &mut log, &mut reported, &mut dice)?;
+        for _ in 0..4 {
+            same = says_the_same(alloc, &log, &reported, &mut dice)? && same;
+        }
+    }
+    Ok(same)
+}
+
+#[test]
+fn log_that_is_kept_says_what_all_reported_entries_say(rt: HostRuntime) -> Result<(), Fail> {
+    for seed in 0..20 {
+        assert!(rt;
+            run(rt.alloc(), seed)?,
+            "the states of stream {seed} differ"
+        );
+    }
+    Ok(())
+}
