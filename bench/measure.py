@@ -6,8 +6,8 @@
 PATH is the built program (by default crates/pgpeer/out/pgpeer) and FOLDER what make_inputs.py wrote (by default
 bench/out). NAME is one of those that make_inputs.py names; without one all are run. The yardsticks are `jq -c .` and
 bench/read_and_write.py, which read and print the same lines. The three run N times each (by default 5), by turns, one at
-a time, and print to nowhere. Prints two tables in Markdown, of time and of memory. Needs jq and GNU time (Debian: jq and
-time).
+a time, and print to nowhere; then jq runs N times on the program's answers. Prints three tables in Markdown, of time, of
+time beside the answers, and of memory. Needs jq and GNU time (Debian: jq and time).
 
 Seconds are of the processor, in the program and in the system on its behalf, since those change least with what else
 the machine does. A script to whose lines the program doesn't answer `ok`, each in turn, is told of and not measured.
@@ -54,15 +54,20 @@ def line_count(script):
         return sum(1 for _ in lines)
 
 
-def fault_of(command, script):
-    """Says what is wrong with the program's answers to the script, or gives None where each line is answered `ok`."""
-    with open(script, "rb") as lines:
-        answers = subprocess.run(command, stdin=lines, stdout=subprocess.PIPE).stdout.splitlines()
-    for answer in answers:
-        if b'"ok":' not in answer:
-            return answer.decode()
-    expected = line_count(script)
-    return None if len(answers) == expected else f"{len(answers)} answers to {expected} lines"
+def answer(command, script, answers):
+    """Writes the program's answers to the script to the file `answers`."""
+    with open(script, "rb") as lines, open(answers, "wb") as out:
+        subprocess.run(command, stdin=lines, stdout=out)
+
+
+def fault_of(script, answers):
+    """Says what is wrong with the answers to the script, or gives None where each line is answered `ok`."""
+    with open(answers, "rb") as lines:
+        for line in lines:
+            if b'"ok":' not in line:
+                return line.decode()
+    told, expected = line_count(answers), line_count(script)
+    return None if told == expected else f"{told} answers to {expected} lines"
 
 
 def alternate(commands, script, runs):
@@ -102,8 +107,15 @@ def time_row(name, script, ours, jq, python):
     ]
 
 
+def both_row(name, answers, ours, on_lines, on_answers):
+    """Gives the row of the second table: the least seconds of jq on the lines and on the answers, and the ratio to both."""
+    both = min(it.cpu for it in on_lines) + min(it.cpu for it in on_answers)
+    least = min(it.cpu for it in ours)
+    return [name, f"{os.path.getsize(answers):,}", f"{least:.3f}", f"{both:.3f}", f"{least / both:.2f}"]
+
+
 def memory_row(name, ours, jq, tenth):
-    """Gives the row of the second table: the greatest peaks."""
+    """Gives the row of the third table: the greatest peaks."""
     return [name] + [f"{max(it.peak for it in runs):.1f}" for runs in (ours, *tenth, jq)]
 
 
@@ -124,20 +136,29 @@ def lacking(options):
 def main(options):
     if lacking(options):
         sys.exit(lacking(options))
+    with tempfile.TemporaryDirectory() as folder:
+        print_tables(options, f"{folder}/answers")
+
+
+def print_tables(options, answers):
+    """Measures each script, with the program's answers to it in the file `answers`, and prints the tables."""
     ours, jq = [os.path.abspath(options.program), "run"], ["jq", "-c", "."]
     python = [sys.executable, "-S", "-E", f"{HERE}/read_and_write.py"]
-    times, memory = [], []
+    times, both, memory = [], [], []
     for name in options.names or NAMES:
         script, tenth = f"{options.inputs}/{name}.jsonl", f"{options.inputs}/{name}.tenth.jsonl"
-        fault = fault_of(ours, script)
+        answer(ours, script, answers)
+        fault = fault_of(script, answers)
         if fault:
             print(f"{name} isn't measured: {fault}\n")
             continue
         runs = alternate([ours, jq, python], script, options.runs)
         times.append(time_row(name, script, *runs))
+        both.append(both_row(name, answers, *runs[:2], *alternate([jq], answers, options.runs)))
         memory.append(memory_row(name, *runs[:2], alternate([ours], tenth, 1)))
     head = ["script", "lines", "bytes", "pgpeer, s", "jq, s", "Python, s", "ratio to jq", "ratio to Python"]
     print(table([*head, "lines a second"], times), end="\n\n")
+    print(table(["script", "bytes of answers", "pgpeer, s", "jq on lines and answers, s", "ratio"], both), end="\n\n")
     print(table(["script", "pgpeer, MiB", "pgpeer on a tenth, MiB", "jq, MiB"], memory))
 
 
