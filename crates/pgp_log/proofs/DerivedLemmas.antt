@@ -1,5 +1,5 @@
 -- What a shard keeps beside its entries, as the log grows.
-use Rattle.std.proofs.Common.{◌≡◌, ℕ, List, [], ◌∷◌, ◌++◌, Option, Some, None, is_some, Result, Ok, Err, is_err, OnOk, Bool, true, false, ◌&&◌, ◌||◌, IfSome, ◌+◌, ◌<◌, length, take, get_or, nat_eq, nat_lt, inl, inr, arith, refl, sym, ap, ap₂, ◌∙◌, subst}
+use Rattle.std.proofs.Common.{◌≡◌, ℕ, List, [], ◌∷◌, ◌++◌, Option, Some, None, is_some, Bool, true, false, ◌&&◌, ◌||◌, IfSome, ◌+◌, ◌<◌, length, take, get_or, nat_eq, nat_lt, inl, inr, arith, refl, sym, ap, ◌∙◌, subst}
 use Rattle.std.specs.List.{list_any}
 use Rattle.std.specs.Option.{option_map_or}
 use Rattle.std.proofs.lemmas.Bool.{and_from, and_parts, cases_Bool, cases_lt, eqb-true}
@@ -9,6 +9,7 @@ use Rattle.pgp_ids.specs.declared.entry.Entry.TheVariants as entry
 use Rattle.pgp_ids.specs.declared.incremental.Incremental.{Incremental}
 use Rattle.pgp_ids.specs.declared.pg_id.PgId.{PgId}
 use Rattle.pgp_ids.specs.declared.pool.PoolSpec.{PoolSpec}
+use Rattle.pgp_ids.specs.declared.view.View.{View}
 use Rattle.pgp_map.proofs.CheckedLemmas.{checked-has_group}
 use Rattle.pgp_map.specs.Held.{HasGroup}
 use Rattle.pgp_map.specs.MapFault.{then_with}
@@ -19,67 +20,67 @@ use Rattle.pgp_group.proofs.ViewLemmas.{scratch_there}
 use Rattle.pgp_group.specs.Entries.{inc_of, incs_of}
 use Rattle.pgp_group.specs.GroupHistory.{makes}
 use Rattle.pgp_group.specs.View.{scratch}
-use Rattle.pgp_log.specs.Derived.{CanAbsorb, HasOwn, HasStill, IsDerivedOf, IsFor, IsKeptIfOwn, IsOwnIfKept, IsShardOf, IsStepping}
+use Rattle.pgp_log.specs.Derived.{HasOwn, HasStill, IsDerivedOf, IsKeptIfOwn, IsOwnIfKept, IsStepping, owns}
 use Rattle.pgp_log.specs.Fits.{fits}
-use Rattle.pgp_log.specs.Kept.{AreGroupsOf, IsStep, KeepsAll, ids_of, is_among, keeps}
-use Rattle.pgp_log.specs.Log.{is_legal}
-use Rattle.pgp_log.specs.Shard.{is_own}
+use Rattle.pgp_log.specs.Kept.{AreGroupsOf, IsStep, KeepsAll, ids_of, keeps}
+use Rattle.pgp_log.specs.Shard.{is_among}
 use Rattle.pgp_log.specs.declared.derived.Derived.{Derived}
 use Rattle.pgp_log.specs.declared.groups.Groups.{Groups}
+use Rattle.pgp_log.specs.declared.owner.Owner.{Owner}
 use Rattle.pgp_log.proofs.KeptLemmas.{grown, step-checked, step-fine, still-there}
 use Rattle.pgp_log.proofs.LogLemmas.{legal-snoc}
 use Rattle.pgp_log.proofs.RawSetLemmas.{same_group}
-use Rattle.pgp_log.proofs.ReplayLemmas.{comes-with_pool}
+use Rattle.pgp_log.proofs.ComingLemmas.{comes-with_pool}
 use Rattle.pgp_log.proofs.TakeLemmas.{incs-other}
 
 -- one of the maps has taken an incremental
-pub step-begins : (log : List Entry) (inc : Incremental) (old : Derived) (after : OsdMap) → IsDerivedOf log old → fits log (entry.Inc inc) ≡ None → IsMapOf (then_with (incs_of log) inc) after → IsStep log inc old.before after
-step-begins log inc old after is fit made = record { legal = is.legal; fits = fit; before_is = is.before_is; after_is = made }
+pub step-begins : (owner : Owner) (log : List Entry) (inc : Incremental) (old : Derived) (after : OsdMap) → IsDerivedOf owner log old → fits log (entry.Inc inc) ≡ None → IsMapOf (then_with (incs_of log) inc) after → IsStep log inc old.before after
+step-begins owner log inc old after is fit made = record { legal = is.legal; fits = fit; before_is = is.before_is; after_is = made }
 
 -- and so have the groups
-pub groups-step : (log : List Entry) (inc : Incremental) (old : Derived) (after : OsdMap) (groups : Groups) → IsDerivedOf log old → IsStep log inc old.before after → AreGroupsOf (log ++ entry.Inc inc ∷ []) groups
-    → ids_of groups.kept.items ≡ ids_of old.groups.kept.items → IsStepping log inc (record old { after = after; groups = groups })
-groups-step log inc old after groups is step are ids = record {
+pub groups-step : (owner : Owner) (log : List Entry) (inc : Incremental) (old : Derived) (after : OsdMap) (groups : Groups) → IsDerivedOf owner log old → IsStep log inc old.before after → AreGroupsOf (log ++ entry.Inc inc ∷ []) groups
+    → ids_of groups.kept.items ≡ ids_of old.groups.kept.items → IsStepping owner log inc (record old { after = after; groups = groups })
+groups-step owner log inc old after groups is step are ids = record {
   step = step;
   groups_are = are;
-  own_are = λ pg own there. ap (is_among pg) ids ∙ is.own_are pg ∙ and_from (is_own old.shard old.shards pg) (has_group (incs_of log) pg) own there;
+  own_are = λ pg own there. ap (is_among pg) ids ∙ is.own_are pg ∙ and_from (owns owner pg) (has_group (incs_of log) pg) own there;
   only_own = λ pg kept.
-      let was = and_parts (is_own old.shard old.shards pg) (has_group (incs_of log) pg) (sym (is.own_are pg) ∙ sym (ap (is_among pg) ids) ∙ kept) in
-      and_from (is_own old.shard old.shards pg) (has_group (then_with (incs_of log) inc) pg) was.0
+      let was = and_parts (owns owner pg) (has_group (incs_of log) pg) (sym (is.own_are pg) ∙ sym (ap (is_among pg) ids) ∙ kept) in
+      and_from (owns owner pg) (has_group (then_with (incs_of log) inc) pg) was.0
       (still-there (incs_of log) inc pg (step-fine log inc old.before after step) was.1);
 }
 
 -- the other map has taken it too
-pub step-ends : (log : List Entry) (inc : Incremental) (moved : Derived) (before : OsdMap) → IsStepping log inc moved → HasOwn (then_with (incs_of log) inc) moved → IsMapOf (then_with (incs_of log) inc) before
-    → IsDerivedOf (log ++ entry.Inc inc ∷ []) (record moved { before = before })
-step-ends log inc moved before is own made = record {
+pub step-ends : (owner : Owner) (log : List Entry) (inc : Incremental) (moved : Derived) (before : OsdMap) → IsStepping owner log inc moved → HasOwn owner (then_with (incs_of log) inc) moved → IsMapOf (then_with (incs_of log) inc) before
+    → IsDerivedOf owner (log ++ entry.Inc inc ∷ []) (record moved { before = before })
+step-ends owner log inc moved before is own made = record {
   legal = legal-snoc log (entry.Inc inc) is.step.legal is.step.fits;
   before_is = subst (λ (l : List Incremental). IsMapOf l before) (sym (grown log inc)) made;
   after_is = subst (λ (l : List Incremental). IsMapOf l moved.after) (sym (grown log inc)) is.step.after_is;
   groups_are = is.groups_are;
-  own_are = λ pg. own pg ∙ ap (λ (l : List Incremental). is_own moved.shard moved.shards pg && has_group l pg) (sym (grown log inc));
+  own_are = λ pg. own pg ∙ ap (λ (l : List Incremental). owns owner pg && has_group l pg) (sym (grown log inc));
 }
 
 -- the groups have taken an entry that brings no map
-pub told-on : (log : List Entry) (new : Entry) (old : Derived) (groups : Groups) → inc_of new ≡ None → fits log new ≡ None → IsDerivedOf log old → AreGroupsOf (log ++ new ∷ []) groups
-    → ids_of groups.kept.items ≡ ids_of old.groups.kept.items → IsDerivedOf (log ++ new ∷ []) (record old { groups = groups })
-told-on log new old groups none fit is are ids =
+pub told-on : (owner : Owner) (log : List Entry) (new : Entry) (old : Derived) (groups : Groups) → inc_of new ≡ None → fits log new ≡ None → IsDerivedOf owner log old → AreGroupsOf (log ++ new ∷ []) groups
+    → ids_of groups.kept.items ≡ ids_of old.groups.kept.items → IsDerivedOf owner (log ++ new ∷ []) (record old { groups = groups })
+told-on owner log new old groups none fit is are ids =
     let same : incs_of (log ++ new ∷ []) ≡ incs_of log = incs-other log new none in record {
       legal = legal-snoc log new is.legal fit;
       before_is = subst (λ (l : List Incremental). IsMapOf l old.before) (sym same) is.before_is;
       after_is = subst (λ (l : List Incremental). IsMapOf l old.after) (sym same) is.after_is;
       groups_are = are;
-      own_are = λ pg. ap (is_among pg) ids ∙ is.own_are pg ∙ ap (λ (l : List Incremental). is_own old.shard old.shards pg && has_group l pg) (sym same);
+      own_are = λ pg. ap (is_among pg) ids ∙ is.own_are pg ∙ ap (λ (l : List Incremental). owns owner pg && has_group l pg) (sym same);
     }
 
 -- the next map has a group that its list has
-pub next-has_group : (log : List Entry) (inc : Incremental) (derived : Derived) (pg : PgId) → IsStepping log inc derived → has_group (then_with (incs_of log) inc) pg ≡ true → HasGroup derived.after pg
-next-has_group log inc derived pg is there =
+pub next-has_group : (owner : Owner) (log : List Entry) (inc : Incremental) (derived : Derived) (pg : PgId) → IsStepping owner log inc derived → has_group (then_with (incs_of log) inc) pg ≡ true → HasGroup derived.after pg
+next-has_group owner log inc derived pg is there =
     checked-has_group (then_with (incs_of log) inc) derived.after pg is.step.after_is (step-checked log inc derived.before derived.after is.step) there
 
 -- the groups have answered
-pub asked-on : (log : List Entry) (old : Derived) (groups : Groups) → IsDerivedOf log old → AreGroupsOf log groups → ids_of groups.kept.items ≡ ids_of old.groups.kept.items → IsDerivedOf log (record old { groups = groups })
-asked-on log old groups is are ids =
+pub asked-on : (owner : Owner) (log : List Entry) (old : Derived) (groups : Groups) → IsDerivedOf owner log old → AreGroupsOf log groups → ids_of groups.kept.items ≡ ids_of old.groups.kept.items → IsDerivedOf owner log (record old { groups = groups })
+asked-on owner log old groups is are ids =
     record { legal = is.legal; before_is = is.before_is; after_is = is.after_is; groups_are = are; own_are = λ pg. ap (is_among pg) ids ∙ is.own_are pg }
 
 -- a group that the last map doesn't have has no view
@@ -92,14 +93,13 @@ no-view log pg absent = none-there (scratch log pg) (scratch_there log pg ∙ ab
 -- ---- the shard's groups
 
 -- a group that was kept is kept still
-pub has-still : (incs : List Incremental) (before after : Derived) (pg : PgId) → HasStill before after → IsKeptIfOwn incs before pg → IsKeptIfOwn incs after pg
-has-still incs before after pg still has = λ own there.
-    still.groups_are pg (has (ap₂ (λ (shard shards : ℕ). is_own shard shards pg) (sym still.is_for.shard_is) (sym still.is_for.shards_are) ∙ own) there)
+pub has-still : (owner : Owner) (incs : List Incremental) (before after : Derived) (pg : PgId) → HasStill before after → IsKeptIfOwn owner incs before pg → IsKeptIfOwn owner incs after pg
+has-still owner incs before after pg still has = λ own there. still.groups_are pg (has own there)
 
 pub still-on : (first before after : Derived) → HasStill first before → HasStill before after → HasStill first after
 still-on first before after one two = record {
-  is_for = record { shard_is = two.is_for.shard_is ∙ one.is_for.shard_is; shards_are = two.is_for.shards_are ∙ one.is_for.shards_are };
   groups_are = λ pg was. two.groups_are pg (one.groups_are pg was);
+  marked = λ all. two.marked (one.marked all);
 }
 
 -- one of them comes: what was kept is kept still
@@ -110,28 +110,28 @@ keeps-still old groups pg there others = λ other was. elim (cases_Bool (is_same
 ]
 
 -- and it is the only one that comes
-pub only-more : (incs : List Incremental) (old : Derived) (groups : Groups) (pg : PgId) → is_own old.shard old.shards pg ≡ true → has_group incs pg ≡ true
-    → ((other : PgId) → is_same_group other pg ≡ false → keeps other groups ≡ keeps other old.groups) → ((other : PgId) → IsOwnIfKept incs old other)
-    → (other : PgId) → IsOwnIfKept incs (record old { groups = groups }) other
-only-more incs old groups pg own there others only other kept = elim (cases_Bool (is_same_group other pg)) [
+pub only-more : (owner : Owner) (incs : List Incremental) (old : Derived) (groups : Groups) (pg : PgId) → owns owner pg ≡ true → has_group incs pg ≡ true
+    → ((other : PgId) → is_same_group other pg ≡ false → keeps other groups ≡ keeps other old.groups) → ((other : PgId) → IsOwnIfKept owner incs old other)
+    → (other : PgId) → IsOwnIfKept owner incs (record old { groups = groups }) other
+only-more owner incs old groups pg own there others only other kept = elim (cases_Bool (is_same_group other pg)) [
   | inl same ↦
-      ap (λ (p : PgId). is_own old.shard old.shards p && has_group incs p) (same_group other pg same)
-      ∙ and_from (is_own old.shard old.shards pg) (has_group incs pg) own there
+      ap (λ (p : PgId). owns owner p && has_group incs p) (same_group other pg same)
+      ∙ and_from (owns owner pg) (has_group incs pg) own there
   | inr differs ↦ only other (sym (others other differs) ∙ kept)
 ]
 
 -- those of the map before are kept, so are those of the pools that the incremental makes, and no other
-pub own-next : (log : List Entry) (inc : Incremental) (moved : Derived) → IsStepping log inc moved → ((pg : PgId) → makes pg.pool inc ≡ true → IsKeptIfOwn (then_with (incs_of log) inc) moved pg)
-    → HasOwn (then_with (incs_of log) inc) moved
-own-next log inc moved is made = λ pg. both-ways (keeps pg moved.groups) (is_own moved.shard moved.shards pg && has_group (then_with (incs_of log) inc) pg) (is.only_own pg) (all pg) where
+pub own-next : (owner : Owner) (log : List Entry) (inc : Incremental) (moved : Derived) → IsStepping owner log inc moved → ((pg : PgId) → makes pg.pool inc ≡ true → IsKeptIfOwn owner (then_with (incs_of log) inc) moved pg)
+    → HasOwn owner (then_with (incs_of log) inc) moved
+own-next owner log inc moved is made = λ pg. both-ways (keeps pg moved.groups) (owns owner pg && has_group (then_with (incs_of log) inc) pg) (is.only_own pg) (all pg) where
   both-ways : (x y : Bool) → (x ≡ true → y ≡ true) → (y ≡ true → x ≡ true) → x ≡ y
   both-ways true y to from = sym (to refl)
   both-ways false true to from = from refl
   both-ways false false to from = refl
 
-  all : (pg : PgId) → (is_own moved.shard moved.shards pg && has_group (then_with (incs_of log) inc) pg) ≡ true → keeps pg moved.groups ≡ true
+  all : (pg : PgId) → (owns owner pg && has_group (then_with (incs_of log) inc) pg) ≡ true → keeps pg moved.groups ≡ true
   all pg is_there =
-      let both = and_parts (is_own moved.shard moved.shards pg) (has_group (then_with (incs_of log) inc) pg) is_there in
+      let both = and_parts (owns owner pg) (has_group (then_with (incs_of log) inc) pg) is_there in
       elim (cases_Bool (has_group (incs_of log) pg)) [
         | inl was ↦ is.own_are pg both.0 was
         | inr new ↦ made pg (comes-with_pool (incs_of log) inc pg new both.1) both.0 both.1
@@ -145,25 +145,25 @@ of-pool incs id pg found is same there =
     ap (λ (o : Option PoolSpec). option_map_or (λ made. nat_lt pg.pg made.pg_num) o false) (is ∙ ap (pool incs) (eqb-true id pg.pool same)) ∙ there
 
 -- one of its groups more is there
-pub pool-more : (incs : List Incremental) (before after : Derived) (id number : ℕ) → HasStill before after → ((pg : PgId) → nat_eq id pg.pool ≡ true → pg.pg < number → IsKeptIfOwn incs before pg)
-    → IsKeptIfOwn incs after (record { pool = id; pg = number }) → (pg : PgId) → nat_eq id pg.pool ≡ true → pg.pg < number + 1 → IsKeptIfOwn incs after pg
-pool-more incs before after id number still has next pg same below = elim (cases_lt pg.pg number) [
-  | inl earlier ↦ has-still incs before after pg still (has pg same earlier)
+pub pool-more : (owner : Owner) (incs : List Incremental) (before after : Derived) (id number : ℕ) → HasStill before after → ((pg : PgId) → nat_eq id pg.pool ≡ true → pg.pg < number → IsKeptIfOwn owner incs before pg)
+    → IsKeptIfOwn owner incs after (record { pool = id; pg = number }) → (pg : PgId) → nat_eq id pg.pool ≡ true → pg.pg < number + 1 → IsKeptIfOwn owner incs after pg
+pool-more owner incs before after id number still has next pg same below = elim (cases_lt pg.pg number) [
+  | inl earlier ↦ has-still owner incs before after pg still (has pg same earlier)
   | inr past ↦
       let here : number ≡ pg.pg = omega arith in
       let is : pg_at id number ≡ pg = λ i. record { pool = eqb-true id pg.pool same i; pg = here i } in
-      subst (IsKeptIfOwn incs after) is next
+      subst (IsKeptIfOwn owner incs after) is next
 ]
   where
     pg_at : ℕ → ℕ → PgId
     pg_at in_pool at = record { pool = in_pool; pg = at }
 
 -- and so are those of one pool more that the incremental makes
-pub pools-more : (incs : List Incremental) (inc : Incremental) (before after : Derived) (i : ℕ) (new : PoolSpec) → HasStill before after → i < length inc.pools → new ≡ get_or inc.pools i new
-    → ((pg : PgId) → list_any (λ made. nat_eq made.id pg.pool) (take i inc.pools) ≡ true → IsKeptIfOwn incs before pg) → ((pg : PgId) → nat_eq new.id pg.pool ≡ true → IsKeptIfOwn incs after pg)
-    → (pg : PgId) → list_any (λ made. nat_eq made.id pg.pool) (take (i + 1) inc.pools) ≡ true → IsKeptIfOwn incs after pg
-pools-more incs inc before after i new still within item has next pg made = elim (cases_Bool (list_any (λ (p : PoolSpec). nat_eq p.id pg.pool) (take i inc.pools))) [
-  | inl earlier ↦ has-still incs before after pg still (has pg earlier)
+pub pools-more : (owner : Owner) (incs : List Incremental) (inc : Incremental) (before after : Derived) (i : ℕ) (new : PoolSpec) → HasStill before after → i < length inc.pools → new ≡ get_or inc.pools i new
+    → ((pg : PgId) → list_any (λ made. nat_eq made.id pg.pool) (take i inc.pools) ≡ true → IsKeptIfOwn owner incs before pg) → ((pg : PgId) → nat_eq new.id pg.pool ≡ true → IsKeptIfOwn owner incs after pg)
+    → (pg : PgId) → list_any (λ made. nat_eq made.id pg.pool) (take (i + 1) inc.pools) ≡ true → IsKeptIfOwn owner incs after pg
+pools-more owner incs inc before after i new still within item has next pg made = elim (cases_Bool (list_any (λ (p : PoolSpec). nat_eq p.id pg.pool) (take i inc.pools))) [
+  | inl earlier ↦ has-still owner incs before after pg still (has pg earlier)
   | inr none ↦
       let test : PoolSpec → Bool = λ p. nat_eq p.id pg.pool in
       let here : nat_eq new.id pg.pool ≡ true =
@@ -171,26 +171,12 @@ pools-more incs inc before after i new still within item has next pg made = elim
       next pg here
 ]
 
--- a group of the shard that isn't kept isn't in the map, and has no view
-pub no-own-view : (log : List Entry) (derived : Derived) (pg : PgId) → IsDerivedOf log derived → is_own derived.shard derived.shards pg ≡ true → false ≡ keeps pg derived.groups → None ≡ scratch log pg
-no-own-view log derived pg is own gone = no-view log pg (ap (λ b. b && has_group (incs_of log) pg) (sym own) ∙ sym (is.own_are pg) ∙ sym gone)
+-- a group of the owner that isn't kept isn't in the map, and has no view
+no-own-view : (owner : Owner) (log : List Entry) (derived : Derived) (pg : PgId) → IsDerivedOf owner log derived → owns owner pg ≡ true → false ≡ keeps pg derived.groups → None ≡ scratch log pg
+no-own-view owner log derived pg is own gone = no-view log pg (ap (λ b. b && has_group (incs_of log) pg) (sym own) ∙ sym (is.own_are pg) ∙ sym gone)
 
--- what holds of something if it is there
-pub some-holds : {X : Type 0} (found : Option X) (P : X → Type 0) (x : X) → found ≡ Some x → IfSome found P → P x
-some-holds None P x is holds = cc
-some-holds (Some y) P x is holds = let same : y ≡ x = cc in subst P same holds
-
--- what holds where a call succeeds
-pub ok-holds : {T E : Type 0} (r : Result T E) (P : Type 0) → is_err r ≡ false → OnOk r P → P
-ok-holds (Ok x) P fine holds = holds
-ok-holds (Err e) P fine holds = cc
-
--- ---- what a shard keeps, if it is there
-
-pub can-follow : (log : List Entry) (new : Entry) (derived : Option Derived) → fits log new ≡ None → IfSome derived (IsDerivedOf log) → IfSome derived (λ part. CanAbsorb part new)
-can-follow log new None fit is = tt
-can-follow log new (Some part) fit is = record { log = log; is = is; fits = fit }
-
-pub shard-more : (log : List Entry) (new : Entry) (shard shards : ℕ) (derived : Option Derived) → is_legal log ≡ true → fits log new ≡ None → IfSome derived (IsDerivedOf (log ++ new ∷ [])) → IfSome derived (IsFor shard shards)
-    → IsShardOf (log ++ new ∷ []) shard shards derived
-shard-more log new shard shards derived legal fit is own = record { legal = legal-snoc log new legal fit; derived_is = is; is_for = own }
+-- what a shard answers for one of its groups: the view that the log says, or none where the group isn't kept
+pub own-view : (owner : Owner) (log : List Entry) (derived : Derived) (pg : PgId) (view : Option View) → IsDerivedOf owner log derived → owns owner pg ≡ true
+    → is_some view ≡ keeps pg derived.groups → IfSome view (λ told. scratch log pg ≡ Some told) → view ≡ scratch log pg
+own-view owner log derived pg None is own there says = no-own-view owner log derived pg is own there
+own-view owner log derived pg (Some told) is own there says = sym says

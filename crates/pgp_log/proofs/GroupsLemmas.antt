@@ -16,7 +16,8 @@ use Rattle.pgp_ids.specs.declared.pg_id.PgId.{PgId}
 use Rattle.pgp_map.specs.Pools.{is_same_group}
 use Rattle.pgp_group.specs.Entries.{inc_of}
 use Rattle.pgp_group.specs.Touched.{is_touched}
-use Rattle.pgp_log.specs.Kept.{AreAtPlaces, AreGroupsOf, AreKeptOf, IsKeptOf, ids_of, is_among, keeps}
+use Rattle.pgp_log.specs.Kept.{AreAtPlaces, AreGroupsOf, AreKeptOf, IsKeptOf, ids_of, keeps}
+use Rattle.pgp_log.specs.Shard.{is_among}
 use Rattle.pgp_log.specs.declared.groups.Groups.{Groups}
 use Rattle.pgp_log.specs.declared.kept.Kept.{Kept}
 use Rattle.pgp_log.specs.Log.{HasInc}

@@ -38,11 +38,10 @@ use Rattle.pgp_log.specs.Fits.{fits}
 use Rattle.pgp_log.specs.Kept.{IsKeptOf, IsStep, IsViewOf}
 use Rattle.pgp_log.specs.Log.{HasInc, is_legal}
 use Rattle.pgp_log.specs.RawSets.{IsRawSet}
-use Rattle.pgp_log.specs.Replay.{IsAbsent}
 use Rattle.pgp_log.specs.declared.kept.Kept.{Kept}
 use Rattle.pgp_log.proofs.LogLemmas.{legal-checked, legal-induction, numbered}
 use Rattle.pgp_log.proofs.RawSetLemmas.{filtered}
-use Rattle.pgp_log.proofs.ReplayLemmas.{absent-other, inc-of-kept, made-now, next-follows, silent-inc}
+use Rattle.pgp_log.proofs.ComingLemmas.{IsAbsent, absent-other, inc-of-group, made-now, next-follows, silent-inc}
 use Rattle.pgp_log.proofs.TakeLemmas.{faultless-inc, fits-faultless, incs-inc, incs-other}
 
 -- ---- a step to the next map
@@ -218,9 +217,24 @@ kept-told log new old group none is told = record {
 
 -- a group is there by an incremental
 pub kept-inc : (log : List Entry) (kept : Kept) → IsKeptOf log kept → HasInc log
-kept-inc log kept is = inc-of-kept log kept.pg (Some kept.group) refl is.group_is
+kept-inc log kept is = inc-of-group log kept.pg kept.group is.group_is
 
 -- ---- an incremental that the group takes
+
+-- where the group lies by the incremental's map
+pub lies-next : (log : List Entry) (inc : Incremental) (before after : OsdMap) (old moved : Kept) (members : Membership) → IsStep log inc before after → moved.pg ≡ old.pg
+    → IsRawSet (incs_of (log ++ entry.Inc inc ∷ [])) old.pg moved.raw
+    → ((incs : List Incremental) → IsMapOf incs after → option_map (λ made. members_from_up incs made moved.pg (without_down incs made moved.raw)) (pool incs moved.pg.pool) ≡ Some members)
+    → membership (then_with (incs_of log) inc) moved.pg ≡ Some members
+lies-next log inc before after old moved members step same placed lies =
+    let here : IsRawSet (incs_of (log ++ entry.Inc inc ∷ [])) moved.pg moved.raw = subst (λ (pg : PgId). IsRawSet (incs_of (log ++ entry.Inc inc ∷ [])) pg moved.raw) (sym same) placed in
+    let now : IsRawSet (then_with (incs_of log) inc) moved.pg moved.raw = subst (λ (l : List Incremental). IsRawSet l moved.pg moved.raw) (grown log inc) here in
+    filtered (then_with (incs_of log) inc) moved.pg moved.raw members now (lies (then_with (incs_of log) inc) step.after_is)
+
+-- the group is still that of the log
+pub group-still : (log : List Entry) (old moved : Kept) → IsKeptOf log old → moved.pg ≡ old.pg → moved.group ≡ old.group → IsGroupOf log moved.pg moved.group
+group-still log old moved is same stays =
+    subst (λ (pg : PgId). IsGroupOf log pg moved.group) (sym same) (subst (λ (g : Group). IsGroupOf log old.pg g) (sym stays) is.group_is)
 
 pub kept-moved : (log : List Entry) (inc : Incremental) (before after : OsdMap) (old moved : Kept) (group : Group) (members : Membership) → IsStep log inc before after → IsKeptOf log old
     → moved.pg ≡ old.pg → moved.group ≡ old.group → IsRawSet (incs_of (log ++ entry.Inc inc ∷ [])) old.pg moved.raw
@@ -229,14 +243,10 @@ pub kept-moved : (log : List Entry) (inc : Incremental) (before after : OsdMap) 
     → membership (then_with (incs_of l) i) pg ≡ Some members → IsGroupOf (l ++ entry.Inc i ∷ []) pg group)
     → IsKeptOf (log ++ entry.Inc inc ∷ []) (record moved { group = group; view = None })
 kept-moved log inc before after old moved group members step is same stays placed lies takes =
-    let here : IsRawSet (incs_of (log ++ entry.Inc inc ∷ [])) moved.pg moved.raw = subst (λ (pg : PgId). IsRawSet (incs_of (log ++ entry.Inc inc ∷ [])) pg moved.raw) (sym same) placed in
-    let now : IsRawSet (then_with (incs_of log) inc) moved.pg moved.raw = subst (λ (l : List Incremental). IsRawSet l moved.pg moved.raw) (grown log inc) here in
-    let was : IsGroupOf log moved.pg moved.group =
-    subst (λ (pg : PgId). IsGroupOf log pg moved.group) (sym same) (subst (λ (g : Group). IsGroupOf log old.pg g) (sym stays) is.group_is) in
     record {
-      group_is = takes log moved.pg inc was (step-fine log inc before after step) step.before_is step.after_is
-          (filtered (then_with (incs_of log) inc) moved.pg moved.raw members now (lies (then_with (incs_of log) inc) step.after_is));
-      raw_is = here;
+      group_is = takes log moved.pg inc (group-still log old moved is same stays) (step-fine log inc before after step) step.before_is step.after_is
+          (lies-next log inc before after old moved members step same placed lies);
+      raw_is = subst (λ (pg : PgId). IsRawSet (incs_of (log ++ entry.Inc inc ∷ [])) pg moved.raw) (sym same) placed;
       view_is = tt;
     }
 

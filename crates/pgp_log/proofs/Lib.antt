@@ -6,10 +6,12 @@ pub mod TakeLemmas
 pub mod LogLemmas
 pub mod LocateLemmas
 pub mod RawSetLemmas
-pub mod ReplayLemmas
+pub mod ComingLemmas
 pub mod KeptLemmas
 pub mod TouchLemmas
 pub mod GroupsLemmas
 pub mod PassingLemmas
 pub mod MarksLemmas
 pub mod DerivedLemmas
+pub mod PartLemmas
+pub mod ShardLemmas

@@ -6,6 +6,7 @@ use Rattle.std.specs.Prelude.{nat_eq}
 use Rattle.std.proofs.lemmas.Bool.{cases_Bool, or_parts, true≢false}
 use Rattle.std.proofs.Math.ListN.{drop_of_length-le}
 use Rattle.std.proofs.lemmas.List.{take_more_set}
+use Rattle.std.proofs.lemmas.List.Elements.{All-head, All-tail}
 use Rattle.std.proofs.lemmas.List.Folds.{list_any-append}
 use Rattle.std.proofs.lemmas.Option.{slice_get_within}
 use Rattle.pgp_ids.specs.declared.entry.Entry.{Entry}
@@ -15,7 +16,8 @@ use Rattle.pgp_ids.specs.declared.view.View.{View}
 use Rattle.pgp_ids.specs.declared.pg_id.PgId.{PgId}
 use Rattle.pgp_map.specs.Pools.{is_same_group}
 use Rattle.pgp_group.specs.Touched.{changes_pool, changes_temp, is_touched, moves_all}
-use Rattle.pgp_log.specs.Kept.{AreAtPlaces, is_among, is_marked, marks_in, marks_of, without}
+use Rattle.pgp_log.specs.Kept.{AreAllMarked, AreAtPlaces, ids_of, is_marked, marks_in, marks_of}
+use Rattle.pgp_log.specs.Shard.{is_among, without}
 use Rattle.pgp_log.specs.declared.groups.Groups.{Groups}
 use Rattle.pgp_log.specs.declared.kept.Kept.{Kept}
 use Rattle.pgp_log.proofs.GroupsLemmas.{missing-group, other-group, place-holds, same-self}
@@ -137,6 +139,14 @@ renewing-renews first now max i more left kept after was at passes there some is
       still = is.still ∙ ap length (sym same);
       few = omega (arith, is.few);
     }
+
+-- ---- each group is marked
+
+pub all-marks : (groups : List Kept) → AreAllMarked groups → marks_in groups ≡ ids_of groups
+all-marks [] all = refl
+all-marks (kept ∷ groups) all =
+    let here : is_marked kept ≡ true = All-head (λ (k : Kept). is_marked k ≡ true) kept groups all in
+    rw here (ap (λ ids. kept.pg ∷ ids) (all-marks groups (All-tail (λ (k : Kept). is_marked k ≡ true) kept groups all)))
 
 -- ---- other groups
 

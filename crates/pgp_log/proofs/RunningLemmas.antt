@@ -1,5 +1,5 @@
 -- What the code of a world keeps of it.
-use Rattle.std.proofs.Common.{◌≡◌, ℕ, zero, suc, ◌+◌, ◌<◌, ◌≤◌, List, [], ◌∷◌, ◌++◌, ◌⊎◌, inl, inr, Result, Ok, Err, OnOk, OnErr, IfOk, Some, None, true, false, length, map, min, take, drop, get_or, set, replicate, refl, ap, sym, ◌∙◌, subst, add-one, zero-add, arith, length-append}
+use Rattle.std.proofs.Common.{◌≡◌, ℕ, zero, suc, ◌+◌, ◌<◌, ◌≤◌, List, [], ◌∷◌, ◌++◌, ◌⊎◌, inl, inr, Result, Ok, Err, OnOk, OnErr, IfOk, Some, None, true, false, length, map, min, take, drop, get_or, set, replicate, refl, ap, sym, ◌∙◌, subst, add-one, zero-add, arith, eq-eqb, length-append}
 use Rattle.std.specs.List.{range_with_len}
 use Rattle.std.specs.declared.alloc.AllocError.{AllocError}
 use Rattle.std.proofs.Math.Seq.{drop-append_seam, map-set_same, take-append-add}
@@ -19,7 +19,7 @@ use Rattle.pgp_group.specs.View.{scratch}
 use Rattle.pgp_log.specs.Judge.{IsJudgeOf}
 use Rattle.pgp_log.specs.Log.{HasInc, IsFrontOf, is_legal}
 use Rattle.pgp_log.specs.Running.{IsReading, IsRunning}
-use Rattle.pgp_log.specs.Shard.{Shard, HasReadSome, having_read_all, opening_shard, shard_of}
+use Rattle.pgp_log.specs.Shard.{Shard, HasReadSame, HasReadSome, having_read_all, is_own, opening_shard, shard_of}
 use Rattle.pgp_log.specs.World.{World, front_of, view_reply}
 use Rattle.pgp_log.specs.World.Step.{Absorb, Ask}
 use Rattle.pgp_log.specs.World.Reply.{Absorbed, Asked}
@@ -86,17 +86,20 @@ read-fewer f xs front m r is fewer =
 few : {X : Type 0} (f : X → Entry) (ys : List X) (m r : ℕ) → r < length (map f (take m ys)) → r < m
 few f ys m r below = omega (arith, below, length-map (take m ys) f, length-take m ys)
 
-reading-on : (log : List Entry) (count i p : ℕ) (old new : Shard) → IsReading log count i old → new ≡ record old { front = take p log } → IsReading log count i new
-reading-on log count i p old new is same =
-    subst (IsReading log count i) (sym same) (record {
-      front_is = record { rest = drop p log; whole = sym (take-append-drop p log) };
-      shard_is = is.shard_is;
-      shards_are = is.shards_are;
-    })
+-- the shard has read so many entries of the log
+abbrev ReadsTo : List Entry → ℕ → Shard → Shard → Type 0
+ReadsTo log p old new = HasReadSame (record old { front = take p log }) new
 
-still-running : (log : List Entry) (judge : Judge) (shards : List Shard) (i p : ℕ) (new : Shard) → IsRunning log judge shards → i < length shards
-    → new ≡ record (get_or shards i (opening_shard 0 0)) { front = take p log } → IsRunning log judge (set shards i new)
-still-running log judge shards i p new is there same = record {
+reading-on : (log : List Entry) (count i p : ℕ) (old new : Shard) → IsReading log count i old → ReadsTo log p old new → IsReading log count i new
+reading-on log count i p old new is reads = record {
+  front_is = record { rest = drop p log; whole = sym (take-append-drop p log) ∙ ap (λ (l : List Entry). l ++ drop p log) (sym reads.front_is) };
+  shard_is = reads.shard_is ∙ is.shard_is;
+  shards_are = reads.shards_are ∙ is.shards_are;
+}
+
+still-running : (log : List Entry) (judge : Judge) (shards : List Shard) (i : ℕ) (new : Shard) → IsRunning log judge shards → i < length shards
+    → IsReading log (length shards) i new → IsRunning log judge (set shards i new)
+still-running log judge shards i new is there reads = record {
   judge_is = is.judge_is;
   some = omega (arith, is.some, length-set shards i new);
   each = λ n below. subst (λ k. IsReading log k n (get_or (set shards i new) n (opening_shard 0 0))) (sym (length-set shards i new)) (at n (omega (arith, below, length-set shards i new)) (cases_eq n i));
@@ -105,37 +108,52 @@ still-running log judge shards i p new is there same = record {
     at : (n : ℕ) → n < length shards → (n ≡ i) ⊎ (n ≡ i → ⊥) → IsReading log (length shards) n (get_or (set shards i new) n (opening_shard 0 0))
     at n below (inl here) =
         subst (λ k. IsReading log (length shards) k (get_or (set shards i new) k (opening_shard 0 0))) (sym here)
-        (subst (IsReading log (length shards) i) (sym (get_or-set_same shards i new (opening_shard 0 0) there))
-        (reading-on log (length shards) i p (get_or shards i (opening_shard 0 0)) new (is.each i there) same))
+        (subst (IsReading log (length shards) i) (sym (get_or-set_same shards i new (opening_shard 0 0) there)) reads)
     at n below (inr other) =
         subst (IsReading log (length shards) n) (sym (get_or-set_other shards i n new (opening_shard 0 0) other)) (is.each n below)
 
 -- what each shard has read
-read-set : (log : List Entry) (shards : List Shard) (i p : ℕ) (s new : Shard) → new ≡ record s { front = take p log }
+read-set : (log : List Entry) (shards : List Shard) (i p : ℕ) (s new : Shard) → ReadsTo log p s new
     → map (λ s. length s.front) (set shards i new) ≡ set (map (λ s. length s.front) shards) i (min p (length log))
-read-set log shards i p s new same =
+read-set log shards i p s new reads =
     map-set (λ (s : Shard). length s.front) shards i new
-    ∙ ap (set (map (λ (s : Shard). length s.front) shards) i) (ap (λ (s : Shard). length s.front) same ∙ length-take p log)
+    ∙ ap (set (map (λ (s : Shard). length s.front) shards) i) (ap length reads.front_is ∙ length-take p log)
 
--- the front of the shard at this place
+-- the shard at this place is reading
+reading-at : (log : List Entry) (judge : Judge) (shards : List Shard) (i : ℕ) (s : Shard) → IsRunning log judge shards → i < length shards → s ≡ get_or shards i (opening_shard 0 0) → IsReading log (length shards) i s
+reading-at log judge shards i s is there here = subst (IsReading log (length shards) i) (sym here) (is.each i there)
+
+-- its front
 front-at : (log : List Entry) (judge : Judge) (shards : List Shard) (i : ℕ) (s : Shard) → IsRunning log judge shards → i < length shards → s ≡ get_or shards i (opening_shard 0 0) → IsFrontOf s.front log
-front-at log judge shards i s is there here = subst (λ (o : Shard). IsFrontOf o.front log) (sym here) (is.each i there).front_is
+front-at log judge shards i s is there here = (reading-at log judge shards i s is there here).front_is
+
+-- so it is by a call that reads
+reads-all : {X : Type 0} (f : X → Entry) (xs : List X) (count : ℕ) (s new : Shard) → IsFrontOf s.front (map f xs)
+    → HasReadSame (having_read_all s (map f (take count (drop (length s.front) xs)))) new → ReadsTo (map f xs) (length s.front + count) s new
+reads-all f xs count s new is reads =
+    record { front_is = reads.front_is ∙ read-on f xs s.front count is; shard_is = reads.shard_is; shards_are = reads.shards_are }
+
+-- or that reads some of them
+reads-fewer : {X : Type 0} (f : X → Entry) (xs : List X) (count : ℕ) (s new : Shard) → IsFrontOf s.front (map f xs)
+    → (some : HasReadSome s (map f (take count (drop (length s.front) xs))) new) → ReadsTo (map f xs) (length s.front + some.read) s new
+reads-fewer f xs count s new is some =
+    let fewer : some.read < count = few f (drop (length s.front) xs) count some.read some.fewer in
+    record { front_is = some.after_is.front_is ∙ read-fewer f xs s.front count some.read is (omega arith); shard_is = some.after_is.shard_is; shards_are = some.after_is.shards_are }
 
 -- a call that reads, as far as it came
 pub absorbed : {X E : Type 0} (f : X → Entry) (xs : List X) (judge : Judge) (shards : List Shard) (i count : ℕ) (s new : Shard) (r : Result (Unit {0}) E)
     → IsRunning (map f xs) judge shards → i < length shards → s ≡ get_or shards i (opening_shard 0 0)
-    → OnOk r (new ≡ having_read_all s (map f (take count (drop (length s.front) xs))))
+    → OnOk r (HasReadSame (having_read_all s (map f (take count (drop (length s.front) xs)))) new)
     → OnErr r (HasReadSome s (map f (take count (drop (length s.front) xs))) new)
     → IsRunning (map f xs) judge (set shards i new)
 absorbed f xs judge shards i count s new (Ok x) is there here ok err =
-    still-running (map f xs) judge shards i (length s.front + count) new is there
-    (ok ∙ ap (λ (l : List Entry). record s { front = l }) (read-on f xs s.front count (front-at (map f xs) judge shards i s is there here))
-    ∙ ap (λ (o : Shard). record o { front = take (length s.front + count) (map f xs) }) here)
+    let reads : ReadsTo (map f xs) (length s.front + count) s new = reads-all f xs count s new (front-at (map f xs) judge shards i s is there here) ok in
+    still-running (map f xs) judge shards i new is there
+    (reading-on (map f xs) (length shards) i (length s.front + count) s new (reading-at (map f xs) judge shards i s is there here) reads)
 absorbed f xs judge shards i count s new (Err e) is there here ok err =
-    let fewer : err.read < count = few f (drop (length s.front) xs) count err.read err.fewer in
-    still-running (map f xs) judge shards i (length s.front + err.read) new is there
-    (err.after_is ∙ ap (λ (l : List Entry). record s { front = l }) (read-fewer f xs s.front count err.read (front-at (map f xs) judge shards i s is there here) (omega arith))
-    ∙ ap (λ (o : Shard). record o { front = take (length s.front + err.read) (map f xs) }) here)
+    let reads : ReadsTo (map f xs) (length s.front + err.read) s new = reads-fewer f xs count s new (front-at (map f xs) judge shards i s is there here) err in
+    still-running (map f xs) judge shards i new is there
+    (reading-on (map f xs) (length shards) i (length s.front + err.read) s new (reading-at (map f xs) judge shards i s is there here) reads)
 
 -- how many entries a shard has read
 read-at : (shards : List Shard) (i : ℕ) (s : Shard) → i < length shards → s ≡ get_or shards i (opening_shard 0 0) → length s.front ≡ get_or (map (λ s. length s.front) shards) i 0
@@ -143,28 +161,25 @@ read-at shards i s there here = ap (λ (o : Shard). length o.front) here ∙ sym
 
 pub absorbed-reply : {X : Type 0} (f : X → Entry) (xs : List X) (judge : Judge) (shards : List Shard) (i count : ℕ) (s new : Shard) (r : Result (Unit {0}) AllocError)
     → IsRunning (map f xs) judge shards → i < length shards → s ≡ get_or shards i (opening_shard 0 0)
-    → OnOk r (new ≡ having_read_all s (map f (take count (drop (length s.front) xs))))
+    → OnOk r (HasReadSame (having_read_all s (map f (take count (drop (length s.front) xs)))) new)
     → OnErr r (HasReadSome s (map f (take count (drop (length s.front) xs))) new)
     → MayReply (record { log = map f xs; read = map (λ s. length s.front) shards }) (Absorb i count) (Absorbed r) (record { log = map f xs; read = map (λ s. length s.front) (set shards i new) })
 absorbed-reply f xs judge shards i count s new (Ok x) is there here ok err =
-    let same : new ≡ record s { front = take (length s.front + count) (map f xs) } =
-    ok ∙ ap (λ (l : List Entry). record s { front = l }) (read-on f xs s.front count (front-at (map f xs) judge shards i s is there here)) in
+    let reads : ReadsTo (map f xs) (length s.front + count) s new = reads-all f xs count s new (front-at (map f xs) judge shards i s is there here) ok in
     inl (record {
       reply_is = refl;
-      next_is = ap (λ (l : List ℕ). record { log = map f xs; read = l }) (read-set (map f xs) shards i (length s.front + count) s new same
+      next_is = ap (λ (l : List ℕ). record { log = map f xs; read = l }) (read-set (map f xs) shards i (length s.front + count) s new reads
           ∙ ap (λ n. set (map (λ (s : Shard). length s.front) shards) i (min (n + count) (length (map f xs)))) (read-at shards i s there here));
     })
 absorbed-reply f xs judge shards i count s new (Err e) is there here ok err =
-    let fewer : err.read < count = few f (drop (length s.front) xs) count err.read err.fewer in
-    let same : new ≡ record s { front = take (length s.front + err.read) (map f xs) } =
-    err.after_is ∙ ap (λ (l : List Entry). record s { front = l }) (read-fewer f xs s.front count err.read (front-at (map f xs) judge shards i s is there here) (omega arith)) in
+    let reads : ReadsTo (map f xs) (length s.front + err.read) s new = reads-fewer f xs count s new (front-at (map f xs) judge shards i s is there here) err in
     inr (
       refl,
       record {
         read = err.read;
         fewer = subst (λ n. err.read < n)
             (ap length (next-few f xs (length s.front) count ∙ ap (λ n. take count (drop n (map f xs))) (read-at shards i s there here))) err.fewer;
-        next_is = ap (λ (l : List ℕ). record { log = map f xs; read = l }) (read-set (map f xs) shards i (length s.front + err.read) s new same
+        next_is = ap (λ (l : List ℕ). record { log = map f xs; read = l }) (read-set (map f xs) shards i (length s.front + err.read) s new reads
             ∙ ap (λ n. set (map (λ (s : Shard). length s.front) shards) i (min (n + err.read) (length (map f xs)))) (read-at shards i s there here));
       },
     )
@@ -186,6 +201,24 @@ next-legal f xs judge shards i count s is there here =
 
 -- ---- a shard is asked
 
+-- the group is one of the shard's own
+pub own-at : (log : List Entry) (judge : Judge) (shards : List Shard) (pg : PgId) (k : ℕ) (s : Shard) → IsRunning log judge shards → k ≡ shard_of (length shards) pg → k < length shards
+    → s ≡ get_or shards k (opening_shard 0 0) → is_own s.shard s.shards pg ≡ true
+own-at log judge shards pg k s is number there here =
+    let reads : IsReading log (length shards) k s = reading-at log judge shards k s is there here in
+    eq-eqb (shard_of s.shards pg) s.shard (ap (λ n. shard_of n pg) reads.shards_are ∙ sym number ∙ sym reads.shard_is)
+
+-- it has read the same
+pub still-asked : (log : List Entry) (judge : Judge) (shards : List Shard) (k : ℕ) (s new : Shard) → IsRunning log judge shards → k < length shards → s ≡ get_or shards k (opening_shard 0 0)
+    → HasReadSame s new → IsRunning log judge (set shards k new)
+still-asked log judge shards k s new is there here same =
+    let reads : IsReading log (length shards) k s = reading-at log judge shards k s is there here in
+    still-running log judge shards k new is there (record {
+      front_is = subst (λ (front : List Entry). IsFrontOf front log) (sym same.front_is) reads.front_is;
+      shard_is = same.shard_is ∙ reads.shard_is;
+      shards_are = same.shards_are ∙ reads.shards_are;
+    })
+
 -- what the group's shard has read
 asked-front : (log : List Entry) (judge : Judge) (shards : List Shard) (pg : PgId) (k : ℕ) (s : Shard) → IsRunning log judge shards → k ≡ shard_of (length shards) pg → k < length shards
     → s ≡ get_or shards k (opening_shard 0 0) → front_of (record { log = log; read = map (λ s. length s.front) shards }) pg ≡ s.front
@@ -206,10 +239,10 @@ asked w pg front (Err UnknownGroup) is ok unknown wants =
 asked w pg front (Err Memory) is ok unknown wants = inr (refl, (refl, subst HasInc (sym is) (wants refl)))
 
 pub asked-reply : (log : List Entry) (judge : Judge) (shards : List Shard) (pg : PgId) (k : ℕ) (s new : Shard) (r : Result View AskRefusal) → IsRunning log judge shards
-    → k ≡ shard_of (length shards) pg → k < length shards → s ≡ get_or shards k (opening_shard 0 0) → new ≡ s
+    → k ≡ shard_of (length shards) pg → k < length shards → s ≡ get_or shards k (opening_shard 0 0) → HasReadSame s new
     → IfOk r (λ view. scratch s.front pg ≡ Some view) → (r ≡ Err UnknownGroup → has_group (incs_of s.front) pg ≡ false) → (r ≡ Err Memory → HasInc s.front)
     → MayReply (record { log = log; read = map (λ s. length s.front) shards }) (Ask pg) (Asked r) (record { log = log; read = map (λ s. length s.front) (set shards k new) })
 asked-reply log judge shards pg k s new r is number there here same ok unknown wants =
     let kept : map (λ (s : Shard). length s.front) (set shards k new) ≡ map (λ (s : Shard). length s.front) shards =
-    map-set_same (λ (s : Shard). length s.front) shards k new (opening_shard 0 0) (ap (λ (o : Shard). length o.front) (same ∙ here)) in
+    map-set_same (λ (s : Shard). length s.front) shards k new (opening_shard 0 0) (ap length (same.front_is ∙ ap (λ (o : Shard). o.front) here)) in
     rw kept (asked (record { log = log; read = map (λ s. length s.front) shards }) pg s.front r (asked-front log judge shards pg k s is number there here) ok unknown wants)

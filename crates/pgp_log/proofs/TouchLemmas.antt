@@ -1,15 +1,16 @@
 -- A group that an incremental doesn't touch, and the devices with which a group has to do.
-use Rattle.std.proofs.Common.{◌≡◌, ℕ, List, [], ◌∷◌, ◌++◌, Bool, true, false, ◌||◌, Option, Some, None, is_some, map, length, refl, sym, ap, ◌∙◌}
+use Rattle.std.proofs.Common.{◌≡◌, ◌≢◌, ℕ, List, [], ◌∷◌, ◌++◌, inl, inr, subst, Bool, true, false, ◌||◌, Option, Some, None, is_some, map, length, refl, sym, ap, ◌∙◌}
 use Rattle.std.proofs.Math.Bool.{or-true}
 use Rattle.std.specs.List.{list_any}
 use Rattle.std.specs.Option.{option_map, option_map_or}
 use Rattle.std.specs.Prelude.{nat_eq, nat_lt}
-use Rattle.std.proofs.lemmas.Bool.{or_parts}
+use Rattle.std.proofs.lemmas.Bool.{cases_Bool, or_parts}
 use Rattle.std.proofs.lemmas.List.Folds.{list_any-append}
 use Rattle.pgp_ids.specs.declared.entry.Entry.{Entry}
 use Rattle.pgp_ids.specs.declared.entry.Entry.TheVariants as entry
 use Rattle.pgp_ids.specs.declared.incremental.DeviceEpoch.{DeviceEpoch}
 use Rattle.pgp_ids.specs.declared.incremental.Incremental.{Incremental}
+use Rattle.pgp_ids.specs.declared.membership.Membership.{Membership}
 use Rattle.pgp_ids.specs.declared.pg_id.PgId.{PgId}
 use Rattle.pgp_ids.specs.declared.pool.PoolSizes.{PoolSizes}
 use Rattle.pgp_ids.specs.declared.pool.PoolSpec.{PoolSpec}
@@ -29,7 +30,7 @@ use Rattle.pgp_group.specs.Touched.{changed_devices, changes_pool, changes_temp,
 use Rattle.pgp_group.specs.declared.group.Group.{Group}
 use Rattle.pgp_log.specs.Kept.{IsKeptOf, IsStep}
 use Rattle.pgp_log.specs.declared.kept.Kept.{Kept}
-use Rattle.pgp_log.proofs.KeptLemmas.{kept_raw-stays, step-fine, untouched-inc, view-stays}
+use Rattle.pgp_log.proofs.KeptLemmas.{group-still, kept_raw-stays, step-fine, untouched-inc, view-stays}
 
 -- ---- an incremental that doesn't touch the group
 
@@ -69,6 +70,21 @@ kept-stays log inc before after old group step is untouched stays =
       raw_is = kept_raw-stays log inc before after old is step (unmoved inc old.pg left.left);
       view_is = view-stays log (entry.Inc inc) old.pg old.view (untouched-inc log inc before after old.pg step untouched) is.view_is;
     }
+
+-- an incremental by which the group lies elsewhere touches it
+pub kept-touched : (log : List Entry) (inc : Incremental) (before after : OsdMap) (old moved : Kept) (members : Membership) → IsStep log inc before after → IsKeptOf log old
+    → moved.pg ≡ old.pg → moved.group ≡ old.group → membership (then_with (incs_of log) inc) moved.pg ≡ Some members
+    → ((l : List Entry) (pg : PgId) → IsGroupOf l pg moved.group → membership (incs_of l) pg ≢ Some members) → is_touched log (entry.Inc inc) old.pg ≡ true
+kept-touched log inc before after old moved members step is same stays lies elsewhere = elim (cases_Bool (is_touched log (entry.Inc inc) old.pg)) [
+  | inl touched ↦ touched
+  | inr untouched ↦
+      let fine : map_fault (incs_of log) inc ≡ None = step-fine log inc before after step in
+      let before' : membership (then_with (incs_of log) inc) old.pg ≡ membership (incs_of log) old.pg = lies-as-before log inc old.pg fine (apart log inc old.pg untouched) in
+      let there : membership (incs_of log) moved.pg ≡ Some members =
+      subst (λ (pg : PgId). membership (then_with (incs_of log) inc) pg ≡ membership (incs_of log) pg → membership (incs_of log) moved.pg ≡ Some members) same
+      (λ as_before. sym as_before ∙ lies) before' in
+      absurd (elsewhere log moved.pg (group-still log old moved is same stays) there)
+]
 
 -- ---- with which devices the group has to do
 

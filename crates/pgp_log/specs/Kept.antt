@@ -1,7 +1,7 @@
 -- What a shard keeps of its groups, as far as the entries that it has read tell of them.
-use Rattle.std.specs.Prelude.{◌≡◌, ℕ, List, length, map, slice_get, Bool, is_none, Some, None, IfSome, true, false, not}
+use Rattle.std.specs.Prelude.{◌≡◌, ℕ, List, [], ◌∷◌, ◌++◌, length, map, slice_get, Bool, is_none, Some, None, IfSome, true, false}
 use Rattle.std.specs.HashMap as hash
-use Rattle.std.specs.List.{filter, list_any}
+use Rattle.std.specs.List.{All, filter}
 use Rattle.pgp_ids.specs.declared.entry.Entry.{Entry}
 use Rattle.pgp_ids.specs.declared.entry.Entry.TheVariants as entry
 use Rattle.pgp_ids.specs.declared.incremental.Incremental.{Incremental}
@@ -19,6 +19,7 @@ use Rattle.pgp_group.specs.View.{scratch}
 use Rattle.pgp_log.specs.Fits.{fits}
 use Rattle.pgp_log.specs.Log.{is_legal}
 use Rattle.pgp_log.specs.RawSets.{IsRawSet}
+use Rattle.pgp_log.specs.Shard.{is_among}
 use Rattle.pgp_log.specs.declared.groups.Groups.{Groups}
 use Rattle.pgp_log.specs.declared.kept.Kept.{Kept}
 
@@ -43,6 +44,22 @@ pub record IsStep (log : List Entry) (inc : Incremental) (before after : OsdMap)
   pub fits : fits log (entry.Inc inc) ≡ None
   pub before_is : IsMapOf (incs_of log) before
   pub after_is : IsMapOf (then_with (incs_of log) inc) after
+
+-- where the incremental comes next in the log, what is kept of the group follows the log on
+abbrev pub StepsOn : Incremental → OsdMap → OsdMap → Kept → Kept → Type 0
+StepsOn inc before after old new =
+    (log : List Entry) → IsKeptOf log old → IsStep log inc before after → IsKeptOf (log ++ entry.Inc inc ∷ []) new
+
+-- where it comes next, it touches the group
+abbrev pub IsTouchedBy : Incremental → OsdMap → OsdMap → Kept → Type 0
+IsTouchedBy inc before after kept =
+    (log : List Entry) → IsKeptOf log kept → IsStep log inc before after → is_touched log (entry.Inc inc) kept.pg ≡ true
+
+-- where it comes next and doesn't touch the group, the view that is kept stays as it was
+abbrev pub KeepsView : Incremental → OsdMap → OsdMap → Kept → Kept → Type 0
+KeepsView inc before after old new =
+    (log : List Entry) → IsKeptOf log old → IsStep log inc before after → is_touched log (entry.Inc inc) old.pg ≡ false
+    → new.view ≡ old.view
 
 -- it does in some log of which the group is kept
 pub record CanStep (kept : Kept) (inc : Incremental) (before after : OsdMap) : Type 0 where
@@ -78,13 +95,13 @@ pub record AreGroupsOf (log : List Entry) (groups : Groups) : Type 0 where
   pub each : AreKeptOf log groups.kept.items
   pub places_are : AreAtPlaces groups
 
+-- each of the groups is marked
+abbrev pub AreAllMarked : List Kept → Type 0
+AreAllMarked groups = All (λ kept. is_marked kept ≡ true) groups
+
 -- the groups that are marked: they have to be worked out anew at the next question
 abbrev pub marks_of : Groups → List PgId
 marks_of groups = marks_in groups.kept.items
-
--- the group is one of these
-abbrev pub is_among : PgId → List PgId → Bool
-is_among pg ids = list_any (is_same_group pg) ids
 
 -- the group is one of those that are kept
 abbrev pub keeps : PgId → Groups → Bool
@@ -93,10 +110,6 @@ keeps pg groups = is_among pg (ids_of groups.kept.items)
 -- each group that was kept is kept still
 abbrev pub KeepsAll : Groups → Groups → Type 0
 KeepsAll before after = (pg : PgId) → keeps pg before ≡ true → keeps pg after ≡ true
-
--- these groups without this one
-abbrev pub without : PgId → List PgId → List PgId
-without pg ids = filter (λ other. not (is_same_group pg other)) ids
 
 -- the entry marks none but the groups that it touches: each other is marked after it where it was before
 abbrev pub MarksTouched : List Entry → Entry → Groups → Groups → Type 0

@@ -8,7 +8,6 @@ pub mod WorldRun
 pub mod Running
 pub mod Locate
 pub mod RawSets
-pub mod Replay
 pub mod Kept
 pub mod Derived
 pub mod Examples

@@ -1,17 +1,41 @@
--- A shard: the front of the log that it has read, and for which groups it answers (this project's own choice).
-use Rattle.std.specs.Prelude.{◌≡◌, ℕ, ◌+◌, ◌%◌, ◌<◌, List, [], ◌∷◌, ◌++◌, length, take, Bool, ◌&&◌, nat_eq, nat_lt}
+-- A shard: the front of the log that it has read, for which groups it answers, and which of these have to be worked out anew
+-- (this project's own choice).
+use Rattle.std.specs.Prelude.{◌≡◌, ℕ, ◌+◌, ◌%◌, ◌<◌, List, [], ◌∷◌, ◌++◌, length, take, drop, Bool, false, ◌&&◌, not, nat_eq, Option, None, Some, IfSome, is_some}
+use Rattle.std.specs.List.{filter, list_any}
+use Rattle.std.specs.Option.{option_map_or}
 use Rattle.pgp_ids.specs.declared.entry.Entry.{Entry}
 use Rattle.pgp_ids.specs.declared.pg_id.PgId.{PgId}
+use Rattle.pgp_map.specs.Pools.{has_group, is_same_group}
+use Rattle.pgp_group.specs.Entries.{incs_of}
+use Rattle.pgp_group.specs.Touched.{is_touched}
 
--- the entries that the shard has read, its number, and how many shards there are
+-- the entries that the shard has read, its number, how many shards there are, and its marks: the groups that have to be worked
+-- out, where it keeps what follows from the entries
 pub record Shard : Type 0 where
   pub front : List Entry
   pub shard : ℕ
   pub shards : ℕ
+  pub marks : Option (List PgId)
 
--- the shard before it has read anything
+-- the shard before it has read anything; it keeps nothing
 abbrev pub opening_shard : ℕ → ℕ → Shard
-opening_shard shard shards = record { front = []; shard = shard; shards = shards }
+opening_shard shard shards = record { front = []; shard = shard; shards = shards; marks = None }
+
+-- the number of the shard that answers for a group
+abbrev pub shard_of : ℕ → PgId → ℕ
+shard_of shards pg = (pg.pool + pg.pg) % shards
+
+-- the group is one of this shard's, of so many
+abbrev pub is_own : ℕ → ℕ → PgId → Bool
+is_own shard shards pg = nat_eq (shard_of shards pg) shard
+
+-- ---- what a shard has read
+
+-- it is the same shard, and has read the same
+pub record HasReadSame (before after : Shard) : Type 0 where
+  pub front_is : after.front ≡ before.front
+  pub shard_is : after.shard ≡ before.shard
+  pub shards_are : after.shards ≡ before.shards
 
 -- the shard that has read one entry more
 abbrev pub having_read : Shard → Entry → Shard
@@ -25,12 +49,45 @@ having_read_all s news = record s { front = s.front ++ news }
 pub record HasReadSome (s : Shard) (news : List Entry) (after : Shard) : Type 0 where
   pub read : ℕ
   pub fewer : read < length news
-  pub after_is : after ≡ having_read_all s (take read news)
+  pub after_is : HasReadSame (having_read_all s (take read news)) after
 
--- the number of the shard that answers for a group
-abbrev pub shard_of : ℕ → PgId → ℕ
-shard_of shards pg = (pg.pool + pg.pg) % shards
+-- ---- which of its groups have to be worked out anew
 
--- the group is one of this shard's, of so many
-abbrev pub is_own : ℕ → ℕ → PgId → Bool
-is_own shard shards pg = nat_lt 0 shards && nat_eq (shard_of shards pg) shard
+-- the group is one of these
+abbrev pub is_among : PgId → List PgId → Bool
+is_among pg ids = list_any (is_same_group pg) ids
+
+-- these groups without this one
+abbrev pub without : PgId → List PgId → List PgId
+without pg ids = filter (λ other. not (is_same_group pg other)) ids
+
+-- the group is the shard's, and its map has it
+abbrev pub has_own : Shard → PgId → Bool
+has_own s pg = is_own s.shard s.shards pg && has_group (incs_of s.front) pg
+
+-- the group has to be worked out: it is one of the marks, or any group that the shard has where the marks aren't there
+abbrev pub is_marked : Shard → PgId → Bool
+is_marked s pg = option_map_or (is_among pg) s.marks (has_own s pg)
+
+-- these are the groups that have to be worked out, in the order of the marks, where these are there
+pub record AreMarked (s : Shard) (ids : List PgId) : Type 0 where
+  pub each : (pg : PgId) → is_among pg ids ≡ is_marked s pg
+  pub in_order : IfSome s.marks (λ marks. ids ≡ marks)
+
+-- the entry marks none but the groups that it touches: each other is marked after it just where it was before; and the marks
+-- stay there, or stay away
+pub record MarksOnlyTouched (new : Entry) (before after : Shard) : Type 0 where
+  pub others : (pg : PgId) → is_touched before.front new pg ≡ false → is_marked after pg ≡ is_marked before pg
+  pub there : is_some after.marks ≡ is_some before.marks
+
+-- the mark of this group is taken away, and of no other; the marks are there
+pub record IsUnmarked (pg : PgId) (before after : Shard) : Type 0 where
+  pub marked : List PgId
+  pub were : AreMarked before marked
+  pub left : after.marks ≡ Some (without pg marked)
+
+-- so many marks are taken away, or all; the marks are there
+pub record AreUnmarked (max : ℕ) (before after : Shard) : Type 0 where
+  pub marked : List PgId
+  pub were : AreMarked before marked
+  pub left : after.marks ≡ Some (drop max marked)

@@ -14,7 +14,8 @@ ghost use Rattle.pgp_map.specs.declared.map.OsdMap.{OsdMap as AnyMap};
 ghost use Rattle.pgp_group.specs.Entries.{inc_of, incs_of};
 ghost use Rattle.pgp_group.specs.Touched.{is_touched};
 ghost use Rattle.pgp_group.specs.View.{scratch};
-ghost use Rattle.pgp_log.specs.Kept.{AreKeptOf, AreAtPlaces, AreGroupsOf, IsStep, CanStepAll, ids_of, marks_in, marks_of, is_among, without, keeps, MarksTouched};
+ghost use Rattle.pgp_log.specs.Kept.{AreKeptOf, AreAtPlaces, AreGroupsOf, IsStep, CanStepAll, ids_of, marks_in, marks_of, AreAllMarked, keeps, MarksTouched};
+ghost use Rattle.pgp_log.specs.Shard.{is_among, without};
 ghost use Rattle.pgp_log.specs.Log.{HasInc};
 
 use super::kept::Kept;
@@ -36,6 +37,7 @@ impl Groups {
     pub(crate) fn new(alloc: Global) -> Self
         ensures are { (log : List AnyEntry) → AreGroupsOf log result }
         ensures none { (pg : Id) → keeps pg result ≡ false }
+        ensures marked { AreAllMarked result.kept.items }
     {
         Groups {
             places: HashMap::new(alloc),
@@ -61,6 +63,7 @@ impl Groups {
             → keeps other self.new ≡ keeps other self.old) }
         ensures marks { OnOk result ((other : Id) → is_same_group other pg ≡ false
             → is_among other (marks_of self.new) ≡ is_among other (marks_of self.old)) }
+        ensures marked { OnOk result (AreAllMarked self.old.kept.items → AreAllMarked self.new.kept.items) }
     {
         if self.places.contains_key(&pg) {
             return Ok(());
@@ -83,6 +86,7 @@ impl Groups {
             → AreGroupsOf (log ++ entry.Inc inc.now ∷ []) self.new) }
         ensures marks { OnOk result ((log : List AnyEntry) → AreGroupsOf log self.old → IsStep log inc.now before.now after.now
             → MarksTouched log (entry.Inc inc.now) self.old self.new) }
+        ensures marked { OnOk result (AreAllMarked self.old.kept.items → AreAllMarked self.new.kept.items) }
         ensures ids { ids_of self.new.kept.items ≡ ids_of self.old.kept.items }
     {
         absorb_inc(self.kept.as_mut_slice(), before, after, inc)
@@ -96,6 +100,7 @@ impl Groups {
             → AreGroupsOf log self.old → AreGroupsOf (log ++ entry.now ∷ []) self.new) }
         ensures marks { OnOk result ((other : Id) → is_same_group pg.now other ≡ false
             → is_among other (marks_of self.new) ≡ is_among other (marks_of self.old)) }
+        ensures marked { OnOk result (AreAllMarked self.old.kept.items → AreAllMarked self.new.kept.items) }
         ensures ids { ids_of self.new.kept.items ≡ ids_of self.old.kept.items }
         ensures wants { OnErr result ((log : List AnyEntry) → AreGroupsOf log self.old → HasInc log) }
     {
@@ -168,6 +173,7 @@ fn absorb_inc(
     ensures marks { OnOk result ((log : List AnyEntry) → AreKeptOf log groups.old → IsStep log inc.now before.now after.now
         → (pg : Id) → is_touched log (entry.Inc inc.now) pg ≡ false
         → is_among pg (marks_in groups.new) ≡ is_among pg (marks_in groups.old)) }
+    ensures marked { OnOk result (AreAllMarked groups.old → AreAllMarked groups.new) }
     ensures ids { ids_of groups.new ≡ ids_of groups.old }
 {
     for kept in groups.iter_mut() {

@@ -13,7 +13,7 @@ ghost use Rattle.pgp_map.specs.declared.map.OsdMap.{OsdMap as AnyMap};
 ghost use Rattle.pgp_group.specs.Entries.{inc_of, incs_of};
 ghost use Rattle.pgp_group.specs.Touched.{is_touched, has_to_do_with, told_at};
 ghost use Rattle.pgp_group.specs.View.{scratch};
-ghost use Rattle.pgp_log.specs.Kept.{IsKeptOf, IsStep, CanStep, is_marked};
+ghost use Rattle.pgp_log.specs.Kept.{IsKeptOf, IsStep, CanStep, StepsOn, IsTouchedBy, KeepsView, is_marked};
 ghost use Rattle.pgp_log.specs.RawSets.{IsRawSet};
 
 use super::copies::copy_of_view;
@@ -43,6 +43,7 @@ impl Kept {
         ensures is { (log : List AnyEntry) (inc : AnyIncremental) (before : AnyMap) → IsStep log inc before after.now
             → has_group (incs_of log) pg ≡ false → has_group (then_with (incs_of log) inc) pg ≡ true
             → IsKeptOf (log ++ entry.Inc inc ∷ []) result }
+        ensures marked { is_marked result ≡ true }
         ensures pg { result.pg ≡ pg }
     {
         Kept {
@@ -60,9 +61,9 @@ impl Kept {
         self.view.is_none()
     }
 
-    /// Takes an incremental, which leads from the one map to the other. A group that isn't marked is held against it, and takes
-    /// no memory and no placement where it isn't touched; of one that is marked the view is gone anyhow. After an `Err` it is
-    /// of no further use.
+    /// Takes an incremental, which leads from the one map to the other. Where it doesn't touch the group, that takes no memory,
+    /// and no placement unless the group is marked: a group that isn't marked is held against the incremental, while of one
+    /// that is marked the view is gone anyhow. After an `Err` it is of no further use.
     pub(crate) fn absorb_inc(
         &mut self,
         before: &OsdMap,
@@ -70,12 +71,10 @@ impl Kept {
         inc: &Incremental,
     ) -> Result<(), AllocError>
         requires { CanStep self.old inc.now before.now after.now }
-        ensures ok { OnOk result ((log : List AnyEntry) → IsKeptOf log self.old → IsStep log inc.now before.now after.now
-            → IsKeptOf (log ++ entry.Inc inc.now ∷ []) self.new) }
-        ensures marks { OnOk result ((log : List AnyEntry) → IsKeptOf log self.old → IsStep log inc.now before.now after.now
-            → is_touched log (entry.Inc inc.now) self.old.pg ≡ false → self.new.view ≡ self.old.view) }
-        ensures wants { OnErr result ((log : List AnyEntry) → IsKeptOf log self.old → IsStep log inc.now before.now after.now
-            → is_marked self.old ≡ false → is_touched log (entry.Inc inc.now) self.old.pg ≡ true) }
+        ensures ok { OnOk result (StepsOn inc.now before.now after.now self.old self.new) }
+        ensures marks { OnOk result (KeepsView inc.now before.now after.now self.old self.new) }
+        ensures marked { OnOk result (is_marked self.old ≡ true → is_marked self.new ≡ true) }
+        ensures wants { OnErr result (IsTouchedBy inc.now before.now after.now self.old) }
         ensures pg { self.new.pg ≡ self.old.pg }
     {
         if self.is_marked() {
@@ -94,12 +93,9 @@ impl Kept {
         inc: &Incremental,
     ) -> Result<(), AllocError>
         requires { CanStep self.old inc.now before.now after.now }
-        ensures ok { OnOk result ((log : List AnyEntry) → IsKeptOf log self.old → IsStep log inc.now before.now after.now
-            → IsKeptOf (log ++ entry.Inc inc.now ∷ []) self.new) }
-        ensures marks { OnOk result ((log : List AnyEntry) → IsKeptOf log self.old → IsStep log inc.now before.now after.now
-            → is_touched log (entry.Inc inc.now) self.old.pg ≡ false → self.new.view ≡ self.old.view) }
-        ensures wants { OnErr result ((log : List AnyEntry) → IsKeptOf log self.old
-            → IsStep log inc.now before.now after.now → is_touched log (entry.Inc inc.now) self.old.pg ≡ true) }
+        ensures ok { OnOk result (StepsOn inc.now before.now after.now self.old self.new) }
+        ensures marks { OnOk result (KeepsView inc.now before.now after.now self.old self.new) }
+        ensures wants { OnErr result (IsTouchedBy inc.now before.now after.now self.old) }
         ensures pg { self.new.pg ≡ self.old.pg }
     {
         if self.is_touched(before, inc) {
@@ -120,8 +116,8 @@ impl Kept {
         inc: &Incremental,
     ) -> Result<(), AllocError>
         requires { CanStep self.old inc.now before.now after.now }
-        ensures ok { OnOk result ((log : List AnyEntry) → IsKeptOf log self.old → IsStep log inc.now before.now after.now
-            → IsKeptOf (log ++ entry.Inc inc.now ∷ []) (record self.new { view = None })) }
+        ensures ok { OnOk result (StepsOn inc.now before.now after.now self.old (record self.new { view = None })) }
+        ensures wants { OnErr result (IsTouchedBy inc.now before.now after.now self.old) }
         ensures pg { self.new.pg ≡ self.old.pg }
     {
         self.place_again(after, inc);
@@ -203,6 +199,7 @@ impl Kept {
     pub(crate) fn absorb_report(&mut self, entry: &Entry) -> Result<(), AllocError>
         ensures ok { OnOk result ((log : List AnyEntry) → inc_of entry.now ≡ None → IsKeptOf log self.old
             → IsKeptOf (log ++ entry.now ∷ []) self.new) }
+        ensures marked { is_marked self.new ≡ true }
         ensures pg { self.new.pg ≡ self.old.pg }
     {
         self.view = None;

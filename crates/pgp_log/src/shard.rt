@@ -1,6 +1,6 @@
 //! One shard: what it has read of the log, and what it answers by that.
 
-ghost use Rattle.std.specs.Prelude.{◌≡◌, ◌<◌, ◌++◌, length, map, false, true, None, Some, Err, IfOk, OnOk, OnErr};
+ghost use Rattle.std.specs.Prelude.{◌≡◌, ◌≢◌, ◌<◌, ◌++◌, length, map, is_some, false, true, None, Some, Err, IfOk, IfSome, OnOk, OnErr};
 ghost use Rattle.std.specs.Arc.{arc_value};
 ghost use Rattle.pgp_refusals.specs.declared.ask_refusal.AskRefusal.TheVariants.{UnknownGroup, Memory};
 ghost use Rattle.pgp_map.specs.Pools.{has_group};
@@ -8,9 +8,10 @@ ghost use Rattle.pgp_group.specs.Entries.{incs_of};
 ghost use Rattle.pgp_group.specs.View.{scratch};
 ghost use Rattle.pgp_log.specs.Fits.{is_closed, fits};
 ghost use Rattle.pgp_log.specs.Log.{HasInc, is_legal};
-ghost use Rattle.pgp_log.specs.Shard.{opening_shard, having_read, having_read_all, HasReadSome, shard_of};
+ghost use Rattle.pgp_log.specs.Shard.{opening_shard, having_read, having_read_all, HasReadSame, HasReadSome, shard_of, is_own, MarksOnlyTouched, IsUnmarked, AreUnmarked};
 
 use super::entry::is_close;
+use super::owner::Owner;
 use super::part::Part;
 use pgp_ids::{AskRefusal, Entry, PgId, View};
 use std::alloc::{AllocError, Global};
@@ -20,40 +21,54 @@ use std::sync::Arc;
 /// The front of the log that one of several shards has read. It answers for its own groups alone.
 #[derive(Debug)]
 pub struct ShardState {
+    owner: Owner,
     front: Vec<Arc<Entry>>,
-    /// What follows from the front, for the groups of this shard of so many.
+    /// What follows from the front, for the owner's groups.
     part: Part,
 }
 
 // Written out, so that a crate which lets one go has nothing to prove of what lies within.
 impl Drop for ShardState {
     fn drop(self) {
-        let ShardState { front: _, part: _ } = self;
+        let ShardState {
+            owner: _,
+            front: _,
+            part: _,
+        } = self;
     }
 }
 
 impl Model for ShardState {
     ghost use Rattle.std.specs.Prelude.{map};
     ghost use Rattle.std.specs.Arc.{arc_value};
-    ghost use Rattle.pgp_log.specs.Derived.{IsShardOf};
+    ghost use Rattle.pgp_log.specs.Derived.{IsPartOf, shard_with};
     ghost use Rattle.pgp_log.specs.Shard.{Shard};
 
     ghost Value = { Shard };
 
-    ghost view = { λ s. record { front = map arc_value s.front.items; shard = s.part.shard; shards = s.part.shards } };
+    ghost view = { λ s. shard_with s.owner (map arc_value s.front.items) s.part.derived };
 
-    ghost invariant = { λ s. IsShardOf (map arc_value s.front.items) s.part.shard s.part.shards s.part.derived };
+    ghost invariant = { λ s. IsPartOf s.owner (map arc_value s.front.items) s.part.derived };
 }
 
 impl ShardState {
-    /// A shard that has read nothing. It takes no memory.
+    /// The shard of this number, of so many, that has read nothing. It takes no memory.
     pub fn start(alloc: Global, shard: usize, shards: usize) -> Self
+        requires { shard < shards }
         ensures { result ≡ opening_shard shard shards }
     {
         ShardState {
+            owner: Owner { shard, shards },
             front: Vec::new(alloc),
-            part: Part::new(alloc, shard, shards),
+            part: Part::new(alloc),
         }
+    }
+
+    /// The group is one of its own.
+    pub fn owns(&self, pg: &PgId) -> bool
+        ensures { result ≡ is_own self.now.shard self.now.shards pg.now }
+    {
+        self.owner.owns(pg)
     }
 
     /// How many entries it has read.
@@ -73,14 +88,16 @@ impl ShardState {
         }
     }
 
-    /// Reads the next entry. Without memory for it, the shard has read what it had before.
+    /// Reads the next entry. Where what follows from the front is there, it stays there, and the entry marks none but groups
+    /// that it touches. Without memory for the entry, the shard has read what it had before.
     pub fn absorb(&mut self, entry: &Arc<Entry>) -> Result<(), AllocError>
         requires { fits self.old.front (arc_value entry.now) ≡ None }
-        ensures ok { OnOk result (self.new ≡ having_read self.old (arc_value entry.now)) }
-        ensures err { OnErr result (self.new ≡ self.old) }
+        ensures ok { OnOk result (HasReadSame (having_read self.old (arc_value entry.now)) self.new) }
+        ensures marks { OnOk result (MarksOnlyTouched (arc_value entry.now) self.old self.new) }
+        ensures err { OnErr result (HasReadSame self.old self.new) }
     {
         self.front.push(Arc::try_clone(entry)?)?;
-        let followed = self.part.absorb(entry);
+        let followed = self.part.absorb(self.owner, entry);
         if followed.is_err() {
             self.front.pop();
         }
@@ -90,7 +107,8 @@ impl ShardState {
     /// Reads these entries, which come next. Without memory for one of them, the shard has read those before it.
     pub fn absorb_all(&mut self, entries: &[Arc<Entry>]) -> Result<(), AllocError>
         requires { is_legal (self.old.front ++ map arc_value entries.now) ≡ true }
-        ensures ok { OnOk result (self.new ≡ having_read_all self.old (map arc_value entries.now)) }
+        ensures ok { OnOk result (HasReadSame (having_read_all self.old (map arc_value entries.now)) self.new) }
+        ensures there { OnOk result (is_some self.new.marks ≡ is_some self.old.marks) }
         ensures err { OnErr result (HasReadSome self.old (map arc_value entries.now) self.new) }
     {
         for entry in entries {
@@ -99,16 +117,18 @@ impl ShardState {
         Ok(())
     }
 
-    /// All that the shard has read says of one of its groups. `UnknownGroup`: what was read makes no such group. `Memory`:
-    /// there was none, which is so only where an incremental was read. What the shard has read stays.
+    /// All that the shard has read says of one of its groups, which needn't be worked out again then. `UnknownGroup`: what was
+    /// read makes no such group. `Memory`: there was none, which is so only where an incremental was read. What the shard has
+    /// read stays.
     pub fn ask(&mut self, pg: PgId) -> Result<View, AskRefusal>
-        requires { shard_of self.old.shards pg ≡ self.old.shard }
+        requires { is_own self.old.shard self.old.shards pg ≡ true }
         ensures ok { IfOk result (λ view. scratch self.old.front pg ≡ Some view) }
         ensures unknown { result ≡ Err UnknownGroup → has_group (incs_of self.old.front) pg ≡ false }
         ensures wants { result ≡ Err Memory → HasInc self.old.front }
-        ensures same { self.new ≡ self.old }
+        ensures same { HasReadSame self.old self.new }
+        ensures marks { result ≢ Err Memory → IsUnmarked pg self.old self.new }
     {
-        match self.part.ask(self.front.as_slice(), &pg)? {
+        match self.part.ask(self.owner, self.front.as_slice(), &pg)? {
             Some(view) => Ok(view),
             None => Err(AskRefusal::UnknownGroup),
         }
@@ -118,10 +138,12 @@ impl ShardState {
     /// question for one of them finds it done. How many groups of the shard still have to be worked out. What the shard has
     /// read stays.
     pub fn renew(&mut self, max: usize) -> Result<usize, AllocError>
+        ensures same { HasReadSame self.old self.new }
+        ensures marks { OnOk result (AreUnmarked max self.old self.new) }
+        ensures left { IfOk result (λ left. IfSome self.new.marks (λ marks. left ≡ length marks)) }
         ensures wants { OnErr result (HasInc self.old.front) }
-        ensures same { self.new ≡ self.old }
     {
-        self.part.renew(self.front.as_slice(), max)
+        self.part.renew(self.owner, self.front.as_slice(), max)
     }
 }
 

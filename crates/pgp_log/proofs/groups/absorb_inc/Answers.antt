@@ -1,10 +1,11 @@
-use Rattle.std.proofs.Common.{◌≡◌, ◌<◌, List, [], ◌∷◌, ◌++◌, Some, set, length, refl, sym, ap, ◌∙◌, subst, inl, inr, arith}
+use Rattle.std.proofs.Common.{◌≡◌, ◌<◌, List, [], ◌∷◌, ◌++◌, Some, true, set, length, refl, sym, ap, ◌∙◌, subst, inl, inr, arith}
 use Rattle.std.specs.Prelude.{slice_get}
 use Rattle.std.proofs.lemmas.Bool.{cases_lt}
+use Rattle.std.proofs.lemmas.List.Elements.{All-get_or, All-set}
 use Rattle.std.proofs.lemmas.Option.{slice_get_read, slice_get_within}
 use Rattle.pgp_ids.specs.declared.entry.Entry.TheVariants as entry
 use Rattle.pgp_group.specs.Touched.{is_touched}
-use Rattle.pgp_log.specs.Kept.{IsKeptOf}
+use Rattle.pgp_log.specs.Kept.{AreAllMarked, IsKeptOf, is_marked}
 use Rattle.pgp_log.specs.declared.kept.Kept.{Kept}
 use Rattle.pgp_log.proofs.GroupsLemmas.{get-set_other, get-set_same, ids-set, same_some}
 use Rattle.pgp_log.proofs.MarksLemmas.{marks-set}
@@ -16,6 +17,7 @@ loop-kept-init c = record {
   done = λ log are step place kept below at. absurd (omega arith);
   rest = λ place from. refl;
   marks = λ log are step pg untouched. refl;
+  marked = λ all. all;
   ids = refl;
 }
 
@@ -57,6 +59,10 @@ loop-kept-preserved c =
           (ap (is_touched log (entry.Inc c.args.inc.now)) (sym (same_group pg item.pg same ∙ ap (λ (k : Kept). k.pg) c.kept-item.is)) ∙ untouched)
           ∙ ap (λ (k : Kept). k.view) (sym c.kept-item.is))
           ∙ c.loop-kept.invariant.marks log are step pg untouched;
+      marked = λ all.
+          let marked : AreAllMarked groups = c.loop-kept.invariant.marked all in
+          All-set (λ (k : Kept). is_marked k ≡ true) groups i new
+          (c.in_ok-absorb_inc.ensures.marked (All-get_or (λ (k : Kept). is_marked k ≡ true) groups i item within marked)) marked;
       rest = λ place from. get-set_other groups i place new (λ same. omega arith) ∙ c.loop-kept.invariant.rest place (omega arith);
       ids = ids-set groups i item new at (c.absorb_inc.ensures.pg ∙ ap (λ (k : Kept). k.pg) (sym c.kept-item.is)) ∙ c.loop-kept.invariant.ids;
     }

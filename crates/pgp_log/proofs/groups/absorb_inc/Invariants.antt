@@ -4,7 +4,8 @@ use Rattle.pgp_ids.specs.declared.entry.Entry.{Entry}
 use Rattle.pgp_ids.specs.declared.entry.Entry.TheVariants as entry
 use Rattle.pgp_ids.specs.declared.pg_id.PgId.{PgId}
 use Rattle.pgp_group.specs.Touched.{is_touched}
-use Rattle.pgp_log.specs.Kept.{AreKeptOf, IsKeptOf, IsStep, ids_of, is_among, marks_in}
+use Rattle.pgp_log.specs.Kept.{AreAllMarked, AreKeptOf, IsKeptOf, IsStep, ids_of, marks_in}
+use Rattle.pgp_log.specs.Shard.{is_among}
 use Rattle.pgp_log.specs.declared.kept.Kept.{Kept}
 use Rattle.pgp_log.proofs.groups.absorb_inc.Given as goal
 
@@ -15,5 +16,6 @@ invariant-loop-kept l = record {
   rest : (place : ℕ) → l.kept-index ≤ place → slice_get l.groups place ≡ slice_get l.initial.groups place;
   marks : (log : List Entry) → AreKeptOf log l.initial.groups → IsStep log l.inc l.before l.after
       → (pg : PgId) → is_touched log (entry.Inc l.inc) pg ≡ false → is_among pg (marks_in l.groups) ≡ is_among pg (marks_in l.initial.groups);
+  marked : AreAllMarked l.initial.groups → AreAllMarked l.groups;
   ids : ids_of l.groups ≡ ids_of l.initial.groups;
 }

@@ -13,8 +13,7 @@ use Rattle.pgp_log.specs.declared.derived.Derived.{Derived}
 use Rattle.pgp_log.specs.declared.groups.Groups.{Groups}
 use Rattle.pgp_log.proofs.DerivedLemmas.{told-on}
 use Rattle.pgp_log.proofs.GroupsLemmas.{groups-untold}
-use Rattle.pgp_log.proofs.MarksLemmas.{ok-anyhow}
-use Rattle.pgp_log.proofs.ReplayLemmas.{inc-after, inc-front}
+use Rattle.pgp_log.proofs.ComingLemmas.{inc-after, inc-front}
 use Rattle.pgp_log.proofs.SharedLemmas.{on_err}
 use Rattle.pgp_log.proofs.derived.Derived.absorb.Goals as goal
 
@@ -30,8 +29,8 @@ returns-in-Info-clause-ok c =
     let none : inc_of new ≡ None = ap inc_of c.in-Info.is in
     on_ok c.absorb_report.result
     ((log : List Entry) → inc_of new ≡ None → ((other : PgId) → is_same_group pg other ≡ false → is_touched log new other ≡ false) → AreGroupsOf log old.groups → AreGroupsOf (log ++ new ∷ []) groups)
-    ((log : List Entry) → IsDerivedOf log old → fits log new ≡ None → IsDerivedOf (log ++ new ∷ []) (record old { groups = groups }))
-    (λ given log is fit. told-on log new old groups none fit is
+    ((log : List Entry) → IsDerivedOf c.args.owner log old → fits log new ≡ None → IsDerivedOf c.args.owner (log ++ new ∷ []) (record old { groups = groups }))
+    (λ given log is fit. told-on c.args.owner log new old groups none fit is
     (given log none (λ other differs. ap (λ (e : Entry). is_touched log e other) c.in-Info.is ∙ differs) is.groups_are) c.absorb_report.ensures.ids)
     c.absorb_report.ensures.ok
 
@@ -50,8 +49,8 @@ returns-in-Entries-clause-ok c =
     let none : inc_of new ≡ None = ap inc_of c.in-Entries.is in
     on_ok c.absorb_report-in-Entries.result
     ((log : List Entry) → inc_of new ≡ None → ((other : PgId) → is_same_group pg other ≡ false → is_touched log new other ≡ false) → AreGroupsOf log old.groups → AreGroupsOf (log ++ new ∷ []) groups)
-    ((log : List Entry) → IsDerivedOf log old → fits log new ≡ None → IsDerivedOf (log ++ new ∷ []) (record old { groups = groups }))
-    (λ given log is fit. told-on log new old groups none fit is
+    ((log : List Entry) → IsDerivedOf c.args.owner log old → fits log new ≡ None → IsDerivedOf c.args.owner (log ++ new ∷ []) (record old { groups = groups }))
+    (λ given log is fit. told-on c.args.owner log new old groups none fit is
     (given log none (λ other differs. ap (λ (e : Entry). is_touched log e other) c.in-Entries.is ∙ differs) is.groups_are) c.absorb_report-in-Entries.ensures.ids)
     c.absorb_report-in-Entries.ensures.ok
 
@@ -65,7 +64,7 @@ pub returns-in-Close-clause-ok : goal.returns-in-Close-clause-ok
 returns-in-Close-clause-ok c = λ log is fit.
     let new = c.args.entry.now in
     let none : inc_of new ≡ None = ap inc_of c.in-Close.is in
-    told-on log new c.args.self.now c.args.self.now.groups none fit is
+    told-on c.args.owner log new c.args.self.now c.args.self.now.groups none fit is
     (groups-untold log new c.args.self.now.groups none (λ place kept at. ap (λ (e : Entry). is_touched log e kept.pg) c.in-Close.is) is.groups_are) refl
 
 pub returns-in-Info-clause-marks : goal.returns-in-Info-clause-marks
@@ -79,9 +78,3 @@ returns-in-Entries-clause-marks c =
     on_ok_weaker c.absorb_report-in-Entries.result
     (λ given log is fit other untouched. given other (ap (λ (e : Entry). is_touched log e other) (sym c.in-Entries.is) ∙ untouched))
     c.absorb_report-in-Entries.ensures.marks
-
-pub returns-in-Info-clause-own : goal.returns-in-Info-clause-own
-returns-in-Info-clause-own c = ok-anyhow c.absorb_report.result _ (record { shard_is = refl; shards_are = refl })
-
-pub returns-in-Entries-clause-own : goal.returns-in-Entries-clause-own
-returns-in-Entries-clause-own c = ok-anyhow c.absorb_report-in-Entries.result _ (record { shard_is = refl; shards_are = refl })

@@ -1,4 +1,4 @@
-use Rattle.std.proofs.Common.{◌≡◌, true, false, refl, sym, ◌∙◌}
+use Rattle.std.proofs.Common.{◌≡◌, true, false, sym, ◌∙◌}
 use Rattle.pgp_map.specs.MapFault.{then_with}
 use Rattle.pgp_map.specs.Pools.{has_group}
 use Rattle.pgp_group.specs.Entries.{incs_of}
@@ -12,7 +12,7 @@ add-requires c =
     let log = c.requires.log in
     let inc = c.args.inc.now in
     let there : has_group (then_with (incs_of log) inc) c.args.pg ≡ true = sym (c.has_group.ensures (then_with (incs_of log) inc) c.requires.is.step.after_is) ∙ c.if-has_group.true in
-    next-has_group log inc c.args.self.now c.args.pg c.requires.is there
+    next-has_group c.args.owner log inc c.args.self.now c.args.pg c.requires.is there
 
 pub returns-in_ok-add-clause-ok : goal.returns-in_ok-add-clause-ok
 returns-in_ok-add-clause-ok c = λ log is.
@@ -25,7 +25,7 @@ returns-in_ok-add-clause-ok c = λ log is.
       groups_are = c.in_ok-add.ensures.ok log inc old.before is.step absent there is.groups_are;
       own_are = λ pg own was.
           keeps-still old.groups c.add.new.self c.args.pg (c.in_ok-add.ensures.there is.groups_are.places_are) c.in_ok-add.ensures.others pg (is.own_are pg own was);
-      only_own = only-more (then_with (incs_of log) inc) old c.add.new.self c.args.pg (sym c.is_own.ensures ∙ c.if-is_own.true) there c.in_ok-add.ensures.others is.only_own;
+      only_own = only-more c.args.owner (then_with (incs_of log) inc) old c.add.new.self c.args.pg (sym c.owns.ensures ∙ c.if-owns.true) there c.in_ok-add.ensures.others is.only_own;
     }
 
 pub returns-in_ok-add-clause-marks : goal.returns-in_ok-add-clause-marks
@@ -36,6 +36,6 @@ returns-in_ok-add-clause-own c = λ log is own there. c.in_ok-add.ensures.there 
 
 pub returns-in_ok-add-clause-still : goal.returns-in_ok-add-clause-still
 returns-in_ok-add-clause-still c = record {
-  is_for = record { shard_is = refl; shards_are = refl };
   groups_are = keeps-still c.args.self.now.groups c.add.new.self c.args.pg (c.in_ok-add.ensures.there c.requires.is.groups_are.places_are) c.in_ok-add.ensures.others;
+  marked = c.in_ok-add.ensures.marked;
 }

@@ -9,7 +9,7 @@ pub loop-number-init : goal.loop-number-init
 loop-number-init c = record {
   is = λ log is. is;
   own = λ log is pg same below. absurd (omega arith);
-  still = record { is_for = record { shard_is = refl; shards_are = refl }; groups_are = λ pg was. was };
+  still = record { groups_are = λ pg was. was; marked = λ all. all };
   marks = λ other differs. refl;
 }
 
@@ -21,7 +21,7 @@ loop-number-preserved c =
     record {
       is = λ log is. c.in_ok-add.ensures.ok log (c.loop-number.invariant.is log is);
       own = λ log is.
-          pool-more (then_with (incs_of log) inc) before after c.args.id c.loop-number.number c.in_ok-add.ensures.still
+          pool-more c.args.owner (then_with (incs_of log) inc) before after c.args.id c.loop-number.number c.in_ok-add.ensures.still
           (c.loop-number.invariant.own log is) (c.in_ok-add.ensures.own log (c.loop-number.invariant.is log is));
       still = still-on c.args.self.now before after c.loop-number.invariant.still c.in_ok-add.ensures.still;
       marks = λ other differs. c.in_ok-add.ensures.marks other differs ∙ c.loop-number.invariant.marks other differs;

@@ -24,7 +24,7 @@ loop-pool-preserved c =
     record {
       is = λ log is. c.in_ok-add_pool.ensures.ok log (c.loop-pool.invariant.is log is);
       own = λ log is.
-          pools-more (then_with (incs_of log) inc) inc before after i made c.in_ok-add_pool.ensures.still within item
+          pools-more c.args.owner (then_with (incs_of log) inc) inc before after i made c.in_ok-add_pool.ensures.still within item
           (c.loop-pool.invariant.own log is) (c.in_ok-add_pool.ensures.own log (c.loop-pool.invariant.is log is));
       still = still-on c.args.self.now before after c.loop-pool.invariant.still c.in_ok-add_pool.ensures.still;
       marks = λ other none.
@@ -33,6 +33,6 @@ loop-pool-preserved c =
 
 pub returns-clause-own : goal.returns-clause-own
 returns-clause-own c = λ log is.
-    own-next log c.args.inc.now c.loop-pool.self (c.loop-pool.invariant.is log is)
+    own-next c.args.owner log c.args.inc.now c.loop-pool.self (c.loop-pool.invariant.is log is)
     (λ pg made. c.loop-pool.invariant.own log is pg
     (ap (list_any (λ (p : PoolSpec). nat_eq p.id pg.pool)) (take_all c.loop-pool.pool-index c.args.inc.now.pools (rw (← c.as_slice-pool-items.ensures) c.loop-pool-test.false)) ∙ made))

@@ -1,39 +1,23 @@
-use Rattle.std.proofs.Common.{List, map, sym}
-use Rattle.std.specs.Arc.{arc_value}
-use Rattle.std.proofs.lemmas.List.{length-map}
-use Rattle.pgp_ids.specs.declared.entry.Entry.{Entry}
-use Rattle.pgp_log.proofs.DerivedLemmas.{asked-on, some-holds}
-use Rattle.pgp_log.proofs.SharedLemmas.{on_err}
+use Rattle.std.proofs.Common.{Option, Some, None, IfSome}
+use Rattle.std.proofs.lemmas.Result.{on_err_weaker}
+use Rattle.pgp_ids.specs.declared.view.View.{View}
+use Rattle.pgp_log.proofs.DerivedLemmas.{asked-on, own-view}
+use Rattle.pgp_log.proofs.SharedLemmas.{ok-both}
 use Rattle.pgp_log.proofs.derived.Derived.ask.Goals as goal
 
-pub ask-requires : goal.ask-requires
-ask-requires c = c.requires.groups_are.places_are
+told : (view : Option View) {P Q : View → Type 0} → ((told : View) → P told → Q told) → IfSome view P → IfSome view Q
+told None goes is = tt
+told (Some view) goes is = goes view is
 
-pub returns-in-Some-clause-view : goal.returns-in-Some-clause-view
-returns-in-Some-clause-view c =
-    let log : List Entry = map arc_value c.args.entries.now in
-    sym (some-holds c.in_ok-view.field-0 _ c.in-Some.view c.in-Some.is c.in_ok-view.ensures.view log c.requires.groups_are c.requires.after_is (length-map c.args.entries.now arc_value))
+pub returns-clause-view : goal.returns-clause-view
+returns-clause-view c =
+    ok-both c.ask.result _ _ _
+    (λ view says there owner log is long own.
+    own-view owner log c.args.self.now c.args.pg.now view is own there (told view (λ v given. given log is.groups_are is.after_is long) says))
+    c.ask.ensures.view c.ask.ensures.there
 
-pub view_elsewhere-requires : goal.view_elsewhere-requires
-view_elsewhere-requires c =
-    let log : List Entry = map arc_value c.args.entries.now in
-    asked-on log c.args.self.now c.ask.new.self c.requires (c.ask.ensures.are log c.requires.groups_are c.requires.after_is (length-map c.args.entries.now arc_value)) c.ask.ensures.ids
+pub returns-clause-is : goal.returns-clause-is
+returns-clause-is c = λ owner log is long. asked-on owner log c.args.self.now c.ask.new.self is (c.ask.ensures.are log is.groups_are is.after_is long) c.ask.ensures.ids
 
-pub returns-in-Some-clause-is : goal.returns-in-Some-clause-is
-returns-in-Some-clause-is c =
-    let log : List Entry = map arc_value c.args.entries.now in
-    asked-on log c.args.self.now c.ask.new.self c.requires (c.ask.ensures.are log c.requires.groups_are c.requires.after_is (length-map c.args.entries.now arc_value)) c.ask.ensures.ids
-
-pub returns-in-None-clause-is : goal.returns-in-None-clause-is
-returns-in-None-clause-is c =
-    let log : List Entry = map arc_value c.args.entries.now in
-    asked-on log c.args.self.now c.ask.new.self c.requires (c.ask.ensures.are log c.requires.groups_are c.requires.after_is (length-map c.args.entries.now arc_value)) c.ask.ensures.ids
-
-pub returns-in_err-view-clause-is : goal.returns-in_err-view-clause-is
-returns-in_err-view-clause-is c =
-    let log : List Entry = map arc_value c.args.entries.now in
-    asked-on log c.args.self.now c.ask.new.self c.requires (c.ask.ensures.are log c.requires.groups_are c.requires.after_is (length-map c.args.entries.now arc_value)) c.ask.ensures.ids
-
-pub returns-in_err-view-clause-wants : goal.returns-in_err-view-clause-wants
-returns-in_err-view-clause-wants c =
-    on_err c.from_residual.result _ (c.in_err-view.ensures.wants (map arc_value c.args.entries.now) c.requires.groups_are)
+pub returns-clause-wants : goal.returns-clause-wants
+returns-clause-wants c = on_err_weaker c.ask.result (λ given owner log is. given log is.groups_are) c.ask.ensures.wants

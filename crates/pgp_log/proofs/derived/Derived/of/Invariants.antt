@@ -1,10 +1,11 @@
 use Rattle.std.proofs.Common.{map, take}
 use Rattle.std.specs.Arc.{arc_value}
-use Rattle.pgp_log.specs.Derived.{IsDerivedOf, IsFor}
+use Rattle.pgp_log.specs.Derived.{IsDerivedOf}
+use Rattle.pgp_log.specs.Kept.{AreAllMarked}
 use Rattle.pgp_log.proofs.derived.Derived.of.Given as goal
 
 abbrev pub invariant-loop-entry : goal.invariant-loop-entry
 invariant-loop-entry l = record {
-  is : IsDerivedOf (map arc_value (take l.entry-index l.entries)) l.derived;
-  own : IsFor l.shard l.shards l.derived;
+  is : IsDerivedOf l.owner (map arc_value (take l.entry-index l.entries)) l.derived;
+  marked : AreAllMarked l.derived.groups.kept.items;
 }

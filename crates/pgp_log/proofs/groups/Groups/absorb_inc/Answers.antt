@@ -1,12 +1,14 @@
 use Rattle.std.proofs.Common.{◌≡◌, false, List, [], ◌∷◌, ◌++◌, length, refl, sym, ap, ◌∙◌, subst}
 use Rattle.std.proofs.lemmas.List.{length-map, with_items_is}
+use Rattle.std.proofs.lemmas.Result.{on_ok_weaker}
 use Rattle.std.specs.Vec.{with_items}
 use Rattle.pgp_ids.specs.declared.entry.Entry.{Entry}
 use Rattle.pgp_ids.specs.declared.entry.Entry.TheVariants as entry
 use Rattle.pgp_group.proofs.GroupLemmas.{on_ok}
 use Rattle.pgp_ids.specs.declared.pg_id.PgId.{PgId}
 use Rattle.pgp_group.specs.Touched.{is_touched}
-use Rattle.pgp_log.specs.Kept.{AreGroupsOf, AreKeptOf, IsStep, MarksTouched, ids_of, is_among, marks_in}
+use Rattle.pgp_log.specs.Kept.{AreAllMarked, AreGroupsOf, AreKeptOf, IsStep, MarksTouched, ids_of, marks_in}
+use Rattle.pgp_log.specs.Shard.{is_among}
 use Rattle.pgp_log.specs.declared.groups.Groups.{Groups}
 use Rattle.pgp_log.specs.declared.kept.Kept.{Kept}
 use Rattle.pgp_log.proofs.GroupsLemmas.{at-places}
@@ -46,6 +48,16 @@ returns-clause-marks c =
     ∙ given log (subst (AreKeptOf log) (sym c.as_mut_slice.ensures.value) are.each) step pg untouched
     ∙ ap (λ (l : List Kept). is_among pg (marks_in l)) c.as_mut_slice.ensures.value)
     c.absorb_inc.ensures.marks
+
+pub returns-clause-marked : goal.returns-clause-marked
+returns-clause-marked c =
+    let old : Groups = c.args.self.now in
+    let kept : List Kept = c.absorb_inc.new.groups in
+    let same : ids_of kept ≡ ids_of old.kept.items = c.absorb_inc.ensures.ids ∙ ap ids_of c.as_mut_slice.ensures.value in
+    let long : length kept ≡ old.kept.len = sym (length-map kept (λ (k : Kept). k.pg)) ∙ ap length same ∙ length-map old.kept.items (λ (k : Kept). k.pg) ∙ sym old.kept.ok.0 in
+    on_ok_weaker c.absorb_inc.result
+    (λ given all. subst AreAllMarked (sym (with_items_is old.kept kept long)) (given (subst AreAllMarked (sym c.as_mut_slice.ensures.value) all)))
+    c.absorb_inc.ensures.marked
 
 pub returns-clause-ids : goal.returns-clause-ids
 returns-clause-ids c =

@@ -1,7 +1,8 @@
-use Rattle.std.proofs.Common.{◌≡◌, ◌<◌, List, [], ◌∷◌, ◌++◌, Some, None, false, is_some, length, refl, sym, ap, ◌∙◌, subst}
+use Rattle.std.proofs.Common.{◌≡◌, ◌<◌, List, [], ◌∷◌, ◌++◌, Some, None, true, false, is_some, length, refl, sym, ap, ◌∙◌, subst}
 use Rattle.std.specs.HashMap as hash
 use Rattle.std.specs.Prelude.{slice_get}
 use Rattle.std.specs.Vec.{with_item}
+use Rattle.std.proofs.lemmas.List.Elements.{All-set}
 use Rattle.std.proofs.lemmas.Option.{slice_get_read}
 use Rattle.pgp_ids.specs.declared.entry.Entry.{Entry}
 use Rattle.pgp_ids.specs.declared.pg_id.PgId.{PgId}
@@ -9,7 +10,7 @@ use Rattle.pgp_map.specs.Pools.{is_same_group}
 use Rattle.pgp_group.proofs.GroupLemmas.{on_ok}
 use Rattle.pgp_group.specs.Entries.{inc_of}
 use Rattle.pgp_group.specs.Touched.{is_touched}
-use Rattle.pgp_log.specs.Kept.{AreGroupsOf, IsKeptOf}
+use Rattle.pgp_log.specs.Kept.{AreGroupsOf, IsKeptOf, is_marked}
 use Rattle.pgp_log.specs.declared.groups.Groups.{Groups}
 use Rattle.pgp_log.specs.declared.kept.Kept.{Kept}
 use Rattle.pgp_log.proofs.GroupsLemmas.{groups-inc, groups-told, groups-untold, ids-set, missing-group, place-holds, place-within}
@@ -62,6 +63,11 @@ returns-in-Some-clause-marks c =
     ok-anyhow c.absorb_report.result _
     (λ other differs. marks-set old.kept.items place kept after other at c.absorb_report.ensures.pg
     (another pg kept.pg other (place-holds old pg place kept c.requires is at) differs))
+
+pub returns-in-Some-clause-marked : goal.returns-in-Some-clause-marked
+returns-in-Some-clause-marked c =
+    ok-anyhow c.absorb_report.result _
+    (λ all. All-set (λ (k : Kept). is_marked k ≡ true) c.args.self.now.kept.items c.in-Some.place c.absorb_report.new.self c.absorb_report.ensures.marked all)
 
 pub returns-in-Some-clause-ids : goal.returns-in-Some-clause-ids
 returns-in-Some-clause-ids c =

@@ -1,9 +1,11 @@
 use Rattle.std.proofs.Common.{◌≡◌, true, List, [], ◌∷◌, ◌++◌, ℕ, Some, cond, sym, ap, ◌∙◌, subst}
 use Rattle.std.specs.HashMap as hash
+use Rattle.std.proofs.lemmas.List.Elements.{All-push}
 use Rattle.pgp_ids.specs.declared.entry.Entry.TheVariants as entry
 use Rattle.pgp_ids.specs.declared.pg_id.PgId.{PgId}
 use Rattle.pgp_map.specs.Pools.{is_same_group}
-use Rattle.pgp_log.specs.Kept.{ids_of, is_among, marks_in}
+use Rattle.pgp_log.specs.Kept.{AreAllMarked, ids_of, is_marked, marks_in}
+use Rattle.pgp_log.specs.Shard.{is_among}
 use Rattle.pgp_log.specs.declared.kept.Kept.{Kept}
 use Rattle.pgp_log.proofs.GroupsLemmas.{groups-more, keeps-found, keeps-last, keeps-others}
 use Rattle.pgp_log.proofs.MarksLemmas.{marks-push}
@@ -21,6 +23,10 @@ pub returns-clause-marks : goal.returns-clause-marks
 returns-clause-marks c = λ other differs.
     ap (λ (l : List Kept). is_among other (marks_in l)) c.in_ok-push.ensures.items
     ∙ marks-push c.args.self.now.kept.items c.begin.result other (ap (is_same_group other) c.begin.ensures.pg ∙ differs)
+
+pub returns-clause-marked : goal.returns-clause-marked
+returns-clause-marked c = λ all.
+    subst AreAllMarked (sym c.in_ok-push.ensures.items) (All-push (λ (k : Kept). is_marked k ≡ true) c.args.self.now.kept.items c.begin.result all c.begin.ensures.marked)
 
 pub returns-then-contains_key-clause-there : goal.returns-then-contains_key-clause-there
 returns-then-contains_key-clause-there c = λ are. sym (keeps-found c.args.self.now c.args.pg are) ∙ (sym c.contains_key.ensures ∙ c.if-contains_key.true)

@@ -1,4 +1,5 @@
 use Rattle.std.proofs.Common.{◌≡◌, List, [], ◌∷◌, ◌++◌, Some, None}
+use Rattle.std.proofs.lemmas.Result.{on_err_weaker}
 use Rattle.pgp_ids.specs.declared.entry.Entry.{Entry}
 use Rattle.pgp_ids.specs.declared.entry.Entry.TheVariants as entry
 use Rattle.pgp_ids.specs.declared.incremental.Incremental.{Incremental}
@@ -12,7 +13,8 @@ use Rattle.pgp_group.specs.GroupOf.{IsGroupOf}
 use Rattle.pgp_group.specs.declared.group.Group.{Group}
 use Rattle.pgp_log.specs.Kept.{IsKeptOf, IsStep}
 use Rattle.pgp_log.specs.declared.kept.Kept.{Kept}
-use Rattle.pgp_log.proofs.KeptLemmas.{kept-follows, kept-moved, kept-there}
+use Rattle.pgp_log.proofs.KeptLemmas.{kept-follows, kept-moved, kept-there, lies-next}
+use Rattle.pgp_log.proofs.TouchLemmas.{kept-touched}
 use Rattle.pgp_log.proofs.kept.Kept.move_on.Goals as goal
 
 pub place_again-requires : goal.place_again-requires
@@ -42,3 +44,17 @@ returns-clause-ok c =
     kept-moved log inc before after old moved group c.filter-members.result step is c.place_again.ensures.pg c.place_again.ensures.group
     (c.place_again.ensures.raw log before is step) c.filter-members.ensures given)
     c.absorb_members.ensures.ok
+
+pub returns-clause-wants : goal.returns-clause-wants
+returns-clause-wants c =
+    let inc = c.args.inc.now in
+    let before = c.args.before.now in
+    let after = c.args.after.now in
+    let old : Kept = c.args.self.now in
+    let moved : Kept = c.place_again.new.self in
+    on_err_weaker c.absorb_members.result
+    (λ elsewhere log is step.
+    kept-touched log inc before after old moved c.filter-members.result step is c.place_again.ensures.pg c.place_again.ensures.group
+    (lies-next log inc before after old moved c.filter-members.result step c.place_again.ensures.pg (c.place_again.ensures.raw log before is step) c.filter-members.ensures)
+    elsewhere)
+    c.absorb_members.ensures.wants

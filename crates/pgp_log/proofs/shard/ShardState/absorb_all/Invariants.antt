@@ -1,7 +1,10 @@
-use Rattle.std.proofs.Common.{◌≡◌, map, take}
+use Rattle.std.proofs.Common.{◌≡◌, is_some, map, take}
 use Rattle.std.specs.Arc.{arc_value}
-use Rattle.pgp_log.specs.Shard.{having_read_all}
+use Rattle.pgp_log.specs.Shard.{HasReadSame, having_read_all}
 use Rattle.pgp_log.proofs.shard.ShardState.absorb_all.Given as goal
 
 abbrev pub invariant-loop-entry : goal.invariant-loop-entry
-invariant-loop-entry l = l.self ≡ having_read_all l.fn.self (map arc_value (take l.entry-index l.entries))
+invariant-loop-entry l = record {
+  read : HasReadSame (having_read_all l.fn.self (map arc_value (take l.entry-index l.entries))) l.self;
+  there : is_some l.self.marks ≡ is_some l.fn.self.marks;
+}
