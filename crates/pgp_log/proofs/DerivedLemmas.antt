@@ -1,7 +1,6 @@
 -- What a shard keeps beside its entries, as the log grows.
-use Rattle.std.proofs.Common.{◌≡◌, ℕ, List, [], ◌∷◌, ◌++◌, Option, Some, None, is_some, Bool, true, false, ◌&&◌, ◌||◌, IfSome, ◌+◌, ◌<◌, length, take, get_or, nat_eq, nat_lt, inl, inr, arith, refl, sym, ap, ◌∙◌, subst}
+use Rattle.std.proofs.Common.{◌≡◌, ℕ, List, [], ◌∷◌, ◌++◌, Option, Some, None, is_some, Bool, true, false, ◌&&◌, ◌||◌, IfSome, ◌+◌, ◌<◌, length, take, get_or, nat_eq, inl, inr, arith, refl, sym, ap, ◌∙◌, subst}
 use Rattle.std.specs.List.{list_any}
-use Rattle.std.specs.Option.{option_map_or}
 use Rattle.std.proofs.lemmas.Bool.{and_from, and_parts, cases_Bool, cases_lt, eqb-true}
 use Rattle.std.proofs.lemmas.List.Folds.{list_any_more}
 use Rattle.pgp_ids.specs.declared.entry.Entry.{Entry}
@@ -138,11 +137,6 @@ own-next owner log inc moved is made = λ pg. both-ways (keeps pg moved.groups) 
       ]
 
 -- ---- the groups of a pool
-
--- a group that the map has is one of those that its pool has
-pub of-pool : (incs : List Incremental) (id : ℕ) (pg : PgId) (found : Option PoolSpec) → found ≡ pool incs id → nat_eq id pg.pool ≡ true → has_group incs pg ≡ true → option_map_or (λ made. nat_lt pg.pg made.pg_num) found false ≡ true
-of-pool incs id pg found is same there =
-    ap (λ (o : Option PoolSpec). option_map_or (λ made. nat_lt pg.pg made.pg_num) o false) (is ∙ ap (pool incs) (eqb-true id pg.pool same)) ∙ there
 
 -- one of its groups more is there
 pub pool-more : (owner : Owner) (incs : List Incremental) (before after : Derived) (id number : ℕ) → HasStill before after → ((pg : PgId) → nat_eq id pg.pool ≡ true → pg.pg < number → IsKeptIfOwn owner incs before pg)

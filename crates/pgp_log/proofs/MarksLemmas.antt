@@ -4,7 +4,6 @@ use Rattle.std.specs.HashMap as hash
 use Rattle.std.specs.List.{list_any}
 use Rattle.std.specs.Prelude.{nat_eq}
 use Rattle.std.proofs.lemmas.Bool.{cases_Bool, or_parts, true≢false}
-use Rattle.std.proofs.Math.ListN.{drop_of_length-le}
 use Rattle.std.proofs.lemmas.List.{take_more_set}
 use Rattle.std.proofs.lemmas.List.Elements.{All-head, All-tail}
 use Rattle.std.proofs.lemmas.List.Folds.{list_any-append}
@@ -88,9 +87,6 @@ pub record IsRenewing (first now : List Kept) (max i more left : ℕ) : Type 0 w
   pub room : more ≡ max - length (marks_in (take i first))
   pub still : left ≡ length (marks_in (take i now))
   pub few : left ≤ i
-
-pub renewing-begins : (first : List Kept) (max : ℕ) → IsRenewing first first max 0 max 0
-renewing-begins first max = record { marks = sym (drop_of_length-le [] (omega arith)); room = omega arith; still = refl; few = omega arith }
 
 -- a group that isn't marked
 pub renewing-passes : (first now : List Kept) (max i more left : ℕ) (kept : Kept) → slice_get first i ≡ Some kept → slice_get now i ≡ Some kept → is_marked kept ≡ false

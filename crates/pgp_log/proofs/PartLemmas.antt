@@ -9,7 +9,7 @@ use Rattle.pgp_group.specs.Entries.{incs_of}
 use Rattle.pgp_group.specs.Touched.{is_touched}
 use Rattle.pgp_log.specs.Derived.{CanAbsorb, IsDerivedOf, IsPartOf, owns, shard_with}
 use Rattle.pgp_log.specs.Fits.{fits}
-use Rattle.pgp_log.specs.Kept.{AreAllMarked, MarksTouched, marks_of}
+use Rattle.pgp_log.specs.Kept.{AreAllMarked, marks_of}
 use Rattle.pgp_log.specs.Shard.{AreMarked, MarksOnlyTouched, is_among}
 use Rattle.pgp_log.specs.declared.derived.Derived.{Derived}
 use Rattle.pgp_log.specs.declared.owner.Owner.{Owner}
@@ -44,27 +44,7 @@ marks-away owner log new found none =
       there = refl;
     })
 
--- it is there
-pub part-there : (owner : Owner) (log : List Entry) (new : Entry) (was after : Derived) (found : Option Derived) → found ≡ Some was → IsPartOf owner log found → fits log new ≡ None
-    → ((l : List Entry) → IsDerivedOf owner l was → fits l new ≡ None → IsDerivedOf owner (l ++ new ∷ []) after) → IsPartOf owner (log ++ new ∷ []) (Some after)
-part-there owner log new was after found some is fit takes =
-    record { legal = legal-snoc log new is.legal fit; derived_is = takes log (subst (λ (o : Option Derived). IfSome o (IsDerivedOf owner log)) some is.derived_is) fit }
-
-pub marks-there : (owner : Owner) (log : List Entry) (new : Entry) (was after : Derived) (found : Option Derived) → found ≡ Some was → IsPartOf owner log found → fits log new ≡ None
-    → ((l : List Entry) → IsDerivedOf owner l was → fits l new ≡ None → MarksTouched l new was.groups after.groups)
-    → MarksOnlyTouched new (shard_with owner log found) (shard_with owner (log ++ new ∷ []) (Some after))
-marks-there owner log new was after found some is fit touches =
-    subst (λ (o : Option Derived). MarksOnlyTouched new (shard_with owner log o) (shard_with owner (log ++ new ∷ []) (Some after))) (sym some) (record {
-      others = λ pg untouched. touches log (subst (λ (o : Option Derived). IfSome o (IsDerivedOf owner log)) some is.derived_is) fit pg untouched;
-      there = refl;
-    })
-
 -- ---- the marks
-
--- those of what is there
-pub marked-there : (owner : Owner) (log : List Entry) (derived : Derived) (found : Option Derived) → found ≡ Some derived → AreMarked (shard_with owner log found) (marks_of derived.groups)
-marked-there owner log derived found some =
-    subst (λ (o : Option Derived). AreMarked (shard_with owner log o) (marks_of derived.groups)) (sym some) (record { each = λ pg. refl; in_order = refl })
 
 -- those of what is made anew: all the owner's groups that the map has
 pub marked-anew : (owner : Owner) (log : List Entry) (derived : Derived) (found : Option Derived) → found ≡ None → IsDerivedOf owner log derived → AreAllMarked derived.groups.kept.items

@@ -5,13 +5,6 @@ use Rattle.pgp_ids.specs.declared.entry.Entry.{Entry}
 use Rattle.pgp_log.specs.Shard.{HasReadSame, HasReadSome, Shard, having_read, having_read_all}
 use Rattle.pgp_log.proofs.SharedLemmas.{next-after}
 
-pub read-same : (one two three : Shard) → HasReadSame one two → HasReadSame two three → HasReadSame one three
-read-same one two three first second = record {
-  front_is = second.front_is ∙ first.front_is;
-  shard_is = second.shard_is ∙ first.shard_is;
-  shards_are = second.shards_are ∙ first.shards_are;
-}
-
 -- one entry more is read
 pub read-further : {X : Type 0} (s before after : Shard) (f : X → Entry) (xs : List X) (i : ℕ) (x : X) → i < length xs → x ≡ get_or xs i x
     → HasReadSame (having_read_all s (map f (take i xs))) before → HasReadSame (having_read before (f x)) after → HasReadSame (having_read_all s (map f (take (i + 1) xs))) after
