@@ -1,11 +1,12 @@
 -- The only shard of a log reads on.
-use Rattle.std.proofs.Common.{◌≡◌, ℕ, ◌-◌, List, [], ◌++◌, Result, Ok, Err, OnOk, OnErr, true, length, map, take, drop, sym, ap, ◌∙◌, subst, append_assoc, append-nil, take_all, take-append-drop, length-drop, arith}
+use Rattle.std.proofs.Common.{◌≡◌, ℕ, ◌+◌, ◌-◌, ◌%◌, List, [], ◌++◌, Result, Ok, Err, OnOk, OnErr, true, length, map, take, drop, sym, ap, ◌∙◌, subst, append_assoc, append-nil, take_all, take-append-drop, length-drop, arith, eq-eqb}
 use Rattle.std.proofs.Math.Seq.{drop-append_seam}
 use Rattle.std.proofs.lemmas.List.{drop-map}
 use Rattle.pgp_ids.specs.declared.entry.Entry.{Entry}
+use Rattle.pgp_ids.specs.declared.pg_id.PgId.{PgId}
 use Rattle.pgp_log.specs.Log.{IsFrontOf, is_legal}
 use Rattle.pgp_log.specs.Running.{IsReading}
-use Rattle.pgp_log.specs.Shard.{Shard, HasReadSome, having_read_all}
+use Rattle.pgp_log.specs.Shard.{HasReadSame, HasReadSome, Shard, having_read_all, is_own, shard_of}
 
 -- what the shard has read, and the rest
 whole-log : {X : Type 0} (f : X → Entry) (xs : List X) (front : List Entry) → IsFrontOf front (map f xs) → front ++ map f (drop (length front) xs) ≡ map f xs
@@ -21,26 +22,40 @@ pub rest-legal : {X : Type 0} (f : X → Entry) (xs : List X) (front : List Entr
 rest-legal f xs front legal is = ap is_legal (whole-log f xs front is) ∙ legal
 
 pub has-read-all : {X E : Type 0} (f : X → Entry) (xs : List X) (old new : Shard) (r : Result (Unit {0}) E) → IsFrontOf old.front (map f xs)
-    → OnOk r (new ≡ having_read_all old (map f (drop (length old.front) xs))) → OnOk r (new.front ≡ map f xs)
-has-read-all f xs old new (Ok x) is read = ap (λ (s : Shard). s.front) read ∙ whole-log f xs old.front is
+    → OnOk r (HasReadSame (having_read_all old (map f (drop (length old.front) xs))) new) → OnOk r (new.front ≡ map f xs)
+has-read-all f xs old new (Ok x) is read = read.front_is ∙ whole-log f xs old.front is
 has-read-all f xs old new (Err e) is read = tt
 
 pub still-reading : {X E : Type 0} (f : X → Entry) (xs : List X) (old new : Shard) (r : Result (Unit {0}) E) → IsReading (map f xs) 1 0 old
-    → OnOk r (new ≡ having_read_all old (map f (drop (length old.front) xs))) → OnErr r (HasReadSome old (map f (drop (length old.front) xs)) new)
+    → OnOk r (HasReadSame (having_read_all old (map f (drop (length old.front) xs))) new) → OnErr r (HasReadSome old (map f (drop (length old.front) xs)) new)
     → IsReading (map f xs) 1 0 new
-still-reading f xs old new (Ok x) is ok err =
-    subst (IsReading (map f xs) 1 0) (sym ok) (record {
-      front_is = record { rest = []; whole = sym (append-nil (old.front ++ map f (drop (length old.front) xs)) ∙ whole-log f xs old.front is.front_is) };
-      shard_is = is.shard_is;
-      shards_are = is.shards_are;
-    })
+still-reading f xs old new (Ok x) is ok err = record {
+  front_is = record { rest = []; whole = sym (append-nil new.front ∙ ok.front_is ∙ whole-log f xs old.front is.front_is) };
+  shard_is = ok.shard_is ∙ is.shard_is;
+  shards_are = ok.shards_are ∙ is.shards_are;
+}
 still-reading f xs old new (Err e) is ok err =
     let news = map f (drop (length old.front) xs) in
-    subst (IsReading (map f xs) 1 0) (sym err.after_is) (record {
+    record {
       front_is = record {
         rest = drop err.read news;
-        whole = sym (append_assoc old.front (take err.read news) (drop err.read news) ∙ ap (λ l. old.front ++ l) (take-append-drop err.read news) ∙ whole-log f xs old.front is.front_is);
+        whole = sym (ap (λ (l : List Entry). l ++ drop err.read news) err.after_is.front_is
+            ∙ append_assoc old.front (take err.read news) (drop err.read news) ∙ ap (λ l. old.front ++ l) (take-append-drop err.read news) ∙ whole-log f xs old.front is.front_is);
       };
-      shard_is = is.shard_is;
-      shards_are = is.shards_are;
-    })
+      shard_is = err.after_is.shard_is ∙ is.shard_is;
+      shards_are = err.after_is.shards_are ∙ is.shards_are;
+    }
+
+-- where it has read the same, it is reading still
+pub reads-same : (log : List Entry) (old new : Shard) → IsReading log 1 0 old → HasReadSame old new → IsReading log 1 0 new
+reads-same log old new is same = record {
+  front_is = subst (λ (front : List Entry). IsFrontOf front log) (sym same.front_is) is.front_is;
+  shard_is = same.shard_is ∙ is.shard_is;
+  shards_are = same.shards_are ∙ is.shards_are;
+}
+
+-- every group is its own
+pub owns-all : (log : List Entry) (s : Shard) (pg : PgId) → IsReading log 1 0 s → is_own s.shard s.shards pg ≡ true
+owns-all log s pg is = eq-eqb (shard_of s.shards pg) s.shard (ap (λ n. shard_of n pg) is.shards_are ∙ only (pg.pool + pg.pg) ∙ sym is.shard_is) where
+  only : (n : ℕ) → n % 1 ≡ 0
+  only n = omega arith
