@@ -5,7 +5,7 @@ use Rattle.std.specs.Arc.{arc_value}
 use Rattle.std.specs.declared.sync.Arc.{Arc}
 use Rattle.pgp_ids.specs.declared.entry.Entry.{Entry}
 use Rattle.pgp_log.specs.Log.{IsFrontOf}
-use Rattle.pgp_log.specs.Shard.{Shard, HasReadSome}
+use Rattle.pgp_log.specs.Shard.{HasReadSome, Shard}
 use Rattle.pgp_feed.specs.Appends.{Appends}
 use Rattle.pgp_engine.proofs.FrontLemmas.{front_more, front_rest}
 
@@ -18,7 +18,7 @@ module _ {Z : Type 0} where
 pub some_read : (s after : Shard) (target news : List Entry) → IsFrontOf s.front target → news ≡ drop (length s.front) target → HasReadSome s news after
     → (length after.front ≤ length target) × (take (length after.front) target ≡ after.front)
 some_read s after target news f are some =
-    let front_is : after.front ≡ s.front ++ take some.read news = ap (λ (t : Shard). t.front) some.after_is in
+    let front_is : after.front ≡ s.front ++ take some.read news = some.after_is.front_is in
     let size : length after.front ≡ length s.front + some.read = ap length front_is ∙ (length-append s.front (take some.read news) ∙ ap (λ n. length s.front + n) (length-take-le some.read news (omega (arith, some.fewer)))) in
     let whole : length s.front + length news ≡ length target = ap (λ n. length s.front + length n) are ∙ (sym (length-append s.front (drop (length s.front) target)) ∙ ap length (front_rest s.front target f)) in (
       omega (arith, size, whole, some.fewer),

@@ -1,30 +1,33 @@
 -- A shard that reads the feed, and what it does.
-use Rattle.std.specs.Prelude.{◌≡◌, ℕ, ◌+◌, ◌<◌, List, length}
+use Rattle.std.specs.Prelude.{◌≡◌, ℕ, ◌+◌, List, length, Option, true}
 use Rattle.logbook.specs.Pages.{Book}
 use Rattle.pgp_ids.specs.declared.entry.Entry.{Entry}
 use Rattle.pgp_ids.specs.declared.pg_id.PgId.{PgId}
 use Rattle.pgp_log.specs.Log.{front, IsFrontOf}
-use Rattle.pgp_log.specs.Shard.{Shard, shard_of}
+use Rattle.pgp_log.specs.Shard.{AreUnmarked, HasReadSame, Shard, is_own}
 use Rattle.pgp_feed.specs.declared.receipt.Receipt.{Receipt}
 use Rattle.pgp_feed.specs.Receipts.{entries_of, feed_of}
 use Rattle.pgp_engine.specs.Fronts.{Names}
 
--- the entries that the shard has read, its number, how many shards there are, and the front that its tap gave last
+-- the entries that the shard has read, its number, how many shards there are, its marks (the groups that have to be worked out,
+-- where it keeps what follows from the entries), and the front that its tap gave last
 pub record Reader : Type 0 where
   pub front : List Entry
   pub shard : ℕ
   pub shards : ℕ
+  pub marks : Option (List PgId)
   pub seen : List Entry
+
+-- all of it but what its tap gave
+abbrev pub state_of : Reader → Shard
+state_of s = record { front = s.front; shard = s.shard; shards = s.shards; marks = s.marks }
 
 -- the group is one of the shard's own
 abbrev pub Serves : Reader → PgId → Type 0
-Serves s pg = shard_of s.shards pg ≡ s.shard
+Serves s pg = is_own s.shard s.shards pg ≡ true
 
 -- what a shard keeps: its receipt names the entries that it has read, which its tap has given
-pub record IsReader (feed : Book) (shard shards : ℕ) (state : Shard) (stored last : Receipt) : Type 0 where
-  pub shard_is : state.shard ≡ shard
-  pub shards_are : state.shards ≡ shards
-  pub some : 0 < shards
+pub record IsReader (feed : Book) (state : Shard) (stored last : Receipt) : Type 0 where
   pub named : Names feed state.front stored
   pub last_is : feed_of last ≡ feed
   pub seen : IsFrontOf state.front (entries_of last)
@@ -36,6 +39,11 @@ pub record GoesOn (old new : Reader) : Type 0 where
   pub front_is : IsFrontOf old.front new.front
   pub seen_is : IsFrontOf old.seen new.seen
 
+-- it is the same shard still, and has read and seen the same
+pub record StaysThere (old new : Reader) : Type 0 where
+  pub state_is : HasReadSame (state_of old) (state_of new)
+  pub seen_is : new.seen ≡ old.seen
+
 -- the shard has read so many entries more, or all that there were: its tap gave a newest front, and it has read that one so
 -- far
 pub record HasAbsorbed (old new : Reader) (max : ℕ) : Type 0 where
@@ -43,3 +51,7 @@ pub record HasAbsorbed (old new : Reader) (max : ℕ) : Type 0 where
   pub later : IsFrontOf old.seen newest
   pub within : IsFrontOf newest new.seen
   pub front_is : new.front ≡ front (length old.front + max) newest
+
+-- where the shard has read no more, so many of its marks are taken away, or all
+abbrev pub RenewsIfIdle : Reader → Reader → ℕ → Type 0
+RenewsIfIdle old new max = new.front ≡ old.front → AreUnmarked max (state_of old) (state_of new)

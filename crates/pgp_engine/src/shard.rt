@@ -12,8 +12,6 @@ mod steps;
 /// It reads one front of the log after another, and answers for its own groups by the front that it has read. Its receipt
 /// names that front.
 pub struct Shard<J: Naming> {
-    shard: usize,
-    shards: usize,
     state: ShardState,
     front: Receipt,
     tap: Tap,
@@ -26,8 +24,6 @@ pub struct Shard<J: Naming> {
 impl<J: Naming> Drop for Shard<J> {
     fn drop(self) {
         let Shard {
-            shard: _,
-            shards: _,
             state: _,
             front: _,
             tap: _,
@@ -44,7 +40,13 @@ impl<J: Naming> Model for Shard<J> {
 
     ghost Value = { Reader };
 
-    ghost view = { λ s. record { front = s.state.front; shard = s.shard; shards = s.shards; seen = entries_of (last_of s.tap) } };
+    ghost view = { λ s. record {
+      front = s.state.front;
+      shard = s.state.shard;
+      shards = s.state.shards;
+      marks = s.state.marks;
+      seen = entries_of (last_of s.tap);
+    } };
 
-    ghost invariant = { λ s. IsReader J.feed s.shard s.shards s.state s.front (last_of s.tap) };
+    ghost invariant = { λ s. IsReader J.feed s.state s.front (last_of s.tap) };
 }

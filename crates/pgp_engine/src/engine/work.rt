@@ -11,11 +11,11 @@ use crate::shard::Shard;
 use pgp_feed::Receipt;
 use std::sync::{MutexGuard, Wait};
 
-/// How many entries a shard reads at most in one turn of a worker, or how many of its groups it works out at most where there
-/// is nothing to read: so whoever asks waits for no more of them than these. It bounds no time, since an incremental goes over
-/// all groups of the shard. Where the shard doesn't keep its groups yet, working them out makes all of them first, from all
-/// that it has read.
-const ENTRIES_A_TURN: usize = 64;
+/// How many steps a shard takes at most in one turn of a worker: entries that it reads or, where there is nothing to read,
+/// groups that it works out. So whoever asks waits for no more of them than these. It bounds no time, since an incremental goes
+/// over all groups of the shard. Where the shard doesn't keep its groups yet, working them out makes all of them first, from
+/// all that it has read.
+const STEPS_A_TURN: usize = 64;
 
 /// How far a shard has read.
 #[derive(Drop)]
@@ -24,12 +24,12 @@ pub(super) struct Stand {
     pub closed: bool,
 }
 
-/// Has the shard read on, by one turn's entries at most.
+/// Has the shard read on, or work out its groups, by one turn's steps at most.
 fn read_on<J: Naming>(shard: &mut Shard<J>) -> Result<Stand, AskFault>
     ensures stand { IfOk result (IsStand J.feed) }
     ensures err { IfErr result (λ fault. fault_at fault ≡ None) }
 {
-    let front = shard.absorb_some(ENTRIES_A_TURN)?;
+    let front = shard.absorb_some(STEPS_A_TURN)?;
     Ok(Stand {
         front,
         closed: shard.is_closed(),

@@ -5,12 +5,13 @@ ghost use Rattle.pgp_group.specs.Entries.{incs_of};
 ghost use Rattle.pgp_group.specs.View.{scratch};
 ghost use Rattle.pgp_log.specs.Fits.{is_closed};
 ghost use Rattle.pgp_log.specs.Log.{is_legal, IsFrontOf};
+ghost use Rattle.pgp_log.specs.Shard.{AreUnmarked};
 ghost use Rattle.pgp_feed.specs.Receipts.{entries_of, feed_of};
 ghost use Rattle.pgp_feed.specs.Taps.{last_of};
 ghost use Rattle.pgp_engine.specs.Asks.{IsAnswer, MayFailToAnswer};
 ghost use Rattle.pgp_engine.specs.Faults.{fault_at};
 ghost use Rattle.pgp_engine.specs.Fronts.{Names};
-ghost use Rattle.pgp_engine.specs.Shards.{GoesOn, HasAbsorbed, Serves};
+ghost use Rattle.pgp_engine.specs.Shards.{GoesOn, HasAbsorbed, RenewsIfIdle, Serves, StaysThere, state_of};
 
 use super::Shard;
 use super::reading::{after, longer};
@@ -19,7 +20,7 @@ use crate::fault::AskFault;
 use crate::naming::Naming;
 use pgp_feed::{Receipt, Tap};
 use pgp_ids::{AskRefusal, PgId};
-use pgp_log::{ShardState, shard_of};
+use pgp_log::ShardState;
 use std::alloc::{AllocError, Global};
 use std::marker::PhantomData;
 
@@ -27,7 +28,7 @@ impl<J: Naming> Shard<J> {
     /// The shard of this number, of so many, over a tap. It has read nothing, and takes no memory.
     pub(crate) fn start(alloc: Global, shard: usize, shards: usize, tap: Tap) -> Shard<J>
         requires tap { feed_of (last_of tap) ≡ J.feed }
-        requires some { 0 < shards }
+        requires within { shard < shards }
         ensures front { result.front ≡ [] }
         ensures shard { result.shard ≡ shard }
         ensures shards { result.shards ≡ shards }
@@ -35,8 +36,6 @@ impl<J: Naming> Shard<J> {
         let mut tap = tap;
         let front = tap.newest().front(0);
         Shard {
-            shard,
-            shards,
             state: ShardState::start(alloc, shard, shards),
             front,
             tap,
@@ -49,7 +48,7 @@ impl<J: Naming> Shard<J> {
     pub(crate) fn serves(&self, pg: &PgId) -> bool
         ensures { IsTrue result ↔ Serves self.now pg.now }
     {
-        shard_of(self.shards, pg) == self.shard
+        self.state.owns(pg)
     }
 
     /// Reads the entries up to those that a receipt of the same feed names. Without memory it may have read some of them.
@@ -58,6 +57,7 @@ impl<J: Naming> Shard<J> {
         requires more { IsFrontOf self.old.front (entries_of target.now) }
         ensures on { GoesOn self.old self.new }
         ensures ok { OnOk result (self.new.front ≡ entries_of target.now) }
+        ensures marks { OnOk result (self.new.front ≡ self.old.front → self.new.marks ≡ self.old.marks) }
         ensures seen { OnOk result (IsFrontOf self.new.front self.new.seen) }
         ensures legal { OnOk result (is_legal self.new.front ≡ true) }
         ensures err { IfErr result (λ fault. fault_at fault ≡ None) }
@@ -81,10 +81,12 @@ impl<J: Naming> Shard<J> {
     }
 
     /// Reads at most so many further entries of the log, and answers the receipt of what it has read then. Without memory
-    /// it may have read some of them. Where there is nothing to read, it works out anew as many of its groups.
+    /// it may have read some of them. Where there is nothing to read, it works out anew as many of its groups: `max` bounds
+    /// both.
     pub fn absorb_some(&mut self, max: usize) -> Result<Receipt, AskFault>
         ensures on { GoesOn self.old self.new }
         ensures absorbed { OnOk result (HasAbsorbed self.old self.new max) }
+        ensures renewed { OnOk result (RenewsIfIdle self.old self.new max) }
         ensures named { IfOk result (Names J.feed self.new.front) }
         ensures err { IfErr result (λ fault. fault_at fault ≡ None) }
     {
@@ -101,6 +103,7 @@ impl<J: Naming> Shard<J> {
     fn read_some(&mut self, max: usize) -> Result<Receipt, AskFault>
         ensures on { GoesOn self.old self.new }
         ensures absorbed { OnOk result (HasAbsorbed self.old self.new max) }
+        ensures marks { OnOk result (self.new.front ≡ self.old.front → self.new.marks ≡ self.old.marks) }
         ensures named { IfOk result (Names J.feed self.new.front) }
         ensures err { IfErr result (λ fault. fault_at fault ≡ None) }
     {
@@ -112,7 +115,8 @@ impl<J: Naming> Shard<J> {
 
     /// Works out anew at most so many of its groups that an entry touched, so that the next to ask about them needn't.
     fn renew(&mut self, max: usize) -> Result<(), AskFault>
-        ensures same { self.new ≡ self.old }
+        ensures same { StaysThere self.old self.new }
+        ensures marks { OnOk result (AreUnmarked max (state_of self.old) (state_of self.new)) }
         ensures err { IfErr result (λ fault. fault_at fault ≡ None) }
     {
         match self.state.renew(max) {
@@ -131,7 +135,7 @@ impl<J: Naming> Shard<J> {
     /// What the shard has read says of one of its groups.
     fn view(&mut self, pg: PgId) -> Result<Answer, AskFault>
         requires serves { Serves self.old pg }
-        ensures same { self.new ≡ self.old }
+        ensures same { StaysThere self.old self.new }
         ensures view { IfOk result (λ answer. scratch self.old.front pg ≡ Some answer.view) }
         ensures absent { IfErr result (λ fault. IsSome (fault_at fault) → has_group (incs_of self.old.front) pg ≡ false) }
         ensures named { IfOk result (λ answer. Names J.feed self.old.front answer.at) }

@@ -1,8 +1,7 @@
-use Rattle.std.proofs.Common.{◌≡◌, ℕ, ◌≤◌, List, length, map, take, drop, ap, sym, ◌∙◌, subst}
+use Rattle.std.proofs.Common.{◌≡◌, ℕ, ◌≤◌, List, length, map, take, drop, ap, sym, ◌∙◌, subst, arith}
 use Rattle.std.specs.Arc.{arc_value}
 use Rattle.pgp_ids.specs.declared.entry.Entry.{Entry}
 use Rattle.pgp_log.specs.Log.{IsFrontOf, is_legal}
-use Rattle.pgp_log.specs.Shard.{Shard}
 use Rattle.pgp_feed.specs.Receipts.{entries_of}
 use Rattle.pgp_feed.specs.Taps.{last_of}
 use Rattle.pgp_feed.proofs.Fronts.{front_trans}
@@ -32,7 +31,22 @@ returns-in-Ok-clause-ok g c =
     let read : c.len-read.result ≡ length front = c.len-read.ensures.length ∙ ap length c.self.invariant.named.entries in
     let rest : news ≡ drop (length front) log =
     ap (map arc_value) c.as_slice.ensures.value ∙ (appended _ _ _ c.clear.ensures.items c.in_ok-read.ensures.read.0 ∙ ap (λ n. drop n log) read) in
-    ap (λ (s : Shard). s.front) c.in-Ok.ensures.ok ∙ with_rest front log news f rest
+    c.in-Ok.ensures.ok.front_is ∙ with_rest front log news f rest
+
+pub returns-in-Ok-clause-marks : goal.returns-in-Ok-clause-marks
+returns-in-Ok-clause-marks g c = λ same.
+    let front : List Entry = c.self.inside.state.front in
+    let log : List Entry = entries_of c.args.target.now in
+    let news : List Entry = map arc_value c.as_slice.result.now in
+    let f : IsFrontOf front log = subst (λ (s : Reader). IsFrontOf s.front log) (sym c.self.view_is) c.requires.more in
+    let read : c.len-read.result ≡ length front = c.len-read.ensures.length ∙ ap length c.self.invariant.named.entries in
+    let rest : news ≡ drop (length front) log =
+    ap (map arc_value) c.as_slice.ensures.value ∙ (appended _ _ _ c.clear.ensures.items c.in_ok-read.ensures.read.0 ∙ ap (λ n. drop n log) read) in
+    let now : c.absorb_all.new.self.front ≡ log = c.in-Ok.ensures.ok.front_is ∙ with_rest front log news f rest in
+    let size : length log ≡ length front = ap length (sym now ∙ same ∙ sym (ap (λ (s : Reader). s.front) c.self.view_is)) in
+    let all : c.len-read.result ≡ c.len.result = read ∙ sym size ∙ sym c.len.ensures.length in
+    let no : ⊥ = omega (arith, all) in
+    absurd no
 
 pub returns-in-Ok-clause-legal : goal.returns-in-Ok-clause-legal
 returns-in-Ok-clause-legal g c =
@@ -43,7 +57,7 @@ returns-in-Ok-clause-legal g c =
     let read : c.len-read.result ≡ length front = c.len-read.ensures.length ∙ ap length c.self.invariant.named.entries in
     let rest : news ≡ drop (length front) log =
     ap (map arc_value) c.as_slice.ensures.value ∙ (appended _ _ _ c.clear.ensures.items c.in_ok-read.ensures.read.0 ∙ ap (λ n. drop n log) read) in
-    ap (λ (s : Shard). is_legal s.front) c.in-Ok.ensures.ok ∙ rest_legal front log news f rest c.len.ensures.legal
+    ap is_legal c.in-Ok.ensures.ok.front_is ∙ rest_legal front log news f rest c.len.ensures.legal
 
 pub front-requires : goal.front-requires
 front-requires g c =
@@ -70,9 +84,6 @@ invariant_of-self-in-Err g c =
     let part : take (length after.front) log ≡ after.front = (some_read c.self.inside.state after log news f rest c.in-Err.ensures.err).1 in
     let last : List Entry = entries_of (last_of c.read.new.self) in
     record {
-      shard_is = ap (λ (s : Shard). s.shard) c.in-Err.ensures.err.after_is ∙ c.self.invariant.shard_is;
-      shards_are = ap (λ (s : Shard). s.shards) c.in-Err.ensures.err.after_is ∙ c.self.invariant.shards_are;
-      some = c.self.invariant.some;
       named = record {
         of_feed = c.front.ensures.feed ∙ c.requires.feed;
         entries = c.front.ensures.entries ∙ (ap (λ (n : ℕ). take n log) c.count.ensures ∙ part);

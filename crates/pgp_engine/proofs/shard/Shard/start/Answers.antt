@@ -13,9 +13,6 @@ invariant_of-result g c =
     let of : feed_of c.newest.result ≡ g.J.Naming.feed = sym c.newest.ensures.later.feed ∙ c.requires.tap in
     let none : c.start.result.front ≡ [] = ap (λ (s : Shard). s.front) c.start.ensures in
     record {
-      shard_is = ap (λ (s : Shard). s.shard) c.start.ensures;
-      shards_are = ap (λ (s : Shard). s.shards) c.start.ensures;
-      some = c.requires.some;
       named = record { of_feed = c.front-front.ensures.feed ∙ of; entries = c.front-front.ensures.entries ∙ sym none };
       last_is = ap feed_of (sym c.newest.ensures.last) ∙ of;
       seen = subst (λ (l : List Entry). IsFrontOf l (entries_of last)) (sym none) (front_none (entries_of last));
