@@ -1,10 +1,9 @@
 //! Which front a shard reads, and by which one it answers.
 use crate::desk::{Desk, Placer, Ticket};
-use crate::lines::{SHARD, TO_SERVE, group};
+use crate::lines::{SHARD, TO_SERVE};
 use crate::opened::{Trial, tried};
-use crate::steps::{are_level, put, serves};
+use crate::steps::{are_level, ask, holds, is_count, is_level, put, read_on, serves};
 use pgp_engine::Naming;
-use std::cmp::Ordering;
 use std::process::Abort;
 use std::sync::Wait;
 use std::thread::{Threads, join, yield_now};
@@ -21,13 +20,18 @@ fn submit_all<J: Naming, R: Wait + Abort + AllocGlobal>(rt: &R, desk: &Desk<J>) 
     told
 }
 
+// No shard goes back.
+fn goes_on<R: Abort>(rt: &R, read: usize, last: usize) {
+    assert!(rt; read >= last, "no shard goes back");
+}
+
 // Lets the shard read on, one entry at a time, until it has read them all.
 fn absorb_all<J: Naming, R: Wait + Abort>(rt: &R, desk: &Desk<J>) -> Ticket<J> {
     let mut newest = desk.told(rt);
     let mut last = 0;
     for _ in 0..TURNS {
-        newest = desk.absorb(rt, SHARD, 1).ok().expect(rt, "read");
-        assert!(rt; newest.len() >= last, "no shard goes back");
+        newest = read_on(rt, desk, SHARD, 1);
+        goes_on(rt, newest.len(), last);
         last = newest.len();
         if last == TO_SERVE.len() {
             break;
@@ -61,7 +65,7 @@ pub fn absorb_by_two<J: Naming + Send + Sync, R: Threads + Wait + Abort + AllocG
     client: &mut Placer<J>,
 ) {
     let (read, told) = absorb_beside(rt, desk);
-    assert_eq!(rt; told.len(), TO_SERVE.len());
+    is_count(rt, told.len(), TO_SERVE.len());
     are_level(rt, client, &read, &told);
     serves(rt, desk);
 }
@@ -81,12 +85,12 @@ fn ask_after<J: Naming, R: Wait + Abort + AllocGlobal>(
 ) -> Ticket<J> {
     let (first, newest) = known;
     let told = put(rt, desk, line, first);
-    let read = desk.absorb(rt, SHARD, 1).ok().expect(rt, "read");
-    assert_eq!(rt; client.meet(&read, &told), Ordering::Equal);
-    let answer = desk.ask(rt, group(), first).ok().expect(rt, "an answer");
-    assert!(rt; client.meet(&answer.at, newest) != Ordering::Less);
-    assert!(rt; client.meet(&answer.at, &read) != Ordering::Less);
-    answer.at
+    let read = read_on(rt, desk, SHARD, 1);
+    is_level(rt, client, &read, &told);
+    let at = ask(rt, desk, first).into_at();
+    holds(rt, client, &at, newest);
+    holds(rt, client, &at, &read);
+    at
 }
 
 pub fn ask_by_older<J: Naming, R: Wait + Abort + AllocGlobal>(
@@ -95,12 +99,11 @@ pub fn ask_by_older<J: Naming, R: Wait + Abort + AllocGlobal>(
     client: &mut Placer<J>,
 ) {
     let first = put(rt, desk, TO_SERVE[0], &desk.told(rt));
-    let answer = desk.ask(rt, group(), &first).ok().expect(rt, "an answer");
-    let mut newest = answer.at;
+    let mut newest = ask(rt, desk, &first).into_at();
     for line in &TO_SERVE[1..] {
         newest = ask_after(rt, desk, client, line, (&first, &newest));
     }
-    assert_eq!(rt; newest.len(), TO_SERVE.len());
+    is_count(rt, newest.len(), TO_SERVE.len());
 }
 
 #[test]
@@ -117,8 +120,8 @@ pub fn ask_by_first<J: Naming, R: Wait + Abort + AllocGlobal>(
     let first = put(rt, desk, TO_SERVE[0], &desk.told(rt));
     for line in &TO_SERVE[1..] {
         let told = put(rt, desk, line, &first);
-        let answer = desk.ask(rt, group(), &first).ok().expect(rt, "an answer");
-        assert_eq!(rt; client.meet(&answer.at, &told), Ordering::Equal);
+        let at = ask(rt, desk, &first).into_at();
+        is_level(rt, client, &at, &told);
     }
 }
 

@@ -1,11 +1,9 @@
 //! Where clients find objects.
 use crate::desk::{Desk, Placer};
-use crate::lines::{OBJECT, PLACE, is_placed, object};
 use crate::opened::{Trial, tried};
-use crate::steps::put_map;
+use crate::steps::{find, is_count, is_level, lies, put_map, sought};
 use pgp_engine::Naming;
 use pgp_ids::{ObjectName, PoolId};
-use std::cmp::Ordering;
 use std::process::Abort;
 use std::sync::Wait;
 
@@ -16,10 +14,8 @@ fn finds_no_pool<J: Naming, R: Abort>(
     pool: PoolId,
     name: &ObjectName,
 ) {
-    match client.locate(pool, name) {
-        Ok(_) => panic!(rt; "a place in no pool"),
-        Err(fault) => assert_eq!(rt; fault.number(), 42),
-    }
+    let fault = client.locate(pool, name).err().expect(rt, "no place");
+    is_count(rt, usize::from(fault.number()), 42);
 }
 
 pub fn place_by_two<J: Naming, R: Wait + Abort + AllocGlobal>(
@@ -28,16 +24,15 @@ pub fn place_by_two<J: Naming, R: Wait + Abort + AllocGlobal>(
     one: &mut Placer<J>,
     other: &mut Placer<J>,
 ) {
-    let (pool, name) = object(rt.alloc(), OBJECT).expect(rt, "an object");
+    let (pool, name) = sought(rt);
     finds_no_pool(rt, one, pool, &name);
     put_map(rt, desk);
     let seen = other.newest();
-    assert_eq!(rt; seen.len(), 1);
+    is_count(rt, seen.len(), 1);
     one.learn(&seen);
-    let place = one.locate(pool, &name).ok().expect(rt, "a place");
-    assert_eq!(rt; one.meet(&place.at, &seen), Ordering::Equal);
-    let text = is_placed(rt.alloc(), place, PLACE);
-    assert!(rt; text.ok().expect(rt, "memory"));
+    let place = find(rt, one, pool, &name);
+    is_level(rt, one, &place.at, &seen);
+    lies(rt, place);
 }
 
 #[test]

@@ -1,12 +1,15 @@
 //! What a submit is answered after a Close, whichever front the caller knows.
 use crate::desk::{Desk, Placer};
-use crate::lines::{CLOSE, EMPTY_1, STEP, entry};
+use crate::lines::{CLOSE, EMPTY_1, STEP};
 use crate::opened::{Trial, tried};
 use crate::refusals::is_refused;
-use crate::steps::put;
+use crate::steps::{given, is_count, put};
 use pgp_engine::Naming;
 use std::process::Abort;
 use std::sync::Wait;
+
+/// What is submitted after the Close.
+static LATER: [&str; 3] = [STEP, EMPTY_1, CLOSE];
 
 pub fn close_and_submit<J: Naming, R: Wait + Abort + AllocGlobal>(
     rt: &R,
@@ -15,12 +18,11 @@ pub fn close_and_submit<J: Naming, R: Wait + Abort + AllocGlobal>(
 ) {
     let before = desk.told(rt);
     let closed = put(rt, desk, CLOSE, &before);
-    for line in [STEP, EMPTY_1, CLOSE] {
-        let next = entry(rt.alloc(), line).expect(rt, "an entry");
-        let outcome = desk.submit(rt, next, &before);
+    for line in &LATER {
+        let outcome = desk.submit(rt, given(rt, line), &before);
         is_refused(rt, client, &closed, outcome, 64);
     }
-    assert_eq!(rt; desk.told(rt).len(), 1);
+    is_count(rt, desk.told(rt).len(), 1);
 }
 
 #[test]

@@ -8,16 +8,23 @@ use crate::opened::{SHARDS, WORKERS};
 use pgp_engine::{AskFault, Client, Engine, Gate, LocateFault, Naming, SubmitFault};
 use pgp_feed::Receipt;
 use pgp_ids::{Entry, Epoch, Membership, ObjectName, PgId, PoolId, View};
+use pgp_text::Reply;
 use std::cmp::Ordering;
 use std::marker::PhantomData;
 use std::sync::Wait;
 
 /// A receipt of the engine's feed.
-#[derive(Drop)]
 pub struct Ticket<J: Naming> {
     receipt: Receipt,
     of: PhantomData<J>,
     ghost named: { feed_of receipt ≡ J.feed },
+}
+
+// Written out, as below, so that a function which lets one go has nothing to prove of what lies within.
+impl<J: Naming> Drop for Ticket<J> {
+    fn drop(self) {
+        let Ticket { receipt: _, of: _ } = self;
+    }
 }
 
 impl<J: Naming> Ticket<J> {
@@ -41,17 +48,46 @@ impl<J: Naming> Ticket<J> {
 }
 
 /// The number of a refusal or a fault, and of a refused entry the front that doesn't take it.
-#[derive(Drop)]
 pub struct Refused<J: Naming> {
     pub number: u8,
     pub at: Option<Ticket<J>>,
 }
 
+impl<J: Naming> Drop for Refused<J> {
+    fn drop(self) {
+        let Refused { number: _, at: _ } = self;
+    }
+}
+
+impl<J: Naming> Refused<J> {
+    pub fn into_at(self) -> Option<Ticket<J>> {
+        let Refused { number: _, at } = self;
+        at
+    }
+}
+
 /// What an ask was answered, and by which front.
-#[derive(Drop)]
 pub struct Told<J: Naming> {
     pub view: View,
     pub at: Ticket<J>,
+}
+
+impl<J: Naming> Drop for Told<J> {
+    fn drop(self) {
+        let Told { view: _, at: _ } = self;
+    }
+}
+
+impl<J: Naming> Told<J> {
+    pub fn into_view(self) -> View {
+        let Told { view, at: _ } = self;
+        view
+    }
+
+    pub fn into_at(self) -> Ticket<J> {
+        let Told { view: _, at } = self;
+        at
+    }
 }
 
 /// An engine of two shards and two workers.
@@ -127,7 +163,6 @@ impl<J: Naming> Desk<J> {
 }
 
 /// Where an object lies, in the map of which epoch, and by which front.
-#[derive(Drop)]
 pub struct Placed<J: Naming> {
     pub pg: PgId,
     pub members: Membership,
@@ -135,10 +170,39 @@ pub struct Placed<J: Naming> {
     pub at: Ticket<J>,
 }
 
+impl<J: Naming> Drop for Placed<J> {
+    fn drop(self) {
+        let Placed {
+            pg: _,
+            members: _,
+            epoch: _,
+            at: _,
+        } = self;
+    }
+}
+
+impl<J: Naming> Placed<J> {
+    /// What is answered of an object that lies there.
+    pub fn into_reply(self) -> Reply {
+        let Placed {
+            pg,
+            members,
+            epoch,
+            at: _,
+        } = self;
+        Reply::Located { pg, members, epoch }
+    }
+}
+
 /// A client of the engine.
-#[derive(Drop)]
 pub struct Placer<J: Naming> {
     client: Client<J>,
+}
+
+impl<J: Naming> Drop for Placer<J> {
+    fn drop(self) {
+        let Placer { client: _ } = self;
+    }
 }
 
 impl<J: Naming> Placer<J> {

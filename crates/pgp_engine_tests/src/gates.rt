@@ -13,9 +13,15 @@ use std::time::{Clock, Duration};
 const TURNS: u32 = 100_000;
 
 /// What one thread brings about, and others wait for.
-#[derive(Drop)]
 pub struct Flag {
     raised: AtomicBool,
+}
+
+// Written out, as below, so that a function which lets one go has nothing to prove of what lies within.
+impl Drop for Flag {
+    fn drop(self) {
+        let Flag { raised: _ } = self;
+    }
 }
 
 impl Flag {
@@ -51,13 +57,24 @@ pub fn rest(clock: &impl Clock) {
 }
 
 /// Holds the workers of some shards, or of both, until it is opened.
-#[derive(Drop)]
 pub struct Held<C: Clock> {
     clock: C,
     holds: [bool; SHARDS],
     reached: [Flag; SHARDS],
     opened: Flag,
     ran_out: Flag,
+}
+
+impl<C: Clock + Drop> Drop for Held<C> {
+    fn drop(self) {
+        let Held {
+            clock: _,
+            holds: _,
+            reached: _,
+            opened: _,
+            ran_out: _,
+        } = self;
+    }
 }
 
 impl<C: Clock> Held<C> {
@@ -106,11 +123,20 @@ impl<C: Clock> Gate for Held<C> {
 }
 
 /// Holds the worker of each of two shards until that of the other is there.
-#[derive(Drop)]
 pub struct Both<C: Clock> {
     clock: C,
     reached: [Flag; SHARDS],
     ran_out: Flag,
+}
+
+impl<C: Clock + Drop> Drop for Both<C> {
+    fn drop(self) {
+        let Both {
+            clock: _,
+            reached: _,
+            ran_out: _,
+        } = self;
+    }
 }
 
 impl<C: Clock> Both<C> {

@@ -3,9 +3,9 @@
 ghost use Rattle.std.specs.Prelude.{◌<◌};
 
 use crate::desk::{Desk, Placed, Placer, Ticket, Told};
-use crate::lines::{OBJECT, SERVES, SHARD, TO_SERVE, entry, group, is_told, object};
+use crate::lines::{SHARD, TO_SERVE, entry, group, object};
 use crate::opened::{SHARDS, Trial, tried};
-use crate::steps::put;
+use crate::steps::{is_count, is_serving, put};
 use pgp_engine::{AskFault, LocateFault, Naming};
 use pgp_ids::{Entry, ObjectName, PoolId, View};
 use std::alloc::Global;
@@ -28,12 +28,10 @@ fn submit_and_ask<J: Naming, R: Wait + Abort + AllocGlobal>(rt: &R, desk: &Desk<
     let mut told = desk.told(rt);
     for taken in 0..TO_SERVE.len() {
         told = submit_surely(rt, desk, TO_SERVE[taken], &told);
-        assert_eq!(rt; told.len(), taken + 1);
+        is_count(rt, told.len(), taken + 1);
         view_of(rt, desk, &told, taken + 1);
     }
-    let view = view_of(rt, desk, &told, TO_SERVE.len());
-    let text = is_told(rt.alloc(), view, SERVES);
-    assert!(rt; text.ok().expect(rt, "memory"));
+    is_serving(rt, view_of(rt, desk, &told, TO_SERVE.len()));
 }
 
 // What is answered of the group by a log of so many entries.
@@ -44,9 +42,9 @@ fn view_of<J: Naming, R: Wait + Abort>(
     count: usize,
 ) -> View {
     let answer = ask_surely(rt, desk, known).ok().expect(rt, "an answer");
-    assert_eq!(rt; answer.at.len(), count);
-    assert_eq!(rt; answer.view.count, count);
-    answer.view
+    is_count(rt, answer.at.len(), count);
+    is_count(rt, answer.view.count, count);
+    answer.into_view()
 }
 
 // Lets the first shard read, which asks passed by, and which has then read so many entries.
@@ -57,16 +55,26 @@ fn read_on<J: Naming, R: Wait + Abort>(rt: &R, desk: &Desk<J>, count: usize) {
 
 // Places an object by the whole log.
 fn place<J: Naming, R: Abort + AllocGlobal>(rt: &R, client: &mut Placer<J>, whole: usize) {
-    let asked = object(rt.alloc(), OBJECT).or_else(|| object(rt.alloc(), OBJECT));
-    let (pool, name) = asked.expect(rt, "an object");
-    let place = locate_surely(client, pool, &name);
-    let place = place.ok().expect(rt, "a place");
-    assert_eq!(rt; place.at.len(), whole);
+    let (pool, name) = object_surely(rt.alloc()).expect(rt, "an object");
+    let place = locate_surely(client, pool, &name)
+        .ok()
+        .expect(rt, "a place");
+    is_count(rt, place.at.len(), whole);
     assert!(rt; place.pg == group());
 }
 
+fn object_surely(alloc: Global) -> Option<(PoolId, ObjectName)> {
+    match object(alloc) {
+        Some(object) => Some(object),
+        None => object(alloc),
+    }
+}
+
 fn entry_surely(alloc: Global, line: &str) -> Option<Entry> {
-    entry(alloc, line).or_else(|| entry(alloc, line))
+    match entry(alloc, line) {
+        Some(entry) => Some(entry),
+        None => entry(alloc, line),
+    }
 }
 
 fn submit_surely<J: Naming, R: Wait + Abort + AllocGlobal>(
@@ -79,11 +87,33 @@ fn submit_surely<J: Naming, R: Wait + Abort + AllocGlobal>(
     match desk.submit(rt, next, known) {
         Ok(told) => told,
         Err(refused) => {
-            assert_eq!(rt; refused.number, 51);
-            assert_eq!(rt; desk.told(rt).len(), known.len());
+            is_count(rt, usize::from(refused.number), 51);
+            is_count(rt, desk.told(rt).len(), known.len());
             put(rt, desk, line, known)
         }
     }
+}
+
+// How many entries the shard has read.
+fn read_by<J: Naming, R: Wait>(rt: &R, desk: &Desk<J>, shard: usize) -> Result<usize, AskFault>
+    requires { shard < SHARDS }
+{
+    let front = desk.absorb(rt, shard, 0)?;
+    Ok(front.len())
+}
+
+// The shard has read as much as before.
+fn has_read<J: Naming, R: Wait + Abort>(
+    rt: &R,
+    desk: &Desk<J>,
+    shard: usize,
+    before: usize,
+) -> Result<(), AskFault>
+    requires { shard < SHARDS }
+{
+    let read = read_by(rt, desk, shard)?;
+    assert!(rt; read >= before);
+    Ok(())
 }
 
 fn ask_surely<J: Naming, R: Wait + Abort>(
@@ -91,11 +121,11 @@ fn ask_surely<J: Naming, R: Wait + Abort>(
     desk: &Desk<J>,
     known: &Ticket<J>,
 ) -> Result<Told<J>, AskFault> {
-    let before = desk.absorb(rt, SHARD, 0)?.len();
+    let before = read_by(rt, desk, SHARD)?;
     match desk.ask(rt, group(), known) {
         Err(AskFault::Memory) => {
-            assert_eq!(rt; desk.told(rt).len(), known.len());
-            assert!(rt; desk.absorb(rt, SHARD, 0)?.len() >= before);
+            is_count(rt, desk.told(rt).len(), known.len());
+            has_read(rt, desk, SHARD, before)?;
             desk.ask(rt, group(), known)
         }
         answered => answered,
@@ -110,10 +140,10 @@ fn absorb_surely<J: Naming, R: Wait + Abort>(
 ) -> Result<Ticket<J>, AskFault>
     requires { shard < SHARDS }
 {
-    let before = desk.absorb(rt, shard, 0)?.len();
+    let before = read_by(rt, desk, shard)?;
     match desk.absorb(rt, shard, max) {
         Err(AskFault::Memory) => {
-            assert!(rt; desk.absorb(rt, shard, 0)?.len() >= before);
+            has_read(rt, desk, shard, before)?;
             desk.absorb(rt, shard, max)
         }
         absorbed => absorbed,

@@ -26,7 +26,7 @@ pub const EMPTY_1: &str =
 pub const CLOSE: &str = r#"{"op":"close"}"#;
 
 /// The entries after which the group serves.
-pub const TO_SERVE: [&str; 6] = [
+pub static TO_SERVE: [&str; 6] = [
     MAP,
     r#"{"op":"info","pg":[1,0],"from":[0,0],"stamp":1,"les":0,"history_les":0,"last_update":[1,2],"log_tail":[0,0],"complete":true}"#,
     r#"{"op":"info","pg":[1,0],"from":[1,0],"stamp":1,"les":0,"history_les":0,"last_update":[1,1],"log_tail":[0,0],"complete":true}"#,
@@ -39,12 +39,9 @@ pub const TO_SERVE: [&str; 6] = [
 pub const SERVES: &str =
     r#"{"acting":[0,1,2],"acting_primary":0,"best":[0,0],"blocked_by":[],"count":6,"epoch":2,"first":1,"intervals":[],"les":0,"missing":[{"member":[1,0],"objects":{"b":[1,2]},"state":"missing"},{"member":[2,0],"objects":{"a":[1,1],"b":[1,2]},"state":"missing"}],"ok":"ask","pg":[1,0],"probe":[[0,0],[1,0],[2,0]],"up":[0],"up_primary":0,"verdict":"Serve"}"#;
 
-/// Where the map puts the object of `OBJECT`.
+/// Where the map puts the object that clients look for.
 pub const PLACE: &str =
     r#"{"acting":[0,1,2],"acting_primary":0,"epoch":1,"ok":"locate","pg":[1,0],"up":[0],"up_primary":0}"#;
-
-/// An object of the pool.
-pub const OBJECT: &str = r#"{"op":"locate","pool":1,"name":"a"}"#;
 
 /// The one group of the pool.
 pub fn group() -> PgId {
@@ -56,23 +53,21 @@ pub fn group() -> PgId {
 
 /// The entry that the line is.
 pub fn entry(alloc: Global, line: &str) -> Option<Entry> {
-    match read_line(alloc, line.as_bytes()).ok()? {
-        Command::Submit(entry) => Some(entry),
-        _other => None,
+    match read_line(alloc, line.as_bytes()) {
+        Ok(Command::Submit(entry)) => Some(entry),
+        _ => None,
     }
 }
 
-/// The object that the line asks for.
-pub fn object(alloc: Global, line: &str) -> Option<(PoolId, ObjectName)> {
-    match read_line(alloc, line.as_bytes()).ok()? {
-        Command::Locate { pool, name } => Some((pool, name)),
-        _other => None,
-    }
+/// The object that clients look for, and its pool.
+pub fn object(alloc: Global) -> Option<(PoolId, ObjectName)> {
+    let name = String::from_str(alloc, "a").ok()?;
+    Some((PoolId::new(1)?, ObjectName::new(name)?))
 }
 
 /// This is what is answered of the group.
 pub fn is_told(alloc: Global, view: View, answer: &str) -> Result<bool, AllocError> {
-    is_written(alloc, &Reply::Asked(group(), view), answer)
+    is_written(alloc, Reply::Asked(group(), view), answer)
 }
 
 /// This is what is answered of an object that lies there.
@@ -81,16 +76,19 @@ pub fn is_placed<J: Naming>(
     place: Placed<J>,
     answer: &str,
 ) -> Result<bool, AllocError> {
-    let reply = Reply::Located {
-        pg: place.pg,
-        members: place.members,
-        epoch: place.epoch,
-    };
-    is_written(alloc, &reply, answer)
+    is_written(alloc, place.into_reply(), answer)
 }
 
-// This is the reply's text, for which one allocation may be refused.
-fn is_written(alloc: Global, reply: &Reply, answer: &str) -> Result<bool, AllocError> {
-    let text = write_reply(alloc, reply).or_else(|_| write_reply(alloc, reply))?;
+// This is the reply's text.
+fn is_written(alloc: Global, reply: Reply, answer: &str) -> Result<bool, AllocError> {
+    let text = text_of(alloc, reply)?;
     Ok(text.as_slice() == answer.as_bytes())
+}
+
+// The reply's text, for which one allocation may be refused.
+fn text_of(alloc: Global, reply: Reply) -> Result<Vec<u8>, AllocError> {
+    match write_reply(alloc, &reply) {
+        Ok(text) => Ok(text),
+        Err(_) => write_reply(alloc, &reply),
+    }
 }

@@ -93,10 +93,19 @@ fn over<
 {
     let (engine, clients) = Engine::<J>::make(rt, rt.alloc(), feed, taps, SHARDS, WORKERS)?;
     let desk = Desk::over(engine);
-    let (mut one, mut other) = both(clients);
-    run(rt, trial, &desk, &mut one, &mut other);
+    run_with(rt, trial, &desk, clients);
     desk.end(rt);
     Ok(())
+}
+
+fn run_with<
+    J: Naming + Send + Sync,
+    R: Threads + Wait + Abort + Clock + AllocGlobal + Sync + Copy + Drop,
+>(rt: &R, trial: Trial, desk: &Desk<J>, clients: Vec<Client<J>>)
+    requires { length clients.items ≡ 2 }
+{
+    let (mut one, mut other) = both(clients);
+    run(rt, trial, desk, &mut one, &mut other);
 }
 
 // The two clients.

@@ -1,8 +1,9 @@
 //! What threads are answered that submit at once.
 use crate::desk::{Desk, Placer, Refused, Ticket};
-use crate::lines::{STEP, entry};
+use crate::lines::STEP;
 use crate::opened::{Trial, tried};
 use crate::refusals::{is_refused, was_refused};
+use crate::steps::{given, is_count};
 use pgp_engine::Naming;
 use pgp_ids::Entry;
 use std::process::Abort;
@@ -34,10 +35,18 @@ pub fn race<J: Naming + Send + Sync, R: Threads + Wait + Abort + AllocGlobal + S
     client: &mut Placer<J>,
 ) {
     let start = desk.told(rt);
-    let one = entry(rt.alloc(), STEP).expect(rt, "an entry");
-    let other = entry(rt.alloc(), STEP).expect(rt, "an entry");
-    let (one, other) = both_submit(rt, desk, (one, other), &start);
-    assert_eq!(rt; desk.told(rt).len(), 1);
+    let (one, other) = both_submit(rt, desk, (given(rt, STEP), given(rt, STEP)), &start);
+    is_count(rt, desk.told(rt).len(), 1);
+    is_taken_once(rt, client, one, other);
+}
+
+// One was taken, and the other refused by a front that holds it.
+fn is_taken_once<J: Naming, R: Abort>(
+    rt: &R,
+    client: &mut Placer<J>,
+    one: Outcome<J>,
+    other: Outcome<J>,
+) {
     match one {
         Ok(taken) => is_refused(rt, client, &taken, other, 10),
         Err(refused) => {

@@ -14,7 +14,7 @@ pub fn was_refused<J: Naming, R: Abort>(
     number: u8,
 ) {
     assert_eq!(rt; refused.number, number);
-    let at = refused.at.expect(rt, "a receipt");
+    let at = refused.into_at().expect(rt, "a receipt");
     assert!(rt; client.meet(&at, taken) != Ordering::Less);
 }
 

@@ -1,8 +1,8 @@
 //! Which entries the log has after many submits.
 use crate::desk::{Desk, Ticket};
-use crate::lines::{EMPTY_0, group};
+use crate::lines::EMPTY_0;
 use crate::opened::{Trial, tried};
-use crate::steps::{put, put_map};
+use crate::steps::{ask, is_count, put, put_map, read_on};
 use pgp_engine::Naming;
 use std::process::Abort;
 use std::sync::Wait;
@@ -23,15 +23,21 @@ fn submit_again<J: Naming, R: Wait + Abort + AllocGlobal>(
     }
 }
 
+// By which front it is answered, which has as many entries as the view counts.
+fn asked_at<J: Naming, R: Wait + Abort>(rt: &R, desk: &Desk<J>, known: &Ticket<J>) -> Ticket<J> {
+    let answer = ask(rt, desk, known);
+    is_count(rt, answer.view.count, answer.at.len());
+    answer.into_at()
+}
+
 // It asks and reads on meanwhile.
 fn ask_again<J: Naming, R: Wait + Abort>(rt: &R, desk: &Desk<J>, known: &Ticket<J>) {
     let mut newest = known.again();
     for _ in 0..AGAIN {
-        let answer = desk.ask(rt, group(), known).ok().expect(rt, "an answer");
-        assert!(rt; answer.at.len() >= newest.len(), "no shard goes back");
-        assert_eq!(rt; answer.view.count, answer.at.len());
-        newest = answer.at;
-        assert!(rt; desk.absorb(rt, 0, 1).is_ok());
+        let at = asked_at(rt, desk, known);
+        assert!(rt; at.len() >= newest.len(), "no shard goes back");
+        newest = at;
+        let _read = read_on(rt, desk, 0, 1);
     }
 }
 
@@ -68,9 +74,8 @@ pub fn submit_many_times<J: Naming + Send + Sync, R: Threads + Wait + Abort + Al
     let map = put_map(rt, desk);
     submit_beside(rt, desk, &map);
     let told = desk.told(rt);
-    assert_eq!(rt; told.len(), 1 + 2 * AGAIN);
-    let answer = desk.ask(rt, group(), &told).ok().expect(rt, "an answer");
-    assert_eq!(rt; answer.view.count, 1 + 2 * AGAIN);
+    is_count(rt, told.len(), 1 + 2 * AGAIN);
+    is_count(rt, ask(rt, desk, &told).view.count, 1 + 2 * AGAIN);
 }
 
 #[test]
@@ -82,8 +87,8 @@ pub fn submit_twice<J: Naming, R: Wait + Abort + AllocGlobal>(rt: &R, desk: &Des
     let map = put_map(rt, desk);
     let first = put(rt, desk, EMPTY_0, &map);
     let second = put(rt, desk, EMPTY_0, &first);
-    assert_eq!(rt; first.len(), 2);
-    assert_eq!(rt; second.len(), 3);
+    is_count(rt, first.len(), 2);
+    is_count(rt, second.len(), 3);
 }
 
 #[test]

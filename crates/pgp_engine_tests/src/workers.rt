@@ -1,12 +1,14 @@
 //! What workers do, each on a thread of its own.
 use crate::desk::{Desk, Placer, Ticket};
 use crate::gates::{Both, Held, rest};
-use crate::lines::{CLOSE, EMPTY_0, EMPTY_1, OBJECT, PLACE, entry, group, is_placed, object};
+use crate::lines::{CLOSE, EMPTY_0, EMPTY_1};
 use crate::opened::{Trial, tried};
 use crate::races::{Outcome, both_submit};
 use crate::refusals::was_refused;
-use crate::steps::{are_level, put, put_map};
-use pgp_engine::{Gate, Naming, Open};
+use crate::steps::{
+    are_level, ask, find, given, holds, is_count, lies, put, put_map, read_on, sought,
+};
+use pgp_engine::{AskFault, Gate, Naming, Open};
 use pgp_ids::Entry;
 use std::cmp::Ordering;
 use std::process::Abort;
@@ -27,9 +29,12 @@ fn both_work<J: Naming + Send + Sync, R: Threads + Wait + Abort + Clock + Sync, 
     gate: &G,
 ) -> Ends<J> {
     let (one, other) = join(rt, || desk.work(rt, 0, gate), || desk.work(rt, 1, gate));
-    let one = one.ok().expect(rt, "no fault").expect(rt, "a shard");
-    let other = other.ok().expect(rt, "no fault").expect(rt, "a shard");
-    (one, other)
+    (end_of(rt, one), end_of(rt, other))
+}
+
+// The receipt with which a worker ended that has a shard.
+fn end_of<J: Naming, R: Abort>(rt: &R, served: Result<Option<Ticket<J>>, AskFault>) -> Ticket<J> {
+    served.ok().expect(rt, "no fault").expect(rt, "a shard")
 }
 
 // Closes the log, whatever it is, and says by which front.
@@ -43,7 +48,7 @@ fn add_elsewhere<J: Naming + Send + Sync, R: Threads + Wait + Abort + AllocGloba
     desk: &Desk<J>,
     known: &Ticket<J>,
 ) -> Ticket<J> {
-    let info = entry(rt.alloc(), EMPTY_0).expect(rt, "an entry");
+    let info = given(rt, EMPTY_0);
     let (told, ()) = join(rt, || desk.submit(rt, info, known), || ());
     told.ok().expect(rt, "taken")
 }
@@ -83,11 +88,11 @@ fn ask_past<
 >(rt: &R, desk: &Desk<J>, gate: &Held<R>, map: &Ticket<J>) {
     assert!(rt; gate.is_reached());
     let told = add_elsewhere(rt, desk, map);
-    let answer = desk.ask(rt, group(), &told).ok().expect(rt, "an answer");
-    assert_eq!(rt; answer.at.len(), told.len());
-    assert_eq!(rt; answer.view.count, told.len());
-    assert_eq!(rt; desk.told(rt).len(), told.len());
-    let again = desk.ask(rt, group(), map).ok().expect(rt, "an answer");
+    let answer = ask(rt, desk, &told);
+    is_count(rt, answer.at.len(), told.len());
+    is_count(rt, answer.view.count, told.len());
+    is_count(rt, desk.told(rt).len(), told.len());
+    let again = ask(rt, desk, map);
     assert!(rt; again.at.len() >= answer.at.len());
 }
 
@@ -129,9 +134,7 @@ fn work_and_look<
 // Waits until both shards have read so many entries.
 fn is_read<J: Naming, R: Wait + Abort + Clock>(rt: &R, desk: &Desk<J>, count: usize) -> bool {
     for _ in 0..TURNS {
-        let one = desk.absorb(rt, 0, 0).ok().expect(rt, "a front");
-        let other = desk.absorb(rt, 1, 0).ok().expect(rt, "a front");
-        if one.len() >= count && other.len() >= count {
+        if read_on(rt, desk, 0, 0).len() >= count && read_on(rt, desk, 1, 0).len() >= count {
             return true;
         }
         rest(rt);
@@ -186,11 +189,10 @@ fn place_past<
     assert!(rt; gate.is_reached());
     let told = add_elsewhere(rt, desk, map);
     client.learn(&told);
-    let (pool, name) = object(rt.alloc(), OBJECT).expect(rt, "an object");
-    let place = client.locate(pool, &name).ok().expect(rt, "a place");
-    assert!(rt; client.meet(&place.at, &told) != Ordering::Less);
-    let text = is_placed(rt.alloc(), place, PLACE);
-    assert!(rt; text.ok().expect(rt, "memory"));
+    let (pool, name) = sought(rt);
+    let place = find(rt, client, pool, &name);
+    holds(rt, client, &place.at, &told);
+    lies(rt, place);
 }
 
 #[test]
@@ -242,21 +244,28 @@ fn is_taken_or_refused<J: Naming, R: Abort>(
     }
 }
 
+fn are_taken_or_refused<J: Naming, R: Abort>(
+    rt: &R,
+    client: &mut Placer<J>,
+    infos: (Outcome<J>, Outcome<J>),
+    closed: &Ticket<J>,
+) {
+    let (one, other) = infos;
+    is_taken_or_refused(rt, client, one, closed);
+    is_taken_or_refused(rt, client, other, closed);
+}
+
 // No gate forces an interleaving: the Close comes before, between or after the infos.
 pub fn close_beside<
     J: Naming + Send + Sync,
     R: Threads + Wait + Abort + Clock + AllocGlobal + Sync,
 >(rt: &R, desk: &Desk<J>, client: &mut Placer<J>) {
     let map = put_map(rt, desk);
-    let one = entry(rt.alloc(), EMPTY_0).expect(rt, "an entry");
-    let other = entry(rt.alloc(), EMPTY_1).expect(rt, "an entry");
-    let (ends, (infos, closed)) = work_and_submit(rt, desk, (one, other), &map);
-    let (one, other) = infos;
-    is_taken_or_refused(rt, client, one, &closed);
-    is_taken_or_refused(rt, client, other, &closed);
+    let infos = (given(rt, EMPTY_0), given(rt, EMPTY_1));
+    let (ends, (outcomes, closed)) = work_and_submit(rt, desk, infos, &map);
+    are_taken_or_refused(rt, client, outcomes, &closed);
     are_level(rt, client, &ends, &closed);
-    let answer = desk.ask(rt, group(), &map).ok().expect(rt, "an answer");
-    assert_eq!(rt; answer.at.len(), closed.len());
+    is_count(rt, ask(rt, desk, &map).at.len(), closed.len());
 }
 
 #[test]

@@ -142,6 +142,31 @@ fn heard_of(
     Ok(heard)
 }
 
+/// An info comes.
+fn tell(heard: &mut Best<Preference>, came: &mut Came, info: &Info) -> Result<(), AllocError> {
+    came.infos.push(*info)?;
+    heard.put(*info)
+}
+
+/// The member is forgotten.
+fn forget(heard: &mut Best<Preference>, came: &mut Came, member: Member) {
+    came.infos.retain(|info| info.member != member);
+    heard.drop_member(&member);
+}
+
+/// The member leads from now on, and all is heard anew.
+fn lead(
+    alloc: Global,
+    heard: &mut Best<Preference>,
+    came: &mut Came,
+    member: Member,
+) -> Result<(), AllocError> {
+    came.primary = Some(member);
+    let prefer = Preference::of_pool(came.by_place, came.primary);
+    *heard = heard_of(alloc, prefer, heard.infos())?;
+    Ok(())
+}
+
 /// One step of a stream: an info comes, a member is forgotten, or another one leads and all is heard anew.
 fn step(
     alloc: Global,
@@ -150,21 +175,9 @@ fn step(
     dice: &mut Dice,
 ) -> Result<(), Fail> {
     match dice.below(8) {
-        0 => {
-            came.primary = Some(anyone(dice)?);
-            let prefer = Preference::of_pool(came.by_place, came.primary);
-            *heard = heard_of(alloc, prefer, heard.infos())?;
-        }
-        1 | 2 => {
-            let member = anyone(dice)?;
-            came.infos.retain(|info| info.member != member);
-            heard.drop_member(&member);
-        }
-        _ => {
-            let info = any_info(dice)?;
-            came.infos.push(info)?;
-            heard.put(info)?;
-        }
+        0 => lead(alloc, heard, came, anyone(dice)?)?,
+        1 | 2 => forget(heard, came, anyone(dice)?),
+        _ => tell(heard, came, &any_info(dice)?)?,
     }
     Ok(())
 }
@@ -215,14 +228,7 @@ fn best_that_is_kept_is_the_best_of_all_that_came(rt: HostRuntime) -> Result<(),
     for seed in 0..20 {
         for by_place in [false, true] {
             let (best, each) = run(rt.alloc(), by_place, seed)?;
-            assert!(rt;
-                best,
-                "the best infos of stream {seed} differ, by place: {by_place}"
-            );
-            assert!(rt;
-                each,
-                "the infos of stream {seed} differ, by place: {by_place}"
-            );
+            assert!(rt; best && each, "stream {seed}, by place: {by_place}");
         }
     }
     Ok(())

@@ -3,8 +3,8 @@
 ghost use Rattle.std.specs.Prelude.{◌<◌};
 
 use pgp_ids::{Entry, Incremental, MAX_OSDS, OsdId, Osds, PgId, PoolId};
-use pgp_text::{Command, read_line};
-use std::alloc::Global;
+use pgp_text::{Command, Reply, read_line, write_reply};
+use std::alloc::{AllocError, Global};
 use std::test::Fail;
 
 /// Pool 1 of three copies over the devices 0, 1 and 2, of which device 0 alone has weight; pg_temp puts its one group on
@@ -35,17 +35,33 @@ pub fn group() -> Result<PgId, Fail> {
 
 /// The entry that the line is.
 pub fn entry(alloc: Global, line: &str) -> Option<Entry> {
-    match read_line(alloc, line.as_bytes()).ok()? {
-        Command::Submit(entry) => Some(entry),
-        _other => None,
+    match read_line(alloc, line.as_bytes()) {
+        Ok(Command::Submit(entry)) => Some(entry),
+        _ => None,
+    }
+}
+
+/// The same where one allocation may be refused.
+pub fn entry_surely(alloc: Global, line: &str) -> Option<Entry> {
+    match entry(alloc, line) {
+        Some(entry) => Some(entry),
+        None => entry(alloc, line),
     }
 }
 
 /// The incremental that the line is.
 pub fn incremental(alloc: Global, line: &str) -> Option<Incremental> {
-    match entry(alloc, line)? {
-        Entry::Inc(inc) => Some(inc),
-        _other => None,
+    match entry(alloc, line) {
+        Some(Entry::Inc(inc)) => Some(inc),
+        _ => None,
+    }
+}
+
+/// The text of the reply, for which one allocation may be refused.
+pub fn text_of(alloc: Global, reply: Reply) -> Result<Vec<u8>, AllocError> {
+    match write_reply(alloc, &reply) {
+        Ok(text) => Ok(text),
+        Err(_) => write_reply(alloc, &reply),
     }
 }
 

@@ -4,17 +4,26 @@ mod told;
 
 use super::fixtures::{COPIES, SHARDS};
 use std::alloc::Global;
+use std::process::Abort;
 use std::test::Fail;
 use told::Told;
 
-/// Whether this is answered of the group after these lines, the first of which makes its pool.
-fn sees(alloc: Global, first: &str, lines: &[&str], answer: &str) -> Result<bool, Fail> {
+/// The line that makes a group's pool, the lines after it, and what is answered of the group then.
+struct Case(&'static str, &'static [&'static str], &'static str);
+
+/// What is answered of the group after these lines, the first of which makes its pool.
+fn answer(alloc: Global, first: &str, lines: &[&str]) -> Result<Vec<u8>, Fail> {
     let mut told = Told::begin(alloc, first)?;
-    for line in lines {
-        told.take(alloc, line)?;
-    }
-    let text = told.answer(alloc, 1 + lines.len())?;
-    Ok(text.as_slice() == answer.as_bytes())
+    told.take_all(alloc, lines)?;
+    told.answer(alloc, 1 + lines.len())
+}
+
+/// Just this is answered in the case.
+fn is_answered<R: Abort + AllocGlobal>(rt: &R, case: &Case) -> Result<(), Fail> {
+    let Case(first, lines, words) = case;
+    let text = answer(rt.alloc(), first, lines)?;
+    assert!(rt; text.as_slice() == words.as_bytes());
+    Ok(())
 }
 
 /// An empty copy.
@@ -43,154 +52,183 @@ const LOST: &str = r#"{"op":"inc","epoch":4,"lost":[[1,2]]}"#;
 /// New sizes open an interval.
 const RESIZED: &str = r#"{"op":"inc","epoch":2,"sizes":[[1,3,1]]}"#;
 
+static NOT_HEARD: Case = Case(
+    COPIES,
+    &[],
+    r#"{"acting":[0,1,2],"acting_primary":0,"best":null,"blocked_by":[],"count":1,"epoch":1,"first":1,"intervals":[],"les":0,"missing":[],"ok":"ask","pg":[1,0],"probe":[[0,0],[1,0],[2,0]],"up":[0],"up_primary":0,"verdict":"Waiting"}"#,
+);
+
 #[test]
 fn waits_for_members_that_were_not_heard(rt: HostRuntime) -> Result<(), Fail> {
-    let answer =
-        r#"{"acting":[0,1,2],"acting_primary":0,"best":null,"blocked_by":[],"count":1,"epoch":1,"first":1,"intervals":[],"les":0,"missing":[],"ok":"ask","pg":[1,0],"probe":[[0,0],[1,0],[2,0]],"up":[0],"up_primary":0,"verdict":"Waiting"}"#;
-    assert!(rt; sees(rt.alloc(), COPIES, &[], answer)?);
-    Ok(())
+    is_answered(&rt, &NOT_HEARD)
 }
+
+static ALL_DOWN: Case = Case(
+    SHARDS,
+    &[r#"{"op":"inc","epoch":2,"down":[0,1,2]}"#],
+    r#"{"acting":[null,null,null],"acting_primary":null,"best":null,"blocked_by":[],"count":2,"epoch":2,"first":2,"intervals":[{"acting":[0,1,2],"acting_primary":0,"first":1,"last":1,"min_size":2,"rw":false,"size":3,"up":[null,null,null],"up_primary":null}],"les":0,"missing":[],"ok":"ask","pg":[1,0],"probe":[],"up":[null,null,null],"up_primary":null,"verdict":"NoPrimary"}"#,
+);
 
 #[test]
 fn has_no_primary_where_each_shard_is_down(rt: HostRuntime) -> Result<(), Fail> {
-    let lines = [r#"{"op":"inc","epoch":2,"down":[0,1,2]}"#];
-    let answer =
-        r#"{"acting":[null,null,null],"acting_primary":null,"best":null,"blocked_by":[],"count":2,"epoch":2,"first":2,"intervals":[{"acting":[0,1,2],"acting_primary":0,"first":1,"last":1,"min_size":2,"rw":false,"size":3,"up":[null,null,null],"up_primary":null}],"les":0,"missing":[],"ok":"ask","pg":[1,0],"probe":[],"up":[null,null,null],"up_primary":null,"verdict":"NoPrimary"}"#;
-    assert!(rt; sees(rt.alloc(), SHARDS, &lines, answer)?);
-    Ok(())
+    is_answered(&rt, &ALL_DOWN)
 }
+
+static TOO_FEW: Case = Case(
+    SHARDS,
+    &[SERVED, MOVED],
+    r#"{"acting":[0,3,4],"acting_primary":0,"best":null,"blocked_by":[1,2],"count":3,"epoch":3,"first":3,"intervals":[{"acting":[0,1,2],"acting_primary":0,"first":1,"last":2,"min_size":2,"rw":true,"size":3,"up":[null,null,null],"up_primary":null}],"les":0,"missing":[],"ok":"ask","pg":[1,0],"probe":[[0,0],[3,1],[4,2]],"up":[null,null,null],"up_primary":null,"verdict":"Down"}"#,
+);
 
 #[test]
 fn is_down_where_too_few_shards_are_left(rt: HostRuntime) -> Result<(), Fail> {
-    let answer =
-        r#"{"acting":[0,3,4],"acting_primary":0,"best":null,"blocked_by":[1,2],"count":3,"epoch":3,"first":3,"intervals":[{"acting":[0,1,2],"acting_primary":0,"first":1,"last":2,"min_size":2,"rw":true,"size":3,"up":[null,null,null],"up_primary":null}],"les":0,"missing":[],"ok":"ask","pg":[1,0],"probe":[[0,0],[3,1],[4,2]],"up":[null,null,null],"up_primary":null,"verdict":"Down"}"#;
-    assert!(rt; sees(rt.alloc(), SHARDS, &[SERVED, MOVED], answer)?);
-    Ok(())
+    is_answered(&rt, &TOO_FEW)
 }
+
+static ONE_LOST: Case = Case(
+    SHARDS,
+    &[SERVED, MOVED, LOST],
+    r#"{"acting":[0,3,4],"acting_primary":0,"best":null,"blocked_by":[],"count":4,"epoch":4,"first":3,"intervals":[{"acting":[0,1,2],"acting_primary":0,"first":1,"last":2,"min_size":2,"rw":true,"size":3,"up":[null,null,null],"up_primary":null}],"les":0,"missing":[],"ok":"ask","pg":[1,0],"probe":[[0,0],[3,1],[4,2]],"up":[null,null,null],"up_primary":null,"verdict":"Waiting"}"#,
+);
 
 #[test]
 fn waits_no_more_for_a_lost_shard(rt: HostRuntime) -> Result<(), Fail> {
-    let answer =
-        r#"{"acting":[0,3,4],"acting_primary":0,"best":null,"blocked_by":[],"count":4,"epoch":4,"first":3,"intervals":[{"acting":[0,1,2],"acting_primary":0,"first":1,"last":2,"min_size":2,"rw":true,"size":3,"up":[null,null,null],"up_primary":null}],"les":0,"missing":[],"ok":"ask","pg":[1,0],"probe":[[0,0],[3,1],[4,2]],"up":[null,null,null],"up_primary":null,"verdict":"Waiting"}"#;
-    assert!(rt; sees(rt.alloc(), SHARDS, &[SERVED, MOVED, LOST], answer)?);
-    Ok(())
+    is_answered(&rt, &ONE_LOST)
 }
+
+static ONE_DESTROYED: Case = Case(
+    SHARDS,
+    &[SERVED, MOVED, LOST, r#"{"op":"inc","epoch":5,"gone":[1]}"#],
+    r#"{"acting":[0,3,4],"acting_primary":0,"best":null,"blocked_by":[2],"count":5,"epoch":5,"first":3,"intervals":[{"acting":[0,1,2],"acting_primary":0,"first":1,"last":2,"min_size":2,"rw":true,"size":3,"up":[null,null,null],"up_primary":null}],"les":0,"missing":[],"ok":"ask","pg":[1,0],"probe":[[0,0],[3,1],[4,2]],"up":[null,null,null],"up_primary":null,"verdict":"Down"}"#,
+);
 
 #[test]
 fn is_down_again_once_a_lost_shard_is_destroyed(rt: HostRuntime) -> Result<(), Fail> {
-    let lines = [SERVED, MOVED, LOST, r#"{"op":"inc","epoch":5,"gone":[1]}"#];
-    let answer =
-        r#"{"acting":[0,3,4],"acting_primary":0,"best":null,"blocked_by":[2],"count":5,"epoch":5,"first":3,"intervals":[{"acting":[0,1,2],"acting_primary":0,"first":1,"last":2,"min_size":2,"rw":true,"size":3,"up":[null,null,null],"up_primary":null}],"les":0,"missing":[],"ok":"ask","pg":[1,0],"probe":[[0,0],[3,1],[4,2]],"up":[null,null,null],"up_primary":null,"verdict":"Down"}"#;
-    assert!(rt; sees(rt.alloc(), SHARDS, &lines, answer)?);
-    Ok(())
+    is_answered(&rt, &ONE_DESTROYED)
 }
+
+static EARLIER_INFOS: Case = Case(
+    COPIES,
+    &[RESIZED, EMPTY_0, EMPTY_1, EMPTY_2],
+    r#"{"acting":[0,1,2],"acting_primary":0,"best":null,"blocked_by":[],"count":5,"epoch":2,"first":2,"intervals":[{"acting":[0,1,2],"acting_primary":0,"first":1,"last":1,"min_size":2,"rw":false,"size":3,"up":[0],"up_primary":0}],"les":0,"missing":[],"ok":"ask","pg":[1,0],"probe":[[0,0],[1,0],[2,0]],"up":[0],"up_primary":0,"verdict":"Waiting"}"#,
+);
 
 #[test]
 fn hears_no_info_of_an_earlier_interval(rt: HostRuntime) -> Result<(), Fail> {
-    let lines = [RESIZED, EMPTY_0, EMPTY_1, EMPTY_2];
-    let answer =
-        r#"{"acting":[0,1,2],"acting_primary":0,"best":null,"blocked_by":[],"count":5,"epoch":2,"first":2,"intervals":[{"acting":[0,1,2],"acting_primary":0,"first":1,"last":1,"min_size":2,"rw":false,"size":3,"up":[0],"up_primary":0}],"les":0,"missing":[],"ok":"ask","pg":[1,0],"probe":[[0,0],[1,0],[2,0]],"up":[0],"up_primary":0,"verdict":"Waiting"}"#;
-    assert!(rt; sees(rt.alloc(), COPIES, &lines, answer)?);
-    Ok(())
+    is_answered(&rt, &EARLIER_INFOS)
 }
 
-#[test]
-fn hears_an_info_of_the_current_interval(rt: HostRuntime) -> Result<(), Fail> {
-    let lines = [
+static CURRENT_INFO: Case = Case(
+    COPIES,
+    &[
         RESIZED,
         EMPTY_0,
         EMPTY_1,
         EMPTY_2,
         r#"{"op":"info","pg":[1,0],"from":[0,0],"stamp":2,"les":0,"history_les":0,"last_update":[0,0],"log_tail":[0,0],"complete":true}"#,
-    ];
-    let answer =
-        r#"{"acting":[0,1,2],"acting_primary":0,"best":[0,0],"blocked_by":[],"count":6,"epoch":2,"first":2,"intervals":[{"acting":[0,1,2],"acting_primary":0,"first":1,"last":1,"min_size":2,"rw":false,"size":3,"up":[0],"up_primary":0}],"les":0,"missing":[],"ok":"ask","pg":[1,0],"probe":[[0,0],[1,0],[2,0]],"up":[0],"up_primary":0,"verdict":"Waiting"}"#;
-    assert!(rt; sees(rt.alloc(), COPIES, &lines, answer)?);
-    Ok(())
+    ],
+    r#"{"acting":[0,1,2],"acting_primary":0,"best":[0,0],"blocked_by":[],"count":6,"epoch":2,"first":2,"intervals":[{"acting":[0,1,2],"acting_primary":0,"first":1,"last":1,"min_size":2,"rw":false,"size":3,"up":[0],"up_primary":0}],"les":0,"missing":[],"ok":"ask","pg":[1,0],"probe":[[0,0],[1,0],[2,0]],"up":[0],"up_primary":0,"verdict":"Waiting"}"#,
+);
+
+#[test]
+fn hears_an_info_of_the_current_interval(rt: HostRuntime) -> Result<(), Fail> {
+    is_answered(&rt, &CURRENT_INFO)
 }
+
+static PRIMARY_NOT_COMPLETE: Case = Case(
+    COPIES,
+    &[
+        r#"{"op":"info","pg":[1,0],"from":[0,0],"stamp":1,"les":0,"history_les":0,"last_update":[0,0],"log_tail":[0,0],"complete":false}"#,
+        EMPTY_1,
+        EMPTY_2,
+    ],
+    r#"{"acting":[0,1,2],"acting_primary":0,"best":[1,0],"blocked_by":[],"count":4,"epoch":1,"first":1,"intervals":[],"les":0,"missing":[{"member":[0,0],"state":"backfill"},{"member":[2,0],"objects":{},"state":"missing"}],"ok":"ask","pg":[1,0],"probe":[[0,0],[1,0],[2,0]],"up":[0],"up_primary":0,"verdict":"NeedUpThru"}"#,
+);
 
 #[test]
 fn goes_by_another_copy_where_that_of_the_primary_is_not_complete(
     rt: HostRuntime,
 ) -> Result<(), Fail> {
-    let lines = [
-        r#"{"op":"info","pg":[1,0],"from":[0,0],"stamp":1,"les":0,"history_les":0,"last_update":[0,0],"log_tail":[0,0],"complete":false}"#,
-        EMPTY_1,
-        EMPTY_2,
-    ];
-    let answer =
-        r#"{"acting":[0,1,2],"acting_primary":0,"best":[1,0],"blocked_by":[],"count":4,"epoch":1,"first":1,"intervals":[],"les":0,"missing":[{"member":[0,0],"state":"backfill"},{"member":[2,0],"objects":{},"state":"missing"}],"ok":"ask","pg":[1,0],"probe":[[0,0],[1,0],[2,0]],"up":[0],"up_primary":0,"verdict":"NeedUpThru"}"#;
-    assert!(rt; sees(rt.alloc(), COPIES, &lines, answer)?);
-    Ok(())
+    is_answered(&rt, &PRIMARY_NOT_COMPLETE)
 }
 
-#[test]
-fn goes_by_the_shard_that_was_written_least(rt: HostRuntime) -> Result<(), Fail> {
-    let lines = [
+static WRITTEN_LEAST: Case = Case(
+    SHARDS,
+    &[
         r#"{"op":"info","pg":[1,0],"from":[0,0],"stamp":1,"les":0,"history_les":0,"last_update":[1,2],"log_tail":[0,0],"complete":true}"#,
         r#"{"op":"info","pg":[1,0],"from":[1,1],"stamp":1,"les":0,"history_les":0,"last_update":[1,1],"log_tail":[0,0],"complete":true}"#,
         r#"{"op":"info","pg":[1,0],"from":[2,2],"stamp":1,"les":0,"history_les":0,"last_update":[1,2],"log_tail":[0,0],"complete":true}"#,
         r#"{"op":"entries","pg":[1,0],"from":[1,1],"stamp":1,"log":[[1,1,"modify","a"]]}"#,
-    ];
-    let answer =
-        r#"{"acting":[0,1,2],"acting_primary":0,"best":[1,1],"blocked_by":[],"count":5,"epoch":1,"first":1,"intervals":[],"les":0,"missing":[{"member":[0,0],"state":"diverged"},{"member":[2,2],"state":"diverged"}],"ok":"ask","pg":[1,0],"probe":[[0,0],[1,1],[2,2]],"up":[null,null,null],"up_primary":null,"verdict":"NeedUpThru"}"#;
-    assert!(rt; sees(rt.alloc(), SHARDS, &lines, answer)?);
-    Ok(())
-}
+    ],
+    r#"{"acting":[0,1,2],"acting_primary":0,"best":[1,1],"blocked_by":[],"count":5,"epoch":1,"first":1,"intervals":[],"les":0,"missing":[{"member":[0,0],"state":"diverged"},{"member":[2,2],"state":"diverged"}],"ok":"ask","pg":[1,0],"probe":[[0,0],[1,1],[2,2]],"up":[null,null,null],"up_primary":null,"verdict":"NeedUpThru"}"#,
+);
 
 #[test]
-fn takes_the_last_entry_of_each_number(rt: HostRuntime) -> Result<(), Fail> {
-    let lines = [
+fn goes_by_the_shard_that_was_written_least(rt: HostRuntime) -> Result<(), Fail> {
+    is_answered(&rt, &WRITTEN_LEAST)
+}
+
+static ENTRIES_AGAIN: Case = Case(
+    COPIES,
+    &[
         WRITTEN,
         EMPTY_1,
         EMPTY_2,
         r#"{"op":"entries","pg":[1,0],"from":[0,0],"stamp":1,"log":[[1,3,"modify","c"],[1,1,"modify","a"],[1,2,"modify","x"],[1,2,"modify","b"]]}"#,
-    ];
-    let answer =
-        r#"{"acting":[0,1,2],"acting_primary":0,"best":[0,0],"blocked_by":[],"count":5,"epoch":1,"first":1,"intervals":[],"les":0,"missing":[{"member":[1,0],"objects":{"a":[1,1],"b":[1,2],"c":[1,3]},"state":"missing"},{"member":[2,0],"objects":{"a":[1,1],"b":[1,2],"c":[1,3]},"state":"missing"}],"ok":"ask","pg":[1,0],"probe":[[0,0],[1,0],[2,0]],"up":[0],"up_primary":0,"verdict":"NeedUpThru"}"#;
-    assert!(rt; sees(rt.alloc(), COPIES, &lines, answer)?);
-    Ok(())
-}
+    ],
+    r#"{"acting":[0,1,2],"acting_primary":0,"best":[0,0],"blocked_by":[],"count":5,"epoch":1,"first":1,"intervals":[],"les":0,"missing":[{"member":[1,0],"objects":{"a":[1,1],"b":[1,2],"c":[1,3]},"state":"missing"},{"member":[2,0],"objects":{"a":[1,1],"b":[1,2],"c":[1,3]},"state":"missing"}],"ok":"ask","pg":[1,0],"probe":[[0,0],[1,0],[2,0]],"up":[0],"up_primary":0,"verdict":"NeedUpThru"}"#,
+);
 
 #[test]
-fn needs_the_whole_log_of_the_best_copy(rt: HostRuntime) -> Result<(), Fail> {
-    let lines = [
+fn takes_the_last_entry_of_each_number(rt: HostRuntime) -> Result<(), Fail> {
+    is_answered(&rt, &ENTRIES_AGAIN)
+}
+
+static NOT_WHOLE: Case = Case(
+    COPIES,
+    &[
         WRITTEN,
         EMPTY_1,
         EMPTY_2,
         r#"{"op":"entries","pg":[1,0],"from":[0,0],"stamp":1,"log":[[1,3,"modify","c"],[1,1,"modify","a"]]}"#,
-    ];
-    let answer =
-        r#"{"acting":[0,1,2],"acting_primary":0,"best":[0,0],"blocked_by":[],"count":5,"epoch":1,"first":1,"intervals":[],"les":0,"missing":[],"ok":"ask","pg":[1,0],"probe":[[0,0],[1,0],[2,0]],"up":[0],"up_primary":0,"verdict":"NeedLog"}"#;
-    assert!(rt; sees(rt.alloc(), COPIES, &lines, answer)?);
-    Ok(())
-}
+    ],
+    r#"{"acting":[0,1,2],"acting_primary":0,"best":[0,0],"blocked_by":[],"count":5,"epoch":1,"first":1,"intervals":[],"les":0,"missing":[],"ok":"ask","pg":[1,0],"probe":[[0,0],[1,0],[2,0]],"up":[0],"up_primary":0,"verdict":"NeedLog"}"#,
+);
 
 #[test]
-fn lists_no_object_that_was_deleted_last(rt: HostRuntime) -> Result<(), Fail> {
-    let lines = [
+fn needs_the_whole_log_of_the_best_copy(rt: HostRuntime) -> Result<(), Fail> {
+    is_answered(&rt, &NOT_WHOLE)
+}
+
+static DELETED_LAST: Case = Case(
+    COPIES,
+    &[
         WRITTEN,
         EMPTY_1,
         EMPTY_2,
         r#"{"op":"entries","pg":[1,0],"from":[0,0],"stamp":1,"log":[[1,1,"modify","a"],[1,2,"modify","b"],[1,3,"delete","a"]]}"#,
-    ];
-    let answer =
-        r#"{"acting":[0,1,2],"acting_primary":0,"best":[0,0],"blocked_by":[],"count":5,"epoch":1,"first":1,"intervals":[],"les":0,"missing":[{"member":[1,0],"objects":{"b":[1,2]},"state":"missing"},{"member":[2,0],"objects":{"b":[1,2]},"state":"missing"}],"ok":"ask","pg":[1,0],"probe":[[0,0],[1,0],[2,0]],"up":[0],"up_primary":0,"verdict":"NeedUpThru"}"#;
-    assert!(rt; sees(rt.alloc(), COPIES, &lines, answer)?);
-    Ok(())
-}
+    ],
+    r#"{"acting":[0,1,2],"acting_primary":0,"best":[0,0],"blocked_by":[],"count":5,"epoch":1,"first":1,"intervals":[],"les":0,"missing":[{"member":[1,0],"objects":{"b":[1,2]},"state":"missing"},{"member":[2,0],"objects":{"b":[1,2]},"state":"missing"}],"ok":"ask","pg":[1,0],"probe":[[0,0],[1,0],[2,0]],"up":[0],"up_primary":0,"verdict":"NeedUpThru"}"#,
+);
 
 #[test]
-fn serves_once_its_primary_is_known_to_be_up(rt: HostRuntime) -> Result<(), Fail> {
-    let lines = [
+fn lists_no_object_that_was_deleted_last(rt: HostRuntime) -> Result<(), Fail> {
+    is_answered(&rt, &DELETED_LAST)
+}
+
+static KNOWN_UP: Case = Case(
+    COPIES,
+    &[
         r#"{"op":"info","pg":[1,0],"from":[0,0],"stamp":1,"les":0,"history_les":0,"last_update":[1,2],"log_tail":[0,0],"complete":true}"#,
         r#"{"op":"info","pg":[1,0],"from":[1,0],"stamp":1,"les":0,"history_les":0,"last_update":[1,1],"log_tail":[0,0],"complete":true}"#,
         EMPTY_2,
         r#"{"op":"entries","pg":[1,0],"from":[0,0],"stamp":1,"log":[[1,1,"modify","a"],[1,2,"modify","b"]]}"#,
         SERVED,
-    ];
-    let answer =
-        r#"{"acting":[0,1,2],"acting_primary":0,"best":[0,0],"blocked_by":[],"count":6,"epoch":2,"first":1,"intervals":[],"les":0,"missing":[{"member":[1,0],"objects":{"b":[1,2]},"state":"missing"},{"member":[2,0],"objects":{"a":[1,1],"b":[1,2]},"state":"missing"}],"ok":"ask","pg":[1,0],"probe":[[0,0],[1,0],[2,0]],"up":[0],"up_primary":0,"verdict":"Serve"}"#;
-    assert!(rt; sees(rt.alloc(), COPIES, &lines, answer)?);
-    Ok(())
+    ],
+    r#"{"acting":[0,1,2],"acting_primary":0,"best":[0,0],"blocked_by":[],"count":6,"epoch":2,"first":1,"intervals":[],"les":0,"missing":[{"member":[1,0],"objects":{"b":[1,2]},"state":"missing"},{"member":[2,0],"objects":{"a":[1,1],"b":[1,2]},"state":"missing"}],"ok":"ask","pg":[1,0],"probe":[[0,0],[1,0],[2,0]],"up":[0],"up_primary":0,"verdict":"Serve"}"#,
+);
+
+#[test]
+fn serves_once_its_primary_is_known_to_be_up(rt: HostRuntime) -> Result<(), Fail> {
+    is_answered(&rt, &KNOWN_UP)
 }

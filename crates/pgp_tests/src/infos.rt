@@ -37,23 +37,38 @@ fn info(told: Told) -> Result<Info, Fail> {
     })
 }
 
-/// What is heard after the first of these infos.
-fn heard<P: Prefer + Drop>(
-    alloc: Global,
-    prefer: P,
-    infos: &[Told],
-    count: usize,
-) -> Result<Best<P>, Fail> {
-    let mut heard = Best::new(alloc, prefer);
+/// Puts the first of these infos.
+fn put<P: Prefer + Drop>(heard: &mut Best<P>, infos: &[Told], count: usize) -> Result<(), Fail> {
     for told in infos.iter().take(count) {
         heard.put(info(*told)?)?;
     }
-    Ok(heard)
+    Ok(())
 }
 
 /// The device whose copy is the one to go by.
 fn leader<P: Prefer>(heard: &Best<P>) -> Option<u16> {
-    heard.best().map(|info| info.member.osd.number())
+    match heard.best() {
+        Some(info) => Some(info.member.osd.number()),
+        None => None,
+    }
+}
+
+/// The leader after the first of these infos.
+fn leader_of<P: Prefer + Drop>(
+    alloc: Global,
+    prefer: P,
+    infos: &[Told],
+    count: usize,
+) -> Result<Option<u16>, Fail> {
+    let mut heard = Best::new(alloc, prefer);
+    put(&mut heard, infos, count)?;
+    Ok(leader(&heard))
+}
+
+/// The leader once this device is forgotten.
+fn leader_without<P: Prefer>(heard: &mut Best<P>, osd: u16) -> Result<Option<u16>, Fail> {
+    heard.drop_member(&member(osd, 0)?);
+    Ok(leader(heard))
 }
 
 /// Three copies, of which the first one tells again that it isn't complete, and that it is.
@@ -98,21 +113,24 @@ static BEST: [(&[Told], usize, Option<u16>, Option<u16>); 9] = [
 fn finds_the_best(rt: HostRuntime) -> Result<(), Fail> {
     let primary = Some(member(0, 0)?);
     for (row, (infos, count, newest, oldest)) in BEST.iter().enumerate() {
-        let copies = heard(rt.alloc(), NewestFirst { primary }, infos, *count)?;
-        assert!(rt; leader(&copies) == *newest, "row {row}");
-        let shards = heard(rt.alloc(), OldestFirst { primary }, infos, *count)?;
-        assert!(rt; leader(&shards) == *oldest, "row {row}");
+        let copy = leader_of(rt.alloc(), NewestFirst { primary }, infos, *count)?;
+        let shard = leader_of(rt.alloc(), OldestFirst { primary }, infos, *count)?;
+        assert!(rt; copy == *newest && shard == *oldest, "row {row}");
     }
     Ok(())
 }
 
+/// Devices that are forgotten one after the other, and the leader then.
+static LEFT: [(u16, Option<u16>); 3] = [(0, Some(1)), (1, Some(2)), (2, None)];
+
 #[test]
 fn forgets_members(rt: HostRuntime) -> Result<(), Fail> {
     let primary = Some(member(0, 0)?);
-    let mut heard = heard(rt.alloc(), NewestFirst { primary }, &AGAIN, 3)?;
-    for (osd, best) in [(0, Some(1)), (1, Some(2)), (2, None)] {
-        heard.drop_member(&member(osd, 0)?);
-        assert!(rt; leader(&heard) == best);
+    let mut heard = Best::new(rt.alloc(), NewestFirst { primary });
+    put(&mut heard, &AGAIN, 3)?;
+    for (osd, best) in &LEFT {
+        let leader = leader_without(&mut heard, *osd)?;
+        assert!(rt; leader == *best);
     }
     Ok(())
 }

@@ -2,14 +2,14 @@
 //! the bounds of the log change.
 
 use super::fixtures::Dice;
-use super::missing::{At, Held, info, judged};
-use pgp_ids::{Change, Info, LogEntry, ObjectName, Version};
+use super::missing::{At, Held, add, info, judged, tell_object};
+use pgp_ids::{Change, Info, Version};
 use pgp_missing::MemberLog;
 use std::alloc::{AllocError, Global};
 use std::test::Fail;
 
 /// The names of the objects, in ascending order of their bytes.
-const NAMES: [&str; 4] = ["B", "a", "ab", "b"];
+static NAMES: [&str; 4] = ["B", "a", "ab", "b"];
 
 /// The greatest number of a write.
 const LAST: u32 = 9;
@@ -87,9 +87,7 @@ impl Reported {
                 },
             ) = self.newest_of(name, above)
             {
-                let epoch = version.epoch;
-                let v = version.v;
-                write!(text, " {word} [{epoch},{v}]")?;
+                tell_object(&mut text, word, version)?;
             }
         }
         Ok(text)
@@ -144,16 +142,6 @@ fn any_write(dice: &mut Dice) -> Wrote {
     }
 }
 
-fn entry(alloc: Global, wrote: Wrote) -> Result<LogEntry, Fail> {
-    let name = *NAMES.get(wrote.name).ok_or("a place")?;
-    let object = ObjectName::new(String::from_str(alloc, name)?).ok_or("a name")?;
-    Ok(LogEntry {
-        version: wrote.version,
-        change: wrote.change,
-        object,
-    })
-}
-
 /// One step of a stream: an entry comes, or an info with other bounds.
 fn step(
     alloc: Global,
@@ -166,7 +154,8 @@ fn step(
         log.renew(&reported.info);
     } else {
         let wrote = any_write(dice);
-        log.add(&entry(alloc, wrote)?)?;
+        let name = *NAMES.get(wrote.name).ok_or("a place")?;
+        add(alloc, log, wrote.version, wrote.change, name)?;
         reported.entries.push(wrote)?;
     }
     Ok(())
@@ -185,7 +174,24 @@ fn says_the_same(
     Ok(kept.as_str() == plain.as_str())
 }
 
-/// Whether both say the same at each step of the stream from this seed.
+/// Whether both say the same at each step of a stream.
+fn follow(
+    alloc: Global,
+    log: &mut MemberLog,
+    reported: &mut Reported,
+    dice: &mut Dice,
+) -> Result<bool, Fail> {
+    let mut same = true;
+    for _ in 0..300 {
+        step(alloc, log, reported, dice)?;
+        for _ in 0..4 {
+            same = says_the_same(alloc, log, reported, dice)? && same;
+        }
+    }
+    Ok(same)
+}
+
+/// The same of the stream from this seed.
 fn run(alloc: Global, seed: u64) -> Result<bool, Fail> {
     let mut dice = Dice::seeded(seed);
     let info = any_copy(&mut dice)?;
@@ -194,23 +200,14 @@ fn run(alloc: Global, seed: u64) -> Result<bool, Fail> {
         info,
         entries: Vec::new(alloc),
     };
-    let mut same = true;
-    for _ in 0..300 {
-        step(alloc, &mut log, &mut reported, &mut dice)?;
-        for _ in 0..4 {
-            same = says_the_same(alloc, &log, &reported, &mut dice)? && same;
-        }
-    }
-    Ok(same)
+    follow(alloc, &mut log, &mut reported, &mut dice)
 }
 
 #[test]
 fn log_that_is_kept_says_what_all_reported_entries_say(rt: HostRuntime) -> Result<(), Fail> {
     for seed in 0..20 {
-        assert!(rt;
-            run(rt.alloc(), seed)?,
-            "the states of stream {seed} differ"
-        );
+        let same = run(rt.alloc(), seed)?;
+        assert!(rt; same, "the states of stream {seed} differ");
     }
     Ok(())
 }

@@ -45,14 +45,26 @@ type Entries = &'static [(At, Change, &'static str)];
 fn log_of(alloc: Global, info: &Info, entries: Entries) -> Result<MemberLog, Fail> {
     let mut log = MemberLog::begin(alloc, info);
     for (at, change, name) in entries {
-        let object = ObjectName::new(String::from_str(alloc, name)?).ok_or("a name")?;
-        log.add(&LogEntry {
-            version: at.version(),
-            change: *change,
-            object,
-        })?;
+        add(alloc, &mut log, at.version(), *change, name)?;
     }
     Ok(log)
+}
+
+/// Adds an entry of this object.
+pub fn add(
+    alloc: Global,
+    log: &mut MemberLog,
+    version: Version,
+    change: Change,
+    name: &str,
+) -> Result<(), Fail> {
+    let object = ObjectName::new(String::from_str(alloc, name)?).ok_or("a name")?;
+    log.add(&LogEntry {
+        version,
+        change,
+        object,
+    })?;
+    Ok(())
 }
 
 /// A peer's state in words.
@@ -60,22 +72,26 @@ fn told(alloc: Global, state: &PeerState) -> Result<String, AllocError> {
     let mut text = String::from_str(alloc, state.name())?;
     if let PeerState::Missing(objects) = state {
         for missing in objects.as_slice() {
-            let name = missing.object.as_str();
-            let epoch = missing.version.epoch;
-            let v = missing.version.v;
-            write!(text, " {name} [{epoch},{v}]")?;
+            tell_object(&mut text, missing.object.as_str(), missing.version)?;
         }
     }
     Ok(text)
 }
 
+/// Writes an object with a version.
+pub fn tell_object(text: &mut String, name: &str, version: Version) -> Result<(), AllocError> {
+    let epoch = version.epoch;
+    let v = version.v;
+    write!(text, " {name} [{epoch},{v}]")
+}
+
 /// The state of the peer by this log in words, or that the log isn't whole.
 pub fn judged(alloc: Global, log: &MemberLog, peer: &Info) -> Result<String, AllocError> {
-    if log.whole() {
-        told(alloc, &log.missing_of(alloc, peer)?)
-    } else {
-        String::from_str(alloc, "not whole")
+    if !log.whole() {
+        return String::from_str(alloc, "not whole");
     }
+    let state = log.missing_of(alloc, peer)?;
+    told(alloc, &state)
 }
 
 const MADE: Change = Change::Modify;
@@ -265,8 +281,10 @@ static STATES: [(Held, Entries, Held, &str); 24] = [
 
 /// What is told of the peer's copy, by the log of the best one's entries.
 fn found(alloc: Global, best: Held, entries: Entries, peer: Held) -> Result<String, Fail> {
-    let log = log_of(alloc, &info(best)?, entries)?;
-    Ok(judged(alloc, &log, &info(peer)?)?)
+    let best = info(best)?;
+    let peer = info(peer)?;
+    let log = log_of(alloc, &best, entries)?;
+    Ok(judged(alloc, &log, &peer)?)
 }
 
 #[test]

@@ -1,16 +1,16 @@
 //! What the maps of a list of incrementals say of a placement group: its intervals, its prior sets and the statuses of its
 //! devices.
 
-use super::fixtures::{COPIES, SHARDS, group, incremental};
+use super::fixtures::{COPIES, SHARDS, group, incremental, text_of};
 use super::prior_sets::told;
 use pgp_code::AnyCode;
-use pgp_ids::{Epoch, EpochState, Membership, OsdId, PgId, PrimaryFacts, Seq};
+use pgp_ids::{Epoch, Incremental, Membership, OsdId, PgId, PrimaryFacts, Seq};
 use pgp_interval::Intervals;
 use pgp_map::OsdMap;
 use pgp_prior::{Prior, prior};
 use pgp_sets::{Status, StatusOf, up_acting};
-use pgp_text::{Reply, write_reply};
-use std::alloc::{AllocError, Global};
+use pgp_text::Reply;
+use std::alloc::Global;
 use std::test::Fail;
 
 /// [`COPIES`] without pg_temp.
@@ -20,8 +20,12 @@ const WITHOUT_TEMP: &str =
 /// The map with one incremental more.
 fn grow(alloc: Global, map: &mut OsdMap, line: &str) -> Result<(), Fail> {
     let inc = incremental(alloc, line).ok_or("no incremental")?;
-    map.check(&inc)?;
-    map.apply(&inc)?;
+    take(map, &inc)
+}
+
+fn take(map: &mut OsdMap, inc: &Incremental) -> Result<(), Fail> {
+    map.check(inc)?;
+    map.apply(inc)?;
     Ok(())
 }
 
@@ -49,67 +53,69 @@ fn facts_of(map: &OsdMap, primary: Option<OsdId>) -> PrimaryFacts {
     }
 }
 
-/// The group's state in this map.
-fn state_of(map: &OsdMap) -> Result<EpochState, Fail> {
+/// What the map says of the group's primary.
+fn facts_in(map: &OsdMap) -> Result<PrimaryFacts, Fail> {
     let members = members_of(map, group()?).ok_or("no such group")?;
-    let facts = facts_of(map, members.acting_primary);
-    Ok(EpochState { members, facts })
+    Ok(facts_of(map, members.acting_primary))
 }
 
-/// The map of these incrementals, the first of which makes the group, and the states of the group, one for each of them.
-fn states_of(alloc: Global, lines: &[&str]) -> Result<(OsdMap, Vec<EpochState>), Fail> {
-    let mut map = OsdMap::empty(alloc);
-    let mut states = Vec::new(alloc);
-    for line in lines {
-        grow(alloc, &mut map, line)?;
-        states.push(state_of(&map)?)?;
-    }
-    Ok((map, states))
-}
-
-/// The group's history.
-fn history(
-    alloc: Global,
-    map: &OsdMap,
-    states: Vec<EpochState>,
-) -> Result<Intervals<AnyCode>, Fail> {
-    let pool = map.pool(group()?.pool).ok_or("no pool")?;
-    let mut states = states.into_iter();
-    let opening = states.next().ok_or("no epoch")?;
+/// The group's history by the map that makes it.
+fn opened(alloc: Global, map: &OsdMap) -> Result<Intervals<AnyCode>, Fail> {
+    let pg = group()?;
+    let pool = map.pool(pg.pool).ok_or("no pool")?;
+    let members = members_of(map, pg).ok_or("no such group")?;
     let code = AnyCode::of_pool(pool.kind);
-    let mut history = Intervals::begin(alloc, code, Epoch::new(1), opening.members);
-    let mut facts = opening.facts;
-    for state in states {
-        let epoch = history.last().next().ok_or("no next epoch")?;
-        history.step(epoch, state.members, facts)?;
-        facts = state.facts;
+    Ok(Intervals::begin(alloc, code, Epoch::new(1), members))
+}
+
+/// The map and the group's history with one incremental more.
+fn step(
+    alloc: Global,
+    map: &mut OsdMap,
+    history: &mut Intervals<AnyCode>,
+    line: &str,
+) -> Result<(), Fail> {
+    let facts = facts_in(map)?;
+    grow(alloc, map, line)?;
+    let epoch = history.last().next().ok_or("no next epoch")?;
+    let members = members_of(map, group()?).ok_or("no such group")?;
+    history.step(epoch, members, facts)?;
+    Ok(())
+}
+
+/// The history of the group that the first of these incrementals makes. The map takes them all.
+fn follow(alloc: Global, map: &mut OsdMap, lines: &[&str]) -> Result<Intervals<AnyCode>, Fail> {
+    let (first, later) = lines.split_first().ok_or("no epoch")?;
+    grow(alloc, map, first)?;
+    let mut history = opened(alloc, map)?;
+    for line in later {
+        step(alloc, map, &mut history, line)?;
     }
     Ok(history)
 }
 
-/// The map of these incrementals, and the group's history by them.
-fn follow(alloc: Global, lines: &[&str]) -> Result<(OsdMap, Intervals<AnyCode>), Fail> {
-    let (map, states) = states_of(alloc, lines)?;
-    let history = history(alloc, &map, states)?;
-    Ok((map, history))
-}
-
-/// The group's intervals, as a trace is answered.
-fn intervals(alloc: Global, history: &Intervals<AnyCode>) -> Result<Vec<u8>, AllocError> {
+/// The group's intervals by these incrementals, as a trace is answered.
+fn intervals(alloc: Global, lines: &[&str]) -> Result<Vec<u8>, Fail> {
+    let history = follow(alloc, &mut OsdMap::empty(alloc), lines)?;
     let (first, _) = history.current();
-    let reply = Reply::Traced {
-        first,
-        past: Seq::from_vec(history.past(alloc)?),
-    };
-    write_reply(alloc, &reply)
+    let past = Seq::from_vec(history.past(alloc)?);
+    Ok(text_of(alloc, Reply::Traced { first, past })?)
 }
 
 /// The group's prior set.
 fn prior_set(alloc: Global, map: &OsdMap, history: &Intervals<AnyCode>) -> Result<Prior, Fail> {
-    let past = history.past(alloc)?;
     let members = members_of(map, group()?).ok_or("no such group")?;
+    let past = history.past(alloc)?;
     let les = Epoch::new(0);
     Ok(prior(alloc, history.code(), past.as_slice(), &members, les, map)?)
+}
+
+/// The group's prior set by these incrementals, in words.
+fn prior_words(alloc: Global, lines: &[&str]) -> Result<String, Fail> {
+    let mut map = OsdMap::empty(alloc);
+    let history = follow(alloc, &mut map, lines)?;
+    let prior = prior_set(alloc, &map, &history)?;
+    Ok(told(alloc, &prior)?)
 }
 
 /// Incrementals, and the group's intervals.
@@ -172,8 +178,7 @@ static INTERVALS: [(&[&str], &str); 7] = [
 #[test]
 fn follows_intervals(rt: HostRuntime) -> Result<(), Fail> {
     for (lines, answer) in &INTERVALS {
-        let (_map, history) = follow(rt.alloc(), lines)?;
-        let text = intervals(rt.alloc(), &history)?;
+        let text = intervals(rt.alloc(), lines)?;
         assert!(rt; text.as_slice() == answer.as_bytes(), "{answer}");
     }
     Ok(())
@@ -230,8 +235,7 @@ static PRIOR_SETS: [(&[&str], &str); 6] = [
 #[test]
 fn follows_prior_sets(rt: HostRuntime) -> Result<(), Fail> {
     for (lines, words) in &PRIOR_SETS {
-        let (map, history) = follow(rt.alloc(), lines)?;
-        let found = told(rt.alloc(), &prior_set(rt.alloc(), &map, &history)?)?;
+        let found = prior_words(rt.alloc(), lines)?;
         assert!(rt; found.as_str() == *words, "{found}");
     }
     Ok(())
@@ -264,18 +268,20 @@ static STATUSES: [(&str, Status, Status); 6] = [
     ),
 ];
 
+/// Whether these are the statuses of the device since an interval that began in epoch 1, and since one that began in epoch
+/// 2.
+fn are(map: &OsdMap, osd: OsdId, first: Status, second: Status) -> bool {
+    map.status(osd, Epoch::new(1)) == first && map.status(osd, Epoch::new(2)) == second
+}
+
 #[test]
 fn follows_statuses(rt: HostRuntime) -> Result<(), Fail> {
     let osd = OsdId::new(1).ok_or("a device")?;
     let mut map = OsdMap::empty(rt.alloc());
-    assert!(rt; map.status(osd, Epoch::new(1)) == Status::Gone);
+    assert!(rt; are(&map, osd, Status::Gone, Status::Gone));
     for (line, first, second) in &STATUSES {
         grow(rt.alloc(), &mut map, line)?;
-        let found = (
-            map.status(osd, Epoch::new(1)),
-            map.status(osd, Epoch::new(2)),
-        );
-        assert!(rt; found == (*first, *second), "{line}");
+        assert!(rt; are(&map, osd, *first, *second), "{line}");
     }
     Ok(())
 }

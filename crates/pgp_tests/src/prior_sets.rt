@@ -2,7 +2,7 @@
 
 use super::fixtures::places;
 use pgp_code::AnyCode;
-use pgp_ids::{Epoch, Membership, OsdId, Past, PoolKind};
+use pgp_ids::{Epoch, Member, Membership, OsdId, Past, PoolKind};
 use pgp_prior::{Prior, prior};
 use pgp_sets::{Status, StatusOf};
 use std::alloc::{AllocError, Global};
@@ -40,17 +40,22 @@ fn lying_on(up: &[u16], acting: &[u16]) -> Membership {
     }
 }
 
-/// Past intervals, each two epochs long from epoch 1 on, in which the group may have gone read-write on these devices.
+/// An interval two epochs long in which the group may have gone read-write on these devices.
+fn written_in(first: u32, acting: &[u16]) -> Past {
+    Past {
+        first: Epoch::new(first),
+        last: Epoch::new(first.saturating_add(1)),
+        members: lying_on(&[], acting),
+        rw: true,
+    }
+}
+
+/// Such intervals, one after the other from epoch 1 on.
 fn written_on(alloc: Global, actings: &[&[u16]]) -> Result<Vec<Past>, AllocError> {
     let mut past = Vec::new(alloc);
     let mut first = 1u32;
     for acting in actings {
-        past.push(Past {
-            first: Epoch::new(first),
-            last: Epoch::new(first.saturating_add(1)),
-            members: lying_on(&[], acting),
-            rw: true,
-        })?;
+        past.push(written_in(first, acting))?;
         first = first.saturating_add(2);
     }
     Ok(past)
@@ -58,18 +63,36 @@ fn written_on(alloc: Global, actings: &[&[u16]]) -> Result<Vec<Past>, AllocError
 
 /// A prior set in words.
 pub fn told(alloc: Global, prior: &Prior) -> Result<String, AllocError> {
-    let mut text = String::from_str(alloc, "asks")?;
+    let mut text = String::new(alloc);
+    tell(&mut text, prior)?;
+    Ok(text)
+}
+
+fn tell(text: &mut String, prior: &Prior) -> Result<(), AllocError> {
+    text.push_str("asks")?;
     for member in prior.probe.as_slice() {
-        let osd = member.osd.number();
-        let slot = member.slot;
-        write!(text, " {osd}:{slot}")?;
+        tell_member(text, *member)?;
     }
     text.push_str(if prior.down { ", down" } else { ", not down" })?;
-    for waited_for in prior.blocked_by.as_slice() {
-        let osd = waited_for.number();
-        write!(text, " {osd}")?;
+    tell_blockers(text, prior.blocked_by.as_slice())
+}
+
+fn tell_member(text: &mut String, member: Member) -> Result<(), AllocError> {
+    let osd = member.osd.number();
+    let slot = member.slot;
+    write!(text, " {osd}:{slot}")
+}
+
+fn tell_device(text: &mut String, osd: OsdId) -> Result<(), AllocError> {
+    let osd = osd.number();
+    write!(text, " {osd}")
+}
+
+fn tell_blockers(text: &mut String, blocked_by: &[OsdId]) -> Result<(), AllocError> {
+    for waited_for in blocked_by {
+        tell_device(text, *waited_for)?;
     }
-    Ok(text)
+    Ok(())
 }
 
 /// A group by its history: how many shards give an object back (0 for whole copies), its past acting sets, its present up and
@@ -147,24 +170,31 @@ static PRIOR_SETS: [(Lived, &[Status], &str); 8] = [
     (COPIES, &[UP, UP, UP], "asks 0:0 1:0 2:0, not down"),
 ];
 
-/// The prior set of this group in words.
-fn found(alloc: Global, lived: Lived, statuses: &[Status]) -> Result<String, AllocError> {
-    let code = AnyCode::of_pool(if lived.k == 0 {
+/// The code that so many data shards make, or whole copies.
+fn code_of(k: u8) -> AnyCode {
+    AnyCode::of_pool(if k == 0 {
         PoolKind::Replicated
     } else {
-        PoolKind::Erasure { k: lived.k }
-    });
+        PoolKind::Erasure { k }
+    })
+}
+
+/// The prior set of this group.
+fn prior_of(alloc: Global, lived: Lived, statuses: &[Status]) -> Result<Prior, AllocError> {
     let past = written_on(alloc, lived.past)?;
-    let current = lying_on(lived.up, lived.acting);
-    let les = Epoch::new(lived.les);
-    let prior = prior(
+    prior(
         alloc,
-        &code,
+        &code_of(lived.k),
         past.as_slice(),
-        &current,
-        les,
+        &lying_on(lived.up, lived.acting),
+        Epoch::new(lived.les),
         &Listed(statuses),
-    )?;
+    )
+}
+
+/// The prior set of this group in words.
+fn found(alloc: Global, lived: Lived, statuses: &[Status]) -> Result<String, AllocError> {
+    let prior = prior_of(alloc, lived, statuses)?;
     told(alloc, &prior)
 }
 

@@ -1,12 +1,12 @@
 //! Lines and answers that no script shows: what a line is read as, whatever its bytes, and what is answered to what can't be
 //! asked or doesn't come to pass where there is memory.
 
-use super::fixtures::group;
+use super::fixtures::{group, text_of};
 use pgp_ids::{
     AskRefusal, Epoch, Member, MissingObject, ObjectName, OsdId, Osds, PeerMissing, PeerState,
     Refusal, Seq, Verdict, Version, View,
 };
-use pgp_text::{Refused, Reply, read_line, write_reply};
+use pgp_text::{Refused, Reply, read_line};
 use std::alloc::{AllocError, Global};
 use std::test::Fail;
 
@@ -36,19 +36,25 @@ static LINES: [(&str, &str); 6] = [
     ),
 ];
 
+/// The command that the line is, as `Debug` writes it.
+fn words_of(alloc: Global, line: &str) -> Result<String, Fail> {
+    let command = read_line(alloc, line.as_bytes())?;
+    Ok(format!(in alloc; "{command:?}")?)
+}
+
 #[test]
 fn reads_lines(rt: HostRuntime) -> Result<(), Fail> {
     for (line, words) in &LINES {
-        let command = read_line(rt.alloc(), line.as_bytes())?;
-        let told = format!(in rt.alloc(); "{command:?}")?;
+        let told = words_of(rt.alloc(), line)?;
         assert!(rt; told.as_str() == *words, "{told}");
     }
     Ok(())
 }
 
-/// What is answered to what was refused.
-fn refused(alloc: Global, refused: Refused) -> Result<Vec<u8>, AllocError> {
-    write_reply(alloc, &Reply::Refused(refused))
+/// Whether this is answered to what was refused.
+fn is_refused(alloc: Global, refused: Refused, answer: &str) -> Result<bool, AllocError> {
+    let text = text_of(alloc, Reply::Refused(refused))?;
+    Ok(text.as_slice() == answer.as_bytes())
 }
 
 #[test]
@@ -56,22 +62,22 @@ fn reads_no_line_of_bytes_that_are_no_text(rt: HostRuntime) -> Result<(), Fail> 
     let fault = read_line(rt.alloc(), b"{\"op\":\"\xff\"}")
         .err()
         .ok_or("a command")?;
-    let text = refused(rt.alloc(), Refused::Line(fault))?;
-    assert!(rt; text.as_slice() == b"{\"code\":31,\"refused\":\"NotJson\"}".as_slice());
+    let answer = r#"{"code":31,"refused":"NotJson"}"#;
+    assert!(rt; is_refused(rt.alloc(), Refused::Line(fault), answer)?);
     Ok(())
 }
 
 #[test]
 fn tells_that_an_entry_found_no_memory(rt: HostRuntime) -> Result<(), Fail> {
-    let text = refused(rt.alloc(), Refused::Entry(Refusal::Memory))?;
-    assert!(rt; text.as_slice() == b"{\"code\":51,\"refused\":\"Memory\"}".as_slice());
+    let answer = r#"{"code":51,"refused":"Memory"}"#;
+    assert!(rt; is_refused(rt.alloc(), Refused::Entry(Refusal::Memory), answer)?);
     Ok(())
 }
 
 #[test]
 fn tells_that_a_question_found_no_memory(rt: HostRuntime) -> Result<(), Fail> {
-    let text = refused(rt.alloc(), Refused::Ask(AskRefusal::Memory))?;
-    assert!(rt; text.as_slice() == b"{\"code\":41,\"refused\":\"Memory\"}".as_slice());
+    let answer = r#"{"code":41,"refused":"Memory"}"#;
+    assert!(rt; is_refused(rt.alloc(), Refused::Ask(AskRefusal::Memory), answer)?);
     Ok(())
 }
 
@@ -100,6 +106,9 @@ fn peer(alloc: Global, member: Member) -> Result<PeerMissing, Fail> {
 fn waiting(alloc: Global) -> Result<View, Fail> {
     let osd = OsdId::new(2).ok_or("a device")?;
     let member = Member { osd, slot: 3 };
+    let probe = one(alloc, member)?;
+    let blocked_by = one(alloc, osd)?;
+    let missing = one(alloc, peer(alloc, member)?)?;
     let mut acting = Osds::new();
     acting.push(None);
     acting.push(OsdId::new(5));
@@ -113,18 +122,24 @@ fn waiting(alloc: Global) -> Result<View, Fail> {
         first: Epoch::new(8),
         intervals: Seq::new(alloc),
         les: Epoch::new(7),
-        probe: one(alloc, member)?,
-        blocked_by: one(alloc, osd)?,
+        probe,
+        blocked_by,
         verdict: Verdict::NeedUpThru,
         best: Some(member),
-        missing: one(alloc, peer(alloc, member)?)?,
+        missing,
     })
+}
+
+/// What is answered of the group.
+fn told(alloc: Global) -> Result<Vec<u8>, Fail> {
+    let pg = group()?;
+    let view = waiting(alloc)?;
+    Ok(text_of(alloc, Reply::Asked(pg, view))?)
 }
 
 #[test]
 fn writes_a_view(rt: HostRuntime) -> Result<(), Fail> {
-    let reply = Reply::Asked(group()?, waiting(rt.alloc())?);
-    let text = write_reply(rt.alloc(), &reply)?;
+    let text = told(rt.alloc())?;
     let expected =
         r#"{"acting":[null,5],"acting_primary":5,"best":[2,3],"blocked_by":[2],"count":5,"epoch":9,"first":8,"intervals":[],"les":7,"missing":[{"member":[2,3],"objects":{"a\"":[1,2]},"state":"missing"}],"ok":"ask","pg":[1,0],"probe":[[2,3]],"up":[],"up_primary":null,"verdict":"NeedUpThru"}"#;
     assert!(rt; text.as_slice() == expected.as_bytes());

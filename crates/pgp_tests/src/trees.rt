@@ -4,7 +4,7 @@ ghost use Rattle.std.specs.Prelude.{◌≤ℤ◌, ◌<ℤ◌, pos, negsuc};
 
 use super::fixtures::{incremental, places};
 use pgp_crush::{Rule, Tree, TreeFault, place};
-use pgp_ids::{BucketAlg, BucketSpec, Seq};
+use pgp_ids::{BucketAlg, BucketSpec, Incremental, Seq};
 use std::alloc::{AllocError, Global};
 use std::test::Fail;
 
@@ -66,10 +66,15 @@ fn counts_buckets(rt: HostRuntime) -> Result<(), Fail> {
 const FOUR_LEVELS: &str =
     r#"{"op":"inc","epoch":1,"crush":[{"id":-2,"type":2,"alg":"uniform","items":[0,1,2]},{"id":-3,"type":2,"alg":"list","items":[3,4],"weights":[65536,32768]},{"id":-4,"type":2,"alg":"uniform","items":[5,6]},{"id":-5,"type":3,"alg":"list","items":[-2,-3],"weights":[131072,65536]},{"id":-1,"type":4,"alg":"list","items":[-5,-4],"weights":[196608,98304]}]}"#;
 
+/// The buckets that the incremental gives.
+fn buckets_of(inc: Incremental) -> Option<Seq<BucketSpec>> {
+    inc.crush
+}
+
 /// The tree that the incremental of this line gives.
 fn tree_of(alloc: Global, line: &str) -> Result<Tree, Fail> {
     let inc = incremental(alloc, line).ok_or("no incremental")?;
-    let buckets = inc.crush.ok_or("no tree")?;
+    let buckets = buckets_of(inc).ok_or("no tree")?;
     Ok(Tree::check(alloc, buckets.into_vec())?)
 }
 

@@ -2,13 +2,15 @@
 
 ghost use Rattle.std.specs.Prelude.{◌≡◌, ◌<◌, length};
 
+use super::fixtures::text_of;
+use pgp_ids::PgId;
 use pgp_log::World;
-use pgp_text::{Command, Reply, read_line, write_reply};
+use pgp_text::{Command, Reply, read_line};
 use std::alloc::Global;
 use std::test::Fail;
 
 /// A pool of three copies, whose only group comes to serve once its primary is known to have been up.
-const STEPS: [&str; 8] = [
+static STEPS: [&str; 8] = [
     r#"{"op":"inc","epoch":1,"up":[0,1,2],"weight":[[1,0],[2,0]],"crush":[{"id":-1,"type":1,"alg":"uniform","items":[0,1,2]}],"pools":[{"id":1,"pg_num":1,"kind":"replicated","size":3,"min_size":2,"leaf":0}],"temp":[[1,0,[0,1,2]]]}"#,
     r#"{"op":"info","pg":[1,0],"from":[0,0],"stamp":1,"les":0,"history_les":0,"last_update":[1,2],"log_tail":[0,0],"complete":true}"#,
     r#"{"op":"info","pg":[1,0],"from":[1,0],"stamp":1,"les":0,"history_les":0,"last_update":[1,1],"log_tail":[0,0],"complete":true}"#,
@@ -25,7 +27,7 @@ const BEFORE: &[u8] =
 const SERVING: &[u8] =
     br#"{"acting":[0,1,2],"acting_primary":0,"best":[0,0],"blocked_by":[],"count":6,"epoch":2,"first":1,"intervals":[],"les":0,"missing":[{"member":[1,0],"objects":{"b":[1,2]},"state":"missing"},{"member":[2,0],"objects":{"a":[1,1],"b":[1,2]},"state":"missing"}],"ok":"ask","pg":[1,0],"probe":[[0,0],[1,0],[2,0]],"up":[0],"up_primary":0,"verdict":"Serve"}"#;
 
-/// Takes the step that the line is. Before a question each shard reads all that there is. Gives the answer to a question.
+/// Takes the step that the line is. Gives the answer to a question.
 fn step(
     alloc: Global,
     world: &mut World,
@@ -35,20 +37,26 @@ fn step(
     requires { length world.old.read ≡ shards }
     ensures { length world.new.read ≡ shards }
 {
-    match read_line(alloc, line.as_bytes())? {
-        Command::Submit(entry) => {
+    match read_line(alloc, line.as_bytes()) {
+        Ok(Command::Submit(entry)) => {
             world.submit(entry)?;
             Ok(None)
         }
-        Command::Ask(pg) => {
-            for shard in 0..shards {
-                world.absorb(shard, 100)?;
-            }
-            let view = world.ask(pg)?;
-            Ok(Some(write_reply(alloc, &Reply::Asked(pg, view))?))
-        }
-        _other => Ok(None),
+        Ok(Command::Ask(pg)) => Ok(Some(answer(alloc, world, shards, pg)?)),
+        _ => Err(Fail::new("neither an entry nor a question")),
     }
+}
+
+/// Has each shard read all that there is, and gives the answer to the question.
+fn answer(alloc: Global, world: &mut World, shards: usize, pg: PgId) -> Result<Vec<u8>, Fail>
+    requires { length world.old.read ≡ shards }
+    ensures { length world.new.read ≡ shards }
+{
+    for shard in 0..shards {
+        world.absorb(shard, 100)?;
+    }
+    let view = world.ask(pg)?;
+    Ok(text_of(alloc, Reply::Asked(pg, view))?)
 }
 
 /// The last answers of a world of so many shards that takes all the steps, one before the other.
@@ -56,10 +64,17 @@ fn run(alloc: Global, shards: usize) -> Result<(Vec<u8>, Vec<u8>), Fail>
     requires { 0 < shards }
 {
     let mut world = World::start(alloc, shards)?;
+    follow(alloc, &mut world, shards)
+}
+
+/// The last answers of this world, which takes all the steps.
+fn follow(alloc: Global, world: &mut World, shards: usize) -> Result<(Vec<u8>, Vec<u8>), Fail>
+    requires { length world.old.read ≡ shards }
+{
     let mut before = Vec::new(alloc);
     let mut last = Vec::new(alloc);
-    for line in STEPS {
-        if let Some(answer) = step(alloc, &mut world, shards, line)? {
+    for line in &STEPS {
+        if let Some(answer) = step(alloc, world, shards, line)? {
             before = last;
             last = answer;
         }

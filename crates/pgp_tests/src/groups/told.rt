@@ -10,24 +10,34 @@ ghost use Rattle.pgp_group.specs.Entries.{inc_of};
 ghost use Rattle.pgp_group.specs.GroupHistory.{makes};
 ghost use Rattle.pgp_tests.specs.Told.{AreTold, IsNext, TakesMap, TakesReport};
 
-use crate::fixtures::{entry, group, incremental};
+use crate::fixtures::{entry_surely, group, text_of};
 use pgp_group::Group;
 use pgp_group::laws::growth::{
     checked_incrementals_are_numbered, history_begins_with_its_pool, the_next_map_follows,
 };
-use pgp_ids::{Entry, Incremental, PgId};
+use pgp_ids::{Entry, Incremental, PgId, View};
 use pgp_map::laws::{checked_lists_grow_by_incrementals_without_fault, pools_of_checked_lists};
 use pgp_map::{MapFault, OsdMap};
-use pgp_text::{Reply, write_reply};
+use pgp_text::Reply;
 use std::alloc::{AllocError, Global};
 use std::test::Fail;
 
 /// A group, and the map twice: each incremental is applied to `after`, shown to the group, and applied to `before`.
-#[derive(Drop)]
 pub struct Told {
     before: OsdMap,
     after: OsdMap,
     group: Group,
+}
+
+// Written out, so that a function which lets one go has nothing to prove of what lies within.
+impl Drop for Told {
+    fn drop(self) {
+        let Told {
+            before: _,
+            after: _,
+            group: _,
+        } = self;
+    }
 }
 
 impl Told {
@@ -35,21 +45,28 @@ impl Told {
     pub fn begin(alloc: Global, line: &str) -> Result<Told, Fail>
         ensures { IfOk result (λ told. AreTold told.before told.after told.group) }
     {
+        match entry_surely(alloc, line) {
+            Some(Entry::Inc(inc)) => Told::made_by(alloc, &inc),
+            _ => Err(Fail::new("no incremental")),
+        }
+    }
+
+    fn made_by(alloc: Global, inc: &Incremental) -> Result<Told, Fail>
+        ensures { IfOk result (λ told. AreTold told.before told.after told.group) }
+    {
         checked_incrementals_are_numbered();
         history_begins_with_its_pool();
         checked_lists_grow_by_incrementals_without_fault();
         pools_of_checked_lists();
         let pg = group()?;
-        let inc = incremental(alloc, line).or_else(|| incremental(alloc, line));
-        let inc = inc.ok_or("no incremental")?;
-        let before = first_map(alloc, &inc)?;
-        let after = first_map(alloc, &inc)?;
-        if !makes(&inc, &pg) {
+        if !makes(inc, &pg) {
             return Err(Fail::new("no such pool"));
         }
+        let after = first_map(alloc, inc)?;
         if !has_group(&after, &pg) {
             return Err(Fail::new("no such group"));
         }
+        let before = first_map(alloc, inc)?;
         let group = Group::begin(alloc, &after, pg);
         Ok(Told {
             before,
@@ -58,15 +75,32 @@ impl Told {
         })
     }
 
-    /// Takes the entry that the line is.
-    pub fn take(&mut self, alloc: Global, line: &str) -> Result<(), Fail>
+    /// Takes the entries that these lines are.
+    pub fn take_all(&mut self, alloc: Global, lines: &[&str]) -> Result<(), Fail>
         requires { AreTold self.old.before self.old.after self.old.group }
         ensures { OnOk result (AreTold self.new.before self.new.after self.new.group) }
     {
-        let told = entry(alloc, line).or_else(|| entry(alloc, line));
-        match told.ok_or("no entry")? {
-            Entry::Inc(inc) => self.take_inc(&inc),
-            other => self.take_report(&other),
+        for line in lines {
+            self.take_line(alloc, line)?;
+        }
+        Ok(())
+    }
+
+    fn take_line(&mut self, alloc: Global, line: &str) -> Result<(), Fail>
+        requires { AreTold self.old.before self.old.after self.old.group }
+        ensures { OnOk result (AreTold self.new.before self.new.after self.new.group) }
+    {
+        let told = entry_surely(alloc, line).ok_or("no entry")?;
+        self.take(&told)
+    }
+
+    fn take(&mut self, told: &Entry) -> Result<(), Fail>
+        requires { AreTold self.old.before self.old.after self.old.group }
+        ensures { OnOk result (AreTold self.new.before self.new.after self.new.group) }
+    {
+        match told {
+            Entry::Inc(inc) => self.take_inc(inc),
+            _ => self.take_report(told),
         }
     }
 
@@ -93,13 +127,16 @@ impl Told {
 
     /// What is answered of the group after so many entries.
     pub fn answer(&mut self, alloc: Global, count: usize) -> Result<Vec<u8>, Fail> {
-        let view = match self.group.view(&self.after, count) {
-            Ok(view) => view,
-            Err(_) => self.group.view(&self.after, count)?,
-        };
-        let reply = Reply::Asked(group()?, view);
-        let text = write_reply(alloc, &reply);
-        Ok(text.or_else(|_| write_reply(alloc, &reply))?)
+        let pg = group()?;
+        let view = self.view(count)?;
+        Ok(text_of(alloc, Reply::Asked(pg, view))?)
+    }
+
+    fn view(&mut self, count: usize) -> Result<View, AllocError> {
+        match self.group.view(&self.after, count) {
+            Ok(view) => Ok(view),
+            Err(_) => self.group.view(&self.after, count),
+        }
     }
 }
 

@@ -28,7 +28,7 @@ impl Answerer for Leaving {
 }
 
 /// Two lines with answers, and then one that nobody answers, at the script's end and before it.
-const SCRIPTS: [&[u8]; 2] = [
+static SCRIPTS: [&[u8]; 2] = [
     b"{\"op\":\"locate\",\"pool\":1,\"name\":\"a\"}\nno JSON\n{\"op\":\"ask\",\"pg\":[1,0]}",
     b"{\"op\":\"locate\",\"pool\":1,\"name\":\"a\"}\nno JSON\n{\"op\":\"ask\",\"pg\":[1,0]}\n[]\n",
 ];
@@ -50,7 +50,7 @@ fn given(alloc: Global, script: &[u8], fails_at: usize) -> (Option<AnswerFault>,
 
 #[test]
 fn answers_the_lines_before(rt: HostRuntime) {
-    for script in SCRIPTS {
+    for script in &SCRIPTS {
         let (fault, out) = given(rt.alloc(), script, NEVER);
         assert!(rt; fault == Some(AnswerFault::Gone) && out.as_slice() == ANSWERS);
     }
@@ -58,7 +58,7 @@ fn answers_the_lines_before(rt: HostRuntime) {
 
 #[test]
 fn tells_a_failed_write_first(rt: HostRuntime) {
-    for script in SCRIPTS {
+    for script in &SCRIPTS {
         for fails_at in 0..7 {
             let (fault, out) = given(rt.alloc(), script, fails_at);
             assert!(rt; fault == Some(AnswerFault::Write), "call {fails_at}");

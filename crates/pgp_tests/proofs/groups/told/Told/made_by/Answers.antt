@@ -3,11 +3,11 @@ use Rattle.pgp_ids.specs.declared.entry.Entry.TheVariants as entry
 use Rattle.pgp_map.specs.Checked.{are_checked}
 use Rattle.pgp_map.specs.Pools.{has_group}
 use Rattle.pgp_group.specs.GroupHistory.{makes}
-use Rattle.pgp_tests.proofs.groups.told.Told.begin.Goals as goal
+use Rattle.pgp_tests.proofs.groups.told.Told.made_by.Goals as goal
 
 pub begin-group-requires : goal.begin-group-requires
 begin-group-requires c =
-    let inc = c.in_ok-inc.inc in
+    let inc = c.args.inc.now in
     let grow = c.checked_lists_grow_by_incrementals_without_fault.ensures in
     let checked : are_checked (inc ∷ []) ≡ true = grow.longer [] inc grow.none c.in_ok-before.ensures.fine in
     let yes : c.has_group.result ≡ true = first_of (search rules, grind arith) in
@@ -16,7 +16,7 @@ begin-group-requires c =
 
 pub returns : goal.returns
 returns c =
-    let inc = c.in_ok-inc.inc in
+    let inc = c.args.inc.now in
     let pg = c.in_ok-pg.pg in
     let grow = c.checked_lists_grow_by_incrementals_without_fault.ensures in
     let checked : are_checked (inc ∷ []) ≡ true = grow.longer [] inc grow.none c.in_ok-before.ensures.fine in
