@@ -18,7 +18,6 @@ use Rattle.pgp_core.specs.Told.{IsLeft}
 use Rattle.pgp_core.specs.Telling.{Began, Puts, PutsFront, StopsAt, IsAfter, IsDone, WentBy, IsStopped, StopsIn, StoppedAtLast, whole_lines, Taken}
 use Rattle.pgp_core.specs.declared.input.Bounds.{Bounds}
 use Rattle.pgp_core.specs.declared.input.Input.{Input}
-use Rattle.pgp_core.specs.declared.output.Output.{Output}
 use Rattle.pgp_core.specs.declared.script.Script.{Script}
 use Rattle.pgp_core.specs.declared.fault.AnswerFault.{AnswerFault}
 use Rattle.pgp_core.specs.declared.fault.AnswerFault.TheVariants.{Read, Write, Gone}
@@ -79,12 +78,12 @@ after-piece alone began script input log now bytes piece none step after = recor
   text = after.text;
 }
 
-pub after-line : (alone : Bool) (began : Began) (script : Script) (input : Input) (output : Output) (before after : List Entry) (now new : Option (List ℕ)) (bytes piece : List ℕ)
+pub after-line : (alone : Bool) (began : Began) (script next : Script) (before after : List Entry) (now new : Option (List ℕ)) (bytes piece : List ℕ)
     → list_any is_line_feed piece ≡ false
-    → ((bounds : Bounds) (bytes : List ℕ) → HasRead bounds script.input bytes → HasRead bounds input (bytes ++ (piece ++ 10 ∷ [])))
-    → Puts alone before after ((cut bytes).rest ++ piece) now new script.output.pending.items output.pending.items
-    → IsAfter alone began script before now bytes → IsAfter alone began (record { input = input; output = output }) after new (bytes ++ (piece ++ 10 ∷ []))
-after-line alone began script input output before after now new bytes piece none step puts so_far = record {
+    → ((bounds : Bounds) (bytes : List ℕ) → HasRead bounds script.input bytes → HasRead bounds next.input (bytes ++ (piece ++ 10 ∷ [])))
+    → Puts alone before after ((cut bytes).rest ++ piece) now new script.output.pending.items next.output.pending.items
+    → IsAfter alone began script before now bytes → IsAfter alone began next after new (bytes ++ (piece ++ 10 ∷ []))
+after-line alone began script next before after now new bytes piece none step puts so_far = record {
   read = step began.bounds bytes so_far.read;
   out = so_far.out ++ puts.text;
   told = rw (whole-line bytes piece none) (told-push alone began.log before after (cut bytes).whole ((cut bytes).rest ++ piece) so_far.out puts.text so_far.told puts.told);

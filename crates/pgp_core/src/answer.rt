@@ -13,7 +13,7 @@ use super::accepted::{LONGEST_ACCEPTED, put_accepted};
 use super::answerer::{Answerer, NoReply};
 use super::want::{NoAnswer, Want};
 use pgp_ids::TextFault;
-use pgp_text::{Command, Refused, Reply, read_line, write_reply_to};
+use pgp_text::{Command, LineReader, Refused, Reply, write_reply_to};
 use std::alloc::{AllocError, Global};
 
 /// Puts the answer to a line that isn't blank and not too long behind the text, with a line feed.
@@ -22,6 +22,7 @@ use std::alloc::{AllocError, Global};
 /// line adds nothing to the log.
 pub fn answer_line<A: Answerer>(
     alloc: Global,
+    reader: &mut LineReader,
     line: &[u8],
     answerer: &mut A,
     text: &mut Vec<u8>,
@@ -31,7 +32,7 @@ pub fn answer_line<A: Answerer>(
     ensures text { OnErr result (text.new.items ≡ text.old.items) }
     ensures log { OnErr result (MayAnswerBy A.alone (A.log answerer.old) (A.log answerer.new)) }
 {
-    match read_line(alloc, line) {
+    match reader.read(alloc, line) {
         Ok(command) => answer_command(alloc, command, answerer, text),
         Err(TextFault::Memory) => Err(NoAnswer::Memory(Want::Line)),
         Err(fault) => put_fault(alloc, fault, text),

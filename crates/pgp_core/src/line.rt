@@ -10,6 +10,7 @@ ghost use Rattle.pgp_core.specs.Told.{PutsLine, MayLack, IsLeft};
 use super::answer::{answer_line, put_long};
 use super::answerer::Answerer;
 use super::want::{NoAnswer, Want};
+use pgp_text::LineReader;
 use std::alloc::Global;
 
 /// How many bytes a line has at most, without its line feed.
@@ -104,6 +105,7 @@ impl LineBuffer {
     pub fn answer<A: Answerer>(
         &mut self,
         alloc: Global,
+        reader: &mut LineReader,
         piece: &[u8],
         answerer: &mut A,
         text: &mut Vec<u8>,
@@ -113,7 +115,7 @@ impl LineBuffer {
         ensures left { OnErr result ((line : List ℕ) → Holds self.old line → IsLeft A.alone (line ++ piece.now)) }
         ensures text { OnErr result (text.new.items ≡ text.old.items) }
     {
-        match self.put_answer(alloc, piece, answerer, text) {
+        match self.put_answer(alloc, reader, piece, answerer, text) {
             Ok(()) => Ok(&[]),
             Err(NoAnswer::Memory(want)) => Ok(want_line(want)),
             Err(NoAnswer::Gone) => Err(Unanswered),
@@ -125,6 +127,7 @@ impl LineBuffer {
     fn put_answer<A: Answerer>(
         &mut self,
         alloc: Global,
+        reader: &mut LineReader,
         piece: &[u8],
         answerer: &mut A,
         text: &mut Vec<u8>,
@@ -136,10 +139,10 @@ impl LineBuffer {
         ensures log { OnErr result (MayAnswerBy A.alone (A.log answerer.old) (A.log answerer.new)) }
     {
         if self.is_whole(piece) {
-            return put_line(alloc, piece, answerer, text);
+            return put_line(alloc, reader, piece, answerer, text);
         }
         self.add(piece);
-        self.put_kept(alloc, answerer, text)
+        self.put_kept(alloc, reader, answerer, text)
     }
 
     /// Whether the line lies whole in the piece that ends it, and isn't too long.
@@ -153,6 +156,7 @@ impl LineBuffer {
     fn put_kept<A: Answerer>(
         &self,
         alloc: Global,
+        reader: &mut LineReader,
         answerer: &mut A,
         text: &mut Vec<u8>,
     ) -> Result<(), NoAnswer>
@@ -166,7 +170,7 @@ impl LineBuffer {
             Fate::NoMemory => Err(NoAnswer::Memory(Want::Line)),
             Fate::TooLong if self.blank => Ok(()),
             Fate::TooLong => put_long(alloc, text),
-            Fate::Kept => put_line(alloc, self.bytes.as_slice(), answerer, text),
+            Fate::Kept => put_line(alloc, reader, self.bytes.as_slice(), answerer, text),
         }
     }
 }
@@ -175,6 +179,7 @@ impl LineBuffer {
 /// to the log.
 fn put_line<A: Answerer>(
     alloc: Global,
+    reader: &mut LineReader,
     line: &[u8],
     answerer: &mut A,
     text: &mut Vec<u8>,
@@ -188,7 +193,7 @@ fn put_line<A: Answerer>(
     if all_blank(line) {
         Ok(())
     } else {
-        answer_line(alloc, line, answerer, text)
+        answer_line(alloc, reader, line, answerer, text)
     }
 }
 

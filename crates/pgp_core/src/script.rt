@@ -16,16 +16,27 @@ use super::line::Unanswered;
 use super::log::Log;
 use super::output::Output;
 use super::streams::{Sink, Source};
+use pgp_text::LineReader;
 use std::alloc::Global;
 
 /// How many bytes a read asks for.
 const CHUNK: usize = 65536;
 
 /// A script that is being answered.
-#[derive(Debug, Drop)]
 pub struct Script {
     pub input: Input,
     pub output: Output,
+    reader: LineReader,
+}
+
+impl Drop for Script {
+    fn drop(self) {
+        let Script {
+            input: _,
+            output: _,
+            reader: _,
+        } = self;
+    }
 }
 
 impl Script {
@@ -37,6 +48,7 @@ impl Script {
         Script {
             input: Input::new(alloc, bounds),
             output: Output::new(alloc),
+            reader: LineReader::new(alloc),
         }
     }
 
@@ -74,10 +86,13 @@ impl Script {
         ensures kept_at_gone { result ≡ Err AnswerFault.Gone → W.failed writer.new ≡ W.failed writer.old }
         ensures left { self.new.input.left ≡ self.old.input.left }
     {
-        let answer = self
-            .input
-            .line
-            .answer(alloc, piece, answerer, &mut self.output.pending);
+        let answer = self.input.line.answer(
+            alloc,
+            &mut self.reader,
+            piece,
+            answerer,
+            &mut self.output.pending,
+        );
         match answer {
             Ok(rest) => {
                 self.output.put(rest, writer)?;

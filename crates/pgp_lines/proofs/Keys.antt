@@ -1,47 +1,129 @@
--- The keys of an object, as a walk over them sees them.
-use Rattle.std.proofs.Common.{◌≡◌, ℕ, List, [], ◌∷◌, map, Bool, true, false, cond, Option, Some, Less, filter, find, fold, String, Global, string_bytes, string_cmp, nat_cmp, Bor, refl, ap, ◌∙◌}
-use Rattle.std.proofs.lemmas.Map.Keys.{sorted_head, sorted_tail}
+-- The least of an object's keys that pass a test, as a walk over the members in the line's order finds it.
+use Rattle.std.proofs.Common.{◌≡◌, ℕ, List, [], ◌∷◌, map, Bool, true, false, cond, Option, Some, None, Ordering, Less, Equal, Greater, filter, fold, Global, nat_cmp, is_eq, Bor, refl, sym, ap, ◌∙◌}
+use Rattle.std.proofs.lemmas.Cmp.{nat_list_cmp_total}
+use Rattle.std.proofs.lemmas.Map.Text.{is_eq-slice_cmp}
+use Rattle.std.proofs.lemmas.Slice.Eq.{bytes_eq-Decides}
 use Rattle.std.specs.Cmp.Lexicographic.{slice_cmp}
-use Rattle.std.specs.List.{AllByRecursion}
-use Rattle.std.specs.List.Sorted.{IsStrictlySortedBy}
-use Rattle.std.specs.Map.{keys_of as keys_of_entries}
-use Rattle.std.specs.Ordering.{match_ordering}
-use Rattle.serde_json.specs.View.{members_view}
-use Rattle.serde_json.specs.declared.value.Value.{Value}
+use Rattle.std.specs.Ordering.{match_ordering, ordering_reverse}
+use Rattle.json.specs.Value.{members_view as json_members}
+use Rattle.json.specs.declared.value.Value.{Value}
+use Rattle.serde_json.specs.Data.{Data, Members, no_members, member, put}
 use Rattle.pgp_lines.specs.Shapes.{lesser, least, keys_of}
+use Rattle.pgp_lines.specs.Tree.{members_in, view, picked, least_past}
 
 -- the keys, as contracts see the code's list of them
 abbrev pub texts : List (Bor (List ℕ)) → List (List ℕ)
 texts keys = map (λ k. k.now) keys
 
-pub keys_of-members_view : (es : List (String Global × Value)) → keys_of (members_view es) ≡ map string_bytes (keys_of_entries es)
-keys_of-members_view [] = refl
-keys_of-members_view (e ∷ es) = ap (λ keys. string_bytes e.0 ∷ keys) (keys_of-members_view es)
+-- ---- the lesser of two texts
 
-abbrev IsBelow : List ℕ → List (String Global) → Type 0
-IsBelow text ks = AllByRecursion (λ k. slice_cmp nat_cmp text (string_bytes k) ≡ Less) ks
+same_text : (a b : List ℕ) → slice_cmp nat_cmp a b ≡ Equal → a ≡ b
+same_text a b e = (bytes_eq-Decides a b).0 (sym (is_eq-slice_cmp a b) ∙ ap is_eq e)
 
--- a step at a text that isn't less
-stays : (passes : Bool) (text other : List ℕ) (others : List (List ℕ)) → slice_cmp nat_cmp text other ≡ Less → fold lesser text others ≡ text
-    → fold lesser text (cond passes (other ∷ others) others) ≡ text
-stays true text other others below rest = ap (λ o. fold lesser (match_ordering o text text other) others) below ∙ rest
-stays false text other others below rest = rest
+reversed : (a b : List ℕ) (o : Ordering) → slice_cmp nat_cmp a b ≡ o → slice_cmp nat_cmp b a ≡ ordering_reverse o
+reversed a b o e = nat_list_cmp_total.antisymm b a ∙ ap ordering_reverse e
 
--- a text below the others is the least with those that pass
-fold-lesser : (test : List ℕ → Bool) (text : List ℕ) (ks : List (String Global)) → IsBelow text ks → fold lesser text (filter test (map string_bytes ks)) ≡ text
-fold-lesser test text [] below = refl
-fold-lesser test text (k ∷ ks) below =
-    stays (test (string_bytes k)) text (string_bytes k) (filter test (map string_bytes ks)) below.0 (fold-lesser test text ks below.1)
+self_at : (o : Ordering) (a : List ℕ) → match_ordering o a a a ≡ a
+self_at Less a = refl
+self_at Equal a = refl
+self_at Greater a = refl
 
-first : (passes : Bool) (text : List ℕ) (others : List (List ℕ)) (rest : Option (List ℕ)) → fold lesser text others ≡ text → least others ≡ rest
-    → least (cond passes (text ∷ others) others) ≡ cond passes (Some text) rest
-first true text others rest head tail = ap Some head
-first false text others rest head tail = tail
+lesser-self : (a : List ℕ) → lesser a a ≡ a
+lesser-self a = self_at (slice_cmp nat_cmp a a) a
 
--- of ascending keys, the least that passes is the first
-pub least-filter : (test : List ℕ → Bool) (ks : List (String Global)) → IsStrictlySortedBy string_cmp ks
-    → least (filter test (map string_bytes ks)) ≡ find test (map string_bytes ks)
-least-filter test [] ordered = refl
-least-filter test (k ∷ ks) ordered =
-    first (test (string_bytes k)) (string_bytes k) (filter test (map string_bytes ks)) (find test (map string_bytes ks))
-    (fold-lesser test (string_bytes k) ks (sorted_head string_cmp k ks ordered)) (least-filter test ks (sorted_tail string_cmp k ks ordered))
+swap_at : (o : Ordering) (a b : List ℕ) → slice_cmp nat_cmp a b ≡ o → lesser a b ≡ lesser b a
+swap_at Less a b e = rw (e, reversed a b Less e) refl
+swap_at Equal a b e = rw (e, reversed a b Equal e) (same_text a b e)
+swap_at Greater a b e = rw (e, reversed a b Greater e) refl
+
+lesser-swap : (a b : List ℕ) → lesser a b ≡ lesser b a
+lesser-swap a b = swap_at _ a b refl
+
+above : (a b c : List ℕ) → slice_cmp nat_cmp a b ≡ Greater → slice_cmp nat_cmp b c ≡ Greater → slice_cmp nat_cmp a c ≡ Greater
+above a b c e f = reversed c a Less (nat_list_cmp_total.trans c b a (reversed b c Greater f) (reversed a b Greater e))
+
+twice_at : (o : Ordering) (a b : List ℕ) → slice_cmp nat_cmp a b ≡ o → lesser a (lesser a b) ≡ lesser a b
+twice_at Less a b e = rw e (lesser-self a)
+twice_at Equal a b e = rw e (lesser-self a)
+twice_at Greater a b e = rw (e, e) refl
+
+lesser-twice : (a b : List ℕ) → lesser a (lesser a b) ≡ lesser a b
+lesser-twice a b = twice_at _ a b refl
+
+grouped_at : (o p : Ordering) (a b c : List ℕ) → slice_cmp nat_cmp a b ≡ o → slice_cmp nat_cmp b c ≡ p → lesser (lesser a b) c ≡ lesser a (lesser b c)
+grouped_at Less Less a b c e f = rw (e, f, nat_list_cmp_total.trans a b c e f, e) refl
+grouped_at Less Equal a b c e f = rw (e, f) (ap (lesser a) (sym (same_text b c f)))
+grouped_at Less Greater a b c e f = rw (e, f) refl
+grouped_at Equal p a b c e f =
+    let first : lesser a b ≡ a = rw e refl in
+    ap (λ x. lesser x c) first ∙ sym (lesser-twice a c) ∙ ap (λ x. lesser a (lesser x c)) (same_text a b e)
+grouped_at Greater Less a b c e f = rw (e, f, e) refl
+grouped_at Greater Equal a b c e f = rw (e, f, e) refl
+grouped_at Greater Greater a b c e f = rw (e, f, above a b c e f) refl
+
+lesser-grouped : (a b c : List ℕ) → lesser (lesser a b) c ≡ lesser a (lesser b c)
+lesser-grouped a b c = grouped_at _ _ a b c refl refl
+
+-- ---- the least of a list
+
+fold-lesser : (a b : List ℕ) (texts : List (List ℕ)) → fold lesser (lesser a b) texts ≡ lesser a (fold lesser b texts)
+fold-lesser a b [] = refl
+fold-lesser a b (x ∷ xs) = ap (λ y. fold lesser y xs) (lesser-grouped a b x) ∙ fold-lesser a (lesser b x) xs
+
+fold-picked : (a : List ℕ) (texts : List (List ℕ)) → fold lesser a texts ≡ picked a (least texts)
+fold-picked a [] = refl
+fold-picked a (x ∷ xs) = fold-lesser a x xs
+
+picked-swap : (a b : List ℕ) (best : Option (List ℕ)) → picked a (Some (picked b best)) ≡ picked b (Some (picked a best))
+picked-swap a b None = lesser-swap a b
+picked-swap a b (Some c) = sym (lesser-grouped a b c) ∙ ap (λ x. lesser x c) (lesser-swap a b) ∙ lesser-grouped b a c
+
+picked-twice : (a : List ℕ) (best : Option (List ℕ)) → picked a best ≡ picked a (Some (picked a best))
+picked-twice a None = sym (lesser-self a)
+picked-twice a (Some b) = sym (lesser-twice a b)
+
+-- the least past one text more
+abbrev past : Bool → List ℕ → Option (List ℕ) → Option (List ℕ)
+past passes text best = cond passes (Some (picked text best)) best
+
+first : (passes : Bool) (text : List ℕ) (texts : List (List ℕ)) → least (cond passes (text ∷ texts) texts) ≡ past passes text (least texts)
+first true text texts = ap Some (fold-picked text texts)
+first false text texts = refl
+
+past-swap : (p q : Bool) (a b : List ℕ) (best : Option (List ℕ)) → past p a (past q b best) ≡ past q b (past p a best)
+past-swap true true a b best = ap Some (picked-swap a b best)
+past-swap true false a b best = refl
+past-swap false true a b best = refl
+past-swap false false a b best = refl
+
+past-twice : (p : Bool) (a : List ℕ) (best : Option (List ℕ)) → past p a best ≡ past p a (past p a best)
+past-twice true a best = ap Some (picked-twice a best)
+past-twice false a best = refl
+
+-- ---- the least key
+
+module _ (test : List ℕ → Bool) where
+  abbrev least_in : Members → Option (List ℕ)
+  least_in ms = least (filter test (keys_of ms))
+
+  least-put_at : (o : Ordering) (k l : List ℕ) (d e : Data) (ms : Members) → slice_cmp nat_cmp k l ≡ o → least_in (put k d ms) ≡ past (test k) k (least_in ms)
+      → least_in (match_ordering o (member k d (member l e ms)) (member l d ms) (member l e (put k d ms))) ≡ past (test k) k (least_in (member l e ms))
+  least-put_at Less k l d e ms is rest = first (test k) k (filter test (keys_of (member l e ms)))
+  least-put_at Equal k l d e ms is rest =
+      let here = first (test l) l (filter test (keys_of ms)) in
+      here ∙ past-twice (test l) l (least_in ms) ∙ ap (past (test l) l) (sym here) ∙ ap (λ text. past (test text) text (least_in (member l e ms))) (sym (same_text k l is))
+  least-put_at Greater k l d e ms is rest =
+      first (test l) l (filter test (keys_of (put k d ms))) ∙ ap (past (test l) l) rest ∙ past-swap (test l) (test k) l k (least_in ms)
+      ∙ ap (past (test k) k) (sym (first (test l) l (filter test (keys_of ms))))
+
+  least-put : (k : List ℕ) (d : Data) (ms : Members) → least_in (put k d ms) ≡ past (test k) k (least_in ms)
+  least-put k d no_members = first (test k) k []
+  least-put k d (member l e ms) = least-put_at _ k l d e ms refl (least-put k d ms)
+
+  -- the least key is that which a walk over the members finds
+  pub least-members : (ms : List (Bor (List ℕ) × Value Global)) (found : Members)
+      → least (filter test (keys_of (members_in (json_members ms) found))) ≡ least_past test (least (filter test (keys_of found))) (map (λ m. m.0.now) ms)
+  least-members [] found = refl
+  least-members (m ∷ ms) found =
+      least-members ms (put m.0.now (view m.1) found)
+      ∙ ap (λ best. least_past test best (map (λ m. m.0.now) ms)) (least-put m.0.now (view m.1) found)

@@ -1,3 +1,5 @@
+pub mod NumberLemmas
+pub mod TreeLemmas
 pub mod Values
 pub mod Walks
 pub mod Keys

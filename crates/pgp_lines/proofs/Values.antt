@@ -1,17 +1,18 @@
 -- The value of a line's bytes.
-use Rattle.std.proofs.Common.{◌≡◌, ◌≢◌, ℕ, ◌<◌, ◌≤◌, List, [], ◌∷◌, length, map, Bool, true, false, Option, Some, None, refl, ap, sym, ◌∙◌, arith}
+use Rattle.std.proofs.Common.{◌≡◌, ◌≢◌, ℕ, ◌<◌, ◌≤◌, List, [], ◌∷◌, length, map, Bool, true, false, Option, Some, None, Global, refl, ap, sym, ◌∙◌, arith}
 use Rattle.std.proofs.lemmas.Bool.Decides.{nat_tests}
 use Rattle.std.proofs.lemmas.List.{length-map}
 use Rattle.std.specs.Prelude.{if◌then◌else◌}
 use Rattle.std.specs.Str.{IsUtf8, is_utf8}
-use Rattle.std.proofs.lemmas.Str.{IsUtf8-from_is_utf8}
+use Rattle.std.proofs.lemmas.Str.{IsUtf8-from_is_utf8, is_utf8-from_IsUtf8}
 use Rattle.serde_json.specs.Data.{Data}
 use Rattle.serde_json.specs.Read.{read}
 use Rattle.serde_json.specs.Find.{as_array}
-use Rattle.serde_json.specs.View.{view, items_of, items_view}
-use Rattle.serde_json.specs.declared.value.Value.{Value}
+use Rattle.serde_json.specs.View.{items_of}
+use Rattle.json.specs.declared.value.Value.{Value}
 use Rattle.pgp_lines.specs.Shapes.{is_between, items_list, items_in, two_of, pair_in, three_of, triple_in, each, list_in, list_of}
 use Rattle.pgp_lines.specs.ReportParts.{log_entry_of, log_entry_in}
+use Rattle.pgp_lines.specs.Tree.{view, items_view}
 use Rattle.pgp_lines.specs.Command.{data_of}
 
 refused_at : (b : Bool) (bytes : List ℕ) → is_utf8 bytes ≡ b → (IsUtf8 bytes → read bytes ≡ None) → (if b then read bytes else None) ≡ None
@@ -21,6 +22,10 @@ refused_at false bytes e none = refl
 -- bytes that are refused are no text, or the text has no value
 pub data_of-refused : (bytes : List ℕ) → (IsUtf8 bytes → read bytes ≡ None) → data_of bytes ≡ None
 data_of-refused bytes none = refused_at (is_utf8 bytes) bytes refl none
+
+-- the value of bytes that are a text
+pub data_of-text : (bytes : List ℕ) → IsUtf8 bytes → data_of bytes ≡ read bytes
+data_of-text bytes text = rw (is_utf8-from_IsUtf8 bytes text) refl
 
 -- an array's items, as the code sees them
 pub items_list-items_of : (ds : List Data) → items_list (items_of ds) ≡ ds
@@ -37,16 +42,16 @@ pub is_between-below : (low high n : ℕ) → n < low → is_between low high n 
 is_between-below low high n below = grind (arith, nat_tests)
 
 -- a list, by the values of its array
-pub list_in-array : {A : Type 0} (low high : ℕ) (shape : Data → Option A) (d : Data) (values : List Value) → as_array d ≡ Some (items_view values)
+pub list_in-array : {A : Type 0} (low high : ℕ) (shape : Data → Option A) (d : Data) (values : List (Value Global)) → as_array d ≡ Some (items_view values)
     → list_in low high shape d ≡ (if is_between low high (length values) then each shape (map view values) else None)
 list_in-array low high shape d values e = rw (e, items_list-items_of, length-map) refl
 
 -- the items of an array
-pub items_in-array : (d : Data) (values : List Value) → as_array d ≡ Some (items_view values) → items_in d ≡ Some (map view values)
+pub items_in-array : (d : Data) (values : List (Value Global)) → as_array d ≡ Some (items_view values) → items_in d ≡ Some (map view values)
 items_in-array d values e = rw (e, items_list-items_of) refl
 
 -- a list of any length, by the values of its array
-pub list_of-array : {A : Type 0} (shape : Data → Option A) (d : Data) (values : List Value) → as_array d ≡ Some (items_view values)
+pub list_of-array : {A : Type 0} (shape : Data → Option A) (d : Data) (values : List (Value Global)) → as_array d ≡ Some (items_view values)
     → list_of shape d ≡ each shape (map view values)
 list_of-array shape d values e = rw (items_in-array d values e) refl
 
@@ -57,7 +62,7 @@ two_of-other (a ∷ b ∷ []) other = absurd (other refl)
 two_of-other (a ∷ b ∷ c ∷ ds) other = refl
 
 -- an array of another length is no pair
-pub pair_in-other : (d : Data) (values : List Value) → as_array d ≡ Some (items_view values) → length values ≢ 2 → pair_in d ≡ None
+pub pair_in-other : (d : Data) (values : List (Value Global)) → as_array d ≡ Some (items_view values) → length values ≢ 2 → pair_in d ≡ None
 pair_in-other d values e other =
     let same : length (map view values) ≡ length values = rw length-map in
     rw (items_in-array d values e) (two_of-other (map view values) (λ two. other (sym same ∙ two)))
@@ -70,7 +75,7 @@ three_of-other (a ∷ b ∷ c ∷ []) other = absurd (other refl)
 three_of-other (a ∷ b ∷ c ∷ d ∷ ds) other = refl
 
 -- an array of another length is no triple
-pub triple_in-other : (d : Data) (values : List Value) → as_array d ≡ Some (items_view values) → length values ≢ 3 → triple_in d ≡ None
+pub triple_in-other : (d : Data) (values : List (Value Global)) → as_array d ≡ Some (items_view values) → length values ≢ 3 → triple_in d ≡ None
 triple_in-other d values e other =
     let same : length (map view values) ≡ length values = rw length-map in
     rw (items_in-array d values e) (three_of-other (map view values) (λ three. other (sym same ∙ three)))
@@ -84,7 +89,7 @@ log_entry_of-other (a ∷ b ∷ c ∷ d ∷ []) other = absurd (other refl)
 log_entry_of-other (a ∷ b ∷ c ∷ d ∷ e ∷ ds) other = refl
 
 -- an array of another length is no log entry
-pub log_entry_in-other : (d : Data) (values : List Value) → as_array d ≡ Some (items_view values) → length values ≢ 4 → log_entry_in d ≡ None
+pub log_entry_in-other : (d : Data) (values : List (Value Global)) → as_array d ≡ Some (items_view values) → length values ≢ 4 → log_entry_in d ≡ None
 log_entry_in-other d values e other =
     let same : length (map view values) ≡ length values = rw length-map in
     rw (items_in-array d values e) (log_entry_of-other (map view values) (λ four. other (sym same ∙ four)))

@@ -1,5 +1,6 @@
 pub mod LineFault
 pub mod Shapes
+pub mod Tree
 pub mod Ids
 pub mod Devices
 pub mod Pools

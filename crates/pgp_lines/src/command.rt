@@ -1,6 +1,9 @@
 //! What a line says: the command that it is, or its first fault.
 ghost use Rattle.std.specs.Prelude.{◌≡◌, map, IfOk, IfErr, IfSome};
-ghost use Rattle.serde_json.specs.View.{view};
+ghost use Rattle.pgp_lines.specs.Tree.{view};
+ghost use Rattle.json.specs.Json.{value};
+ghost use Rattle.json.specs.Value.{value_view};
+ghost use Rattle.serde_json.specs.Read.{max_depth, read};
 ghost use Rattle.pgp_lines.specs.LineFault.{told, not_json};
 ghost use Rattle.pgp_lines.specs.Command.{op_in, op_keys, trace_of, command_with, command_in, data_of, command_of, IsInRange};
 
@@ -14,23 +17,30 @@ mod info;
 mod lists;
 mod locate;
 mod members;
+mod number;
 mod numbers;
 mod objects;
 mod pools;
 mod trace;
+mod tree;
 
 use entries::read_entries;
 use faults::{bad_field_fault, unknown_key_fault};
 use fields::read_required;
 use incremental::read_inc;
 use info::read_info;
+use json::{Error, Reader, Scratch};
 use locate::read_locate;
 use objects::unknown_key;
 use pgp_ids::{Entry, EpochState, ObjectName, PgId, PoolId, PoolKind, Seq, TextFault};
-use serde_json::{Category, Value};
+use simdutf8::compat::from_utf8;
 use std::alloc::Global;
 pub use trace::MAX_EPOCHS;
 use trace::{has_empty_places, read_code, read_epochs};
+use tree::{Value, as_str, get, has_numbers};
+
+/// How deep a line's arrays and objects nest at most.
+const MAX_DEPTH: usize = 127;
 
 /// What a line asks for.
 #[derive(Debug, Drop)]
@@ -74,27 +84,93 @@ pub fn read_line(alloc: Global, line: &[u8]) -> Result<Command, TextFault>
     ensures err { IfErr result (λ fault. IfSome (told fault) (λ f. command_of line.now ≡ Err f)) }
     ensures in_range { IfOk result IsInRange }
 {
-    let value = read_json(alloc, line)?;
-    read_command(alloc, &value)
+    LineReader::new(alloc).read(alloc, line)
+}
+
+/// Reads lines one after the other, with room that it keeps from line to line.
+pub struct LineReader {
+    room: Scratch,
+}
+
+impl Drop for LineReader {
+    fn drop(self) {
+        let LineReader { room: _ } = self;
+    }
+}
+
+impl LineReader {
+    pub fn new(alloc: Global) -> LineReader {
+        LineReader {
+            room: Scratch::new(alloc),
+        }
+    }
+
+    /// Reads a line as [`read_line`] does.
+    pub fn read(&mut self, alloc: Global, line: &[u8]) -> Result<Command, TextFault>
+        ensures ok { IfOk result (λ command. command_of line.now ≡ Ok command) }
+        ensures err { IfErr result
+            (λ fault. IfSome (told fault) (λ f. command_of line.now ≡ Err f)) }
+        ensures in_range { IfOk result IsInRange }
+    {
+        let value = read_json(alloc, line, &mut self.room)?;
+        read_command(alloc, &value)
+    }
 }
 
 /// The value of a JSON text (RFC 8259, nested at most 127 deep), or `NotJson`.
-fn read_json(alloc: Global, line: &[u8]) -> Result<Value, TextFault>
+fn read_json<'a>(
+    alloc: Global,
+    line: &'a [u8],
+    room: &'a mut Scratch,
+) -> Result<Value<'a>, TextFault>
     ensures ok { IfOk result (λ v. data_of line.now ≡ Some (view v)) }
     ensures err { IfErr result
         (λ fault. IfSome (told fault) (λ f. (data_of line.now ≡ None) × (f ≡ not_json))) }
 {
-    match Value::from_slice(alloc, line) {
+    match from_utf8(line) {
+        Ok(text) => read_text(alloc, text, room),
+        Err(_) => Err(TextFault::NotJson),
+    }
+}
+
+/// The value of a text.
+fn read_text<'a>(
+    alloc: Global,
+    text: &'a str,
+    room: &'a mut Scratch,
+) -> Result<Value<'a>, TextFault>
+    ensures ok { IfOk result (λ v. read text.now ≡ Some (view v)) }
+    ensures err { IfErr result
+        (λ fault. IfSome (told fault) (λ f. (read text.now ≡ None) × (f ≡ not_json))) }
+{
+    let Ok(mut reader) = Reader::new(text, room) else {
+        return Err(TextFault::Memory);
+    };
+    let value = read_value(alloc, &mut reader)?;
+    if reader.next().is_some() {
+        return Err(TextFault::NotJson);
+    }
+    if !has_numbers(&value) {
+        return Err(TextFault::NotJson);
+    }
+    Ok(value)
+}
+
+/// The first value that the reader tells of, its numbers not judged.
+fn read_value<'a>(alloc: Global, reader: &mut Reader<'a>) -> Result<Value<'a>, TextFault>
+    ensures ok { IfOk result (λ v. value max_depth reader.old ≡ Some (value_view v, reader.new)) }
+    ensures err { IfErr result
+        (λ fault. IfSome (told fault) (λ f. (value max_depth reader.old ≡ None) × (f ≡ not_json))) }
+{
+    match Value::read(alloc, reader, MAX_DEPTH) {
         Ok(value) => Ok(value),
-        Err(error) => match error.classify() {
-            Category::Memory => Err(TextFault::Memory),
-            _ => Err(TextFault::NotJson),
-        },
+        Err(Error::OutOfMemory) => Err(TextFault::Memory),
+        Err(_) => Err(TextFault::NotJson),
     }
 }
 
 /// The command of an object. The operation is judged first, then the keys, then their values.
-fn read_command(alloc: Global, value: &Value) -> Result<Command, TextFault>
+fn read_command(alloc: Global, value: &Value<'_>) -> Result<Command, TextFault>
     ensures ok { IfOk result (λ command. command_in (view value.now) ≡ Ok command) }
     ensures err { IfErr result
         (λ fault. IfSome (told fault) (λ f. command_in (view value.now) ≡ Err f)) }
@@ -109,7 +185,7 @@ fn read_command(alloc: Global, value: &Value) -> Result<Command, TextFault>
 }
 
 /// The command of a line of this operation, past the judgement of its keys.
-fn read_values(alloc: Global, op: Op, value: &Value) -> Result<Command, TextFault>
+fn read_values(alloc: Global, op: Op, value: &Value<'_>) -> Result<Command, TextFault>
     ensures ok { IfOk result (λ command. command_with op (view value.now) ≡ Ok command) }
     ensures err { IfErr result
         (λ fault. IfSome (told fault) (λ f. command_with op (view value.now) ≡ Err f)) }
@@ -141,10 +217,10 @@ fn read_values(alloc: Global, op: Op, value: &Value) -> Result<Command, TextFaul
 }
 
 /// The operation that the text at `op` names.
-fn read_op(value: &Value) -> Option<Op>
+fn read_op(value: &Value<'_>) -> Option<Op>
     ensures { result ≡ op_in (view value.now) }
 {
-    match value.get("op")?.as_str()? {
+    match as_str(get(value, "op")?)? {
         "ask" => Some(Op::Ask),
         "close" => Some(Op::Close),
         "entries" => Some(Op::Entries),
@@ -187,7 +263,7 @@ impl Op {
 }
 
 /// The values of a trace, `code` first: whether a place may be empty depends on it.
-fn read_trace(alloc: Global, value: &Value) -> Result<Command, TextFault>
+fn read_trace(alloc: Global, value: &Value<'_>) -> Result<Command, TextFault>
     ensures ok { IfOk result (λ command. trace_of (view value.now) ≡ Ok command) }
     ensures err { IfErr result
         (λ fault. IfSome (told fault) (λ f. trace_of (view value.now) ≡ Err f)) }
@@ -195,7 +271,7 @@ fn read_trace(alloc: Global, value: &Value) -> Result<Command, TextFault>
     let Some(code) = read_code(value) else {
         return Err(bad_field_fault(alloc, "code"));
     };
-    let found = match value.get("epochs") {
+    let found = match get(value, "epochs") {
         Some(epochs) => read_epochs(alloc, epochs, has_empty_places(code))?,
         None => None,
     };

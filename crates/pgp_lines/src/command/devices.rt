@@ -1,19 +1,19 @@
 //! What a map incremental says of devices.
 ghost use Rattle.std.specs.Prelude.{◌≡◌, true};
-ghost use Rattle.serde_json.specs.View.{view};
+ghost use Rattle.pgp_lines.specs.Tree.{view};
 ghost use Rattle.pgp_lines.specs.Ids.{osd_in, place_in};
 ghost use Rattle.pgp_lines.specs.Devices.{device_weight_in, device_epoch_in};
 
 use super::lists::{Shape, read_pair};
 use super::numbers::{read_epoch, read_osd, read_place, read_word};
+use super::tree::Value;
 use pgp_ids::{DeviceEpoch, DeviceWeight, OsdId};
-use serde_json::Value;
 use std::alloc::{AllocError, Global};
 
 impl Shape for OsdId {
     ghost shape = { osd_in };
 
-    fn read(_alloc: Global, value: &Value) -> Result<Option<OsdId>, AllocError> {
+    fn read(_alloc: Global, value: &Value<'_>) -> Result<Option<OsdId>, AllocError> {
         Ok(read_osd(value))
     }
 }
@@ -21,7 +21,7 @@ impl Shape for OsdId {
 impl Shape for Option<OsdId> {
     ghost shape = { place_in true };
 
-    fn read(_alloc: Global, value: &Value) -> Result<Option<Option<OsdId>>, AllocError> {
+    fn read(_alloc: Global, value: &Value<'_>) -> Result<Option<Option<OsdId>>, AllocError> {
         Ok(read_place(value, true))
     }
 }
@@ -29,7 +29,7 @@ impl Shape for Option<OsdId> {
 impl Shape for DeviceWeight {
     ghost shape = { device_weight_in };
 
-    fn read(_alloc: Global, value: &Value) -> Result<Option<DeviceWeight>, AllocError> {
+    fn read(_alloc: Global, value: &Value<'_>) -> Result<Option<DeviceWeight>, AllocError> {
         Ok(read_device_weight(value))
     }
 }
@@ -37,13 +37,13 @@ impl Shape for DeviceWeight {
 impl Shape for DeviceEpoch {
     ghost shape = { device_epoch_in };
 
-    fn read(_alloc: Global, value: &Value) -> Result<Option<DeviceEpoch>, AllocError> {
+    fn read(_alloc: Global, value: &Value<'_>) -> Result<Option<DeviceEpoch>, AllocError> {
         Ok(read_device_epoch(value))
     }
 }
 
 /// `[device, weight]`.
-fn read_device_weight(value: &Value) -> Option<DeviceWeight>
+fn read_device_weight(value: &Value<'_>) -> Option<DeviceWeight>
     ensures { result ≡ device_weight_in (view value.now) }
 {
     let (osd, weight) = read_pair(value)?;
@@ -54,7 +54,7 @@ fn read_device_weight(value: &Value) -> Option<DeviceWeight>
 }
 
 /// `[device, epoch]`.
-fn read_device_epoch(value: &Value) -> Option<DeviceEpoch>
+fn read_device_epoch(value: &Value<'_>) -> Option<DeviceEpoch>
     ensures { result ≡ device_epoch_in (view value.now) }
 {
     let (osd, epoch) = read_pair(value)?;

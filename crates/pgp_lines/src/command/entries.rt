@@ -1,6 +1,6 @@
 //! The line of a part of a member's log.
 ghost use Rattle.std.specs.Prelude.{◌≡◌, [], ◌∷◌, Ok, Err, IfOk, IfErr, IfSome};
-ghost use Rattle.serde_json.specs.View.{view};
+ghost use Rattle.pgp_lines.specs.Tree.{view};
 ghost use Rattle.pgp_lines.specs.LineFault.{told};
 ghost use Rattle.pgp_lines.specs.Shapes.{list_in};
 ghost use Rattle.pgp_lines.specs.ReportParts.{change_in, log_entry_of, log_entry_in};
@@ -9,8 +9,8 @@ ghost use Rattle.pgp_lines.specs.Reports.{entries_of};
 use super::fields::read_required;
 use super::lists::{Shape, read_each};
 use super::members::version_of;
+use super::tree::{Value, as_array, as_str};
 use pgp_ids::{Change, LogEntry, ObjectName, Report, Seq, TextFault};
-use serde_json::Value;
 use std::alloc::{AllocError, Global};
 
 /// How many log entries a line has at most.
@@ -20,8 +20,8 @@ const MAX_LOG_ENTRIES: usize = 256;
 impl Shape for Seq<LogEntry> {
     ghost shape = { list_in 1 256 log_entry_in };
 
-    fn read(alloc: Global, value: &Value) -> Result<Option<Seq<LogEntry>>, AllocError> {
-        let Some(entries) = value.as_array() else {
+    fn read(alloc: Global, value: &Value<'_>) -> Result<Option<Seq<LogEntry>>, AllocError> {
+        let Some(entries) = as_array(value) else {
             return Ok(None);
         };
         if entries.is_empty() || entries.len() > MAX_LOG_ENTRIES {
@@ -35,8 +35,8 @@ impl Shape for Seq<LogEntry> {
 impl Shape for LogEntry {
     ghost shape = { log_entry_in };
 
-    fn read(alloc: Global, value: &Value) -> Result<Option<LogEntry>, AllocError> {
-        let Some(parts) = value.as_array() else {
+    fn read(alloc: Global, value: &Value<'_>) -> Result<Option<LogEntry>, AllocError> {
+        let Some(parts) = as_array(value) else {
             return Ok(None);
         };
         match parts.as_slice() {
@@ -48,7 +48,7 @@ impl Shape for LogEntry {
 
 /// The log entries of a line whose keys are known. They are read in ascending byte order, so that the least bad one is
 /// told.
-pub(super) fn read_entries(alloc: Global, value: &Value) -> Result<Report, TextFault>
+pub(super) fn read_entries(alloc: Global, value: &Value<'_>) -> Result<Report, TextFault>
     ensures ok { IfOk result (λ report. entries_of (view value.now) ≡ Ok report) }
     ensures err { IfErr result
         (λ fault. IfSome (told fault) (λ f. entries_of (view value.now) ≡ Err f)) }
@@ -68,10 +68,10 @@ pub(super) fn read_entries(alloc: Global, value: &Value) -> Result<Report, TextF
 /// The log entry of these parts.
 fn log_entry_of(
     alloc: Global,
-    epoch: &Value,
-    v: &Value,
-    change: &Value,
-    name: &Value,
+    epoch: &Value<'_>,
+    v: &Value<'_>,
+    change: &Value<'_>,
+    name: &Value<'_>,
 ) -> Result<Option<LogEntry>, AllocError>
     ensures { IfOk result (λ found. found
         ≡ log_entry_of (view epoch.now ∷ view v.now ∷ view change.now ∷ view name.now ∷ [])) }
@@ -92,10 +92,10 @@ fn log_entry_of(
     }
 }
 
-fn read_change(value: &Value) -> Option<Change>
+fn read_change(value: &Value<'_>) -> Option<Change>
     ensures { result ≡ change_in (view value.now) }
 {
-    match value.as_str()? {
+    match as_str(value)? {
         "modify" => Some(Change::Modify),
         "delete" => Some(Change::Delete),
         _ => None,

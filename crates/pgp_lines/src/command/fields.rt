@@ -1,26 +1,26 @@
 //! The values that a line must have.
 ghost use Rattle.std.specs.Prelude.{◌≡◌, Ok, Err, IfOk, IfErr, IfSome};
-ghost use Rattle.serde_json.specs.View.{view};
+ghost use Rattle.pgp_lines.specs.Tree.{view};
 ghost use Rattle.pgp_lines.specs.LineFault.{told};
 ghost use Rattle.pgp_lines.specs.Shapes.{required};
 
 use super::faults::bad_field_fault;
 use super::lists::Shape;
+use super::tree::{Value, get};
 use pgp_ids::TextFault;
-use serde_json::Value;
 use std::alloc::Global;
 
 /// The value that a line must have at a key, or `BadField` of the key.
 pub(super) fn read_required<T: Shape + Drop>(
     alloc: Global,
-    value: &Value,
+    value: &Value<'_>,
     key: &str,
 ) -> Result<T, TextFault>
     ensures ok { IfOk result (λ found. required key.now T.shape (view value.now) ≡ Ok found) }
     ensures err { IfErr result
         (λ fault. IfSome (told fault) (λ f. required key.now T.shape (view value.now) ≡ Err f)) }
 {
-    let found = match value.get(key) {
+    let found = match get(value, key) {
         Some(field) => T::read(alloc, field)?,
         None => None,
     };

@@ -1,16 +1,16 @@
 //! The line of a member's info.
 ghost use Rattle.std.specs.Prelude.{◌≡◌, Ok, Err, IfOk, IfErr, IfSome};
-ghost use Rattle.serde_json.specs.View.{view};
+ghost use Rattle.pgp_lines.specs.Tree.{view};
 ghost use Rattle.pgp_lines.specs.LineFault.{told};
 ghost use Rattle.pgp_lines.specs.Reports.{reach_of, info_of};
 
 use super::fields::read_required;
+use super::tree::Value;
 use pgp_ids::{Epoch, Info, TextFault, Version};
-use serde_json::Value;
 use std::alloc::Global;
 
 /// The info of a line whose keys are known. They are read in ascending byte order, so that the least bad one is told.
-pub(super) fn read_info(alloc: Global, value: &Value) -> Result<Info, TextFault>
+pub(super) fn read_info(alloc: Global, value: &Value<'_>) -> Result<Info, TextFault>
     ensures ok { IfOk result (λ info. info_of (view value.now) ≡ Ok info) }
     ensures err { IfErr result
         (λ fault. IfSome (told fault) (λ f. info_of (view value.now) ≡ Err f)) }
@@ -41,7 +41,7 @@ struct Reach {
     log_tail: Version,
 }
 
-fn read_reach(alloc: Global, value: &Value) -> Result<Reach, TextFault>
+fn read_reach(alloc: Global, value: &Value<'_>) -> Result<Reach, TextFault>
     ensures ok { IfOk result (λ reach. reach_of (view value.now) ≡ Ok reach) }
     ensures err { IfErr result
         (λ fault. IfSome (told fault) (λ f. reach_of (view value.now) ≡ Err f)) }

@@ -1,6 +1,6 @@
 //! The line that asks where an object lies.
 ghost use Rattle.std.specs.Prelude.{◌≡◌, Ok, Err, IfOk, IfErr, IfSome};
-ghost use Rattle.serde_json.specs.View.{view};
+ghost use Rattle.pgp_lines.specs.Tree.{view};
 ghost use Rattle.pgp_lines.specs.LineFault.{told};
 ghost use Rattle.pgp_lines.specs.Ids.{pool_id_in};
 ghost use Rattle.pgp_lines.specs.ReportParts.{name_in};
@@ -9,14 +9,14 @@ ghost use Rattle.pgp_lines.specs.Reports.{locate_of};
 use super::fields::read_required;
 use super::lists::Shape;
 use super::numbers::read_pool_id;
+use super::tree::{Value, as_str};
 use pgp_ids::{ObjectName, PoolId, TextFault};
-use serde_json::Value;
 use std::alloc::{AllocError, Global};
 
 impl Shape for PoolId {
     ghost shape = { pool_id_in };
 
-    fn read(_alloc: Global, value: &Value) -> Result<Option<PoolId>, AllocError> {
+    fn read(_alloc: Global, value: &Value<'_>) -> Result<Option<PoolId>, AllocError> {
         Ok(read_pool_id(value))
     }
 }
@@ -25,8 +25,8 @@ impl Shape for PoolId {
 impl Shape for ObjectName {
     ghost shape = { name_in };
 
-    fn read(alloc: Global, value: &Value) -> Result<Option<ObjectName>, AllocError> {
-        let Some(name) = value.as_str() else {
+    fn read(alloc: Global, value: &Value<'_>) -> Result<Option<ObjectName>, AllocError> {
+        let Some(name) = as_str(value) else {
             return Ok(None);
         };
         if name.is_empty() || name.len() > ObjectName::MAX_LEN {
@@ -38,7 +38,10 @@ impl Shape for ObjectName {
 }
 
 /// The pool and the name of an object. The keys are read in ascending byte order, so that the least bad one is told.
-pub(super) fn read_locate(alloc: Global, value: &Value) -> Result<(PoolId, ObjectName), TextFault>
+pub(super) fn read_locate(
+    alloc: Global,
+    value: &Value<'_>,
+) -> Result<(PoolId, ObjectName), TextFault>
     ensures ok { IfOk result (λ object. locate_of (view value.now) ≡ Ok object) }
     ensures err { IfErr result
         (λ fault. IfSome (told fault) (λ f. locate_of (view value.now) ≡ Err f)) }

@@ -1,14 +1,14 @@
 //! Groups, their members, and the versions of their writes.
 ghost use Rattle.std.specs.Prelude.{◌≡◌};
 ghost use Rattle.serde_json.specs.Find.{as_bool};
-ghost use Rattle.serde_json.specs.View.{view};
+ghost use Rattle.pgp_lines.specs.Tree.{view};
 ghost use Rattle.pgp_lines.specs.Ids.{word_in};
 ghost use Rattle.pgp_lines.specs.ReportParts.{pg_in, member_in, version_of, version_in};
 
 use super::lists::{Shape, read_pair};
 use super::numbers::{read_epoch, read_group, read_number, read_osd, read_word};
+use super::tree::{Value, as_bool};
 use pgp_ids::{Epoch, Member, PgId, Version};
-use serde_json::Value;
 use std::alloc::{AllocError, Global};
 
 /// The greatest slot of a member in its group.
@@ -17,15 +17,15 @@ const MAX_SLOT: u64 = 15;
 impl Shape for bool {
     ghost shape = { as_bool };
 
-    fn read(_alloc: Global, value: &Value) -> Result<Option<bool>, AllocError> {
-        Ok(value.as_bool())
+    fn read(_alloc: Global, value: &Value<'_>) -> Result<Option<bool>, AllocError> {
+        Ok(as_bool(value))
     }
 }
 
 impl Shape for Epoch {
     ghost shape = { word_in };
 
-    fn read(_alloc: Global, value: &Value) -> Result<Option<Epoch>, AllocError> {
+    fn read(_alloc: Global, value: &Value<'_>) -> Result<Option<Epoch>, AllocError> {
         Ok(read_epoch(value))
     }
 }
@@ -33,7 +33,7 @@ impl Shape for Epoch {
 impl Shape for PgId {
     ghost shape = { pg_in };
 
-    fn read(_alloc: Global, value: &Value) -> Result<Option<PgId>, AllocError> {
+    fn read(_alloc: Global, value: &Value<'_>) -> Result<Option<PgId>, AllocError> {
         Ok(read_pg(value))
     }
 }
@@ -41,7 +41,7 @@ impl Shape for PgId {
 impl Shape for Member {
     ghost shape = { member_in };
 
-    fn read(_alloc: Global, value: &Value) -> Result<Option<Member>, AllocError> {
+    fn read(_alloc: Global, value: &Value<'_>) -> Result<Option<Member>, AllocError> {
         Ok(read_member(value))
     }
 }
@@ -49,13 +49,13 @@ impl Shape for Member {
 impl Shape for Version {
     ghost shape = { version_in };
 
-    fn read(_alloc: Global, value: &Value) -> Result<Option<Version>, AllocError> {
+    fn read(_alloc: Global, value: &Value<'_>) -> Result<Option<Version>, AllocError> {
         Ok(read_version(value))
     }
 }
 
 /// `[pool, pg]`.
-fn read_pg(value: &Value) -> Option<PgId>
+fn read_pg(value: &Value<'_>) -> Option<PgId>
     ensures { result ≡ pg_in (view value.now) }
 {
     let (pool, pg) = read_pair(value)?;
@@ -63,7 +63,7 @@ fn read_pg(value: &Value) -> Option<PgId>
 }
 
 /// `[device, slot]`, the slot from 0 to 15.
-fn read_member(value: &Value) -> Option<Member>
+fn read_member(value: &Value<'_>) -> Option<Member>
     ensures { result ≡ member_in (view value.now) }
 {
     let (osd, slot) = read_pair(value)?;
@@ -76,7 +76,7 @@ fn read_member(value: &Value) -> Option<Member>
 }
 
 /// `[epoch, v]`.
-fn read_version(value: &Value) -> Option<Version>
+fn read_version(value: &Value<'_>) -> Option<Version>
     ensures { result ≡ version_in (view value.now) }
 {
     let (epoch, v) = read_pair(value)?;
@@ -84,7 +84,7 @@ fn read_version(value: &Value) -> Option<Version>
 }
 
 /// The version of these parts.
-pub(super) fn version_of(epoch: &Value, v: &Value) -> Option<Version>
+pub(super) fn version_of(epoch: &Value<'_>, v: &Value<'_>) -> Option<Version>
     ensures { result ≡ version_of (view epoch.now) (view v.now) }
 {
     Some(Version {

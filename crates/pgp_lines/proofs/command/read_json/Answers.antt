@@ -1,12 +1,21 @@
-use Rattle.std.proofs.Common.{refl}
-use Rattle.std.proofs.lemmas.Str.{is_utf8-from_IsUtf8}
-use Rattle.pgp_lines.proofs.Values.{data_of-refused}
+use Rattle.std.proofs.Common.{◌≡◌, ap, sym, refl, ◌∙◌}
+use Rattle.std.proofs.lemmas.Result.{IfOk-weaker}
+use Rattle.serde_json.specs.Read.{read}
+use Rattle.pgp_lines.specs.Command.{data_of}
+use Rattle.pgp_lines.proofs.Values.{data_of-refused, data_of-text}
 use Rattle.pgp_lines.proofs.command.read_json.Goals as goal
 
 pub returns-in-Ok-clause-ok : goal.returns-in-Ok-clause-ok
 returns-in-Ok-clause-ok c =
-    let read = c.in-Ok.ensures.ok in
-    rw (is_utf8-from_IsUtf8 c.args.line.now read.0) read.1
+    let text = c.in-Ok.ensures.cases in
+    let same : data_of c.args.line.now ≡ read c.in-Ok.text.now = data_of-text c.args.line.now text.1 ∙ ap read (sym text.0) in
+    IfOk-weaker c.read_text.result _ _ (λ v is. same ∙ is) c.read_text.ensures.ok
 
-pub returns-in_default : goal.returns-in_default
-returns-in_default c = record { ok = tt; err = (data_of-refused c.args.line.now (c.in-Err.ensures.err (λ e. c.in_default.not-Memory (c.classify.ensures.memory.1 e))), refl) }
+pub returns-in-Ok-clause-err : goal.returns-in-Ok-clause-err
+returns-in-Ok-clause-err c =
+    let text = c.in-Ok.ensures.cases in
+    let same : data_of c.args.line.now ≡ read c.in-Ok.text.now = data_of-text c.args.line.now text.1 ∙ ap read (sym text.0) in
+    rw same c.read_text.ensures.err
+
+pub returns-in-Err-clause-err : goal.returns-in-Err-clause-err
+returns-in-Err-clause-err c = (data_of-refused c.args.line.now (λ text. absurd (c.in-Err.ensures.cases.0 text)), refl)

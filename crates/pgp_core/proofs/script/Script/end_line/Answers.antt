@@ -11,6 +11,6 @@ returns-in_err-put_answer-clause-err g c =
 
 pub returns-clause-ok : goal.returns-clause-ok
 returns-clause-ok g c began bytes so_far =
-    after-line g.A.Answerer.alone began c.args.self.now c.end_line.new.self c.put_answer.new.self.output _ _ _ _ bytes c.args.piece.now c.requires.one_line
+    after-line g.A.Answerer.alone began c.args.self.now _ _ _ _ _ bytes c.args.piece.now c.requires.one_line
     (λ bounds bytes. c.end_line.ensures.read bounds c.args.self.now.input bytes (sym c.in_ok-put_answer.ensures.left))
     (c.in_ok-put_answer.ensures.ok _ so_far.read.line) so_far

@@ -1,5 +1,5 @@
 use Rattle.std.proofs.Common.{sym}
-use Rattle.serde_json.specs.View.{view}
+use Rattle.pgp_lines.specs.Tree.{view}
 use Rattle.pgp_lines.proofs.Values.{list_of-array}
 use Rattle.pgp_lines.proofs.command.lists.read_list.Goals as goal
 

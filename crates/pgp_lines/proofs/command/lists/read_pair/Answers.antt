@@ -1,6 +1,6 @@
 use Rattle.std.proofs.Common.{◌≢◌, length, sym, arith}
 use Rattle.std.proofs.lemmas.Bool.Decides.{nat_tests}
-use Rattle.serde_json.specs.View.{view}
+use Rattle.pgp_lines.specs.Tree.{view}
 use Rattle.pgp_lines.proofs.Values.{pair_in-other}
 use Rattle.pgp_lines.proofs.command.lists.read_pair.Goals as goal
 use Rattle.pgp_lines.proofs.command.lists.read_pair.Goals.{in_default-via-then-as_slice-lt2, in_default-via-else-as_slice-lt2+else-this-lt3}

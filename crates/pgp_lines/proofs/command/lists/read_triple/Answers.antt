@@ -1,6 +1,6 @@
 use Rattle.std.proofs.Common.{◌≢◌, length, sym, arith}
 use Rattle.std.proofs.lemmas.Bool.Decides.{nat_tests}
-use Rattle.serde_json.specs.View.{view}
+use Rattle.pgp_lines.specs.Tree.{view}
 use Rattle.pgp_lines.proofs.Values.{triple_in-other}
 use Rattle.pgp_lines.proofs.command.lists.read_triple.Goals as goal
 use Rattle.pgp_lines.proofs.command.lists.read_triple.Goals.{in_default-via-then-as_slice-lt3, in_default-via-else-as_slice-lt3+else-this-lt4}

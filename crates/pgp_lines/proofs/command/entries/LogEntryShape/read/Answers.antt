@@ -1,6 +1,6 @@
 use Rattle.std.proofs.Common.{◌≢◌, length, sym, arith}
 use Rattle.std.proofs.lemmas.Bool.Decides.{nat_tests}
-use Rattle.serde_json.specs.View.{view}
+use Rattle.pgp_lines.specs.Tree.{view}
 use Rattle.pgp_lines.proofs.Values.{log_entry_in-other}
 use Rattle.pgp_lines.proofs.command.entries.LogEntryShape.read.Goals as goal
 use Rattle.pgp_lines.proofs.command.entries.LogEntryShape.read.Goals.{in_default-as_slice-via-then-as_slice-lt4, in_default-as_slice-via-else-as_slice-lt4+else-this-lt5}

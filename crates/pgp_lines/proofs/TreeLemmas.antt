@@ -1,0 +1,168 @@
+-- The data of a line's JSON value: how it is read, and what is found in it.
+use Rattle.std.proofs.Common.{◌≡◌, ℕ, List, [], ◌∷◌, map, Bool, true, false, ◌&&◌, cond, Option, Some, None, option_map, option_and_then, is_some, bytes_eq, true≢false, Bor, Global, refl, sym, ap, ◌∙◌}
+use Rattle.std.proofs.lemmas.Slice.Eq.{bytes_eq-Decides}
+use Rattle.json.specs.Token.{Token}
+use Rattle.json.specs.Lex.{tokens}
+use Rattle.json.specs.Json as json
+use Rattle.json.specs.Find as json_find
+use Rattle.json.specs.Value.{value_view, items_view as json_items}
+use Rattle.json.specs.declared.value.Value.{Value}
+use Rattle.serde_json.specs.Data.{Num, Data, number, array, object, item, Members, no_members, put}
+use Rattle.serde_json.specs.Find.{get, get_member, as_null, as_number, as_u64, as_i64}
+use Rattle.serde_json.specs.Read.{number_of, of_json, of_items, of_members, max_depth, read}
+use Rattle.serde_json.proofs.Views.{get_member-put, get_member-put_other}
+use Rattle.pgp_lines.specs.Tree.{number_data, data_in, items_in, members_in, has_numbers, items_have_numbers, members_have_numbers, view, items_view}
+
+-- ---- how it is read
+
+map_if : {A B : Type 0} (f : A → B) (b : Bool) (x : A) → option_map f (cond b (Some x) None) ≡ cond b (Some (f x)) None
+map_if f true x = refl
+map_if f false x = refl
+
+then_if : {A B : Type 0} (f : A → Option B) (b : Bool) (x : A) → option_and_then f (cond b (Some x) None) ≡ cond b (f x) None
+then_if f true x = refl
+then_if f false x = refl
+
+both_if : {A : Type 0} (a b : Bool) (x : A) → cond a (cond b (Some x) None) None ≡ cond (a && b) (Some x) None
+both_if true b x = refl
+both_if false b x = refl
+
+number_if : (text : List ℕ) (o : Option Num) → option_map number o ≡ cond (is_some o) (Some (number_data text o)) None
+number_if text None = refl
+number_if text (Some n) = refl
+
+-- a value has data where each of its numbers is in range
+mutual
+  pub of_json-by : (j : json.Json) → of_json j ≡ cond (has_numbers j) (Some (data_in j)) None
+  of_json-by json.null = refl
+  of_json-by (json.boolean b) = refl
+  of_json-by (json.number s) = number_if s (number_of s)
+  of_json-by (json.string s) = refl
+  of_json-by (json.array js) = ap (option_map array) (of_items-by js) ∙ map_if array (items_have_numbers js) (items_in js)
+  of_json-by (json.object ms) = ap (option_map object) (of_members-by ms no_members) ∙ map_if object (members_have_numbers ms) (members_in ms no_members)
+
+  of_items-by : (js : json.Items) → of_items js ≡ cond (items_have_numbers js) (Some (items_in js)) None
+  of_items-by json.no_items = refl
+  of_items-by (json.item j js) =
+      ap (option_and_then (λ d. option_map (item d) (of_items js))) (of_json-by j)
+      ∙ then_if (λ d. option_map (item d) (of_items js)) (has_numbers j) (data_in j)
+      ∙ ap (λ o. cond (has_numbers j) (option_map (item (data_in j)) o) None) (of_items-by js)
+      ∙ ap (λ o. cond (has_numbers j) o None) (map_if (item (data_in j)) (items_have_numbers js) (items_in js))
+      ∙ both_if (has_numbers j) (items_have_numbers js) (item (data_in j) (items_in js))
+
+  of_members-by : (ms : json.Members) (found : Members) → of_members ms found ≡ cond (members_have_numbers ms) (Some (members_in ms found)) None
+  of_members-by json.no_members found = refl
+  of_members-by (json.member k j ms) found =
+      ap (option_and_then (λ d. of_members ms (put k d found))) (of_json-by j)
+      ∙ then_if (λ d. of_members ms (put k d found)) (has_numbers j) (data_in j)
+      ∙ ap (λ o. cond (has_numbers j) o None) (of_members-by ms (put k (data_in j) found))
+      ∙ both_if (has_numbers j) (members_have_numbers ms) (members_in ms (put k (data_in j) found))
+
+abbrev whole : Option (json.Json × List Token) → Option Data
+whole o = option_and_then of_json (option_and_then (λ p. json.if_last p.0 p.1) o)
+
+-- a text with no value
+pub read-none : (text : List ℕ) → json.value max_depth (tokens text) ≡ None → read text ≡ None
+read-none text e = ap whole e
+
+-- a text with something behind its value
+pub read-more : (text : List ℕ) (j : json.Json) (t : Token) (rest : List Token) → json.value max_depth (tokens text) ≡ Some (j, t ∷ rest) → read text ≡ None
+read-more text j t rest e = ap whole e
+
+-- a text that is a value
+pub read-whole : (text : List ℕ) (j : json.Json) → json.value max_depth (tokens text) ≡ Some (j, []) → read text ≡ cond (has_numbers j) (Some (data_in j)) None
+read-whole text j e = ap whole e ∙ of_json-by j
+
+-- ---- what is found in it
+
+abbrev or_else : Option Data → Option Data → Option Data
+or_else None other = other
+or_else (Some d) other = Some d
+
+last_or : (later : Option json.Json) (here : Option json.Json) (other found : Option Data) → or_else (option_map data_in here) found ≡ other
+    → or_else (option_map data_in later) other ≡ or_else (option_map data_in (json_find.later_or later here)) found
+last_or None here other found e = sym e
+last_or (Some j) here other found e = refl
+
+apart : (k q : List ℕ) → bytes_eq k q ≡ false → q ≡ k → ⊥
+apart k q e same = true≢false (sym ((bytes_eq-Decides k q).1 (sym same)) ∙ e)
+
+here_or : (b : Bool) (k q : List ℕ) (j : json.Json) (found : Members) → bytes_eq k q ≡ b
+    → or_else (option_map data_in (cond b (Some j) None)) (get_member q found) ≡ get_member q (put k (data_in j) found)
+here_or true k q j found e =
+    let same : k ≡ q = (bytes_eq-Decides k q).0 e in
+    sym (get_member-put k (data_in j) found) ∙ ap (λ name. get_member name (put k (data_in j) found)) same
+here_or false k q j found e =
+    sym (get_member-put_other q k (data_in j) found (apart k q e))
+
+-- the value at a key is what the last member of it has, or what stood there before
+get_member-in : (q : List ℕ) (ms : json.Members) (found : Members) → get_member q (members_in ms found) ≡ or_else (option_map data_in (json_find.get_member q ms)) (get_member q found)
+get_member-in q json.no_members found = refl
+get_member-in q (json.member k j ms) found =
+    get_member-in q ms (put k (data_in j) found)
+    ∙ last_or (json_find.get_member q ms) (cond (bytes_eq k q) (Some j) None) _ (get_member q found) (here_or (bytes_eq k q) k q j found refl)
+
+or_none : (o : Option Data) → or_else o None ≡ o
+or_none None = refl
+or_none (Some d) = refl
+
+number_has_none : (q text : List ℕ) (o : Option Num) → get q (number_data text o) ≡ None
+number_has_none q text None = refl
+number_has_none q text (Some n) = refl
+
+-- the value at a key
+pub get-in : (q : List ℕ) (j : json.Json) → get q (data_in j) ≡ option_map data_in (json_find.get q j)
+get-in q json.null = refl
+get-in q (json.boolean b) = refl
+get-in q (json.number s) = number_has_none q s (number_of s)
+get-in q (json.string s) = refl
+get-in q (json.array js) = refl
+get-in q (json.object ms) = get_member-in q ms no_members ∙ or_none (option_map data_in (json_find.get_member q ms))
+
+-- a value that was found, by its data
+pub found-in : (o : Option (Bor (Value Global))) → option_map (λ v. view v.now) o ≡ option_map data_in (option_map (λ v. value_view v.now) o)
+found-in None = refl
+found-in (Some v) = refl
+
+pub items_in-view : (vs : List (Value Global)) → items_in (json_items vs) ≡ items_view vs
+items_in-view [] = refl
+items_in-view (v ∷ vs) = ap (item (view v)) (items_in-view vs)
+
+number_not_null : (text : List ℕ) (o : Option Num) → false ≡ is_some (as_null (number_data text o))
+number_not_null text None = refl
+number_not_null text (Some n) = refl
+
+pub null-in : (j : json.Json) → json_find.is_null j ≡ is_some (as_null (data_in j))
+null-in json.null = refl
+null-in (json.boolean b) = refl
+null-in (json.number s) = number_not_null s (number_of s)
+null-in (json.string s) = refl
+null-in (json.array js) = refl
+null-in (json.object ms) = refl
+
+number_u64 : (text : List ℕ) (o : Option Num) → option_and_then as_u64 o ≡ option_and_then as_u64 (as_number (number_data text o))
+number_u64 text None = refl
+number_u64 text (Some n) = refl
+
+number_i64 : (text : List ℕ) (o : Option Num) → option_and_then as_i64 o ≡ option_and_then as_i64 (as_number (number_data text o))
+number_i64 text None = refl
+number_i64 text (Some n) = refl
+
+abbrev pub number_in : json.Json → Option Num
+number_in j = option_and_then number_of (json_find.as_number j)
+
+pub u64-in : (j : json.Json) → option_and_then as_u64 (number_in j) ≡ option_and_then as_u64 (as_number (data_in j))
+u64-in json.null = refl
+u64-in (json.boolean b) = refl
+u64-in (json.number s) = number_u64 s (number_of s)
+u64-in (json.string s) = refl
+u64-in (json.array js) = refl
+u64-in (json.object ms) = refl
+
+pub i64-in : (j : json.Json) → option_and_then as_i64 (number_in j) ≡ option_and_then as_i64 (as_number (data_in j))
+i64-in json.null = refl
+i64-in (json.boolean b) = refl
+i64-in (json.number s) = number_i64 s (number_of s)
+i64-in (json.string s) = refl
+i64-in (json.array js) = refl
+i64-in (json.object ms) = refl
