@@ -5,10 +5,10 @@
                                                    repository and writes what it says and what it took to LOG
     tools/measure_gate.py report LOG...            prints a Markdown table for each LOG
 
-While the gate runs, the table of processes is read four times a second. A process of the prover belongs to the crate that its
-words name: to the edits where it works on a copy of the crate, to the tests where it is asked for them, else to the
-proof. The last figures seen of a process are taken, so each is short of the truth by at most a quarter of a second. Linux
-alone has these tables.
+While the gate runs, the table of processes is read four times a second. A process of the prover that the gate started
+belongs to the crate that its words name: to the edits where it works on a copy of the crate, to the tests where it is
+asked for them, else to the proof. The last figures seen of a process are taken, so each is short of the truth by at most
+a quarter of a second. Linux alone has these tables.
 """
 
 import collections
@@ -26,15 +26,31 @@ TICKS = os.sysconf("SC_CLK_TCK")
 KINDS = ("proof", "tests", "edits")
 
 
+def numbers_of(pid):
+    """What the table of processes says of a process, from its state on."""
+    return pathlib.Path(f"/proc/{pid}/stat").read_text().rpartition(")")[2].split()
+
+
+def is_ours(pid):
+    """Whether this script started the process, or one from which it comes."""
+    while pid > 1:
+        if pid == os.getpid():
+            return True
+        pid = int(numbers_of(pid)[1])
+    return False
+
+
 def process(pid):
-    """The crate, the kind and the processor seconds of a process of the prover, or None for any other."""
+    """The crate, the kind and the processor seconds of a process of the gate's prover, or None for any other."""
     try:
         words = pathlib.Path(f"/proc/{pid}/cmdline").read_bytes().decode(errors="replace").split("\0")
         if os.path.basename(words[0]) != "rattle" or "--crate-name" not in words:
             return None
         name = words[words.index("--crate-name") + 1]
+        if not is_ours(int(pid)):
+            return None
         at = os.readlink(f"/proc/{pid}/cwd")
-        numbers = pathlib.Path(f"/proc/{pid}/stat").read_text().rpartition(")")[2].split()
+        numbers = numbers_of(pid)
     except (OSError, IndexError, ValueError):
         return None
     kind = "edits" if "rt-edit-" in at else "tests" if "--test" in words else "proof"
