@@ -1,5 +1,5 @@
 -- The least of an object's keys that pass a test, as a walk over the members in the line's order finds it.
-use Rattle.std.proofs.Common.{◌≡◌, ℕ, List, [], ◌∷◌, map, Bool, true, false, cond, Option, Some, None, Ordering, Less, Equal, Greater, filter, fold, Global, nat_cmp, is_eq, Bor, refl, sym, ap, ◌∙◌}
+use Rattle.std.proofs.Common.{◌≡◌, ℕ, List, [], ◌∷◌, map, Bool, true, false, cond, Option, Some, None, Ordering, Less, Equal, Greater, filter, fold, nat_cmp, is_eq, Bor, refl, sym, ap, ◌∙◌}
 use Rattle.std.proofs.lemmas.Cmp.{nat_list_cmp_total}
 use Rattle.std.proofs.lemmas.Map.Text.{is_eq-slice_cmp}
 use Rattle.std.proofs.lemmas.Slice.Eq.{bytes_eq-Decides}
@@ -121,7 +121,7 @@ module _ (test : List ℕ → Bool) where
   least-put k d (member l e ms) = least-put_at _ k l d e ms refl (least-put k d ms)
 
   -- the least key is that which a walk over the members finds
-  pub least-members : (ms : List (Bor (List ℕ) × Value Global)) (found : Members)
+  pub least-members : {V : Type 0} (ms : List (Bor (List ℕ) × Value V)) (found : Members)
       → least (filter test (keys_of (members_in (json_members ms) found))) ≡ least_past test (least (filter test (keys_of found))) (map (λ m. m.0.now) ms)
   least-members [] found = refl
   least-members (m ∷ ms) found =

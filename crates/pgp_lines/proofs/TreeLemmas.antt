@@ -1,5 +1,5 @@
 -- The data of a line's JSON value: how it is read, and what is found in it.
-use Rattle.std.proofs.Common.{◌≡◌, ℕ, List, [], ◌∷◌, map, Bool, true, false, ◌&&◌, cond, Option, Some, None, option_map, option_and_then, is_some, bytes_eq, true≢false, Bor, Global, refl, sym, ap, ◌∙◌}
+use Rattle.std.proofs.Common.{◌≡◌, ℕ, List, [], ◌∷◌, Bool, true, false, ◌&&◌, cond, Option, Some, None, option_map, option_and_then, is_some, bytes_eq, true≢false, Bor, refl, sym, ap, ◌∙◌}
 use Rattle.std.proofs.lemmas.Slice.Eq.{bytes_eq-Decides}
 use Rattle.json.specs.Token.{Token}
 use Rattle.json.specs.Lex.{tokens}
@@ -120,11 +120,11 @@ get-in q (json.array js) = refl
 get-in q (json.object ms) = get_member-in q ms no_members ∙ or_none (option_map data_in (json_find.get_member q ms))
 
 -- a value that was found, by its data
-pub found-in : (o : Option (Bor (Value Global))) → option_map (λ v. view v.now) o ≡ option_map data_in (option_map (λ v. value_view v.now) o)
+pub found-in : {V : Type 0} (o : Option (Bor (Value V))) → option_map (λ v. view v.now) o ≡ option_map data_in (option_map (λ v. value_view v.now) o)
 found-in None = refl
 found-in (Some v) = refl
 
-pub items_in-view : (vs : List (Value Global)) → items_in (json_items vs) ≡ items_view vs
+pub items_in-view : {V : Type 0} (vs : List (Value V)) → items_in (json_items vs) ≡ items_view vs
 items_in-view [] = refl
 items_in-view (v ∷ vs) = ap (item (view v)) (items_in-view vs)
 

@@ -1,5 +1,5 @@
 -- The value of a line's bytes.
-use Rattle.std.proofs.Common.{◌≡◌, ◌≢◌, ℕ, ◌<◌, ◌≤◌, List, [], ◌∷◌, length, map, Bool, true, false, Option, Some, None, Global, refl, ap, sym, ◌∙◌, arith}
+use Rattle.std.proofs.Common.{◌≡◌, ◌≢◌, ℕ, ◌<◌, ◌≤◌, List, [], ◌∷◌, length, map, slice_index_or, Bool, true, false, Option, Some, None, refl, ap, sym, ◌∙◌, arith}
 use Rattle.std.proofs.lemmas.Bool.Decides.{nat_tests}
 use Rattle.std.proofs.lemmas.List.{length-map}
 use Rattle.std.specs.Prelude.{if◌then◌else◌}
@@ -42,16 +42,16 @@ pub is_between-below : (low high n : ℕ) → n < low → is_between low high n 
 is_between-below low high n below = grind (arith, nat_tests)
 
 -- a list, by the values of its array
-pub list_in-array : {A : Type 0} (low high : ℕ) (shape : Data → Option A) (d : Data) (values : List (Value Global)) → as_array d ≡ Some (items_view values)
+pub list_in-array : {A V : Type 0} (low high : ℕ) (shape : Data → Option A) (d : Data) (values : List (Value V)) → as_array d ≡ Some (items_view values)
     → list_in low high shape d ≡ (if is_between low high (length values) then each shape (map view values) else None)
 list_in-array low high shape d values e = rw (e, items_list-items_of, length-map) refl
 
 -- the items of an array
-pub items_in-array : (d : Data) (values : List (Value Global)) → as_array d ≡ Some (items_view values) → items_in d ≡ Some (map view values)
+pub items_in-array : {V : Type 0} (d : Data) (values : List (Value V)) → as_array d ≡ Some (items_view values) → items_in d ≡ Some (map view values)
 items_in-array d values e = rw (e, items_list-items_of) refl
 
 -- a list of any length, by the values of its array
-pub list_of-array : {A : Type 0} (shape : Data → Option A) (d : Data) (values : List (Value Global)) → as_array d ≡ Some (items_view values)
+pub list_of-array : {A V : Type 0} (shape : Data → Option A) (d : Data) (values : List (Value V)) → as_array d ≡ Some (items_view values)
     → list_of shape d ≡ each shape (map view values)
 list_of-array shape d values e = rw (items_in-array d values e) refl
 
@@ -62,7 +62,7 @@ two_of-other (a ∷ b ∷ []) other = absurd (other refl)
 two_of-other (a ∷ b ∷ c ∷ ds) other = refl
 
 -- an array of another length is no pair
-pub pair_in-other : (d : Data) (values : List (Value Global)) → as_array d ≡ Some (items_view values) → length values ≢ 2 → pair_in d ≡ None
+pub pair_in-other : {V : Type 0} (d : Data) (values : List (Value V)) → as_array d ≡ Some (items_view values) → length values ≢ 2 → pair_in d ≡ None
 pair_in-other d values e other =
     let same : length (map view values) ≡ length values = rw length-map in
     rw (items_in-array d values e) (two_of-other (map view values) (λ two. other (sym same ∙ two)))
@@ -75,7 +75,7 @@ three_of-other (a ∷ b ∷ c ∷ []) other = absurd (other refl)
 three_of-other (a ∷ b ∷ c ∷ d ∷ ds) other = refl
 
 -- an array of another length is no triple
-pub triple_in-other : (d : Data) (values : List (Value Global)) → as_array d ≡ Some (items_view values) → length values ≢ 3 → triple_in d ≡ None
+pub triple_in-other : {V : Type 0} (d : Data) (values : List (Value V)) → as_array d ≡ Some (items_view values) → length values ≢ 3 → triple_in d ≡ None
 triple_in-other d values e other =
     let same : length (map view values) ≡ length values = rw length-map in
     rw (items_in-array d values e) (three_of-other (map view values) (λ three. other (sym same ∙ three)))
@@ -88,8 +88,19 @@ log_entry_of-other (a ∷ b ∷ c ∷ []) other = refl
 log_entry_of-other (a ∷ b ∷ c ∷ d ∷ []) other = absurd (other refl)
 log_entry_of-other (a ∷ b ∷ c ∷ d ∷ e ∷ ds) other = refl
 
+-- what four values are, each of which is known by its place
+pub four_views : {V : Type 0} (values : List (Value V)) (epoch v change name : Value V) → length values ≡ 4
+    → epoch ≡ slice_index_or values 0 epoch → v ≡ slice_index_or values 1 v → change ≡ slice_index_or values 2 change → name ≡ slice_index_or values 3 name
+    → map view values ≡ view epoch ∷ view v ∷ view change ∷ view name ∷ []
+four_views [] epoch v change name long e f g h = grind (arith, nat_tests)
+four_views (a ∷ []) epoch v change name long e f g h = grind (arith, nat_tests)
+four_views (a ∷ b ∷ []) epoch v change name long e f g h = grind (arith, nat_tests)
+four_views (a ∷ b ∷ c ∷ []) epoch v change name long e f g h = grind (arith, nat_tests)
+four_views (a ∷ b ∷ c ∷ d ∷ []) epoch v change name long e f g h = rw (e, f, g, h) refl
+four_views (a ∷ b ∷ c ∷ d ∷ x ∷ xs) epoch v change name long e f g h = grind (arith, nat_tests)
+
 -- an array of another length is no log entry
-pub log_entry_in-other : (d : Data) (values : List (Value Global)) → as_array d ≡ Some (items_view values) → length values ≢ 4 → log_entry_in d ≡ None
+pub log_entry_in-other : {V : Type 0} (d : Data) (values : List (Value V)) → as_array d ≡ Some (items_view values) → length values ≢ 4 → log_entry_in d ≡ None
 log_entry_in-other d values e other =
     let same : length (map view values) ≡ length values = rw length-map in
     rw (items_in-array d values e) (log_entry_of-other (map view values) (λ four. other (sym same ∙ four)))

@@ -1,7 +1,6 @@
 -- The JSON value of a line whose texts lie in the line, as the data that `serde_json` would own.
 use Rattle.std.specs.Prelude.{ℕ, List, [], ◌∷◌, ◌&&◌, Bool, true, false, cond, Option, Some, None, is_some, map}
 use Rattle.std.specs.Float.{binary64}
-use Rattle.std.specs.declared.alloc.Global.{Global}
 use Rattle.fast_float.specs.Text.{scan, nearest}
 use Rattle.json.specs.Json as json
 use Rattle.json.specs.Value.{value_view}
@@ -59,10 +58,10 @@ abbrev mutual
   members_have_numbers json.no_members = true
   members_have_numbers (json.member k j ms) = has_numbers j && members_have_numbers ms
 
-abbrev pub view : Value Global → Data
+abbrev pub view : {A : Type 0} → Value A → Data
 view v = data_in (value_view v)
 
-abbrev pub items_view : List (Value Global) → Items
+abbrev pub items_view : {A : Type 0} → List (Value A) → Items
 items_view vs = items_of (map view vs)
 
 -- the lesser of a text and the least so far, if there is one

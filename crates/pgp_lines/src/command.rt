@@ -24,6 +24,7 @@ mod pools;
 mod trace;
 mod tree;
 
+use bumpalo::Bump;
 use entries::read_entries;
 use faults::{bad_field_fault, unknown_key_fault};
 use fields::read_required;
@@ -90,11 +91,13 @@ pub fn read_line(alloc: Global, line: &[u8]) -> Result<Command, TextFault>
 /// Reads lines one after the other, with room that it keeps from line to line.
 pub struct LineReader {
     room: Scratch,
+    /// Where the value of one line lies; empty between lines.
+    arena: Bump,
 }
 
 impl Drop for LineReader {
     fn drop(self) {
-        let LineReader { room: _ } = self;
+        let LineReader { room: _, arena: _ } = self;
     }
 }
 
@@ -102,6 +105,7 @@ impl LineReader {
     pub fn new(alloc: Global) -> LineReader {
         LineReader {
             room: Scratch::new(alloc),
+            arena: Bump::new(alloc),
         }
     }
 
@@ -112,14 +116,30 @@ impl LineReader {
             (λ fault. IfSome (told fault) (λ f. command_of line.now ≡ Err f)) }
         ensures in_range { IfOk result IsInRange }
     {
-        let value = read_json(alloc, line, &mut self.room)?;
-        read_command(alloc, &value)
+        let command = read_within(alloc, &self.arena, line, &mut self.room);
+        let _ = self.arena.reset();
+        command
     }
+}
+
+/// Reads a line whose value lies in the arena.
+fn read_within<'a>(
+    alloc: Global,
+    arena: &'a Bump,
+    line: &'a [u8],
+    room: &'a mut Scratch,
+) -> Result<Command, TextFault>
+    ensures ok { IfOk result (λ command. command_of line.now ≡ Ok command) }
+    ensures err { IfErr result (λ fault. IfSome (told fault) (λ f. command_of line.now ≡ Err f)) }
+    ensures in_range { IfOk result IsInRange }
+{
+    let value = read_json(arena, line, room)?;
+    read_command(alloc, &value)
 }
 
 /// The value of a JSON text (RFC 8259, nested at most 127 deep), or `NotJson`.
 fn read_json<'a>(
-    alloc: Global,
+    arena: &'a Bump,
     line: &'a [u8],
     room: &'a mut Scratch,
 ) -> Result<Value<'a>, TextFault>
@@ -128,14 +148,14 @@ fn read_json<'a>(
         (λ fault. IfSome (told fault) (λ f. (data_of line.now ≡ None) × (f ≡ not_json))) }
 {
     match from_utf8(line) {
-        Ok(text) => read_text(alloc, text, room),
+        Ok(text) => read_text(arena, text, room),
         Err(_) => Err(TextFault::NotJson),
     }
 }
 
 /// The value of a text.
 fn read_text<'a>(
-    alloc: Global,
+    arena: &'a Bump,
     text: &'a str,
     room: &'a mut Scratch,
 ) -> Result<Value<'a>, TextFault>
@@ -146,7 +166,7 @@ fn read_text<'a>(
     let Ok(mut reader) = Reader::new(text, room) else {
         return Err(TextFault::Memory);
     };
-    let value = read_value(alloc, &mut reader)?;
+    let value = read_value(arena, &mut reader)?;
     if reader.next().is_some() {
         return Err(TextFault::NotJson);
     }
@@ -157,12 +177,12 @@ fn read_text<'a>(
 }
 
 /// The first value that the reader tells of, its numbers not judged.
-fn read_value<'a>(alloc: Global, reader: &mut Reader<'a>) -> Result<Value<'a>, TextFault>
+fn read_value<'a>(arena: &'a Bump, reader: &mut Reader<'a>) -> Result<Value<'a>, TextFault>
     ensures ok { IfOk result (λ v. value max_depth reader.old ≡ Some (value_view v, reader.new)) }
     ensures err { IfErr result
         (λ fault. IfSome (told fault) (λ f. (value max_depth reader.old ≡ None) × (f ≡ not_json))) }
 {
-    match Value::read(alloc, reader, MAX_DEPTH) {
+    match json::Value::read(arena, reader, MAX_DEPTH) {
         Ok(value) => Ok(value),
         Err(Error::OutOfMemory) => Err(TextFault::Memory),
         Err(_) => Err(TextFault::NotJson),

@@ -12,7 +12,7 @@ pub(super) fn unknown_key<'a>(value: &Value<'a>, keys: &[&str]) -> Option<&'a st
         ≡ unknown_key_in (map (λ k. k.now) keys.now) (view value.now) }
 {
     match value {
-        Value::Object(members) => unknown_member(members.as_slice(), keys),
+        json::Value::Object(members) => unknown_member(members.as_slice(), keys),
         _ => None,
     }
 }

@@ -7,7 +7,10 @@ ghost use Rattle.serde_json.specs.Read.{number_of};
 ghost use Rattle.pgp_lines.specs.Tree.{num_of, view, items_view, has_numbers, items_have_numbers, members_have_numbers};
 
 use super::number::Number;
-pub(super) use json::Value;
+use bumpalo::Bump;
+
+/// A value whose arrays and objects lie in an arena.
+pub(super) type Value<'a> = json::Value<'a, &'a Bump>;
 
 /// The value at a key of an object; of one that stands there twice the last.
 pub(super) fn get<'v, 'a>(value: &'v Value<'a>, key: &str) -> Option<&'v Value<'a>>
@@ -22,10 +25,10 @@ pub(super) fn as_str<'a>(value: &Value<'a>) -> Option<&'a str>
     value.as_str()
 }
 
-pub(super) fn as_array<'v, 'a>(value: &'v Value<'a>) -> Option<&'v Vec<Value<'a>>>
+pub(super) fn as_array<'v, 'a>(value: &'v Value<'a>) -> Option<&'v Vec<Value<'a>, &'a Bump>>
     ensures { option_map (λ v. items_view v.now.items) result ≡ as_array (view value.now) }
 {
-    if let Value::Array(items) = value {
+    if let json::Value::Array(items) = value {
         Some(items)
     } else {
         None
@@ -72,15 +75,15 @@ pub(super) fn has_numbers(value: &Value<'_>) -> bool
     ensures { result ≡ has_numbers (value_view value.now) }
 {
     match value {
-        Value::Null | Value::Bool(_) | Value::String(_) => true,
-        Value::Number(text) => Number::parse(text).is_some(),
-        Value::Array(items) => items_have_numbers(items),
-        Value::Object(members) => members_have_numbers(members),
+        json::Value::Null | json::Value::Bool(_) | json::Value::String(_) => true,
+        json::Value::Number(text) => Number::parse(text).is_some(),
+        json::Value::Array(items) => items_have_numbers(items),
+        json::Value::Object(members) => members_have_numbers(members),
     }
 }
 
 #[cycle(has_numbers)]
-fn items_have_numbers(items: &Vec<Value<'_>>) -> bool
+fn items_have_numbers<'a>(items: &Vec<Value<'a>, &'a Bump>) -> bool
     ensures { result ≡ items_have_numbers (json_items items.now.items) }
 {
     for item in items {
@@ -92,7 +95,7 @@ fn items_have_numbers(items: &Vec<Value<'_>>) -> bool
 }
 
 #[cycle(has_numbers)]
-fn members_have_numbers<'a>(members: &Vec<(&'a str, Value<'a>)>) -> bool
+fn members_have_numbers<'a>(members: &Vec<(&'a str, Value<'a>), &'a Bump>) -> bool
     ensures { result ≡ members_have_numbers (json_members members.now.items) }
 {
     for member in members {

@@ -1,4 +1,4 @@
-use Rattle.std.proofs.Common.{◌≡◌, [], Bool, true, false, Some, None, cond, refl, ap, ◌∙◌, rules, tests}
+use Rattle.std.proofs.Common.{◌≡◌, [], true, false, Some, None, cond, refl, ap, ◌∙◌, rules, tests}
 use Rattle.json.specs.Value.{value_view}
 use Rattle.pgp_lines.specs.Tree.{data_in, has_numbers}
 use Rattle.pgp_lines.proofs.TreeLemmas.{read-whole}

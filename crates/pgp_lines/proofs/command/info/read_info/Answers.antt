@@ -17,3 +17,7 @@ returns-in_err-stamp-clause-err c =
     rw (fault.1, fault.2)
     (IfSome_then (told c.in_err-stamp.field-0.0) c.in_err-stamp.ensures.err
     (λ f is. rw (c.in_ok-complete.ensures.ok, c.in_ok-member.ensures.ok, c.in_ok-reach.ensures.ok, c.in_ok-pg.ensures.ok, is) refl))
+
+pub returns-clause-ok : goal.returns-clause-ok
+returns-clause-ok c =
+    rw (c.in_ok-complete.ensures.ok, c.in_ok-member.ensures.ok, c.in_ok-reach.ensures.ok, c.in_ok-pg.ensures.ok, c.in_ok-stamp.ensures.ok) refl

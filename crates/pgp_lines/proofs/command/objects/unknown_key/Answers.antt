@@ -1,5 +1,4 @@
-use Rattle.std.proofs.Common.{◌≡◌, map, not, sym, ap, ◌∙◌}
-use Rattle.json.specs.Value.{value_view}
+use Rattle.std.proofs.Common.{not, sym, ap, ◌∙◌}
 use Rattle.json.proofs.Trees.{view-Object}
 use Rattle.serde_json.specs.Data.{no_members}
 use Rattle.pgp_lines.specs.Shapes.{is_key, unknown_key_in}

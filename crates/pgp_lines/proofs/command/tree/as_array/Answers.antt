@@ -1,5 +1,4 @@
 use Rattle.std.proofs.Common.{Some, sym, ap, ◌∙◌}
-use Rattle.json.specs.Value.{value_view}
 use Rattle.json.proofs.Trees.{view-Array}
 use Rattle.serde_json.specs.Find.{as_array}
 use Rattle.pgp_lines.specs.Tree.{data_in, view}

@@ -1,5 +1,4 @@
-use Rattle.std.proofs.Common.{◌≡◌, ◌^◌, ◌<◌, drop, cond, get_or, true, false, ◌==◌, Some, sym, ap, ◌∙◌, rules, tests}
-use Rattle.std.specs.Str.Parse.{IsNumeral, digits_value, without_leading_plus}
+use Rattle.std.proofs.Common.{◌≡◌, get_or, false, ◌==◌, Some, sym, ap, ◌∙◌, rules, tests}
 use Rattle.serde_json.specs.Data.{unsigned}
 use Rattle.serde_json.specs.Read.{number_of}
 use Rattle.pgp_lines.proofs.NumberLemmas.{number_of-digits, no_plus}

@@ -1,7 +1,7 @@
 use Rattle.std.proofs.lemmas.Result.{IfOk-weaker}
 use Rattle.pgp_lines.specs.Tree.{view}
 use Rattle.pgp_lines.proofs.Sized.{in_range}
-use Rattle.pgp_lines.proofs.command.LineReader.read.Goals as goal
+use Rattle.pgp_lines.proofs.command.read_within.Goals as goal
 
 pub returns-clause-in_range : goal.returns-clause-in_range
 returns-clause-in_range c =
