@@ -11,9 +11,10 @@ ghost use Rattle.pgp_core.specs.Wants.{want_of, LacksReply};
 
 use super::accepted::{LONGEST_ACCEPTED, put_accepted};
 use super::answerer::{Answerer, NoReply};
+use super::codec::Codec;
 use super::want::{NoAnswer, Want};
 use pgp_ids::TextFault;
-use pgp_text::{Command, LineReader, Refused, Reply, write_reply_to};
+use pgp_text::{Command, Refused, Reply, ReplyWriter};
 use std::alloc::{AllocError, Global};
 
 /// Puts the answer to a line that isn't blank and not too long behind the text, with a line feed.
@@ -22,7 +23,7 @@ use std::alloc::{AllocError, Global};
 /// line adds nothing to the log.
 pub fn answer_line<A: Answerer>(
     alloc: Global,
-    reader: &mut LineReader,
+    codec: &mut Codec,
     line: &[u8],
     answerer: &mut A,
     text: &mut Vec<u8>,
@@ -32,16 +33,17 @@ pub fn answer_line<A: Answerer>(
     ensures text { OnErr result (text.new.items ≡ text.old.items) }
     ensures log { OnErr result (MayAnswerBy A.alone (A.log answerer.old) (A.log answerer.new)) }
 {
-    match reader.read(alloc, line) {
-        Ok(command) => answer_command(alloc, command, answerer, text),
+    match codec.reader.read(alloc, line) {
+        Ok(command) => answer_command(alloc, &mut codec.writer, command, answerer, text),
         Err(TextFault::Memory) => Err(NoAnswer::Memory(Want::Line)),
-        Err(fault) => put_fault(alloc, fault, text),
+        Err(fault) => put_fault(alloc, &mut codec.writer, fault, text),
     }
 }
 
 /// Puts the answer to a command that was read behind the text, with a line feed.
 fn answer_command<A: Answerer>(
     alloc: Global,
+    writer: &mut ReplyWriter,
     command: Command,
     answerer: &mut A,
     text: &mut Vec<u8>,
@@ -53,7 +55,7 @@ fn answer_command<A: Answerer>(
     ensures log { OnErr result (MayAnswerBy A.alone (A.log answerer.old) (A.log answerer.new)) }
 {
     let want = want_of(&command);
-    match ask(alloc, command, answerer, text) {
+    match ask(alloc, writer, command, answerer, text) {
         Ok(()) => Ok(()),
         Err(NoReply::Memory) => Err(NoAnswer::Memory(want)),
         Err(NoReply::Gone) => Err(NoAnswer::Gone),
@@ -66,6 +68,7 @@ fn answer_command<A: Answerer>(
 /// has the entry.
 fn ask<A: Answerer>(
     alloc: Global,
+    writer: &mut ReplyWriter,
     command: Command,
     answerer: &mut A,
     text: &mut Vec<u8>,
@@ -78,7 +81,7 @@ fn ask<A: Answerer>(
 {
     text.reserve(LONGEST_ACCEPTED)?;
     let reply = answerer.reply(alloc, command)?;
-    put_reply(alloc, &reply, text)?;
+    put_reply(alloc, writer, &reply, text)?;
     Ok(())
 }
 
@@ -93,29 +96,39 @@ fn want_of(command: &Command) -> Want
 }
 
 /// Puts the answer to a line that is too long behind the text, with a line feed.
-pub fn put_long(alloc: Global, text: &mut Vec<u8>) -> Result<(), NoAnswer>
+pub fn put_long(alloc: Global, writer: &mut ReplyWriter, text: &mut Vec<u8>) -> Result<(), NoAnswer>
     ensures ok { OnOk result (text.new.items ≡ text.old.items ++ (long_text ++ 10 ∷ [])) }
     ensures lacks { IfErr result (λ why. why ≡ NoAnswer.Memory Want.Line) }
     ensures err { OnErr result (text.new.items ≡ text.old.items) }
 {
     let reply = Reply::Refused(Refused::Line(TextFault::LineTooLong));
-    put_reply(alloc, &reply, text).or(Err(NoAnswer::Memory(Want::Line)))
+    put_reply(alloc, writer, &reply, text).or(Err(NoAnswer::Memory(Want::Line)))
 }
 
 /// Puts the answer to a line that has this fault behind the text, with a line feed.
-fn put_fault(alloc: Global, fault: TextFault, text: &mut Vec<u8>) -> Result<(), NoAnswer>
+fn put_fault(
+    alloc: Global,
+    writer: &mut ReplyWriter,
+    fault: TextFault,
+    text: &mut Vec<u8>,
+) -> Result<(), NoAnswer>
     requires { fault ≢ TextFault.Memory }
     ensures ok { OnOk result (PutsFault (told fault) text.old.items text.new.items) }
     ensures lacks { IfErr result (λ why. why ≡ NoAnswer.Memory Want.Line) }
     ensures err { OnErr result (text.new.items ≡ text.old.items) }
 {
     let reply = Reply::Refused(Refused::Line(fault));
-    put_reply(alloc, &reply, text).or(Err(NoAnswer::Memory(Want::Line)))
+    put_reply(alloc, writer, &reply, text).or(Err(NoAnswer::Memory(Want::Line)))
 }
 
 /// Puts the text of a reply behind the text, with a line feed. It succeeds where an entry was taken and the text has room
 /// for the longest answer to one.
-fn put_reply(alloc: Global, reply: &Reply, text: &mut Vec<u8>) -> Result<(), AllocError>
+fn put_reply(
+    alloc: Global,
+    writer: &mut ReplyWriter,
+    reply: &Reply,
+    text: &mut Vec<u8>,
+) -> Result<(), AllocError>
     ensures ok { OnOk result (text.new.items ≡ text.old.items ++ (reply_text reply.now ++ 10 ∷ [])) }
     ensures err { OnErr result (text.new.items ≡ text.old.items) }
     ensures sure { is_accepted reply.now ≡ true → vec_len text.old + LONGEST_ACCEPTED ≤ vec_capacity text.old → IsOk result }
@@ -124,7 +137,7 @@ fn put_reply(alloc: Global, reply: &Reply, text: &mut Vec<u8>) -> Result<(), All
         Reply::Accepted { op, count, epoch } => put_accepted(text, *op, *count, *epoch),
         reply => {
             let before = text.len();
-            write_reply_to(alloc, text, reply)?;
+            writer.put(alloc, reply, text)?;
             if text.push(b'\n').is_err() {
                 text.truncate(before);
                 return Err(AllocError);

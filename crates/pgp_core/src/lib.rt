@@ -7,6 +7,7 @@
 mod accepted;
 mod answer;
 mod answerer;
+mod codec;
 mod fault;
 mod history;
 mod input;

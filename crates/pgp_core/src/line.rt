@@ -9,8 +9,8 @@ ghost use Rattle.pgp_core.specs.Told.{PutsLine, MayLack, IsLeft};
 
 use super::answer::{answer_line, put_long};
 use super::answerer::Answerer;
+use super::codec::Codec;
 use super::want::{NoAnswer, Want};
-use pgp_text::LineReader;
 use std::alloc::Global;
 
 /// How many bytes a line has at most, without its line feed.
@@ -105,7 +105,7 @@ impl LineBuffer {
     pub fn answer<A: Answerer>(
         &mut self,
         alloc: Global,
-        reader: &mut LineReader,
+        codec: &mut Codec,
         piece: &[u8],
         answerer: &mut A,
         text: &mut Vec<u8>,
@@ -115,7 +115,7 @@ impl LineBuffer {
         ensures left { OnErr result ((line : List ℕ) → Holds self.old line → IsLeft A.alone (line ++ piece.now)) }
         ensures text { OnErr result (text.new.items ≡ text.old.items) }
     {
-        match self.put_answer(alloc, reader, piece, answerer, text) {
+        match self.put_answer(alloc, codec, piece, answerer, text) {
             Ok(()) => Ok(&[]),
             Err(NoAnswer::Memory(want)) => Ok(want_line(want)),
             Err(NoAnswer::Gone) => Err(Unanswered),
@@ -127,7 +127,7 @@ impl LineBuffer {
     fn put_answer<A: Answerer>(
         &mut self,
         alloc: Global,
-        reader: &mut LineReader,
+        codec: &mut Codec,
         piece: &[u8],
         answerer: &mut A,
         text: &mut Vec<u8>,
@@ -139,10 +139,10 @@ impl LineBuffer {
         ensures log { OnErr result (MayAnswerBy A.alone (A.log answerer.old) (A.log answerer.new)) }
     {
         if self.is_whole(piece) {
-            return put_line(alloc, reader, piece, answerer, text);
+            return put_line(alloc, codec, piece, answerer, text);
         }
         self.add(piece);
-        self.put_kept(alloc, reader, answerer, text)
+        self.put_kept(alloc, codec, answerer, text)
     }
 
     /// Whether the line lies whole in the piece that ends it, and isn't too long.
@@ -156,7 +156,7 @@ impl LineBuffer {
     fn put_kept<A: Answerer>(
         &self,
         alloc: Global,
-        reader: &mut LineReader,
+        codec: &mut Codec,
         answerer: &mut A,
         text: &mut Vec<u8>,
     ) -> Result<(), NoAnswer>
@@ -169,8 +169,8 @@ impl LineBuffer {
         match self.fate {
             Fate::NoMemory => Err(NoAnswer::Memory(Want::Line)),
             Fate::TooLong if self.blank => Ok(()),
-            Fate::TooLong => put_long(alloc, text),
-            Fate::Kept => put_line(alloc, reader, self.bytes.as_slice(), answerer, text),
+            Fate::TooLong => put_long(alloc, &mut codec.writer, text),
+            Fate::Kept => put_line(alloc, codec, self.bytes.as_slice(), answerer, text),
         }
     }
 }
@@ -179,7 +179,7 @@ impl LineBuffer {
 /// to the log.
 fn put_line<A: Answerer>(
     alloc: Global,
-    reader: &mut LineReader,
+    codec: &mut Codec,
     line: &[u8],
     answerer: &mut A,
     text: &mut Vec<u8>,
@@ -193,7 +193,7 @@ fn put_line<A: Answerer>(
     if all_blank(line) {
         Ok(())
     } else {
-        answer_line(alloc, reader, line, answerer, text)
+        answer_line(alloc, codec, line, answerer, text)
     }
 }
 

@@ -10,13 +10,13 @@ ghost use Rattle.pgp_core.specs.Run.{AllAnswered, ReadStopped, WriteStopped, bou
 ghost use Rattle.pgp_core.specs.Telling.{Began, Puts, StopsAt, IsAfter, IsDone, StoppedAtLast, WentBy, IsStopped, StopsIn, Reads, AllTold, Stops, whole_lines, began_at};
 
 use super::answerer::Answerer;
+use super::codec::Codec;
 use super::fault::{AnswerFault, ScriptFault};
 use super::input::{Bounds, Input, split_line};
 use super::line::Unanswered;
 use super::log::Log;
 use super::output::Output;
 use super::streams::{Sink, Source};
-use pgp_text::LineReader;
 use std::alloc::Global;
 
 /// How many bytes a read asks for.
@@ -26,7 +26,7 @@ const CHUNK: usize = 65536;
 pub struct Script {
     pub input: Input,
     pub output: Output,
-    reader: LineReader,
+    codec: Codec,
 }
 
 impl Drop for Script {
@@ -34,7 +34,7 @@ impl Drop for Script {
         let Script {
             input: _,
             output: _,
-            reader: _,
+            codec: _,
         } = self;
     }
 }
@@ -48,7 +48,7 @@ impl Script {
         Script {
             input: Input::new(alloc, bounds),
             output: Output::new(alloc),
-            reader: LineReader::new(alloc),
+            codec: Codec::new(alloc),
         }
     }
 
@@ -88,7 +88,7 @@ impl Script {
     {
         let answer = self.input.line.answer(
             alloc,
-            &mut self.reader,
+            &mut self.codec,
             piece,
             answerer,
             &mut self.output.pending,

@@ -1,5 +1,5 @@
 -- Versions by the names of their objects, as members of a JSON object.
-use Rattle.std.specs.Prelude.{ℕ, List, [], ◌∷◌, String, string_bytes}
+use Rattle.std.specs.Prelude.{List, [], ◌∷◌, String, string_bytes}
 use Rattle.std.specs.Global.{Global}
 use Rattle.serde_json.specs.Data.{Members, no_members, member}
 use Rattle.pgp_ids.specs.declared.version.Version.{Version}

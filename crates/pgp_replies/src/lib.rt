@@ -5,4 +5,4 @@
 pub mod laws;
 mod reply;
 
-pub use reply::{EntryOp, Refused, Reply, write_reply, write_reply_to};
+pub use reply::{EntryOp, Refused, Reply, ReplyWriter, write_reply};

@@ -55,24 +55,41 @@ pub fn write_reply(alloc: Global, reply: &Reply) -> Result<Vec<u8>, AllocError>
     ensures { IfOk result (λ text. text.items ≡ reply_text reply.now) }
 {
     let mut text = Vec::new(alloc);
-    write_reply_to(alloc, &mut text, reply)?;
+    ReplyWriter::new(alloc).put(alloc, reply, &mut text)?;
     Ok(text)
 }
 
-/// Puts the text of a reply, without a line feed, behind what `text` has. Where memory is wanting, `text` stays as it
-/// was.
-pub fn write_reply_to(alloc: Global, text: &mut Vec<u8>, reply: &Reply) -> Result<(), AllocError>
-    ensures ok { OnOk result (text.new.items ≡ text.old.items ++ reply_text reply.now) }
-    ensures err { OnErr result (text.new.items ≡ text.old.items) }
-{
-    let before = text.len();
-    let mut out = Writer::new(mem::replace(text, Vec::new(alloc)));
-    let written = reply.write(alloc, &mut out);
-    *text = out.into_inner();
-    if written.is_err() {
-        text.truncate(before);
+/// Writes replies one after the other, with room that it keeps from reply to reply.
+#[derive(Debug, Drop)]
+pub struct ReplyWriter {
+    room: Vec<u8>,
+}
+
+impl ReplyWriter {
+    pub fn new(alloc: Global) -> Self {
+        ReplyWriter {
+            room: Vec::new(alloc),
+        }
     }
-    written
+
+    /// Puts the text of a reply, as [`write_reply`] writes it, behind what `text` has. Where memory is wanting, `text`
+    /// stays as it was.
+    pub fn put(
+        &mut self,
+        alloc: Global,
+        reply: &Reply,
+        text: &mut Vec<u8>,
+    ) -> Result<(), AllocError>
+        ensures ok { OnOk result (text.new.items ≡ text.old.items ++ reply_text reply.now) }
+        ensures err { OnErr result (text.new.items ≡ text.old.items) }
+    {
+        self.room.clear();
+        let mut out = Writer::new(mem::replace(&mut self.room, Vec::new(alloc)));
+        let written = reply.write(alloc, &mut out);
+        self.room = out.into_inner();
+        written?;
+        text.extend_from_slice(self.room.as_slice())
+    }
 }
 
 impl Json for Reply {
