@@ -1,11 +1,14 @@
-//! Tests of runs over an engine, of what their contract leaves open: that the answers are those of one thread, whatever the
-//! size of the engine, also where a read or a write fails, and where one allocation is refused.
+//! Tests of runs over an engine and of the program, of what their contracts leave open: that the answers are those of one
+//! thread, whatever the size of the engine, also where a read or a write fails, and where one allocation is refused; and what
+//! the program tells of faults.
 #![tactic(auto)]
 
 #[cfg(test)]
 mod faults;
 #[cfg(test)]
 mod memory;
+#[cfg(test)]
+mod program;
 #[cfg(test)]
 mod runs;
 #[cfg(test)]

@@ -1,23 +1,12 @@
 //! The program: lines of JSON in, one answer for each.
 //!
-//! Everything but the standard streams is a function over any reader and writers: `status::status_of` does what the
-//! command line asks for, `pgp_core::run_script` answers a script on one thread, and `pgp_run::run_engine` answers one with
-//! workers.
+//! Everything but the standard streams is a function of `pgp_cli` over any reader and writers.
 #![tactic(auto)]
 
-use status::{status_of, without_words};
+use pgp_cli::{Watched, status_of, without_words};
 use std::env;
 use std::io::ErrorKind;
 use std::process::ExitCode;
-use streams::Watched;
-
-mod laws;
-mod options;
-mod run_options;
-mod status;
-mod streams;
-#[cfg(test)]
-mod tests;
 
 fn main(rt: HostRuntime) -> ExitCode {
     let alloc = rt.alloc();
