@@ -76,10 +76,11 @@ class Watch:
                 self.spans[name, kind] = first, now
 
     def result(self):
-        sums = collections.Counter()
+        parts = collections.defaultdict(list)
         for (_, name, kind), seconds in self.seconds.items():
-            sums[name, kind] += seconds
-        return [[*key, sums[key], *self.spans[key]] for key in sorted(sums, key=lambda it: self.spans[it][0])]
+            parts[name, kind].append(seconds)
+        keys = sorted(parts, key=lambda it: self.spans[it][0])
+        return [[*key, sum(parts[key]), *self.spans[key], parts[key]] for key in keys]
 
 
 def run(log, command):
@@ -116,26 +117,37 @@ def functions_of(lines):
     return counts
 
 
+def by_turns(parts):
+    """What the first edit of a crate took, with the check from nothing, and what the others did, the cheapest and the dearest.
+
+    After the edits the crate is checked without any, which is no edit's.
+    """
+    others = [f"{it:.0f}" for it in sorted(parts[1:-1])]
+    return f"{parts[0]:.0f}" if parts else "", f"{others[0]} to {others[-1]}" if others else ""
+
+
 def report(log):
     told = json.loads(pathlib.Path(log).read_text())
     by_crate = collections.defaultdict(dict)
-    for name, kind, seconds, first, last in told["tasks"]:
-        by_crate[name][kind] = seconds, first, last
+    for name, kind, seconds, first, last, parts in told["tasks"]:
+        by_crate[name][kind] = seconds, first, last, parts
     edits = collections.Counter(
         found[1] for found in (re.search(r"must-fail (\w+)/\S+\.edit: refused", line) for line in told["lines"]) if found
     )
     functions = functions_of(told["lines"])
     print(f"`{' '.join(told['command'])}`: {told['elapsed'] / 60:.1f} minutes, last line `{told['lines'][-1]}`\n")
-    print("| Crate | Functions | Proof, s | Tests, s | Edits | Edits, s | Done, min |\n|---|---|---|---|---|---|---|")
+    print("| Crate | Functions | Proof, s | Tests, s | Edits | Edits, s | First, s | Others, s | Done, min |")
+    print("|---|---|---|---|---|---|---|---|---|")
     sums = collections.Counter()
     for name, kinds in by_crate.items():
-        took = {kind: kinds.get(kind, (0, 0, 0))[0] for kind in KINDS}
+        took = {kind: kinds.get(kind, (0, 0, 0, []))[0] for kind in KINDS}
         sums.update(took)
         cells = [name, functions.get(name, 0), *(f"{took[kind]:.0f}" for kind in ("proof", "tests")), edits[name]]
-        cells += [f"{took['edits']:.0f}", f"{max(last for _, _, last in kinds.values()) / 60:.1f}"]
+        cells += [f"{took['edits']:.0f}", *by_turns(kinds["edits"][3] if "edits" in kinds else [])]
+        cells += [f"{max(last for _, _, last, _ in kinds.values()) / 60:.1f}"]
         print("|", " | ".join(str(it) for it in cells), "|")
     whole = [f"{sums[kind]:.0f}" for kind in KINDS]
-    print(f"| all | {sum(functions.values())} | {whole[0]} | {whole[1]} | {sum(edits.values())} | {whole[2]} | {told['elapsed'] / 60:.1f} |\n")
+    print(f"| all | {sum(functions.values())} | {whole[0]} | {whole[1]} | {sum(edits.values())} | {whole[2]} | | | {told['elapsed'] / 60:.1f} |\n")
 
 
 def main():
