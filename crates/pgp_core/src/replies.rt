@@ -60,13 +60,11 @@ fn accept(entry: Entry, log: &mut Log) -> Result<Reply, AllocError>
     ensures log { IfOk result (λ _. log.new ≡ log.old ++ entry ∷ []) }
     ensures kept { OnErr result (log.new ≡ log.old) }
 {
-    let reply = Reply::Accepted {
-        op: EntryOp::of(&entry),
-        count: log.count() + 1,
-        epoch: log.epoch_with(&entry),
-    };
+    let op = EntryOp::of(&entry);
+    let count = log.count() + 1;
+    let epoch = log.epoch_with(&entry);
     log.take(entry)?;
-    Ok(reply)
+    Ok(Reply::Accepted { op, count, epoch })
 }
 
 /// The reply to a question about a group of which this is said.

@@ -1,7 +1,8 @@
 //! Runs stored scripts, each from an empty log, and writes the name of each and its answers.
 //!
-//! A line that begins with `# ` is the name of the script in the lines after it, up to the next such line. The stored run
-//! of this program, its files `stdin` and `stdout`, is the tests of what scripts are answered.
+//! A line that begins with `# ` is the name of the script in the lines after it, up to the next such line. Lines before the
+//! first such line are a script without a name. The stored run of this program, its files `stdin` and `stdout`, is the tests
+//! of what scripts are answered.
 #![tactic(auto)]
 
 mod split;
@@ -35,9 +36,13 @@ fn answer_all(alloc: Global, stored: &[u8]) -> io::Result<Vec<u8>> {
     Ok(taken.bytes)
 }
 
-/// Puts the name of the script and its answers.
+/// Puts the name of the script, if it has one, and its answers.
 fn answer(alloc: Global, named: &[u8], taken: &mut Taken) -> io::Result<()> {
-    let (name, script) = first_line(named);
+    let (name, script) = if named.starts_with(b"# ") {
+        first_line(named)
+    } else {
+        named.split_at(0)
+    };
     taken.bytes.extend_from_slice(name)?;
     match run_script(alloc, &mut Given { left: script }, taken) {
         Ok(()) => Ok(()),
