@@ -25,6 +25,8 @@ mod missing;
 #[cfg(test)]
 mod peering;
 #[cfg(test)]
+mod plain_group;
+#[cfg(test)]
 mod prior_index;
 #[cfg(test)]
 mod prior_sets;
