@@ -55,6 +55,14 @@ pub list_of-array : {A V : Type 0} (shape : Data → Option A) (d : Data) (value
     → list_of shape d ≡ each shape (map view values)
 list_of-array shape d values e = rw (items_in-array d values e) refl
 
+-- what two values are, each of which is known by its place
+pub two_views : {V : Type 0} (values : List (Value V)) (a b : Value V) → length values ≡ 2 → a ≡ slice_index_or values 0 a → b ≡ slice_index_or values 1 b
+    → map view values ≡ view a ∷ view b ∷ []
+two_views [] a b long e f = grind (arith, nat_tests)
+two_views (x ∷ []) a b long e f = grind (arith, nat_tests)
+two_views (x ∷ y ∷ []) a b long e f = rw (e, f) refl
+two_views (x ∷ y ∷ more ∷ rest) a b long e f = grind (arith, nat_tests)
+
 two_of-other : (ds : List Data) → length ds ≢ 2 → two_of ds ≡ None
 two_of-other [] other = refl
 two_of-other (a ∷ []) other = refl
@@ -66,6 +74,15 @@ pub pair_in-other : {V : Type 0} (d : Data) (values : List (Value V)) → as_arr
 pair_in-other d values e other =
     let same : length (map view values) ≡ length values = rw length-map in
     rw (items_in-array d values e) (two_of-other (map view values) (λ two. other (sym same ∙ two)))
+
+-- what three values are, each of which is known by its place
+pub three_views : {V : Type 0} (values : List (Value V)) (a b c : Value V) → length values ≡ 3 → a ≡ slice_index_or values 0 a → b ≡ slice_index_or values 1 b → c ≡ slice_index_or values 2 c
+    → map view values ≡ view a ∷ view b ∷ view c ∷ []
+three_views [] a b c long e f g = grind (arith, nat_tests)
+three_views (x ∷ []) a b c long e f g = grind (arith, nat_tests)
+three_views (x ∷ y ∷ []) a b c long e f g = grind (arith, nat_tests)
+three_views (x ∷ y ∷ z ∷ []) a b c long e f g = rw (e, f, g) refl
+three_views (x ∷ y ∷ z ∷ more ∷ rest) a b c long e f g = grind (arith, nat_tests)
 
 three_of-other : (ds : List Data) → length ds ≢ 3 → three_of ds ≡ None
 three_of-other [] other = refl

@@ -117,6 +117,7 @@ impl LineReader {
         ensures in_range { IfOk result IsInRange }
     {
         let command = read_within(alloc, &self.arena, line, &mut self.room);
+        // Refused only while a block of the arena is out, and the line's value has given back all of its own.
         let _ = self.arena.reset();
         command
     }
