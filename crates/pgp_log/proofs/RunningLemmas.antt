@@ -1,5 +1,5 @@
 -- What the code of a world keeps of it.
-use Rattle.std.proofs.Common.{◌≡◌, ℕ, zero, suc, ◌+◌, ◌<◌, ◌≤◌, List, [], ◌∷◌, ◌++◌, ◌⊎◌, inl, inr, Result, Ok, Err, OnOk, OnErr, IfOk, Some, None, true, false, length, map, min, take, drop, get_or, set, replicate, refl, ap, sym, ◌∙◌, subst, add-one, zero-add, arith, eq-eqb, length-append}
+use Rattle.std.proofs.Common.{◌≡◌, ℕ, zero, suc, ◌+◌, ◌<◌, ◌≤◌, List, [], ◌∷◌, ◌++◌, ◌⊎◌, inl, inr, Result, Ok, Err, OnOk, OnErr, IfOk, Some, None, true, false, length, map, min, take, drop, get_or, set, replicate, refl, ap, sym, ◌∙◌, subst, append_assoc, add-one, zero-add, arith, eq-eqb, length-append}
 use Rattle.std.specs.List.{range_with_len}
 use Rattle.std.specs.declared.alloc.AllocError.{AllocError}
 use Rattle.std.proofs.Math.Seq.{drop-append_seam, map-set_same, take-append-add}
@@ -62,6 +62,25 @@ pub openings-running : (k : ℕ) (judge : Judge) (all : List Shard) → all ≡ 
 openings-running k judge all are some is =
     let each = openings-each [] k all are in
     record { judge_is = is; some = omega (arith, some, each.0); each = each.1 }
+
+-- ---- the log takes an entry
+
+pub longer-running : (log : List Entry) (judge new : Judge) (shards : List Shard) (entry : Entry) → IsRunning log judge shards
+    → IsJudgeOf (log ++ entry ∷ []) new → IsRunning (log ++ entry ∷ []) new shards
+longer-running log judge new shards entry is judged = record {
+  judge_is = judged;
+  some = is.some;
+  each = λ n below.
+      let reads = is.each n below in
+      let front = reads.front_is in record {
+        front_is = record {
+          rest = front.rest ++ entry ∷ [];
+          whole = ap (λ l. l ++ entry ∷ []) front.whole ∙ append_assoc (get_or shards n (opening_shard 0 0)).front front.rest (entry ∷ []);
+        };
+        shard_is = reads.shard_is;
+        shards_are = reads.shards_are;
+      };
+}
 
 -- ---- a shard reads on
 

@@ -82,8 +82,8 @@ impl World {
         ensures ok { OnOk result (self.new ≡ with_entry self.old entry) }
         ensures err { OnErr result (self.new ≡ self.old) }
     {
-        self.entries.reserve(1)?;
         let entry = Arc::new(self.alloc, entry)?;
+        self.entries.reserve(1)?;
         self.judge.take(&entry)?;
         self.entries.push_reserved(entry);
         Ok(())
