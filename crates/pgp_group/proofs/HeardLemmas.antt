@@ -1,10 +1,11 @@
 -- The infos that are heard are of distinct members, and each is the last of its member.
-use Rattle.std.proofs.Common.{◌≡◌, ◌≢◌, List, [], ◌∷◌, ◌++◌, Bool, true, false, ◌||◌, refl, ap, sym, ◌∙◌, subst, inl, inr, arith}
+use Rattle.std.proofs.Common.{◌≡◌, ◌≢◌, List, [], ◌∷◌, ◌++◌, true, false, ◌||◌, refl, ap, sym, ◌∙◌, subst, inl, inr, arith}
 use Rattle.std.specs.List.{Contains, All}
 use Rattle.std.proofs.lemmas.Bool.{cases_Bool, true≢false}
 use Rattle.std.proofs.lemmas.Bool.Decides.{nat_tests}
 use Rattle.std.proofs.lemmas.List.Elements.{All-contains_itself, All-weaker}
 use Rattle.std.proofs.lemmas.List.Kept.{AllPairs-cons}
+use Rattle.std.proofs.Math.Bool.{or-false}
 use Rattle.pgp_ids.specs.Member.{is_same_member}
 use Rattle.pgp_ids.specs.declared.member.Member.{Member}
 use Rattle.pgp_ids.specs.declared.report.Info.{Info}
@@ -86,12 +87,8 @@ IsLastOfMember-last_of infos info is =
 
 -- ---- one more info
 
-or_nothing : (a : Bool) → (a || false) ≡ a
-or_nothing true = refl
-or_nothing false = refl
-
 has_member-snoc : (member : Member) (infos : List Info) (info : Info) → has_member member (infos ++ info ∷ []) ≡ (has_member member infos || is_same_member info.member member)
-has_member-snoc member [] info = or_nothing (is_same_member info.member member)
+has_member-snoc member [] info = or-false (is_same_member info.member member)
 has_member-snoc member (first ∷ infos) info = elim (cases_Bool (is_same_member first.member member)) [
   | inl here ↦ rw here refl
   | inr other ↦ rw other (has_member-snoc member infos info)

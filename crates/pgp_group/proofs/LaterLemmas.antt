@@ -2,11 +2,12 @@
 use Rattle.std.proofs.Common.{◌≡◌, ◌≢◌, ℕ, ◌+◌, ◌<◌, ◌≤◌, List, [], ◌∷◌, ◌++◌, Option, Some, Bool, true, false, not, ◌&&◌, ◌||◌, nat_le, map, fold, max, refl, append-nil, ap, ap₂, sym, ◌∙◌, subst, inl, inr, ◌⊎◌, arith}
 use Rattle.std.specs.List.{All, filter, flat_map, list_any}
 use Rattle.std.specs.Option.{option_map_or}
-use Rattle.std.proofs.lemmas.Bool.{cases_Bool, and_parts, or_parts, true≢false}
+use Rattle.std.proofs.lemmas.Bool.{cases_Bool, and_parts, or_parts, true≢false, and_right}
 use Rattle.std.proofs.lemmas.Bool.Decides.{nat_tests}
 use Rattle.std.proofs.lemmas.List.{map-append}
 use Rattle.std.proofs.lemmas.List.Elements.{filter-append, filter_map-append, All-weaker}
 use Rattle.std.proofs.lemmas.List.Sums.{fold-append}
+use Rattle.std.proofs.Math.Bool.{and-false, and-true}
 use Rattle.pgp_code.specs.declared.any.AnyCode.{AnyCode}
 use Rattle.pgp_ids.specs.declared.entry.Entry.{Entry}
 use Rattle.pgp_ids.specs.declared.entry.Entry.TheVariants as entry
@@ -31,7 +32,7 @@ use Rattle.pgp_group.specs.Heard.{is_counted, heard, last_of_each_member, report
 use Rattle.pgp_group.specs.Later.{IsAfter, AreSentBy}
 use Rattle.pgp_group.proofs.FirstLemmas.{Steps, Decides, Opens, first-opens, first-step, along}
 use Rattle.pgp_group.proofs.GrowthLemmas.{Shortens, EndsWell, epoch-snoc, next_epoch}
-use Rattle.pgp_group.proofs.Lists.{last_where-passes, last_where-none, left_new, filter-fail, and_fails}
+use Rattle.pgp_group.proofs.Lists.{last_where-passes, last_where-none, left_new, filter-fail}
 use Rattle.pgp_group.proofs.RiseLemmas.{fold_max-least}
 
 -- ---- the histories of a group and of the same group later
@@ -102,7 +103,7 @@ new-reported shorten fine steps g after inc member is differ sent =
     let test : Report → Bool = λ report. is_same_member report.member member && is_counted after report.member report.stamp in
     let each : All (λ (report : Report). test report ≡ false) (reports g) =
     All-weaker (λ (report : Report). report.stamp ≤ epoch (incs g)) (λ (report : Report). test report ≡ false)
-    (λ report by. and_fails (is_same_member report.member member) (is_counted after report.member report.stamp) (new-counts shorten fine steps g after inc report.member report.stamp is differ by)) (reports g) sent.each_report in
+    (λ report by. and_right (is_same_member report.member member) (is_counted after report.member report.stamp) (new-counts shorten fine steps g after inc report.member report.stamp is differ by)) (reports g) sent.each_report in
     ap (λ (told : List Report). flat_map (λ report. report.log) (filter test told)) (same-reports g after inc is)
     ∙ ap (flat_map (λ report. report.log)) (filter-fail test (reports g) each)
 
@@ -157,14 +158,6 @@ counted-before incs inc h after member stamp rises early counts =
 
 -- ---- what counted before and still counts
 
-and_false : (b : Bool) → (b && false) ≡ false
-and_false true = refl
-and_false false = refl
-
-and_true : (b : Bool) → (b && true) ≡ b
-and_true true = refl
-and_true false = refl
-
 -- a device of which the incremental tells counts no more by what it sent before
 told_off : (incs : List Incremental) (inc : Incremental) (osd stamp : ℕ) (first : Bool) → stamp < inc.epoch → tells_of osd inc ≡ true
     → (first && is_up (then_with incs inc) osd && nat_le (up_from (then_with incs inc) osd) stamp) ≡ false
@@ -173,11 +166,11 @@ told_off incs inc osd stamp first early told = elim (cases_Bool (boots osd inc))
   | inl booting ↦
       let from : inc.epoch ≤ up_from (then_with incs inc) osd = up_from-boots incs inc osd booting in
       let later : nat_le (up_from (then_with incs inc) osd) stamp ≡ false = grind (arith, nat_tests) in
-      ap (λ (b : Bool). first && is_up (then_with incs inc) osd && b) later ∙ and_false (first && is_up (then_with incs inc) osd)
+      ap (λ (b : Bool). first && is_up (then_with incs inc) osd && b) later ∙ and-false (first && is_up (then_with incs inc) osd)
   | inr still ↦
       let down : is_up (then_with incs inc) osd ≡ false = ap (λ (o : Option Incremental). option_map_or (boots osd) o false) (last_where-passes (tells_of osd) incs inc told) ∙ still in
       ap (λ (b : Bool). first && b && nat_le (up_from (then_with incs inc) osd) stamp) down
-      ∙ ap (λ (b : Bool). b && nat_le (up_from (then_with incs inc) osd) stamp) (and_false first)
+      ∙ ap (λ (b : Bool). b && nat_le (up_from (then_with incs inc) osd) stamp) (and-false first)
 ]
 
 -- a device of which it tells nothing stays up or down
@@ -208,13 +201,13 @@ counts-after incs inc h after member stamp next sent (inr opened) =
     let before : counts_by (then_with incs inc) after member stamp ≡ false =
     ap (λ (b : Bool). b && is_up (then_with incs inc) member.osd && nat_le (up_from (then_with incs inc) member.osd) stamp) early in
     before
-    ∙ sym (ap (λ (b : Bool). counts_by incs h member stamp && (b && not (tells_of member.osd inc))) over ∙ and_false (counts_by incs h member stamp))
+    ∙ sym (ap (λ (b : Bool). counts_by incs h member stamp && (b && not (tells_of member.osd inc))) over ∙ and-false (counts_by incs h member stamp))
 counts-after incs inc h after member stamp next sent (inl on) = elim (cases_Bool (tells_of member.osd inc)) [
   | inl told ↦
       told_off incs inc member.osd stamp (nat_le (current_first after) stamp) (omega (arith, next, sent)) told
       ∙ sym (ap (λ (b : Bool). counts_by incs h member stamp && (nat_le (current_first after) (epoch incs) && not b)) told
-      ∙ ap (λ (b : Bool). counts_by incs h member stamp && b) (and_false (nat_le (current_first after) (epoch incs)))
-      ∙ and_false (counts_by incs h member stamp))
+      ∙ ap (λ (b : Bool). counts_by incs h member stamp && b) (and-false (nat_le (current_first after) (epoch incs)))
+      ∙ and-false (counts_by incs h member stamp))
   | inr silent ↦
       let same = still_up incs inc member.osd silent in
       let going : current_first after ≡ current_first h = on.0 in
@@ -224,7 +217,7 @@ counts-after incs inc h after member stamp next sent (inl on) = elim (cases_Bool
       λ k. nat_le (going k) stamp && same.0 k && nat_le (same.1 k) stamp in
       stays
       ∙ sym (ap (λ (b : Bool). counts_by incs h member stamp && (nat_le (current_first after) (epoch incs) && not b)) silent
-      ∙ ap (λ (b : Bool). counts_by incs h member stamp && (b && true)) lasts ∙ and_true (counts_by incs h member stamp))
+      ∙ ap (λ (b : Bool). counts_by incs h member stamp && (b && true)) lasts ∙ and-true (counts_by incs h member stamp))
 ]
 
 -- a report of this stamp was sent, and doesn't count

@@ -43,10 +43,6 @@ filter-each p [] each = refl
 filter-each {X = X} p (x ∷ xs) each =
     rw (each x (Contains-here x xs)) (ap (λ (l : List X). x ∷ l) (filter-each p xs (λ y there. each y (Contains-later x xs y there))))
 
-pub and_fails : (a b : Bool) → b ≡ false → (a && b) ≡ false
-and_fails true b fails = fails
-and_fails false b fails = refl
-
 -- ---- lists that grow by one
 
 pub last_or-snoc : {X : Type 0} (o : Option X) (xs : List X) (x : X) → last_or o (xs ++ x ∷ []) ≡ Some x

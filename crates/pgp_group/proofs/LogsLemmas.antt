@@ -3,7 +3,7 @@ use Rattle.std.proofs.Common.{◌≡◌, ℕ, zero, suc, ◌+◌, ◌<◌, List,
 use Rattle.std.specs.List.{find, filter, flat_map, position, position_from, position_or_len, slice_get, slice_set}
 use Rattle.std.specs.Option.{option_map_or, option_or}
 use Rattle.std.specs.Ordering.{nat_cmp}
-use Rattle.std.proofs.lemmas.Bool.{cases_Bool}
+use Rattle.std.proofs.lemmas.Bool.{cases_Bool, and_right}
 use Rattle.std.proofs.lemmas.Iterator.Adapters.{position_from-zero}
 use Rattle.std.proofs.lemmas.List.Elements.{filter-append}
 use Rattle.std.proofs.lemmas.List.Folds.{find_at, find-set, find_past, find-append}
@@ -23,7 +23,6 @@ use Rattle.pgp_group.specs.Heard.{is_counted}
 use Rattle.pgp_group.specs.KeptReports.{is_of, log_of, entries_of, reported_in}
 use Rattle.pgp_group.specs.declared.logs.CountedLog.{CountedLog}
 use Rattle.pgp_group.proofs.PeerLemmas.{same_member}
-use Rattle.pgp_group.proofs.Lists.{and_fails}
 use Rattle.pgp_lists.proofs.Lists.{flat_map-push}
 
 -- ---- the first place of a test
@@ -183,5 +182,5 @@ told-counted g told x member counted = reported_in-more g told x member ∙ (eli
 
 pub told-other : (g : GroupLog) (told : List Report) (x : Report) (member : Member) → is_counted g x.member x.stamp ≡ false → reported_in g (told ++ x ∷ []) member ≡ reported_in g told member
 told-other g told x member silent =
-    let none : (is_same_member x.member member && is_counted g x.member x.stamp) ≡ false = and_fails (is_same_member x.member member) (is_counted g x.member x.stamp) silent in
+    let none : (is_same_member x.member member && is_counted g x.member x.stamp) ≡ false = and_right (is_same_member x.member member) (is_counted g x.member x.stamp) silent in
     reported_in-more g told x member ∙ ap (λ (b : Bool). reported_in g told member ++ cond b x.log []) none ∙ append-nil (reported_in g told member)

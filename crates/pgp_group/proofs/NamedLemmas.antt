@@ -1,23 +1,23 @@
 -- What a list of devices in ascending order has.
 use Rattle.std.proofs.Common.{◌≡◌, ℕ, ◌+◌, ◌<◌, List, [], ◌∷◌, Bool, true, false, ◌||◌, Option, Some, None, length, get_or, nat_eq, refl, ap, sym, ◌∙◌, inl, inr, arith, take, if◌then◌else◌}
 use Rattle.std.specs.List.{list_any, insert}
-use Rattle.std.specs.List.Sorted.{IsNonDecreasingBy, IsSearchInRange, IsBinarySearchResult}
-use Rattle.std.specs.Ordering.{nat_cmp, is_lt, ordering_index, ordering_reverse}
+use Rattle.std.specs.List.Sorted.{IsSearchInRange, IsBinarySearchResult}
+use Rattle.std.specs.Ordering.{nat_cmp, is_lt, ordering_reverse}
 use Rattle.std.specs.Prelude.{Result, Ok, Err}
 use Rattle.std.specs.Result.{IsOk, is_ok}
 use Rattle.std.specs.declared.cmp.Ordering.{Ordering}
 use Rattle.std.specs.declared.cmp.Ordering.TheVariants.{Less, Equal, Greater}
 use Rattle.std.specs.Option.{option_eq}
-use Rattle.std.proofs.Math.Bool.{or-false}
+use Rattle.std.proofs.Math.Bool.{or-false, or_self_left}
 use Rattle.std.proofs.lemmas.Bool.{cases_Bool, cases_lt, eq-eqb, false≢true}
 use Rattle.std.proofs.lemmas.Bool.Decides.{nat_tests}
 use Rattle.std.proofs.lemmas.Cmp.{nat_cmp_total}
 use Rattle.std.proofs.lemmas.List.Folds.{list_any_more, list_any_at, list_any_none}
-use Rattle.std.proofs.lemmas.List.Sorted.{searchable_from_sorted}
 use Rattle.std.proofs.lemmas.Map.Lookups.{exact_unsigned}
 use Rattle.pgp_lists.specs.Ordered.{IsAscending, with_item}
 use Rattle.pgp_lists.proofs.Bools.{or_assoc}
 use Rattle.pgp_lists.proofs.Ordered.{IsAscending-with_item}
+use Rattle.pgp_lists.proofs.Searched.{searchable}
 use Rattle.pgp_group.specs.Touched.{has_osd}
 
 -- the order of devices
@@ -36,11 +36,6 @@ is_equal Less is back = cc
 is_equal Equal is back = refl
 is_equal Greater is back = cc
 
-not_after : (r : Ordering) → is_lt r ≡ true → is_lt (ordering_reverse r) ≡ false
-not_after Less is = refl
-not_after Equal is = cc
-not_after Greater is = cc
-
 connected : (x y : ℕ) → before x y ≡ false → before y x ≡ false → x ≡ y
 connected x y xy yx = exact_unsigned x y (is_equal (nat_cmp x y) xy (sym (ap is_lt (nat_cmp_total.antisymm y x)) ∙ yx))
 
@@ -54,10 +49,6 @@ or_swap true true c = refl
 or_swap true false c = refl
 or_swap false b c = refl
 
-or_twice : (a b : Bool) → (a || (a || b)) ≡ (a || b)
-or_twice true b = refl
-or_twice false b = refl
-
 pub with_item-ascends : (x : ℕ) (xs : List ℕ) → IsAscending before xs → IsAscending before (with_item before x xs)
 with_item-ascends = IsAscending-with_item before transitive
 
@@ -68,7 +59,7 @@ with_item-has q x (y ∷ xs) = elim (cases_Bool (before x y)) [
   | inl first ↦ rw first refl
   | inr after ↦ elim (cases_Bool (before y x)) [
     | inl later ↦ rw (after, later) (ap (λ b. nat_eq q y || b) (with_item-has q x xs) ∙ or_swap (nat_eq q y) (nat_eq q x) (list_any (nat_eq q) xs))
-    | inr same ↦ rw (after, same) (sym (or_twice (nat_eq q y) (list_any (nat_eq q) xs)) ∙ ap (λ z. nat_eq q z || (nat_eq q y || list_any (nat_eq q) xs)) (sym (connected x y after same)))
+    | inr same ↦ rw (after, same) (sym (or_self_left (nat_eq q y) (list_any (nat_eq q) xs)) ∙ ap (λ z. nat_eq q z || (nat_eq q y || list_any (nat_eq q) xs)) (sym (connected x y after same)))
   ]
 ]
 
@@ -79,15 +70,10 @@ inserted (Err e) new old place x ok is put = absurd (false≢true ok)
 
 -- ---- the search
 
-searchable : (xs : List ℕ) (x : ℕ) → IsAscending before xs → IsNonDecreasingBy (λ y. ordering_index (nat_cmp y x)) xs
-searchable xs x ascends =
-    searchable_from_sorted nat_cmp_total (λ y. y) xs x
-    (λ k d low below. ap is_lt (nat_cmp_total.antisymm (get_or xs (k + 1) d) (get_or xs k d)) ∙ not_after _ (ascends k (k + 1) d (omega arith) below))
-
 pub search-has : (r : Result ℕ ℕ) (xs : List ℕ) (x : ℕ) → IsAscending before xs → IsSearchInRange r (length xs) → IsBinarySearchResult (λ y. nat_cmp y x) xs r → is_ok r ≡ list_any (nat_eq x) xs
 search-has (Ok place) xs x ascends within at = sym (list_any_at (nat_eq x) xs place 0 within (eq-eqb x _ (sym (exact_unsigned _ x (at 0)))))
 search-has (Err place) xs x ascends within splits =
-    let point = splits (searchable xs x ascends) in
+    let point = splits (searchable nat_cmp_total xs x ascends) in
     sym (list_any_none (nat_eq x) xs (λ k d below. elim (cases_lt k place) [
       | inl front ↦ let is : nat_cmp (get_or xs k d) x ≡ Less = point.0 k d (omega arith) front in differ (get_or xs k d) x (ap is_lt is)
       | inr back ↦ let is : nat_cmp (get_or xs k d) x ≡ Greater = point.1 k d back below in differ_back (get_or xs k d) x is

@@ -1,7 +1,7 @@
 -- Statuses as the entries of their devices are renewed, one after another.
 use Rattle.std.proofs.Common.{◌≡◌, ℕ, ◌+◌, ◌<◌, List, [], ◌∷◌, ◌++◌, Bool, true, false, ◌||◌, nat_eq, length, refl, ap, sym, ◌∙◌, subst, inl, inr, eqb-true, eq-eqb, take, get_or, if◌then◌else◌}
 use Rattle.std.specs.List.{list_any}
-use Rattle.std.proofs.Math.Bool.{or-false}
+use Rattle.std.proofs.Math.Bool.{or-false, or-true}
 use Rattle.std.proofs.lemmas.Bool.{cases_Bool, false_from_ne_true}
 use Rattle.std.proofs.lemmas.List.{take_more}
 use Rattle.std.proofs.lemmas.List.Folds.{list_any-append}
@@ -88,15 +88,11 @@ has-more noted i entry q within item =
     ap (list_any test) (take_more noted i entry within ∙ ap (λ (e : Noted). take i noted ++ e ∷ []) (sym item))
     ∙ list_any-append test (take i noted) (entry ∷ []) ∙ ap (λ b. list_any test (take i noted) || b) (or-false (nat_eq entry.osd q))
 
-or_true : (b : Bool) → (b || true) ≡ true
-or_true true = refl
-or_true false = refl
-
 module _ (map : OsdMap) (noted : List Noted) (i : ℕ) (entry : Noted) (within : i < length noted) (item : entry ≡ get_or noted i entry) (status : ℕ → ℕ → Status) where
   -- the entry's device has the status of the map, and the others stay
   partly-it : (q first : ℕ) → entry.osd ≡ q → partly map (take (i + 1) noted) status q first ≡ held_status map q first
   partly-it q first same =
-      ap (λ (b : Bool). taken map status b q first) (has-more noted i entry q within item ∙ ap (λ b. has_noted q (take i noted) || b) (eq-eqb entry.osd q same) ∙ or_true (has_noted q (take i noted)))
+      ap (λ (b : Bool). taken map status b q first) (has-more noted i entry q within item ∙ ap (λ b. has_noted q (take i noted) || b) (eq-eqb entry.osd q same) ∙ or-true (has_noted q (take i noted)))
 
   partly-other : (q first : ℕ) → (entry.osd ≡ q → ⊥) → partly map (take (i + 1) noted) status q first ≡ partly map (take i noted) status q first
   partly-other q first apart =

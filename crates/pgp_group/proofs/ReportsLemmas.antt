@@ -1,10 +1,11 @@
 -- What is kept of the reports of a group, as its log grows and as they are looked at.
 use Rattle.std.proofs.Common.{◌≡◌, ℕ, ◌+◌, ◌≤◌, List, [], ◌∷◌, ◌++◌, Option, Some, None, Bool, true, false, ◌&&◌, ◌||◌, cond, nat_le, nat_lt, length, take, length-append, refl, ap, ap₂, sym, ◌∙◌, subst, inl, inr, arith}
-use Rattle.std.specs.List.{All, Contains, filter, find, flat_map}
+use Rattle.std.specs.List.{All, filter, find, flat_map}
 use Rattle.std.proofs.lemmas.Bool.{cases_Bool, and_parts, or_parts}
 use Rattle.std.proofs.lemmas.Bool.Decides.{nat_tests}
 use Rattle.std.proofs.lemmas.List.{take_all, take-append-le}
 use Rattle.std.proofs.lemmas.List.Elements.{All-contains, All-filter, All-nil, All-push, All-take, All-weaker, filter_passes}
+use Rattle.std.proofs.Math.Bool.{and-true}
 use Rattle.pgp_ids.specs.Member.{is_same_member}
 use Rattle.pgp_ids.specs.declared.incremental.Incremental.{Incremental}
 use Rattle.pgp_ids.specs.declared.log_entry.LogEntry.{LogEntry}
@@ -141,7 +142,7 @@ found-lasting test lasts member (x ∷ xs) =
       | inl it ↦
           let parts = and_parts (test x) (is_of member x) it in
           let alike : lasts x.member.osd ≡ lasts member.osd = ap (λ (m : Member). lasts m.osd) (same_member x.member member parts.1) in
-          let flag : (test x && lasts x.member.osd && is_of member x) ≡ lasts member.osd = rw (parts.0, parts.1) (only (lasts x.member.osd)) ∙ alike in
+          let flag : (test x && lasts x.member.osd && is_of member x) ≡ lasts member.osd = rw (parts.0, parts.1) (and-true (lasts x.member.osd)) ∙ alike in
           ap₂ (λ (b : Bool) (o : Option CountedLog). cond b (Some x) o) flag rest
           ∙ stays (lasts member.osd) (Some x) old
           ∙ ap (λ (o : Option CountedLog). cond (lasts member.osd) o None) (sym (head-found test member x xs ∙ ap (λ (b : Bool). cond b (Some x) old) it))
@@ -151,10 +152,6 @@ found-lasting test lasts member (x ∷ xs) =
           ∙ ap (λ (o : Option CountedLog). cond (lasts member.osd) o None) (sym (head-found test member x xs ∙ ap (λ (b : Bool). cond b (Some x) old) other))
     ])
   where
-    only : (b : Bool) → (b && true) ≡ b
-    only true = refl
-    only false = refl
-
     stays : (b : Bool) (found others : Option CountedLog) → cond b found (cond b others None) ≡ cond b found None
     stays true found others = refl
     stays false found others = refl

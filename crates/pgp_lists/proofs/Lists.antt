@@ -1,5 +1,5 @@
 -- Elements by their places, and tests of lists.
-use Rattle.std.proofs.Common.{◌≡◌, ℕ, zero, suc, ◌<◌, List, [], ◌∷◌, ◌++◌, Some, Bool, true, false, ◌||◌, length, take, drop, slice_get, append-nil, refl, ap, sym, ◌∙◌, arith}
+use Rattle.std.proofs.Common.{◌≡◌, ℕ, zero, suc, ◌<◌, List, [], ◌∷◌, ◌++◌, Some, Bool, true, false, ◌||◌, length, take, drop, set, slice_get, append-nil, refl, ap, sym, ◌∙◌, arith}
 use Rattle.std.specs.List.{flat_map, list_any}
 use Rattle.std.proofs.lemmas.Bool.{or_parts}
 use Rattle.std.proofs.lemmas.List.{take_at, take-append-drop}
@@ -14,6 +14,18 @@ get-append (x ∷ xs) ys (suc n) below = get-append xs ys n (omega arith)
 pub get-last : {X : Type 0} (xs : List X) (x : X) → slice_get (xs ++ x ∷ []) (length xs) ≡ Some x
 get-last [] x = refl
 get-last (y ∷ xs) x = get-last xs x
+
+pub get-set_same : {X : Type 0} (xs : List X) (n : ℕ) (x : X) → n < length xs → slice_get (set xs n x) n ≡ Some x
+get-set_same [] n x below = absurd (omega arith)
+get-set_same (y ∷ xs) zero x below = refl
+get-set_same (y ∷ xs) (suc n) x below = get-set_same xs n x (omega arith)
+
+pub get-set_other : {X : Type 0} (xs : List X) (n m : ℕ) (x : X) → (m ≡ n → ⊥) → slice_get (set xs n x) m ≡ slice_get xs m
+get-set_other [] n m x other = refl
+get-set_other (y ∷ xs) zero zero x other = absurd (other refl)
+get-set_other (y ∷ xs) zero (suc m) x other = refl
+get-set_other (y ∷ xs) (suc n) zero x other = refl
+get-set_other (y ∷ xs) (suc n) (suc m) x other = get-set_other xs n m x (λ same. other (ap suc same))
 
 -- the front of a list that another follows
 pub take-front : {X : Type 0} (xs ys : List X) → take (length xs) (xs ++ ys) ≡ xs

@@ -49,7 +49,7 @@ is_lt-reverse Equal is = cc
 is_lt-reverse Greater is = cc
 
 module _ {X : Type 0} {R : X → X → Ordering} (order : IsTotalOrder R) where
-  searchable : (xs : List X) (x : X) → IsAscending (λ a b. is_lt (R a b)) xs → IsNonDecreasingBy (λ y. ordering_index (R y x)) xs
+  pub searchable : (xs : List X) (x : X) → IsAscending (λ a b. is_lt (R a b)) xs → IsNonDecreasingBy (λ y. ordering_index (R y x)) xs
   searchable xs x ascends =
       searchable_from_sorted order (λ y. y) xs x
       (λ k d low below. ap is_lt (order.antisymm (get_or xs (k + 1) d) (get_or xs k d)) ∙ is_lt-reverse _ (ascends k (k + 1) d (omega arith) below))

@@ -3,6 +3,7 @@ use Rattle.std.proofs.Common.{◌≡◌, ℕ, List, [], ◌∷◌, ◌++◌, Opt
 use Rattle.std.specs.List.{list_any}
 use Rattle.std.proofs.lemmas.Bool.{and_from, and_parts, cases_Bool, cases_lt, eqb-true}
 use Rattle.std.proofs.lemmas.List.Folds.{list_any_more}
+use Rattle.pgp_lists.proofs.Bools.{same_tests}
 use Rattle.pgp_ids.specs.declared.entry.Entry.{Entry}
 use Rattle.pgp_ids.specs.declared.entry.Entry.TheVariants as entry
 use Rattle.pgp_ids.specs.declared.incremental.Incremental.{Incremental}
@@ -122,12 +123,7 @@ only-more owner incs old groups pg own there others only other kept = elim (case
 -- those of the map before are kept, so are those of the pools that the incremental makes, and no other
 pub own-next : (owner : Owner) (log : List Entry) (inc : Incremental) (moved : Derived) → IsStepping owner log inc moved → ((pg : PgId) → makes pg.pool inc ≡ true → IsKeptIfOwn owner (then_with (incs_of log) inc) moved pg)
     → HasOwn owner (then_with (incs_of log) inc) moved
-own-next owner log inc moved is made = λ pg. both-ways (keeps pg moved.groups) (owns owner pg && has_group (then_with (incs_of log) inc) pg) (is.only_own pg) (all pg) where
-  both-ways : (x y : Bool) → (x ≡ true → y ≡ true) → (y ≡ true → x ≡ true) → x ≡ y
-  both-ways true y to from = sym (to refl)
-  both-ways false true to from = from refl
-  both-ways false false to from = refl
-
+own-next owner log inc moved is made = λ pg. same_tests (keeps pg moved.groups) (owns owner pg && has_group (then_with (incs_of log) inc) pg) (is.only_own pg) (all pg) where
   all : (pg : PgId) → (owns owner pg && has_group (then_with (incs_of log) inc) pg) ≡ true → keeps pg moved.groups ≡ true
   all pg is_there =
       let both = and_parts (owns owner pg) (has_group (then_with (incs_of log) inc) pg) is_there in

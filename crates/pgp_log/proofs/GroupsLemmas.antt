@@ -1,5 +1,5 @@
 -- Lists of groups of which one changes, or with one more, and the table of their places.
-use Rattle.std.proofs.Common.{◌≡◌, ℕ, zero, suc, ◌<◌, List, [], ◌∷◌, ◌++◌, inl, inr, Bool, true, false, ◌||◌, cond, Option, Some, None, is_some, length, set, refl, sym, ap, ◌∙◌, subst, arith, length-append, eq-eqb}
+use Rattle.std.proofs.Common.{◌≡◌, ℕ, suc, ◌<◌, List, [], ◌∷◌, ◌++◌, inl, inr, Bool, true, false, ◌||◌, cond, Option, Some, None, is_some, length, set, refl, sym, ap, ◌∙◌, subst, arith, length-append, eq-eqb}
 use Rattle.std.specs.HashMap as hash
 use Rattle.std.specs.List.{list_any}
 use Rattle.std.specs.Option.{option_map}
@@ -9,8 +9,8 @@ use Rattle.std.proofs.lemmas.Bool.{cases_Bool, cases_eq, cases_lt, true≢false}
 use Rattle.std.proofs.Math.Bool.{or-false, or-true}
 use Rattle.std.proofs.lemmas.List.{length-map, map-append}
 use Rattle.std.proofs.lemmas.List.Folds.{list_any-append}
-use Rattle.std.proofs.lemmas.Option.{get_or_from_slice_get, slice_get-map, slice_get_within}
-use Rattle.pgp_lists.proofs.Lists.{get-append, get-last, none-at}
+use Rattle.std.proofs.lemmas.Option.{get_or_from_slice_get, same_Some, slice_get-map, slice_get_within, none-some}
+use Rattle.pgp_lists.proofs.Lists.{get-append, get-last, get-set_other, get-set_same, none-at}
 use Rattle.pgp_ids.specs.declared.entry.Entry.{Entry}
 use Rattle.pgp_ids.specs.declared.pg_id.PgId.{PgId}
 use Rattle.pgp_map.specs.Pools.{is_same_group}
@@ -26,27 +26,12 @@ use Rattle.pgp_log.proofs.RawSetLemmas.{same_group}
 
 -- ---- elements by their places
 
-pub same_some : {X : Type 0} (x y : X) → Some x ≡ Some y → x ≡ y
-same_some x y same = cc
-
-pub get-set_same : {X : Type 0} (xs : List X) (i : ℕ) (x : X) → i < length xs → slice_get (set xs i x) i ≡ Some x
-get-set_same [] i x within = absurd (omega arith)
-get-set_same (y ∷ xs) zero x within = refl
-get-set_same (y ∷ xs) (suc i) x within = get-set_same xs i x (omega arith)
-
-pub get-set_other : {X : Type 0} (xs : List X) (i j : ℕ) (x : X) → (j ≡ i → ⊥) → slice_get (set xs i x) j ≡ slice_get xs j
-get-set_other [] i j x other = refl
-get-set_other (y ∷ xs) zero zero x other = absurd (other refl)
-get-set_other (y ∷ xs) zero (suc j) x other = refl
-get-set_other (y ∷ xs) (suc i) zero x other = refl
-get-set_other (y ∷ xs) (suc i) (suc j) x other = get-set_other xs i j x (λ same. other (ap suc same))
-
 -- what holds of the elements, where one of them is another now
 pub each-set : {X : Type 0} (P Q : X → Type 0) (xs : List X) (i : ℕ) (x y : X) → i < length xs → Q y
     → ((j : ℕ) (z : X) → (j ≡ i → ⊥) → slice_get xs j ≡ Some z → Q z)
     → (j : ℕ) (z : X) → slice_get (set xs i y) j ≡ Some z → Q z
 each-set P Q xs i x y within holds others j z at = elim (cases_eq j i) [
-  | inl here ↦ subst Q (same_some y z (sym (get-set_same xs i y within) ∙ ap (slice_get (set xs i y)) (sym here) ∙ at)) holds
+  | inl here ↦ subst Q (same_Some y z (sym (get-set_same xs i y within) ∙ ap (slice_get (set xs i y)) (sym here) ∙ at)) holds
   | inr other ↦ others j z other (sym (get-set_other xs i j y other) ∙ at)
 ]
 
@@ -71,7 +56,7 @@ place-within groups pg place are is =
 -- and the group there is the one that was looked for
 pub place-holds : (groups : Groups) (pg : PgId) (place : ℕ) (kept : Kept) → AreAtPlaces groups → hash.get is_same_group groups.places pg ≡ Some place → slice_get groups.kept.items place ≡ Some kept → kept.pg ≡ pg
 place-holds groups pg place kept are is at =
-    same_some kept.pg pg (sym (slice_get-map (λ (k : Kept). k.pg) groups.kept.items place ∙ ap (option_map (λ (k : Kept). k.pg)) at) ∙ are.there pg place is)
+    same_Some kept.pg pg (sym (slice_get-map (λ (k : Kept). k.pg) groups.kept.items place ∙ ap (option_map (λ (k : Kept). k.pg)) at) ∙ are.there pg place is)
 
 id-at : (xs : List Kept) (place : ℕ) (kept : Kept) → slice_get xs place ≡ Some kept → slice_get (ids_of xs) place ≡ Some kept.pg
 id-at xs place kept at = slice_get-map (λ (k : Kept). k.pg) xs place ∙ ap (option_map (λ (k : Kept). k.pg)) at
@@ -92,19 +77,16 @@ other-group groups pg place j kept are is at other = elim (cases_Bool (is_same_g
   | inl same ↦
       let e : pg ≡ kept.pg = same_group pg kept.pg same in
       let found : hash.get is_same_group groups.places pg ≡ Some j = are.found pg j (id-at groups.kept.items j kept at ∙ ap Some (sym e)) in
-      absurd (other (same_some j place (sym found ∙ is)))
+      absurd (other (same_Some j place (sym found ∙ is)))
   | inr differs ↦ differs
 ]
 
 -- a group that isn't in the table isn't in the list
 missing-id : (groups : Groups) (pg other : PgId) (j : ℕ) → AreAtPlaces groups → hash.get is_same_group groups.places pg ≡ None → slice_get (ids_of groups.kept.items) j ≡ Some other → is_same_group pg other ≡ false
 missing-id groups pg other j are none at = elim (cases_Bool (is_same_group pg other)) [
-  | inl same ↦ absurd (none_some (sym none ∙ are.found pg j (at ∙ ap Some (sym (same_group pg other same)))))
+  | inl same ↦ absurd (none-some _ (sym none ∙ are.found pg j (at ∙ ap Some (sym (same_group pg other same)))))
   | inr differs ↦ differs
 ]
-  where
-    none_some : {X : Type 0} {x : X} → None ≡ Some x → ⊥
-    none_some same = cc
 
 pub missing-group : (groups : Groups) (pg : PgId) (j : ℕ) (kept : Kept) → AreAtPlaces groups → hash.get is_same_group groups.places pg ≡ None → slice_get groups.kept.items j ≡ Some kept → is_same_group pg kept.pg ≡ false
 missing-group groups pg j kept are none at = missing-id groups pg kept.pg j are none (id-at groups.kept.items j kept at)
@@ -153,7 +135,7 @@ each-push Q xs x each last j z at = elim (cases_lt j (length xs)) [
   | inr past ↦
       let within : j < length (xs ++ x ∷ []) = slice_get_within (xs ++ x ∷ []) j z at in
       let here : j ≡ length xs = omega (arith, within, past, length-append xs (x ∷ [])) in
-      subst Q (same_some x z (sym (get-last xs x) ∙ ap (slice_get (xs ++ x ∷ [])) (sym here) ∙ at)) last
+      subst Q (same_Some x z (sym (get-last xs x) ∙ ap (slice_get (xs ++ x ∷ [])) (sym here) ∙ at)) last
 ]
 
 ids-push : (xs : List Kept) (kept : Kept) → ids_of (xs ++ kept ∷ []) ≡ ids_of xs ++ kept.pg ∷ []
@@ -162,7 +144,7 @@ ids-push xs kept = map-append (λ (k : Kept). k.pg) xs (kept ∷ [])
 there-push : (ids : List PgId) (pg : PgId) (old : PgId → Option ℕ) → ((q : PgId) (place : ℕ) → old q ≡ Some place → slice_get ids place ≡ Some q)
     → (q : PgId) (place : ℕ) (same : Bool) → is_same_group pg q ≡ same → cond same (Some (length ids)) (old q) ≡ Some place → slice_get (ids ++ pg ∷ []) place ≡ Some q
 there-push ids pg old are q place true same is =
-    ap (slice_get (ids ++ pg ∷ [])) (sym (same_some (length ids) place is)) ∙ get-last ids pg ∙ ap Some (same_group pg q same)
+    ap (slice_get (ids ++ pg ∷ [])) (sym (same_Some (length ids) place is)) ∙ get-last ids pg ∙ ap Some (same_group pg q same)
 there-push ids pg old are q place false same is =
     let at : slice_get ids place ≡ Some q = are q place is in get-append ids (pg ∷ []) place (slice_get_within ids place q at) ∙ at
 
@@ -175,7 +157,7 @@ found-push ids pg old absent are q place at = elim (cases_lt place (length ids))
   | inr past ↦
       let within : place < length (ids ++ pg ∷ []) = slice_get_within (ids ++ pg ∷ []) place q at in
       let here : place ≡ length ids = omega (arith, within, past, length-append ids (pg ∷ [])) in
-      let e : pg ≡ q = same_some pg q (sym (get-last ids pg) ∙ ap (slice_get (ids ++ pg ∷ [])) (sym here) ∙ at) in
+      let e : pg ≡ q = same_Some pg q (sym (get-last ids pg) ∙ ap (slice_get (ids ++ pg ∷ [])) (sym here) ∙ at) in
       ap (λ b. cond b (Some (length ids)) (old q)) (ap (is_same_group pg) (sym e) ∙ same-self pg) ∙ ap Some (sym here)
 ]
   where

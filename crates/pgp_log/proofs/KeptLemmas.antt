@@ -1,7 +1,8 @@
 -- What a shard keeps of its groups, as the log grows.
-use Rattle.std.proofs.Common.{◌≡◌, ℕ, List, [], ◌∷◌, ◌++◌, true, false, Option, Some, None, IfSome, is_some, length, option_map, refl, sym, ap, ◌∙◌, subst, inl, inr}
+use Rattle.std.proofs.Common.{◌≡◌, ℕ, List, [], ◌∷◌, ◌++◌, true, false, Option, Some, None, IfSome, length, option_map, refl, sym, ap, ◌∙◌, subst, inl, inr}
 use Rattle.std.specs.List.{filter}
 use Rattle.std.proofs.lemmas.Bool.{cases_Bool, true≢false}
+use Rattle.pgp_lists.proofs.Options.{some_is}
 use Rattle.pgp_ids.specs.declared.entry.Entry.{Entry}
 use Rattle.pgp_ids.specs.declared.entry.Entry.TheVariants as entry
 use Rattle.pgp_ids.specs.declared.incremental.Incremental.{Incremental}
@@ -79,14 +80,10 @@ raw-anew log inc before after pg raw step placed =
 
 -- ---- groups that a legal log doesn't have
 
-some_of : {X : Type 0} (found : Option X) → is_some found ≡ true → (x : X) × (found ≡ Some x)
-some_of None some = cc
-some_of (Some x) some = (x, refl)
-
 -- a group that is there before an incremental is there after it
 pub still-there : (incs : List Incremental) (inc : Incremental) (pg : PgId) → map_fault incs inc ≡ None → has_group incs pg ≡ true → has_group (then_with incs inc) pg ≡ true
 still-there incs inc pg fine there =
-    let history = some_of (group_history incs pg) (history_there incs pg ∙ there) in has_group-grows incs inc pg history.0 fine history.1
+    let history = some_is (group_history incs pg) (history_there incs pg ∙ there) in has_group-grows incs inc pg history.0 fine history.1
 
 -- one that is absent after it was absent before
 absent-before : (incs : List Incremental) (inc : Incremental) (pg : PgId) → map_fault incs inc ≡ None → has_group (then_with incs inc) pg ≡ false → has_group incs pg ≡ false

@@ -1,6 +1,7 @@
 -- The map has the group in which an object of a pool that is there lies.
-use Rattle.std.proofs.Common.{◌≡◌, ℕ, ◌<◌, ◌&&◌, List, Bool, true, false, Some, nat_lt, refl, ap, ◌∙◌, arith}
+use Rattle.std.proofs.Common.{◌≡◌, ℕ, ◌<◌, List, true, false, Some, nat_lt, ap, ◌∙◌, arith}
 use Rattle.std.proofs.lemmas.Bool.Decides.{nat_tests}
+use Rattle.std.proofs.lemmas.Bool.{and_parts}
 use Rattle.std.specs.Option.{option_map_or}
 use Rattle.pgp_ids.specs.declared.incremental.Incremental.{Incremental}
 use Rattle.pgp_ids.specs.declared.pg_id.PgId.{PgId}
@@ -13,16 +14,12 @@ use Rattle.pgp_map.specs.MapOf.{IsMapOf}
 use Rattle.pgp_map.specs.Pools.{pool}
 use Rattle.pgp_map.proofs.CheckedLemmas.{pools-in_range, checked-has_group}
 
-and_left : (a b : Bool) → (a && b) ≡ true → a ≡ true
-and_left true b both = refl
-and_left false b both = cc
-
 above_0 : (most n : ℕ) → is_within most n ≡ true → 0 < n
 above_0 most n within = grind (arith, nat_tests)
 
 -- a pool has a group
 pub some-group : (incs : List Incremental) (id : ℕ) (made : PoolSpec) → are_checked incs ≡ true → pool incs id ≡ Some made → 0 < made.pg_num
-some-group incs id made checked there = above_0 1024 made.pg_num (and_left _ _ (and_left _ _ (pools-in_range incs id made checked there)))
+some-group incs id made checked there = above_0 1024 made.pg_num ((and_parts _ _ (and_parts _ _ (pools-in_range incs id made checked there)).0).0)
 
 is_below : (a b : ℕ) → a < b → nat_lt a b ≡ true
 is_below a b below = grind (arith, nat_tests)

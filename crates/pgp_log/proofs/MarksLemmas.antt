@@ -8,6 +8,7 @@ use Rattle.std.proofs.lemmas.List.{take_more_set}
 use Rattle.std.proofs.lemmas.List.Elements.{All-head, All-tail}
 use Rattle.std.proofs.lemmas.List.Folds.{list_any-append}
 use Rattle.std.proofs.lemmas.Option.{slice_get_within}
+use Rattle.std.proofs.Math.Bool.{and-false}
 use Rattle.pgp_ids.specs.declared.entry.Entry.{Entry}
 use Rattle.pgp_ids.specs.declared.entry.Entry.TheVariants as entry
 use Rattle.pgp_ids.specs.declared.incremental.Incremental.{Incremental}
@@ -32,10 +33,6 @@ any-set : {X : Type 0} (p : X → Bool) (xs : List X) (i : ℕ) (old new : X) �
 any-set p [] i old new at same = refl
 any-set p (x ∷ xs) zero old new at same = let here : x ≡ old = cc in ap (λ b. b || list_any p xs) (same ∙ ap p (sym here))
 any-set p (x ∷ xs) (suc i) old new at same = ap (λ b. p x || b) (any-set p xs i old new at same)
-
-and-false : (b : Bool) → (b && false) ≡ false
-and-false true = refl
-and-false false = refl
 
 -- another group is marked where it was before
 pub marks-set : (xs : List Kept) (i : ℕ) (old new : Kept) (pg : PgId) → slice_get xs i ≡ Some old → new.pg ≡ old.pg → (is_same_group pg old.pg ≡ true → new.view ≡ old.view)

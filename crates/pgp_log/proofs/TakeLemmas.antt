@@ -1,8 +1,9 @@
 -- What one entry more does to a log.
-use Rattle.std.proofs.Common.{◌≡◌, ◌≢◌, ◌<◌, ◌≤◌, ◌||◌, inl, inr, length-append, append-nil, List, [], ◌∷◌, ◌++◌, Bool, true, false, Option, Some, None, IfSome, length, nat_le, if◌then◌else◌, refl, sym, ap, ◌∙◌, arith}
+use Rattle.std.proofs.Common.{◌≡◌, ◌<◌, ◌≤◌, inl, inr, length-append, append-nil, List, [], ◌∷◌, ◌++◌, Bool, true, false, Option, Some, None, IfSome, length, nat_le, if◌then◌else◌, refl, sym, ap, ◌∙◌, arith}
 use Rattle.std.specs.Option.{option_map, option_or}
 use Rattle.std.proofs.lemmas.Bool.Decides.{leb_tells}
 use Rattle.std.proofs.lemmas.List.Elements.{filter_map-append}
+use Rattle.std.proofs.Math.Bool.{or-false}
 use Rattle.pgp_lists.proofs.Options.{if_none}
 use Rattle.pgp_ids.specs.declared.entry.Entry.{Entry}
 use Rattle.pgp_ids.specs.declared.entry.Entry.TheVariants as entry
@@ -66,19 +67,10 @@ faultless-inc log (entry.Info info) inc some none = cc
 faultless-inc log (entry.Entries report) inc some none = cc
 faultless-inc log entry.Close inc some none = cc
 
--- what was found is why the log doesn't take the entry
-pub found-is : (found fault : Option Refusal) → found ≡ fault → IfSome found (λ r. r ≢ refusal.Memory → fault ≡ Some r)
-found-is None fault same = tt
-found-is (Some r) fault same = λ _. sym same
-
 -- ---- a log that takes an entry
 
-or_false : (b : Bool) → (b || false) ≡ b
-or_false true = refl
-or_false false = refl
-
 pub closed-push : (log : List Entry) (new : Entry) → is_closed log ≡ false → is_closed (log ++ new ∷ []) ≡ is_close new
-closed-push [] new opened = or_false (is_close new)
+closed-push [] new opened = or-false (is_close new)
 closed-push (entry.Inc inc ∷ log) new opened = closed-push log new opened
 closed-push (entry.Info info ∷ log) new opened = closed-push log new opened
 closed-push (entry.Entries report ∷ log) new opened = closed-push log new opened

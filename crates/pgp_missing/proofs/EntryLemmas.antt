@@ -1,5 +1,5 @@
 -- Entries of a map by their numbers.
-use Rattle.std.proofs.Common.{◌≡◌, ℕ, List, [], ◌∷◌, Bool, true, false, ◌&&◌, ◌||◌, nat_eq, nat_lt, nat_le, min, max, eqb-true, map, refl, ap, sym, ◌∙◌, subst, inl, inr, arith}
+use Rattle.std.proofs.Common.{◌≡◌, ℕ, Option, List, [], ◌∷◌, true, false, ◌&&◌, nat_eq, nat_lt, nat_le, min, max, eqb-true, map, refl, ap, sym, ◌∙◌, subst, inl, inr, arith}
 use Rattle.std.specs.List.{All}
 use Rattle.std.specs.List.Sorted.{IsStrictlySortedBy}
 use Rattle.std.specs.Map.{keys_of, lookup}
@@ -9,7 +9,8 @@ use Rattle.std.specs.declared.ops.Bound.TheVariants.{Included, Excluded}
 use Rattle.std.specs.Option.{option_map_or}
 use Rattle.std.specs.Ordering.{nat_cmp, is_eq}
 use Rattle.std.specs.declared.cmp.Ordering.TheVariants.{Less}
-use Rattle.std.proofs.lemmas.Bool.{and_parts, cases_Bool, false_from_ne_true}
+use Rattle.std.proofs.Math.Bool.{and-false, and-true, or-false}
+use Rattle.std.proofs.lemmas.Bool.{and_parts, cases_Bool}
 use Rattle.std.proofs.lemmas.Bool.Decides.{nat_tests, eqb_tells}
 use Rattle.std.proofs.lemmas.List.Elements.{All-head, All-tail}
 use Rattle.std.proofs.lemmas.Map.Keys.{sorted_tail}
@@ -55,30 +56,21 @@ within_above info (x ∷ xs) = elim (cases_Bool (is_in_log info x.version.v)) [
 
 -- ---- whether an entry has a version
 
-same_number : (a b : Version) → is_same_version a b ≡ true → a.v ≡ b.v
-same_number a b same = eqb-true a.v b.v ((and_parts (nat_eq a.epoch b.epoch) (nat_eq a.v b.v) same).1)
-
-other_log : (info : Info) (a b : Version) → is_in_log info a.v ≡ true → is_in_log info b.v ≡ false → (a.v ≡ b.v) → ⊥
-other_log info a b is out same = let back : is_in_log info b.v ≡ true = subst (λ v. is_in_log info v ≡ true) same is in cc
-
-module _ (info : Info) (version : Version) where
-  pub version_outside : (entries : List LogEntry) → is_in_log info version.v ≡ false → has_version version (within info entries) ≡ false
-  version_outside [] out = refl
-  version_outside (x ∷ xs) out = elim (cases_Bool (is_in_log info x.version.v)) [
-    | inl is ↦
-        let other : is_same_version x.version version ≡ false = false_from_ne_true _ (λ same. other_log info x.version version is out (same_number x.version version same)) in
-        rw (is, other) (version_outside xs out)
-    | inr is ↦ rw is (version_outside xs out)
+-- the log has it where its number is one of the log's and an entry has it
+pub has_version-within : (info : Info) (version : Version) (entries : List LogEntry) → has_version version (within info entries) ≡ (is_in_log info version.v && has_version version entries)
+has_version-within info version [] = sym (and-false (is_in_log info version.v))
+has_version-within info version (x ∷ xs) = elim (cases_Bool (is_same_version x.version version)) [
+  | inl same ↦
+      let here : is_in_log info x.version.v ≡ is_in_log info version.v = ap (is_in_log info) (eqb-true x.version.v version.v (and_parts (nat_eq x.version.epoch version.epoch) _ same).1) in
+      elim (cases_Bool (is_in_log info version.v)) [
+        | inl is ↦ rw (here ∙ is, is, same) refl
+        | inr out ↦ rw (here ∙ out, out) (has_version-within info version xs ∙ ap (λ b. b && has_version version xs) out)
+      ]
+  | inr other ↦ elim (cases_Bool (is_in_log info x.version.v)) [
+    | inl is ↦ rw (is, other) (has_version-within info version xs)
+    | inr out ↦ rw (out, other) (has_version-within info version xs)
   ]
-
-  pub version_inside : (entries : List LogEntry) → is_in_log info version.v ≡ true → has_version version (within info entries) ≡ has_version version entries
-  version_inside [] within_log = refl
-  version_inside (x ∷ xs) within_log = elim (cases_Bool (is_in_log info x.version.v)) [
-    | inl is ↦ rw is (ap (λ b. is_same_version x.version version || b) (version_inside xs within_log))
-    | inr is ↦
-        let other : is_same_version x.version version ≡ false = false_from_ne_true _ (λ same. other_log info version x.version within_log is (sym (same_number x.version version same))) in
-        rw (is, other) (version_inside xs within_log)
-  ]
+]
 
 module _ (version : Version) where
   none_after : (es : List (ℕ × Write)) → All (λ k. nat_cmp version.v k ≡ Less) (keys_of es) → has_version version (map numbered es) ≡ false
@@ -88,14 +80,6 @@ module _ (version : Version) where
       let other : is_same_version (numbered e).version version ≡ false = grind (arith, nat_tests) in
       rw other (none_after es (All-tail (λ k. nat_cmp version.v k ≡ Less) e.0 (keys_of es) later))
 
-  first_is : (b : Bool) → ((b && true) || false) ≡ b
-  first_is true = refl
-  first_is false = refl
-
-  first_not : (b rest : Bool) → ((b && false) || rest) ≡ rest
-  first_not true rest = refl
-  first_not false rest = refl
-
   pub has_version-lookup : (es : List (ℕ × Write)) → IsStrictlySortedBy nat_cmp (keys_of es)
       → has_version version (map numbered es) ≡ option_map_or (λ write. nat_eq write.epoch version.epoch) (lookup (is_at (nat_cmp version.v)) es) false
   has_version-lookup [] ordered = refl
@@ -104,9 +88,16 @@ module _ (version : Version) where
         let at : nat_eq e.0 version.v ≡ true = same.0 in
         let tied : is_eq (nat_cmp version.v e.0) ≡ true = grind (arith, nat_tests) in
         let later : All (λ k. nat_cmp version.v k ≡ Less) (keys_of es) = subst (λ v. All (λ k. nat_cmp v k ≡ Less) (keys_of es)) same.1 (All-after_first nat_cmp e.0 (keys_of es) ordered) in
-        rw (at, tied, none_after es later) (first_is (nat_eq e.1.epoch version.epoch))
+        rw (at, tied, none_after es later, and-true (nat_eq e.1.epoch version.epoch), or-false (nat_eq e.1.epoch version.epoch)) refl
     | inr other ↦
         let at : nat_eq e.0 version.v ≡ false = other.0 in
         let untied : is_eq (nat_cmp version.v e.0) ≡ false = grind (arith, nat_tests) in
-        rw (at, untied) (first_not (nat_eq e.1.epoch version.epoch) (has_version version (map numbered es)) ∙ has_version-lookup es (sorted_tail nat_cmp e.0 (keys_of es) ordered))
+        rw (at, untied, and-false (nat_eq e.1.epoch version.epoch)) (has_version-lookup es (sorted_tail nat_cmp e.0 (keys_of es) ordered))
   ]
+
+-- what a map finds at the version's number tells whether the log has it
+pub version-found : (info : Info) (version : Version) (entries : List LogEntry) (es : List (ℕ × Write)) (found : Option Write) → is_in_log info version.v ≡ true → map numbered es ≡ entries → IsStrictlySortedBy nat_cmp (keys_of es)
+    → found ≡ lookup (is_at (nat_cmp version.v)) es → option_map_or (λ write. nat_eq write.epoch version.epoch) found false ≡ has_version version (within info entries)
+version-found info version entries es found inside are ordered is =
+    ap (λ found. option_map_or (λ write. nat_eq write.epoch version.epoch) found false) is ∙ sym (has_version-lookup version es ordered) ∙ ap (has_version version) are
+    ∙ sym (has_version-within info version entries ∙ ap (λ b. b && has_version version entries) inside)

@@ -28,13 +28,10 @@ use Rattle.pgp_missing.proofs.Lists.{Contains-split, AllPairs-after, AllPairs-be
 
 -- ---- the log by number
 
-less_number : (a b : ℕ) → nat_cmp a b ≡ Less → a < b
-less_number a b less = grind (arith, nat_tests)
-
 pub by_number-ascends : (reported : List LogEntry) → IsByNumber (by_number reported)
 by_number-ascends reported =
     AllPairs-weaker (λ (a b : LogEntry). nat_cmp a.version.v b.version.v ≡ Less) (λ (a b : LogEntry). a.version.v < b.version.v)
-    (λ a b less. less_number a.version.v b.version.v less) (by_number reported)
+    (λ a b less. grind (arith, nat_tests)) (by_number reported)
     (last_of_each-ordered number_of nat_cmp nat_cmp_total exact_unsigned reported)
 
 pub log_of-ascends : (info : Info) (reported : List LogEntry) → IsByNumber (log_of info reported)

@@ -1,80 +1,72 @@
 -- A log has as many entries as it has numbers exactly where each of its numbers has an entry.
-use Rattle.std.proofs.Common.{◌≡◌, ◌≢◌, ℕ, suc, ◌-◌, ◌<◌, ◌≤◌, List, [], ◌∷◌, true, false, nat_eq, nat_lt, nat_le, eqb-true, eq-eqb, length, refl, ap, sym, ◌∙◌, subst, inl, inr, arith, ltb-true, leb-true}
-use Rattle.std.specs.List.{All, Contains}
+use Rattle.std.proofs.Common.{◌≡◌, ℕ, suc, ◌-◌, ◌<◌, ◌≤◌, List, [], ◌∷◌, true, false, nat_eq, nat_lt, nat_le, eqb-true, eq-eqb, length, refl, ap, sym, ◌∙◌, subst, inl, inr, arith, ltb-true, leb-true}
+use Rattle.std.specs.List.{Contains}
+use Rattle.std.specs.Prelude.{⊤}
 use Rattle.std.proofs.lemmas.Bool.{and_parts, and_from, or_cases, or_left, or_right, cases_Bool, cases_lt, lt-ltb, le-leb}
-use Rattle.std.proofs.lemmas.Bool.Decides.{eqb_tells}
-use Rattle.std.proofs.lemmas.List.Elements.{All-head, All-tail, All-contains, Contains-append_right}
+use Rattle.std.proofs.lemmas.Bool.Decides.{eqb_tells, nat_tests}
+use Rattle.std.proofs.lemmas.List.Elements.{All-contains, Contains-append_right}
 use Rattle.pgp_ids.specs.declared.log_entry.LogEntry.{LogEntry}
 use Rattle.pgp_ids.specs.declared.report.Info.{Info}
-use Rattle.pgp_lists.proofs.Members.{Contains-here, All-members, any-contains, contains-any, none-contains}
+use Rattle.pgp_lists.proofs.Members.{Contains-here, Contains-later, any-contains, contains-any, none-contains}
 use Rattle.pgp_lists.proofs.Pairs.{AllPairs-first, AllPairs-rest}
 use Rattle.pgp_missing.specs.Last.{IsLast}
 use Rattle.pgp_missing.specs.Log.{number_of, IsByNumber, is_in_log, log_of, has_number, has_each_number, HasEachNumber}
 use Rattle.pgp_missing.proofs.MissingLemmas.{log_of-ascends, log_of-last, last-log_of}
 
-abbrev AllAbove : ℕ → List LogEntry → Type 0
-AllAbove low entries = All (λ (e : LogEntry). low < e.version.v) entries
-
-abbrev AllUpTo : ℕ → List LogEntry → Type 0
-AllUpTo high entries = All (λ (e : LogEntry). e.version.v ≤ high) entries
-
 abbrev Less_number : LogEntry → LogEntry → Type 0
 Less_number a b = a.version.v < b.version.v
 
-bounded : (high low : ℕ) (entries : List LogEntry) → IsByNumber entries → AllAbove low entries → AllUpTo high entries → length entries ≤ high - low
-bounded high low [] ascends above below = omega arith
-bounded high low (e ∷ es) ascends above below =
-    let rest = bounded high e.version.v es (AllPairs-rest Less_number e es ascends) (AllPairs-first Less_number e es ascends) (All-tail (λ (x : LogEntry). x.version.v ≤ high) e es below) in
-    let here : low < e.version.v = All-head (λ (x : LogEntry). low < x.version.v) e es above in
-    let top : e.version.v ≤ high = All-head (λ (x : LogEntry). x.version.v ≤ high) e es below in
-    omega arith
+-- the entries are by number, above one number and up to another
+abbrev Climbs : ℕ → ℕ → List LogEntry → Type 0
+Climbs high low [] = ⊤
+Climbs high low (e ∷ es) = (low < e.version.v) × (e.version.v ≤ high) × Climbs high e.version.v es
 
-full-each : (high low : ℕ) (entries : List LogEntry) → IsByNumber entries → AllAbove low entries → AllUpTo high entries → length entries ≡ high - low
-    → (v : ℕ) → low < v → v ≤ high → has_number v entries ≡ true
-full-each high low [] ascends above below full v more less = absurd (omega arith)
-full-each high low (e ∷ es) ascends above below full v more less =
-    let rest_below : AllUpTo high es = All-tail (λ (x : LogEntry). x.version.v ≤ high) e es below in
-    let rest = bounded high e.version.v es (AllPairs-rest Less_number e es ascends) (AllPairs-first Less_number e es ascends) rest_below in
-    let here : low < e.version.v = All-head (λ (x : LogEntry). low < x.version.v) e es above in
-    let top : e.version.v ≤ high = All-head (λ (x : LogEntry). x.version.v ≤ high) e es below in
+climbs : (high low : ℕ) (entries : List LogEntry) → IsByNumber entries → ((e : LogEntry) → Contains entries e → (low < e.version.v) × (e.version.v ≤ high)) → Climbs high low entries
+climbs high low [] ascends each = tt
+climbs high low (e ∷ es) ascends each =
+    let here = each e (Contains-here e es) in
+    let later = AllPairs-first Less_number e es ascends in
+    (here.0, here.1, climbs high e.version.v es (AllPairs-rest Less_number e es ascends) (λ x in'. (All-contains (Less_number e) es x later in', (each x (Contains-later e es x in')).1)))
+
+bounded : (high low : ℕ) (entries : List LogEntry) → Climbs high low entries → length entries ≤ high - low
+bounded high low [] climb = omega arith
+bounded high low (e ∷ es) climb = let rest = bounded high e.version.v es climb.2 in omega (arith, climb.0, climb.1, rest)
+
+none_below : (high low v : ℕ) (entries : List LogEntry) → Climbs high low entries → v ≤ low → has_number v entries ≡ false
+none_below high low v [] climb below = refl
+none_below high low v (e ∷ es) climb below =
+    let above : low < e.version.v = climb.0 in
+    let other : nat_eq e.version.v v ≡ false = grind (arith, nat_tests) in
+    rw other (none_below high e.version.v v es climb.2 (omega arith))
+
+full-each : (high low : ℕ) (entries : List LogEntry) → Climbs high low entries → length entries ≡ high - low → (v : ℕ) → low < v → v ≤ high → has_number v entries ≡ true
+full-each high low [] climb full v more less = absurd (omega arith)
+full-each high low (e ∷ es) climb full v more less =
+    let rest = bounded high e.version.v es climb.2 in
     elim (eqb_tells e.version.v v) [
       | inl same ↦ or_left (nat_eq e.version.v v) (has_number v es) same.0
       | inr other ↦
-          let apart : e.version.v ≢ v = other.1 in
           or_right (nat_eq e.version.v v) (has_number v es)
-          (full-each high e.version.v es (AllPairs-rest Less_number e es ascends) (AllPairs-first Less_number e es ascends) rest_below (omega arith) v (omega arith) less)
+          (full-each high e.version.v es climb.2 (omega (arith, climb.0, climb.1, rest, full)) v (omega (arith, climb.0, climb.1, rest, full, other.1)) less)
     ]
 
--- a number that isn't the first entry's is that of a later one
-later_has : (v : ℕ) (e : LogEntry) (es : List LogEntry) → e.version.v ≢ v → has_number v (e ∷ es) ≡ true → has_number v es ≡ true
-later_has v e es apart has = elim (or_cases (nat_eq e.version.v v) (has_number v es) has) [
-  | inl here ↦ absurd (apart (eqb-true e.version.v v here))
-  | inr there ↦ there
-]
-
-each-full : (high low : ℕ) (entries : List LogEntry) → IsByNumber entries → AllAbove low entries → AllUpTo high entries
-    → ((v : ℕ) → low < v → v ≤ high → has_number v entries ≡ true) → length entries ≡ high - low
-each-full high low [] ascends above below each = elim (cases_lt low high) [
+each-full : (high low : ℕ) (entries : List LogEntry) → Climbs high low entries → ((v : ℕ) → low < v → v ≤ high → has_number v entries ≡ true) → length entries ≡ high - low
+each-full high low [] climb each = elim (cases_lt low high) [
   | inl more ↦ absurd (let never : false ≡ true = each high more (omega arith) in cc)
   | inr none ↦ omega arith
 ]
-each-full high low (e ∷ es) ascends above below each =
-    let later : AllAbove e.version.v es = AllPairs-first Less_number e es ascends in
-    let here : low < e.version.v = All-head (λ (x : LogEntry). low < x.version.v) e es above in
-    let top : e.version.v ≤ high = All-head (λ (x : LogEntry). x.version.v ≤ high) e es below in
-    let rest : length es ≡ high - e.version.v =
-    each-full high e.version.v es (AllPairs-rest Less_number e es ascends) later (All-tail (λ (x : LogEntry). x.version.v ≤ high) e es below)
-    (λ v more less. later_has v e es (omega arith) (each v (omega arith) less)) in
-    elim (eqb_tells e.version.v (suc low)) [
-      | inl same ↦ let is : e.version.v ≡ suc low = same.1 in omega arith
-      | inr other ↦
-          let apart : e.version.v ≢ suc low = other.1 in
-          let found = any-contains (λ (x : LogEntry). nat_eq x.version.v (suc low)) es (later_has (suc low) e es apart (each (suc low) (omega arith) (omega arith))) in
-          let x : LogEntry = found.0 in
-          let is : x.version.v ≡ suc low = eqb-true x.version.v (suc low) found.1.1 in
-          let after : e.version.v < x.version.v = All-contains (λ (y : LogEntry). e.version.v < y.version.v) es x later found.1.0 in
-          absurd (omega arith)
-    ]
+each-full high low (e ∷ es) climb each = elim (eqb_tells e.version.v (suc low)) [
+  | inl same ↦
+      let rest : length es ≡ high - e.version.v =
+      each-full high e.version.v es climb.2 (λ v more less.
+      let other : nat_eq e.version.v v ≡ false = grind (arith, nat_tests) in
+      rw other at (each v (omega (arith, climb.0, more)) less)) in
+      omega (arith, climb.1, same.1, rest)
+  | inr other ↦
+      let none = none_below high (suc low) (suc low) (e ∷ es) (omega (arith, climb.0, other.1), climb.1, climb.2) (omega arith) in
+      let has = each (suc low) (omega arith) (omega (arith, climb.0, climb.1)) in
+      cc
+]
 
 -- ---- what was reported with a number and what the log has
 
@@ -120,21 +112,17 @@ has_reported info reported v has =
     (subst (λ (es : List LogEntry). Contains es entry) (sym last.split) (Contains-append_right last.before (entry ∷ last.after) entry (Contains-here entry last.after))) found.1.1
 
 module _ (info : Info) (reported : List LogEntry) where
-  bounds : (v : ℕ) → is_in_log info v ≡ true → (info.log_tail.v < v) × (v ≤ info.last_update.v)
-  bounds v is = let parts = and_parts (nat_lt info.log_tail.v v) (nat_le v info.last_update.v) is in (ltb-true info.log_tail.v v parts.0, leb-true v info.last_update.v parts.1)
-
-  all_above : AllAbove info.log_tail.v (log_of info reported)
-  all_above = All-members (λ (e : LogEntry). info.log_tail.v < e.version.v) (log_of info reported) (λ e in'. (bounds e.version.v (log_of-last info reported e in').0).0)
-
-  all_up_to : AllUpTo info.last_update.v (log_of info reported)
-  all_up_to = All-members (λ (e : LogEntry). e.version.v ≤ info.last_update.v) (log_of info reported) (λ e in'. (bounds e.version.v (log_of-last info reported e in').0).1)
+  climb : Climbs info.last_update.v info.log_tail.v (log_of info reported)
+  climb = climbs info.last_update.v info.log_tail.v (log_of info reported) (log_of-ascends info reported) (λ e in'.
+      let parts = and_parts (nat_lt info.log_tail.v e.version.v) (nat_le e.version.v info.last_update.v) (log_of-last info reported e in').0 in
+      (ltb-true info.log_tail.v e.version.v parts.0, leb-true e.version.v info.last_update.v parts.1))
 
   pub each_number-counted : has_each_number info reported ≡ true → HasEachNumber info reported
   each_number-counted counted = λ v more less.
       has_reported info reported v
-      (full-each info.last_update.v info.log_tail.v (log_of info reported) (log_of-ascends info reported) all_above all_up_to (eqb-true _ _ counted) v more less)
+      (full-each info.last_update.v info.log_tail.v (log_of info reported) climb (eqb-true _ _ counted) v more less)
 
   pub counted-each_number : HasEachNumber info reported → has_each_number info reported ≡ true
   counted-each_number each =
-      eq-eqb _ _ (each-full info.last_update.v info.log_tail.v (log_of info reported) (log_of-ascends info reported) all_above all_up_to
+      eq-eqb _ _ (each-full info.last_update.v info.log_tail.v (log_of info reported) climb
       (λ v more less. log_has info reported v (and_from (nat_lt info.log_tail.v v) (nat_le v info.last_update.v) (lt-ltb info.log_tail.v v more) (le-leb v info.last_update.v less)) (each v more less)))

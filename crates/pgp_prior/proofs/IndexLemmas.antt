@@ -3,6 +3,7 @@ use Rattle.std.proofs.Common.{◌≡◌, ◌⊎◌, ◌≤◌, ℕ, zero, suc, L
 use Rattle.std.specs.List.{Contains, filter, flat_map}
 use Rattle.std.proofs.lemmas.Bool.{cases_Bool}
 use Rattle.std.proofs.lemmas.Bool.Decides.{nat_tests}
+use Rattle.std.proofs.Math.Bool.{and-false, and-true}
 use Rattle.pgp_ids.specs.declared.member.Member.{Member}
 use Rattle.pgp_ids.specs.declared.past.Past.{Past}
 use Rattle.pgp_lists.proofs.Members.{Contains-here, Contains-later, Contains-cases, Contains-nil, append-contains, filter-agree, map-contains}
@@ -22,17 +23,9 @@ matters_later false short down les later last rises = refl
 matters_later true short down les later last rises = elim (cases_Bool (nat_le later last)) [
   | inl long ↦
       let first : nat_le les last ≡ true = grind (arith, nat_tests) in
-      rw (long, first) (and_true (short && down))
-  | inr ended ↦ rw ended (and_false ((nat_le les last && short) && down))
+      rw (long, first) (and-true (short && down))
+  | inr ended ↦ rw ended (and-false ((nat_le les last && short) && down))
 ]
-  where
-    and_true : (b : Bool) → (b && true) ≡ b
-    and_true true = refl
-    and_true false = refl
-
-    and_false : (b : Bool) → (b && false) ≡ false
-    and_false true = refl
-    and_false false = refl
 
 module _ (enough : List ℕ → Bool) (by_place : Bool) (status : ℕ → ℕ → Status) where
   pub kept-later : (les later : ℕ) (kept : Kept) → les ≤ later → IsKept enough by_place status les kept → IsKept enough by_place status later (later_les later kept)

@@ -3,6 +3,7 @@ use Rattle.std.proofs.Common.{◌≡◌, ◌≤◌, ◌<◌, ℕ, zero, suc, Lis
 use Rattle.std.specs.List.{Contains}
 use Rattle.std.proofs.lemmas.Bool.{cases_eq}
 use Rattle.std.proofs.lemmas.Option.{slice_get_within, slice_get-get_or, get_or_from_slice_get}
+use Rattle.pgp_lists.proofs.Lists.{get-set_other, get-set_same}
 use Rattle.pgp_lists.proofs.Members.{Contains-nil, Contains-cases}
 use Rattle.pgp_sets.specs.declared.status.Status.{Status}
 use Rattle.pgp_prior.specs.declared.kept.Kept.{Kept}
@@ -13,18 +14,6 @@ at-contains xs k x is = (k, slice_get_within xs k x is, get_or_from_slice_get xs
 
 pub contains-at : {X : Type 0} (xs : List X) (x : X) → Contains xs x → (k : ℕ) × (slice_get xs k ≡ Some x)
 contains-at xs x in' = (in'.0, slice_get-get_or xs in'.0 x in'.1 ∙ ap Some in'.2)
-
-set-same : {X : Type 0} (xs : List X) (k : ℕ) (x : X) → k < length xs → slice_get (set xs k x) k ≡ Some x
-set-same [] k x below = absurd (omega arith)
-set-same (y ∷ xs) zero x below = refl
-set-same (y ∷ xs) (suc k) x below = set-same xs k x (omega arith)
-
-set-other : {X : Type 0} (xs : List X) (k j : ℕ) (x : X) → (j ≡ k → ⊥) → slice_get (set xs k x) j ≡ slice_get xs j
-set-other [] k j x apart = refl
-set-other (y ∷ xs) zero zero x apart = absurd (apart refl)
-set-other (y ∷ xs) zero (suc j) x apart = refl
-set-other (y ∷ xs) (suc k) zero x apart = refl
-set-other (y ∷ xs) (suc k) (suc j) x apart = set-other xs k j x (λ same. apart (ap suc same))
 
 -- a write that leaves what is read of the element leaves the list of it
 pub map-written : {X Y : Type 0} (f : X → Y) (xs : List X) (k : ℕ) (x y : X) → k < length xs → x ≡ get_or xs k x → f y ≡ f x → map f (set xs k y) ≡ map f xs
@@ -53,12 +42,12 @@ module _ (enough : List ℕ → Bool) (by_place : Bool) (les : ℕ) (old new : �
   way-renewed q rest past was now below is renew again way place kept at = elim (cases_eq place q) [
     | inl here ↦
         let there : slice_get past q ≡ Some was = slice_get-get_or past q was below ∙ ap Some (sym is) in
-        let found : Some now ≡ Some kept = sym (set-same past q now below) ∙ subst (λ k. slice_get (set past q now) k ≡ Some kept) here at in
+        let found : Some now ≡ Some kept = sym (get-set_same past q now below) ∙ subst (λ k. slice_get (set past q now) k ≡ Some kept) here at in
         let same : now ≡ kept = cc in
         let renewed : IsKept enough by_place new les now = elim (way q was there) [ inl done ↦ again done | inr left ↦ renew left.0 ] in
         inl (subst (IsKept enough by_place new les) same renewed)
     | inr apart ↦
-        elim (way place kept (sym (set-other past q place now apart) ∙ at)) [
+        elim (way place kept (sym (get-set_other past q place now apart) ∙ at)) [
           | inl done ↦ inl done
           | inr left ↦ elim (Contains-cases q rest place left.1) [
             | inl here ↦ absurd (apart (sym here))

@@ -1,34 +1,25 @@
 -- What an engine answers, as replies to commands by a front that holds the one that was handed in.
-use Rattle.std.proofs.Common.{◌≡◌, ℕ, ◌+◌, ◌<◌, List, [], ◌∷◌, ◌++◌, length, true, false, Option, Some, None, option_map, if◌then◌else◌, refl, ap, ap₂, sym, ◌∙◌, subst, arith, append_assoc, append-nil, length-append}
-use Rattle.std.specs.Prelude.{option_and_then}
-use Rattle.pgp_refusals.specs.declared.ask_refusal.AskRefusal.TheVariants.{UnknownGroup}
+use Rattle.std.proofs.Common.{◌≡◌, ℕ, ◌+◌, ◌<◌, List, [], ◌∷◌, ◌++◌, length, true, false, Some, None, refl, ap, ap₂, sym, ◌∙◌, subst, arith, length-append}
 use Rattle.pgp_refusals.specs.declared.locate_refusal.LocateRefusal.TheVariants.{UnknownPool}
 use Rattle.pgp_refusals.specs.declared.refusal.Refusal.{Refusal}
 use Rattle.pgp_ids.specs.declared.entry.Entry.{Entry}
 use Rattle.pgp_ids.specs.declared.membership.Membership.{Membership}
 use Rattle.pgp_ids.specs.declared.pg_id.PgId.{PgId}
-use Rattle.pgp_ids.specs.declared.pool.PoolSpec.{PoolSpec}
-use Rattle.pgp_ids.specs.declared.view.View.{View}
-use Rattle.pgp_map.specs.Pools.{pool, has_group}
-use Rattle.pgp_sets.specs.Sets.{membership, pool_membership}
+use Rattle.pgp_map.specs.Pools.{pool}
 use Rattle.pgp_group.specs.Entries.{incs_of}
-use Rattle.pgp_group.specs.GroupHistory.{history_of}
-use Rattle.pgp_group.specs.GroupLog.{group_with}
-use Rattle.pgp_group.specs.View.{view_of, scratch}
-use Rattle.pgp_lines.specs.declared.command.Command.TheVariants.{Submit, Ask, Locate}
-use Rattle.pgp_replies.specs.declared.reply.Reply.{Reply}
-use Rattle.pgp_replies.specs.declared.reply.Reply.TheVariants.{Accepted, Asked, Located, Refused}
+use Rattle.pgp_lines.specs.declared.command.Command.TheVariants.{Submit, Locate}
+use Rattle.pgp_replies.specs.declared.reply.Reply.TheVariants.{Accepted, Located, Refused}
 use Rattle.pgp_replies.specs.declared.reply.refused.Refused.TheVariants as why
 use Rattle.pgp_text.specs.EntryOp.{entry_op}
 use Rattle.pgp_log.specs.Fits.{fits}
-use Rattle.pgp_log.specs.Locate.{group_in_pool, place_with, place_of_object}
+use Rattle.pgp_log.specs.Locate.{place_with, place_of_object}
 use Rattle.pgp_log.specs.Log.{epoch_of, is_legal, IsFrontOf}
-use Rattle.pgp_log.specs.declared.place.Place.{Place}
 use Rattle.pgp_log.proofs.LogLemmas.{legal-last}
-use Rattle.pgp_core.specs.Answer.{asked_reply, located_reply, submitted_reply, log_with}
+use Rattle.pgp_core.specs.Answer.{located_reply, submitted_reply, log_with}
 use Rattle.pgp_core.specs.Answerer.{Replies}
+use Rattle.pgp_core.proofs.LocateLemmas.{located-there}
 use Rattle.pgp_feed.specs.declared.receipt.Receipt.{Receipt}
-use Rattle.pgp_feed.specs.Receipts.{entries_of, feed_of, Holds}
+use Rattle.pgp_feed.specs.Receipts.{entries_of}
 use Rattle.pgp_engine.specs.Intakes.{IsSubmitted, IsRefusedAt}
 
 -- a shorter front is one of all but the last entry
@@ -66,30 +57,6 @@ refused q at entry reason r = record {
 
 -- ---- objects
 
-some_is : {X : Type 0} (x y : X) → Some x ≡ Some y → x ≡ y
-some_is x y same = cc
-
--- the place of the object in this pool
-place-in : (log : List Entry) (id : ℕ) (name : List ℕ) (made : PoolSpec) → pool (incs_of log) id ≡ Some made
-    → place_of_object (incs_of log) id name ≡ Some (place_with (group_in_pool id name made) (pool_membership (incs_of log) (group_in_pool id name made) made))
-place-in log id name made there =
-    let incs = incs_of log in
-    let pg : PgId = group_in_pool id name made in
-    ap (λ (found : Option PoolSpec). option_and_then (λ (pg : PgId). option_map (place_with pg) (membership incs pg)) (option_map (group_in_pool id name) found)) there
-    ∙ ap (λ (found : Option PoolSpec). option_map (place_with pg) (option_map (pool_membership incs pg) found)) there
-
--- the reply, where the object lies there
-located-there : (log : List Entry) (id : ℕ) (name : List ℕ) (pg : PgId) (members : Membership) (now : ℕ)
-    → place_of_object (incs_of log) id name ≡ Some (place_with pg members) → now ≡ epoch_of log
-    → Located pg members now ≡ located_reply log id name (pool (incs_of log) id)
-located-there log id name pg members now lies epoch = go (pool (incs_of log) id) refl where
-  go : (found : Option PoolSpec) → pool (incs_of log) id ≡ found → Located pg members now ≡ located_reply log id name found
-  go None none =
-      let nowhere : place_of_object (incs_of log) id name ≡ None =
-      ap (λ (found : Option PoolSpec). option_and_then (λ (pg : PgId). option_map (place_with pg) (membership (incs_of log) pg)) (option_map (group_in_pool id name) found)) none in
-      cc
-  go (Some made) there = ap₂ (λ (p : Place) (e : ℕ). Located p.pg p.members e) (some_is _ _ (sym lies ∙ place-in log id name made there)) epoch
-
 -- the receipt that was found by holds the one that was learnt
 pub located : (q at : Receipt) (id : ℕ) (name : List ℕ) (pg : PgId) (members : Membership) (now : ℕ) → IsFrontOf (entries_of q) (entries_of at)
     → place_of_object (incs_of (entries_of at)) id name ≡ Some (place_with pg members) → now ≡ epoch_of (entries_of at)
@@ -97,7 +64,7 @@ pub located : (q at : Receipt) (id : ℕ) (name : List ℕ) (pg : PgId) (members
 located q at id name pg members now later lies epoch = record {
   by = entries_of at;
   may = later;
-  is = located-there (entries_of at) id name pg members now lies epoch;
+  is = located-there (entries_of at) id name (place_with pg members) now lies epoch;
   log = refl;
 }
 
@@ -109,12 +76,3 @@ lies-nowhere q at id name later none = record {
   is = ap (located_reply (entries_of at) id name) (sym none);
   log = refl;
 }
-
-pub front-trans : (a b c : List Entry) → IsFrontOf a b → IsFrontOf b c → IsFrontOf a c
-front-trans a b c f g = record {
-  rest = f.rest ++ g.rest;
-  whole = g.whole ∙ ap (λ (log : List Entry). log ++ g.rest) f.whole ∙ append_assoc a f.rest g.rest;
-}
-
-pub front-same : (a : List Entry) → IsFrontOf a a
-front-same a = record { rest = []; whole = sym (append-nil a) }

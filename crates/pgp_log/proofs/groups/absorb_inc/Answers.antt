@@ -2,12 +2,13 @@ use Rattle.std.proofs.Common.{◌≡◌, ◌<◌, List, [], ◌∷◌, ◌++◌,
 use Rattle.std.specs.Prelude.{slice_get}
 use Rattle.std.proofs.lemmas.Bool.{cases_lt}
 use Rattle.std.proofs.lemmas.List.Elements.{All-get_or, All-set}
-use Rattle.std.proofs.lemmas.Option.{slice_get_read, slice_get_within}
+use Rattle.std.proofs.lemmas.Option.{slice_get_read, slice_get_within, same_Some}
+use Rattle.pgp_lists.proofs.Lists.{get-set_other, get-set_same}
 use Rattle.pgp_ids.specs.declared.entry.Entry.TheVariants as entry
 use Rattle.pgp_group.specs.Touched.{is_touched}
 use Rattle.pgp_log.specs.Kept.{AreAllMarked, IsKeptOf, is_marked}
 use Rattle.pgp_log.specs.declared.kept.Kept.{Kept}
-use Rattle.pgp_log.proofs.GroupsLemmas.{get-set_other, get-set_same, ids-set, same_some}
+use Rattle.pgp_log.proofs.GroupsLemmas.{ids-set}
 use Rattle.pgp_log.proofs.MarksLemmas.{marks-set}
 use Rattle.pgp_log.proofs.RawSetLemmas.{same_group}
 use Rattle.pgp_log.proofs.groups.absorb_inc.Goals as goal
@@ -49,7 +50,7 @@ loop-kept-preserved c =
         | inl earlier ↦ c.loop-kept.invariant.done log are step place kept earlier (sym (get-set_other groups i place new (λ same. omega arith)) ∙ there)
         | inr past ↦
             let here : place ≡ i = omega arith in
-            let same : new ≡ kept = same_some new kept (sym (get-set_same groups i new within) ∙ ap (slice_get (set groups i new)) (sym here) ∙ there) in
+            let same : new ≡ kept = same_Some new kept (sym (get-set_same groups i new within) ∙ ap (slice_get (set groups i new)) (sym here) ∙ there) in
             subst (IsKeptOf (log ++ entry.Inc c.args.inc.now ∷ [])) same
             (c.in_ok-absorb_inc.ensures.ok log (subst (IsKeptOf log) c.kept-item.is (are.each i item first)) step)
       ];

@@ -2,9 +2,10 @@ use Rattle.std.proofs.Common.{◌≡◌, ◌<◌, List, Some, get_or, length, se
 use Rattle.std.specs.Prelude.{slice_get}
 use Rattle.std.proofs.lemmas.List.{set-get_or}
 use Rattle.std.proofs.lemmas.Option.{slice_get_read}
+use Rattle.pgp_lists.proofs.Lists.{get-set_other}
 use Rattle.pgp_log.specs.Kept.{IsKeptOf, is_marked}
 use Rattle.pgp_log.specs.declared.kept.Kept.{Kept}
-use Rattle.pgp_log.proofs.GroupsLemmas.{each-kept, get-set_other, ids-set}
+use Rattle.pgp_log.proofs.GroupsLemmas.{each-kept, ids-set}
 use Rattle.pgp_log.proofs.KeptLemmas.{kept-inc}
 use Rattle.pgp_log.proofs.MarksLemmas.{renewing-leaves, renewing-passes, renewing-renews}
 use Rattle.pgp_log.proofs.SharedLemmas.{on_err}

@@ -1,4 +1,5 @@
 use Rattle.std.proofs.Common.{◌≡◌, Some, None, ap, subst, sym, ◌∙◌}
+use Rattle.std.proofs.lemmas.Option.{none-some}
 use Rattle.std.specs.Option.{option_copied}
 use Rattle.pgp_code.specs.AnyCode.{is_by_place}
 use Rattle.pgp_code.specs.declared.any.AnyCode.{AnyCode}
@@ -45,8 +46,5 @@ returns-in_default-clause-logs c = λ g keeps here current.
     sym (best-is g c.look.new.self.heard heard) ∙ ap (λ (h : Heard Preference). best_info (prefers h.prefer) h.infos) (sym c.heard.ensures) ∙ sym c.best.ensures ∙ ap option_copied c.in_default.is in
     record {
       each = c.in_ok-look-2.ensures.ok g here keeps.reports_are;
-      best_by_info = λ info log best_is found. absurd (nothing info (sym none ∙ best_is));
+      best_by_info = λ info log best_is found. absurd (none-some info (sym none ∙ best_is));
     }
-  where
-    nothing : (info : Info) → None ≡ Some info → ⊥
-    nothing info same = cc

@@ -1,5 +1,6 @@
-use Rattle.std.proofs.Common.{◌≡◌, Some, None, sym, ◌∙◌}
+use Rattle.std.proofs.Common.{◌≡◌, None, sym, ◌∙◌}
 use Rattle.std.proofs.lemmas.List.Quantifiers.{position-Some}
+use Rattle.std.proofs.lemmas.Option.{none-some}
 use Rattle.pgp_group.specs.KeptReports.{is_of, log_of}
 use Rattle.pgp_group.proofs.LogsLemmas.{found-none, renewed, renewed-one}
 use Rattle.pgp_group.proofs.logs.Logs.renew.Goals as goal
@@ -20,7 +21,4 @@ returns-in-Some-clause-bounds c = λ log reported is found.
 pub returns-in_default-clause-bounds : goal.returns-in_default-clause-bounds
 returns-in_default-clause-bounds c = λ log reported is found.
     let none : log_of c.args.info.now.member c.args.self.now.of_members.items ≡ None = found-none (is_of c.args.info.now.member) c.args.self.now.of_members.items (sym c.place_of.ensures ∙ c.in_default.is) in
-    absurd (nothing (sym none ∙ found))
-  where
-    nothing : {X : Type 0} {x : X} → None ≡ Some x → ⊥
-    nothing same = cc
+    absurd (none-some _ (sym none ∙ found))

@@ -1,7 +1,7 @@
 use Rattle.std.proofs.Common.{refl}
-use Rattle.pgp_run.proofs.ReplyLemmas.{front-same}
+use Rattle.pgp_feed.proofs.Fronts.{front_self}
 use Rattle.pgp_run.proofs.answerer.EngineAnswererAnswerer.reply.Goals as goal
 
 pub returns-in_ok-traced-in-Trace-clause-reply : goal.returns-in_ok-traced-in-Trace-clause-reply
 returns-in_ok-traced-in-Trace-clause-reply g c =
-    rw c.in-Trace.is (record { by = c.args.self.now; may = front-same c.args.self.now; is = c.in_ok-traced-in-Trace.ensures; log = refl })
+    rw c.in-Trace.is (record { by = c.args.self.now; may = front_self c.args.self.now; is = c.in_ok-traced-in-Trace.ensures; log = refl })
