@@ -21,6 +21,9 @@ const SCRIPT: &[u8] = b"{\"op\":\"close\"}\n";
 const WRONG_COUNT: &[u8] =
     b"error: --shards takes a number from 1 to 64, and --workers one from 0 to 64\n";
 
+/// How the text begins that asks for one.
+const NO_COUNT: &[u8] = b"error: a value is required for '--";
+
 /// Fails at each call.
 #[derive(Drop)]
 struct Broken;
@@ -150,38 +153,26 @@ fn tells_faults(rt: HostRuntime) -> Result<(), Fail> {
 #[test]
 fn refuses_wrong_counts(rt: HostRuntime) -> Result<(), Fail> {
     let alloc = rt.alloc();
-    for (option, number) in [
-        ("--shards", "0"),
-        ("--shards", "65"),
-        ("--shards", "many"),
-        ("--workers", "65"),
-        ("--workers", "1.5"),
-        ("--workers", ""),
+    for (words, told) in [
+        (["pgpeer", "run", "--shards", "0"].as_slice(), WRONG_COUNT),
+        (["pgpeer", "run", "--shards", "65"].as_slice(), WRONG_COUNT),
+        (
+            ["pgpeer", "run", "--shards", "many"].as_slice(),
+            WRONG_COUNT,
+        ),
+        (["pgpeer", "run", "--workers", "65"].as_slice(), WRONG_COUNT),
+        (
+            ["pgpeer", "run", "--workers", "1.5"].as_slice(),
+            WRONG_COUNT,
+        ),
+        (["pgpeer", "run", "--workers", ""].as_slice(), WRONG_COUNT),
+        (["pgpeer", "run", "--shards"].as_slice(), NO_COUNT),
+        (["pgpeer", "run", "--workers"].as_slice(), NO_COUNT),
     ] {
-        let words = ["pgpeer", "run", option, number];
-        let (status, out, errors) = run_with(
-            &rt,
-            alloc,
-            words.as_slice(),
-            SCRIPT,
-            Vec::new(alloc),
-        )?;
+        let (status, out, errors) = run_with(&rt, alloc, words, SCRIPT, Vec::new(alloc))?;
         assert_eq!(rt; status, USAGE);
         assert!(rt; out.is_empty());
-        assert!(rt; errors.starts_with(WRONG_COUNT));
-    }
-    for option in ["--shards", "--workers"] {
-        let words = ["pgpeer", "run", option];
-        let (status, out, errors) = run_with(
-            &rt,
-            alloc,
-            words.as_slice(),
-            SCRIPT,
-            Vec::new(alloc),
-        )?;
-        assert_eq!(rt; status, USAGE);
-        assert!(rt; out.is_empty());
-        assert!(rt; errors.starts_with(b"error: a value is required for '--"));
+        assert!(rt; errors.starts_with(told));
     }
     Ok(())
 }
