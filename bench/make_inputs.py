@@ -20,6 +20,9 @@ Writes into FOLDER (by default bench/out) these files, which are the same at eve
   churn.jsonl     2,000 incrementals as those of incs.jsonl, with a question about a group after each
   churn_twice.jsonl   the same with 4,000 incrementals
   asks.jsonl      an outage of one group in seven entries, and then 20,000 questions about it with nothing between
+  untouched.jsonl     the same outage, and then by turns 2,000 incrementals that touch another group alone and 2,000
+                  questions about the first
+  untouched_twice.jsonl   the same with 4,000 of each
   long_past.jsonl     4,000 incrementals by turns take a device of one group down and boot it, each of which ends an
                   interval, and then 100 more with a question after each
   long_log.jsonl  254 reports of 256 log entries each, of one member of a group, with a question after each
@@ -182,8 +185,23 @@ def churn(rng, count):
 
 def asks(_rng, count):
     """Gives an outage of one group, and then questions about it."""
-    devices = [0, 1, 2]
-    outs = {"weight": [[1, 0], [2, 0]], "up_thru": [[0, 1]], "temp": [[1, 0, devices]]}
+    yield from outage_of_one([0, 1, 2])
+    for _ in range(count):
+        yield compact({"op": "ask", "pg": [1, 0]})
+
+
+def untouched(_rng, count):
+    """Gives the same outage, and then by turns an incremental that names a device of another group, and a question."""
+    yield from outage_of_one([0, 1, 2, 3])
+    yield compact({"op": "inc", "epoch": 5, "pools": [{**copies(2, 1), "leaf": DEVICE}], "temp": [[2, 0, [3]]]})
+    for number in range((count - 8) // 2):
+        yield compact({"op": "inc", "epoch": number + 6, "up" if number % 2 else "down": [3]})
+        yield compact({"op": "ask", "pg": [1, 0]})
+
+
+def outage_of_one(devices):
+    """Gives an outage of one group of the first three of these devices, in seven entries. All but the first are out."""
+    outs = {"weight": [[osd, 0] for osd in devices[1:]], "up_thru": [[0, 1]], "temp": [[1, 0, devices[:3]]]}
     root = {"id": -1, "type": HOST, "alg": "uniform", "items": devices}
     pool = {**copies(1, 1), "leaf": DEVICE}
     yield compact({"op": "inc", "epoch": 1, "up": devices, **outs, "pools": [pool], "crush": [root]})
@@ -194,8 +212,6 @@ def asks(_rng, count):
     yield compact({"op": "entries", "pg": [1, 0], "from": [1, 0], "stamp": 2, "log": log})
     yield compact({"op": "inc", "epoch": 3, "up_thru": [[1, 2]]})
     yield compact({"op": "inc", "epoch": 4, "weight": [[1, IN]]})
-    for _ in range(count):
-        yield compact({"op": "ask", "pg": [1, 0]})
 
 
 def one_group():
@@ -314,6 +330,8 @@ INPUTS = {
     "churn": (churn, 4_000),
     "churn_twice": (churn, 8_000),
     "asks": (asks, 20_000),
+    "untouched": (untouched, 4_008),
+    "untouched_twice": (untouched, 8_008),
     "long_past": (long_past, 4_201),
     "long_log": (long_log, 512),
     "traces": (traces, 500),

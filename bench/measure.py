@@ -24,7 +24,10 @@ import time
 from typing import NamedTuple
 
 HERE = os.path.dirname(os.path.abspath(__file__))
-NAMES = ("locate", "incs", "map", "steps", "full", "peering", "peering_wide", "churn", "churn_twice", "asks", "long_past", "long_log", "traces", "empty")
+NAMES = (
+    *("locate", "incs", "map", "steps", "full", "peering", "peering_wide", "churn", "churn_twice", "asks", "untouched"),
+    *("untouched_twice", "long_past", "long_log", "traces", "empty"),
+)
 
 
 class Run(NamedTuple):

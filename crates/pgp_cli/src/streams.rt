@@ -6,7 +6,7 @@ use std::io;
 use std::io::{Read, Write};
 
 /// A stream, and whether a call of it failed.
-#[derive(Debug, Drop)]
+#[derive(Drop)]
 pub struct Watched<S: Drop> {
     stream: S,
     failed: bool,

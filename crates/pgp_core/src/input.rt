@@ -11,14 +11,14 @@ use memchr::memchr;
 use std::alloc::Global;
 
 /// How large a script may be.
-#[derive(Clone, Copy, Debug, PartialEq, Eq)]
+#[derive(Clone, Copy)]
 pub struct Bounds {
     pub lines: u64,
     pub bytes: u64,
 }
 
 /// The line of a script that is being read, and how much more may come.
-#[derive(Debug, Drop)]
+#[derive(Drop)]
 pub struct Input {
     pub line: LineBuffer,
     /// How many more lines may end, and how many more bytes may be read.

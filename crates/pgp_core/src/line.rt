@@ -23,7 +23,7 @@ const NO_LINE: &[u8] = b"{\"code\":41,\"refused\":\"Memory\"}\n";
 const NO_ENTRY: &[u8] = b"{\"code\":51,\"refused\":\"Memory\"}\n";
 
 /// What became of the bytes of a line.
-#[derive(Clone, Copy, Debug, PartialEq, Eq)]
+#[derive(Clone, Copy, PartialEq, Eq)]
 pub enum Fate {
     /// They are kept.
     Kept,
@@ -34,11 +34,11 @@ pub enum Fate {
 }
 
 /// Nobody answers the command of the line any more.
-#[derive(Clone, Copy, Debug, PartialEq, Eq)]
+#[derive(Clone, Copy)]
 pub struct Unanswered;
 
 /// The line that is being read.
-#[derive(Debug, Drop)]
+#[derive(Drop)]
 pub struct LineBuffer {
     pub bytes: Vec<u8>,
     pub fate: Fate,

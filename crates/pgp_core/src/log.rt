@@ -22,7 +22,7 @@ use std::sync::Arc;
 
 /// The entries that were taken, which contracts see as a list, with a judge of the next one and a shard that reads them when
 /// a group is asked for.
-#[derive(Debug, Drop)]
+#[derive(Drop)]
 pub struct Log {
     alloc: Global,
     entries: Vec<Arc<Entry>>,

@@ -6,14 +6,14 @@ use super::streams::Sink;
 use std::alloc::Global;
 
 /// A write failed, or took no byte.
-#[derive(Clone, Copy, Debug, PartialEq, Eq)]
+#[derive(Clone, Copy)]
 pub struct WriteFault;
 
 /// How many bytes of answers wait before they are written.
 const PENDING_LIMIT: usize = 65536;
 
 /// Answers that are not yet written.
-#[derive(Debug, Drop)]
+#[derive(Drop)]
 pub struct Output {
     pub pending: Vec<u8>,
 }

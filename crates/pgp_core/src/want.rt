@@ -1,5 +1,5 @@
 /// What there was no memory for.
-#[derive(Clone, Copy, Debug, PartialEq, Eq)]
+#[derive(Clone, Copy)]
 pub enum Want {
     /// A line, or the answer to it.
     Line,
@@ -8,7 +8,7 @@ pub enum Want {
 }
 
 /// Why a line has no answer of its own.
-#[derive(Clone, Copy, Debug, PartialEq, Eq)]
+#[derive(Clone, Copy)]
 pub enum NoAnswer {
     /// There was no memory, and a constant text says so.
     Memory(Want),

@@ -11,14 +11,14 @@ use super::tree::Tree;
 use pgp_ids::OsdId;
 
 /// An item with the device below it, or that it is.
-#[derive(Clone, Copy, Debug)]
+#[derive(Clone, Copy)]
 pub struct Pick {
     pub item: i32,
     pub leaf: OsdId,
 }
 
 /// What one try came to.
-#[derive(Clone, Copy, Debug)]
+#[derive(Clone, Copy)]
 pub enum Candidate {
     /// A device, where a bucket was sought.
     Early,
@@ -29,7 +29,7 @@ pub enum Candidate {
 }
 
 /// What every try of a placement is given.
-#[derive(Clone, Copy, Debug)]
+#[derive(Clone, Copy)]
 pub(crate) struct Input<'a> {
     pub tree: &'a Tree,
     /// The weight of each device, in units of 1/0x10000.

@@ -11,7 +11,7 @@ use super::tree::Tree;
 use pgp_ids::{BucketAlg, BucketSpec};
 
 /// With which number `r` each bucket on a way down chooses.
-#[derive(Clone, Copy, Debug)]
+#[derive(Clone, Copy)]
 pub enum Rank {
     /// Each with this number.
     Same(u32),
@@ -20,14 +20,14 @@ pub enum Rank {
 }
 
 /// An item on a way down, and the number with which its bucket chose it.
-#[derive(Clone, Copy, Debug)]
+#[derive(Clone, Copy)]
 pub struct Step {
     pub item: i32,
     pub r: u32,
 }
 
 /// What a way down came to first.
-#[derive(Clone, Copy, Debug)]
+#[derive(Clone, Copy)]
 pub enum Descent {
     /// An item of the type sought.
     Found(Step),

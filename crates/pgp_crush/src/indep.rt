@@ -12,7 +12,7 @@ use super::first_n::TRIES;
 use pgp_ids::{MAX_OSDS, Osds};
 
 /// What a position has so far.
-#[derive(Clone, Copy, Debug)]
+#[derive(Clone, Copy)]
 pub enum Cell {
     /// Nothing, and it is still tried.
     Open,

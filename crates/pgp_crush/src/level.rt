@@ -16,7 +16,7 @@ use super::uniform::Uniform;
 use pgp_ids::{BucketAlg, BucketSpec};
 
 /// What one level of a way down comes to.
-#[derive(Clone, Copy, Debug)]
+#[derive(Clone, Copy)]
 pub enum Level<'a> {
     /// The way down ends.
     End(Descent),

@@ -8,7 +8,7 @@ use super::chooser::Chooser;
 use pgp_hash::hash4;
 
 /// A list bucket.
-#[derive(Clone, Copy, Debug)]
+#[derive(Clone, Copy)]
 pub struct List<'a> {
     /// The bucket's own id.
     pub id: i32,

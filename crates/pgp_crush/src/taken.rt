@@ -9,7 +9,7 @@ use pgp_ids::{MAX_OSDS, OsdId, Osds};
 use std::marker::Model;
 
 /// The items taken so far, and their leaves.
-#[derive(Debug, Drop)]
+#[derive(Drop)]
 pub(crate) struct Taken {
     items: ArrayVec<i32, MAX_OSDS>,
     /// In the order of the items.

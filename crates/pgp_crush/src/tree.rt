@@ -17,7 +17,6 @@ use std::marker::Model;
 /// A placement tree without fault.
 ///
 /// It is seen as the list of its buckets, in the order in which they were given.
-#[derive(Debug)]
 pub struct Tree {
     buckets: Vec<BucketSpec>,
     /// The place of the bucket of each id.

@@ -8,7 +8,7 @@ use super::chooser::Chooser;
 use pgp_hash::hash3;
 
 /// A uniform bucket.
-#[derive(Clone, Copy, Debug)]
+#[derive(Clone, Copy)]
 pub struct Uniform<'a> {
     /// The bucket's own id.
     pub id: i32,

@@ -63,7 +63,6 @@ use std::alloc::{AllocError, Global};
 /// A placement group: its intervals so far, and all that its members reported.
 ///
 /// It keeps no map. The last map is lent where it is needed, since devices change in it without a word to the group.
-#[derive(Debug)]
 pub struct Group {
     alloc: Global,
     pg: PgId,

@@ -17,7 +17,7 @@ use std::alloc::{AllocError, Global};
 ///
 /// Each info is judged once when it is looked at first: one that doesn't count then never counts. Those that counted are
 /// kept, the last of each member, and judged again at each look, since a device may have gone down or an interval ended.
-#[derive(Debug, Drop)]
+#[derive(Drop)]
 pub(crate) struct Infos {
     /// All infos, counted or not, in the order in which they came.
     all: Vec<Info>,

@@ -22,7 +22,7 @@ use pgp_missing::MemberLog;
 use std::alloc::{AllocError, Global};
 
 /// The log of a member, by those of its reports that count.
-#[derive(Debug, Drop)]
+#[derive(Drop)]
 pub(crate) struct CountedLog {
     member: Member,
     /// The epoch in which the last of these reports was sent.
@@ -69,7 +69,7 @@ impl CountedLog {
 }
 
 /// The logs of the members that have reports which count.
-#[derive(Debug, Drop)]
+#[derive(Drop)]
 pub(crate) struct Logs {
     of_members: Vec<CountedLog>,
 }

@@ -11,7 +11,7 @@ use pgp_ids::{OsdId, Osds};
 use std::alloc::{AllocError, Global};
 
 /// Devices in ascending order, none of them twice.
-#[derive(Debug, Drop)]
+#[derive(Drop)]
 pub(crate) struct Named {
     osds: Vec<OsdId>,
     ghost ascends: { IsAscending (λ a b. is_lt (nat_cmp a b)) osds.items },

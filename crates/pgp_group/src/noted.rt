@@ -19,7 +19,7 @@ use pgp_sets::{Status, StatusOf};
 use std::alloc::AllocError;
 
 /// What a map says of a device: all that its status for any interval goes by.
-#[derive(Clone, Copy, Debug, PartialEq, Eq)]
+#[derive(Clone, Copy, PartialEq, Eq)]
 pub(crate) struct Noted {
     osd: OsdId,
     up: bool,

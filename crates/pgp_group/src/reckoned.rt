@@ -21,7 +21,7 @@ use std::alloc::{AllocError, Global};
 ///
 /// A look compares what the map says of each device of past intervals with what it said at the last look. It asks the code
 /// about the past intervals that came since, and about those that have a device of which the map says something else.
-#[derive(Debug, Drop)]
+#[derive(Drop)]
 pub(crate) struct Reckoned {
     index: PriorIndex<AnyCode>,
     /// What the map of the last look said of each device of the intervals that the index has.

@@ -23,7 +23,7 @@ use std::alloc::{AllocError, Global};
 /// Each report is judged once when it is looked at first: one that doesn't count then never counts. Of one member all
 /// reports that counted still count, or none does: its device went down, or the interval ended. So a log is judged by the
 /// last report that went into it, and dropped whole.
-#[derive(Debug, Drop)]
+#[derive(Drop)]
 pub(crate) struct Reports {
     /// All reports, counted or not, in the order in which they came.
     all: Vec<Report>,

@@ -13,7 +13,6 @@ use std::marker::Model;
 /// The last info of each member, and the best of them by the preference `P`.
 ///
 /// The best one is kept, so that asking for it is free.
-#[derive(Debug)]
 pub struct Best<P: Prefer> {
     prefer: P,
     /// No two are of one member.

@@ -11,7 +11,7 @@ use super::prefer::Prefer;
 use pgp_ids::{Epoch, Info, Member};
 
 /// The best of some infos of distinct members, and since when its copy has to have served.
-#[derive(Clone, Copy, Debug)]
+#[derive(Clone, Copy)]
 pub(crate) struct Lead {
     /// The last epoch in which the group began to serve, as far as the infos tell.
     start: Epoch,

@@ -15,7 +15,6 @@ use std::mem;
 /// The intervals of a placement group, of a pool with the code `R`, as its history grows by an epoch after another.
 ///
 /// It keeps the past intervals and the current one, and nothing of single epochs.
-#[derive(Debug)]
 pub struct Intervals<R> {
     code: R,
     /// The past intervals, in ascending order.

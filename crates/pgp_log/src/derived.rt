@@ -30,7 +30,7 @@ use std::sync::Arc;
 ///
 /// It has the map twice. Each incremental is applied to `after`, then shown to the groups, which take what the map before
 /// said of their primaries, and then applied to `before`.
-#[derive(Debug, Drop)]
+#[derive(Drop)]
 pub(crate) struct Derived {
     alloc: Global,
     before: OsdMap,

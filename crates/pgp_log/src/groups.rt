@@ -25,7 +25,7 @@ use std::alloc::{AllocError, Global};
 use std::collections::HashMap;
 
 /// Groups, each of them once.
-#[derive(Debug, Drop)]
+#[derive(Drop)]
 pub(crate) struct Groups {
     /// At which place of the list each group stands.
     places: HashMap<PgId, usize>,

@@ -22,7 +22,6 @@ pub const LONGEST_LOG: usize = 65535;
 
 /// What judging the next entry of a log takes: the map that the entries make, how many they are, and whether one of them
 /// closed the log. It keeps no entry.
-#[derive(Debug)]
 pub struct Judge {
     map: OsdMap,
     count: usize,

@@ -25,7 +25,7 @@ use pgp_sets::{filter, raw};
 use std::alloc::{AllocError, Global};
 
 /// A group, as the entries so far tell of it.
-#[derive(Debug, Drop)]
+#[derive(Drop)]
 pub(crate) struct Kept {
     pub(crate) pg: PgId,
     group: Group,

@@ -7,7 +7,7 @@ use super::shard::shard_of;
 use pgp_ids::PgId;
 
 /// One of several shards, by its number.
-#[derive(Debug, Clone, Copy)]
+#[derive(Clone, Copy)]
 pub(crate) struct Owner {
     pub(crate) shard: usize,
     pub(crate) shards: usize,

@@ -18,7 +18,7 @@ use std::sync::Arc;
 
 /// What follows from the entries that a shard has read. It isn't there until the first question or the first `renew` makes it,
 /// and again from an entry for which it found no memory until the next of these.
-#[derive(Debug, Drop)]
+#[derive(Drop)]
 pub(crate) struct Part {
     alloc: Global,
     pub(crate) derived: Option<Derived>,

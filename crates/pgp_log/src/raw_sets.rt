@@ -22,7 +22,6 @@ use std::collections::HashMap;
 
 /// Where the tree of one map puts the groups that were asked for. Each is found once until an incremental may move groups,
 /// since a placement takes far more time than what is left of a question. At most one for each group of the map.
-#[derive(Debug)]
 pub struct RawSets {
     known: HashMap<PgId, Osds>,
 }

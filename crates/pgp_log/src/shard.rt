@@ -19,7 +19,6 @@ use std::marker::Model;
 use std::sync::Arc;
 
 /// The front of the log that one of several shards has read. It answers for its own groups alone.
-#[derive(Debug)]
 pub struct ShardState {
     owner: Owner,
     front: Vec<Arc<Entry>>,

@@ -17,7 +17,6 @@ use std::marker::Model;
 use std::sync::Arc;
 
 /// One log, a judge of what it takes next, and shards that read it one entry after another.
-#[derive(Debug)]
 pub struct World {
     alloc: Global,
     entries: Vec<Arc<Entry>>,

@@ -26,7 +26,6 @@ use std::collections::HashMap;
 const MAX_GROUPS: u32 = 16384;
 
 /// The cluster map: the devices, pools and placement groups of one epoch, and what holds of them.
-#[derive(Debug)]
 pub struct OsdMap {
     alloc: Global,
     epoch: Epoch,

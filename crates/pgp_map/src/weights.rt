@@ -15,7 +15,7 @@ const FULL: u32 = 0x10000;
 static ALL_FULL: [u32; DEVICES] = [FULL; DEVICES];
 
 /// The weights of all devices. The table takes no memory until the first is given.
-#[derive(Debug, Drop)]
+#[derive(Drop)]
 pub(crate) struct Weights {
     alloc: Global,
     table: Vec<u32>,

@@ -15,7 +15,7 @@ use std::marker::Model;
 use std::ops::Bound;
 
 /// What a log entry says beside its number.
-#[derive(Debug, Drop)]
+#[derive(Drop)]
 pub(crate) struct Write {
     epoch: Epoch,
     change: Change,
@@ -23,14 +23,14 @@ pub(crate) struct Write {
 }
 
 /// What the last entry of an object says.
-#[derive(Debug, Drop)]
+#[derive(Drop)]
 pub(crate) struct Newest {
     version: Version,
     change: Change,
 }
 
 /// Log entries, one of each number at most. Contracts see the list of them in ascending order of their numbers.
-#[derive(Debug, Drop)]
+#[derive(Drop)]
 pub(crate) struct Entries {
     by_number: BTreeMap<u32, Write>,
 }

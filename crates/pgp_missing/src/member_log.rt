@@ -16,7 +16,6 @@ use std::marker::Model;
 ///
 /// It keeps the last entry of each number that was ever reported, also outside of the log, whose bounds another info may
 /// change. A log may span 2^32 numbers: memory goes by the entries that were reported, and time by those within the log.
-#[derive(Debug)]
 pub struct MemberLog {
     info: Info,
     /// All entries that were reported, by their numbers.

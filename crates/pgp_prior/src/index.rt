@@ -23,7 +23,6 @@ use std::collections::HashMap;
 /// its acting members and whether it blocks. The caller tells it which way the statuses of a device changed, by one of three
 /// calls, and so which of the device's intervals may have begun or ceased to block: the code is asked about these, once
 /// each, and about no other. None of the three takes memory.
-#[derive(Debug)]
 pub struct PriorIndex<R> {
     alloc: Global,
     code: R,

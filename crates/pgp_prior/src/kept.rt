@@ -12,7 +12,7 @@ use pgp_sets::StatusOf;
 use std::alloc::{AllocError, Global};
 
 /// A past interval, with what has become of its devices.
-#[derive(Debug, Drop)]
+#[derive(Drop)]
 pub(crate) struct Kept {
     pub(crate) past: Past,
     pub(crate) statuses: Statuses,

@@ -8,14 +8,14 @@ use pgp_sets::{Status, StatusOf};
 use std::alloc::{AllocError, Global};
 
 /// What has become of a device.
-#[derive(Clone, Copy, Debug)]
+#[derive(Clone, Copy)]
 pub(crate) struct Known {
     osd: OsdId,
     status: Status,
 }
 
 /// What has become of the devices of a past interval.
-#[derive(Debug, Drop)]
+#[derive(Drop)]
 pub(crate) struct Statuses {
     known: Vec<Known>,
 }

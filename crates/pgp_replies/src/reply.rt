@@ -60,7 +60,7 @@ pub fn write_reply(alloc: Global, reply: &Reply) -> Result<Vec<u8>, AllocError>
 }
 
 /// Writes replies one after the other, with room that it keeps from reply to reply.
-#[derive(Debug, Drop)]
+#[derive(Drop)]
 pub struct ReplyWriter {
     room: Vec<u8>,
 }

@@ -3,7 +3,7 @@
 use pgp_ids::Epoch;
 
 /// What the map says of a device, its weight aside.
-#[derive(Clone, Copy, Debug)]
+#[derive(Clone, Copy)]
 pub struct Device {
     pub exists: bool,
     pub is_up: bool,
