@@ -1,6 +1,6 @@
 //! Log entries by their numbers.
 
-ghost use Rattle.std.specs.Prelude.{◌≡◌, List, [], map, filter, IfOk, OnOk, OnErr};
+ghost use Rattle.std.specs.Prelude.{◌≡◌, List, [], length, map, filter, nat_eq, IfOk, OnOk, OnErr};
 ghost use Rattle.std.specs.Ordering.{nat_cmp};
 ghost use Rattle.pgp_missing.specs.Last.{put_in};
 ghost use Rattle.pgp_missing.specs.Log.{number_of, is_in_log, within, is_full, has_version, is_rising_from};
@@ -91,11 +91,19 @@ impl Entries {
         self.above(info, info.log_tail.v)
     }
 
-    /// There are as many entries within the log of this info as it has numbers.
+    /// There are as many entries within the log of this info as it has numbers. Where there are fewer in all, it looks at none.
     pub(crate) fn is_full(&self, info: &Info) -> bool
         ensures { result ≡ is_full info.now (within info.now self.now) }
     {
-        let mut lacking = info.last_update.v.saturating_sub(info.log_tail.v);
+        let numbers = info.last_update.v.saturating_sub(info.log_tail.v);
+        numbers as usize <= self.by_number.len() && self.has_as_many(info, numbers)
+    }
+
+    /// There are so many entries within the log of this info.
+    fn has_as_many(&self, info: &Info, count: u32) -> bool
+        ensures { result ≡ nat_eq (length (within info.now self.now)) count }
+    {
+        let mut lacking = count;
         for _ in self.of_log(info) {
             if lacking == 0 {
                 return false;
