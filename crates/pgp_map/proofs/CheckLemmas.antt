@@ -1,10 +1,11 @@
 -- What the tests of a map's tables say of the incrementals that made it.
-use Rattle.std.proofs.Common.{◌≡◌, ℕ, List, ◌++◌, Bool, true, false, ◌||◌, ◌&&◌, not, cond, refl, ap, sym, ◌∙◌}
+use Rattle.std.proofs.Common.{◌≡◌, ℕ, List, [], ◌∷◌, ◌++◌, Bool, true, false, ◌||◌, ◌&&◌, not, cond, refl, ap, sym, ◌∙◌}
 use Rattle.std.proofs.Common.{◌⊎◌, inl, inr}
 use Rattle.std.specs.Prelude.{Option, Some, None, is_some, nat_eq, nat_lt, option_map}
 use Rattle.std.specs.List.{list_any}
 use Rattle.std.specs.Option.{option_map_or, option_or}
 use Rattle.std.specs.HashMap as hash
+use Rattle.std.proofs.lemmas.Bool.{false≢true}
 use Rattle.std.proofs.lemmas.List.Folds.{list_any-append}
 use Rattle.pgp_ids.specs.declared.incremental.DeviceEpoch.{DeviceEpoch}
 use Rattle.pgp_ids.specs.declared.incremental.Incremental.{Incremental}
@@ -26,6 +27,15 @@ use Rattle.pgp_tables.specs.PoolTable.{or_made}
 use Rattle.pgp_lists.proofs.Lists.{any-same}
 use Rattle.pgp_map.proofs.DeviceLemmas.{is_up-push}
 use Rattle.pgp_map.proofs.MapLemmas.{pool-push}
+
+-- where all exist, none is unknown
+none_unknown : (there known : ℕ → Bool) (osds : List ℕ) → list_any (λ osd. not (there osd)) osds ≡ false → list_any (λ osd. not (there osd || known osd)) osds ≡ false
+none_unknown there known [] none = refl
+none_unknown there known (osd ∷ osds) none = step (there osd) (known osd) _ _ none (none_unknown there known osds)
+  where
+    step : (here else' rest others : Bool) → (not here || rest) ≡ false → (rest ≡ false → others ≡ false) → (not (here || else') || others) ≡ false
+    step true else' rest others none go_on = go_on none
+    step false else' rest others none go_on = absurd (false≢true (sym none))
 
 module _ (incs : List Incremental) (m : OsdMap) (is : IsMapOf incs m) where
   pub exists-is : (osd : ℕ) → (device_at m.devices osd).exists ≡ exists incs osd
@@ -51,6 +61,11 @@ module _ (incs : List Incremental) (m : OsdMap) (is : IsMapOf incs m) where
   has_unknown-is inc known osds are =
       any-same (λ osd. not ((device_at m.devices osd).exists || known osd)) (λ osd. not (exists incs osd || boots osd inc)) osds
       (λ osd. λ i. not (exists-is osd i || are osd i))
+
+  pub none_unknown-is : (inc : Incremental) (osds : List ℕ) → list_any (λ osd. not (device_at m.devices osd).exists) osds ≡ false
+      → list_any (λ osd. not (exists incs osd || boots osd inc)) osds ≡ false
+  none_unknown-is inc osds none =
+      sym (has_unknown-is inc (λ q. boots q inc) osds (λ _. refl)) ∙ none_unknown (λ osd. (device_at m.devices osd).exists) (λ q. boots q inc) osds none
 
   pub has_lost_up-is : (inc : Incremental) (rising falling : ℕ → Bool) (told : List DeviceEpoch)
       → ((q : ℕ) → rising q ≡ list_any (nat_eq q) inc.up) → ((q : ℕ) → falling q ≡ list_any (nat_eq q) (inc.down ++ inc.gone))

@@ -58,10 +58,13 @@ has_already_up incs inc = list_any (is_up incs) inc.up
 abbrev pub has_already_down : List Incremental → Incremental → Bool
 has_already_down incs inc = list_any (λ osd. exists incs osd && not (is_up incs osd)) inc.down
 
+-- lost names a device that is up in the new map
+abbrev pub has_lost_up : List Incremental → Incremental → Bool
+has_lost_up incs inc = list_any (λ entry. is_up (then_with incs inc) entry.osd) inc.lost
+
 -- gone names a device that is up in the old map, or lost one that is up in the new map
 abbrev pub has_still_up : List Incremental → Incremental → Bool
-has_still_up incs inc =
-    list_any (is_up incs) inc.gone || list_any (λ entry. is_up (then_with incs inc) entry.osd) inc.lost
+has_still_up incs inc = list_any (is_up incs) inc.gone || has_lost_up incs inc
 
 -- an up_thru is below that of the device in the old map
 abbrev pub has_up_thru_back : List Incremental → Incremental → Bool

@@ -8,7 +8,7 @@ ghost use Rattle.pgp_map.specs.Held.{held_exists, held_up, held_lost_at, held_po
 ghost use Rattle.pgp_map.specs.Devices.{exists, is_up, up_from, down_at, up_thru, lost_at, weight, weights};
 ghost use Rattle.pgp_map.specs.Pools.{pool, temp};
 ghost use Rattle.pgp_map.specs.Map.{epoch, tree};
-ghost use Rattle.pgp_map.specs.MapFault.{map_fault, given_fault, then_with, has_epoch_gap, has_unknown_device, has_still_up, has_ahead, has_bad_pool, has_pool_known, has_bad_temp};
+ghost use Rattle.pgp_map.specs.MapFault.{map_fault, given_fault, then_with, has_epoch_gap, has_unknown_device, has_lost_up, has_still_up, has_ahead, has_bad_pool, has_pool_known, has_bad_temp};
 ghost use Rattle.pgp_map.specs.Findings.{AreFindings};
 
 use super::fault::MapFault;
@@ -114,12 +114,16 @@ impl OsdMap {
         u64::from(inc.epoch.number()) != u64::from(self.epoch.number()) + 1
     }
 
-    /// Down, gone, weight, up_thru or lost names a device that is absent and doesn't boot.
+    /// Down, gone, weight, up_thru or lost names a device that is absent and doesn't boot. Which devices boot is looked at
+    /// only where one is absent.
     fn has_unknown_device(&self, inc: &Incremental) -> Result<bool, AllocError>
         ensures { IfOk result (λ unknown. Says self.now (λ incs. unknown ≡ has_unknown_device incs inc.now)) }
     {
-        let boots = repeats::set_of(self.alloc, inc.up.as_slice())?;
         let told = repeats::told_devices(self.alloc, inc)?;
+        if !standing::has_absent(&self.devices, &told) {
+            return Ok(false);
+        }
+        let boots = repeats::set_of(self.alloc, inc.up.as_slice())?;
         Ok(standing::has_unknown(&self.devices, &boots, &told))
     }
 
@@ -127,11 +131,21 @@ impl OsdMap {
     fn has_still_up(&self, inc: &Incremental) -> Result<bool, AllocError>
         ensures { IfOk result (λ up. Says self.now (λ incs. up ≡ has_still_up incs inc.now)) }
     {
+        let destroyed = standing::has_up(&self.devices, inc.gone.as_slice());
+        let lost = self.has_lost_up(inc)?;
+        Ok(destroyed || lost)
+    }
+
+    /// A device is given up for lost that is up in the new map.
+    fn has_lost_up(&self, inc: &Incremental) -> Result<bool, AllocError>
+        ensures { IfOk result (λ up. Says self.now (λ incs. up ≡ has_lost_up incs inc.now)) }
+    {
+        if inc.lost.is_empty() {
+            return Ok(false);
+        }
         let boots = repeats::set_of(self.alloc, inc.up.as_slice())?;
         let falls = repeats::falling_set(self.alloc, inc)?;
-        let destroyed = standing::has_up(&self.devices, inc.gone.as_slice());
-        let lost = standing::has_lost_up(&self.devices, &boots, &falls, inc.lost.as_slice());
-        Ok(destroyed || lost)
+        Ok(standing::has_lost_up(&self.devices, &boots, &falls, inc.lost.as_slice()))
     }
 
     /// A group is given a list that it can't have in the new map, by pools that aren't known.

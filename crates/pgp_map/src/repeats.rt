@@ -13,6 +13,10 @@ use pgp_ids::{
 use pgp_lists::has_repeat;
 use std::alloc::{AllocError, Global};
 use std::collections::HashSet;
+use std::hash::Hash;
+
+/// How many items are compared with one another. More of them are put into a set.
+const FEW: usize = 16;
 
 /// Something stands twice where it may stand once.
 pub(crate) fn has_twice(alloc: Global, inc: &Incremental) -> Result<bool, AllocError>
@@ -35,7 +39,7 @@ fn changes_twice(alloc: Global, inc: &Incremental) -> Result<bool, AllocError>
     let mut osds = Vec::from_slice(alloc, inc.up.as_slice())?;
     osds.extend_from_slice(inc.down.as_slice())?;
     osds.extend_from_slice(inc.gone.as_slice())?;
-    has_repeat(alloc, &osds)
+    stands_twice(alloc, &osds)
 }
 
 /// A device is given two weights.
@@ -44,7 +48,7 @@ fn weighs_twice(alloc: Global, weights: &[DeviceWeight]) -> Result<bool, AllocEr
 {
     let mut osds = Vec::new(alloc);
     push_weighed(&mut osds, weights)?;
-    has_repeat(alloc, &osds)
+    stands_twice(alloc, &osds)
 }
 
 /// Two epochs are told of a device.
@@ -53,7 +57,7 @@ fn tells_twice(alloc: Global, told: &[DeviceEpoch]) -> Result<bool, AllocError>
 {
     let mut osds = Vec::new(alloc);
     push_told(&mut osds, told)?;
-    has_repeat(alloc, &osds)
+    stands_twice(alloc, &osds)
 }
 
 /// A pool stands twice among those that are made or given sizes.
@@ -64,7 +68,7 @@ fn sizes_twice(alloc: Global, made: &[PoolSpec], sizes: &[PoolSizes]) -> Result<
     for given in sizes {
         pools.push(given.pool)?;
     }
-    has_repeat(alloc, &pools)
+    stands_twice(alloc, &pools)
 }
 
 /// A group is given two pg_temp lists.
@@ -75,7 +79,32 @@ fn lists_twice(alloc: Global, temps: &[TempList]) -> Result<bool, AllocError>
     for given in temps {
         groups.push(given.pg)?;
     }
-    has_repeat(alloc, &groups)
+    stands_twice(alloc, &groups)
+}
+
+/// Some item stands twice. Of a few items that is found without memory.
+fn stands_twice<T: Copy + Eq + Hash>(alloc: Global, items: &[T]) -> Result<bool, AllocError>
+    ensures { IfOk result (λ twice. twice ≡ has_repeat T.eq items.now) }
+{
+    if items.len() <= FEW {
+        Ok(has_equal_pair(items))
+    } else {
+        has_repeat(alloc, items)
+    }
+}
+
+/// Some item is equal to one behind it.
+fn has_equal_pair<T: Eq>(items: &[T]) -> bool
+    ensures { result ≡ has_repeat T.eq items.now }
+{
+    let mut rest = items;
+    while let Some((first, others)) = rest.split_first() {
+        if others.contains(first) {
+            return true;
+        }
+        rest = others;
+    }
+    false
 }
 
 /// The devices of which something else is told.

@@ -10,6 +10,13 @@ use pgp_tables::Device;
 use pgp_tables::devices::device_at;
 use std::collections::{HashMap, HashSet};
 
+/// A device is named that doesn't exist.
+pub(crate) fn has_absent(table: &HashMap<OsdId, Device>, osds: &[OsdId]) -> bool
+    ensures { result ≡ list_any (λ osd. not (device_at table.now osd).exists) osds.now }
+{
+    osds.iter().any(|osd| !device_at(table, *osd).exists)
+}
+
 /// A device is named that neither exists nor is one of those that boot.
 pub(crate) fn has_unknown(
     table: &HashMap<OsdId, Device>,
