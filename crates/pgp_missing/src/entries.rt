@@ -91,7 +91,8 @@ impl Entries {
         self.above(info, info.log_tail.v)
     }
 
-    /// There are as many entries within the log of this info as it has numbers. Where there are fewer in all, it looks at none.
+    /// There are as many entries within the log of this info as it has numbers. Where fewer are kept, inside and outside of
+    /// it, it looks at none.
     pub(crate) fn is_full(&self, info: &Info) -> bool
         ensures { result ≡ is_full info.now (within info.now self.now) }
     {
