@@ -1,16 +1,21 @@
 -- What a reply says of the log.
-use Rattle.std.proofs.Common.{◌≡◌, ℕ, List, [], ◌∷◌, ◌++◌, Bool, true, false, Option, Some, None, Result, Ok, Err, refl, subst, sym, ap, ◌∙◌}
+use Rattle.std.proofs.Common.{◌≡◌, ℕ, List, [], ◌∷◌, ◌++◌, length, Bool, true, false, Option, Some, None, option_map, Result, Ok, Err, refl, subst, sym, ap, ap₂, ◌∙◌}
 use Rattle.std.specs.Prelude.{OnOk, IfSome}
 use Rattle.pgp_ids.specs.declared.entry.Entry.{Entry}
+use Rattle.pgp_ids.specs.declared.pg_id.PgId.{PgId}
+use Rattle.pgp_ids.specs.declared.view.View.{View}
 use Rattle.pgp_refusals.specs.declared.refusal.Refusal.{Refusal}
+use Rattle.pgp_group.specs.Touched.{told_at}
+use Rattle.pgp_group.specs.View.{scratch}
 use Rattle.pgp_lines.specs.declared.command.Command.{Command}
 use Rattle.pgp_lines.specs.declared.command.Command.TheVariants.{Submit, Ask, Locate, Trace}
 use Rattle.pgp_replies.specs.declared.reply.Reply.{Reply}
 use Rattle.pgp_log.specs.Fits.{fits}
+use Rattle.pgp_log.specs.Log.{epoch_of}
 use Rattle.pgp_text.specs.Command.{command_of}
 use Rattle.pgp_text.specs.LineFault.{LineFault}
 use Rattle.pgp_text.specs.Reply.{reply_text}
-use Rattle.pgp_core.specs.Answer.{reply_of, log_after, submitted_reply, log_with, text_of, log_of}
+use Rattle.pgp_core.specs.Answer.{asked_reply, reply_of, log_after, submitted_reply, log_with, text_of, log_of}
 use Rattle.pgp_core.specs.Answerer.{MayAnswerBy, Replies, is_accepted}
 use Rattle.pgp_core.specs.Told.{PutsFault, PutsReply, PutsText}
 use Rattle.pgp_core.proofs.ToldLemmas.{by-itself}
@@ -30,6 +35,10 @@ stays-by alone before after command reply replies other =
     let same : after ≡ replies.by = replies.log ∙ stays replies.by command (sym (ap is_accepted replies.is) ∙ other) in
     subst (MayAnswerBy alone before) (sym same) replies.may
 
+-- a question changes nothing
+pub stays-asked : (alone : Bool) (before after : List Entry) (pg : PgId) (reply : Reply) → Replies alone before after (Ask pg) reply → MayAnswerBy alone before after
+stays-asked alone before after pg reply replies = subst (MayAnswerBy alone before) (sym replies.log) replies.may
+
 -- Where no answer could be put, no entry was taken: for that there was room.
 pub stays-unless-put : (alone : Bool) (before after : List Entry) (command : Command) (reply : Reply) → Replies alone before after command reply
     → (is_accepted reply ≡ true → false ≡ true) → MayAnswerBy alone before after
@@ -46,6 +55,14 @@ puts-reply alone before after command reply old new replies is = record {
   text = is ∙ ap (λ a. old ++ (reply_text a ++ 10 ∷ [])) replies.is;
   log = replies.log;
 }
+
+-- what a shard keeps of a group, at the log's count and epoch, is what is replied
+pub told-reply : (log front : List Entry) (pg : PgId) (count epoch : ℕ) (told : Option View) → front ≡ log → count ≡ length log → epoch ≡ epoch_of log
+    → scratch front pg ≡ option_map (told_at (length front) (epoch_of front)) told → asked_reply pg (option_map (told_at count epoch) told) ≡ asked_reply pg (scratch log pg)
+told-reply log front pg count epoch told same many at is =
+    ap (asked_reply pg)
+    (ap₂ (λ n e. option_map (told_at n e) told) many at
+    ∙ sym (subst (λ (l : List Entry). scratch l pg ≡ option_map (told_at (length l) (epoch_of l)) told) same is))
 
 -- ---- lines
 

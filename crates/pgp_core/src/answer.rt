@@ -1,8 +1,9 @@
 //! The answer to a line, as text.
-ghost use Rattle.std.specs.Prelude.{◌≡◌, ◌≢◌, ◌<◌, ◌≤◌, ◌+◌, ◌++◌, ◌∷◌, [], length, vec_len, vec_capacity, true, false, IsOk, IfErr, OnOk, OnErr, Err};
+ghost use Rattle.std.specs.Prelude.{◌≡◌, ◌≢◌, ◌<◌, ◌≤◌, ◌+◌, ◌++◌, ◌∷◌, [], length, take, option_copied, option_map, vec_len, vec_capacity, true, false, IsOk, IfErr, OnOk, OnErr, Err};
 ghost use Rattle.pgp_text.specs.Command.{IsInRange};
 ghost use Rattle.pgp_text.specs.Reply.{reply_text};
-ghost use Rattle.pgp_core.specs.Answer.{long_text};
+ghost use Rattle.pgp_group.specs.Touched.{told_at};
+ghost use Rattle.pgp_core.specs.Answer.{asked_reply, long_text};
 ghost use Rattle.pgp_core.specs.Answerer.{MayAnswerBy, is_accepted};
 ghost use Rattle.pgp_core.specs.Script.{longest_line};
 ghost use Rattle.pgp_core.specs.Told.{PutsFault, PutsReply, PutsText, MayLack};
@@ -12,8 +13,9 @@ ghost use Rattle.pgp_core.specs.Wants.{want_of, LacksReply};
 use super::accepted::{LONGEST_ACCEPTED, put_accepted};
 use super::answerer::{Answerer, NoReply};
 use super::codec::Codec;
+use super::replies::asked;
 use super::want::{NoAnswer, Want};
-use pgp_ids::TextFault;
+use pgp_ids::{Epoch, PgId, TextFault, View};
 use pgp_text::{Command, Refused, Reply, ReplyWriter};
 use std::alloc::{AllocError, Global};
 
@@ -79,6 +81,9 @@ fn ask<A: Answerer>(
     ensures log { OnErr result (MayAnswerBy A.alone (A.log answerer.old) (A.log answerer.new)) }
     ensures gone { result ≡ Err NoReply.Gone → A.alone ≡ false }
 {
+    if let Command::Ask(pg) = command {
+        return answerer.put_asked(alloc, writer, pg, text);
+    }
     text.reserve(LONGEST_ACCEPTED)?;
     let reply = answerer.reply(alloc, command)?;
     put_reply(alloc, writer, &reply, text)?;
@@ -121,9 +126,32 @@ fn put_fault(
     put_reply(alloc, writer, &reply, text).or(Err(NoAnswer::Memory(Want::Line)))
 }
 
+/// Puts what the log says of a group behind the text, with a line feed: the text of the reply [`asked`], written from where the
+/// view is kept. Count and epoch are those of the log.
+pub fn put_told(
+    alloc: Global,
+    writer: &mut ReplyWriter,
+    pg: PgId,
+    view: Option<&View>,
+    count: usize,
+    epoch: Epoch,
+    text: &mut Vec<u8>,
+) -> Result<(), AllocError>
+    ensures ok { OnOk result (text.new.items ≡ text.old.items
+        ++ (reply_text (asked_reply pg (option_map (told_at count epoch) (option_copied view.entry))) ++ 10 ∷ [])) }
+    ensures err { OnErr result (text.new.items ≡ text.old.items) }
+{
+    let Some(view) = view else {
+        return put_reply(alloc, writer, &asked(pg, None), text);
+    };
+    let before = text.len();
+    writer.put_asked(alloc, pg, view, count, epoch, text)?;
+    end_line(text, before)
+}
+
 /// Puts the text of a reply behind the text, with a line feed. It succeeds where an entry was taken and the text has room
 /// for the longest answer to one.
-fn put_reply(
+pub fn put_reply(
     alloc: Global,
     writer: &mut ReplyWriter,
     reply: &Reply,
@@ -138,11 +166,19 @@ fn put_reply(
         reply => {
             let before = text.len();
             writer.put(alloc, reply, text)?;
-            if text.push(b'\n').is_err() {
-                text.truncate(before);
-                return Err(AllocError);
-            }
-            Ok(())
+            end_line(text, before)
         }
     }
+}
+
+/// Ends the line that stands behind so many bytes of the text. Where there is no memory for that, the line is taken away.
+fn end_line(text: &mut Vec<u8>, before: usize) -> Result<(), AllocError>
+    ensures ok { OnOk result (text.new.items ≡ text.old.items ++ 10 ∷ []) }
+    ensures err { OnErr result (text.new.items ≡ take before text.old.items) }
+{
+    if text.push(b'\n').is_err() {
+        text.truncate(before);
+        return Err(AllocError);
+    }
+    Ok(())
 }

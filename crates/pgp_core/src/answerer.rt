@@ -1,11 +1,15 @@
 //! Who answers the commands of a script.
 
-ghost use Rattle.std.specs.Prelude.{◌≡◌, Bool, false, List, Err, IfOk, OnErr};
+ghost use Rattle.std.specs.Prelude.{◌≡◌, Bool, false, List, Err, IfOk, OnOk, OnErr};
 ghost use Rattle.pgp_ids.specs.declared.entry.Entry.{Entry};
 ghost use Rattle.pgp_text.specs.Command.{IsInRange};
+ghost use Rattle.pgp_lines.specs.declared.command.Command.TheVariants.{Ask};
 ghost use Rattle.pgp_core.specs.Answerer.{MayAnswerBy, Replies};
+ghost use Rattle.pgp_core.specs.Told.{PutsReply};
 
-use pgp_text::{Command, Reply};
+use super::answer::put_reply;
+use pgp_ids::PgId;
+use pgp_text::{Command, Reply, ReplyWriter};
 use std::alloc::{AllocError, Global};
 
 /// Why a command has no reply.
@@ -43,4 +47,24 @@ pub trait Answerer {
         ensures reply { IfOk result (λ reply. Replies alone (log self.old) (log self.new) command reply) }
         ensures kept { OnErr result (MayAnswerBy alone (log self.old) (log self.new)) }
         ensures gone { result ≡ Err NoReply.Gone → alone ≡ false };
+
+    /// Puts the reply to a question about a group behind the text, with a line feed. One who keeps what it says can write that
+    /// from where it lies; else it is the text of [`Answerer::reply`].
+    fn put_asked(
+        &mut self,
+        alloc: Global,
+        writer: &mut ReplyWriter,
+        pg: PgId,
+        text: &mut Vec<u8>,
+    ) -> Result<(), NoReply>
+        requires { IsInRange (Ask pg) }
+        ensures ok { OnOk result (PutsReply alone (log self.old) (log self.new) (Ask pg) text.old.items text.new.items) }
+        ensures text { OnErr result (text.new.items ≡ text.old.items) }
+        ensures kept { OnErr result (MayAnswerBy alone (log self.old) (log self.new)) }
+        ensures gone { result ≡ Err NoReply.Gone → alone ≡ false }
+    {
+        let reply = self.reply(alloc, Command::Ask(pg))?;
+        put_reply(alloc, writer, &reply, text)?;
+        Ok(())
+    }
 }

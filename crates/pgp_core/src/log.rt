@@ -11,11 +11,14 @@ ghost use Rattle.pgp_log.specs.Judge.{IsJudgeOf};
 ghost use Rattle.pgp_log.specs.Log.{epoch_of, is_legal};
 ghost use Rattle.pgp_log.specs.RawSets.{AreRawSets};
 ghost use Rattle.pgp_log.specs.Running.{IsReading};
-ghost use Rattle.pgp_core.specs.Answer.{located_reply};
+ghost use Rattle.pgp_log.specs.Shard.{HasReadSame, is_marked, is_own};
+ghost use Rattle.pgp_text.specs.Reply.{reply_text};
+ghost use Rattle.pgp_core.specs.Answer.{asked_reply, located_reply};
 
+use super::answer::put_told;
 use pgp_ids::{AskRefusal, Entry, Epoch, LocateRefusal, ObjectName, PgId, PoolId, Refusal, View};
 use pgp_log::{Judge, RawSets, ShardState};
-use pgp_text::{Refused, Reply};
+use pgp_text::{Refused, Reply, ReplyWriter};
 use std::alloc::{AllocError, Global};
 use std::marker::Model;
 use std::sync::Arc;
@@ -81,6 +84,25 @@ impl Log {
         }
     }
 
+    /// Puts the reply to a question about a group behind the text, with a line feed, written from where the shard keeps the view.
+    pub fn put_asked(
+        &mut self,
+        alloc: Global,
+        writer: &mut ReplyWriter,
+        pg: PgId,
+        text: &mut Vec<u8>,
+    ) -> Result<(), AllocError>
+        ensures ok { OnOk result (text.new.items ≡ text.old.items ++ (reply_text (asked_reply pg (scratch self.old pg)) ++ 10 ∷ [])) }
+        ensures err { OnErr result (text.new.items ≡ text.old.items) }
+        ensures same { self.new ≡ self.old }
+    {
+        read_on(&mut self.shard, self.entries.as_slice())?;
+        work_out(&mut self.shard, &pg)?;
+        let count = self.judge.count();
+        let epoch = self.judge.map().epoch();
+        put_told(alloc, writer, pg, self.shard.told(&pg), count, epoch, text)
+    }
+
     /// All that the log says of a group, where its map has it.
     pub fn ask(&mut self, pg: PgId) -> Result<Option<View>, AllocError>
         ensures view { IfOk result (λ view. view ≡ scratch self.old pg) }
@@ -135,4 +157,17 @@ fn read_on(shard: &mut ShardState, entries: &[Arc<Entry>]) -> Result<(), AllocEr
 {
     let read = shard.count();
     shard.absorb_all(&entries[read..])
+}
+
+/// Has the only shard of a log work out the group, where there is one. What it has read stays.
+fn work_out(shard: &mut ShardState, pg: &PgId) -> Result<(), AllocError>
+    requires { is_own shard.old.shard shard.old.shards pg.now ≡ true }
+    ensures unmarked { OnOk result (is_marked shard.new pg.now ≡ false) }
+    ensures same { HasReadSame shard.old shard.new }
+{
+    match shard.work_out(pg) {
+        Ok(()) => Ok(()),
+        Err(AskRefusal::UnknownGroup) => Ok(()),
+        Err(AskRefusal::Memory) => Err(AllocError),
+    }
 }

@@ -11,7 +11,7 @@ use super::log::Log;
 use pgp_code::AnyCode;
 use pgp_ids::{AskRefusal, Entry, Epoch, EpochState, PgId, PoolKind, Refusal, Seq, View};
 use pgp_lines::MAX_EPOCHS;
-use pgp_text::{Command, EntryOp, Refused, Reply};
+use pgp_text::{Command, EntryOp, Refused, Reply, ReplyWriter};
 use std::alloc::{AllocError, Global};
 
 impl Answerer for Log {
@@ -22,6 +22,17 @@ impl Answerer for Log {
     fn reply(&mut self, alloc: Global, command: Command) -> Result<Reply, NoReply> {
         let reply = reply_to(alloc, command, self)?;
         Ok(reply)
+    }
+
+    fn put_asked(
+        &mut self,
+        alloc: Global,
+        writer: &mut ReplyWriter,
+        pg: PgId,
+        text: &mut Vec<u8>,
+    ) -> Result<(), NoReply> {
+        Log::put_asked(self, alloc, writer, pg, text)?;
+        Ok(())
     }
 }
 

@@ -126,7 +126,7 @@ impl<R: Recoverable> Intervals<R> {
         ensures { IfOk result (λ past. (h : History R) → IsIntervalsOf R.enough R.by_place h self.now
             → past.items ≡ past_intervals R.enough R.by_place h) }
     {
-        let mut past = Vec::new(alloc);
+        let mut past = Vec::with_capacity(alloc, self.past.len())?;
         for interval in self.past.as_slice() {
             past.push(copy_of_past(interval))?;
         }

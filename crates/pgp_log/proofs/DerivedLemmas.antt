@@ -14,7 +14,7 @@ use Rattle.pgp_map.proofs.CheckedLemmas.{checked-has_group}
 use Rattle.pgp_map.specs.Held.{HasGroup}
 use Rattle.pgp_map.specs.MapFault.{then_with}
 use Rattle.pgp_map.specs.MapOf.{IsMapOf}
-use Rattle.pgp_map.specs.Pools.{has_group, is_same_group, pool}
+use Rattle.pgp_map.specs.Pools.{has_group, is_same_group}
 use Rattle.pgp_map.specs.declared.map.OsdMap.{OsdMap}
 use Rattle.pgp_group.proofs.ViewLemmas.{scratch_there}
 use Rattle.pgp_group.specs.Entries.{inc_of, incs_of}

@@ -1,6 +1,7 @@
 -- What a shard keeps of its groups, as the log grows.
-use Rattle.std.proofs.Common.{◌≡◌, ℕ, List, [], ◌∷◌, ◌++◌, true, false, Option, Some, None, IfSome, length, option_map, refl, sym, ap, ◌∙◌, subst, inl, inr}
+use Rattle.std.proofs.Common.{◌≡◌, ℕ, List, [], ◌∷◌, ◌++◌, true, false, Bor, Option, Some, None, IfSome, is_some, length, option_map, refl, sym, ap, ◌∙◌, subst, inl, inr}
 use Rattle.std.specs.List.{filter}
+use Rattle.std.specs.Option.{option_copied}
 use Rattle.std.proofs.lemmas.Bool.{cases_Bool, true≢false}
 use Rattle.pgp_lists.proofs.Options.{some_is}
 use Rattle.pgp_ids.specs.declared.entry.Entry.{Entry}
@@ -256,3 +257,16 @@ kept-anew log old group is stands = record { group_is = stands; raw_is = is.raw_
 pub kept-worked_out : (log : List Entry) (old : Kept) (group : Group) (view : View) → IsKeptOf log old → IsGroupOf log old.pg group → scratch log old.pg ≡ Some view
     → IsKeptOf log (record old { group = group; view = Some view })
 kept-worked_out log old group view is stands says = record { group_is = stands; raw_is = is.raw_is; view_is = view-now log old.pg view says }
+
+-- ---- the group is told of
+
+-- the view that is kept is that of the log, but for count and epoch
+pub view-there : (pg : PgId) (kept : Kept) (P : List Entry → Type 0) (told : Option (Bor View)) → option_copied told ≡ kept.view → kept.pg ≡ pg → ((log : List Entry) → P log → IsKeptOf log kept)
+    → IfSome told (λ view. (log : List Entry) → P log → IsViewOf log pg view.now)
+view-there pg kept P None is same each = tt
+view-there pg kept P (Some view) is same each = λ log holds.
+    subst (λ (id : PgId). IsViewOf log id view.now) same (subst (λ (o : Option View). IfSome o (IsViewOf log kept.pg)) (sym is) (each log holds).view_is)
+
+pub there-copied : {X : Type 0} (told : Option (Bor X)) → is_some told ≡ is_some (option_copied told)
+there-copied None = refl
+there-copied (Some x) = refl

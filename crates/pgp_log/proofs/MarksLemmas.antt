@@ -1,5 +1,5 @@
 -- Which groups have to be worked out anew, as the groups change.
-use Rattle.std.proofs.Common.{◌≡◌, ℕ, zero, suc, ◌+◌, ◌-◌, ◌<◌, ◌≤◌, List, [], ◌∷◌, ◌++◌, Bool, true, false, ◌&&◌, ◌||◌, Option, Some, None, is_some, is_none, Result, Ok, Err, OnOk, length, take, drop, set, slice_get, inl, inr, refl, sym, ap, ◌∙◌, arith, eq-eqb, length-append}
+use Rattle.std.proofs.Common.{◌≡◌, ℕ, zero, suc, ◌+◌, ◌-◌, ◌<◌, ◌≤◌, List, [], ◌∷◌, ◌++◌, Bool, true, false, not, ◌&&◌, ◌||◌, Option, Some, None, is_some, is_none, Result, Ok, Err, OnOk, length, take, drop, set, slice_get, inl, inr, refl, sym, ap, ◌∙◌, arith, eq-eqb, length-append}
 use Rattle.std.specs.HashMap as hash
 use Rattle.std.specs.List.{list_any}
 use Rattle.std.specs.Prelude.{nat_eq}
@@ -8,7 +8,7 @@ use Rattle.std.proofs.lemmas.List.{take_more_set}
 use Rattle.std.proofs.lemmas.List.Elements.{All-head, All-tail}
 use Rattle.std.proofs.lemmas.List.Folds.{list_any-append}
 use Rattle.std.proofs.lemmas.Option.{slice_get_within}
-use Rattle.std.proofs.Math.Bool.{and-false}
+use Rattle.std.proofs.Math.Bool.{and-false, and-true, or-false}
 use Rattle.pgp_ids.specs.declared.entry.Entry.{Entry}
 use Rattle.pgp_ids.specs.declared.entry.Entry.TheVariants as entry
 use Rattle.pgp_ids.specs.declared.incremental.Incremental.{Incremental}
@@ -65,6 +65,10 @@ unmarked_by : (view : Option View) → is_some view ≡ true → is_none view �
 unmarked_by None is = cc
 unmarked_by (Some x) is = refl
 
+pub there-unmarked : (view : Option View) → is_some view ≡ not (is_none view)
+there-unmarked None = refl
+there-unmarked (Some x) = refl
+
 pub marks-asked : (old groups : Groups) (pg : PgId) (place : ℕ) (kept after : Kept) → AreAtPlaces old → hash.get is_same_group old.places pg ≡ Some place → slice_get old.kept.items place ≡ Some kept
     → is_some after.view ≡ true → groups.kept.items ≡ set old.kept.items place after → marks_of groups ≡ without pg (marks_of old)
 marks-asked old groups pg place kept after are is at there items =
@@ -75,6 +79,30 @@ marks-asked old groups pg place kept after are is at there items =
 
 pub marks-elsewhere : (groups : Groups) (pg : PgId) → AreAtPlaces groups → hash.get is_same_group groups.places pg ≡ None → marks_of groups ≡ without pg (marks_of groups)
 marks-elsewhere groups pg are none = all-other is_marked pg_of (is_same_group pg) groups.kept.items (λ j kept at. missing-group groups pg j kept are none at)
+
+any-of-none : {X : Type 0} (p : X → Bool) (xs : List X) → ((j : ℕ) (x : X) → slice_get xs j ≡ Some x → p x ≡ false) → list_any p xs ≡ false
+any-of-none p [] none = refl
+any-of-none p (x ∷ xs) none = rw (none 0 x refl) (any-of-none p xs (λ j y at. none (suc j) y at))
+
+-- none but the one at this place passes
+any-of-one : {X : Type 0} (p : X → Bool) (xs : List X) (i : ℕ) (x : X) → slice_get xs i ≡ Some x → ((j : ℕ) (y : X) → (j ≡ i → ⊥) → slice_get xs j ≡ Some y → p y ≡ false)
+    → list_any p xs ≡ p x
+any-of-one p [] i x at others = cc
+any-of-one p (y ∷ xs) zero x at others =
+    let here : y ≡ x = cc in
+    ap (λ b. p y || b) (any-of-none p xs (λ j z found. others (suc j) z (λ e. absurd (omega (arith, e))) found)) ∙ or-false (p y) ∙ ap p here
+any-of-one p (y ∷ xs) (suc i) x at others =
+    ap (λ b. b || list_any p xs) (others 0 y (λ e. absurd (omega (arith, e))) refl)
+    ∙ any-of-one p xs i x at (λ j z differs found. others (suc j) z (λ e. differs (omega (arith, e))) found)
+
+-- a group is among the marks just where what is kept of it is marked
+pub marked-at : (groups : Groups) (pg : PgId) (place : ℕ) (kept : Kept) → AreAtPlaces groups → hash.get is_same_group groups.places pg ≡ Some place → slice_get groups.kept.items place ≡ Some kept
+    → is_among pg (marks_of groups) ≡ is_marked kept
+marked-at groups pg place kept are is at =
+    any-passing is_marked pg_of (is_same_group pg) groups.kept.items
+    ∙ any-of-one (λ k. is_marked k && is_same_group pg (pg_of k)) groups.kept.items place kept at
+    (λ j other differs found. ap (λ b. is_marked other && b) (other-group groups pg place j other are is found differs) ∙ and-false (is_marked other))
+    ∙ ap (λ b. is_marked kept && b) (ap (is_same_group pg) (place-holds groups pg place kept are is at) ∙ same-self pg) ∙ and-true (is_marked kept)
 
 -- ---- marked groups are worked out, as many as may be
 

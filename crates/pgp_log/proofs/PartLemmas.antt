@@ -18,6 +18,10 @@ use Rattle.pgp_log.proofs.LogLemmas.{legal-snoc}
 use Rattle.pgp_log.proofs.MarksLemmas.{all-marks, pool-left}
 use Rattle.pgp_log.proofs.TakeLemmas.{incs-inc, incs-other}
 
+-- what is there follows from the log
+pub derived-there : (owner : Owner) (log : List Entry) (found : Option Derived) (derived : Derived) → IsPartOf owner log found → found ≡ Some derived → IsDerivedOf owner log derived
+derived-there owner log found derived is there = subst (λ (o : Option Derived). IfSome o (IsDerivedOf owner log)) there is.derived_is
+
 -- ---- an entry comes
 
 pub can-absorb : (owner : Owner) (log : List Entry) (new : Entry) (found : Option Derived) → IsPartOf owner log found → fits log new ≡ None → IfSome found (λ derived. CanAbsorb owner derived new)

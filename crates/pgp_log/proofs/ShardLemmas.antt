@@ -1,8 +1,12 @@
 -- What a shard has read.
-use Rattle.std.proofs.Common.{◌≡◌, ℕ, ◌+◌, ◌<◌, List, [], ◌∷◌, ◌++◌, length, get_or, map, take, ap, sym, ◌∙◌, arith}
+use Rattle.std.proofs.Common.{◌≡◌, ℕ, ◌+◌, ◌<◌, List, [], ◌∷◌, ◌++◌, Bool, true, false, not, cond, Option, length, get_or, map, take, refl, ap, sym, ◌∙◌, arith}
+use Rattle.std.specs.List.{filter, list_any}
+use Rattle.std.specs.Option.{option_map_or}
 use Rattle.std.proofs.lemmas.List.{length-map, take-map}
 use Rattle.pgp_ids.specs.declared.entry.Entry.{Entry}
-use Rattle.pgp_log.specs.Shard.{HasReadSame, HasReadSome, Shard, having_read, having_read_all}
+use Rattle.pgp_ids.specs.declared.pg_id.PgId.{PgId}
+use Rattle.pgp_map.specs.Pools.{is_same_group}
+use Rattle.pgp_log.specs.Shard.{HasReadSame, HasReadSome, IsUnmarked, Shard, has_own, having_read, having_read_all, is_among, is_marked}
 use Rattle.pgp_log.proofs.SharedLemmas.{next-after}
 
 -- one entry more is read
@@ -26,3 +30,16 @@ read-some s before after f xs i within was same = record {
     shards_are = same.shards_are ∙ was.shards_are;
   };
 }
+
+-- of those that fail the test none passes
+none-left : {X : Type 0} (p : X → Bool) (xs : List X) → list_any p (filter (λ x. not (p x)) xs) ≡ false
+none-left p [] = refl
+none-left p (x ∷ xs) = at (p x) refl (none-left p xs) where
+  at : (b : Bool) → p x ≡ b → list_any p (filter (λ y. not (p y)) xs) ≡ false → list_any p (cond (not (p x)) (x ∷ filter (λ y. not (p y)) xs) (filter (λ y. not (p y)) xs)) ≡ false
+  at true is rest = rw is rest
+  at false is rest = rw is (rw is rest)
+
+-- a group whose mark was taken away isn't marked
+pub unmarked-now : (pg : PgId) (before after : Shard) → IsUnmarked pg before after → is_marked after pg ≡ false
+unmarked-now pg before after is =
+    ap (λ (marks : Option (List PgId)). option_map_or (is_among pg) marks (has_own after pg)) is.left ∙ none-left (is_same_group pg) is.marked

@@ -1,8 +1,7 @@
 -- A group that an incremental doesn't touch, and the devices with which a group has to do.
 use Rattle.std.proofs.Common.{◌≡◌, ◌≢◌, ℕ, List, [], ◌∷◌, ◌++◌, inl, inr, subst, Bool, true, false, ◌||◌, Option, Some, None, is_some, map, length, refl, sym, ap, ◌∙◌}
-use Rattle.std.proofs.Math.Bool.{or-true}
 use Rattle.std.specs.List.{list_any}
-use Rattle.std.specs.Option.{option_map, option_map_or}
+use Rattle.std.specs.Option.{option_map}
 use Rattle.std.specs.Prelude.{nat_eq, nat_lt}
 use Rattle.std.proofs.lemmas.Bool.{cases_Bool, or_parts}
 use Rattle.std.proofs.lemmas.List.Folds.{list_any-append}
@@ -15,18 +14,17 @@ use Rattle.pgp_ids.specs.declared.pg_id.PgId.{PgId}
 use Rattle.pgp_ids.specs.declared.pool.PoolSizes.{PoolSizes}
 use Rattle.pgp_ids.specs.declared.pool.PoolSpec.{PoolSpec}
 use Rattle.pgp_map.specs.MapFault.{map_fault, then_with}
-use Rattle.pgp_map.specs.Pools.{pool, temp}
+use Rattle.pgp_map.specs.Pools.{pool}
 use Rattle.pgp_map.specs.declared.map.OsdMap.{OsdMap}
 use Rattle.pgp_sets.proofs.RawSetLemmas.{raw_set-stays}
-use Rattle.pgp_sets.specs.Sets.{membership, moves, pool_membership, raw_set}
+use Rattle.pgp_sets.specs.Sets.{membership, moves, pool_membership}
 use Rattle.pgp_group.proofs.GrowthLemmas.{next_epoch}
 use Rattle.pgp_group.proofs.Lists.{any-mapped}
 use Rattle.pgp_group.proofs.UntoldLemmas.{IsLeft, members-same, pool-same}
 use Rattle.pgp_group.proofs.UntouchedLemmas.{IsApart, apart, devices-stay}
 use Rattle.pgp_group.specs.Entries.{incs_of}
-use Rattle.pgp_group.specs.GroupLog.{group_in}
 use Rattle.pgp_group.specs.GroupOf.{IsGroupOf, IsNext}
-use Rattle.pgp_group.specs.Touched.{changed_devices, changes_pool, changes_temp, has_osd, has_to_do_with, is_placed, is_touched, moves_all, names}
+use Rattle.pgp_group.specs.Touched.{changed_devices, is_touched}
 use Rattle.pgp_group.specs.declared.group.Group.{Group}
 use Rattle.pgp_log.specs.Kept.{IsKeptOf, IsStep}
 use Rattle.pgp_log.specs.declared.kept.Kept.{Kept}

@@ -1,12 +1,28 @@
 //! Copies of views.
 
 ghost use Rattle.std.specs.Prelude.{◌≡◌, IfOk};
+ghost use Rattle.pgp_group.specs.Touched.{told_at};
 
-use pgp_ids::{Membership, MissingObject, Osds, Past, PeerMissing, PeerState, Seq, View};
+use pgp_ids::{Epoch, Membership, MissingObject, Osds, Past, PeerMissing, PeerState, Seq, View};
 use std::alloc::{AllocError, Global};
 
+/// A copy of the view, at this epoch and after so many entries.
+pub(crate) fn copy_at(
+    alloc: Global,
+    view: &View,
+    epoch: Epoch,
+    count: usize,
+) -> Result<View, AllocError>
+    ensures { IfOk result (λ copy. copy ≡ told_at count epoch view.now) }
+{
+    let mut copy = copy_of_view(alloc, view)?;
+    copy.epoch = epoch;
+    copy.count = count;
+    Ok(copy)
+}
+
 /// A copy of the view. It asks for room once for each of its lists, and once for each name of a missing object.
-pub(crate) fn copy_of_view(alloc: Global, view: &View) -> Result<View, AllocError>
+fn copy_of_view(alloc: Global, view: &View) -> Result<View, AllocError>
     ensures { IfOk result (λ copy. copy ≡ view.now) }
 {
     let intervals = copy_of_intervals(alloc, view.intervals.as_slice())?;

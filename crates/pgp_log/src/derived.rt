@@ -1,6 +1,6 @@
 //! What a shard keeps beside the entries that it has read.
 
-ghost use Rattle.std.specs.Prelude.{◌≡◌, ◌++◌, [], ◌∷◌, List, None, true, false, nat_eq, map, length, drop, IfOk, OnOk, OnErr};
+ghost use Rattle.std.specs.Prelude.{◌≡◌, ◌&&◌, not, ◌++◌, [], ◌∷◌, List, None, true, false, nat_eq, map, length, drop, is_some, IfOk, IfSome, OnOk, OnErr};
 ghost use Rattle.std.specs.List.{list_any};
 ghost use Rattle.std.specs.Arc.{arc_value};
 ghost use Rattle.pgp_ids.specs.declared.entry.Entry.{Entry as AnyEntry};
@@ -11,17 +11,16 @@ ghost use Rattle.pgp_map.specs.MapFault.{then_with};
 ghost use Rattle.pgp_map.specs.MapOf.{IsMapOf};
 ghost use Rattle.pgp_map.specs.Pools.{has_group};
 ghost use Rattle.pgp_group.specs.Entries.{incs_of};
-ghost use Rattle.pgp_group.specs.View.{scratch};
 ghost use Rattle.pgp_log.specs.Derived.{IsDerivedOf, IsStepping, CanStepOn, CanAbsorb, IsKeptIfOwn, HasOwn, HasStill, owns};
 ghost use Rattle.pgp_log.specs.Fits.{fits};
-ghost use Rattle.pgp_log.specs.Kept.{AreAllMarked, AreAtPlaces, MarksTouched, marks_of};
-ghost use Rattle.pgp_log.specs.Log.{HasInc, is_legal};
+ghost use Rattle.pgp_log.specs.Kept.{AreAllMarked, AreAtPlaces, IsViewOf, MarksTouched, marks_of};
+ghost use Rattle.pgp_log.specs.Log.{HasInc, epoch_of, is_legal};
 ghost use Rattle.pgp_log.specs.Shard.{is_among, without};
 ghost use Rattle.pgp_log.specs.declared.owner.Owner.{Owner as AnyOwner};
 
 use super::groups::Groups;
 use super::owner::Owner;
-use pgp_ids::{Entry, Incremental, PgId, PoolId, View};
+use pgp_ids::{Entry, Epoch, Incremental, PgId, PoolId, View};
 use pgp_map::OsdMap;
 use std::alloc::{AllocError, Global};
 use std::sync::Arc;
@@ -157,18 +156,36 @@ impl Derived {
         Ok(())
     }
 
-    /// All that the entries say of a group of the owner, where the map that they make has it: each such group is kept. `count`
-    /// is the number of the entries. After an error it stands for the same entries.
-    pub(crate) fn ask(&mut self, pg: &PgId, count: usize) -> Result<Option<View>, AllocError>
+    /// Works out a group of the owner, where it is marked. Whether the map that the entries make has it: each such group is kept.
+    /// `count` is the number of the entries. After an error it stands for the same entries.
+    pub(crate) fn work_out(&mut self, pg: &PgId, count: usize) -> Result<bool, AllocError>
         requires { AreAtPlaces self.old.groups }
-        ensures view { IfOk result (λ view. (owner : AnyOwner) (log : List AnyEntry) → IsDerivedOf owner log self.old
-            → length log ≡ count → owns owner pg.now ≡ true → view ≡ scratch log pg.now) }
+        ensures there { IfOk result (λ there. (owner : AnyOwner) (log : List AnyEntry) → IsDerivedOf owner log self.old
+            → owns owner pg.now ≡ true → there ≡ has_group (incs_of log) pg.now) }
         ensures is { (owner : AnyOwner) (log : List AnyEntry) → IsDerivedOf owner log self.old → length log ≡ count
             → IsDerivedOf owner log self.new }
         ensures marks { OnOk result (marks_of self.new.groups ≡ without pg.now (marks_of self.old.groups)) }
         ensures wants { OnErr result ((owner : AnyOwner) (log : List AnyEntry) → IsDerivedOf owner log self.old → HasInc log) }
     {
-        self.groups.ask(self.alloc, &self.after, count, pg)
+        self.groups.work_out(&self.after, count, pg)
+    }
+
+    /// What the entries say of a group of the owner, but for count and epoch, where the map has it and it isn't marked.
+    pub(crate) fn told(&self, pg: &PgId) -> Option<&View>
+        requires { AreAtPlaces self.now.groups }
+        ensures view { IfSome result (λ view. (owner : AnyOwner) (log : List AnyEntry) → IsDerivedOf owner log self.now
+            → IsViewOf log pg.now view.now) }
+        ensures there { (owner : AnyOwner) (log : List AnyEntry) → IsDerivedOf owner log self.now → owns owner pg.now ≡ true
+            → is_some result ≡ (has_group (incs_of log) pg.now && not (is_among pg.now (marks_of self.now.groups))) }
+    {
+        self.groups.told(pg)
+    }
+
+    /// The epoch of the map that the entries make.
+    pub(crate) fn epoch(&self) -> Epoch
+        ensures { (owner : AnyOwner) (log : List AnyEntry) → IsDerivedOf owner log self.now → result ≡ epoch_of log }
+    {
+        self.after.epoch()
     }
 
     /// Works out up to `max` of the groups that are marked. How many are marked still. `count` is the number of the entries.

@@ -1,6 +1,6 @@
 //! The groups of a shard.
 
-ghost use Rattle.std.specs.Prelude.{◌≡◌, ◌++◌, [], ◌∷◌, List, Some, None, true, false, length, drop, is_some, IfOk, IfSome, OnOk, OnErr};
+ghost use Rattle.std.specs.Prelude.{◌≡◌, ◌&&◌, not, ◌++◌, [], ◌∷◌, List, Some, None, true, false, length, drop, is_some, IfOk, IfSome, OnOk, OnErr};
 ghost use Rattle.std.specs.HashMap as hash;
 ghost use Rattle.pgp_ids.specs.declared.entry.Entry.{Entry as AnyEntry};
 ghost use Rattle.pgp_ids.specs.declared.entry.Entry.TheVariants as entry;
@@ -13,8 +13,7 @@ ghost use Rattle.pgp_map.specs.MapOf.{IsMapOf};
 ghost use Rattle.pgp_map.specs.declared.map.OsdMap.{OsdMap as AnyMap};
 ghost use Rattle.pgp_group.specs.Entries.{inc_of, incs_of};
 ghost use Rattle.pgp_group.specs.Touched.{is_touched};
-ghost use Rattle.pgp_group.specs.View.{scratch};
-ghost use Rattle.pgp_log.specs.Kept.{AreKeptOf, AreAtPlaces, AreGroupsOf, IsStep, CanStepAll, ids_of, marks_in, marks_of, AreAllMarked, keeps, MarksTouched};
+ghost use Rattle.pgp_log.specs.Kept.{AreKeptOf, AreAtPlaces, AreGroupsOf, IsStep, IsViewOf, CanStepAll, ids_of, marks_in, marks_of, AreAllMarked, keeps, MarksTouched};
 ghost use Rattle.pgp_log.specs.Shard.{is_among, without};
 ghost use Rattle.pgp_log.specs.Log.{HasInc};
 
@@ -113,31 +112,44 @@ impl Groups {
         }
     }
 
-    /// All that the entries say of the group, where it is one of these. `map` is the last map, and `count` the number of the
-    /// entries. After an error they stand for the same entries.
-    pub(crate) fn ask(
+    /// Works out the group, where it is one of these and marked. Whether it is one of these. `map` is the last map, and `count`
+    /// the number of the entries. After an error they stand for the same entries.
+    pub(crate) fn work_out(
         &mut self,
-        alloc: Global,
         map: &OsdMap,
         count: usize,
         pg: &PgId,
-    ) -> Result<Option<View>, AllocError>
+    ) -> Result<bool, AllocError>
         requires { AreAtPlaces self.old }
-        ensures view { IfOk result (λ view. IfSome view (λ told. (log : List AnyEntry) → AreGroupsOf log self.old
-            → IsMapOf (incs_of log) map.now → length log ≡ count → scratch log pg.now ≡ Some told)) }
         ensures are { (log : List AnyEntry) → AreGroupsOf log self.old → IsMapOf (incs_of log) map.now → length log ≡ count
             → AreGroupsOf log self.new }
-        ensures there { IfOk result (λ view. is_some view ≡ keeps pg.now self.old) }
+        ensures there { IfOk result (λ there. there ≡ keeps pg.now self.old) }
         ensures ids { ids_of self.new.kept.items ≡ ids_of self.old.kept.items }
         ensures marks { OnOk result (marks_of self.new ≡ without pg.now (marks_of self.old)) }
         ensures wants { OnErr result ((log : List AnyEntry) → AreGroupsOf log self.old → HasInc log) }
     {
         match self.find(pg) {
             Some(place) => {
-                let kept = &mut self.kept[place];
-                Ok(Some(kept.ask(alloc, map, count)?))
+                let found = &mut self.kept[place];
+                found.renew(map, count)?;
+                Ok(true)
             }
-            None => Ok(None),
+            None => Ok(false),
+        }
+    }
+
+    /// What the entries say of the group, but for count and epoch, where it is one of these and not marked.
+    pub(crate) fn told(&self, pg: &PgId) -> Option<&View>
+        requires { AreAtPlaces self.now }
+        ensures view { IfSome result (λ view. (log : List AnyEntry) → AreGroupsOf log self.now → IsViewOf log pg.now view.now) }
+        ensures there { is_some result ≡ (keeps pg.now self.now && not (is_among pg.now (marks_of self.now))) }
+    {
+        match self.find(pg) {
+            Some(place) => {
+                let kept = &self.kept[place];
+                kept.view()
+            }
+            None => None,
         }
     }
 

@@ -1,7 +1,7 @@
 //! What a shard keeps of one of its groups.
 
 ghost use Rattle.std.specs.List.{list_any};
-ghost use Rattle.std.specs.Prelude.{◌≡◌, ◌||◌, ◌++◌, [], ◌∷◌, List, Some, None, true, false, length, is_some, IfOk, OnOk, OnErr};
+ghost use Rattle.std.specs.Prelude.{◌≡◌, ◌||◌, ◌++◌, [], ◌∷◌, List, Some, None, true, false, length, is_some, option_copied, OnOk, OnErr};
 ghost use Rattle.pgp_ids.specs.declared.entry.Entry.{Entry as AnyEntry};
 ghost use Rattle.pgp_ids.specs.declared.entry.Entry.TheVariants as entry;
 ghost use Rattle.pgp_ids.specs.declared.incremental.Incremental.{Incremental as AnyIncremental};
@@ -11,15 +11,13 @@ ghost use Rattle.pgp_map.specs.MapOf.{IsMapOf};
 ghost use Rattle.pgp_map.specs.Pools.{has_group, temp as temp_of};
 ghost use Rattle.pgp_map.specs.declared.map.OsdMap.{OsdMap as AnyMap};
 ghost use Rattle.pgp_group.specs.Entries.{inc_of, incs_of};
-ghost use Rattle.pgp_group.specs.Touched.{is_touched, has_to_do_with, told_at};
-ghost use Rattle.pgp_group.specs.View.{scratch};
+ghost use Rattle.pgp_group.specs.Touched.{is_touched, has_to_do_with};
 ghost use Rattle.pgp_log.specs.Kept.{IsKeptOf, IsStep, CanStep, StepsOn, IsTouchedBy, KeepsView, is_marked};
 ghost use Rattle.pgp_log.specs.RawSets.{IsRawSet};
 
-use super::copies::copy_of_view;
 use super::touch::{changes_placement, has_osd, moves};
 use pgp_group::Group;
-use pgp_ids::{DeviceEpoch, Entry, Epoch, Incremental, OsdId, Osds, PgId, View};
+use pgp_ids::{DeviceEpoch, Entry, Incremental, OsdId, Osds, PgId, View};
 use pgp_map::OsdMap;
 use pgp_sets::{filter, raw};
 use std::alloc::{AllocError, Global};
@@ -206,39 +204,11 @@ impl Kept {
         self.group.absorb_report(entry)
     }
 
-    /// All that the entries say of the group. `map` is the last map, and `count` their number. It is worked out where
-    /// something touched the group since it was last worked out, and else copied. After an `Err` it stands for the same log.
-    pub(crate) fn ask(
-        &mut self,
-        alloc: Global,
-        map: &OsdMap,
-        count: usize,
-    ) -> Result<View, AllocError>
-        ensures view { IfOk result (λ view. (log : List AnyEntry) → IsKeptOf log self.old → IsMapOf (incs_of log) map.now
-            → length log ≡ count → scratch log self.old.pg ≡ Some view) }
-        ensures kept { (log : List AnyEntry) → IsKeptOf log self.old → IsMapOf (incs_of log) map.now → length log ≡ count
-            → IsKeptOf log self.new }
-        ensures marks { OnOk result (is_some self.new.view ≡ true) }
-        ensures pg { self.new.pg ≡ self.old.pg }
+    /// What the entries said of the group when it was last worked out, but for count and epoch. `None` where it is marked.
+    pub(crate) fn view(&self) -> Option<&View>
+        ensures { option_copied result ≡ self.now.view }
     {
-        match &self.view {
-            Some(view) => told_again(alloc, view, map.epoch(), count),
-            None => self.work_out(alloc, map, count),
-        }
-    }
-
-    /// Works out what the entries say of the group, and keeps a copy of that.
-    fn work_out(&mut self, alloc: Global, map: &OsdMap, count: usize) -> Result<View, AllocError>
-        ensures view { IfOk result (λ view. (log : List AnyEntry) → IsKeptOf log self.old → IsMapOf (incs_of log) map.now
-            → length log ≡ count → scratch log self.old.pg ≡ Some view) }
-        ensures kept { (log : List AnyEntry) → IsKeptOf log self.old → IsMapOf (incs_of log) map.now → length log ≡ count
-            → IsKeptOf log self.new }
-        ensures marks { OnOk result (is_some self.new.view ≡ true) }
-        ensures pg { self.new.pg ≡ self.old.pg }
-    {
-        let view = self.group.view(map, count)?;
-        self.view = Some(copy_of_view(alloc, &view)?);
-        Ok(view)
+        self.view.as_ref()
     }
 
     /// Works out what the entries say of the group, where something touched it since that was last done. `map` is the last
@@ -254,14 +224,4 @@ impl Kept {
         }
         Ok(())
     }
-}
-
-/// A copy of the view, at this epoch and after so many entries.
-fn told_again(alloc: Global, view: &View, epoch: Epoch, count: usize) -> Result<View, AllocError>
-    ensures { IfOk result (λ copy. copy ≡ told_at count epoch view.now) }
-{
-    let mut copy = copy_of_view(alloc, view)?;
-    copy.epoch = epoch;
-    copy.count = count;
-    Ok(copy)
 }

@@ -1,18 +1,20 @@
 //! What a shard keeps beside the entries that it has read, or that it isn't there.
 
-ghost use Rattle.std.specs.Prelude.{◌≡◌, ◌++◌, [], ◌∷◌, List, None, Some, true, map, option_map, length, IfOk, IfSome, OnOk, OnErr};
+ghost use Rattle.std.specs.Prelude.{◌≡◌, ◌&&◌, not, ◌++◌, [], ◌∷◌, List, None, Some, true, map, is_some, false, length, IfOk, IfSome, OnOk, OnErr};
 ghost use Rattle.std.specs.Arc.{arc_value};
 ghost use Rattle.pgp_ids.specs.declared.entry.Entry.{Entry as AnyEntry};
-ghost use Rattle.pgp_group.specs.View.{scratch};
+ghost use Rattle.pgp_map.specs.Pools.{has_group};
+ghost use Rattle.pgp_group.specs.Entries.{incs_of};
 ghost use Rattle.pgp_log.specs.Derived.{CanAbsorb, IsDerivedOf, IsPartOf, owns, shard_with};
 ghost use Rattle.pgp_log.specs.Fits.{fits};
-ghost use Rattle.pgp_log.specs.Kept.{marks_of};
-ghost use Rattle.pgp_log.specs.Log.{HasInc};
-ghost use Rattle.pgp_log.specs.Shard.{AreMarked, AreUnmarked, IsUnmarked, MarksOnlyTouched};
+ghost use Rattle.pgp_log.specs.Kept.{AreAtPlaces, IsViewOf, marks_of};
+ghost use Rattle.pgp_log.specs.Log.{HasInc, epoch_of};
+ghost use Rattle.pgp_log.specs.Shard.{AreMarked, AreUnmarked, IsUnmarked, MarksOnlyTouched, is_marked};
+ghost use Rattle.pgp_log.specs.declared.owner.Owner.{Owner as AnyOwner};
 
 use super::derived::Derived;
 use super::owner::Owner;
-use pgp_ids::{Entry, PgId, View};
+use pgp_ids::{Entry, Epoch, PgId, View};
 use std::alloc::{AllocError, Global};
 use std::sync::Arc;
 
@@ -20,7 +22,7 @@ use std::sync::Arc;
 /// and again from an entry for which it found no memory until the next of these.
 #[derive(Drop)]
 pub(crate) struct Part {
-    alloc: Global,
+    pub(crate) alloc: Global,
     pub(crate) derived: Option<Derived>,
 }
 
@@ -53,26 +55,53 @@ impl Part {
         Ok(())
     }
 
-    /// All that these entries say of a group of the owner, where the map that they make has it. It is there afterwards, but
-    /// where there was no memory to make it.
-    pub(crate) fn ask(
+    /// Works out a group of the owner, where it is marked. Whether the map that these entries make has it. It is there
+    /// afterwards, but where there was no memory to make it.
+    pub(crate) fn work_out(
         &mut self,
         owner: Owner,
         entries: &[Arc<Entry>],
         pg: &PgId,
-    ) -> Result<Option<View>, AllocError>
+    ) -> Result<bool, AllocError>
         requires is { IsPartOf owner (map arc_value entries.now) self.old.derived }
         requires own { owns owner pg.now ≡ true }
-        ensures view { IfOk result (λ view. view ≡ scratch (map arc_value entries.now) pg.now) }
+        ensures there { IfOk result (λ there. there ≡ has_group (incs_of (map arc_value entries.now)) pg.now) }
         ensures is { IsPartOf owner (map arc_value entries.now) self.new.derived }
         ensures marks { OnOk result (IsUnmarked pg.now (shard_with owner (map arc_value entries.now) self.old.derived)
             (shard_with owner (map arc_value entries.now) self.new.derived)) }
         ensures wants { OnErr result (HasInc (map arc_value entries.now)) }
     {
         let mut derived = self.take(owner, entries)?;
-        let view = derived.ask(pg, entries.len());
+        let there = derived.work_out(pg, entries.len());
         self.derived = Some(derived);
-        view
+        there
+    }
+
+    /// What the entries say of a group of the owner, but for count and epoch, where it is there, the map has the group, and it
+    /// isn't marked.
+    pub(crate) fn told(&self, pg: &PgId) -> Option<&View>
+        requires { IfSome self.now.derived (λ derived. AreAtPlaces derived.groups) }
+        ensures view { IfSome result (λ view. (owner : AnyOwner) (log : List AnyEntry) → IsPartOf owner log self.now.derived
+            → IsViewOf log pg.now view.now) }
+        ensures kept { is_some result ≡ true → is_some self.now.derived ≡ true }
+        ensures there { (owner : AnyOwner) (log : List AnyEntry) → IsPartOf owner log self.now.derived → owns owner pg.now ≡ true
+            → is_some result ≡ (has_group (incs_of log) pg.now && not (is_marked (shard_with owner log self.now.derived) pg.now)) }
+    {
+        match &self.derived {
+            Some(derived) => derived.told(pg),
+            None => None,
+        }
+    }
+
+    /// The epoch of the map that the entries make, where it is there.
+    pub(crate) fn epoch(&self) -> Epoch
+        ensures { (owner : AnyOwner) (log : List AnyEntry) → IsPartOf owner log self.now.derived
+            → is_some self.now.derived ≡ true → result ≡ epoch_of log }
+    {
+        match &self.derived {
+            Some(derived) => derived.epoch(),
+            None => Epoch::new(0),
+        }
     }
 
     /// Works out up to `max` of the groups that are marked. How many are marked still. It is there afterwards, but where there

@@ -1,15 +1,17 @@
 //! One shard: what it has read of the log, and what it answers by that.
 
-ghost use Rattle.std.specs.Prelude.{◌≡◌, ◌≢◌, ◌<◌, ◌++◌, length, map, is_some, false, true, None, Some, Err, IfOk, IfSome, OnOk, OnErr};
+ghost use Rattle.std.specs.Prelude.{◌≡◌, ◌≢◌, ◌<◌, ◌++◌, length, map, is_some, option_copied, option_map, false, true, None, Some, Err, IsOk, IfOk, IfSome, OnOk, OnErr};
 ghost use Rattle.std.specs.Arc.{arc_value};
 ghost use Rattle.pgp_refusals.specs.declared.ask_refusal.AskRefusal.TheVariants.{UnknownGroup, Memory};
 ghost use Rattle.pgp_map.specs.Pools.{has_group};
 ghost use Rattle.pgp_group.specs.Entries.{incs_of};
+ghost use Rattle.pgp_group.specs.Touched.{told_at};
 ghost use Rattle.pgp_group.specs.View.{scratch};
 ghost use Rattle.pgp_log.specs.Fits.{is_closed, fits};
-ghost use Rattle.pgp_log.specs.Log.{HasInc, is_legal};
-ghost use Rattle.pgp_log.specs.Shard.{opening_shard, having_read, having_read_all, HasReadSame, HasReadSome, shard_of, is_own, MarksOnlyTouched, IsUnmarked, AreUnmarked};
+ghost use Rattle.pgp_log.specs.Log.{HasInc, epoch_of, is_legal};
+ghost use Rattle.pgp_log.specs.Shard.{opening_shard, having_read, having_read_all, HasReadSame, HasReadSome, shard_of, is_own, is_marked, MarksOnlyTouched, IsUnmarked, AreUnmarked};
 
+use super::copies::copy_at;
 use super::entry::is_close;
 use super::owner::Owner;
 use super::part::Part;
@@ -116,6 +118,35 @@ impl ShardState {
         Ok(())
     }
 
+    /// Works out what the shard has read says of one of its groups, where it is marked, and takes the mark away. `UnknownGroup`:
+    /// what was read makes no such group. `Memory`: there was none, which is so only where an incremental was read. What the
+    /// shard has read stays.
+    pub fn work_out(&mut self, pg: &PgId) -> Result<(), AskRefusal>
+        requires { is_own self.old.shard self.old.shards pg.now ≡ true }
+        ensures ok { IsOk result → has_group (incs_of self.old.front) pg.now ≡ true }
+        ensures unknown { result ≡ Err UnknownGroup → has_group (incs_of self.old.front) pg.now ≡ false }
+        ensures wants { result ≡ Err Memory → HasInc self.old.front }
+        ensures same { HasReadSame self.old self.new }
+        ensures marks { result ≢ Err Memory → IsUnmarked pg.now self.old self.new }
+    {
+        if self.part.work_out(self.owner, self.front.as_slice(), pg)? {
+            Ok(())
+        } else {
+            Err(AskRefusal::UnknownGroup)
+        }
+    }
+
+    /// What the shard has read says of one of its groups, but for count and epoch. `None` where there is no such group, and where
+    /// it is marked.
+    pub fn told(&self, pg: &PgId) -> Option<&View>
+        requires { is_own self.now.shard self.now.shards pg.now ≡ true }
+        ensures is { is_marked self.now pg.now ≡ false → scratch self.now.front pg.now
+            ≡ option_map (told_at (length self.now.front) (epoch_of self.now.front)) (option_copied result) }
+        ensures marked { is_marked self.now pg.now ≡ true → result ≡ None }
+    {
+        self.part.told(pg)
+    }
+
     /// All that the shard has read says of one of its groups, which needn't be worked out again then. `UnknownGroup`: what was
     /// read makes no such group. `Memory`: there was none, which is so only where an incremental was read. What the shard has
     /// read stays.
@@ -127,10 +158,24 @@ impl ShardState {
         ensures same { HasReadSame self.old self.new }
         ensures marks { result ≢ Err Memory → IsUnmarked pg self.old self.new }
     {
-        match self.part.ask(self.owner, self.front.as_slice(), &pg)? {
-            Some(view) => Ok(view),
-            None => Err(AskRefusal::UnknownGroup),
-        }
+        self.work_out(&pg)?;
+        self.copy(&pg)
+    }
+
+    /// A copy of all that the shard has read says of one of its groups, which isn't marked.
+    fn copy(&self, pg: &PgId) -> Result<View, AskRefusal>
+        requires own { is_own self.now.shard self.now.shards pg.now ≡ true }
+        requires there { has_group (incs_of self.now.front) pg.now ≡ true }
+        requires unmarked { is_marked self.now pg.now ≡ false }
+        ensures ok { IfOk result (λ view. scratch self.now.front pg.now ≡ Some view) }
+        ensures err { OnErr result (result ≡ Err Memory) }
+    {
+        let Some(view) = self.part.told(pg) else {
+            unreachable!();
+        };
+        let count = self.front.len();
+        let copy = copy_at(self.part.alloc, view, self.part.epoch(), count)?;
+        Ok(copy)
     }
 
     /// Works out up to `max` of the shard's groups that never were worked out, or that something touched since, so that a

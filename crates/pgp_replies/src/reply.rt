@@ -1,8 +1,10 @@
 //! The answers to lines, and their text.
-ghost use Rattle.std.specs.Prelude.{◌≡◌, ◌++◌, IfOk, OnOk, OnErr};
+ghost use Rattle.std.specs.Prelude.{◌≡◌, ◌++◌, [], IfOk, OnOk, OnErr};
+ghost use Rattle.json.specs.Print.{print};
 ghost use Rattle.pgp_replies.specs.Reply.{accepted_data, located_data, traced_data, reply_data, reply_text};
 ghost use Rattle.pgp_replies.specs.Parts.{place_fields};
 ghost use Rattle.pgp_replies.specs.Written.{tokens_of, fields_tokens};
+ghost use Rattle.pgp_replies.specs.declared.reply.Reply.TheVariants.{Asked};
 
 mod asked;
 mod devices;
@@ -83,11 +85,46 @@ impl ReplyWriter {
         ensures ok { OnOk result (text.new.items ≡ text.old.items ++ reply_text reply.now) }
         ensures err { OnErr result (text.new.items ≡ text.old.items) }
     {
+        let mut out = self.begin(alloc);
+        reply.write(alloc, &mut out)?;
+        self.end(out, text)
+    }
+
+    /// Puts the text of [`Reply::Asked`] of this view with this count and this epoch, as [`ReplyWriter::put`] does, wherever the
+    /// view is kept.
+    pub fn put_asked(
+        &mut self,
+        alloc: Global,
+        pg: PgId,
+        view: &View,
+        count: usize,
+        epoch: Epoch,
+        text: &mut Vec<u8>,
+    ) -> Result<(), AllocError>
+        ensures ok { OnOk result (text.new.items
+            ≡ text.old.items ++ reply_text (Asked pg (record view.now { count = count; epoch = epoch }))) }
+        ensures err { OnErr result (text.new.items ≡ text.old.items) }
+    {
+        let mut out = self.begin(alloc);
+        write_asked(alloc, &mut out, pg, view, count, epoch)?;
+        self.end(out, text)
+    }
+
+    /// Begins a reply, in the room that is kept.
+    fn begin(&mut self, alloc: Global) -> Writer
+        ensures tokens { result.tokens ≡ [] }
+        ensures before { result.before ≡ [] }
+    {
         self.room.clear();
-        let mut out = Writer::new(mem::replace(&mut self.room, Vec::new(alloc)));
-        let written = reply.write(alloc, &mut out);
+        Writer::new(mem::replace(&mut self.room, Vec::new(alloc)))
+    }
+
+    /// Puts what was written behind what `text` has, and keeps the room.
+    fn end(&mut self, out: Writer, text: &mut Vec<u8>) -> Result<(), AllocError>
+        ensures ok { OnOk result (text.new.items ≡ text.old.items ++ (out.before ++ print out.tokens)) }
+        ensures err { OnErr result (text.new.items ≡ text.old.items) }
+    {
         self.room = out.into_inner();
-        written?;
         text.extend_from_slice(self.room.as_slice())
     }
 }
@@ -98,7 +135,7 @@ impl Json for Reply {
     fn write(&self, alloc: Global, out: &mut Writer) -> Result<(), AllocError> {
         match self {
             Reply::Accepted { op, count, epoch } => write_accepted(alloc, out, *op, *count, *epoch),
-            Reply::Asked(pg, view) => write_asked(alloc, out, *pg, view),
+            Reply::Asked(pg, view) => write_asked(alloc, out, *pg, view, view.count, view.epoch),
             Reply::Located { pg, members, epoch } => write_located(
                 alloc, out, *pg, members, *epoch,
             ),

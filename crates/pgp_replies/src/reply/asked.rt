@@ -7,23 +7,26 @@ ghost use Rattle.pgp_replies.specs.Written.{tokens_of, fields_tokens};
 use super::devices::{write_acting, write_up};
 use super::parts::write_field;
 use json::Writer;
-use pgp_ids::{PgId, View};
+use pgp_ids::{Epoch, PgId, View};
 use std::alloc::{AllocError, Global};
 
+/// The view, with this count and this epoch.
 pub(super) fn write_asked(
     alloc: Global,
     out: &mut Writer,
     pg: PgId,
     known: &View,
+    count: usize,
+    epoch: Epoch,
 ) -> Result<(), AllocError>
-    ensures ok { OnOk result
-        (out.new.tokens ≡ out.old.tokens ++ tokens_of (asked_data pg known.now)) }
+    ensures ok { OnOk result (out.new.tokens
+        ≡ out.old.tokens ++ tokens_of (asked_data pg (record known.now { count = count; epoch = epoch }))) }
     ensures before { out.new.before ≡ out.old.before }
 {
     out.begin_object()?;
     write_acting(alloc, out, &known.acting, known.acting_primary)?;
     write_best(alloc, out, known)?;
-    write_history(alloc, out, known)?;
+    write_history(alloc, out, known, count, epoch)?;
     write_peers(alloc, out, pg, known)?;
     write_verdict(alloc, out, known)?;
     out.end_object()
@@ -40,13 +43,19 @@ fn write_best(alloc: Global, out: &mut Writer, known: &View) -> Result<(), Alloc
 }
 
 /// What the log had come to, and what was before.
-fn write_history(alloc: Global, out: &mut Writer, known: &View) -> Result<(), AllocError>
-    ensures ok { OnOk result
-        (out.new.tokens ≡ out.old.tokens ++ fields_tokens (history_fields known.now)) }
+fn write_history(
+    alloc: Global,
+    out: &mut Writer,
+    known: &View,
+    count: usize,
+    epoch: Epoch,
+) -> Result<(), AllocError>
+    ensures ok { OnOk result (out.new.tokens
+        ≡ out.old.tokens ++ fields_tokens (history_fields (record known.now { count = count; epoch = epoch }))) }
     ensures before { out.new.before ≡ out.old.before }
 {
-    write_field(alloc, out, "count", &known.count)?;
-    write_field(alloc, out, "epoch", &known.epoch)?;
+    write_field(alloc, out, "count", &count)?;
+    write_field(alloc, out, "epoch", &epoch)?;
     write_field(alloc, out, "first", &known.first)?;
     write_field(alloc, out, "intervals", &known.intervals)?;
     write_field(alloc, out, "les", &known.les)

@@ -16,5 +16,5 @@ not_accepted (Refused refused) other is = cc
 pub returns-in_err-put-in_default-clause-sure : goal.returns-in_err-put-in_default-clause-sure
 returns-in_err-put-in_default-clause-sure c = λ is room. absurd (not_accepted c.args.reply.now c.in_default.not-Accepted is)
 
-pub returns-then-is_err-clause-sure : goal.returns-then-is_err-clause-sure
-returns-then-is_err-clause-sure c = λ is room. absurd (not_accepted c.args.reply.now c.in_default.not-Accepted is)
+pub returns-in_ok-put-in_default-clause-sure : goal.returns-in_ok-put-in_default-clause-sure
+returns-in_ok-put-in_default-clause-sure c = λ is room. absurd (not_accepted c.args.reply.now c.in_default.not-Accepted is)

@@ -1,4 +1,4 @@
-use Rattle.std.proofs.Common.{◌<◌, [], ◌∷◌, ◌++◌, length, refl, sym, ◌∙◌, ap, Err, subst, append-nil, append_assoc, arith, length-append}
+use Rattle.std.proofs.Common.{◌<◌, [], ◌∷◌, ◌++◌, length, sym, ◌∙◌, ap, Err, subst, append-nil, append_assoc, arith, length-append}
 use Rattle.std.proofs.lemmas.Bool.Decides.{nat_tests}
 use Rattle.pgp_core.specs.Telling.{StopsIn}
 use Rattle.pgp_core.proofs.RunLemmas.{same_amid, stopped, all_lines, beyond_lines, taken-more, regroup, regroup_line}

@@ -1,0 +1,12 @@
+use Rattle.pgp_lines.specs.declared.command.Command.TheVariants.{Ask}
+use Rattle.pgp_lists.proofs.Results.{on_err}
+use Rattle.pgp_core.proofs.ReplyLemmas.{puts-reply, stays-asked}
+use Rattle.pgp_core.proofs.answerer.Answerer.put_asked.Goals as goal
+
+pub returns-clause-ok : goal.returns-clause-ok
+returns-clause-ok g c =
+    puts-reply g.Self.Answerer.alone _ _ (Ask c.args.pg) c.in_ok-reply.reply c.args.text.now.items _ c.in_ok-reply.ensures.reply c.in_ok-put_reply.ensures.ok
+
+pub returns-in_err-put_reply-clause-kept : goal.returns-in_err-put_reply-clause-kept
+returns-in_err-put_reply-clause-kept g c =
+    on_err _ _ (stays-asked g.Self.Answerer.alone _ _ c.args.pg c.in_ok-reply.reply c.in_ok-reply.ensures.reply)
