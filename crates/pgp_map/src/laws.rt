@@ -162,6 +162,7 @@ pub fn pools_and_lists()
 {}
 
 /// A list of incrementals that were checked one by one grows by one that has no fault, and by no other.
+#[tactic(auto, using(crate::proofs::CheckedLemmas::checked_laws))]
 pub fn checked_lists_grow_by_incrementals_without_fault()
     ensures none { are_checked [] ≡ true }
     ensures front { (incs later : List Incremental) → are_checked (incs ++ later) ≡ true → are_checked incs ≡ true }
@@ -172,6 +173,7 @@ pub fn checked_lists_grow_by_incrementals_without_fault()
 {}
 
 /// Each pool of a checked list is in range, and its map has each group that the list gives it.
+#[tactic(auto, using(crate::proofs::CheckedLemmas::checked_laws))]
 pub fn pools_of_checked_lists()
     ensures range { (incs : List Incremental) (id : ℕ) (made : PoolSpec) → are_checked incs ≡ true
         → pool incs id ≡ Some made → is_pool made ≡ true }
@@ -180,6 +182,7 @@ pub fn pools_of_checked_lists()
 {}
 
 /// Along a checked list the up_thru of a device never falls, and an erasure pool keeps its size.
+#[tactic(auto, using(crate::proofs::CheckedLemmas::checked_laws))]
 pub fn what_later_incrementals_keep()
     ensures up_thru { (incs later : List Incremental) (osd : ℕ) → are_checked (incs ++ later) ≡ true
         → up_thru incs osd ≤ up_thru (incs ++ later) osd }
@@ -188,6 +191,7 @@ pub fn what_later_incrementals_keep()
 {}
 
 /// What a map itself says of a device or a pool is what its incrementals say.
+#[tactic(auto, unfolding(crate::specs::Held::held_exists, crate::specs::Held::held_up, crate::specs::Held::held_lost_at, crate::specs::Held::held_pool))]
 pub fn maps_say_what_their_incrementals_say()
     ensures exists { (incs : List Incremental) (map : OsdMap) (osd : ℕ) → IsMapOf incs map
         → held_exists map osd ≡ exists incs osd }

@@ -15,6 +15,7 @@ use std::alloc::{AllocError, Global};
 use std::collections::HashMap;
 
 /// The pools that an incremental makes.
+#[tactic(auto, using(pgp_tables::proofs::Told::write_steps))]
 pub(crate) fn made_by_id(
     alloc: Global,
     made: &[PoolSpec],
@@ -29,6 +30,7 @@ pub(crate) fn made_by_id(
 }
 
 /// The sizes that an incremental gives.
+#[tactic(auto, using(pgp_tables::proofs::Told::write_steps))]
 pub(crate) fn sizes_by_pool(
     alloc: Global,
     sizes: &[PoolSizes],

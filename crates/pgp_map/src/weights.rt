@@ -65,6 +65,7 @@ impl Weights {
     }
 
     /// Gives these weights. The table is there, if there are any.
+    #[tactic(auto, using(crate::proofs::WeightLemmas::weight_steps))]
     pub fn set_all(&mut self, given: &[DeviceWeight])
         requires { 0 < length given.now → length self.old.table.items ≡ DEVICES }
         ensures { (q : ℕ) → weight_in self.new.table.items q ≡ with_weight (last_where (λ entry. nat_eq entry.osd q) given.now) (weight_in self.old.table.items q) }

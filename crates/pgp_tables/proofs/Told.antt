@@ -1,24 +1,17 @@
--- Tables in which the last of some entries was written.
-use Rattle.std.proofs.Common.{◌≡◌, ◌<◌, ℕ, ◌+◌, List, length, take, get_or, Bool, true, false, cond, refl, ap, sym, ◌∙◌}
-use Rattle.std.specs.Prelude.{Option, Some}
-use Rattle.pgp_lists.specs.Last.{last_where}
-use Rattle.pgp_lists.proofs.Last.{last_where_more}
+-- Tables in which one entry after another is written.
+use Rattle.std.proofs.Common.{◌≡◌, true}
+use Rattle.std.proofs.lemmas.Bool.{and_parts, eqb-true}
+use Rattle.std.proofs.lemmas.Grind.{take_at_read}
+use Rattle.std.specs.Prelude.{nat_eq}
+use Rattle.pgp_ids.specs.declared.pg_id.PgId.{PgId}
+use Rattle.pgp_lists.proofs.Last.{last_where-push}
+use Rattle.pgp_tables.specs.TempTable.{is_same_group}
 
--- a table in which the last of the first i entries of a list that names a key was written there by w, after the next one, x, was
-pub told_more : {K D E : Type 0} (eq : K → K → Bool) (law : (a b : K) → eq a b ≡ true → a ≡ b)
-    (key : E → K) (w : Option E → D → D) (old now next : K → D) (xs : List E) (i : ℕ) (x : E) (q : K)
-    → ((o : Option E) (d : D) → w (Some x) (w o d) ≡ w (Some x) d) → i < length xs → x ≡ get_or xs i x
-    → now q ≡ w (last_where (λ e. eq (key e) q) (take i xs)) (old q)
-    → next q ≡ cond (eq (key x) q) (w (Some x) (now (key x))) (now q)
-    → next q ≡ w (last_where (λ e. eq (key e) q) (take (i + 1) xs)) (old q)
-told_more {K = K} {D = D} {E = E} eq law key w old now next xs i x q again within item is step =
-    by_test (eq (key x) q) (λ (e : eq (key x) q ≡ true). ap now (law (key x) q e)) step
-    ∙ ap (λ (o : Option E). w o (old q)) (sym (last_where_more (λ e. eq (key e) q) xs i x within item))
-  where
-    before : Option E
-    before = last_where (λ e. eq (key e) q) (take i xs)
+-- groups with the same numbers are one
+pub same_group : (a b : PgId) → is_same_group a b ≡ true → a ≡ b
+same_group a b e =
+    let parts = and_parts (nat_eq a.pool b.pool) (nat_eq a.pg b.pg) e in
+    λ i. record { pool = eqb-true a.pool b.pool parts.0 i; pg = eqb-true a.pg b.pg parts.1 i }
 
-    by_test : (b : Bool) → (b ≡ true → now (key x) ≡ now q) → next q ≡ cond b (w (Some x) (now (key x))) (now q)
-        → next q ≡ w (cond b (Some x) before) (old q)
-    by_test true one step = step ∙ ap (w (Some x)) (one refl) ∙ ap (w (Some x)) is ∙ again before (old q)
-    by_test false one step = step ∙ is
+-- what one more entry changes
+pub ruleset write_steps = (take_at_read, last_where-push, eqb-true, same_group)

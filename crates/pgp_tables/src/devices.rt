@@ -158,6 +158,7 @@ fn with_told(said: Told, entry: &DeviceEpoch, before: Device) -> Device
 }
 
 /// Tells these epochs of devices, each of which has a place.
+#[tactic(auto, using(crate::proofs::Told::write_steps))]
 fn tell_all(table: &mut HashMap<OsdId, Device>, told: &[DeviceEpoch], said: Told)
     requires { (q : ℕ) → list_any (λ entry. nat_eq entry.osd q) told.now ≡ true → has_place table.old q ≡ true }
     ensures after { (q : ℕ) → device_at table.new q ≡ with_told said (last_where (λ entry. nat_eq entry.osd q) told.now) (device_at table.old q) }
