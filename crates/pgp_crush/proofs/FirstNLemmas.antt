@@ -1,8 +1,8 @@
 -- First-n, try by try and replica by replica.
-use Rattle.std.proofs.Common.{◌≡◌, ◌<◌, ◌≤◌, ℕ, ◌+◌, ◌-◌, suc, [], ◌∷◌, cond, length, length-append, Bool, true, false, not, refl, arith, ap, sym, ◌∙◌, add-one, Option, Some, None}
+use Rattle.std.proofs.Common.{inl, inr, ◌≡◌, ◌<◌, ◌≤◌, ℕ, ◌+◌, ◌-◌, suc, cond, length, length-append, refl, arith, ap, add-one, Option, None}
 use Rattle.std.specs.Option.{option_and_then}
+use Rattle.std.proofs.lemmas.Bool.{cases_Bool}
 use Rattle.pgp_crush.specs.declared.candidate.Pick.{Pick}
-use Rattle.pgp_crush.specs.declared.candidate.Candidate.{Candidate}
 use Rattle.pgp_crush.specs.Least.{least_from}
 use Rattle.pgp_crush.specs.Picks.{Picks, with_pick}
 use Rattle.pgp_crush.specs.Candidate.{Input}
@@ -11,36 +11,34 @@ use Rattle.pgp_crush.specs.FirstN.{is_failure, taken_by, try_of, is_good_try, pi
 -- ---- one replica
 
 -- what the tries of a replica from the f-th on give
-abbrev pub from_try : Input → Picks → ℕ → ℕ → ℕ → Option Pick
-from_try i taken rep f left = option_and_then (λ f. taken_by (try_of i rep f)) (least_from (is_good_try i taken rep) f left)
+unfoldable pub from_try : Input → Picks → ℕ → ℕ → Option Pick
+from_try i taken rep f = option_and_then (λ f. taken_by (try_of i rep f)) (least_from (is_good_try i taken rep) f (51 - f))
+
+pub from_try-first : (i : Input) (taken : Picks) (rep : ℕ) → from_try i taken rep 0 ≡ pick_of i taken rep
+unfolding from_try pick_of
+from_try-first i taken rep = refl
 
 -- one try, and those after it if it is a failure
-pub from_try-more : (i : Input) (taken : Picks) (rep f : ℕ) (c : Candidate) (fails : Bool) → f < 51 → c ≡ try_of i rep f → is_failure taken c ≡ fails
-    → from_try i taken rep f (51 - f) ≡ cond fails (from_try i taken rep (f + 1) (51 - (f + 1))) (taken_by c)
-unfolding least_from
-from_try-more i taken rep f c fails within is e =
+pub from_try-more : (i : Input) (taken : Picks) (rep f : ℕ) → f < 51
+    → from_try i taken rep f ≡ cond (is_failure taken (try_of i rep f)) (from_try i taken rep (f + 1)) (taken_by (try_of i rep f))
+unfolding from_try least_from
+from_try-more i taken rep f within =
     let left : 51 - f ≡ suc (51 - (f + 1)) = omega arith in
-    ap (from_try i taken rep f) left
-    ∙ ap (λ (b : Bool). option_and_then (λ f. taken_by (try_of i rep f)) (cond (not b) (Some f) (least_from (is_good_try i taken rep) (suc f) (51 - (f + 1)))))
-    (ap (is_failure taken) (sym is) ∙ e)
-    ∙ by_test fails
-  where
-    by_test : (b : Bool) → option_and_then (λ f. taken_by (try_of i rep f)) (cond (not b) (Some f) (least_from (is_good_try i taken rep) (suc f) (51 - (f + 1))))
-        ≡ cond b (from_try i taken rep (f + 1) (51 - (f + 1))) (taken_by c)
-    by_test true = ap (λ (j : ℕ). from_try i taken rep j (51 - (f + 1))) (sym (add-one f))
-    by_test false = ap taken_by (sym is)
+    rw (left, add-one f) (elim (cases_Bool (is_failure taken (try_of i rep f))) [ inl fails ↦ rw fails refl | inr good ↦ rw good refl ])
 
-pub from_try-end : (i : Input) (taken : Picks) (rep f left : ℕ) → left ≡ 0 → from_try i taken rep f left ≡ None
-unfolding least_from
-from_try-end i taken rep f left e = ap (from_try i taken rep f) e
+pub from_try-end : (i : Input) (taken : Picks) (rep f : ℕ) → f ≡ 51 → from_try i taken rep f ≡ None
+unfolding from_try least_from
+from_try-end i taken rep f e = rw e
+
+pub ruleset try_steps = (from_try-first, from_try-more, from_try-end)
 
 -- ---- the replicas
 
-pub first_picks-more : (i : Input) (rep : ℕ) (taken : Picks) → taken ≡ first_picks i rep → first_picks i (rep + 1) ≡ with_pick taken (pick_of i taken rep)
+pub first_picks-more : (i : Input) (rep : ℕ) → first_picks i (rep + 1) ≡ with_pick (first_picks i rep) (pick_of i (first_picks i rep) rep)
 unfolding first_picks
-first_picks-more i rep taken e =
-    ap (first_picks i) (add-one rep) ∙ ap (λ (t : Picks). with_pick t (pick_of i t rep)) (sym e)
+first_picks-more i rep = ap (first_picks i) (add-one rep)
 
 pub with_pick-room : (taken : Picks) (pick : Option Pick) → length (with_pick taken pick).leaves ≤ length taken.leaves + 1
-with_pick-room taken None = omega arith
-with_pick-room taken (Some pick) = omega (arith, length-append taken.leaves (Some pick.leaf ∷ []))
+with_pick-room taken pick = grind (arith, length-append {A = Option ℕ})
+
+pub ruleset replica_steps = (first_picks-more, with_pick-room)

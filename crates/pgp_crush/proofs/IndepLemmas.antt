@@ -1,10 +1,10 @@
 -- What the positions hold, cell by cell, is what any table of the placement says, and there is one table.
-use Rattle.std.proofs.Common.{◌≡◌, ◌<◌, ◌≤◌, ℕ, ◌+◌, zero, suc, ℤ, List, [], ◌∷◌, length, map, replicate, take, get_or, set, Bool, true, false, not, cond, ◌&&◌, nat_lt, inl, inr, refl, arith, ap, sym, ◌∙◌, subst, add-one, Option, Some, None}
+use Rattle.std.proofs.Common.{◌≡◌, ◌<◌, ◌≤◌, ℕ, ◌+◌, zero, suc, ℤ, List, length, map, replicate, take, get_or, set, Bool, true, false, not, cond, ◌&&◌, nat_lt, inl, inr, refl, arith, ap, sym, ◌∙◌, add-one, Option, Some, None}
 use Rattle.std.specs.List.{list_any, range_with_len}
-use Rattle.std.specs.Option.{option_map_or, option_and_then}
-use Rattle.std.proofs.lemmas.List.{get_or-set_same, get_or-set_other, set-get_or, length-set, length-map, get_or-map, take-replicate, get_or-replicate, length-replicate, ext_get_or}
+use Rattle.std.specs.Option.{option_map_or}
+use Rattle.std.proofs.lemmas.List.{get_or_read, get_or-set_same, get_or-set_other, set-get_or, length-set, length-map, get_or-map, take-replicate, get_or-replicate, length-replicate, ext_get_or}
 use Rattle.std.proofs.lemmas.List.FromFn.{length-map-range_with_len, get_or-map-range_with_len, fill_by_all}
-use Rattle.std.proofs.lemmas.Bool.{cases_Bool, cases_eq, cases_lt}
+use Rattle.std.proofs.lemmas.Bool.{cases_eq, cases_lt}
 use Rattle.std.proofs.lemmas.Bool.Decides.{nat_tests}
 use Rattle.std.proofs.lemmas.Option.{slice_get-get_or}
 use Rattle.pgp_lists.proofs.Lists.{none-at}
@@ -15,7 +15,7 @@ use Rattle.pgp_crush.specs.declared.indep.Cell.{Cell}
 use Rattle.pgp_crush.specs.declared.indep.Cell.TheVariants.{Open, Gone, Held}
 use Rattle.pgp_crush.specs.Candidate.{Input}
 use Rattle.pgp_crush.specs.Least.{least_from}
-use Rattle.pgp_crush.specs.Indep.{cell, round_of, stands_before, has_item, has_before, settled_by, settles, IsTable, leaf_in, place_at, IsIndep}
+use Rattle.pgp_crush.specs.Indep.{cell, round_of, stands_before, has_item, has_before, settled_by, settles, IsTable, place_at, IsIndep}
 use Rattle.pgp_crush.specs.Cells.{is_open, holds, after_try, after_look, cells_with, cells_row, cells_after, leaf_held, indep}
 use Rattle.pgp_crush.proofs.LeastLemmas.{next_least, least_from-more, least_from-same, least_from-found, least_from-below}
 
@@ -33,6 +33,8 @@ pub cells_after-start : (i : Input) (n : ℕ) → n ≤ 16 → take n (replicate
 unfolding cells_after
 cells_after-start i n h = take-replicate n 16 Open h
 
+pub ruleset row_steps = (cells_row-more, get_or_read)
+
 row-size : (i : Input) (n round : ℕ) (cells : List Cell) (p : ℕ) → length (cells_row i n round cells p) ≡ length cells
 unfolding cells_row
 row-size i n round cells zero = refl
@@ -45,28 +47,28 @@ after-size i n (suc round) = row-size i n round (cells_after i n round) n ∙ af
 
 -- ---- once no position is open, the rounds that are left change nothing
 
-kept : (cells : List Cell) (c : Cell) (try : Candidate) → is_open c ≡ false → after_look cells c try ≡ c
-kept cells Open try h = cc
-kept cells Gone try h = refl
-kept cells (Held pick) try h = refl
-
 row-settled : (i : Input) (n round : ℕ) (cells : List Cell) (p : ℕ) → list_any is_open cells ≡ false → p ≤ length cells → cells_row i n round cells p ≡ cells
 unfolding cells_row
 row-settled i n round cells zero none h = refl
 row-settled i n round cells (suc p) none h =
     let shut = none-at is_open cells p (get_or cells p Open) none (slice_get-get_or cells p Open (omega arith)) in
-    ap (λ (c : List Cell). cells_with i n round c p) (row-settled i n round cells p none (omega arith))
-    ∙ ap (set cells p) (kept cells (get_or cells p Open) _ shut) ∙ set-get_or cells p Open
+    let kept : after_look cells (get_or cells p Open) (cell i n round p) ≡ get_or cells p Open = grind arith in
+    ap (λ (c : List Cell). cells_with i n round c p) (row-settled i n round cells p none (omega arith)) ∙ ap (set cells p) kept ∙ set-get_or cells p Open
 
-pub cells_after-settled : (i : Input) (n round m : ℕ) → list_any is_open (cells_after i n round) ≡ false →
-    cells_after i n (m + round) ≡ cells_after i n round
+pub cells_after-settled : (i : Input) (n round : ℕ) → list_any is_open (cells_after i n round) ≡ false → round ≤ 51 → cells_after i n round ≡ cells_after i n 51
 unfolding cells_after
-cells_after-settled i n round zero none = let same : zero + round ≡ round = omega arith in ap (cells_after i n) same
-cells_after-settled i n round (suc m) none =
-    let more : suc m + round ≡ suc (m + round) = omega arith in
-    ap (cells_after i n) more
-    ∙ ap (λ (cells : List Cell). cells_row i n (m + round) cells n) (cells_after-settled i n round m none)
-    ∙ row-settled i n (m + round) (cells_after i n round) n none (omega (arith, after-size i n round))
+cells_after-settled i n round none low = until 51 low
+  where
+    until : (m : ℕ) → round ≤ m → cells_after i n round ≡ cells_after i n m
+    until zero low = let same : round ≡ zero = omega arith in rw same
+    until (suc m) low = elim (cases_lt m round) [
+      | inl last ↦ let same : round ≡ suc m = omega arith in rw same
+      | inr more ↦
+          sym (row-settled i n m (cells_after i n round) n none (omega (arith, after-size i n round)))
+          ∙ ap (λ (cells : List Cell). cells_row i n m cells n) (until m more)
+    ]
+
+pub ruleset round_steps = (cells_after-start, cells_after-more, cells_after-settled)
 
 -- ---- what a position holds
 
@@ -75,21 +77,6 @@ abbrev cell_held : Candidate → Cell
 cell_held Early = Gone
 cell_held Unfit = Open
 cell_held (Fit pick) = Held pick
-
-holds_is : (item : ℤ) (c : Candidate) → holds item (cell_held c) ≡ has_item item c
-holds_is item Early = refl
-holds_is item Unfit = refl
-holds_is item (Fit pick) = refl
-
-tried : (cells : List Cell) (c : Candidate) → after_try cells c ≡ cond (not (is_open (after_try cells c))) (cell_held c) Open
-tried cells Early = refl
-tried cells Unfit = refl
-tried cells (Fit pick) = elim (cases_Bool (list_any (holds pick.item) cells)) [ inl held ↦ rw held refl | inr free ↦ rw free refl ]
-
-shut : (cells : List Cell) (c : Candidate) → not (is_open (after_try cells c)) ≡ true → is_open (cell_held c) ≡ false
-shut cells Early h = refl
-shut cells Unfit h = cc
-shut cells (Fit pick) h = refl
 
 -- in how many rounds position q was looked at, once the first p positions of a round were
 abbrev looked_at : ℕ → ℕ → ℕ → ℕ
@@ -117,35 +104,23 @@ module _ (i : Input) (n : ℕ) where
   -- what an open position takes, and what one that isn't open keeps
   step : (round p : ℕ) (o : Option ℕ) → ((own : ℕ) → o ≡ Some own → ends p own ≡ true)
       → after_look (before_cell round p) (held_by p o) (cell i n round p) ≡ held_by p (next_least o (ends p round) round)
-  step round p None closed = tried (before_cell round p) (cell i n round p) ∙ by_test (ends p round)
-    where
-      by_test : (b : Bool) → cond b (cell_held (cell i n round p)) Open ≡ held_by p (cond b (Some round) None)
-      by_test true = refl
-      by_test false = refl
-  step round p (Some own) closed = kept (before_cell round p) _ (cell i n round p) (shut (before_cell own p) (cell i n own p) (closed own refl))
+  step round p o closed = grind arith
 
   -- a position holds what the first of its cells gives that ended its search
   row : (round : ℕ) → ((q : ℕ) → q < n → get_or (cells_after i n round) q Open ≡ held_by q (least_from (ends q) 0 round))
       → (p q : ℕ) → p ≤ n → q < n → get_or (before_cell round p) q Open ≡ held_by q (least_from (ends q) 0 (looked_at round p q))
   unfolding cells_row
-  row round start zero q h within =
-      let none : round ≡ looked_at round 0 q = grind (arith, nat_tests) in
-      start q within ∙ ap (λ (k : ℕ). held_by q (least_from (ends q) 0 k)) none
+  row round start zero q h within = let none : looked_at round 0 q ≡ round = grind (arith, nat_tests) in rw none (start q within)
   row round start (suc p) q h within = elim (cases_eq q p) [
     | inl e ↦
         let here : looked_at round p p ≡ round = grind (arith, nat_tests) in
-        let done : suc round ≡ looked_at round (suc p) q = grind (arith, nat_tests) in
-        let one : get_or (cells_with i n round (before_cell round p) p) p Open ≡ held_by p (least_from (ends p) 0 (suc round)) =
-        get_or-set_same (before_cell round p) p _ Open (omega (arith, before_cell-size round p))
-        ∙ ap (λ (c : Cell). after_look (before_cell round p) c (cell i n round p)) (row round start p p (omega arith) (omega arith) ∙ ap (λ (k : ℕ). held_by p (least_from (ends p) 0 k)) here)
-        ∙ step round p (least_from (ends p) 0 round) (λ own is. (least_from-found (ends p) 0 round own is).0)
-        ∙ ap (held_by p) (sym (least_from-more (ends p) round)) in
-        subst (λ (k : ℕ). get_or (cells_with i n round (before_cell round p) p) k Open ≡ held_by k (least_from (ends k) 0 (suc round))) (sym e) one
-        ∙ ap (λ (k : ℕ). held_by q (least_from (ends q) 0 k)) done
+        let done : looked_at round (suc p) p ≡ suc round = grind (arith, nat_tests) in
+        rw (e, done, least_from-more (ends p) 0 round round (omega arith)) (get_or-set_same (before_cell round p) p _ Open (omega (arith, before_cell-size round p))
+        ∙ ap (λ (c : Cell). after_look (before_cell round p) c (cell i n round p)) (rw here at (row round start p p (omega arith) (omega arith)))
+        ∙ step round p (least_from (ends p) 0 round) (λ own is. (least_from-found (ends p) 0 round own is).0))
     | inr other ↦
-        let apart : looked_at round p q ≡ looked_at round (suc p) q = grind (arith, nat_tests) in
-        get_or-set_other (before_cell round p) p q _ Open other ∙ row round start p q (omega arith) within
-        ∙ ap (λ (k : ℕ). held_by q (least_from (ends q) 0 k)) apart
+        let apart : looked_at round (suc p) q ≡ looked_at round p q = grind (arith, nat_tests) in
+        rw apart (get_or-set_other (before_cell round p) p q _ Open other ∙ row round start p q (omega arith) within)
   ]
 
   after : (round q : ℕ) → q < n → get_or (cells_after i n round) q Open ≡ held_by q (least_from (ends q) 0 round)
@@ -153,28 +128,25 @@ module _ (i : Input) (n : ℕ) where
   after zero q h = get_or-replicate n q Open Open h
   after (suc round) q h =
       let all : looked_at round n q ≡ suc round = grind (arith, nat_tests) in
-      row round (after round) n q (omega arith) h ∙ ap (λ (k : ℕ). held_by q (least_from (ends q) 0 k)) all
+      rw all at (row round (after round) n q (omega arith) h)
 
   -- ---- tables
 
   module _ (table : List (Option ℕ)) (test : ℕ → ℕ → Bool) (is : (q : ℕ) → q < n → round_of table q ≡ least_from (test q) 0 51) where
     -- a cell ends a search by the table exactly if it does by what the positions hold, where that is so of the cells before it
     settles-is : (round p : ℕ) → round < 51 → p < n
-        → ((q : ℕ) → q < n → least_from (test q) 0 (looked_at round p q) ≡ least_from (ends q) 0 (looked_at round p q)) → settles i n table p round ≡ ends p round
+        → ((q : ℕ) → q < n → (own : ℕ) → own < looked_at round p q → test q own ≡ ends q own) → settles i n table p round ≡ ends p round
     settles-is round p early within so_far = by_case (cell i n round p)
       where
         of_held : (item : ℤ) (q : ℕ) (o : Option ℕ) → option_map_or (λ own. has_item item (cell i n own q)) o false ≡ holds item (held_by q o)
-        of_held item q None = refl
-        of_held item q (Some own) = sym (holds_is item (cell i n own q))
-
-        low : (q : ℕ) → looked_at round p q ≤ 51
-        low q = grind (arith, nat_tests)
+        of_held item q o = grind arith
 
         one : (item : ℤ) (q : ℕ) → q < n → has_before i n table round p item q ≡ holds item (get_or (before_cell round p) q Open)
         one item q h =
             (λ j. option_map_or (λ own. before-is own round p q j && has_item item (cell i n own q)) (is q h j) false)
-            ∙ least_from-below (test q) (λ own. has_item item (cell i n own q)) 0 51 (looked_at round p q) (looked_at round p q) (low q) (omega arith)
-            ∙ ap (λ (o : Option ℕ). option_map_or (λ own. has_item item (cell i n own q)) o false) (so_far q h)
+            ∙ least_from-below (test q) (λ own. has_item item (cell i n own q)) 0 51 (looked_at round p q) (looked_at round p q) (grind (arith, nat_tests)) (omega arith)
+            ∙ ap (λ (o : Option ℕ). option_map_or (λ own. has_item item (cell i n own q)) o false)
+            (least_from-same (test q) (ends q) 0 (looked_at round p q) (λ own low. so_far q h own (omega arith)))
             ∙ of_held item q (least_from (ends q) 0 (looked_at round p q))
             ∙ ap (holds item) (sym (row round (after round) p q (omega arith) h))
 
@@ -184,30 +156,15 @@ module _ (i : Input) (n : ℕ) where
             ∙ list_any-range Open (has_before i n table round p item) (holds item) 0 (before_cell round p)
             (λ q h. ap (has_before i n table round p item) (omega arith) ∙ one item q (omega (arith, before_cell-size round p)))
 
-        taken : (b : Bool) (c : Cell) → is_open c ≡ false → not b ≡ not (is_open (cond b Open c))
-        taken true c h = refl
-        taken false c h = sym (ap not h)
-
         by_case : (c : Candidate) → settled_by i n table p round c ≡ not (is_open (after_try (before_cell round p) c))
-        by_case Early = refl
-        by_case Unfit = refl
-        by_case (Fit pick) = ap not (any pick.item) ∙ taken (list_any (holds pick.item) (before_cell round p)) (Held pick) refl
+        by_case c = grind (arith, any)
 
     -- the places are read off the table, where its rounds are those of the cells that ended the searches
     places-read : ((q : ℕ) → q < n → round_of table q ≡ least_from (ends q) 0 51) → indep i n ≡ map (place_at i n table) (range_with_len 0 n)
     places-read rounds =
         fill_by_all (place_at i n table) (map leaf_held (cells_after i n 51)) n None (length-map (cells_after i n 51) leaf_held ∙ after-size i n 51)
         (λ q h. get_or-map leaf_held (cells_after i n 51) q Open None (omega (arith, after-size i n 51))
-        ∙ ap leaf_held (after 51 q h ∙ ap (held_by q) (sym (rounds q h))) ∙ leaf_at q (round_of table q))
-      where
-        leaf_held_is : (c : Candidate) → leaf_held (cell_held c) ≡ leaf_in c
-        leaf_held_is Early = refl
-        leaf_held_is Unfit = refl
-        leaf_held_is (Fit pick) = refl
-
-        leaf_at : (q : ℕ) (own : Option ℕ) → leaf_held (held_by q own) ≡ option_and_then (λ f. leaf_in (cell i n f q)) own
-        leaf_at q None = refl
-        leaf_at q (Some f) = leaf_held_is (cell i n f q)
+        ∙ ap leaf_held (after 51 q h ∙ ap (held_by q) (sym (rounds q h))) ∙ (grind arith))
 
   -- ---- the table that is there
 
@@ -220,7 +177,8 @@ module _ (i : Input) (n : ℕ) where
   found-is : IsTable i n found_table
   found-is = record {
     size = length-map-range_with_len (λ q. least_from (ends q) 0 51) 0 n;
-    least = λ p h. found-at p h ∙ least_from-same (ends p) (settles i n found_table p) 0 51 (λ round early. sym (settles-is found_table ends found-at round p (omega arith) h (λ q within. refl)));
+    least = λ p h. found-at p h
+        ∙ least_from-same (ends p) (settles i n found_table p) 0 51 (λ round early. sym (settles-is found_table ends found-at round p (omega arith) h (λ q within own low. refl)));
   }
 
   -- the places of all positions after all rounds are those of a table
@@ -230,30 +188,25 @@ module _ (i : Input) (n : ℕ) where
   -- ---- no other table
 
   module _ (table : List (Option ℕ)) (is : IsTable i n table) where
-    agree-in : (round : ℕ) → round < 51 → ((own q : ℕ) → own < round → q < n → settles i n table q own ≡ ends q own)
-        → (p q : ℕ) → q < p → q < n → settles i n table q round ≡ ends q round
-    agree-in round early earlier zero q below within = absurd (omega arith)
-    agree-in round early earlier (suc p) q below within =
-        settles-is table (settles i n table) is.least round q early within
-        (λ o inside. least_from-same (settles i n table o) (ends o) 0 (looked_at round q o) (λ own low. elim (cases_lt own round) [
-          | inl before ↦ earlier own o before inside
-          | inr late ↦
-              let now : round ≡ own = grind (arith, nat_tests) in
-              let left : o < p = grind (arith, nat_tests) in
-              subst (λ (k : ℕ). settles i n table o k ≡ ends o k) now (agree-in round early earlier p o left inside)
-        ]))
-
-    agree : (round : ℕ) → round ≤ 51 → (own q : ℕ) → own < round → q < n → settles i n table q own ≡ ends q own
-    agree zero h own q low within = absurd (omega arith)
-    agree (suc round) h own q low within = elim (cases_lt own round) [
-      | inl before ↦ agree round (omega arith) own q before within
+    -- the cells of a round end the searches that they should, where those of the rounds before it do
+    agree-in : (round : ℕ) → round < 51 → ((q : ℕ) → q < n → (own : ℕ) → own < round → settles i n table q own ≡ ends q own)
+        → (p : ℕ) → p ≤ n → (q : ℕ) → q < n → (own : ℕ) → own < looked_at round p q → settles i n table q own ≡ ends q own
+    agree-in round early earlier zero h q within own low = earlier q within own (grind (arith, nat_tests))
+    agree-in round early earlier (suc p) h q within own low = elim (cases_lt own (looked_at round p q)) [
+      | inl before ↦ agree-in round early earlier p (omega arith) q within own before
       | inr late ↦
-          let now : round ≡ own = omega arith in
-          subst (λ (k : ℕ). settles i n table q k ≡ ends q k) now (agree-in round (omega arith) (agree round (omega arith)) (suc q) q (omega arith) within)
+          let now : own ≡ round = grind (arith, nat_tests) in
+          let here : q ≡ p = grind (arith, nat_tests) in
+          rw (now, here) (settles-is table (settles i n table) is.least round p early (omega arith) (agree-in round early earlier p (omega arith)))
     ]
 
+    agree : (round : ℕ) → round ≤ 51 → (q : ℕ) → q < n → (own : ℕ) → own < round → settles i n table q own ≡ ends q own
+    agree zero h q within own low = absurd (omega arith)
+    agree (suc round) h q within own low =
+        agree-in round (omega arith) (agree round (omega arith)) n (omega arith) q within own (grind (arith, nat_tests))
+
     rounds-are : (q : ℕ) → q < n → round_of table q ≡ least_from (ends q) 0 51
-    rounds-are q h = is.least q h ∙ least_from-same (settles i n table q) (ends q) 0 51 (λ own low. agree 51 (omega arith) own q low h)
+    rounds-are q h = is.least q h ∙ least_from-same (settles i n table q) (ends q) 0 51 (agree 51 (omega arith) q h)
 
     table-is : table ≡ found_table
     table-is = ext_get_or None table found_table (is.size ∙ sym found-is.size) (λ q h. rounds-are q (omega (arith, is.size)) ∙ sym (found-at q (omega (arith, is.size))))
@@ -263,3 +216,5 @@ module _ (i : Input) (n : ℕ) where
 
   pub one_table : (table other : List (Option ℕ)) → IsTable i n table → IsTable i n other → table ≡ other
   one_table table other is also = table-is table is ∙ sym (table-is other also)
+
+pub ruleset tables = (indep-is, indep-by_table)

@@ -10,13 +10,10 @@ abbrev pub next_least : Option ℕ → Bool → ℕ → Option ℕ
 next_least (Some j) b k = Some j
 next_least None b k = cond b (Some k) None
 
-from-more : (test : ℕ → Bool) (k n j : ℕ) → k + n ≡ j → least_from test k (suc n) ≡ next_least (least_from test k n) (test j) j
+pub least_from-more : (test : ℕ → Bool) (k n j : ℕ) → k + n ≡ j → least_from test k (suc n) ≡ next_least (least_from test k n) (test j) j
 unfolding least_from
-from-more test k zero j e = let same : k ≡ j = omega arith in ap (λ (m : ℕ). cond (test m) (Some m) None) same
-from-more test k (suc n) j e = elim (cases_Bool (test k)) [ inl passes ↦ rw passes refl | inr fails ↦ rw fails (from-more test (suc k) n j (omega arith)) ]
-
-pub least_from-more : (test : ℕ → Bool) (n : ℕ) → least_from test 0 (suc n) ≡ next_least (least_from test 0 n) (test n) n
-least_from-more test n = from-more test 0 n n (omega arith)
+least_from-more test k zero j e = let same : k ≡ j = omega arith in ap (λ (m : ℕ). cond (test m) (Some m) None) same
+least_from-more test k (suc n) j e = elim (cases_Bool (test k)) [ inl passes ↦ rw passes refl | inr fails ↦ rw fails (least_from-more test (suc k) n j (omega arith)) ]
 
 pub least_from-same : (test other : ℕ → Bool) (k n : ℕ) → ((j : ℕ) → j < k + n → test j ≡ other j) → least_from test k n ≡ least_from other k n
 unfolding least_from
@@ -39,11 +36,7 @@ unfolding least_from
 least_from-below test says k n zero end h e = later (least_from test k n) (λ j is. (least_from-found test k n j is).1)
   where
     later : (o : Option ℕ) → ((j : ℕ) → o ≡ Some j → k ≤ j) → option_map_or (λ j. nat_lt j end && says j) o false ≡ false
-    later None low = refl
-    later (Some j) low =
-        let at : k ≤ j = low j refl in
-        let past : nat_lt j end ≡ false = grind (arith, nat_tests) in
-        ap (λ (b : Bool). b && says j) past
+    later o low = grind (arith, nat_tests)
 least_from-below test says k zero (suc m) end h e = absurd (omega arith)
 least_from-below test says k (suc n) (suc m) end h e = elim (cases_Bool (test k)) [
   | inl passes ↦ (let before : nat_lt k end ≡ true = grind (arith, nat_tests) in rw (passes, before) refl)

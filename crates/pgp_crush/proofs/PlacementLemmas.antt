@@ -1,10 +1,11 @@
 -- The placement that is computed is the one, and it has its size.
-use Rattle.std.proofs.Common.{◌≡◌, ◌≤◌, ℕ, zero, suc, List, length, Bool, true, false, refl, arith, ap, sym, ◌∙◌, subst, Option, Some, None, if◌then◌else◌}
+use Rattle.std.proofs.Common.{◌≡◌, ◌≤◌, ℕ, zero, suc, List, length, Bool, true, false, refl, arith, sym, ◌∙◌, Option, Some, None, if◌then◌else◌}
 use Rattle.std.proofs.lemmas.List.{length-map, length-replicate}
 use Rattle.pgp_crush.specs.declared.rule.Rule.{Rule}
+use Rattle.pgp_crush.specs.declared.indep.Cell.{Cell}
 use Rattle.pgp_crush.specs.Bucket.{Bucket}
 use Rattle.pgp_crush.specs.Candidate.{Input, input_of}
-use Rattle.pgp_crush.specs.Cells.{cells_after, leaf_held, indep}
+use Rattle.pgp_crush.specs.Cells.{indep}
 use Rattle.pgp_crush.specs.FirstN.{pick_of, first_picks, first_n}
 use Rattle.pgp_crush.specs.Placement.{IsPlacedBy, IsPlacement, placement}
 use Rattle.pgp_crush.proofs.FirstNLemmas.{with_pick-room}
@@ -18,10 +19,6 @@ pub placement-is : (tree : Option (List Bucket)) (rule : Rule) (weights : List �
 placement-is None rule weights x n = refl
 placement-is (Some tree) rule weights x n = placed-is rule.indep (input_of tree weights x rule.leaf) n
 
-pub placement-meets : (tree : Option (List Bucket)) (rule : Rule) (weights : List ℕ) (x n : ℕ) (places : List (Option ℕ)) → places ≡ placement tree rule weights x n
-    → IsPlacement tree rule weights x n places
-placement-meets tree rule weights x n places e = subst (IsPlacement tree rule weights x n) (sym e) (placement-is tree rule weights x n)
-
 placed-only : (b : Bool) (i : Input) (n : ℕ) (places : List (Option ℕ)) → IsPlacedBy b i n places → places ≡ (if b then indep i n else first_n i n)
 placed-only true i n places is = is.places_are ∙ sym (indep-by_table i n is.table is.is_table)
 placed-only false i n places is = is
@@ -31,6 +28,8 @@ pub placement-only : (tree : Option (List Bucket)) (rule : Rule) (weights : List
 placement-only None rule weights x n places is = is
 placement-only (Some tree) rule weights x n places is = placed-only rule.indep (input_of tree weights x rule.leaf) n places is
 
+pub ruleset placements = (placement-is, placement-only)
+
 -- ---- sizes
 
 picks-size : (i : Input) (n : ℕ) → length (first_n i n) ≤ n
@@ -38,20 +37,10 @@ unfolding first_picks
 picks-size i zero = omega arith
 picks-size i (suc n) = omega (arith, picks-size i n, with_pick-room (first_picks i n) (pick_of i (first_picks i n) n))
 
-indep-size : (i : Input) (n : ℕ) → length (indep i n) ≡ n
-indep-size i n = length-map (cells_after i n 51) leaf_held ∙ after-size i n 51
-
 pub placement-at_most : (tree : Option (List Bucket)) (rule : Rule) (weights : List ℕ) (x n : ℕ) → length (placement tree rule weights x n) ≤ n
-placement-at_most tree rule weights x n = by_rule tree rule.indep
-  where
-    by_rule : (tree : Option (List Bucket)) (b : Bool) → length (placement tree (record rule { indep = b }) weights x n) ≤ n
-    by_rule None true = omega (arith, length-replicate n (let none : Option ℕ = None in none))
-    by_rule None false = omega arith
-    by_rule (Some tree) true = omega (arith, indep-size (input_of tree weights x rule.leaf) n)
-    by_rule (Some tree) false = picks-size (input_of tree weights x rule.leaf) n
+placement-at_most tree rule weights x n = grind (arith, length-replicate {A = Option ℕ}, length-map {A = Cell} {B = Option ℕ}, after-size, picks-size)
 
 pub placement-size : (tree : Option (List Bucket)) (rule : Rule) (weights : List ℕ) (x n : ℕ) → rule.indep ≡ true → length (placement tree rule weights x n) ≡ n
-placement-size None rule weights x n e = rw e (length-replicate n None)
-placement-size (Some tree) rule weights x n e = rw e (indep-size (input_of tree weights x rule.leaf) n)
+placement-size tree rule weights x n e = grind (arith, length-replicate {A = Option ℕ}, length-map {A = Cell} {B = Option ℕ}, after-size)
 
 pub ruleset placement_sizes = (placement-at_most, placement-size)

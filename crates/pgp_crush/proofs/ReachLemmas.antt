@@ -1,21 +1,24 @@
 -- Where the ways down of a tree without fault lead.
-use Rattle.std.proofs.Common.{◌≡◌, ℕ, ◌+◌, ◌<◌, zero, suc, Bool, true, false, not, ℤ, List, [], ◌∷◌, length, Contains, nat_lt, slice_get, refl, arith, ap, sym, ◌∙◌, subst, inl, inr, Option, Some, None}
+use Rattle.std.proofs.Common.{◌≡◌, ◌⊎◌, ℕ, ◌+◌, ◌<◌, zero, suc, true, false, not, ℤ, List, ◌∷◌, length, Contains, nat_lt, slice_get, refl, arith, ap, sym, ◌∙◌, subst, inl, inr, Option, Some, None}
 use Rattle.std.specs.List.{list_any}
 use Rattle.std.specs.Ordering.{int_eq}
 use Rattle.std.proofs.lemmas.Bool.{not-false}
 use Rattle.std.proofs.lemmas.Int.{ints}
 use Rattle.std.proofs.lemmas.Bool.Decides.{nat_tests}
 use Rattle.std.proofs.lemmas.Option.{slice_get_within, get_or_from_slice_get}
-use Rattle.pgp_ids.specs.declared.bucket.BucketAlg.{BucketAlg}
-use Rattle.pgp_ids.specs.declared.bucket.BucketAlg.TheVariants.{Uniform, List as Weighed}
 use Rattle.pgp_lists.proofs.Members.{Contains-nil, Contains-cases, contains-filter, contains-flat_map, contains-any, none-contains, find-some}
 use Rattle.pgp_crush.specs.declared.descent.Rank.{Rank}
 use Rattle.pgp_crush.specs.declared.descent.Step.{Step}
 use Rattle.pgp_crush.specs.Bucket.{Bucket, bucket_at, is_held}
 use Rattle.pgp_crush.specs.Choice.{word_of, uniform_place, list_place, choice}
-use Rattle.pgp_crush.specs.Descent.{rank_at, path, path_by, step_of}
+use Rattle.pgp_crush.specs.Descent.{rank_at, path, step_of}
 use Rattle.pgp_crush.specs.TreeFault.{items_of, is_known, has_unknown, is_too_deep, below_levels, tree_fault, fault_below_root}
 use Rattle.pgp_crush.proofs.DescentLemmas.{path-none, bucket_at-id}
+
+-- an option holds nothing or something
+cases_Option : {X : Type 0} (o : Option X) → (o ≡ None) ⊎ ((x : X) × (o ≡ Some x))
+cases_Option None = inl refl
+cases_Option (Some x) = inr (x, refl)
 
 -- what a bucket chooses is one of its items
 got : (items : List ℤ) (k : ℕ) (item : ℤ) → slice_get items k ≡ Some item → Contains items item
@@ -24,10 +27,9 @@ got items k item is = (k, slice_get_within items k item is, get_or_from_slice_ge
 choice-in : (x r : ℕ) (b : Bucket) (item : ℤ) → choice x r b ≡ Some item → Contains b.items item
 unfolding choice
 choice-in x r b item h =
-    (elim b.alg as (λ (a : BucketAlg). elim a [
-      | Uniform ↦ slice_get b.items (uniform_place x r (word_of b.id) (length b.items))
-      | Weighed ↦ slice_get b.items (list_place x r (word_of b.id) b.items b.weights)
-    ] ≡ Some item → Contains b.items item) [ Uniform ↦ got b.items _ item | Weighed ↦ got b.items _ item ]) h
+    let at : (slice_get b.items (uniform_place x r (word_of b.id) (length b.items)) ≡ Some item)
+    ⊎ (slice_get b.items (list_place x r (word_of b.id) b.items b.weights) ≡ Some item) = grind arith in
+    elim at [ inl is ↦ got b.items _ item is | inr is ↦ got b.items _ item is ]
 
 -- ---- every item is known
 
@@ -40,18 +42,14 @@ path-known : (tree : List Bucket) (x : ℕ) (rank : Rank) (levels : ℕ) (from :
 unfolding path
 path-known tree x rank zero from s known here on = absurd (Contains-nil s on)
 path-known tree x rank (suc levels) None s known here on = absurd (Contains-nil s on)
-path-known tree x rank (suc levels) (Some b) s known here on =
-    by_choice (choice x (rank_at rank b) b) refl on
-    (λ item. path-known tree x rank levels (bucket_at tree item) s known (λ next is. (find-some (λ b. int_eq b.id item) tree next is).0))
-  where
-    by_choice : (chosen : Option ℤ) → choice x (rank_at rank b) b ≡ chosen
-        → Contains (elim chosen as (λ _. List Step) [ None ↦ [] | Some item ↦ path_by tree x rank levels (step_of item (rank_at rank b)) ]) s
-        → ((item : ℤ) → Contains (path tree x rank levels (bucket_at tree item)) s → is_known tree s.item ≡ true) → is_known tree s.item ≡ true
-    by_choice None e on rest = absurd (Contains-nil s on)
-    by_choice (Some item) e on rest = elim (Contains-cases (step_of item (rank_at rank b)) (path tree x rank levels (bucket_at tree item)) s on) [
-      | inl first ↦ ap (λ (t : Step). is_known tree t.item) (sym first) ∙ item-known tree b item known (here b refl) (choice-in x (rank_at rank b) b item e)
-      | inr later ↦ rest item later
-    ]
+path-known tree x rank (suc levels) (Some b) s known here on = elim (cases_Option (choice x (rank_at rank b) b)) [
+  | inl none ↦ absurd (Contains-nil s (rw (path, none) at on))
+  | inr some ↦
+      elim (Contains-cases (step_of some.0 (rank_at rank b)) (path tree x rank levels (bucket_at tree some.0)) s (rw (path, some.1) at on)) [
+        | inl first ↦ ap (λ (t : Step). is_known tree t.item) (sym first) ∙ item-known tree b some.0 known (here b refl) (choice-in x (rank_at rank b) b some.0 some.1)
+        | inr later ↦ path-known tree x rank levels (bucket_at tree some.0) s known (λ next is. (find-some (λ b. int_eq b.id some.0) tree next is).0) later
+      ]
+]
 
 -- ---- ten levels are enough
 
@@ -75,17 +73,14 @@ path-ends tree x rank zero more k all (Some b) shallow e sum here =
     absurd (none-in (below_levels tree 10) b shallow (subst (λ (l : ℕ). Contains (below_levels tree l) b) level (here b refl)))
 path-ends tree x rank (suc n) more k all (Some b) shallow e sum here =
     let left : all ≡ suc (n + more) = omega arith in
-    ap (λ (l : ℕ). path tree x rank l (Some b)) left
-    ∙ by_choice (choice x (rank_at rank b) b) refl (λ item. path-ends tree x rank n more (suc k) (n + more) (bucket_at tree item) shallow (omega arith) refl)
-  where
-    by_choice : (chosen : Option ℤ) → choice x (rank_at rank b) b ≡ chosen
-        → ((item : ℤ) → ((next : Bucket) → bucket_at tree item ≡ Some next → Contains (below_levels tree (suc k)) next) → path tree x rank (n + more) (bucket_at tree item) ≡ path tree x rank n (bucket_at tree item))
-        → elim chosen as (λ _. List Step) [ None ↦ [] | Some item ↦ path_by tree x rank (n + more) (step_of item (rank_at rank b)) ]
-        ≡ elim chosen as (λ _. List Step) [ None ↦ [] | Some item ↦ path_by tree x rank n (step_of item (rank_at rank b)) ]
-    by_choice None e rest = refl
-    by_choice (Some item) e rest =
-        ap (λ (p : List Step). step_of item (rank_at rank b) ∷ p) (rest item (λ next is.
-        in-below tree k b next (here b refl) (subst (Contains b.items) (sym (bucket_at-id tree item next is)) (choice-in x (rank_at rank b) b item e)) (find-some (λ b. int_eq b.id item) tree next is).0))
+    rw left (elim (cases_Option (choice x (rank_at rank b) b)) [
+      | inl none ↦ rw (path, none)
+      | inr some ↦
+          let on = choice-in x (rank_at rank b) b some.0 some.1 in
+          rw (path, some.1) (ap (λ (p : List Step). step_of some.0 (rank_at rank b) ∷ p)
+          (path-ends tree x rank n more (suc k) (n + more) (bucket_at tree some.0) shallow (omega arith) refl (λ next is.
+          in-below tree k b next (here b refl) (rw (← bucket_at-id tree some.0 next is) at on) (find-some (λ b. int_eq b.id some.0) tree next is).0)))
+    ])
 
 -- ---- of a tree without fault
 

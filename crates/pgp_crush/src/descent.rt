@@ -73,6 +73,7 @@ fn is_multiple(bucket: &BucketSpec, n: usize) -> bool
 /// What the way down from the bucket `from` comes to first: an item of type `kind`, a device before it, or its end.
 ///
 /// `x` is the input of the placement.
+#[tactic(auto, using(crate::proofs::DescentLemmas::down_end))]
 pub(crate) fn descend(tree: &Tree, x: u32, rank: Rank, kind: u8, from: &BucketSpec) -> Descent
     requires { sum from.now.weights < 2 ^ 32 }
     ensures value { result ≡ descent tree.now x rank kind (Some (bucket_of from.now)) }

@@ -94,6 +94,7 @@ fn ids_of(alloc: Global, buckets: &[BucketSpec]) -> Result<Vec<i32>, AllocError>
 }
 
 /// The place of the one bucket that isn't held, where there is just one.
+#[tactic(auto, using(crate::proofs::TreeLemmas::root_steps))]
 pub(crate) fn find_root(buckets: &[BucketSpec], held: &HashSet<i32>) -> Option<usize>
     requires { (q : ℤ) → bag.contains int_eq held.now q ≡ is_held (map bucket_of buckets.now) q }
     ensures none { IfNone result (has_no_root (map bucket_of buckets.now) ≡ true) }
@@ -197,6 +198,7 @@ fn has_too_much_weight(buckets: &[BucketSpec]) -> bool
 }
 
 /// The weights make more than 2^32 - 1.
+#[tactic(auto, using(std::proofs::lemmas::Grind::common_steps, std::proofs::lemmas::Bool::Decides::nat_tests))]
 fn exceeds_word(weights: &[u32]) -> bool
     ensures { result ≡ nat_lt (2 ^ 32 - 1) (sum weights.now) }
 {

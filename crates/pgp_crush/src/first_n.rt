@@ -14,7 +14,7 @@ pub(crate) const TRIES: u8 = 51;
 
 impl Input<'_> {
     /// The devices of `n` replicas, of which fewer may be found.
-    #[tactic(auto, unfolding(crate::specs::FirstN::first_picks))]
+    #[tactic(auto, unfolding(crate::specs::FirstN::first_picks), using(crate::proofs::FirstNLemmas::replica_steps))]
     pub(crate) fn first_n(&self, n: u8) -> Osds
         requires { n ≤ MAX_OSDS }
         ensures { result ≡ first_n (input_of self.now.tree.now self.now.weights.now self.now.x self.now.kind) n }
@@ -28,7 +28,7 @@ impl Input<'_> {
     }
 
     /// What replica `rep` takes, if it finds something.
-    #[tactic(auto, unfolding(crate::specs::FirstN::pick_of))]
+    #[tactic(auto, using(crate::proofs::FirstNLemmas::try_steps))]
     fn pick(&self, taken: &Taken, rep: u8) -> Option<Pick>
         ensures { result ≡ pick_of (input_of self.now.tree.now self.now.weights.now self.now.x self.now.kind) taken.now rep }
     {

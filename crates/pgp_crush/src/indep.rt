@@ -43,6 +43,7 @@ impl Cell {
 
 impl Input<'_> {
     /// The places of `n` positions.
+    #[tactic(auto, using(crate::proofs::IndepLemmas::round_steps))]
     pub(crate) fn indep(&self, n: u8) -> Osds
         requires { n ≤ MAX_OSDS }
         ensures { result ≡ indep (input_of self.now.tree.now self.now.weights.now self.now.x self.now.kind) n }
@@ -59,7 +60,7 @@ impl Input<'_> {
     }
 
     /// Tries the open ones of `n` positions in this round, in order.
-    #[tactic(auto, unfolding(crate::specs::Cells::cells_row))]
+    #[tactic(auto, unfolding(crate::specs::Cells::cells_row), using(crate::proofs::IndepLemmas::row_steps))]
     fn try_row(&self, cells: &mut [Cell], round: u8, n: u8)
         requires { length cells.old ≡ n }
         ensures { cells.new ≡ cells_row (input_of self.now.tree.now self.now.weights.now self.now.x self.now.kind) n round cells.old n }

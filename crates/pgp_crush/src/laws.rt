@@ -60,6 +60,7 @@ pub fn positions_keep_their_places()
 {}
 
 /// A placement meets its rule, and nothing else does.
+#[tactic(auto, using(crate::proofs::PlacementLemmas::placements))]
 pub fn placements_are_the_only_ones()
     ensures placed { (tree : Option (List Bucket)) (rule : Rule) (weights : List ℕ) (x n : ℕ)
         → IsPlacement tree rule weights x n (placement tree rule weights x n) }
@@ -105,6 +106,7 @@ pub fn refused_trees()
 {}
 
 /// An erasure pool's placement is read off a table in which each position has its least round, and there is one such table.
+#[tactic(auto, using(crate::proofs::IndepLemmas::tables))]
 pub fn one_table()
     ensures placed { (i : Input) (n : ℕ) → IsIndep i n (indep i n) }
     ensures only { (i : Input) (n : ℕ) (table other : List (Option ℕ)) → IsTable i n table → IsTable i n other → table ≡ other }

@@ -25,6 +25,7 @@ pub enum Level<'a> {
 }
 
 /// The level at this bucket of a way down that seeks an item of type `kind`.
+#[tactic(auto, using(crate::proofs::DescentLemmas::level_steps))]
 pub(crate) fn level_at<'a>(
     tree: &'a Tree,
     x: u32,

@@ -36,6 +36,7 @@ impl Chooser for List<'_> {
 const PARTS: u32 = 0x1_0000;
 
 /// The place of the last item whose weight is above a hashed share of the weights up to its own, else the first.
+#[tactic(auto, using(crate::proofs::ChoiceLemmas::place_steps))]
 fn list_place(x: u32, r: u32, id: u32, items: &[i32], weights: &[u32]) -> usize
     requires some { 0 < length items.now }
     requires weighed { length weights.now ≡ length items.now }

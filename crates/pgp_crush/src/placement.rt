@@ -16,6 +16,7 @@ use pgp_ids::{MAX_OSDS, Osds};
 /// places, some of which may be empty. With no tree there is no device. `weights` has the weight of each of the [`DEVICES`]
 /// in units of 1/0x10000, and `x` is the input of the placement, as its group hashes. This is CRUSH's `firstn` and
 /// `indep` (Weil and others, 2006), in this project's profile: tries, rounds and collisions are its own. No memory is taken.
+#[tactic(auto, using(std::proofs::lemmas::Grind::common_steps, crate::proofs::PlacementLemmas::placements))]
 pub fn place(tree: Option<&Tree>, rule: Rule, weights: &[u32], x: u32, n: u8) -> Osds
     requires weighed { length weights.now ≡ DEVICES }
     requires room { n ≤ MAX_OSDS }

@@ -31,7 +31,7 @@ impl Chooser for Uniform<'_> {
 /// The place, of `count` in the bucket whose id is this word, of the item that a full shuffle brings to place `r` modulo `count`.
 ///
 /// No list is shuffled: that one place is traced back through the exchanges.
-#[tactic(auto, using(crate::proofs::ChoiceLemmas::shuffle_steps))]
+#[tactic(auto, unfolding(crate::specs::Choice::uniform_place), using(crate::proofs::ChoiceLemmas::shuffle_steps))]
 fn uniform_place(x: u32, r: u32, id: u32, count: usize) -> usize
     requires { 0 < count }
     ensures value { result ≡ uniform_place x r id count }

@@ -7,6 +7,5 @@ use Rattle.pgp_crush.proofs.faults.has_too_much_weight.Goals as goal
 
 pub returns : goal.returns
 returns c =
-    any_mapped bucket_of (λ b. nat_lt (2 ^ 32 - 1) (sum b.weights)) c.args.buckets.now _
-    (any_from_yields_List (λ b. nat_lt (2 ^ 32 - 1) (sum b.weights)) _ _ _ c.any.ensures.ran
-    (YieldsList-from_slice c.args.buckets.now cc) (λ x b q k. search (rules, tests)))
+    rw (any_mapped bucket_of (λ b. nat_lt (2 ^ 32 - 1) (sum b.weights)) c.args.buckets.now)
+    (any_from_yields_List _ _ _ _ c.any.ensures.ran (YieldsList-from_slice c.args.buckets.now cc) (λ x b q k. search (rules, tests)))

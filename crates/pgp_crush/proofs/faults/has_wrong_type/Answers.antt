@@ -9,7 +9,5 @@ use Rattle.pgp_crush.proofs.faults.has_wrong_type.Goals as goal
 
 pub returns : goal.returns
 returns c =
-    let tree = map bucket_of c.args.buckets.now in
-    any_mapped bucket_of (λ b. nat_eq b.kind 0 || list_any (reaches_kind tree b.kind) b.items) c.args.buckets.now _
-    (any_from_yields_List (λ b. nat_eq b.kind 0 || list_any (reaches_kind tree b.kind) b.items) _ _ c.any.result c.any.ensures.ran
-    (YieldsList-from_slice c.args.buckets.now cc) (λ x b q k. search (rules, tests)))
+    rw (any_mapped bucket_of (λ b. nat_eq b.kind 0 || list_any (reaches_kind (map bucket_of c.args.buckets.now) b.kind) b.items) c.args.buckets.now)
+    (any_from_yields_List _ _ _ _ c.any.ensures.ran (YieldsList-from_slice c.args.buckets.now cc) (λ x b q k. search (rules, tests)))

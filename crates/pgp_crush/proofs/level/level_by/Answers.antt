@@ -1,4 +1,4 @@
-use Rattle.std.proofs.Common.{◌≡◌, FitsSigned, rules, ap, ◌∙◌}
+use Rattle.std.proofs.Common.{FitsSigned, rules, ap, ◌∙◌}
 use Rattle.std.specs.Int.{w32}
 use Rattle.std.proofs.lemmas.Int.{to_z-of_z}
 use Rattle.pgp_crush.specs.declared.descent.Step.{Step}
@@ -8,12 +8,10 @@ pub returns-clause-item : goal.returns-clause-item
 returns-clause-item g c step e =
     let fits : FitsSigned w32 c.choose-item.result = search rules in
     let is = simp to_z-of_z at c.level_of.ensures.found step e in
-    let at : step.item ≡ g.C.Chooser.choice c.args.chooser.now c.args.x c.args.r = ap (λ (s : Step). s.item) is ∙ c.choose-item.ensures in
-    rw at (g.met.C.Chooser.chooses_item c.args.chooser.now c.args.x c.args.r c.requires)
+    rw (ap (λ (s : Step). s.item) is ∙ c.choose-item.ensures) (g.met.C.Chooser.chooses_item c.args.chooser.now c.args.x c.args.r c.requires)
 
 pub returns-clause-next : goal.returns-clause-next
 returns-clause-next g c next e =
     let fits : FitsSigned w32 c.choose-item.result = search rules in
     let is = simp to_z-of_z at c.level_of.ensures.next next e in
-    let at : next.now.id ≡ g.C.Chooser.choice c.args.chooser.now c.args.x c.args.r = is ∙ c.choose-item.ensures in
-    rw at (g.met.C.Chooser.chooses_item c.args.chooser.now c.args.x c.args.r c.requires)
+    rw (is ∙ c.choose-item.ensures) (g.met.C.Chooser.chooses_item c.args.chooser.now c.args.x c.args.r c.requires)
