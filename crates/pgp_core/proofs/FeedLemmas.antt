@@ -1,5 +1,5 @@
 -- Where the first line feed stands.
-use Rattle.std.proofs.Common.{◌≡◌, ℕ, zero, suc, ◌≤◌, List, [], ◌∷◌, false, Option, Some, None, IfNone, length, take, take_all, refl, sym, ap, ◌∙◌, arith, inl, inr}
+use Rattle.std.proofs.Common.{◌≡◌, ℕ, zero, suc, ◌≤◌, List, [], ◌∷◌, false, length, take, take_all, refl, sym, ap, ◌∙◌, arith, inl, inr}
 use Rattle.std.specs.List.{list_any}
 use Rattle.std.proofs.lemmas.Bool.Decides.{eqb_tells}
 use Rattle.memchr.specs.Find.{Nowhere, Passes, is_byte}
@@ -18,7 +18,3 @@ none_in_front (suc n) (byte ∷ bytes) within nowhere =
 -- no line feed at all
 pub none_at_all : (bytes : List ℕ) → Nowhere (Passes (is_byte 10) bytes) 0 (length bytes) → list_any is_line_feed bytes ≡ false
 none_at_all bytes nowhere = sym (ap (list_any is_line_feed) (take_all (length bytes) bytes (omega arith))) ∙ none_in_front (length bytes) bytes (omega arith) nowhere
-
-pub if_none : {T P : Type 0} (r : Option T) → P → IfNone r P
-if_none None p = p
-if_none (Some x) p = tt

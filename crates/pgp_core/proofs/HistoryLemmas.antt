@@ -1,6 +1,5 @@
 -- One epoch more of a history that is told.
-use Rattle.std.proofs.Common.{◌≡◌, suc, List, [], ◌∷◌, ◌++◌, length, take, slice_index_or, refl, sym, ap, ◌∙◌, arith}
-use Rattle.std.proofs.lemmas.List.{length-append}
+use Rattle.std.proofs.Common.{◌≡◌, List, [], ◌∷◌, ◌++◌, length, take, slice_index_or, refl, sym, ap, ap₂}
 use Rattle.pgp_code.specs.declared.any.AnyCode.{AnyCode}
 use Rattle.pgp_ids.specs.declared.history.EpochState.{EpochState}
 use Rattle.pgp_interval.specs.History.{History, stepped}
@@ -14,22 +13,13 @@ pub last-push : (opening : EpochState) (others : List EpochState) (state : Epoch
 last-push opening others state = last-at opening opening others state
 
 -- all but the last, and the last
-front-last : (none opening : EpochState) (others : List EpochState) (more : List EpochState)
-    → take (length others) (opening ∷ (others ++ more)) ++ slice_index_or (opening ∷ others) (length others) none ∷ [] ≡ take (suc (length others)) (opening ∷ (others ++ more))
-front-last none opening [] more = refl
-front-last none opening (next ∷ others) more = ap (λ l. opening ∷ l) (front-last none next others more)
-
-take-more : (opening : EpochState) (others more : List EpochState) → take (length others) (opening ∷ (others ++ more)) ≡ take (length others) (opening ∷ others)
-take-more opening [] more = refl
-take-more opening (next ∷ others) more = ap (λ l. opening ∷ l) (take-more next others more)
+front-last : (none opening : EpochState) (others : List EpochState) (state : EpochState)
+    → take (length others) (opening ∷ others) ++ slice_index_or (opening ∷ others) (length others) none ∷ [] ≡ take (length (others ++ state ∷ [])) (opening ∷ (others ++ state ∷ []))
+front-last none opening [] state = refl
+front-last none opening (next ∷ others) state = ap (λ l. opening ∷ l) (front-last none next others state)
 
 pub told-push : (code : AnyCode) (opening : EpochState) (others : List EpochState) (state : EpochState)
     → stepped (told_history code opening others) state.members (last_state opening others).facts ≡ told_history code opening (others ++ state ∷ [])
 told-push code opening others state =
-    let many : length (others ++ state ∷ []) ≡ suc (length others) = omega (arith, length-append others (state ∷ [])) in
-    let lived : take (length others) (opening ∷ others) ++ last_state opening others ∷ [] ≡ take (length (others ++ state ∷ [])) (opening ∷ (others ++ state ∷ [])) =
-    ap (λ l. l ++ last_state opening others ∷ []) (sym (take-more opening others (state ∷ []))) ∙ front-last opening opening others (state ∷ [])
-    ∙ ap (λ n. take n (opening ∷ (others ++ state ∷ []))) (sym many) in
-    let current : state.members ≡ (last_state opening (others ++ state ∷ [])).members = ap (λ (s : EpochState). s.members) (sym (last-push opening others state)) in
-    ap (λ l. let h : History AnyCode = record { code = code; first = 1; lived = l; current = state.members } in h) lived
-    ∙ ap (λ m. let h : History AnyCode = record { code = code; first = 1; lived = take (length (others ++ state ∷ [])) (opening ∷ (others ++ state ∷ [])); current = m } in h) current
+    ap₂ (λ (lived : List EpochState) (last : EpochState). let h : History AnyCode = record { code = code; first = 1; lived = lived; current = last.members } in h)
+    (front-last opening opening others state) (sym (last-push opening others state))

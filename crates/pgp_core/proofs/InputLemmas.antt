@@ -16,11 +16,10 @@ pub read-piece : (bounds : Bounds) (old new : Input) (bytes piece : List ℕ) �
     → ((part : List ℕ) → Holds old.line part → Holds new.line (part ++ piece)) → new.left.lines ≡ old.left.lines → new.left.bytes ≡ old.left.bytes - length piece
     → HasRead bounds old bytes → HasRead bounds new (bytes ++ piece)
 read-piece bounds old new bytes piece none room fits added lines left read =
-    let whole = whole-piece bytes piece none in
     let rest : (cut (bytes ++ piece)).rest ≡ (cut bytes).rest ++ piece = ap (λ (c : Cut). c.rest) (cut-piece bytes piece none) in
     record {
       line = rw rest (added (cut bytes).rest read.line);
-      lines_left = rw (whole, lines) read.lines_left;
+      lines_left = rw (whole-piece bytes piece none, lines) read.lines_left;
       bytes_left = omega (arith, read.bytes_left, left, length-append bytes piece);
       closed = λ none_left. absurd (omega (arith, none_left, lines, room));
     }

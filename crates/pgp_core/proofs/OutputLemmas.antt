@@ -1,67 +1,52 @@
 -- What has gone out after one write more, and after two texts.
-use Rattle.std.proofs.Common.{◌≡◌, ℕ, List, [], ◌++◌, Option, Some, None, refl, sym, ap, ◌∙◌, append_assoc, append-nil, take, drop, take-append-drop, subst}
+use Rattle.std.proofs.Common.{◌≡◌, ℕ, List, [], ◌++◌, Option, refl, sym, ap, ◌∙◌, append_assoc, append-nil, take, drop, take-append-drop, subst}
 use Rattle.std.specs.Io.KnownBytes.{Appends}
+use Rattle.std.proofs.KnownBytes.{Appends-trans}
 use Rattle.pgp_core.specs.Output.{Went, FrontWent}
 use Rattle.pgp_core.specs.Telling.{WentBy}
 use Rattle.pgp_core.specs.declared.fault.AnswerFault.{AnswerFault}
 use Rattle.pgp_core.specs.declared.fault.AnswerFault.TheVariants.{Read, Write, Gone}
 
-Appends-nil : (a : Option (List ℕ)) → Appends a a []
-Appends-nil None = tt
-Appends-nil (Some x) = sym (append-nil x)
+-- a front of what was pending went out
+Went-on : (a b c : Option (List ℕ)) (text pending still : List ℕ) → Went a b text pending → Went b c pending still → Went a c text still
+Went-on a b c text pending still before more = record {
+  out = before.out ++ more.out;
+  whole = append_assoc before.out more.out still ∙ ap (λ l. before.out ++ l) more.whole ∙ before.whole;
+  went = Appends-trans a b c before.out more.out before.went more.went;
+}
 
-pub Appends-trans : (a b c : Option (List ℕ)) (xs ys : List ℕ) → Appends a b xs → Appends b c ys → Appends a c (xs ++ ys)
-Appends-trans None b c xs ys p q = tt
-Appends-trans (Some x) None c xs ys p q = absurd p
-Appends-trans (Some x) (Some y) None xs ys p q = absurd q
-Appends-trans (Some x) (Some y) (Some z) xs ys p q = q ∙ ap (λ l. l ++ ys) p ∙ append_assoc x xs ys
-
-pub Went-start : (a : Option (List ℕ)) (text : List ℕ) → Went a a text text
-Went-start a text = record { out = []; whole = refl; went = Appends-nil a }
+-- more text after it is pending too
+Went-longer : (a b : Option (List ℕ)) (text pending more : List ℕ) → Went a b text pending → Went a b (text ++ more) (pending ++ more)
+Went-longer a b text pending more before = record {
+  out = before.out;
+  whole = sym (append_assoc before.out pending more) ∙ ap (λ l. l ++ more) before.whole;
+  went = before.went;
+}
 
 pub Went-more : (a b c : Option (List ℕ)) (text rest : List ℕ) (n : ℕ) → Went a b text rest → Appends b c (take n rest) → Went a c text (drop n rest)
-Went-more a b c text rest n before more = record {
-  out = before.out ++ take n rest;
-  whole = append_assoc before.out (take n rest) (drop n rest) ∙ ap (λ l. before.out ++ l) (take-append-drop n rest) ∙ before.whole;
-  went = Appends-trans a b c before.out (take n rest) before.went more;
-}
+Went-more a b c text rest n before more = Went-on a b c text rest (drop n rest) before (record { out = take n rest; whole = take-append-drop n rest; went = more })
 
 pub Went-all : (a b : Option (List ℕ)) (text rest : List ℕ) → Went a b text rest → rest ≡ [] → Appends a b text
 Went-all a b text rest all none = subst (Appends a b) (sym (append-nil all.out) ∙ ap (λ l. all.out ++ l) (sym none) ∙ all.whole) all.went
 
+-- a front of what was pending went out, and then a write failed
+pub FrontWent-pending : (a b c : Option (List ℕ)) (text pending : List ℕ) → Went a b text pending → FrontWent b c pending → FrontWent a c text
+FrontWent-pending a b c text pending before more = record { rest = more.rest; front = Went-on a b c text pending more.rest before more.front }
+
 -- more text after it doesn't matter
 pub FrontWent-longer : (a b : Option (List ℕ)) (text more : List ℕ) → FrontWent a b text → FrontWent a b (text ++ more)
-FrontWent-longer a b text more front = record {
-  rest = front.rest ++ more;
-  front = record {
-    out = front.front.out;
-    whole = sym (append_assoc front.front.out front.rest more) ∙ ap (λ l. l ++ more) front.front.whole;
-    went = front.front.went;
-  };
-}
+FrontWent-longer a b text more front = record { rest = front.rest ++ more; front = Went-longer a b text front.rest more front.front }
 
 -- after a text that went out whole
 pub FrontWent-after : (a b c : Option (List ℕ)) (first text : List ℕ) → Appends a b first → FrontWent b c text → FrontWent a c (first ++ text)
-FrontWent-after a b c first text all front = record {
-  rest = front.rest;
-  front = record {
-    out = first ++ front.front.out;
-    whole = append_assoc first front.front.out front.rest ∙ ap (λ l. first ++ l) front.front.whole;
-    went = Appends-trans a b c first front.front.out all front.front.went;
-  };
-}
+FrontWent-after a b c first text all front = FrontWent-pending a b c (first ++ text) text (record { out = first; whole = refl; went = all }) front
 
 -- a text pending in part, and then more after what was pending
 pub Went-then : (a b c : Option (List ℕ)) (first pending text still : List ℕ) → Went a b first pending → Went b c (pending ++ text) still → Went a c (first ++ text) still
-Went-then a b c first pending text still before more = record {
-  out = before.out ++ more.out;
-  whole = append_assoc before.out more.out still ∙ ap (λ l. before.out ++ l) more.whole ∙ sym (append_assoc before.out pending text) ∙ ap (λ l. l ++ text) before.whole;
-  went = Appends-trans a b c before.out more.out before.went more.went;
-}
+Went-then a b c first pending text still before more = Went-on a b c (first ++ text) (pending ++ text) still (Went-longer a b first pending text before) more
 
 pub FrontWent-then : (a b c : Option (List ℕ)) (first pending text : List ℕ) → Went a b first pending → FrontWent b c (pending ++ text) → FrontWent a c (first ++ text)
-FrontWent-then a b c first pending text before more =
-    record { rest = more.rest; front = Went-then a b c first pending text more.rest before more.front }
+FrontWent-then a b c first pending text before more = FrontWent-pending a b c (first ++ text) (pending ++ text) (Went-longer a b first pending text before) more
 
 -- what was pending has been written
 pub Went-flushed : (a b c : Option (List ℕ)) (text pending : List ℕ) → Went a b text pending → Appends b c pending → Appends a c text
@@ -74,16 +59,6 @@ Went-none a b text went = record { out = text; whole = append-nil text; went = w
 pub Went-direct : (a b c : Option (List ℕ)) (pending text still : List ℕ) → still ≡ [] → Appends a b pending → Appends b c text → Went a c (pending ++ text) still
 Went-direct a b c pending text still none first then =
     rw none (Went-none a c (pending ++ text) (Appends-trans a b c pending text first then))
-
-pub FrontWent-pending : (a b c : Option (List ℕ)) (text pending : List ℕ) → Went a b text pending → FrontWent b c pending → FrontWent a c text
-FrontWent-pending a b c text pending before more = record {
-  rest = more.rest;
-  front = record {
-    out = before.out ++ more.front.out;
-    whole = append_assoc before.out more.front.out more.rest ∙ ap (λ l. before.out ++ l) more.front.whole ∙ before.whole;
-    went = Appends-trans a b c before.out more.front.out before.went more.front.went;
-  };
-}
 
 -- what was pending went out as far as the fault let it
 pub WentBy-pending : (fault : AnswerFault) (a b c : Option (List ℕ)) (text pending : List ℕ) → Went a b text pending → WentBy fault b c pending → WentBy fault a c text

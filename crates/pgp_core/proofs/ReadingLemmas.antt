@@ -1,30 +1,24 @@
 -- The only shard of a log reads on.
-use Rattle.std.proofs.Common.{◌≡◌, ℕ, ◌+◌, ◌-◌, ◌%◌, List, [], ◌++◌, Result, Ok, Err, OnOk, OnErr, true, length, map, take, drop, sym, ap, ◌∙◌, subst, append_assoc, append-nil, take_all, take-append-drop, length-drop, arith, eq-eqb}
+use Rattle.std.proofs.Common.{◌≡◌, List, [], ◌++◌, Result, Ok, Err, OnOk, OnErr, true, length, map, take, drop, sym, ap, ◌∙◌, append_assoc, append-nil, take-append-drop}
 use Rattle.std.proofs.Math.Seq.{drop-append_seam}
 use Rattle.std.proofs.lemmas.List.{drop-map}
 use Rattle.pgp_ids.specs.declared.entry.Entry.{Entry}
-use Rattle.pgp_ids.specs.declared.pg_id.PgId.{PgId}
 use Rattle.pgp_log.specs.Log.{IsFrontOf, is_legal}
 use Rattle.pgp_log.specs.Running.{IsReading}
-use Rattle.pgp_log.specs.Shard.{HasReadSame, HasReadSome, Shard, having_read_all, is_own, shard_of}
+use Rattle.pgp_log.specs.Shard.{HasReadSame, HasReadSome, Shard, having_read_all}
 
 -- what the shard has read, and the rest
 whole-log : {X : Type 0} (f : X → Entry) (xs : List X) (front : List Entry) → IsFrontOf front (map f xs) → front ++ map f (drop (length front) xs) ≡ map f xs
 whole-log f xs front is =
     ap (λ l. front ++ l) (sym (drop-map f (length front) xs) ∙ ap (drop (length front)) is.whole ∙ drop-append_seam front is.rest) ∙ sym is.whole
 
--- all from this place on
-pub all-from : {X : Type 0} (n : ℕ) (xs : List X) → take (length xs - n) (drop n xs) ≡ drop n xs
-all-from n xs = take_all (length xs - n) (drop n xs) (omega (arith, length-drop n xs))
-
 pub rest-legal : {X : Type 0} (f : X → Entry) (xs : List X) (front : List Entry) → is_legal (map f xs) ≡ true → IsFrontOf front (map f xs)
     → is_legal (front ++ map f (drop (length front) xs)) ≡ true
 rest-legal f xs front legal is = ap is_legal (whole-log f xs front is) ∙ legal
 
-pub has-read-all : {X E : Type 0} (f : X → Entry) (xs : List X) (old new : Shard) (r : Result (Unit {0}) E) → IsFrontOf old.front (map f xs)
-    → OnOk r (HasReadSame (having_read_all old (map f (drop (length old.front) xs))) new) → OnOk r (new.front ≡ map f xs)
-has-read-all f xs old new (Ok x) is read = read.front_is ∙ whole-log f xs old.front is
-has-read-all f xs old new (Err e) is read = tt
+pub has-read-all : {X : Type 0} (f : X → Entry) (xs : List X) (old new : Shard) → IsFrontOf old.front (map f xs)
+    → HasReadSame (having_read_all old (map f (drop (length old.front) xs))) new → new.front ≡ map f xs
+has-read-all f xs old new is read = read.front_is ∙ whole-log f xs old.front is
 
 pub still-reading : {X E : Type 0} (f : X → Entry) (xs : List X) (old new : Shard) (r : Result (Unit {0}) E) → IsReading (map f xs) 1 0 old
     → OnOk r (HasReadSame (having_read_all old (map f (drop (length old.front) xs))) new) → OnErr r (HasReadSome old (map f (drop (length old.front) xs)) new)
@@ -45,17 +39,3 @@ still-reading f xs old new (Err e) is ok err =
       shard_is = err.after_is.shard_is ∙ is.shard_is;
       shards_are = err.after_is.shards_are ∙ is.shards_are;
     }
-
--- where it has read the same, it is reading still
-pub reads-same : (log : List Entry) (old new : Shard) → IsReading log 1 0 old → HasReadSame old new → IsReading log 1 0 new
-reads-same log old new is same = record {
-  front_is = subst (λ (front : List Entry). IsFrontOf front log) (sym same.front_is) is.front_is;
-  shard_is = same.shard_is ∙ is.shard_is;
-  shards_are = same.shards_are ∙ is.shards_are;
-}
-
--- every group is its own
-pub owns-all : (log : List Entry) (s : Shard) (pg : PgId) → IsReading log 1 0 s → is_own s.shard s.shards pg ≡ true
-owns-all log s pg is = eq-eqb (shard_of s.shards pg) s.shard (ap (λ n. shard_of n pg) is.shards_are ∙ only (pg.pool + pg.pg) ∙ sym is.shard_is) where
-  only : (n : ℕ) → n % 1 ≡ 0
-  only n = omega arith

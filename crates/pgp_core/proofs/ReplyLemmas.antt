@@ -1,6 +1,7 @@
 -- What a reply says of the log.
-use Rattle.std.proofs.Common.{◌≡◌, ℕ, List, [], ◌∷◌, ◌++◌, length, Bool, true, false, Option, Some, None, option_map, Result, Ok, Err, refl, subst, sym, ap, ap₂, ◌∙◌}
-use Rattle.std.specs.Prelude.{OnOk, IfSome}
+use Rattle.std.proofs.Common.{◌≡◌, ℕ, List, [], ◌∷◌, ◌++◌, length, Bool, true, false, Option, Some, None, option_map, Ok, Err, inl, inr, refl, subst, sym, ap, ap₂, ◌∙◌}
+use Rattle.std.specs.Prelude.{IfSome}
+use Rattle.std.proofs.lemmas.Bool.{cases_Bool}
 use Rattle.pgp_ids.specs.declared.entry.Entry.{Entry}
 use Rattle.pgp_ids.specs.declared.pg_id.PgId.{PgId}
 use Rattle.pgp_ids.specs.declared.view.View.{View}
@@ -30,22 +31,15 @@ stays log (Ask pg) other = refl
 stays log (Locate pool name) other = refl
 stays log (Trace code epochs) other = refl
 
-pub stays-by : (alone : Bool) (before after : List Entry) (command : Command) (reply : Reply) → Replies alone before after command reply → is_accepted reply ≡ false → MayAnswerBy alone before after
-stays-by alone before after command reply replies other =
-    let same : after ≡ replies.by = replies.log ∙ stays replies.by command (sym (ap is_accepted replies.is) ∙ other) in
-    subst (MayAnswerBy alone before) (sym same) replies.may
-
--- a question changes nothing
-pub stays-asked : (alone : Bool) (before after : List Entry) (pg : PgId) (reply : Reply) → Replies alone before after (Ask pg) reply → MayAnswerBy alone before after
-stays-asked alone before after pg reply replies = subst (MayAnswerBy alone before) (sym replies.log) replies.may
-
 -- Where no answer could be put, no entry was taken: for that there was room.
 pub stays-unless-put : (alone : Bool) (before after : List Entry) (command : Command) (reply : Reply) → Replies alone before after command reply
     → (is_accepted reply ≡ true → false ≡ true) → MayAnswerBy alone before after
-stays-unless-put alone before after command reply replies sure = go (is_accepted reply) sure (stays-by alone before after command reply replies) where
-  go : (took : Bool) → (took ≡ true → false ≡ true) → (took ≡ false → MayAnswerBy alone before after) → MayAnswerBy alone before after
-  go true sure stay = let no : false ≡ true = sure refl in cc
-  go false sure stay = stay refl
+stays-unless-put alone before after command reply replies sure = elim (cases_Bool (is_accepted reply)) [
+  | inl took ↦ let no : false ≡ true = sure took in cc
+  | inr other ↦
+      let same : after ≡ replies.by = replies.log ∙ stays replies.by command (sym (ap is_accepted replies.is) ∙ other) in
+      subst (MayAnswerBy alone before) (sym same) replies.may
+]
 
 pub puts-reply : (alone : Bool) (before after : List Entry) (command : Command) (reply : Reply) (old new : List ℕ) → Replies alone before after command reply
     → new ≡ old ++ (reply_text reply ++ 10 ∷ []) → PutsReply alone before after command old new
@@ -66,21 +60,19 @@ told-reply log front pg count epoch told same many at is =
 
 -- ---- lines
 
-pub puts-command : {T E : Type 0} (r : Result T E) (alone : Bool) (before after : List Entry) (line : List ℕ) (command : Command) (old new : List ℕ) → command_of line ≡ Ok command
-    → OnOk r (PutsReply alone before after command old new) → OnOk r (PutsText alone before after line old new)
-puts-command (Ok x) alone before after line command old new reads puts = record {
+pub puts-command : (alone : Bool) (before after : List Entry) (line : List ℕ) (command : Command) (old new : List ℕ) → command_of line ≡ Ok command
+    → PutsReply alone before after command old new → PutsText alone before after line old new
+puts-command alone before after line command old new reads puts = record {
   by = puts.by;
   may = puts.may;
   text = puts.text ∙ ap (λ c. old ++ (text_of puts.by c ++ 10 ∷ [])) (sym reads);
   log = puts.log ∙ ap (log_of puts.by) (sym reads);
 }
-puts-command (Err e) alone before after line command old new reads puts = tt
 
-pub puts-fault : {T E : Type 0} (r : Result T E) (alone : Bool) (log : List Entry) (line : List ℕ) (fault : Option LineFault) (old new : List ℕ) → IfSome fault (λ f. command_of line ≡ Err f)
-    → OnOk r (PutsFault fault old new) → OnOk r (PutsText alone log log line old new)
-puts-fault (Err e) alone log line fault old new reads puts = tt
-puts-fault (Ok x) alone log line None old new reads puts = absurd puts
-puts-fault (Ok x) alone log line (Some fault) old new reads puts = record {
+pub puts-fault : (alone : Bool) (log : List Entry) (line : List ℕ) (fault : Option LineFault) (old new : List ℕ) → IfSome fault (λ f. command_of line ≡ Err f)
+    → PutsFault fault old new → PutsText alone log log line old new
+puts-fault alone log line None old new reads puts = absurd puts
+puts-fault alone log line (Some fault) old new reads puts = record {
   by = log;
   may = by-itself alone log;
   text = puts ∙ ap (λ c. old ++ (text_of log c ++ 10 ∷ [])) (sym reads);

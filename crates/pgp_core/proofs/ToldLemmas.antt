@@ -1,11 +1,11 @@
 -- One line more of what is written for lines, and what is written where one thread alone adds to the log.
-use Rattle.std.proofs.Common.{◌≡◌, ◌≤◌, ℕ, suc, List, [], ◌∷◌, ◌++◌, Bool, true, false, Option, Some, length, refl, sym, ap, ap₂, subst, ◌∙◌, append_assoc, append-nil, arith}
+use Rattle.std.proofs.Common.{◌≡◌, ℕ, suc, List, [], ◌∷◌, ◌++◌, Bool, true, false, Option, Some, length, refl, sym, ap, ap₂, subst, ◌∙◌, append_assoc, append-nil}
 use Rattle.pgp_ids.specs.declared.entry.Entry.{Entry}
 use Rattle.pgp_core.specs.Answerer.{MayAnswerBy}
 use Rattle.pgp_core.specs.Script.{MayMeet, MayMeetEach, answer, answers, log_past, Answers, want_text}
 use Rattle.pgp_core.specs.Told.{IsTold, PutsLine, AreTold}
 use Rattle.pgp_core.specs.declared.want.Want.{Want}
-use Rattle.pgp_core.proofs.ScriptLemmas.{answers_from, answers-from, answers-front, may-front}
+use Rattle.pgp_core.proofs.ScriptLemmas.{answers-cons}
 
 pub by-itself : (alone : Bool) (log : List Entry) → MayAnswerBy alone log log
 by-itself true log = refl
@@ -41,7 +41,7 @@ record Meets (log : List Entry) (lines : List (List ℕ)) (out : List ℕ) : Typ
   pub met : List (Option Want)
   pub each : length met ≡ length lines
   pub may : MayMeetEach met lines
-  pub text : out ≡ answers_from log met lines
+  pub text : out ≡ answers log met lines
 
 meets : (log after : List Entry) (lines : List (List ℕ)) (out : List ℕ) → AreTold true log lines after out → Meets log lines out
 meets log after [] out told = record { met = []; each = refl; may = tt; text = told.1 }
@@ -55,26 +55,8 @@ meets log after (line ∷ lines) out told =
       met = head.met ∷ rest.met;
       each = ap suc rest.each;
       may = (head.meets, rest.may);
-      text = told.1.2 ∙ ap₂ (λ (a b : List ℕ). a ++ b) first (rest.text ∙ ap (λ l. answers_from l rest.met lines) later);
+      text = told.1.2 ∙ ap₂ (λ (a b : List ℕ). a ++ b) first (rest.text ∙ ap (λ l. answers l rest.met lines) later) ∙ sym (answers-cons log head.met rest.met line lines);
     }
 
 pub answers-told : (after : List Entry) (lines : List (List ℕ)) (out : List ℕ) → AreTold true [] lines after out → Answers lines out
-answers-told after lines out told =
-    let all = meets [] after lines out told in
-    let short : length all.met ≤ length lines = omega (arith, all.each) in
-    record { met = all.met; each = all.each; may = all.may; text = all.text ∙ sym (answers-from [] all.met lines short) }
-
--- what was written for the first of these lines
-pub record FrontMeets (lines : List (List ℕ)) (out : List ℕ) : Type 0 where
-  pub met : List (Option Want)
-  pub may : MayMeetEach met lines
-  pub text : out ≡ answers [] met lines
-
-pub front-told : (after : List Entry) (lines done others : List (List ℕ)) (out : List ℕ) → lines ≡ done ++ others → AreTold true [] done after out → FrontMeets lines out
-front-told after lines done others out parts told =
-    let all = answers-told after done out told in
-    record {
-      met = all.met;
-      may = subst (MayMeetEach all.met) (sym parts) (may-front all.met done others all.may);
-      text = all.text ∙ sym (answers-front [] all.met done others all.each) ∙ ap (answers [] all.met) (sym parts);
-    }
+answers-told after lines out told = let all = meets [] after lines out told in record { met = all.met; each = all.each; may = all.may; text = all.text }

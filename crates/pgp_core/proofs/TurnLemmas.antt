@@ -1,28 +1,25 @@
 -- One turn of the loop over the reader, and the ways in which it stops.
 use Rattle.std.proofs.Common.{◌≡◌, ◌≢◌, ℕ, List, [], ◌++◌, Bool, true, false, ◌∷◌, Option, refl, sym, ap, ◌∙◌, append-nil, subst, inl, inr, Result, Ok, Err}
-use Rattle.std.specs.Prelude.{OnOk, IsOk, IfErr}
-use Rattle.std.specs.Result.{IsErrAnd}
+use Rattle.std.specs.Prelude.{OnOk, IsOk}
 use Rattle.std.specs.Io.KnownBytes.{Appends, Consumes, Keeps, IsAtEnd}
-use Rattle.std.proofs.KnownBytes.{Consumes-nil, Consumes-trans, Consumes-kept}
+use Rattle.std.proofs.KnownBytes.{Consumes-trans, Consumes-kept}
 use Rattle.pgp_ids.specs.declared.entry.Entry.{Entry}
 use Rattle.pgp_core.specs.Output.{FrontWent}
-use Rattle.pgp_core.specs.Run.{CutOff, AllAnswered, ReadStopped, WriteStopped}
-use Rattle.pgp_core.specs.Script.{lines_before_cut}
+use Rattle.pgp_core.specs.Run.{AllAnswered, ReadStopped, WriteStopped}
+use Rattle.pgp_core.specs.Script.{lines_before_cut, answers, MayMeetEach}
 use Rattle.pgp_core.specs.Lines.{lines_of}
 use Rattle.pgp_core.specs.Told.{StartsLeft}
-use Rattle.pgp_core.specs.Telling.{Began, began_at, IsAfter, IsDone, IsStopped, StopsIn, StoppedAtLast, whole_lines, Reads, AllTold, Stops}
+use Rattle.pgp_core.specs.Telling.{Began, began_at, IsAfter, IsDone, IsStopped, WentBy, StopsIn, StoppedAtLast, whole_lines, Reads, AllTold, Stops}
 use Rattle.pgp_core.specs.declared.input.Bounds.{Bounds}
 use Rattle.pgp_core.specs.declared.output.Output.{Output}
+use Rattle.pgp_core.specs.declared.want.Want.{Want}
 use Rattle.pgp_core.specs.declared.script.Script.{Script}
 use Rattle.pgp_core.specs.declared.fault.AnswerFault.{AnswerFault}
 use Rattle.pgp_core.specs.declared.fault.AnswerFault.TheVariants.{Read, Write, Gone}
 use Rattle.pgp_core.proofs.OutputLemmas.{Went-none, Went-flushed, Went-all}
 use Rattle.pgp_core.proofs.RunLemmas.{stopped, all_read}
-use Rattle.pgp_core.proofs.ToldLemmas.{answers-told, front-told}
-
-pub reads_none : (alone : Bool) (began : Began) (script : Script) (from : Option (List ℕ)) → IsAfter alone began script began.log began.written []
-    → Reads alone began script began.log from from began.written
-reads_none alone began script from after = record { bytes = []; consumed = Consumes-nil from; after = after }
+use Rattle.pgp_core.proofs.ScriptLemmas.{answers-front, may-front}
+use Rattle.pgp_core.proofs.ToldLemmas.{answers-told}
 
 -- what was pending has been written
 after_flush : (alone : Bool) (began : Began) (script : Script) (output : Output) (log : List Entry) (now new : Option (List ℕ)) (bytes : List ℕ)
@@ -45,25 +42,16 @@ turn alone began script new output before after from mid to now flushed then chu
   after = step began reads.bytes (after_flush alone began script output before now flushed reads.bytes wrote none reads.after);
 }
 
-pub stops_at_flush : (alone : Bool) (began : Began) (script : Script) (log : List Entry) (from to now new : Option (List ℕ)) (read_failed : Bool)
-    → Reads alone began script log from to now → FrontWent now new script.output.pending.items → Stops alone began Write from to new read_failed
-stops_at_flush alone began script log from to now new read_failed reads front = record {
-  script = reads.bytes;
-  consumed = reads.consumed;
-  answered = inl (subst (λ b. IsStopped alone began Write new (whole_lines began b)) (append-nil reads.bytes)
-      (stopped Write alone began script log now new reads.bytes [] reads.after (λ gone. cc) front (λ read. cc)));
-  cause = λ read. cc;
-}
-
-pub stops_at_read : (alone : Bool) (began : Began) (script : Script) (log : List Entry) (from mid to now new : Option (List ℕ)) (read_failed : Bool)
-    → Reads alone began script log from mid now → Appends now new script.output.pending.items → Keeps mid to → read_failed ≡ true → Stops alone began Read from to new read_failed
-stops_at_read alone began script log from mid to now new read_failed reads wrote kept failed = record {
+-- before a chunk was read: what was pending was written, or a write of it failed
+pub stops_at_read : (fault : AnswerFault) (alone : Bool) (began : Began) (script : Script) (log : List Entry) (from mid to now new : Option (List ℕ)) (read_failed : Bool)
+    → fault ≢ Gone → Reads alone began script log from mid now → WentBy fault now new script.output.pending.items → Keeps mid to → (fault ≡ Read → read_failed ≡ true)
+    → Stops alone began fault from to new read_failed
+stops_at_read fault alone began script log from mid to now new read_failed known reads went kept failed = record {
   script = reads.bytes;
   consumed = Consumes-kept from mid to reads.bytes reads.consumed kept;
-  answered = inl (subst (λ b. IsStopped alone began Read new (whole_lines began b)) (append-nil reads.bytes)
-      (stopped Read alone began script log now new reads.bytes [] reads.after (λ gone. cc) wrote
-      (λ _. ap (whole_lines began) (append-nil reads.bytes) ∙ all_read began script.input reads.bytes reads.after.read)));
-  cause = λ _. inl failed;
+  answered = inl (subst (λ b. IsStopped alone began fault new (whole_lines began b)) (append-nil reads.bytes)
+      (stopped fault alone began script log now new reads.bytes [] reads.after known went (λ _. all_read began reads.bytes)));
+  cause = λ read. inl (failed read);
 }
 
 pub stops_in_chunk : (alone : Bool) (began : Began) (fault : AnswerFault) (script : Script) (output : Output) (log : List Entry) (from mid to now flushed then : Option (List ℕ)) (chunk : List ℕ) (read_failed : Bool)
@@ -78,20 +66,6 @@ stops_in_chunk alone began fault script output log from mid to now flushed then 
       answered = inl stops.stopped;
       cause = λ read. inr (stops.beyond read);
     }
-
--- a failed write stopped the run before a read
-pub write_reading : {T : Type 0} (r : Result T AnswerFault) (alone : Bool) (script : Script) (log : List Entry) (was to now new : Option (List ℕ)) (read_failed : Bool) → IsErrAnd r (λ fault. fault ≡ Write)
-    → ((began : Began) (from : Option (List ℕ)) → Reads alone began script log from was now → Stops alone began Write from to new read_failed)
-    → IfErr r (λ fault. (began : Began) (from : Option (List ℕ)) → Reads alone began script log from was now → Stops alone began fault from to new read_failed)
-write_reading (Ok x) alone script log was to now new read_failed is stops = tt
-write_reading (Err fault) alone script log was to now new read_failed is stops =
-    λ began from reads. subst (λ f. Stops alone began f from to new read_failed) (sym is) (stops began from reads)
-
--- the fault is passed on
-pub same_stops : {T : Type 0} (r : Result T AnswerFault) (fault : AnswerFault) (alone : Bool) (began : Began) (from to now : Option (List ℕ)) (read_failed : Bool) → IsErrAnd r (λ f. f ≡ fault)
-    → Stops alone began fault from to now read_failed → IfErr r (λ f. Stops alone began f from to now read_failed)
-same_stops (Ok x) fault alone began from to now read_failed is stops = tt
-same_stops (Err f) fault alone began from to now read_failed is stops = subst (λ f. Stops alone began f from to now read_failed) (sym is) stops
 
 pub ends : (alone : Bool) (began : Began) (script : Script) (before after : List Entry) (from to now then : Option (List ℕ))
     → Reads alone began script before from to now → IsAtEnd to
@@ -109,7 +83,7 @@ ends alone began script before after from to now then reads end finish =
       went = Went-all began.written then done.out [] done.text refl;
     }
 
-stops_at_end : (fault : AnswerFault) (alone : Bool) (began : Began) (script : Script) (log : List Entry) (from to now then : Option (List ℕ)) (read_failed : Bool)
+pub stops_at_end : (fault : AnswerFault) (alone : Bool) (began : Began) (script : Script) (log : List Entry) (from to now then : Option (List ℕ)) (read_failed : Bool)
     → Reads alone began script log from to now → IsAtEnd to → fault ≢ Read
     → ((began : Began) (bytes : List ℕ) → IsAfter alone began script log now bytes → StoppedAtLast alone began fault then bytes)
     → Stops alone began fault from to then read_failed
@@ -119,14 +93,6 @@ stops_at_end fault alone began script log from to now then read_failed reads end
   answered = inr (end, other, stop began reads.bytes reads.after);
   cause = λ read. absurd (other read);
 }
-
-pub ends_or_stops : {T : Type 0} (r : Result T AnswerFault) (alone : Bool) (began : Began) (script : Script) (log : List Entry) (from to now then : Option (List ℕ)) (read_failed : Bool)
-    → Reads alone began script log from to now → IsAtEnd to → r ≢ Err Read
-    → IfErr r (λ fault. (began : Began) (bytes : List ℕ) → IsAfter alone began script log now bytes → StoppedAtLast alone began fault then bytes)
-    → IfErr r (λ fault. Stops alone began fault from to then read_failed)
-ends_or_stops (Ok x) alone began script log from to now then read_failed reads end other stop = tt
-ends_or_stops (Err fault) alone began script log from to now then read_failed reads end other stop =
-    stops_at_end fault alone began script log from to now then read_failed reads end (λ read. other (ap Err read)) stop
 
 -- ---- where one thread alone adds to a log that is empty at first
 
@@ -138,12 +104,6 @@ all_answered bounds after from to start now told = record {
   answered = record { within = told.within; out = told.out; all = answers-told after (lines_of told.script) told.out told.told; went = told.went };
 }
 
-cut_off : (bounds : Bounds) (start now : Option (List ℕ)) (script : List ℕ) → IsStopped true (began_at [] bounds start) Read now (lines_before_cut bounds.lines bounds.bytes script)
-    → CutOff bounds start now script
-cut_off bounds start now script stopped =
-    let lines : lines_before_cut bounds.lines bounds.bytes script ≡ stopped.done = stopped.parts ∙ ap (λ l. stopped.done ++ l) (stopped.all refl) ∙ append-nil stopped.done in
-    record { out = stopped.out; all = rw lines (answers-told stopped.log stopped.done stopped.out stopped.told); went = stopped.went }
-
 pub read_stopped : (bounds : Bounds) (from to start now : Option (List ℕ)) (read_failed : Bool) → Stops true (began_at [] bounds start) Read from to now read_failed
     → ReadStopped bounds from to start now read_failed
 read_stopped bounds from to start now read_failed stops = record {
@@ -151,10 +111,29 @@ read_stopped bounds from to start now read_failed stops = record {
   consumed = stops.consumed;
   cause = stops.cause refl;
   answered = elim stops.answered [
-    | inl within ↦ cut_off bounds start now stops.script within
+    | inl within ↦
+        let lines : lines_before_cut bounds.lines bounds.bytes stops.script ≡ within.done =
+        within.parts ∙ ap (λ l. within.done ++ l) (within.all refl) ∙ append-nil within.done in
+        record { out = within.out; all = rw lines (answers-told within.log within.done within.out within.told); went = within.went }
     | inr ended ↦ absurd (ended.1 refl)
   ];
 }
+
+-- a front of the answers to these lines went out
+record FrontTold (start now : Option (List ℕ)) (lines : List (List ℕ)) : Type 0 where
+  met : List (Option Want)
+  may : MayMeetEach met lines
+  front : FrontWent start now (answers [] met lines)
+
+front-told : (bounds : Bounds) (start now : Option (List ℕ)) (lines : List (List ℕ)) → IsStopped true (began_at [] bounds start) Write now lines → FrontTold start now lines
+front-told bounds start now lines stopped =
+    let all = answers-told stopped.log stopped.done stopped.out stopped.told in
+    let text = all.text ∙ sym (answers-front [] all.met stopped.done stopped.others all.each) ∙ ap (answers [] all.met) (sym stopped.parts) in
+    record {
+      met = all.met;
+      may = subst (MayMeetEach all.met) (sym stopped.parts) (may-front all.met stopped.done stopped.others all.may);
+      front = subst (FrontWent start now) text stopped.went;
+    }
 
 pub write_stopped : (bounds : Bounds) (from to start now : Option (List ℕ)) (read_failed write_failed : Bool) → Stops true (began_at [] bounds start) Write from to now read_failed
     → write_failed ≡ true → WriteStopped bounds from to start now write_failed
@@ -164,12 +143,11 @@ write_stopped bounds from to start now read_failed write_failed stops failed = r
   cause = failed;
   answered = elim stops.answered [
     | inl within ↦
-        let front = front-told within.log (lines_before_cut bounds.lines bounds.bytes stops.script) within.done within.others within.out within.parts within.told in
-        inl (record { met = front.met; may = front.may; front = subst (FrontWent start now) front.text within.went })
+        let told = front-told bounds start now (lines_before_cut bounds.lines bounds.bytes stops.script) within in
+        inl (record { met = told.met; may = told.may; front = told.front })
     | inr ended ↦
-        let last = ended.2 in
-        let front = front-told last.stopped.log (lines_of stops.script) last.stopped.done last.stopped.others last.stopped.out last.stopped.parts last.stopped.told in
-        inr (ended.0, record { within = last.within; met = front.met; may = front.may; front = subst (FrontWent start now) front.text last.stopped.went })
+        let told = front-told bounds start now (lines_of stops.script) ended.2.stopped in
+        inr (ended.0, record { within = ended.2.within; met = told.met; may = told.may; front = told.front })
   ];
 }
 
@@ -189,8 +167,3 @@ pub ok_at : {T E F : Type 0} {P Q : Type 0} (r : Result T E) (ended : Result T F
 ok_at (Err e) ended goes is told = tt
 ok_at (Ok x) (Ok y) goes is told = goes told
 ok_at (Ok x) (Err f) goes is told = let no : false ≡ true = is in absurd (cc)
-
--- what a fault tells
-pub fault_at : {T : Type 0} (r : Result T AnswerFault) (fault : AnswerFault) (alone : Bool) (began : Began) (from to now : Option (List ℕ)) (read_failed : Bool) → r ≡ Err fault
-    → IfErr r (λ f. Stops alone began f from to now read_failed) → Stops alone began fault from to now read_failed
-fault_at r fault alone began from to now read_failed is stops = subst (λ e. IfErr e (λ f. Stops alone began f from to now read_failed)) is stops

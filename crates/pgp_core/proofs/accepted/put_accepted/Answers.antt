@@ -19,9 +19,7 @@ text_is Close count epoch = simp append_assoc
 -- seven pieces, one put behind the other
 seven : (t t1 t2 t3 t4 t5 t6 t7 a b c d e f h : List ℕ) → t1 ≡ t ++ a → t2 ≡ t1 ++ b → t3 ≡ t2 ++ c → t4 ≡ t3 ++ d → t5 ≡ t4 ++ e → t6 ≡ t5 ++ f → t7 ≡ t6 ++ h
     → t7 ≡ t ++ (a ++ (b ++ (c ++ (d ++ (e ++ (f ++ h))))))
-seven t t1 t2 t3 t4 t5 t6 t7 a b c d e f h e1 e2 e3 e4 e5 e6 e7 =
-    e7 ∙ ap (λ l. l ++ h) (e6 ∙ ap (λ l. l ++ f) (e5 ∙ ap (λ l. l ++ e) (e4 ∙ ap (λ l. l ++ d) (e3 ∙ ap (λ l. l ++ c) (e2 ∙ ap (λ l. l ++ b) e1)))))
-    ∙ simp append_assoc
+seven t t1 t2 t3 t4 t5 t6 t7 a b c d e f h e1 e2 e3 e4 e5 e6 e7 = simp (e1, e2, e3, e4, e5, e6, e7, append_assoc)
 
 pub returns-clause-ok : goal.returns-clause-ok
 returns-clause-ok c =

@@ -1,6 +1,6 @@
 use Rattle.pgp_lines.specs.declared.command.Command.TheVariants.{Ask}
 use Rattle.pgp_lists.proofs.Results.{on_err}
-use Rattle.pgp_core.proofs.ReplyLemmas.{puts-reply, stays-asked}
+use Rattle.pgp_core.proofs.ReplyLemmas.{puts-reply}
 use Rattle.pgp_core.proofs.answerer.Answerer.put_asked.Goals as goal
 
 pub returns-clause-ok : goal.returns-clause-ok
@@ -9,4 +9,4 @@ returns-clause-ok g c =
 
 pub returns-in_err-put_reply-clause-kept : goal.returns-in_err-put_reply-clause-kept
 returns-in_err-put_reply-clause-kept g c =
-    on_err _ _ (stays-asked g.Self.Answerer.alone _ _ c.args.pg c.in_ok-reply.reply c.in_ok-reply.ensures.reply)
+    let replies = c.in_ok-reply.ensures.reply in on_err _ _ (rw (← replies.log) at replies.may)

@@ -1,12 +1,14 @@
 use Rattle.std.proofs.lemmas.Result.{on_ok_weaker}
-use Rattle.pgp_core.proofs.RunLemmas.{done_started, done_ended, last_stops}
+use Rattle.pgp_core.proofs.RunLemmas.{other_fault, done_started, done_ended, stopped-at-last}
 use Rattle.pgp_core.proofs.script.Script.put_last.Goals as goal
 
 pub returns-then-self-clause-ok : goal.returns-then-self-clause-ok
 returns-then-self-clause-ok g c = on_ok_weaker _ (done_started _ c.args.self.now _ _ _ _ _ c.if-self.true) c.put_answer.ensures.ok
 
 pub returns-then-self-clause-err : goal.returns-then-self-clause-err
-returns-then-self-clause-err g c = last_stops _ _ c.args.self.now _ _ _ _ c.if-self.true c.put_answer.ensures.not_read c.put_answer.ensures.err
+returns-then-self-clause-err g c =
+    other_fault c.put_answer.result _ _ c.put_answer.ensures.not_read
+    (λ fault. stopped-at-last fault g.A.Answerer.alone c.args.self.now _ _ _ _ c.if-self.true) c.put_answer.ensures.err
 
 pub returns-else-self-clause-ok : goal.returns-else-self-clause-ok
 returns-else-self-clause-ok g c = done_ended _ c.args.self.now _ _ c.if-self.false

@@ -1,15 +1,17 @@
-use Rattle.pgp_core.proofs.TurnLemmas.{turn, write_reading, stops_at_flush, stops_at_read, stops_in_chunk}
+use Rattle.std.proofs.KnownBytes.{Keeps-refl}
+use Rattle.pgp_core.specs.declared.fault.AnswerFault.TheVariants.{Read, Write}
+use Rattle.pgp_core.proofs.RunLemmas.{passed_on}
+use Rattle.pgp_core.proofs.TurnLemmas.{turn, stops_at_read, stops_in_chunk}
 use Rattle.pgp_core.proofs.script.Script.read_on.Goals as goal
 
 pub returns-in_err-close-clause-err : goal.returns-in_err-close-clause-err
 returns-in_err-close-clause-err g c =
-    write_reading _ g.A.Answerer.alone c.args.self.now (g.A.Answerer.log c.args.answerer.now) (g.R.Source.remaining c.args.reader.now) (g.R.Source.remaining c.args.reader.now)
-    (g.W.Sink.contents c.args.writer.now) (g.W.Sink.contents c.close.new.writer) (g.R.Source.failed c.args.reader.now) c.from_residual.ensures.1
-    (λ began from reads. stops_at_flush _ began c.args.self.now _ _ _ _ _ _ reads c.in_err-close.ensures.err)
+    passed_on _ _ _ c.from_residual.ensures.1
+    (λ began from reads. stops_at_read Write g.A.Answerer.alone began c.args.self.now _ _ _ _ _ _ _ (λ gone. cc) reads c.in_err-close.ensures.err (Keeps-refl _) (λ read. cc))
 
 pub returns-in-Err-clause-err : goal.returns-in-Err-clause-err
 returns-in-Err-clause-err g c began from reads =
-    stops_at_read _ began c.args.self.now _ _ _ _ _ _ _ reads c.in_ok-close.ensures.ok c.in-Err.ensures.bytes c.in-Err.ensures.told
+    stops_at_read Read g.A.Answerer.alone began c.args.self.now _ _ _ _ _ _ _ (λ gone. cc) reads c.in_ok-close.ensures.ok c.in-Err.ensures.bytes (λ read. c.in-Err.ensures.told)
 
 pub returns-in-Err-take-clause-err : goal.returns-in-Err-take-clause-err
 returns-in-Err-take-clause-err g c began from reads =

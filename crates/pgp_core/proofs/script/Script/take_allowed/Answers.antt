@@ -1,7 +1,7 @@
 use Rattle.std.proofs.Common.{◌<◌, [], ◌∷◌, ◌++◌, length, sym, ◌∙◌, ap, Err, subst, append-nil, append_assoc, arith, length-append}
 use Rattle.std.proofs.lemmas.Bool.Decides.{nat_tests}
 use Rattle.pgp_core.specs.Telling.{StopsIn}
-use Rattle.pgp_core.proofs.RunLemmas.{same_amid, stopped, all_lines, beyond_lines, taken-more, regroup, regroup_line}
+use Rattle.pgp_core.proofs.RunLemmas.{passed_on, stopped, all_lines, beyond_lines, taken-more, regroup, regroup_line}
 use Rattle.pgp_core.proofs.script.Script.take_allowed.Goals as goal
 
 pub returns-then-self-eq0-clause-err : goal.returns-then-self-eq0-clause-err
@@ -20,8 +20,7 @@ returns-then-self-eq0-clause-err g c began bytes more so_far =
 
 pub returns-in_err-end_line-in-Some-clause-err : goal.returns-in_err-end_line-in-Some-clause-err
 returns-in_err-end_line-in-Some-clause-err g c =
-    same_amid _ _ g.A.Answerer.alone c.args.self.now (g.A.Answerer.log c.args.answerer.now) (g.W.Sink.contents c.args.writer.now) (g.W.Sink.contents c.end_line.new.writer) c.args.chunk.now
-    c.from_residual.ensures.1
+    passed_on _ _ _ c.from_residual.ensures.1
     (λ began bytes more so_far.
     let taken = c.loop-rest.invariant.taken in
     let here = taken.goes began bytes so_far in
