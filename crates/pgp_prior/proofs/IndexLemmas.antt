@@ -1,16 +1,15 @@
 -- The index stays that of its group.
-use Rattle.std.proofs.Common.{◌≡◌, ◌⊎◌, ◌≤◌, ℕ, zero, suc, List, [], ◌∷◌, ◌++◌, Some, Bool, true, false, not, ◌&&◌, nat_le, length, map, slice_get, refl, sym, ap, ◌∙◌, subst, inl, inr, arith}
+use Rattle.std.proofs.Common.{◌≡◌, ◌⊎◌, ◌≤◌, ℕ, zero, suc, List, [], ◌∷◌, ◌++◌, Some, Bool, length, map, slice_get, refl, sym, ap, ◌∙◌, subst, inl, inr, arith}
 use Rattle.std.specs.List.{Contains, filter, flat_map}
-use Rattle.std.proofs.lemmas.Bool.{cases_Bool}
+use Rattle.std.proofs.lemmas.List.Elements.{Contains-push_cases}
 use Rattle.std.proofs.lemmas.Bool.Decides.{nat_tests}
-use Rattle.std.proofs.Math.Bool.{and-false, and-true}
 use Rattle.pgp_ids.specs.declared.member.Member.{Member}
 use Rattle.pgp_ids.specs.declared.past.Past.{Past}
-use Rattle.pgp_lists.proofs.Members.{Contains-here, Contains-later, Contains-cases, Contains-nil, append-contains, filter-agree, map-contains}
+use Rattle.pgp_lists.proofs.Members.{Contains-here, Contains-later, filter-agree, map-contains}
 use Rattle.pgp_sets.specs.declared.status.Status.{Status}
 use Rattle.pgp_prior.specs.declared.kept.Kept.{Kept}
 use Rattle.pgp_prior.specs.Members.{members_of}
-use Rattle.pgp_prior.specs.Blocks.{is_up, is_down, matters, acting_where, down_osds, settled_slots, has_down, blocks}
+use Rattle.pgp_prior.specs.Blocks.{is_up, is_down, matters, acting_where, down_osds, blocks}
 use Rattle.pgp_prior.specs.Kept.{IsKept, past_of, later_les, EachKept}
 use Rattle.pgp_prior.specs.KeptLists.{kept_status, kept_matters, kept_blocks, up_of, down_of}
 use Rattle.pgp_prior.specs.IndexOf.{HasEachPlace}
@@ -18,24 +17,9 @@ use Rattle.pgp_prior.proofs.ToldLemmas.{told_or_gone-is}
 
 -- ---- a later epoch in which the group last began to serve
 
-matters_later : (rw short down : Bool) (les later last : ℕ) → les ≤ later → ((rw && nat_le les last) && short && down) && (rw && nat_le later last) ≡ (rw && nat_le later last) && short && down
-matters_later false short down les later last rises = refl
-matters_later true short down les later last rises = elim (cases_Bool (nat_le later last)) [
-  | inl long ↦
-      let first : nat_le les last ≡ true = grind (arith, nat_tests) in
-      rw (long, first) (and-true (short && down))
-  | inr ended ↦ rw ended (and-false ((nat_le les last && short) && down))
-]
-
 module _ (enough : List ℕ → Bool) (by_place : Bool) (status : ℕ → ℕ → Status) where
-  pub kept-later : (les later : ℕ) (kept : Kept) → les ≤ later → IsKept enough by_place status les kept → IsKept enough by_place status later (later_les later kept)
-  kept-later les later kept rises is =
-      record {
-        statuses_are = is.statuses_are;
-        blocks_is =
-            ap (λ (b : Bool). b && matters later kept.past) is.blocks_is
-            ∙ matters_later kept.past.rw (not (enough (settled_slots by_place status kept.past))) (has_down by_place status kept.past) les later kept.past.last rises;
-      }
+  kept-later : (les later : ℕ) (kept : Kept) → les ≤ later → IsKept enough by_place status les kept → IsKept enough by_place status later (later_les later kept)
+  kept-later les later kept rises is = grind (arith, nat_tests, is.statuses_are)
 
   pub each-later : (les later : ℕ) (past : List Kept) → les ≤ later → EachKept enough by_place status les past → EachKept enough by_place status later (map (later_les later) past)
   each-later les later past rises each kept in' =
@@ -43,13 +27,7 @@ module _ (enough : List ℕ → Bool) (by_place : Bool) (status : ℕ → ℕ �
       subst (IsKept enough by_place status later) found.1.1 (kept-later les later found.0 rises (each found.0 found.1.0))
 
   pub each-more : (les : ℕ) (past : List Kept) (last : Kept) → EachKept enough by_place status les past → IsKept enough by_place status les last → EachKept enough by_place status les (past ++ last ∷ [])
-  each-more les past last each is kept in' = elim (append-contains past (last ∷ []) kept in') [
-    | inl before ↦ each kept before
-    | inr there ↦ elim (Contains-cases last [] kept there) [
-      | inl same ↦ subst (IsKept enough by_place status les) same is
-      | inr none ↦ absurd (Contains-nil kept none)
-    ]
-  ]
+  each-more les past last each is kept in' = grind (arith, each kept, Contains-push_cases past last kept in', is)
 
 pub pasts-later : (later : ℕ) (past : List Kept) → map past_of (map (later_les later) past) ≡ map past_of past
 pasts-later later [] = refl
@@ -61,10 +39,7 @@ get-snoc : {X : Type 0} (xs : List X) (x y : X) (k : ℕ) → slice_get (xs ++ x
 get-snoc [] x y zero is = inr (refl, cc)
 get-snoc [] x y (suc k) is = cc
 get-snoc (z ∷ xs) x y zero is = inl is
-get-snoc (z ∷ xs) x y (suc k) is = elim (get-snoc xs x y k is) [
-  | inl before ↦ inl before
-  | inr last ↦ inr (ap suc last.0, last.1)
-]
+get-snoc (z ∷ xs) x y (suc k) is = grind (arith, get-snoc xs x y k)
 
 module _ (by_place : Bool) (past : List Past) where
   pub places-more : (interval : Past) (places more : ℕ → List ℕ) (place : ℕ) → place ≡ length past → HasEachPlace by_place past places → ((q at : ℕ) → Contains (places q) at → Contains (more q) at) → ((member : Member) → Contains (members_of by_place interval.members.acting) member → Contains (more member.osd) place) → HasEachPlace by_place (past ++ interval ∷ []) more
@@ -73,23 +48,14 @@ module _ (by_place : Bool) (past : List Past) where
     | inr here ↦ subst (Contains (more member.osd)) (last ∙ sym here.0) (added member (subst (λ (q : Past). Contains (members_of by_place q.members.acting) member) (sym here.1) in'))
   ]
 
-  pub places-kept : (places more : ℕ → List ℕ) → HasEachPlace by_place past places → ((q at : ℕ) → Contains (places q) at → Contains (more q) at) → HasEachPlace by_place past more
-  places-kept places more has keeps at p member is in' = keeps member.osd at (has at p member is in')
-
 -- ---- the two lists
 
 -- a walk over intervals that are kept is one over the intervals
 walk-same : {X Y Z : Type 0} (of : X → Y) (test : X → Bool) (other : Y → Bool) (read : X → List Z) (reads : Y → List Z) (xs : List X) → ((x : X) → Contains xs x → test x ≡ other (of x)) → ((x : X) → Contains xs x → read x ≡ reads (of x)) → flat_map read (filter test xs) ≡ flat_map reads (filter other (map of xs))
 walk-same of test other read reads [] same alike = refl
 walk-same of test other read reads (x ∷ xs) same alike =
-    let first : test x ≡ other (of x) = same x (Contains-here x xs) in
     let rest = walk-same of test other read reads xs (λ y in'. same y (Contains-later x xs y in')) (λ y in'. alike y (Contains-later x xs y in')) in
-    elim (cases_Bool (other (of x))) [
-      | inl passes ↦
-          let also : test x ≡ true = first ∙ passes in
-          rw (also, passes, alike x (Contains-here x xs)) (ap (λ ys. reads (of x) ++ ys) rest)
-      | inr fails ↦ let also : test x ≡ false = first ∙ fails in rw (also, fails) rest
-    ]
+    grind (arith, same x (Contains-here x xs), alike x (Contains-here x xs), rest)
 
 module _ (enough : List ℕ → Bool) (by_place : Bool) (status : ℕ → ℕ → Status) (les : ℕ) where
   acting-same : (test : Status → Bool) (kept : Kept) → IsKept enough by_place status les kept → acting_where test by_place (kept_status kept) kept.past ≡ acting_where test by_place status kept.past

@@ -3,10 +3,8 @@ pub mod PriorLemmas
 pub mod SlotLemmas
 pub mod BetterLemmas
 pub mod MemberLemmas
-pub mod DownLemmas
 pub mod ToldLemmas
 pub mod KeptLemmas
 pub mod WayLemmas
 pub mod IndexLemmas
-pub mod PlaceLemmas
 pub mod BasisLemmas

@@ -1,34 +1,41 @@
--- Where the definitions of the prior set say that a group waits, an interval blocks.
-use Rattle.std.proofs.Common.{◌≡◌, ℕ, List, ◌++◌, Bool, true, nat_lt, refl, ap, inl, inr}
+-- Where the definitions of the prior set say that a group waits, an interval blocks; it is down where it waits for a device.
+use Rattle.std.proofs.Common.{◌≡◌, ℕ, List, [], ◌∷◌, length, ◌==◌, ◌∙◌, ◌++◌, Bool, true, false, not, ◌&&◌, arith, nat_lt, refl, ap, inl, inr}
 use Rattle.std.specs.List.{Contains, filter, flat_map}
-use Rattle.std.proofs.lemmas.Bool.{and_parts, not-true}
+use Rattle.std.proofs.lemmas.Bool.Decides.{nat_tests}
+use Rattle.std.proofs.lemmas.Grind.{common_steps}
 use Rattle.pgp_ids.specs.Member.{is_before}
 use Rattle.pgp_ids.specs.declared.member.Member.{Member}
 use Rattle.pgp_ids.specs.declared.membership.Membership.{Membership}
 use Rattle.pgp_ids.specs.declared.past.Past.{Past}
 use Rattle.pgp_lists.specs.Ordered.{IsAscending}
-use Rattle.pgp_lists.proofs.Members.{filter-contains, contains-filter, map-contains, contains-map, flat_map-contains, contains-flat_map, append-contains, contains-append, any-contains, contains-any}
+use Rattle.pgp_lists.proofs.Bools.{same_tests}
+use Rattle.pgp_lists.proofs.Members.{Contains-here, filter-contains, contains-filter, map-contains, contains-map, flat_map-contains, contains-flat_map, append-contains, contains-append, any-contains, contains-any}
 use Rattle.pgp_lists.proofs.Ordered.{ascending-contains, contains-ascending, IsAscending-ascending, nat_order}
 use Rattle.pgp_sets.specs.declared.status.Status.{Status}
-use Rattle.pgp_sets.specs.declared.status.Status.TheVariants.{Up, Gone, Lost, Down}
+use Rattle.pgp_sets.specs.declared.status.Status.TheVariants.{Up, Down}
+use Rattle.pgp_prior.specs.declared.prior_set.Prior.{Prior}
 use Rattle.pgp_prior.specs.MemberOrder.{member_order}
 use Rattle.pgp_prior.specs.Members.{members_of}
-use Rattle.pgp_prior.specs.Blocks.{is_up, is_down, matters, acting_where, down_osds, has_down, blocks}
-use Rattle.pgp_prior.specs.Prior.{probe, blocked_by, is_group_down, IsBlocking, IsProbed}
+use Rattle.pgp_prior.specs.Blocks.{is_up, is_down, matters, acting_where, down_osds, settled_slots, has_down, blocks}
+use Rattle.pgp_prior.specs.Prior.{probe, blocked_by, is_group_down, prior_set, IsBlocking, IsProbed}
 
 down_is : (status : Status) → is_down status ≡ true → status ≡ Down
-down_is Up is = cc
-down_is Gone is = cc
-down_is Lost is = cc
-down_is Down is = refl
+down_is status is = grind arith
 
 up_is : (status : Status) → is_up status ≡ true → status ≡ Up
-up_is Up is = refl
-up_is Gone is = cc
-up_is Lost is = cc
-up_is Down is = cc
+up_is status is = grind arith
+
+some_of : (list : List ℕ) → not (length list == 0) ≡ true → (osd : ℕ) × Contains list osd
+some_of [] some = cc
+some_of (osd ∷ list) some = (osd, Contains-here osd list)
+
+of_some : (list : List ℕ) (osd : ℕ) → Contains list osd → not (length list == 0) ≡ true
+of_some list osd in' = grind (arith, nat_tests)
 
 -- ---- intervals that block
+
+blocks_parts : (late suffices down : Bool) → late && not suffices && down ≡ true → (late ≡ true) × (suffices ≡ false) × (down ≡ true)
+blocks_parts late suffices down blocking = grind arith
 
 module _ (enough : List ℕ → Bool) (by_place : Bool) (status : ℕ → ℕ → Status) (les : ℕ) (past : List Past) where
   -- whether a member of an interval is down
@@ -37,25 +44,17 @@ module _ (enough : List ℕ → Bool) (by_place : Bool) (status : ℕ → ℕ �
 
   blocks-IsBlocking : (p : Past) (member : Member) → Contains past p → blocks enough by_place status les p ≡ true → Contains (members_of by_place p.members.acting) member → down_in p member ≡ true → IsBlocking enough by_place status les past p member
   blocks-IsBlocking p member there blocking acting down =
-      let late = (and_parts _ _ blocking).0 in
-      record {
-        there = there;
-        matters = (and_parts (matters les p) _ late).0;
-        short = not-true _ (and_parts (matters les p) _ late).1;
-        acting = acting;
-        down = down_is _ down;
-      }
+      let parts = blocks_parts (matters les p) (enough (settled_slots by_place status p)) (has_down by_place status p) blocking in
+      record { there = there; matters = parts.0; short = parts.1; acting = acting; down = down_is _ down }
 
   IsBlocking-blocks : (p : Past) (member : Member) → IsBlocking enough by_place status les past p member → blocks enough by_place status les p ≡ true
-  IsBlocking-blocks p member is =
-      let down : has_down by_place status p ≡ true = contains-any (down_in p) (members_of by_place p.members.acting) member is.acting (ap is_down is.down) in
-      rw (is.matters, is.short, down) refl
+  IsBlocking-blocks p member is = grind (arith, common_steps)
 
   pub down-IsBlocking : is_group_down enough by_place status les past ≡ true → (p : Past) × ((member : Member) × IsBlocking enough by_place status les past p member)
   down-IsBlocking down =
       let found = any-contains (blocks enough by_place status les) past down in
       let p : Past = found.0 in
-      let one = any-contains (down_in p) (members_of by_place p.members.acting) (and_parts _ (has_down by_place status p) found.1.1).1 in
+      let one = any-contains (down_in p) (members_of by_place p.members.acting) (blocks_parts (matters les p) (enough (settled_slots by_place status p)) _ found.1.1).2 in
       (p, (one.0, blocks-IsBlocking p one.0 found.1.0 found.1.1 one.1.0 one.1.1))
 
   pub IsBlocking-down : (p : Past) (member : Member) → IsBlocking enough by_place status les past p member → is_group_down enough by_place status les past ≡ true
@@ -87,6 +86,26 @@ module _ (enough : List ℕ → Bool) (by_place : Bool) (status : ℕ → ℕ �
   pub IsAscending-blocked_by : IsAscending nat_lt (blocked_by enough by_place status les past)
   IsAscending-blocked_by = IsAscending-ascending nat_lt nat_order (flat_map (down_osds by_place status) (filter (blocks enough by_place status les) past))
 
+  -- whether a device is waited for tells whether the group is down
+  down-by_list : not (length (blocked_by enough by_place status les past) == 0) ≡ is_group_down enough by_place status les past
+  down-by_list =
+      same_tests _ _
+      (λ some.
+      let one = some_of (blocked_by enough by_place status les past) some in
+      let found = blocked_by-IsBlocking one.0 one.1 in
+      IsBlocking-down found.0 found.1.0 found.1.1.0)
+      (λ down.
+      let found = down-IsBlocking down in
+      of_some (blocked_by enough by_place status les past) found.1.0.osd (IsBlocking-blocked_by found.0 found.1.0 found.1.1))
+
+  -- the prior set, from its two lists
+  pub prior-by_lists : (current : Membership) (members : List Member) (devices : List ℕ) (none : Bool) → members ≡ probe by_place status les past current
+      → devices ≡ blocked_by enough by_place status les past → none ≡ (length devices == 0)
+      → ◌≡◌ {A = Prior} (record { probe = members; blocked_by = devices; down = not none }) (prior_set enough by_place status les past current)
+  prior-by_lists current members devices none heard waited empty =
+      let down : not none ≡ is_group_down enough by_place status les past = ap not (empty ∙ ap (λ l. length l == 0) waited) ∙ down-by_list in
+      rw (heard, waited, down) refl
+
 -- ---- the members that have to be heard
 
 module _ (by_place : Bool) (status : ℕ → ℕ → Status) (les : ℕ) (past : List Past) (current : Membership) where
@@ -101,10 +120,7 @@ module _ (by_place : Bool) (status : ℕ → ℕ → Status) (les : ℕ) (past :
 
   pub probe-IsProbed : (member : Member) → Contains (probe by_place status les past current) member → IsProbed by_place status les past current member
   probe-IsProbed member in' = elim (append-contains now then member (ascending-contains is_before (now ++ then) member in')) [
-    | inl current' ↦ elim (append-contains (members_of by_place current.up) (members_of by_place current.acting) member current') [
-      | inl up ↦ inl up
-      | inr acting ↦ inr (inl acting)
-    ]
+    | inl current' ↦ grind (arith, append-contains (members_of by_place current.up) (members_of by_place current.acting) member current')
     | inr old ↦
         let found = flat_map-contains (acting_where is_up by_place status) (filter (matters les) past) member old in
         let p : Past = found.0 in
@@ -128,3 +144,9 @@ module _ (by_place : Bool) (status : ℕ → ℕ → Status) (les : ℕ) (past :
 
   pub IsAscending-probe : IsAscending is_before (probe by_place status les past current)
   IsAscending-probe = IsAscending-ascending is_before member_order (now ++ then)
+
+-- ---- what the laws say
+
+pub ruleset group_waits = (down-IsBlocking, IsBlocking-down, blocked_by-IsBlocking)
+
+pub ruleset sets_ascend = (IsAscending-probe, IsAscending-blocked_by)

@@ -1,7 +1,7 @@
 -- The slots of members are a set of slots.
-use Rattle.std.proofs.Common.{◌≡◌, ℕ, List, [], ◌∷◌, true, false, nat_eq, nat_lt, map, refl, ap, inl, inr, arith}
+use Rattle.std.proofs.Common.{◌≡◌, ℕ, List, [], ◌∷◌, true, nat_eq, nat_lt, map, refl, arith}
 use Rattle.std.specs.List.{Contains}
-use Rattle.std.proofs.lemmas.Bool.{cases_Bool, ltb-true, eq-eqb}
+use Rattle.std.proofs.lemmas.Bool.{ltb-true, eq-eqb}
 use Rattle.std.proofs.lemmas.Bool.Decides.{nat_tests}
 use Rattle.pgp_ids.specs.SlotSet.{IsSlotSet, with_slot, is_within}
 use Rattle.pgp_ids.specs.declared.member.Member.{Member}
@@ -14,13 +14,7 @@ use Rattle.pgp_prior.specs.Members.{slots_of}
 -- a set with one slot more is the ascending list with it
 pub with_slot-is : (slot : ℕ) (slots : List ℕ) → with_slot slot slots ≡ with_item nat_lt slot slots
 with_slot-is slot [] = refl
-with_slot-is slot (t ∷ slots) = elim (cases_Bool (nat_lt slot t)) [
-  | inl before ↦ rw before refl
-  | inr after ↦ elim (cases_Bool (nat_eq slot t)) [
-    | inl same ↦ let last : nat_lt t slot ≡ false = grind (arith, nat_tests) in rw (after, same, last) refl
-    | inr other ↦ let later : nat_lt t slot ≡ true = grind (arith, nat_tests) in rw (after, other, later) (ap (λ l. t ∷ l) (with_slot-is slot slots))
-  ]
-]
+with_slot-is slot (t ∷ slots) = grind (arith, nat_tests, with_slot-is slot slots)
 
 IsSlotSet-ascending : (slots : List ℕ) → IsAscending nat_lt slots → IsSlotSet slots
 IsSlotSet-ascending [] ascends = tt

@@ -15,6 +15,7 @@ ghost use Rattle.pgp_prior.specs.Examples.{prior_with, lost_at, in_slot};
 use pgp_code::Recoverable;
 
 /// A group is down exactly where a past interval blocks it, and then for each device of such an interval that is down.
+#[tactic(auto, using(crate::proofs::PriorLemmas::group_waits))]
 pub fn a_group_is_down_where_an_interval_blocks()
     ensures blocked { (enough : List ℕ → Bool) (by_place : Bool) (status : ℕ → ℕ → Status) (les : ℕ) (past : List Past)
         → is_group_down enough by_place status les past ≡ true
@@ -43,6 +44,7 @@ pub fn whom_a_group_has_to_hear()
 {}
 
 /// The members to hear and the devices to wait for are in ascending order, each once.
+#[tactic(auto, using(crate::proofs::PriorLemmas::sets_ascend))]
 pub fn prior_sets_ascend()
     ensures probe { (by_place : Bool) (status : ℕ → ℕ → Status) (les : ℕ) (past : List Past) (current : Membership)
         → IsAscending is_before (probe by_place status les past current) }

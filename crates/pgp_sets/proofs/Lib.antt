@@ -1,3 +1,2 @@
 pub mod UpLemmas
-pub mod PlaceLemmas
 pub mod RawSetLemmas

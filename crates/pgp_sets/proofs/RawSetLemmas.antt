@@ -2,12 +2,9 @@
 use Rattle.std.proofs.Common.{◌≡◌, ℕ, List, [], ◌∷◌, Option, Some, None, false, true, ◌||◌, arith, refl, ◌∙◌, map}
 use Rattle.std.specs.Prelude.{nat_eq, nat_lt, length, option_map, is_some}
 use Rattle.std.specs.List.{list_any, range_with_len}
-use Rattle.std.specs.Option.{option_or}
 use Rattle.std.proofs.lemmas.Bool.{or_parts}
 use Rattle.std.proofs.lemmas.Bool.Decides.{nat_tests}
-use Rattle.pgp_crush.specs.Bucket.{bucket_of}
 use Rattle.pgp_crush.specs.Placement.{placement}
-use Rattle.pgp_ids.specs.declared.bucket.BucketSpec.{BucketSpec}
 use Rattle.pgp_ids.specs.declared.incremental.DeviceWeight.{DeviceWeight}
 use Rattle.pgp_ids.specs.declared.incremental.Incremental.{Incremental}
 use Rattle.pgp_ids.specs.declared.pg_id.PgId.{PgId}
@@ -32,15 +29,10 @@ weights-stay incs inc none =
 
 -- the tree stays, where none is given
 tree-stays : (incs : List Incremental) (inc : Incremental) → is_some inc.crush ≡ false → tree (then_with incs inc) ≡ tree incs
-tree-stays incs inc none = tree-push incs inc ∙ by_crush inc.crush none
-  where
-    by_crush : (crush : Option (List BucketSpec)) → is_some crush ≡ false → option_or (option_map (map bucket_of) crush) (tree incs) ≡ tree incs
-    by_crush None none = refl
-    by_crush (Some buckets) none = cc
+tree-stays incs inc none = tree-push incs inc ∙ (grind arith)
 
 there : {X Y : Type 0} (f : X → Y) (o : Option X) (y : Y) → option_map f o ≡ Some y → is_some o ≡ true
-there f None y is = cc
-there f (Some x) y is = refl
+there f o y is = grind arith
 
 pub raw_set-stays : (incs : List Incremental) (inc : Incremental) (pg : PgId) (places : List (Option ℕ)) → map_fault incs inc ≡ None
     → moves inc pg.pool ≡ false → raw_set_of incs pg ≡ Some places → raw_set_of (then_with incs inc) pg ≡ Some places

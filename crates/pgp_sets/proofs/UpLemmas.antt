@@ -1,12 +1,11 @@
 -- Each device of a group's up set and acting set is up, and the up set has at most the pool's size of places.
-use Rattle.std.proofs.Common.{◌≡◌, ◌≤◌, ℕ, List, [], ◌∷◌, length, Option, Some, None, Bool, true, false, refl, arith, nat_eq, ap, sym, ◌∙◌, subst, inl, inr, if◌then◌else◌}
+use Rattle.std.proofs.Common.{◌≡◌, ◌≤◌, ℕ, List, [], ◌∷◌, length, Option, Some, None, true, false, refl, arith, ap, sym, ◌∙◌, subst}
 use Rattle.std.proofs.lemmas.List.{length-map}
 use Rattle.std.proofs.lemmas.List.Sums.{length-filter, count_by-le-length}
 use Rattle.std.specs.List.{filter}
 use Rattle.std.specs.Prelude.{map}
 use Rattle.std.specs.Option.{option_map, option_map_or}
-use Rattle.std.proofs.lemmas.Bool.{cases_Bool}
-use Rattle.std.proofs.lemmas.Option.{none-some, same_Some}
+use Rattle.std.proofs.lemmas.Option.{same_Some}
 use Rattle.pgp_ids.specs.declared.incremental.Incremental.{Incremental}
 use Rattle.pgp_ids.specs.declared.membership.Membership.{Membership}
 use Rattle.pgp_ids.specs.declared.pg_id.PgId.{PgId}
@@ -16,87 +15,58 @@ use Rattle.pgp_map.specs.Devices.{is_up, weights}
 use Rattle.pgp_map.specs.Map.{tree}
 use Rattle.pgp_map.specs.MapFault.{is_erasure}
 use Rattle.pgp_map.specs.Pools.{pool, temp}
-use Rattle.pgp_sets.specs.Sets.{rule_of, placement_input, if_up, without_down, raw_set, up_set, pool_membership, membership, are_up}
-
-up_or_empty : (incs : List Incremental) (place : Option ℕ) (b : Bool) → option_map_or (is_up incs) place false ≡ b → option_map_or (is_up incs) (if b then place else None) true ≡ true
-up_or_empty incs None true is = refl
-up_or_empty incs (Some osd) true is = is
-up_or_empty incs place false is = refl
+use Rattle.pgp_sets.specs.Sets.{rule_of, placement_input, if_up, without_down, raw_set, up_set, acting_set, pool_membership, membership, are_up}
 
 emptied : (incs : List Incremental) (places : List (Option ℕ)) → are_up incs (map (if_up incs) places) ≡ true
 emptied incs [] = refl
-emptied incs (place ∷ places) = rw (up_or_empty incs place _ refl, emptied incs places) refl
-
-kept : (incs : List Incremental) (place : Option ℕ) (places : List (Option ℕ)) → option_map_or (is_up incs) place false ≡ true → are_up incs places ≡ true → are_up incs (place ∷ places) ≡ true
-kept incs None places is rest = rest
-kept incs (Some osd) places is rest = rw (is, rest) refl
+emptied incs (place ∷ places) = grind (arith, emptied incs places)
 
 left_out : (incs : List Incremental) (places : List (Option ℕ)) → are_up incs (filter (λ place. option_map_or (is_up incs) place false) places) ≡ true
 left_out incs [] = refl
-left_out incs (place ∷ places) = elim (cases_Bool (option_map_or (is_up incs) place false)) [
-  | inl up ↦ rw up (kept incs place (filter (λ place. option_map_or (is_up incs) place false) places) up (left_out incs places))
-  | inr down ↦ rw down (left_out incs places)
-]
+left_out incs (place ∷ places) = grind (arith, left_out incs places)
 
 pub are_up-without_down : (incs : List Incremental) (pool : PoolSpec) (places : List (Option ℕ)) → are_up incs (without_down incs pool places) ≡ true
-are_up-without_down incs pool places =
-    elim (is_erasure pool.kind) as (λ b. are_up incs (if b then map (if_up incs) places else filter (λ place. option_map_or (is_up incs) place false) places) ≡ true) [
-      | true ↦ emptied incs places
-      | false ↦ left_out incs places
-    ]
+are_up-without_down incs pool places = grind (arith, emptied incs places, left_out incs places)
 
-are_up-up : (incs : List Incremental) (pg : PgId) (pool : PoolSpec) → are_up incs (pool_membership incs pg pool).up ≡ true
-are_up-up incs pg pool = are_up-without_down incs pool (raw_set incs pool pg)
+are_up-acting : (incs : List Incremental) (pg : PgId) (pool : PoolSpec) (up : List (Option ℕ)) → are_up incs up ≡ true → are_up incs (acting_set incs pool pg up) ≡ true
+are_up-acting incs pg pool up there = grind (arith, are_up-without_down incs pool (temp incs pg))
 
-are_up-acting : (incs : List Incremental) (pg : PgId) (pool : PoolSpec) → are_up incs (pool_membership incs pg pool).acting ≡ true
-are_up-acting incs pg pool =
-    let given = without_down incs pool (temp incs pg) in
-    elim (nat_eq (length given) 0) as (λ b. are_up incs (if b then up_set incs pool pg else given) ≡ true) [
-      | true ↦ are_up-up incs pg pool
-      | false ↦ are_up-without_down incs pool (temp incs pg)
-    ]
-
-of_pool : (incs : List Incremental) (pg : PgId) (found : Option PoolSpec) (members : Membership) → option_map (pool_membership incs pg) found ≡ Some members → (made : PoolSpec) × (pool_membership incs pg made ≡ members)
-of_pool incs pg None members is = absurd (none-some members is)
-of_pool incs pg (Some made) members is = (made, same_Some _ _ is)
+-- what holds of the membership of each pool's group holds of a group's membership
+of_pool : (P : Membership → Type 0) (incs : List Incremental) (pg : PgId) → ((made : PoolSpec) → P (pool_membership incs pg made)) → (members : Membership)
+    → membership incs pg ≡ Some members → P members
+of_pool P incs pg each members is = by_pool (pool incs pg.pool) is
+  where
+    by_pool : (found : Option PoolSpec) → option_map (pool_membership incs pg) found ≡ Some members → P members
+    by_pool None none = cc
+    by_pool (Some made) same = subst P (same_Some _ _ same) (each made)
 
 pub up-are_up : (incs : List Incremental) (pg : PgId) (members : Membership) → membership incs pg ≡ Some members → are_up incs members.up ≡ true
-up-are_up incs pg members is =
-    let from = of_pool incs pg (pool incs pg.pool) members is in
-    ap (λ (m : Membership). are_up incs m.up) (sym from.1) ∙ are_up-up incs pg from.0
+up-are_up incs pg = of_pool (λ members. are_up incs members.up ≡ true) incs pg (λ made. are_up-without_down incs made (raw_set incs made pg))
 
 pub acting-are_up : (incs : List Incremental) (pg : PgId) (members : Membership) → membership incs pg ≡ Some members → are_up incs members.acting ≡ true
-acting-are_up incs pg members is =
-    let from = of_pool incs pg (pool incs pg.pool) members is in
-    ap (λ (m : Membership). are_up incs m.acting) (sym from.1) ∙ are_up-acting incs pg from.0
+acting-are_up incs pg =
+    of_pool (λ members. are_up incs members.acting ≡ true) incs pg
+    (λ made. are_up-acting incs pg made (up_set incs made pg) (are_up-without_down incs made (raw_set incs made pg)))
 
 -- ---- sizes
 
-up_set-at_most : (incs : List Incremental) (pg : PgId) (pool : PoolSpec) → length (up_set incs pool pg) ≤ pool.size
-up_set-at_most incs pg pool =
-    by_kind (is_erasure pool.kind) (placement-at_most (tree incs) (rule_of pool) (weights incs) (placement_input pool pg) pool.size)
-  where
-    by_kind : (b : Bool) → length (raw_set incs pool pg) ≤ pool.size
-        → length (if b then map (if_up incs) (raw_set incs pool pg) else filter (λ place. option_map_or (is_up incs) place false) (raw_set incs pool pg)) ≤ pool.size
-    by_kind true most = omega (arith, length-map (raw_set incs pool pg) (if_up incs))
-    by_kind false most =
-        let up = λ (place : Option ℕ). option_map_or (is_up incs) place false in
-        omega (arith, length-filter up (raw_set incs pool pg), count_by-le-length up (raw_set incs pool pg))
+without_down-at_most : (incs : List Incremental) (pool : PoolSpec) (places : List (Option ℕ)) → length (without_down incs pool places) ≤ length places
+without_down-at_most incs pool places =
+    let up = λ (place : Option ℕ). option_map_or (is_up incs) place false in
+    grind (arith, length-map places (if_up incs), length-filter up places, count_by-le-length up places)
+
+without_down-size : (incs : List Incremental) (pool : PoolSpec) (places : List (Option ℕ)) → is_erasure pool.kind ≡ true → length (without_down incs pool places) ≡ length places
+without_down-size incs pool places erasure = grind (arith, length-map places (if_up incs))
 
 pub up-at_most : (incs : List Incremental) (pg : PgId) (members : Membership) → membership incs pg ≡ Some members → length members.up ≤ members.size
-up-at_most incs pg members is =
-    let from = of_pool incs pg (pool incs pg.pool) members is in
-    subst (λ (m : Membership). length m.up ≤ m.size) from.1 (up_set-at_most incs pg from.0)
+up-at_most incs pg = of_pool (λ members. length members.up ≤ members.size) incs pg (λ made.
+    let placed = placement-at_most (tree incs) (rule_of made) (weights incs) (placement_input made pg) made.size in
+    let kept = without_down-at_most incs made (raw_set incs made pg) in
+    omega (arith, placed, kept))
 
 pub up-size : (incs : List Incremental) (pg : PgId) (made : PoolSpec) (members : Membership) → pool incs pg.pool ≡ Some made → is_erasure made.kind ≡ true
     → membership incs pg ≡ Some members → length members.up ≡ members.size
 up-size incs pg made members there erasure is =
-    let same : pool_membership incs pg made ≡ members =
-    same_Some _ _ (ap (option_map (pool_membership incs pg)) (sym there) ∙ is) in
+    let same : pool_membership incs pg made ≡ members = same_Some _ _ (ap (option_map (pool_membership incs pg)) (sym there) ∙ is) in
     subst (λ (m : Membership). length m.up ≡ m.size) same
-    (by_kind (is_erasure made.kind) erasure (placement-size (tree incs) (rule_of made) (weights incs) (placement_input made pg) made.size erasure))
-  where
-    by_kind : (b : Bool) → b ≡ true → length (raw_set incs made pg) ≡ made.size
-        → length (if b then map (if_up incs) (raw_set incs made pg) else filter (λ place. option_map_or (is_up incs) place false) (raw_set incs made pg)) ≡ made.size
-    by_kind true e all = length-map (raw_set incs made pg) (if_up incs) ∙ all
-    by_kind false e all = cc
+    (without_down-size incs made (raw_set incs made pg) erasure ∙ placement-size (tree incs) (rule_of made) (weights incs) (placement_input made pg) made.size erasure)

@@ -1,50 +1,23 @@
-use Rattle.std.proofs.Common.{◌≡◌, List, [], ◌++◌, true, refl, subst, ap, sym, vec_items}
-use Rattle.std.specs.List.{filter, flat_map}
+use Rattle.std.proofs.Common.{refl, ap, inl, inr, vec_items}
 use Rattle.pgp_ids.specs.Member.{is_before}
-use Rattle.pgp_ids.specs.declared.member.Member.{Member}
-use Rattle.pgp_ids.specs.declared.past.Past.{Past}
-use Rattle.pgp_lists.specs.Ordered.{IsAscending, with_item, with_items}
-use Rattle.pgp_lists.proofs.Pairs.{AllPairs-nil}
 use Rattle.pgp_prior.specs.MemberOrder.{member_order}
 use Rattle.pgp_prior.specs.Members.{members_of}
-use Rattle.pgp_prior.specs.Blocks.{is_up, matters, acting_where}
-use Rattle.pgp_prior.proofs.Lists.{all-three, members-in_order, ascends-with, walk-passes, walk-fails}
+use Rattle.pgp_prior.proofs.Lists.{members-in_order, first-ascends, walk-starts, walk-next}
 use Rattle.pgp_prior.proofs.probe.probe.Goals as goal
 use Rattle.pgp_prior.proofs.probe.probe.Goals.{then-matters+in_ok-add_up, else-matters}
 
 pub add_members-requires-2 : goal.add_members-requires-2
-add_members-requires-2 g c =
-    let none : IsAscending is_before c.new-list.result.items = rw c.new-list.ensures.items (AllPairs-nil (λ a b. is_before a b ≡ true)) in
-    ascends-with is_before member_order (members_of c.args.by_place c.args.current.now.up) _ _ c.in_ok-add_members.ensures none
+add_members-requires-2 g c = first-ascends is_before member_order (members_of c.args.by_place c.args.current.now.up) _ _ c.new-list.ensures.items c.in_ok-add_members.ensures
 
 pub loop-interval-init : goal.loop-interval-init
 loop-interval-init g c =
-    let up : List Member = members_of c.args.by_place c.args.current.now.up in
-    let acting : List Member = members_of c.args.by_place c.args.current.now.acting in
-    let rest : List Member = flat_map (acting_where is_up c.args.by_place (g.S.StatusOf.status_of c.args.statuses.now)) (filter (matters c.args.les) c.args.past.now) in
-    let first : c.add_members.new.list.items ≡ with_items is_before up [] = rw c.in_ok-add_members.ensures (ap (with_items is_before up) c.new-list.ensures.items) in
-    let both : c.add_members-2.new.list.items ≡ with_items is_before acting (with_items is_before up []) = rw c.in_ok-add_members-2.ensures (ap (with_items is_before acting) first) in (
-      rw (both, members-in_order (up ++ acting ++ rest)) (all-three is_before up acting rest),
-      ascends-with is_before member_order acting _ _ both (ascends-with is_before member_order up [] _ refl (AllPairs-nil (λ a b. is_before a b ≡ true))),
-    )
-
-pub add_up-requires : goal.add_up-requires
-add_up-requires g c = c.loop-interval.invariant.1
+    walk-starts member_order members-in_order (members_of c.args.by_place c.args.current.now.up) (members_of c.args.by_place c.args.current.now.acting) _ c.args.past.now
+    (rw (c.in_ok-add_members-2.ensures, c.in_ok-add_members.ensures, c.new-list.ensures.items) refl)
 
 pub loop-interval-preserved : goal.loop-interval-preserved
 loop-interval-preserved g c =
-    let step = λ (list : List Member) (member : Member). with_item is_before member list in
-    let heard : Past → List Member = acting_where is_up c.args.by_place (g.S.StatusOf.status_of c.args.statuses.now) in
-    elim c.if-matters.branch [
-      | then-matters+in_ok-add_up w ↦
-          let added : c.if-matters.list.items ≡ with_items is_before (heard c.interval-item.result) c.loop-interval.list.items = rw w.list-is w.in_ok-add_up.ensures in (
-            walk-passes step heard (matters c.args.les) _ _ _ c.args.past.now c.loop-interval.interval-index c.interval-item.result c.loop-interval.invariant.0 c.loop-interval-test.true c.interval-item.is
-                (rw c.matters.ensures at w.if-matters.true) added,
-            ascends-with is_before member_order (heard c.interval-item.result) _ _ added c.loop-interval.invariant.1,
-          )
-      | else-matters w ↦ (
-        walk-fails step heard (matters c.args.les) _ _ _ c.args.past.now c.loop-interval.interval-index c.interval-item.result c.loop-interval.invariant.0 c.loop-interval-test.true c.interval-item.is
-            (rw c.matters.ensures at w.if-matters.false) (ap vec_items w.list-is),
-        subst (IsAscending is_before) (sym (ap vec_items w.list-is)) c.loop-interval.invariant.1,
-      )
-    ]
+    walk-next member_order c.args.past.now c.loop-interval.interval-index c.interval-item.result c.loop-interval.invariant c.loop-interval-test.true c.interval-item.is
+    (elim c.if-matters.branch [
+      | then-matters+in_ok-add_up w ↦ inl (rw c.matters.ensures at w.if-matters.true, rw w.list-is w.in_ok-add_up.ensures)
+      | else-matters w ↦ inr (rw c.matters.ensures at w.if-matters.false, ap vec_items w.list-is)
+    ])

@@ -1,6 +1,6 @@
 use Rattle.std.proofs.Common.{Bool, ap, ◌∙◌}
 use Rattle.pgp_prior.specs.Prior.{probe}
-use Rattle.pgp_prior.proofs.DownLemmas.{prior-by_lists}
+use Rattle.pgp_prior.proofs.PriorLemmas.{prior-by_lists}
 use Rattle.pgp_prior.proofs.walk.prior.Goals as goal
 
 pub returns : goal.returns

@@ -1,6 +1,5 @@
-use Rattle.std.proofs.Common.{Some, ap, ◌∙◌}
+use Rattle.std.proofs.Common.{refl}
 use Rattle.pgp_prior.specs.Members.{members_of}
-use Rattle.pgp_prior.specs.Told.{told}
 use Rattle.pgp_prior.proofs.ToldLemmas.{told-known}
 use Rattle.pgp_prior.proofs.KeptLemmas.{judged}
 use Rattle.pgp_prior.proofs.kept.Kept.keep.Goals as goal
@@ -11,8 +10,5 @@ returns-clause-kept g c = λ status agree.
     let items = rw c.by_place.ensures at c.in_ok-known.ensures in
     judged by_place (g.R.Recoverable.enough c.args.code.now) (g.met.R.Recoverable.monotone c.args.code.now) status c.args.les
     (record { past = c.args.past; statuses = c.in_ok-known.known; blocks = c.blocks-blocks.result })
-    (λ member in'.
-    ap (λ known. told known member.osd) items
-    ∙ told-known (g.S.StatusOf.status_of c.args.statuses.now) c.args.past.first (members_of by_place c.args.past.members.acting) member in'
-    ∙ ap Some (agree member in'))
+    (λ member in'. rw (items, told-known (g.S.StatusOf.status_of c.args.statuses.now) c.args.past.first (members_of by_place c.args.past.members.acting) member in', agree member in') refl)
     c.blocks-blocks.ensures

@@ -1,5 +1,5 @@
-use Rattle.std.proofs.Common.{◌≡◌, None, length, get_or, if◌then◌else◌, ap, sym, ◌∙◌, arith}
-use Rattle.pgp_prior.proofs.MemberLemmas.{next-held, next-empty}
+use Rattle.std.proofs.Common.{◌≡◌, Some, None, length, get_or, if◌then◌else◌, ap, sym, ◌∙◌, arith}
+use Rattle.pgp_prior.proofs.MemberLemmas.{next-place}
 use Rattle.pgp_prior.proofs.members.MembersIterator.next.Goals as goal
 use Rattle.pgp_prior.proofs.members.MembersIterator.next.Goals.{then-self, else-self}
 
@@ -7,13 +7,10 @@ pub returns-in-Some-osd-clause-steps : goal.returns-in-Some-osd-clause-steps
 returns-in-Some-osd-clause-steps c =
     let inside = c.loop-osd.self-inside in
     let found = c.in-Some.ensures.lookup.3 in
-    let slot : c.if-self.slot ≡ (if inside.by_place then inside.place else 0) = elim c.if-self.branch [
-      | then-self w ↦ rw w.if-self.true w.slot-is
-      | else-self w ↦ rw w.if-self.false w.slot-is
-    ] in
+    let slot : c.if-self.slot ≡ (if inside.by_place then inside.place else 0) = grind arith in
     sym c.loop-osd.invariant.1
-    ∙ next-held inside.by_place inside.places.now inside.place (omega (arith, found.0)) c.in-Some-osd.osd c.if-self.slot
-    (ap (λ k. get_or inside.places.now k None) (sym c.from.ensures) ∙ sym (found.1 None) ∙ c.in-Some-osd.is) slot
+    ∙ (rw slot (next-place inside.by_place inside.places.now inside.place (Some c.in-Some-osd.osd) (omega (arith, found.0))
+    (ap (λ k. get_or inside.places.now k None) (sym c.from.ensures) ∙ sym (found.1 None) ∙ c.in-Some-osd.is)))
 
 pub returns-in-Some-osd-clause-goes : goal.returns-in-Some-osd-clause-goes
 returns-in-Some-osd-clause-goes c =
@@ -28,7 +25,7 @@ loop-osd-preserved c =
     let inside = c.loop-osd.self-inside in
     let found = c.in-Some.ensures.lookup.3 in (
       c.loop-osd.invariant.0,
-      sym (next-empty inside.by_place inside.places.now inside.place (omega (arith, found.0))
+      sym (next-place inside.by_place inside.places.now inside.place None (omega (arith, found.0))
           (ap (λ k. get_or inside.places.now k None) (sym c.from.ensures) ∙ sym (found.1 None) ∙ c.in_default-osd.is))
           ∙ c.loop-osd.invariant.1,
     )
