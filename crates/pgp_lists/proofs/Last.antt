@@ -1,5 +1,5 @@
 -- The last element that passes a test, of lists that grow.
-use Rattle.std.proofs.Common.{◌≡◌, ◌⊎◌, ◌<◌, ℕ, ◌+◌, List, [], ◌∷◌, ◌++◌, length, take, get_or, Bool, true, false, ◌||◌, cond, Option, Some, None, is_some, filter, refl, ap, sym, ◌∙◌, inl, inr}
+use Rattle.std.proofs.Common.{◌≡◌, ◌⊎◌, ◌<◌, ℕ, ◌+◌, List, [], ◌∷◌, ◌++◌, length, take, get_or, Bool, true, false, ◌||◌, cond, Option, Some, None, is_some, filter, refl, ap, sym, ◌∙◌, inl, inr, arith}
 use Rattle.std.specs.List.{Contains, last_or, list_any}
 use Rattle.std.proofs.Math.Bool.{or-true}
 use Rattle.std.proofs.lemmas.Bool.{cases_Bool}
@@ -17,11 +17,7 @@ pub last_where-append : {X : Type 0} (test : X → Bool) (xs ys : List X) → la
 last_where-append test xs ys = ap (last_or None) (filter-append test xs ys) ∙ last_or-append None (filter test xs) (filter test ys)
 
 pub last_where-push : {X : Type 0} (test : X → Bool) (xs : List X) (x : X) → last_where test (xs ++ x ∷ []) ≡ cond (test x) (Some x) (last_where test xs)
-last_where-push {X = X} test xs x = last_where-append test xs (x ∷ []) ∙ by_test (test x)
-  where
-    by_test : (b : Bool) → last_or (last_where test xs) (cond b (x ∷ []) []) ≡ cond b (Some x) (last_where test xs)
-    by_test true = refl
-    by_test false = refl
+last_where-push test xs x = grind (arith, cases_Bool (test x), last_where-append test xs (x ∷ []))
 
 pub last_where_more : {X : Type 0} (test : X → Bool) (xs : List X) (i : ℕ) (x : X) → i < length xs → x ≡ get_or xs i x
     → last_where test (take (i + 1) xs) ≡ cond (test x) (Some x) (last_where test (take i xs))
@@ -39,10 +35,8 @@ found_more {X = X} test xs i x now next within item is step =
 last_or-some : {X : Type 0} (test : X → Bool) (o : Option X) (xs : List X) → is_some (last_or o (filter test xs)) ≡ (is_some o || list_any test xs)
 last_or-some test None [] = refl
 last_or-some test (Some y) [] = refl
-last_or-some test o (x ∷ xs) = elim (cases_Bool (test x)) [
-  | inl passes ↦ rw passes (last_or-some test (Some x) xs ∙ sym (or-true (is_some o)))
-  | inr fails ↦ rw fails (last_or-some test o xs)
-]
+last_or-some test o (x ∷ xs) =
+    grind (arith, cases_Bool (test x), last_or-some test (Some x) xs, last_or-some test o xs, or-true (is_some o))
 
 -- an element is found where one passes
 pub last_where-some : {X : Type 0} (test : X → Bool) (xs : List X) → is_some (last_where test xs) ≡ list_any test xs

@@ -31,10 +31,6 @@ get-set_other (y ∷ xs) (suc n) (suc m) x other = get-set_other xs n m x (λ sa
 pub take-front : {X : Type 0} (xs ys : List X) → take (length xs) (xs ++ ys) ≡ xs
 take-front xs ys = take_at xs ys (length xs) refl
 
-pub length-snoc : {X : Type 0} (xs : List X) (x : X) → length (xs ++ x ∷ []) ≡ suc (length xs)
-length-snoc [] x = refl
-length-snoc (y ∷ xs) x = ap suc (length-snoc xs x)
-
 -- the element at a place ends the list up to it
 pub get-at : {X : Type 0} (xs : List X) (n : ℕ) → n < length xs → (x : X) × (slice_get xs n ≡ Some x) × (take (suc n) xs ≡ take n xs ++ x ∷ [])
 get-at [] n below = absurd (omega arith)

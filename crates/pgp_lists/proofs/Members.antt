@@ -111,20 +111,11 @@ any-contains test (x ∷ xs) some = elim (cases_Bool (test x)) [
 
 pub contains-any : {X : Type 0} (test : X → Bool) (xs : List X) (x : X) → Contains xs x → test x ≡ true → list_any test xs ≡ true
 contains-any test [] x in' passes = absurd (Contains-nil x in')
-contains-any test (z ∷ xs) x in' passes =
-    elim (Contains-cases z xs x in') [
-      | inl here ↦ let first : test z ≡ true = ap test here ∙ passes in rw first refl
-      | inr later ↦
-          let rest : list_any test xs ≡ true = contains-any test xs x later passes in
-          elim (cases_Bool (test z)) [ inl also ↦ rw also refl | inr fails ↦ rw (fails, rest) refl ]
-    ]
+contains-any test (z ∷ xs) x in' passes = grind (arith, cases_Bool (test z), Contains-cases z xs x in', contains-any test xs x)
 
 -- what no element passes, none that stands in the list does
 pub none-contains : {X : Type 0} (test : X → Bool) (xs : List X) (x : X) → list_any test xs ≡ false → Contains xs x → test x ≡ false
-none-contains test xs x none in' = elim (cases_Bool (test x)) [
-  | inl passes ↦ let some = contains-any test xs x in' passes in cc
-  | inr fails ↦ fails
-]
+none-contains test xs x none in' = grind (arith, cases_Bool (test x), contains-any test xs x in')
 
 -- ---- searches
 
@@ -139,10 +130,4 @@ find-some test (x ∷ xs) y found = elim (cases_Bool (test x)) [
 -- a search that finds nothing met no element that passes the test
 pub find-none : {X : Type 0} (test : X → Bool) (xs : List X) (y : X) → find test xs ≡ None → Contains xs y → test y ≡ false
 find-none test [] y missed in' = absurd (Contains-nil y in')
-find-none test (x ∷ xs) y missed in' = elim (cases_Bool (test x)) [
-  | inl passes ↦ let found : Some x ≡ None = rw passes at missed in cc
-  | inr fails ↦ elim (Contains-cases x xs y in') [
-    | inl here ↦ ap test (sym here) ∙ fails
-    | inr later ↦ find-none test xs y (rw fails at missed) later
-  ]
-]
+find-none test (x ∷ xs) y missed in' = grind (arith, cases_Bool (test x), Contains-cases x xs y in', find-none test xs y)

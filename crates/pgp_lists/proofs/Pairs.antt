@@ -21,8 +21,5 @@ AllPairs-mapped f R S each (x ∷ xs) pairs =
     (All-map (S (f x)) f xs (All-weaker (R x) (λ y. S (f x) (f y)) (each x) xs (AllPairs-first R x xs pairs)))
     (AllPairs-mapped f R S each xs (AllPairs-rest R x xs pairs))
 
-pub AllPairs-map : {X Y : Type 0} (R : Y → Y → Type 0) (f : X → Y) (xs : List X) → AllPairs (λ a b. R (f a) (f b)) xs → AllPairs R (map f xs)
-AllPairs-map R f xs pairs = AllPairs-mapped f (λ a b. R (f a) (f b)) R (λ a b is. is) xs pairs
-
 pub AllPairs-weaker : {X : Type 0} (R S : X → X → Type 0) → ((x y : X) → R x y → S x y) → (xs : List X) → AllPairs R xs → AllPairs S xs
 AllPairs-weaker R S each xs pairs i j d before below = each _ _ (pairs i j d before below)

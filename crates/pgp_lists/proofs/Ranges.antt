@@ -1,7 +1,6 @@
 -- Tests and filters over the numbers from one on.
-use Rattle.std.proofs.Common.{◌≡◌, ℕ, zero, suc, ◌+◌, ◌<◌, ◌≤◌, List, [], ◌∷◌, ◌++◌, Bool, true, false, ◌&&◌, ◌||◌, cond, filter, get_or, length, map, refl, ap, sym, ◌∙◌, inl, inr, arith, add-one, append-nil}
+use Rattle.std.proofs.Common.{◌≡◌, ℕ, zero, suc, ◌+◌, ◌<◌, List, [], ◌∷◌, ◌++◌, Bool, true, false, ◌&&◌, cond, filter, get_or, length, map, refl, ap, ◌∙◌, arith, add-one, append-nil}
 use Rattle.std.specs.List.{list_all, list_any, range_with_len}
-use Rattle.std.proofs.lemmas.Bool.{and_parts, cases_lt}
 use Rattle.std.proofs.lemmas.List.{map_push}
 use Rattle.std.proofs.lemmas.List.Elements.{filter-append}
 
@@ -9,21 +8,6 @@ pub range_with_len-suc : (a n : ℕ) → range_with_len a (suc n) ≡ range_with
 range_with_len-suc a zero = ap (λ x. x ∷ []) (omega arith)
 range_with_len-suc a (suc n) =
     ap (λ xs. a ∷ xs) (range_with_len-suc (a + 1) n ∙ ap (λ x. range_with_len (a + 1) n ++ x ∷ []) (omega arith))
-
--- a test that all numbers of a range pass
-pub each-range : (test : ℕ → Bool) (a n k : ℕ) → list_all test (range_with_len a n) ≡ true → a ≤ k → k < a + n → test k ≡ true
-each-range test a zero k all from to = absurd (omega arith)
-each-range test a (suc n) k all from to =
-    let parts = and_parts (test a) (list_all test (range_with_len (a + 1) n)) all in
-    elim (cases_lt a k) [
-      | inl after ↦ each-range test (a + 1) n k parts.1 (omega arith) (omega arith)
-      | inr here ↦ let same : a ≡ k = omega arith in ap test (sym same) ∙ parts.0
-    ]
-
-pub range-each : (test : ℕ → Bool) (a n : ℕ) → ((k : ℕ) → a ≤ k → k < a + n → test k ≡ true) → list_all test (range_with_len a n) ≡ true
-range-each test a zero each = refl
-range-each test a (suc n) each =
-    rw (each a (omega arith) (omega arith), range-each test (a + 1) n (λ k from to. each k (omega arith) (omega arith))) refl
 
 -- the same numbers, one higher
 pub all-range_shifted : (test : ℕ → Bool) (a n : ℕ) → list_all test (range_with_len (suc a) n) ≡ list_all (λ k. test (suc k)) (range_with_len a n)
@@ -40,14 +24,10 @@ filter_range-suc test n =
     ∙ filter-append test (range_with_len 0 n) (n ∷ [])
 
 pub filter_range-passes : (test : ℕ → Bool) (n : ℕ) → test n ≡ true → filter test (range_with_len 0 (n + 1)) ≡ filter test (range_with_len 0 n) ++ n ∷ []
-filter_range-passes test n passes =
-    ap (λ k. filter test (range_with_len 0 k)) (add-one n) ∙ filter_range-suc test n
-    ∙ ap (λ b. filter test (range_with_len 0 n) ++ cond b (n ∷ []) []) passes
+filter_range-passes test n passes = grind (arith, add-one n, filter_range-suc test n)
 
 pub filter_range-fails : (test : ℕ → Bool) (n : ℕ) → test n ≡ false → filter test (range_with_len 0 (n + 1)) ≡ filter test (range_with_len 0 n)
-filter_range-fails test n fails =
-    ap (λ k. filter test (range_with_len 0 k)) (add-one n) ∙ filter_range-suc test n
-    ∙ ap (λ b. filter test (range_with_len 0 n) ++ cond b (n ∷ []) []) fails ∙ append-nil _
+filter_range-fails test n fails = grind (arith, add-one n, filter_range-suc test n, append-nil (filter test (range_with_len 0 n)))
 
 pub map_filter_range-passes : {X : Type 0} (f : ℕ → X) (test : ℕ → Bool) (n : ℕ) → test n ≡ true → map f (filter test (range_with_len 0 (n + 1))) ≡ map f (filter test (range_with_len 0 n)) ++ f n ∷ []
 map_filter_range-passes f test n passes = ap (map f) (filter_range-passes test n passes) ∙ map_push f (filter test (range_with_len 0 n)) n
@@ -61,16 +41,4 @@ pub list_any-range : {X : Type 0} (d : X) (test : ℕ → Bool) (held : X → Bo
     ((q : ℕ) → q < length xs → test (k + q) ≡ held (get_or xs q d)) → list_any test (range_with_len k (length xs)) ≡ list_any held xs
 list_any-range d test held k [] same = refl
 list_any-range d test held k (x ∷ xs) same =
-    let first : test k ≡ held x = ap test (omega arith) ∙ same 0 (omega arith) in
-    let rest : list_any test (range_with_len (k + 1) (length xs)) ≡ list_any held xs =
-    list_any-range d test held (k + 1) xs (λ q h. ap test (omega arith) ∙ same (suc q) (omega arith)) in
-    ap (λ (b : Bool). b || list_any test (range_with_len (k + 1) (length xs))) first ∙ ap (λ (b : Bool). held x || b) rest
-
-pub map-range : {X Y : Type 0} (d : X) (value : ℕ → Y) (f : X → Y) (k : ℕ) (xs : List X) →
-    ((q : ℕ) → q < length xs → f (get_or xs q d) ≡ value (k + q)) → map f xs ≡ map value (range_with_len k (length xs))
-map-range d value f k [] same = refl
-map-range d value f k (x ∷ xs) same =
-    let first : f x ≡ value k = same 0 (omega arith) ∙ ap value (omega arith) in
-    let rest : map f xs ≡ map value (range_with_len (k + 1) (length xs)) =
-    map-range d value f (k + 1) xs (λ q h. same (suc q) (omega arith) ∙ ap value (omega arith)) in
-    cc
+    grind (arith, same 0, list_any-range d test held (k + 1) xs (λ q h. ap test (omega arith) ∙ same (suc q) (omega arith)))

@@ -1,5 +1,5 @@
 -- What a binary search finds in an ascending list, and what an insert there leaves.
-use Rattle.std.proofs.Common.{◌≡◌, ℕ, zero, suc, ◌+◌, ◌<◌, ◌≤◌, List, [], ◌∷◌, Bool, true, false, length, get_or, refl, ap, ◌∙◌, inl, inr, arith}
+use Rattle.std.proofs.Common.{◌≡◌, ℕ, zero, suc, ◌+◌, ◌<◌, ◌≤◌, List, [], ◌∷◌, Bool, true, false, length, get_or, refl, ap, ◌∙◌, arith}
 use Rattle.std.specs.declared.cmp.Ordering.{Ordering}
 use Rattle.std.specs.declared.cmp.Ordering.TheVariants.{Less, Equal, Greater}
 use Rattle.std.specs.Ordering.{is_lt, ordering_reverse, ordering_index}
@@ -18,35 +18,19 @@ insert-with_item before [] zero x low front back = refl
 insert-with_item before [] (suc place) x low front back = absurd (omega arith)
 insert-with_item before (y ∷ xs) zero x low front back = let first : before x y ≡ true = back (omega arith) in rw first refl
 insert-with_item before (y ∷ xs) (suc place) x low front back =
-    let first = front 0 (omega arith) in
-    let after : before x y ≡ false = first.0 in
-    let later : before y x ≡ true = first.1 in
-    let rest : insert xs place x ≡ with_item before x xs =
-    insert-with_item before xs place x (omega arith) (λ k below. front (suc k) (omega arith)) (λ below. back (omega arith)) in
-    rw (after, later) (ap (λ l. y ∷ l) rest)
+    grind (arith, front 0, insert-with_item before xs place x (omega arith) (λ k below. front (suc k) (omega arith)) (λ below. back (omega arith)))
 
 -- an item that stands neither before nor after one of the list, and before none up to it, leaves the list
 found-with_item : {X : Type 0} (before : X → X → Bool) (xs : List X) (place : ℕ) (x : X) → place < length xs → ((k : ℕ) → k ≤ place → before x (get_or xs k x) ≡ false) → before (get_or xs place x) x ≡ false → with_item before x xs ≡ xs
 found-with_item before [] place x low front at = absurd (omega arith)
-found-with_item before (y ∷ xs) zero x low front at =
-    let after : before x y ≡ false = front 0 (omega arith) in
-    let same : before y x ≡ false = at in
-    rw (after, same) refl
+found-with_item before (y ∷ xs) zero x low front at = grind (arith, front 0, at)
 found-with_item before (y ∷ xs) (suc place) x low front at =
-    let after : before x y ≡ false = front 0 (omega arith) in
-    let rest : with_item before x xs ≡ xs =
-    found-with_item before xs place x (omega arith) (λ k below. front (suc k) (omega arith)) at in
-    elim (cases_Bool (before y x)) [
-      | inl later ↦ rw (after, later) (ap (λ l. y ∷ l) rest)
-      | inr same ↦ rw (after, same) refl
-    ]
+    grind (arith, front 0, cases_Bool (before y x), found-with_item before xs place x (omega arith) (λ k below. front (suc k) (omega arith)) at)
 
 -- ---- by an order
 
 is_lt-reverse : (r : Ordering) → is_lt r ≡ true → is_lt (ordering_reverse r) ≡ false
-is_lt-reverse Less is = refl
-is_lt-reverse Equal is = cc
-is_lt-reverse Greater is = cc
+is_lt-reverse r is = grind arith
 
 module _ {X : Type 0} {R : X → X → Ordering} (order : IsTotalOrder R) where
   pub searchable : (xs : List X) (x : X) → IsAscending (λ a b. is_lt (R a b)) xs → IsNonDecreasingBy (λ y. ordering_index (R y x)) xs
@@ -67,9 +51,7 @@ module _ {X : Type 0} {R : X → X → Ordering} (order : IsTotalOrder R) where
       ap is_lt (order.antisymm x (get_or xs place x) ∙ ap ordering_reverse is))
 
   not_above : (r : Ordering) → ordering_index r ≤ 1 → is_lt (ordering_reverse r) ≡ false
-  not_above Less low = refl
-  not_above Equal low = refl
-  not_above Greater low = absurd (omega arith)
+  not_above r low = grind arith
 
   -- where it found one
   pub put_there : (xs : List X) (place : ℕ) (x : X) → IsAscending (λ a b. is_lt (R a b)) xs → place < length xs → ((d : X) → R (get_or xs place d) x ≡ Equal) → with_item (λ a b. is_lt (R a b)) x xs ≡ xs

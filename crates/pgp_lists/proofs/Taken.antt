@@ -1,11 +1,11 @@
 -- Lists whose elements came one after another, each taken by those before it.
-use Rattle.std.proofs.Common.{◌≡◌, ℕ, ◌<◌, List, [], ◌∷◌, ◌++◌, Bool, true, ◌&&◌, length, take, drop, refl, ap, sym, ◌∙◌, subst, arith, append-nil, append_assoc}
+use Rattle.std.proofs.Common.{◌≡◌, ℕ, List, [], ◌∷◌, ◌++◌, Bool, true, ◌&&◌, length, take, drop, refl, ap, sym, ◌∙◌, subst, append-nil, append_assoc, arith}
 use Rattle.std.proofs.Math.Bool.{and-true}
+use Rattle.std.proofs.lemmas.Bool.Decides.{nat_tests}
 use Rattle.std.proofs.lemmas.Bool.{and_parts, and_from}
 use Rattle.std.proofs.lemmas.List.{take-append-drop}
-use Rattle.pgp_lists.proofs.Bools.{and_assoc}
 use Rattle.pgp_lists.specs.Taken.{is_taken_at, are_taken}
-use Rattle.pgp_lists.proofs.Ranges.{all-range_shifted, each-range, range-each}
+use Rattle.pgp_lists.proofs.Ranges.{all-range_shifted}
 
 -- the first element is taken by the empty list, and the others by those before them
 pub taken-cons : {X : Type 0} (takes : List X → X → Bool) (x : X) (xs : List X) → are_taken takes (x ∷ xs) ≡ (takes [] x && are_taken (λ before. takes (x ∷ before)) xs)
@@ -15,10 +15,7 @@ taken-cons takes x xs = ap (λ rest. takes [] x && rest) (all-range_shifted (is_
 pub taken-append : {X : Type 0} (takes : List X → X → Bool) (xs ys : List X) → are_taken takes (xs ++ ys) ≡ (are_taken takes xs && are_taken (λ before. takes (xs ++ before)) ys)
 taken-append takes [] ys = refl
 taken-append takes (x ∷ xs) ys =
-    taken-cons takes x (xs ++ ys)
-    ∙ ap (λ rest. takes [] x && rest) (taken-append (λ before. takes (x ∷ before)) xs ys)
-    ∙ and_assoc (takes [] x) _ _
-    ∙ ap (λ front. front && are_taken (λ before. takes ((x ∷ xs) ++ before)) ys) (sym (taken-cons takes x xs))
+    grind (arith, nat_tests, taken-cons takes x (xs ++ ys), taken-append (λ before. takes (x ∷ before)) xs ys, taken-cons takes x xs)
 
 -- one element more
 pub taken-push : {X : Type 0} (takes : List X → X → Bool) (xs : List X) (x : X) → are_taken takes (xs ++ x ∷ []) ≡ (are_taken takes xs && takes xs x)
@@ -38,13 +35,6 @@ taken-more takes xs x before last = taken-push takes xs x ∙ and_from (are_take
 -- the first n elements
 pub taken-take : {X : Type 0} (takes : List X → X → Bool) (n : ℕ) (xs : List X) → are_taken takes xs ≡ true → are_taken takes (take n xs) ≡ true
 taken-take takes n xs taken = taken-front takes (take n xs) (drop n xs) (ap (are_taken takes) (take-append-drop n xs) ∙ taken)
-
--- each place for itself
-pub taken-each : {X : Type 0} (takes : List X → X → Bool) (xs : List X) (n : ℕ) → are_taken takes xs ≡ true → n < length xs → is_taken_at takes xs n ≡ true
-taken-each takes xs n taken below = each-range (is_taken_at takes xs) 0 (length xs) n taken (omega arith) (omega arith)
-
-pub each-taken : {X : Type 0} (takes : List X → X → Bool) (xs : List X) → ((n : ℕ) → n < length xs → is_taken_at takes xs n ≡ true) → are_taken takes xs ≡ true
-each-taken takes xs each = range-each (is_taken_at takes xs) 0 (length xs) (λ n from to. each n (omega arith))
 
 -- ---- induction
 
