@@ -60,6 +60,7 @@ impl Entries {
     }
 
     /// Puts a copy of the entry in, and takes out the one with its number. After an error the entries are as before.
+    #[tactic(auto, using(crate::proofs::EntryLemmas::put_numbered))]
     pub(crate) fn put(&mut self, entry: &LogEntry) -> Result<(), AllocError>
         ensures ok { OnOk result (self.new ≡ put_in number_of nat_cmp self.old entry.now) }
         ensures err { OnErr result (self.new ≡ self.old) }
@@ -75,6 +76,7 @@ impl Entries {
 
     /// The entries of the log of this info with greater numbers than this one, in the order of their numbers. It looks at
     /// these alone.
+    #[tactic(auto, using(crate::proofs::EntryLemmas::above_laws))]
     fn above(&self, info: &Info, number: u32) -> Range<'_, u32, Write>
         ensures { map numbered result ≡ entries_above number (within info.now self.now) }
     {
@@ -85,6 +87,7 @@ impl Entries {
     }
 
     /// The entries of the log of this info, in the order of their numbers.
+    #[tactic(auto, using(crate::proofs::EntryLemmas::within_above))]
     fn of_log(&self, info: &Info) -> Range<'_, u32, Write>
         ensures { map numbered result ≡ within info.now self.now }
     {
@@ -93,6 +96,7 @@ impl Entries {
 
     /// There are as many entries within the log of this info as it has numbers. Where fewer are kept, inside and outside of
     /// it, it looks at none.
+    #[tactic(auto, using(crate::proofs::EntryLemmas::full_laws))]
     pub(crate) fn is_full(&self, info: &Info) -> bool
         ensures { result ≡ is_full info.now (within info.now self.now) }
     {
@@ -115,6 +119,7 @@ impl Entries {
     }
 
     /// Some entry within the log of this info has the version.
+    #[tactic(auto, using(crate::proofs::EntryLemmas::version_laws))]
     pub(crate) fn has_version(&self, info: &Info, version: Version) -> bool
         ensures { result ≡ has_version version (within info.now self.now) }
     {
@@ -143,6 +148,7 @@ impl Entries {
 
     /// The objects that a copy lacks by the log of this info which has the writes up to this number, in ascending order of
     /// their names.
+    #[tactic(auto, using(crate::proofs::EntryLemmas::missing_named))]
     pub(crate) fn missing_above(
         &self,
         alloc: Global,
@@ -156,6 +162,7 @@ impl Entries {
     }
 
     /// What the last entry of each object says, of those within the log of this info above the number.
+    #[tactic(auto, using(crate::proofs::EntryLemmas::newest_laws))]
     fn newest_above(
         &self,
         alloc: Global,

@@ -22,6 +22,7 @@ pub fn equal_peers_miss_nothing()
 {}
 
 /// A log has as many entries as it has numbers exactly where an entry with each of its numbers was reported.
+#[tactic(auto, using(crate::proofs::NumberLemmas::counted_exactly))]
 pub fn counting_shows_that_no_number_is_lacking()
     ensures { (info : Info) (reported : List LogEntry)
         → (has_each_number info reported ≡ true) ↔ HasEachNumber info reported }
@@ -45,6 +46,7 @@ pub fn entries_outside_a_log_say_nothing_of_it()
 {}
 
 /// Epochs that rise from one entry to the next rise from each entry to each later one.
+#[tactic(auto, using(crate::proofs::LogLemmas::rising_laws))]
 pub fn rising_epochs_never_fall()
     ensures { (epoch : ℕ) (entries : List LogEntry) → (is_rising_from epoch entries ≡ true)
         ↔ (All (λ e. epoch ≤ e.version.epoch) entries × AllPairs (λ a b. a.version.epoch ≤ b.version.epoch) entries) }

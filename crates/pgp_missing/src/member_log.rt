@@ -52,6 +52,7 @@ impl MemberLog {
     }
 
     /// Takes an entry that the member reported, after those that were added before. After an error the log is as before.
+    #[tactic(auto, using(std::proofs::lemmas::List::Sums::fold_push))]
     pub fn add(&mut self, entry: &LogEntry) -> Result<(), AllocError>
         ensures ok { OnOk result ((info : Info) (reported : List LogEntry)
             → IsLogOf info reported self.old → IsLogOf info (reported ++ entry.now ∷ []) self.new) }
