@@ -1,5 +1,5 @@
 -- The running intervals stay those of the history as it grows.
-use Rattle.std.proofs.Common.{◌≡◌, ℕ, ◌+◌, List, [], ◌∷◌, ◌++◌, Bool, true, false, length, map, refl, ap, sym, ◌∙◌, subst, arith, add-zero, append_assoc, append-nil}
+use Rattle.std.proofs.Common.{◌≡◌, ℕ, ◌+◌, List, [], ◌∷◌, ◌++◌, Bool, true, false, length, map, refl, sym, ◌∙◌, subst, arith, add-zero, append_assoc, append-nil}
 use Rattle.std.proofs.lemmas.Bool.{true≢false}
 use Rattle.std.proofs.lemmas.List.{length_push}
 use Rattle.pgp_ids.specs.declared.history.EpochState.{EpochState}
@@ -7,8 +7,8 @@ use Rattle.pgp_ids.specs.declared.history.PrimaryFacts.{PrimaryFacts}
 use Rattle.pgp_ids.specs.declared.membership.Membership.{Membership}
 use Rattle.pgp_ids.specs.declared.past.Past.{Past}
 use Rattle.pgp_interval.specs.SameMembers.{is_same}
-use Rattle.pgp_interval.specs.History.{History, stepped, stayed, last_place}
-use Rattle.pgp_interval.specs.Runs.{past_of, past_intervals, current_first, current_ending}
+use Rattle.pgp_interval.specs.History.{History, stepped, stayed}
+use Rattle.pgp_interval.specs.Runs.{past_of, current_ending}
 use Rattle.pgp_interval.specs.IntervalsOf.{Running, IsIntervalsOf}
 use Rattle.pgp_interval.proofs.Same.{is_same-eq, eq-is_same}
 use Rattle.pgp_interval.proofs.StepLemmas.{past_intervals-continues, current_first-continues, past_intervals-ends, current_first-ends}
@@ -18,16 +18,10 @@ module _ {C : Type 0} (enough : C → List ℕ → Bool) (by_place : C → Bool)
   pub goes_on : (h : History C) (running : Running C) → IsIntervalsOf enough by_place h running → (members : Membership) (facts : PrimaryFacts) (epoch : ℕ) → epoch ≡ running.last + 1 → is_same running.current members ≡ true → IsIntervalsOf enough by_place (stepped h members facts) (record running { last = epoch })
   goes_on h running is members facts epoch next same =
       let stays : running.current ≡ members = is_same-eq running.current members same in
-      let e : h.current ≡ members = sym is.current_is ∙ stays in
-      record {
-        code_is = is.code_is;
-        past_are =
-            is.past_are ∙ sym (past_intervals-continues enough by_place h facts)
-            ∙ ap (λ (m : Membership). past_intervals enough by_place (stepped h m facts)) e;
-        first_is = is.first_is ∙ sym (current_first-continues h facts) ∙ ap (λ (m : Membership). current_first (stepped h m facts)) e;
-        last_is = omega (arith, next, is.last_is, length_push h.lived (record { members = h.current; facts = facts }));
-        current_is = stays;
-      }
+      let past = past_intervals-continues enough by_place h facts in
+      let first = current_first-continues h facts in
+      let last = length_push h.lived (record { members = h.current; facts = facts }) in
+      subst (λ m. IsIntervalsOf enough by_place (stepped h m facts) (record running { last = epoch })) (sym is.current_is ∙ stays) (grind (arith, past, first, last))
 
   -- the current interval as a past one, where it ends with these facts
   abbrev ended : Running C → PrimaryFacts → Past
@@ -42,17 +36,11 @@ module _ {C : Type 0} (enough : C → List ℕ → Bool) (by_place : C → Bool)
   pub ends : (h : History C) (running : Running C) → IsIntervalsOf enough by_place h running → (members : Membership) (facts : PrimaryFacts) (epoch : ℕ) → epoch ≡ running.last + 1 → is_same running.current members ≡ false → IsIntervalsOf enough by_place (stepped h members facts) (record running { past = running.past ++ ended running facts ∷ []; first = epoch; last = epoch; current = members })
   ends h running is members facts epoch next differs =
       let differ = λ (same : members ≡ h.current). true≢false (sym (eq-is_same _ _ (is.current_is ∙ sym same)) ∙ differs) in
-      let here : epoch ≡ h.first + last_place h + 1 = omega (arith, next, is.last_is) in
-      record {
-        code_is = is.code_is;
-        past_are =
-            ap (λ past. past ++ ended running facts ∷ []) is.past_are
-            ∙ ap (λ (p : Past). past_intervals enough by_place h ++ p ∷ []) (ended-is h running is facts)
-            ∙ sym (past_intervals-ends enough by_place h members facts differ);
-        first_is = here ∙ sym (current_first-ends h members facts differ);
-        last_is = omega (arith, here, length_push h.lived (record { members = h.current; facts = facts }));
-        current_is = refl;
-      }
+      let past = past_intervals-ends enough by_place h members facts differ in
+      let first = current_first-ends h members facts differ in
+      let last = length_push h.lived (record { members = h.current; facts = facts }) in
+      let ended = ended-is h running is facts in
+      grind (arith, past, first, last, ended)
 
   -- some steps to the same membership
   pub stays : (h : History C) (running : Running C) → IsIntervalsOf enough by_place h running → (told : List PrimaryFacts) (to : ℕ) → to ≡ running.last + length told → IsIntervalsOf enough by_place (stayed h told) (record running { last = to })

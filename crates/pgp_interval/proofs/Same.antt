@@ -1,7 +1,8 @@
 -- The test of memberships is true exactly for equal ones.
-use Rattle.std.proofs.Common.{◌≡◌, ℕ, List, Option, Some, None, true, nat_eq, refl, ap, sym, ◌∙◌, Decides}
+use Rattle.std.proofs.Common.{◌≡◌, ℕ, List, Option, Some, None, true, nat_eq, refl, ap, arith, Decides}
 use Rattle.std.specs.Option.{option_eq}
-use Rattle.std.proofs.lemmas.Bool.{false≢true, eqb-true, eq-eqb, and_parts}
+use Rattle.std.proofs.lemmas.Bool.{false≢true, eqb-true, eq-eqb}
+use Rattle.std.proofs.lemmas.Bool.Decides.{nat_tests}
 use Rattle.std.proofs.lemmas.Slice.Eq.{slice_eq-Decides}
 use Rattle.pgp_ids.specs.declared.membership.Membership.{Membership}
 use Rattle.pgp_interval.specs.SameMembers.{has_same_places, is_same}
@@ -15,30 +16,18 @@ option_eq-Decides (Some x) (Some y) = (λ e. ap Some (eqb-true x y e), λ e. eq-
 has_same_places-Decides : (xs ys : List (Option ℕ)) → Decides (has_same_places xs ys) (xs ≡ ys)
 has_same_places-Decides xs ys = slice_eq-Decides option_eq-Decides xs ys _ refl
 
+is_same-Decides : (a b : Membership) → Decides (is_same a b) (a ≡ b)
+is_same-Decides a b =
+    let up = has_same_places-Decides a.up b.up in
+    let acting = has_same_places-Decides a.acting b.acting in
+    let up_primary = option_eq-Decides a.up_primary b.up_primary in
+    let acting_primary = option_eq-Decides a.acting_primary b.acting_primary in
+    grind (arith, nat_tests, up, acting, up_primary, acting_primary)
+
 pub is_same-eq : (a b : Membership) → is_same a b ≡ true → a ≡ b
-is_same-eq a b same =
-    let p5 = and_parts _ _ same in
-    let p4 = and_parts _ _ p5.0 in
-    let p3 = and_parts _ _ p4.0 in
-    let p2 = and_parts _ _ p3.0 in
-    let p1 = and_parts _ _ p2.0 in
-    λ i. record {
-      up = (has_same_places-Decides a.up b.up).0 p1.0 i;
-      up_primary = (option_eq-Decides a.up_primary b.up_primary).0 p1.1 i;
-      acting = (has_same_places-Decides a.acting b.acting).0 p2.1 i;
-      acting_primary = (option_eq-Decides a.acting_primary b.acting_primary).0 p3.1 i;
-      size = eqb-true a.size b.size p4.1 i;
-      min_size = eqb-true a.min_size b.min_size p5.1 i;
-    }
+is_same-eq a b = (is_same-Decides a b).0
 
 pub eq-is_same : (a b : Membership) → a ≡ b → is_same a b ≡ true
-eq-is_same a b e =
-    ap (is_same a) (sym e)
-    ∙ rw (
-      (has_same_places-Decides a.up a.up).1 refl,
-      (option_eq-Decides a.up_primary a.up_primary).1 refl,
-      (has_same_places-Decides a.acting a.acting).1 refl,
-      (option_eq-Decides a.acting_primary a.acting_primary).1 refl,
-      eq-eqb a.size a.size refl,
-      eq-eqb a.min_size a.min_size refl,
-    ) refl
+eq-is_same a b = (is_same-Decides a b).1
+
+pub ruleset same_laws = (is_same-eq, eq-is_same)

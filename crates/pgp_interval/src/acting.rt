@@ -16,6 +16,7 @@ pub fn acting_slots(by_place: bool, acting: &Osds) -> SlotSet
     }
 }
 
+#[tactic(auto, using(crate::proofs::Places::place_laws))]
 fn held_places(places: &[Option<OsdId>]) -> SlotSet
     requires { length places.now ≤ MAX_OSDS }
     ensures { result ≡ held_places places.now }

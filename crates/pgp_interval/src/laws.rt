@@ -11,11 +11,13 @@ ghost use Rattle.pgp_interval.specs.Examples.{both, both_needed, alone, known_up
 use pgp_code::{Recoverable, Replicated};
 
 /// Two memberships are taken for the same exactly where they are equal.
+#[tactic(auto, using(crate::proofs::Same::same_laws))]
 pub fn same_memberships_are_equal()
     ensures { (a b : Membership) → IsTrue (is_same a b) ↔ (a ≡ b) }
 {}
 
 /// The past intervals are maximal runs that are over, and each such run is one of them.
+#[tactic(auto, using(crate::proofs::IntervalLemmas::past_laws))]
 pub fn past_intervals_are_the_runs_that_are_over<R: Recoverable>()
     ensures each { (h : History R)
         → EachIsOver R.enough R.by_place h (past_intervals R.enough R.by_place h) }
@@ -32,6 +34,7 @@ pub fn current_interval_reaches_the_last_epoch<R: Recoverable>()
 {}
 
 /// From the first epoch on the intervals cover each epoch once, and neighbours have different memberships.
+#[tactic(auto, using(crate::proofs::IntervalLemmas::lie_end_to_end))]
 pub fn intervals_lie_end_to_end<R: Recoverable>()
     ensures { (h : History R) → LieEndToEnd h h.first (past_intervals R.enough R.by_place h) }
 {}

@@ -1,5 +1,4 @@
-use Rattle.std.proofs.Common.{refl, ap, arith}
-use Rattle.std.proofs.Common.{◌+◌}
+use Rattle.std.proofs.Common.{◌+◌, refl, ap, arith}
 use Rattle.pgp_interval.specs.History.{last_place}
 use Rattle.pgp_interval.specs.Runs.{opening_of}
 use Rattle.pgp_interval.proofs.IntervalLemmas.{IsInterval-opening_of, opening_of-interval}
