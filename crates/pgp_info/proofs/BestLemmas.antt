@@ -1,10 +1,10 @@
 -- By any preference a list of infos of distinct members has one info to which no other is preferred, and the search
 -- finds it.
-use Rattle.std.proofs.Common.{◌≡◌, ◌≢◌, ℕ, ◌<◌, ◌⊎◌, List, [], ◌∷◌, ◌++◌, Option, Some, None, Bool, true, false, not, cond, length, take, refl, ap, sym, ◌∙◌, subst, inl, inr, arith}
-use Rattle.std.specs.List.{All, Contains, find}
-use Rattle.std.proofs.lemmas.Bool.{false_from_ne_true, not-true, not-false}
+use Rattle.std.proofs.Common.{◌≡◌, ◌≢◌, ℕ, ◌<◌, ◌⊎◌, List, [], ◌∷◌, ◌++◌, Option, Some, None, Bool, true, false, not, cond, length, take, get_or, refl, ap, sym, ◌∙◌, subst, inl, inr, arith}
+use Rattle.std.specs.List.{All, Contains, filter, find}
+use Rattle.std.proofs.lemmas.Bool.{cases_Bool, cases_order, not-true}
 use Rattle.std.proofs.lemmas.Bool.Decides.{nat_tests}
-use Rattle.std.proofs.lemmas.List.{get_or-take, get_or_append_left, get_or_push, length-take, length_push}
+use Rattle.std.proofs.lemmas.List.{get_or-take, get_or_append_left, get_or_default, get_or_push, length-take, length_push}
 use Rattle.std.proofs.lemmas.List.Elements.{All-contains, All-contains_itself, All-weaker, Contains-push, Contains-append_left, Contains-push_cases, filter_passes}
 use Rattle.std.proofs.lemmas.List.Kept.{AllPairs-filter}
 use Rattle.std.proofs.lemmas.List.Quantifiers.{all_pairs_push}
@@ -17,38 +17,32 @@ use Rattle.pgp_ids.specs.declared.member.Member.{Member}
 use Rattle.pgp_ids.specs.declared.report.Info.{Info}
 use Rattle.pgp_info.specs.Preference.{IsPreference}
 use Rattle.pgp_info.specs.Best.{HasDistinctMembers, candidates, is_unbeaten, best_info, IsBest}
-use Rattle.pgp_info.specs.Heard.{Heard, without, with_info}
+use Rattle.pgp_info.specs.Heard.{without, with_info}
 use Rattle.pgp_info.specs.Lead.{is_ahead}
 
 -- ---- infos of distinct members
 
 -- two of them are one and the same, or of two members
 same_or_distinct : (infos : List Info) → HasDistinctMembers infos → (a b : Info) → Contains infos a → Contains infos b → (a ≡ b) ⊎ (a.member ≢ b.member)
-same_or_distinct [] distinct a b in_a in_b = absurd (Contains-nil a in_a)
-same_or_distinct (x ∷ infos) distinct a b in_a in_b =
-    let first : All (λ y. x.member ≢ y.member) infos = AllPairs-first (λ y z. y.member ≢ z.member) x infos distinct in
-    let differ : (y : Info) → Contains infos y → x.member ≢ y.member = λ y later. All-contains (λ z. x.member ≢ z.member) infos y first later in
-    elim (Contains-cases x infos a in_a) [
-      | inl here_a ↦ elim (Contains-cases x infos b in_b) [
-        | inl here_b ↦ inl (sym here_a ∙ here_b)
-        | inr later_b ↦ inr (λ same. differ b later_b (ap (λ (i : Info). i.member) here_a ∙ same))
-      ]
-      | inr later_a ↦ elim (Contains-cases x infos b in_b) [
-        | inl here_b ↦ inr (λ same. differ a later_a (ap (λ (i : Info). i.member) here_b ∙ sym same))
-        | inr later_b ↦ same_or_distinct infos (AllPairs-rest (λ y z. y.member ≢ z.member) x infos distinct) a b later_a later_b
-      ]
+same_or_distinct infos distinct a b in_a in_b =
+    let at_b : get_or infos in_b.0 a ≡ b = get_or_default infos in_b.0 a b in_b.1 ∙ in_b.2 in
+    elim (cases_order in_a.0 in_b.0) [
+      | inl here ↦ inl (sym in_a.2 ∙ ap (λ k. get_or infos k a) here ∙ at_b)
+      | inr apart ↦ inr (λ same. grind (arith, distinct in_a.0 in_b.0 a, distinct in_b.0 in_a.0 a, at_b, in_a.2))
     ]
 
 -- none of the infos is preferred to this one
 abbrev Unbeaten : (Info → Info → Bool) → List Info → Info → Type 0
 Unbeaten better infos info = (other : Info) → Contains infos other → better other info ≡ false
 
+pub distinct_passing : (test : Info → Bool) (infos : List Info) → HasDistinctMembers infos → HasDistinctMembers (filter test infos)
+distinct_passing test infos distinct = AllPairs-filter (λ a b. a.member ≢ b.member) test infos distinct
+
 -- the last of infos of distinct members is of another member than the others
 differ_last : (infos : List Info) (x : Info) → HasDistinctMembers (infos ++ x ∷ []) → (y : Info) → Contains infos y → x.member ≢ y.member
 differ_last infos x distinct y in' same =
-    distinct in'.0 (length infos) y in'.1 (omega (arith, length_push infos x))
-    (ap (λ (i : Info). i.member) (get_or_append_left infos (x ∷ []) y in'.0 in'.1 ∙ in'.2) ∙ sym same
-    ∙ ap (λ (i : Info). i.member) (sym (get_or_push infos x y (length infos) refl)))
+    let at_end : get_or (infos ++ x ∷ []) (length infos) y ≡ x = get_or_push infos x y (length infos) refl in
+    grind (arith, distinct in'.0 (length infos) y, length_push infos x, get_or_append_left infos (x ∷ []) y in'.0 in'.1, at_end, in'.2)
 
 pub distinct_take : (infos : List Info) (n : ℕ) → HasDistinctMembers infos → HasDistinctMembers (take n infos)
 distinct_take infos n distinct = λ i j d less below.
@@ -61,8 +55,8 @@ distinct_before infos x distinct = subst HasDistinctMembers (take-front infos (x
 -- the test and the fact
 is_unbeaten-Unbeaten : (better : Info → Info → Bool) (infos : List Info) (m : Info) → is_unbeaten better infos m ≡ true → Unbeaten better infos m
 is_unbeaten-Unbeaten better infos m is other in' =
-    let passes : not (better other m) ≡ true = All-contains (λ i. not (better i m) ≡ true) infos other (AllPass-from_list_all (λ i. not (better i m)) infos is) in' in
-    false_from_ne_true (better other m) (λ above. let back : not (better other m) ≡ false = ap not above in cc)
+    not-true (better other m)
+    (All-contains (λ i. not (better i m) ≡ true) infos other (AllPass-from_list_all (λ i. not (better i m)) infos is) in')
 
 Unbeaten-is_unbeaten : (better : Info → Info → Bool) (infos : List Info) (m : Info) → Unbeaten better infos m → is_unbeaten better infos m ≡ true
 Unbeaten-is_unbeaten better infos m unbeaten =
@@ -81,35 +75,20 @@ module _ (better : Info → Info → Bool) (laws : IsPreference better) where
   -- an info that is preferred to the unbeaten one of others is unbeaten among them
   unbeaten_above : (x : Info) (infos : List Info) → HasDistinctMembers infos → ((y : Info) → Contains infos y → x.member ≢ y.member) → (m : Info) → Contains infos m → Unbeaten better infos m → better x m ≡ true → Unbeaten better infos x
   unbeaten_above x infos distinct differ m in_m unbeaten above other in' =
-      elim (same_or_distinct infos distinct other m in' in_m) [
-        | inl same ↦ ap (λ y. better y x) same ∙ not-true (better m x) (sym (laws.one_of_two x m (differ m in_m)) ∙ above)
-        | inr apart ↦ false_from_ne_true (better other x) (λ back.
-            let still : better other m ≡ true = laws.transitive other x m (λ same. differ other in' (sym same)) (differ m in_m) apart back above in
-            let none : better other m ≡ false = unbeaten other in' in
-            cc)
-      ]
+      let other_by_x = laws.transitive other x m (λ same. differ other in' (sym same)) (differ m in_m) in
+      grind (arith, same_or_distinct infos distinct other m in' in_m, cases_Bool (better other x), laws.one_of_two x m (differ m in_m), other_by_x, unbeaten other in')
 
   -- of distinct infos only one is unbeaten
   one_unbeaten : (infos : List Info) → HasDistinctMembers infos → (a b : Info) → Contains infos a → Contains infos b → Unbeaten better infos a → Unbeaten better infos b → a ≡ b
   one_unbeaten infos distinct a b in_a in_b best_a best_b =
-      elim (same_or_distinct infos distinct a b in_a in_b) [
-        | inl same ↦ same
-        | inr apart ↦
-            let less : better b a ≡ false = best_a b in_b in
-            let more : better b a ≡ true = not-false (better b a) (sym (laws.one_of_two a b apart) ∙ best_b a in_a) in
-            cc
-      ]
+      grind (arith, same_or_distinct infos distinct a b in_a in_b, laws.one_of_two a b, best_a b in_b, best_b a in_a)
 
   -- ---- one info more, wherever it stands
 
   module _ (infos more : List Info) (x : Info) (distinct : HasDistinctMembers infos) (differ : (y : Info) → Contains infos y → x.member ≢ y.member)
       (here : Contains more x) (there : (y : Info) → Contains infos y → Contains more y) (cases : (y : Info) → Contains more y → (x ≡ y) ⊎ Contains infos y) where
     unbeaten_more : (m : Info) → Unbeaten better infos m → better x m ≡ false → Unbeaten better more m
-    unbeaten_more m unbeaten less other in' =
-        elim (cases other in') [
-          | inl new ↦ ap (λ y. better y m) (sym new) ∙ less
-          | inr old ↦ unbeaten other old
-        ]
+    unbeaten_more m unbeaten less other in' = grind (arith, cases other in', less, unbeaten other)
 
     finds_more : (best : Option Info) → Finds better infos best → (ahead : Bool) → is_ahead better x best ≡ ahead → Finds better more (cond ahead (Some x) best)
     finds_more None finds true is =
@@ -122,9 +101,7 @@ module _ (better : Info → Info → Bool) (laws : IsPreference better) where
 
   found_as : (infos : List Info) → HasDistinctMembers infos → (m : Info) → Contains infos m → Unbeaten better infos m → (found : Option Info) → unbeaten_of_all better infos ≡ found → found ≡ Some m
   found_as infos distinct m in_m unbeaten None found =
-      let passes : is_unbeaten better infos m ≡ true = Unbeaten-is_unbeaten better infos m unbeaten in
-      let fails : is_unbeaten better infos m ≡ false = find-none (is_unbeaten better infos) infos m found in_m in
-      cc
+      grind (arith, Unbeaten-is_unbeaten better infos m unbeaten, find-none (is_unbeaten better infos) infos m found in_m)
   found_as infos distinct m in_m unbeaten (Some n) found =
       let other = find-some (is_unbeaten better infos) infos n found in
       ap Some (one_unbeaten infos distinct n m other.0 in_m (is_unbeaten-Unbeaten better infos n other.1) unbeaten)
@@ -159,19 +136,16 @@ module _ (better : Info → Info → Bool) (laws : IsPreference better) where
 
 -- ---- the best info
 
-distinct_candidates : (infos : List Info) → HasDistinctMembers infos → HasDistinctMembers (candidates infos)
-distinct_candidates infos distinct = AllPairs-filter (λ a b. a.member ≢ b.member) _ infos distinct
-
 pub best_info-IsBest : (better : Info → Info → Bool) (infos : List Info) (m : Info) → best_info better infos ≡ Some m → IsBest better infos m
 best_info-IsBest better infos m found =
     let is = find-some (is_unbeaten better (candidates infos)) (candidates infos) m found in
     record { candidate = is.0; unbeaten = is_unbeaten-Unbeaten better (candidates infos) m is.1 }
 
 pub IsBest-best_info : (better : Info → Info → Bool) → IsPreference better → (infos : List Info) → HasDistinctMembers infos → (m : Info) → IsBest better infos m → best_info better infos ≡ Some m
-IsBest-best_info better laws infos distinct m best = finds-search better laws (candidates infos) (distinct_candidates infos distinct) (Some m) (best.candidate, best.unbeaten)
+IsBest-best_info better laws infos distinct m best = finds-search better laws (candidates infos) (distinct_passing _ infos distinct) (Some m) (best.candidate, best.unbeaten)
 
 pub best_info-none : (better : Info → Info → Bool) → IsPreference better → (infos : List Info) → HasDistinctMembers infos → best_info better infos ≡ None → candidates infos ≡ []
-best_info-none better laws infos distinct missed = search-finds better laws (candidates infos) (distinct_candidates infos distinct) None missed
+best_info-none better laws infos distinct missed = search-finds better laws (candidates infos) (distinct_passing _ infos distinct) None missed
 
 pub none-best_info : (better : Info → Info → Bool) (infos : List Info) → candidates infos ≡ [] → best_info better infos ≡ None
 none-best_info better infos empty = ap (unbeaten_of_all better) empty
@@ -182,23 +156,15 @@ pub distinct_nobody : HasDistinctMembers []
 distinct_nobody = AllPairs-nil (λ a b. a.member ≢ b.member)
 
 pub distinct_without : (member : Member) (infos : List Info) → HasDistinctMembers infos → HasDistinctMembers (without member infos)
-distinct_without member infos distinct = AllPairs-filter (λ a b. a.member ≢ b.member) _ infos distinct
-
-same_itself : (member : Member) → is_same_member member member ≡ true
-same_itself member = grind (arith, nat_tests)
+distinct_without member infos distinct = distinct_passing _ infos distinct
 
 differ_kept : (member : Member) (infos : List Info) → All (λ y. y.member ≢ member) (without member infos)
 differ_kept member infos =
-    All-weaker (λ y. not (is_same_member y.member member) ≡ true) (λ y. y.member ≢ member)
-    (λ y passes same. let fails : not (is_same_member y.member member) ≡ false = ap (λ m. not (is_same_member m member)) same ∙ ap not (same_itself member) in cc)
+    All-weaker (λ y. not (is_same_member y.member member) ≡ true) (λ y. y.member ≢ member) (λ y passes same. grind (arith, nat_tests, passes, same))
     (without member infos) (filter_passes (λ info. not (is_same_member info.member member)) infos)
 
-distinct_push : (infos : List Info) (x : Info) → HasDistinctMembers infos → All (λ y. y.member ≢ x.member) infos → HasDistinctMembers (infos ++ x ∷ [])
-distinct_push infos x distinct differ = all_pairs_push (λ a b. a.member ≢ b.member) infos x distinct differ
-
 pub distinct_with : (info : Info) (infos : List Info) → HasDistinctMembers infos → HasDistinctMembers (with_info info infos)
-distinct_with info infos distinct = distinct_push (without info.member infos) info (distinct_without info.member infos distinct) (differ_kept info.member infos)
+distinct_with info infos distinct =
+    all_pairs_push (λ a b. a.member ≢ b.member) (without info.member infos) info (distinct_without info.member infos distinct) (differ_kept info.member infos)
 
--- other infos, made of those that were there
-pub put_in : {P : Type 0} (heard : Heard P) (prefer : P) (infos after : List Info) (change : List Info → List Info) → ◌≡◌ {A = Heard P} (record { prefer = prefer; infos = infos }) heard → after ≡ change infos → ◌≡◌ {A = Heard P} (record { prefer = prefer; infos = after }) (record heard { infos = change heard.infos })
-put_in {P = P} heard prefer infos after change is made = subst (λ h. ◌≡◌ {A = Heard P} (record { prefer = prefer; infos = after }) (record h { infos = change h.infos })) is (ap (λ (i : List Info). record { prefer = prefer; infos = i }) made)
+pub ruleset distinct_laws = (distinct_nobody, distinct_with, distinct_without)

@@ -1,9 +1,9 @@
 -- What is kept of the best info stays the best one while infos come and go.
-use Rattle.std.proofs.Common.{◌≡◌, ◌≢◌, ℕ, ◌<◌, ◌≤◌, List, [], ◌∷◌, ◌++◌, Option, Some, None, Bool, true, false, not, nat_eq, nat_le, eqb-true, filter, append-nil, refl, ap, sym, ◌∙◌, subst, inl, inr, arith, leb-true}
+use Rattle.std.proofs.Common.{◌≡◌, ℕ, ◌<◌, ◌≤◌, List, [], ◌∷◌, ◌++◌, Option, Some, None, Bool, true, false, not, nat_eq, eqb-true, filter, append-nil, refl, ap, sym, ◌∙◌, subst, inl, inr, arith}
 use Rattle.std.specs.List.{Contains}
-use Rattle.std.proofs.lemmas.Bool.{and_parts, cases_Bool, cases_lt, not-true}
+use Rattle.std.proofs.lemmas.Bool.{cases_Bool, cases_lt, not-true}
+use Rattle.std.proofs.lemmas.Bool.Decides.{nat_tests}
 use Rattle.std.proofs.lemmas.List.Elements.{filter-append}
-use Rattle.std.proofs.lemmas.List.Kept.{AllPairs-filter}
 use Rattle.std.specs.Option.{option_map_or}
 use Rattle.pgp_ids.specs.Member.{is_same_member}
 use Rattle.pgp_ids.specs.declared.member.Member.{Member}
@@ -14,7 +14,8 @@ use Rattle.pgp_info.specs.Best.{HasDistinctMembers, last_start, candidates, best
 use Rattle.pgp_info.specs.Heard.{without, with_info}
 use Rattle.pgp_info.specs.Lead.{has_served_since, best_beside, stays_without, IsLead, AreLed}
 use Rattle.pgp_info.specs.declared.lead.Lead.{Lead}
-use Rattle.pgp_info.proofs.BestLemmas.{distinct_without, distinct_with, Finds, unbeaten_of_all, search_push, finds-search, search-finds}
+use Rattle.std.proofs.lemmas.List.{take_more}
+use Rattle.pgp_info.proofs.BestLemmas.{distinct_take, distinct_passing, distinct_without, distinct_with, Finds, unbeaten_of_all, search_push, finds-search, search-finds}
 use Rattle.pgp_info.proofs.StartLemmas.{AllAmong, passing-among, starts-among, served-before, start-push}
 
 none_among : (xs : List Info) → ((info : Info) → Contains xs info → ⊥) → xs ≡ []
@@ -26,13 +27,7 @@ none_since : (start : ℕ) (infos : List Info) → last_start infos < start → 
 none_since start infos later =
     none_among (filter (has_served_since start) infos) (λ info in'.
     let kept = filter-contains (has_served_since start) infos info in' in
-    let parts = and_parts info.complete (nat_le start info.les) kept.1 in
-    let since : start ≤ info.les = leb-true start info.les parts.1 in
-    let before : info.les ≤ last_start infos = served-before infos info kept.0 parts.0 in
-    omega arith)
-
-distinct_passing : (test : Info → Bool) (infos : List Info) → HasDistinctMembers infos → HasDistinctMembers (filter test infos)
-distinct_passing test infos distinct = AllPairs-filter (λ a b. a.member ≢ b.member) test infos distinct
+    grind (arith, nat_tests, kept.1, served-before infos info kept.0))
 
 module _ (better : Info → Info → Bool) (laws : IsPreference better) where
   -- ---- one info more
@@ -45,16 +40,7 @@ module _ (better : Info → Info → Bool) (laws : IsPreference better) where
       → (lead.start < last_start (x ∷ []) → rivals ≡ record { start = last_start (x ∷ []); best = None })
       → (last_start (x ∷ []) ≤ lead.start → rivals ≡ lead) → AreRivals infos x rivals
   rivals_since infos x lead rivals led later known =
-      let all = start-push infos x in
-      let start : lead.start ≡ last_start infos = led.start in
-      elim (cases_lt lead.start (last_start (x ∷ []))) [
-        | inl late ↦
-            let top : last_start (x ∷ []) ≡ last_start (infos ++ x ∷ []) = omega (arith, all) in
-            subst (AreRivals infos x) (sym (later late)) (top, ap (unbeaten_of_all better) (none_since (last_start (x ∷ [])) infos (omega arith)))
-        | inr early ↦
-            let top : lead.start ≡ last_start (infos ++ x ∷ []) = omega (arith, all) in
-            subst (AreRivals infos x) (sym (known early)) (top, ap (λ s. unbeaten_of_all better (filter (has_served_since s) infos)) led.start ∙ sym led.best)
-      ]
+      grind (arith, cases_lt lead.start (last_start (x ∷ [])), start-push infos x, led, later, known, none_since (last_start (x ∷ [])) infos)
 
   best_with : (infos : List Info) (x : Info) → HasDistinctMembers (infos ++ x ∷ []) → (rivals : Lead) → AreRivals infos x rivals
       → best_beside better rivals.start x rivals.best ≡ best_info better (infos ++ x ∷ [])
@@ -106,16 +92,9 @@ module _ (better : Info → Info → Bool) (laws : IsPreference better) where
     -- as long as it is there no less a start is told
     pub lead_stays : (m : Info) → lead.best ≡ Some m → Contains some m → IsLead better some lead
     lead_stays m is in' =
-        let parts = and_parts m.complete (nat_le (last_start all) m.les) (leads_all m is).1 in
-        let since : last_start all ≤ m.les = leb-true (last_start all) m.les parts.1 in
-        let told : m.les ≤ last_start some = served-before some m in' parts.0 in
-        let no_more : last_start some ≤ last_start all = starts-among some all among in
-        let start : lead.start ≡ last_start all = led.start in
-        lead_among (λ n other. subst (Contains some) (let same : m ≡ n = cc in same) in') (omega arith)
-
-    -- where nobody leads, nobody does while the start stays
-    pub nobody_leads : lead.best ≡ None → last_start some ≡ lead.start → IsLead better some lead
-    nobody_leads none start = lead_among (λ m is. cc) start
+        let start : last_start some ≡ lead.start =
+        grind (arith, nat_tests, (leads_all m is).1, served-before some m in', starts-among some all among, led.start) in
+        lead_among (λ n other. subst (Contains some) (let same : m ≡ n = cc in same) in') start
 
   -- ---- without a member
 
@@ -140,7 +119,7 @@ module _ (better : Info → Info → Bool) (laws : IsPreference better) where
     left_stays stays = by lead.best refl stays
       where
         by : (best : Option Info) → lead.best ≡ best → option_map_or (λ (m : Info). not (is_same_member m.member member)) best (nat_eq (last_start left) lead.start) ≡ true → IsLead better left lead
-        by None none same = nobody_leads all left distinct left_distinct left-among lead led none (eqb-true (last_start left) lead.start same)
+        by None none same = lead_among all left distinct left_distinct left-among lead led (λ m leads. cc) (eqb-true (last_start left) lead.start same)
         by (Some best) found apart = lead_without best found (not-true (is_same_member best.member member) apart)
 
 -- ---- infos that are put and dropped
@@ -160,3 +139,28 @@ led_put better info old left pushed others lead distinct are is new joins =
     let all : pushed ≡ with_info info old = new ∙ ap (λ (l : List Info). l ++ info ∷ []) is in
     let apart : HasDistinctMembers pushed = subst HasDistinctMembers (sym all) (distinct_with info old distinct) in
     record { distinct = apart; led = subst (λ l. IsLead better l lead) (sym new) (joins left (subst HasDistinctMembers new apart) are.led) }
+
+-- ---- the best info beside one more, and without another member
+
+pub best_known : (better : Info → Info → Bool) (infos : List Info) (info : Info) → IsPreference better → HasDistinctMembers (infos ++ info ∷ [])
+    → last_start (info ∷ []) ≤ last_start infos → best_info better (infos ++ info ∷ []) ≡ best_beside better (last_start infos) info (best_info better infos)
+best_known better infos info laws distinct early =
+    let lead : Lead = record { start = last_start infos; best = best_info better infos } in
+    sym (lead_with better laws infos info distinct lead lead (record { start = refl; best = refl }) (λ late. absurd (omega arith)) (λ _. refl)).best
+
+pub best_later : (better : Info → Info → Bool) (infos : List Info) (info : Info) → IsPreference better → HasDistinctMembers (infos ++ info ∷ [])
+    → last_start infos < last_start (info ∷ []) → best_info better (infos ++ info ∷ []) ≡ best_beside better (last_start (info ∷ [])) info None
+best_later better infos info laws distinct late =
+    let lead : Lead = record { start = last_start infos; best = best_info better infos } in
+    let rivals : Lead = record { start = last_start (info ∷ []); best = None } in
+    sym (lead_with better laws infos info distinct lead rivals (record { start = refl; best = refl }) (λ _. refl) (λ early. absurd (omega arith))).best
+
+pub best_without : (better : Info → Info → Bool) (infos : List Info) (best : Info) (member : Member) → IsPreference better → HasDistinctMembers infos
+    → best_info better infos ≡ Some best → is_same_member best.member member ≡ false → best_info better (without member infos) ≡ Some best
+best_without better infos best member laws distinct is apart =
+    sym (lead_without better laws infos (without member infos) member distinct refl (record { start = last_start infos; best = best_info better infos })
+    (record { start = refl; best = refl }) best is apart).best ∙ is
+
+pub ruleset beside_laws = (best_known, best_later)
+
+pub ruleset among_laws = (take_more, distinct_take)

@@ -1,5 +1,5 @@
 -- Infos that are put in their order leave the last of each member.
-use Rattle.std.proofs.Common.{◌≡◌, List, [], ◌∷◌, ◌++◌, true, false, not, append-nil, append_assoc, refl, ap, sym, ◌∙◌, inl, inr, arith}
+use Rattle.std.proofs.Common.{◌≡◌, List, [], ◌∷◌, ◌++◌, not, append-nil, append_assoc, refl, ap, sym, ◌∙◌, inl, inr, arith}
 use Rattle.std.specs.List.{filter}
 use Rattle.std.proofs.lemmas.Bool.{cases_Bool}
 use Rattle.std.proofs.lemmas.Bool.Decides.{nat_tests}
@@ -22,15 +22,8 @@ kept_all (x ∷ xs) = ap (λ zs. x ∷ zs) (kept_all xs)
 
 without_more : (x : Info) (others infos : List Info) → without_all others (without x.member infos) ≡ without_all (x ∷ others) infos
 without_more x others [] = refl
-without_more x others (y ∷ ys) = elim (cases_Bool (is_same_member y.member x.member)) [
-  | inl is ↦ let turned : is_same_member x.member y.member ≡ true = same_turned x.member y.member ∙ is in rw (is, turned) (without_more x others ys)
-  | inr is ↦
-      let turned : is_same_member x.member y.member ≡ false = same_turned x.member y.member ∙ is in
-      elim (cases_Bool (has_member y.member others)) [
-        | inl has ↦ rw (is, turned, has) (without_more x others ys)
-        | inr has ↦ rw (is, turned, has) (ap (λ zs. y ∷ zs) (without_more x others ys))
-      ]
-]
+without_more x others (y ∷ ys) =
+    grind (arith, cases_Bool (is_same_member y.member x.member), cases_Bool (has_member y.member others), same_turned x.member y.member, without_more x others ys)
 
 one_more : (x : Info) (xs : List Info) → without_all xs (x ∷ []) ++ last_of_each_member xs ≡ last_of_each_member (x ∷ xs)
 one_more x xs = elim (cases_Bool (has_member x.member xs)) [ inl has ↦ rw has refl | inr has ↦ rw has refl ]
@@ -38,11 +31,9 @@ one_more x xs = elim (cases_Bool (has_member x.member xs)) [ inl has ↦ rw has 
 put_after : (new infos : List Info) → with_infos new infos ≡ without_all new infos ++ last_of_each_member new
 put_after [] infos = sym (append-nil (without_all [] infos) ∙ kept_all infos)
 put_after (x ∷ xs) infos =
-    put_after xs (with_info x infos)
-    ∙ ap (λ zs. zs ++ last_of_each_member xs) (filter-append (λ info. not (has_member info.member xs)) (without x.member infos) (x ∷ []))
-    ∙ append_assoc (without_all xs (without x.member infos)) (without_all xs (x ∷ [])) (last_of_each_member xs)
-    ∙ ap (λ zs. zs ++ (without_all xs (x ∷ []) ++ last_of_each_member xs)) (without_more x xs infos)
-    ∙ ap (λ zs. without_all (x ∷ xs) infos ++ zs) (one_more x xs)
+    let parts = filter-append (λ info. not (has_member info.member xs)) (without x.member infos) (x ∷ []) in
+    let joined = append_assoc (without_all xs (without x.member infos)) (without_all xs (x ∷ [])) (last_of_each_member xs) in
+    grind (arith, put_after xs (with_info x infos), parts, joined, without_more x xs infos, one_more x xs)
 
 pub put_in_order : (infos : List Info) → with_infos infos [] ≡ last_of_each_member infos
 put_in_order infos = put_after infos []

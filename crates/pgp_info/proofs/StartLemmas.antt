@@ -1,5 +1,5 @@
 -- The last start that infos tell of: what each of them says of it, and what becomes of it while infos come and go.
-use Rattle.std.proofs.Common.{◌≡◌, ℕ, ◌≤◌, List, [], ◌∷◌, ◌++◌, Bool, true, false, cond, map, filter, fold, max, append-nil, ap, ◌∙◌, inl, inr, arith}
+use Rattle.std.proofs.Common.{◌≡◌, ℕ, ◌≤◌, List, [], ◌∷◌, ◌++◌, Bool, true, false, cond, map, filter, fold, max, append-nil, ap, ◌∙◌, arith}
 use Rattle.std.specs.List.{Contains}
 use Rattle.std.proofs.lemmas.List.{map-append}
 use Rattle.std.proofs.lemmas.List.Elements.{filter-append}
@@ -21,26 +21,17 @@ passing-among test a b among info in' =
 
 greatest-start : (f : Info → ℕ) (start : ℕ) (infos : List Info) → start ≤ fold max start (map f infos)
 greatest-start f start [] = omega arith
-greatest-start f start (x ∷ infos) =
-    let rest : max start (f x) ≤ fold max (max start (f x)) (map f infos) = greatest-start f (max start (f x)) infos in
-    omega (arith, rest)
+greatest-start f start (x ∷ infos) = omega (arith, greatest-start f (max start (f x)) infos)
 
 greatest-above : (f : Info → ℕ) (start : ℕ) (infos : List Info) (info : Info) → Contains infos info → f info ≤ fold max start (map f infos)
 greatest-above f start [] info in' = absurd (Contains-nil info in')
 greatest-above f start (x ∷ infos) info in' =
-    elim (Contains-cases x infos info in') [
-      | inl here ↦
-          let first : max start (f x) ≤ fold max (max start (f x)) (map f infos) = greatest-start f (max start (f x)) infos in
-          let same : f x ≡ f info = ap f here in
-          omega (arith, first, same)
-      | inr later ↦ greatest-above f (max start (f x)) infos info later
-    ]
+    grind (arith, Contains-cases x infos info in', greatest-start f (max start (f x)) infos, greatest-above f (max start (f x)) infos info)
 
 greatest-below : (f : Info → ℕ) (start limit : ℕ) (infos : List Info) → start ≤ limit → ((info : Info) → Contains infos info → f info ≤ limit) → fold max start (map f infos) ≤ limit
 greatest-below f start limit [] low all = low
 greatest-below f start limit (x ∷ infos) low all =
-    let first : f x ≤ limit = all x (Contains-here x infos) in
-    greatest-below f (max start (f x)) limit infos (omega (arith, first)) (λ info in'. all info (Contains-later x infos info in'))
+    greatest-below f (max start (f x)) limit infos (omega (arith, all x (Contains-here x infos))) (λ info in'. all info (Contains-later x infos info in'))
 
 -- more infos, no lesser a greatest
 greatest-among : (f : Info → ℕ) (a b : List Info) → AllAmong a b → fold max 0 (map f a) ≤ fold max 0 (map f b)

@@ -10,6 +10,7 @@ ghost use Rattle.pgp_info.specs.Lead.{best_beside};
 ghost use Rattle.pgp_info.specs.Examples.{in_slot, at, copy_up_to, fresh, device_0};
 
 /// Both preferences are strict total orders over infos of distinct members, whoever leads.
+#[tactic(auto, using(crate::specs::PreferenceLaws::newest_is_preference, crate::specs::PreferenceLaws::oldest_is_preference))]
 pub fn preferences_are_strict_total_orders()
     ensures newest { (primary : Option Member) → IsPreference (newest_first primary) }
     ensures oldest { (primary : Option Member) → IsPreference (oldest_first primary) }
@@ -35,6 +36,7 @@ pub fn order_of_infos_is_free()
 {}
 
 /// The best info stays the best one while other members are dropped.
+#[tactic(auto, using(crate::proofs::LeadLemmas::best_without))]
 pub fn best_stays_while_others_go()
     ensures { (better : Info → Info → Bool) (infos : List Info) (best : Info) (member : Member)
         → IsPreference better → HasDistinctMembers infos
@@ -44,6 +46,7 @@ pub fn best_stays_while_others_go()
 
 /// One info more is compared with the best one alone; and where it tells of a later start than all others, only its own
 /// copy may be gone by.
+#[tactic(auto, using(crate::proofs::LeadLemmas::beside_laws))]
 pub fn best_beside_one_more()
     ensures known { (better : Info → Info → Bool) (infos : List Info) (info : Info)
         → IsPreference better → HasDistinctMembers (infos ++ info ∷ [])
@@ -56,6 +59,7 @@ pub fn best_beside_one_more()
 {}
 
 /// Infos of distinct members stay so, whichever info is put and whoever is dropped.
+#[tactic(auto, using(crate::proofs::BestLemmas::distinct_laws))]
 pub fn members_stay_distinct()
     ensures nobody { HasDistinctMembers [] }
     ensures put { (info : Info) (infos : List Info)

@@ -30,6 +30,7 @@ impl Lead {
     }
 
     /// That of these infos.
+    #[tactic(auto, using(crate::proofs::LeadLemmas::among_laws))]
     fn among<P: Prefer>(prefer: &P, infos: &[Info]) -> Self
         ensures { HasDistinctMembers infos.now → IsLead (P.better prefer.now) infos.now result }
     {

@@ -1,10 +1,9 @@
-use Rattle.std.proofs.Common.{rules, ◌≡◌, List, not, ◌∙◌, subst}
+use Rattle.std.proofs.Common.{arith, rules, ◌≡◌, List, not, ◌∙◌, subst}
 use Rattle.std.proofs.lemmas.Fn.{filter_same}
 use Rattle.pgp_ids.specs.Member.{is_same_member}
 use Rattle.pgp_ids.specs.declared.report.Info.{Info}
 use Rattle.pgp_info.specs.Heard.{without}
 use Rattle.pgp_info.specs.Lead.{AreLed}
-use Rattle.pgp_info.proofs.BestLemmas.{put_in}
 use Rattle.pgp_info.proofs.LeadLemmas.{led_left}
 use Rattle.pgp_info.proofs.best.Best.drop_member.Goals as goal
 
@@ -18,4 +17,4 @@ invariant_of-self g c =
 pub returns : goal.returns
 returns g c =
     let kept : c.retain.new.self.items ≡ without c.args.member.now c.self.inside.infos.items = filter_same _ (λ info. not (is_same_member info.member c.args.member.now)) _ (λ x b f' k. search rules) _ _ c.retain.ensures.filtered in
-    put_in c.args.self.now c.self.inside.prefer c.self.inside.infos.items c.retain.new.self.items (without c.args.member.now) c.self.view_is kept
+    grind (arith, kept)
