@@ -1,5 +1,5 @@
 -- The least of an object's keys that pass a test, as a walk over the members in the line's order finds it.
-use Rattle.std.proofs.Common.{◌≡◌, ℕ, List, [], ◌∷◌, map, Bool, true, false, cond, Option, Some, None, Ordering, Less, Equal, Greater, filter, fold, nat_cmp, is_eq, Bor, refl, sym, ap, ◌∙◌}
+use Rattle.std.proofs.Common.{◌≡◌, ℕ, List, [], ◌∷◌, map, Bool, true, false, cond, Option, Some, None, Ordering, Less, Equal, Greater, filter, fold, nat_cmp, is_eq, Bor, refl, sym, ap, ◌∙◌, arith}
 use Rattle.std.proofs.lemmas.Cmp.{nat_list_cmp_total}
 use Rattle.std.proofs.lemmas.Map.Text.{is_eq-slice_cmp}
 use Rattle.std.proofs.lemmas.Slice.Eq.{bytes_eq-Decides}
@@ -20,49 +20,21 @@ texts keys = map (λ k. k.now) keys
 same_text : (a b : List ℕ) → slice_cmp nat_cmp a b ≡ Equal → a ≡ b
 same_text a b e = (bytes_eq-Decides a b).0 (sym (is_eq-slice_cmp a b) ∙ ap is_eq e)
 
-reversed : (a b : List ℕ) (o : Ordering) → slice_cmp nat_cmp a b ≡ o → slice_cmp nat_cmp b a ≡ ordering_reverse o
-reversed a b o e = nat_list_cmp_total.antisymm b a ∙ ap ordering_reverse e
-
-self_at : (o : Ordering) (a : List ℕ) → match_ordering o a a a ≡ a
-self_at Less a = refl
-self_at Equal a = refl
-self_at Greater a = refl
+reversed : (a b : List ℕ) → slice_cmp nat_cmp b a ≡ ordering_reverse (slice_cmp nat_cmp a b)
+reversed a b = nat_list_cmp_total.antisymm b a
 
 lesser-self : (a : List ℕ) → lesser a a ≡ a
-lesser-self a = self_at (slice_cmp nat_cmp a a) a
-
-swap_at : (o : Ordering) (a b : List ℕ) → slice_cmp nat_cmp a b ≡ o → lesser a b ≡ lesser b a
-swap_at Less a b e = rw (e, reversed a b Less e) refl
-swap_at Equal a b e = rw (e, reversed a b Equal e) (same_text a b e)
-swap_at Greater a b e = rw (e, reversed a b Greater e) refl
+lesser-self a = grind arith
 
 lesser-swap : (a b : List ℕ) → lesser a b ≡ lesser b a
-lesser-swap a b = swap_at _ a b refl
-
-above : (a b c : List ℕ) → slice_cmp nat_cmp a b ≡ Greater → slice_cmp nat_cmp b c ≡ Greater → slice_cmp nat_cmp a c ≡ Greater
-above a b c e f = reversed c a Less (nat_list_cmp_total.trans c b a (reversed b c Greater f) (reversed a b Greater e))
-
-twice_at : (o : Ordering) (a b : List ℕ) → slice_cmp nat_cmp a b ≡ o → lesser a (lesser a b) ≡ lesser a b
-twice_at Less a b e = rw e (lesser-self a)
-twice_at Equal a b e = rw e (lesser-self a)
-twice_at Greater a b e = rw (e, e) refl
+lesser-swap a b = grind (arith, reversed a b, same_text a b)
 
 lesser-twice : (a b : List ℕ) → lesser a (lesser a b) ≡ lesser a b
-lesser-twice a b = twice_at _ a b refl
-
-grouped_at : (o p : Ordering) (a b c : List ℕ) → slice_cmp nat_cmp a b ≡ o → slice_cmp nat_cmp b c ≡ p → lesser (lesser a b) c ≡ lesser a (lesser b c)
-grouped_at Less Less a b c e f = rw (e, f, nat_list_cmp_total.trans a b c e f, e) refl
-grouped_at Less Equal a b c e f = rw (e, f) (ap (lesser a) (sym (same_text b c f)))
-grouped_at Less Greater a b c e f = rw (e, f) refl
-grouped_at Equal p a b c e f =
-    let first : lesser a b ≡ a = rw e refl in
-    ap (λ x. lesser x c) first ∙ sym (lesser-twice a c) ∙ ap (λ x. lesser a (lesser x c)) (same_text a b e)
-grouped_at Greater Less a b c e f = rw (e, f, e) refl
-grouped_at Greater Equal a b c e f = rw (e, f, e) refl
-grouped_at Greater Greater a b c e f = rw (e, f, above a b c e f) refl
+lesser-twice a b = grind arith
 
 lesser-grouped : (a b c : List ℕ) → lesser (lesser a b) c ≡ lesser a (lesser b c)
-lesser-grouped a b c = grouped_at _ _ a b c refl refl
+lesser-grouped a b c =
+    grind (arith, same_text a b, same_text b c, reversed a b, reversed b c, reversed a c, nat_list_cmp_total.trans a b c, nat_list_cmp_total.trans c b a)
 
 -- ---- the least of a list
 
@@ -92,9 +64,8 @@ first false text texts = refl
 
 past-swap : (p q : Bool) (a b : List ℕ) (best : Option (List ℕ)) → past p a (past q b best) ≡ past q b (past p a best)
 past-swap true true a b best = ap Some (picked-swap a b best)
-past-swap true false a b best = refl
-past-swap false true a b best = refl
-past-swap false false a b best = refl
+past-swap false q a b best = refl
+past-swap p false a b best = refl
 
 past-twice : (p : Bool) (a : List ℕ) (best : Option (List ℕ)) → past p a best ≡ past p a (past p a best)
 past-twice true a best = ap Some (picked-twice a best)

@@ -8,7 +8,7 @@ use Rattle.json.specs.Find as json_find
 use Rattle.json.specs.Value.{value_view, items_view as json_items}
 use Rattle.json.specs.declared.value.Value.{Value}
 use Rattle.serde_json.specs.Data.{Num, Data, number, array, object, item, Members, no_members, put}
-use Rattle.serde_json.specs.Find.{get, get_member, as_null, as_number, as_u64, as_i64}
+use Rattle.serde_json.specs.Find.{get, get_member}
 use Rattle.serde_json.specs.Read.{number_of, of_json, of_items, of_members, max_depth, read}
 use Rattle.serde_json.proofs.Views.{get_member-put, get_member-put_other}
 use Rattle.pgp_lines.specs.Tree.{number_data, data_in, items_in, members_in, has_numbers, items_have_numbers, members_have_numbers, view, items_view}
@@ -19,13 +19,9 @@ map_if : {A B : Type 0} (f : A → B) (b : Bool) (x : A) → option_map f (cond 
 map_if f true x = refl
 map_if f false x = refl
 
-then_if : {A B : Type 0} (f : A → Option B) (b : Bool) (x : A) → option_and_then f (cond b (Some x) None) ≡ cond b (f x) None
-then_if f true x = refl
-then_if f false x = refl
-
-both_if : {A : Type 0} (a b : Bool) (x : A) → cond a (cond b (Some x) None) None ≡ cond (a && b) (Some x) None
-both_if true b x = refl
-both_if false b x = refl
+then_if : {A B : Type 0} (f : A → Option B) (a b : Bool) (x : A) (y : B) → f x ≡ cond b (Some y) None → option_and_then f (cond a (Some x) None) ≡ cond (a && b) (Some y) None
+then_if f true b x y is = is
+then_if f false b x y is = refl
 
 number_if : (text : List ℕ) (o : Option Num) → option_map number o ≡ cond (is_some o) (Some (number_data text o)) None
 number_if text None = refl
@@ -38,36 +34,23 @@ mutual
   of_json-by (json.boolean b) = refl
   of_json-by (json.number s) = number_if s (number_of s)
   of_json-by (json.string s) = refl
-  of_json-by (json.array js) = ap (option_map array) (of_items-by js) ∙ map_if array (items_have_numbers js) (items_in js)
-  of_json-by (json.object ms) = ap (option_map object) (of_members-by ms no_members) ∙ map_if object (members_have_numbers ms) (members_in ms no_members)
+  of_json-by (json.array js) = rw (of_items-by js) (map_if array (items_have_numbers js) (items_in js))
+  of_json-by (json.object ms) = rw (of_members-by ms no_members) (map_if object (members_have_numbers ms) (members_in ms no_members))
 
   of_items-by : (js : json.Items) → of_items js ≡ cond (items_have_numbers js) (Some (items_in js)) None
   of_items-by json.no_items = refl
   of_items-by (json.item j js) =
-      ap (option_and_then (λ d. option_map (item d) (of_items js))) (of_json-by j)
-      ∙ then_if (λ d. option_map (item d) (of_items js)) (has_numbers j) (data_in j)
-      ∙ ap (λ o. cond (has_numbers j) (option_map (item (data_in j)) o) None) (of_items-by js)
-      ∙ ap (λ o. cond (has_numbers j) o None) (map_if (item (data_in j)) (items_have_numbers js) (items_in js))
-      ∙ both_if (has_numbers j) (items_have_numbers js) (item (data_in j) (items_in js))
+      let rest : option_map (item (data_in j)) (of_items js) ≡ cond (items_have_numbers js) (Some (item (data_in j) (items_in js))) None =
+      rw (of_items-by js) (map_if (item (data_in j)) (items_have_numbers js) (items_in js)) in
+      rw (of_json-by j) (then_if _ (has_numbers j) (items_have_numbers js) (data_in j) _ rest)
 
   of_members-by : (ms : json.Members) (found : Members) → of_members ms found ≡ cond (members_have_numbers ms) (Some (members_in ms found)) None
   of_members-by json.no_members found = refl
   of_members-by (json.member k j ms) found =
-      ap (option_and_then (λ d. of_members ms (put k d found))) (of_json-by j)
-      ∙ then_if (λ d. of_members ms (put k d found)) (has_numbers j) (data_in j)
-      ∙ ap (λ o. cond (has_numbers j) o None) (of_members-by ms (put k (data_in j) found))
-      ∙ both_if (has_numbers j) (members_have_numbers ms) (members_in ms (put k (data_in j) found))
+      rw (of_json-by j) (then_if _ (has_numbers j) (members_have_numbers ms) (data_in j) _ (of_members-by ms (put k (data_in j) found)))
 
 abbrev whole : Option (json.Json × List Token) → Option Data
 whole o = option_and_then of_json (option_and_then (λ p. json.if_last p.0 p.1) o)
-
--- a text with no value
-pub read-none : (text : List ℕ) → json.value max_depth (tokens text) ≡ None → read text ≡ None
-read-none text e = ap whole e
-
--- a text with something behind its value
-pub read-more : (text : List ℕ) (j : json.Json) (t : Token) (rest : List Token) → json.value max_depth (tokens text) ≡ Some (j, t ∷ rest) → read text ≡ None
-read-more text j t rest e = ap whole e
 
 -- a text that is a value
 pub read-whole : (text : List ℕ) (j : json.Json) → json.value max_depth (tokens text) ≡ Some (j, []) → read text ≡ cond (has_numbers j) (Some (data_in j)) None
@@ -112,12 +95,9 @@ number_has_none q text (Some n) = refl
 
 -- the value at a key
 pub get-in : (q : List ℕ) (j : json.Json) → get q (data_in j) ≡ option_map data_in (json_find.get q j)
-get-in q json.null = refl
-get-in q (json.boolean b) = refl
 get-in q (json.number s) = number_has_none q s (number_of s)
-get-in q (json.string s) = refl
-get-in q (json.array js) = refl
 get-in q (json.object ms) = get_member-in q ms no_members ∙ or_none (option_map data_in (json_find.get_member q ms))
+get-in q j = refl
 
 -- a value that was found, by its data
 pub found-in : {V : Type 0} (o : Option (Bor (Value V))) → option_map (λ v. view v.now) o ≡ option_map data_in (option_map (λ v. value_view v.now) o)
@@ -127,42 +107,3 @@ found-in (Some v) = refl
 pub items_in-view : {V : Type 0} (vs : List (Value V)) → items_in (json_items vs) ≡ items_view vs
 items_in-view [] = refl
 items_in-view (v ∷ vs) = ap (item (view v)) (items_in-view vs)
-
-number_not_null : (text : List ℕ) (o : Option Num) → false ≡ is_some (as_null (number_data text o))
-number_not_null text None = refl
-number_not_null text (Some n) = refl
-
-pub null-in : (j : json.Json) → json_find.is_null j ≡ is_some (as_null (data_in j))
-null-in json.null = refl
-null-in (json.boolean b) = refl
-null-in (json.number s) = number_not_null s (number_of s)
-null-in (json.string s) = refl
-null-in (json.array js) = refl
-null-in (json.object ms) = refl
-
-number_u64 : (text : List ℕ) (o : Option Num) → option_and_then as_u64 o ≡ option_and_then as_u64 (as_number (number_data text o))
-number_u64 text None = refl
-number_u64 text (Some n) = refl
-
-number_i64 : (text : List ℕ) (o : Option Num) → option_and_then as_i64 o ≡ option_and_then as_i64 (as_number (number_data text o))
-number_i64 text None = refl
-number_i64 text (Some n) = refl
-
-abbrev pub number_in : json.Json → Option Num
-number_in j = option_and_then number_of (json_find.as_number j)
-
-pub u64-in : (j : json.Json) → option_and_then as_u64 (number_in j) ≡ option_and_then as_u64 (as_number (data_in j))
-u64-in json.null = refl
-u64-in (json.boolean b) = refl
-u64-in (json.number s) = number_u64 s (number_of s)
-u64-in (json.string s) = refl
-u64-in (json.array js) = refl
-u64-in (json.object ms) = refl
-
-pub i64-in : (j : json.Json) → option_and_then as_i64 (number_in j) ≡ option_and_then as_i64 (as_number (data_in j))
-i64-in json.null = refl
-i64-in (json.boolean b) = refl
-i64-in (json.number s) = number_i64 s (number_of s)
-i64-in (json.string s) = refl
-i64-in (json.array js) = refl
-i64-in (json.object ms) = refl

@@ -1,5 +1,5 @@
 -- The value of a line's bytes.
-use Rattle.std.proofs.Common.{◌≡◌, ◌≢◌, ℕ, ◌<◌, ◌≤◌, List, [], ◌∷◌, length, map, slice_index_or, Bool, true, false, Option, Some, None, refl, ap, sym, ◌∙◌, arith}
+use Rattle.std.proofs.Common.{◌≡◌, ◌≢◌, ℕ, List, [], ◌∷◌, length, map, slice_index_or, Bool, true, false, Option, Some, None, refl, ap, arith}
 use Rattle.std.proofs.lemmas.Bool.Decides.{nat_tests}
 use Rattle.std.proofs.lemmas.List.{length-map}
 use Rattle.std.specs.Prelude.{if◌then◌else◌}
@@ -10,8 +10,8 @@ use Rattle.serde_json.specs.Read.{read}
 use Rattle.serde_json.specs.Find.{as_array}
 use Rattle.serde_json.specs.View.{items_of}
 use Rattle.json.specs.declared.value.Value.{Value}
-use Rattle.pgp_lines.specs.Shapes.{is_between, items_list, items_in, two_of, pair_in, three_of, triple_in, each, list_in, list_of}
-use Rattle.pgp_lines.specs.ReportParts.{log_entry_of, log_entry_in}
+use Rattle.pgp_lines.specs.Shapes.{is_between, items_list, items_in, pair_in, triple_in, each, list_in, list_of}
+use Rattle.pgp_lines.specs.ReportParts.{log_entry_in}
 use Rattle.pgp_lines.specs.Tree.{view, items_view}
 use Rattle.pgp_lines.specs.Command.{data_of}
 
@@ -32,15 +32,6 @@ pub items_list-items_of : (ds : List Data) → items_list (items_of ds) ≡ ds
 items_list-items_of [] = refl
 items_list-items_of (d ∷ ds) = ap (λ xs. d ∷ xs) (items_list-items_of ds)
 
-pub is_between-true : (low high n : ℕ) → low ≤ n → n ≤ high → is_between low high n ≡ true
-is_between-true low high n above below = grind (arith, nat_tests)
-
-pub is_between-above : (low high n : ℕ) → high < n → is_between low high n ≡ false
-is_between-above low high n above = grind (arith, nat_tests)
-
-pub is_between-below : (low high n : ℕ) → n < low → is_between low high n ≡ false
-is_between-below low high n below = grind (arith, nat_tests)
-
 -- a list, by the values of its array
 pub list_in-array : {A V : Type 0} (low high : ℕ) (shape : Data → Option A) (d : Data) (values : List (Value V)) → as_array d ≡ Some (items_view values)
     → list_in low high shape d ≡ (if is_between low high (length values) then each shape (map view values) else None)
@@ -55,69 +46,24 @@ pub list_of-array : {A V : Type 0} (shape : Data → Option A) (d : Data) (value
     → list_of shape d ≡ each shape (map view values)
 list_of-array shape d values e = rw (items_in-array d values e) refl
 
--- what two values are, each of which is known by its place
-pub two_views : {V : Type 0} (values : List (Value V)) (a b : Value V) → length values ≡ 2 → a ≡ slice_index_or values 0 a → b ≡ slice_index_or values 1 b
-    → map view values ≡ view a ∷ view b ∷ []
-two_views [] a b long e f = grind (arith, nat_tests)
-two_views (x ∷ []) a b long e f = grind (arith, nat_tests)
-two_views (x ∷ y ∷ []) a b long e f = rw (e, f) refl
-two_views (x ∷ y ∷ more ∷ rest) a b long e f = grind (arith, nat_tests)
-
-two_of-other : (ds : List Data) → length ds ≢ 2 → two_of ds ≡ None
-two_of-other [] other = refl
-two_of-other (a ∷ []) other = refl
-two_of-other (a ∷ b ∷ []) other = absurd (other refl)
-two_of-other (a ∷ b ∷ c ∷ ds) other = refl
-
 -- an array of another length is no pair
 pub pair_in-other : {V : Type 0} (d : Data) (values : List (Value V)) → as_array d ≡ Some (items_view values) → length values ≢ 2 → pair_in d ≡ None
-pair_in-other d values e other =
-    let same : length (map view values) ≡ length values = rw length-map in
-    rw (items_in-array d values e) (two_of-other (map view values) (λ two. other (sym same ∙ two)))
-
--- what three values are, each of which is known by its place
-pub three_views : {V : Type 0} (values : List (Value V)) (a b c : Value V) → length values ≡ 3 → a ≡ slice_index_or values 0 a → b ≡ slice_index_or values 1 b → c ≡ slice_index_or values 2 c
-    → map view values ≡ view a ∷ view b ∷ view c ∷ []
-three_views [] a b c long e f g = grind (arith, nat_tests)
-three_views (x ∷ []) a b c long e f g = grind (arith, nat_tests)
-three_views (x ∷ y ∷ []) a b c long e f g = grind (arith, nat_tests)
-three_views (x ∷ y ∷ z ∷ []) a b c long e f g = rw (e, f, g) refl
-three_views (x ∷ y ∷ z ∷ more ∷ rest) a b c long e f g = grind (arith, nat_tests)
-
-three_of-other : (ds : List Data) → length ds ≢ 3 → three_of ds ≡ None
-three_of-other [] other = refl
-three_of-other (a ∷ []) other = refl
-three_of-other (a ∷ b ∷ []) other = refl
-three_of-other (a ∷ b ∷ c ∷ []) other = absurd (other refl)
-three_of-other (a ∷ b ∷ c ∷ d ∷ ds) other = refl
+pair_in-other d (x ∷ y ∷ []) e other = absurd (other refl)
+pair_in-other d values e other = rw (items_in-array d values e)
 
 -- an array of another length is no triple
 pub triple_in-other : {V : Type 0} (d : Data) (values : List (Value V)) → as_array d ≡ Some (items_view values) → length values ≢ 3 → triple_in d ≡ None
-triple_in-other d values e other =
-    let same : length (map view values) ≡ length values = rw length-map in
-    rw (items_in-array d values e) (three_of-other (map view values) (λ three. other (sym same ∙ three)))
-
-log_entry_of-other : (ds : List Data) → length ds ≢ 4 → log_entry_of ds ≡ None
-log_entry_of-other [] other = refl
-log_entry_of-other (a ∷ []) other = refl
-log_entry_of-other (a ∷ b ∷ []) other = refl
-log_entry_of-other (a ∷ b ∷ c ∷ []) other = refl
-log_entry_of-other (a ∷ b ∷ c ∷ d ∷ []) other = absurd (other refl)
-log_entry_of-other (a ∷ b ∷ c ∷ d ∷ e ∷ ds) other = refl
+triple_in-other d (x ∷ y ∷ z ∷ []) e other = absurd (other refl)
+triple_in-other d values e other = rw (items_in-array d values e)
 
 -- what four values are, each of which is known by its place
 pub four_views : {V : Type 0} (values : List (Value V)) (epoch v change name : Value V) → length values ≡ 4
     → epoch ≡ slice_index_or values 0 epoch → v ≡ slice_index_or values 1 v → change ≡ slice_index_or values 2 change → name ≡ slice_index_or values 3 name
     → map view values ≡ view epoch ∷ view v ∷ view change ∷ view name ∷ []
-four_views [] epoch v change name long e f g h = grind (arith, nat_tests)
-four_views (a ∷ []) epoch v change name long e f g h = grind (arith, nat_tests)
-four_views (a ∷ b ∷ []) epoch v change name long e f g h = grind (arith, nat_tests)
-four_views (a ∷ b ∷ c ∷ []) epoch v change name long e f g h = grind (arith, nat_tests)
 four_views (a ∷ b ∷ c ∷ d ∷ []) epoch v change name long e f g h = rw (e, f, g, h) refl
-four_views (a ∷ b ∷ c ∷ d ∷ x ∷ xs) epoch v change name long e f g h = grind (arith, nat_tests)
+four_views values epoch v change name long e f g h = grind (arith, nat_tests)
 
 -- an array of another length is no log entry
 pub log_entry_in-other : {V : Type 0} (d : Data) (values : List (Value V)) → as_array d ≡ Some (items_view values) → length values ≢ 4 → log_entry_in d ≡ None
-log_entry_in-other d values e other =
-    let same : length (map view values) ≡ length values = rw length-map in
-    rw (items_in-array d values e) (log_entry_of-other (map view values) (λ four. other (sym same ∙ four)))
+log_entry_in-other d (epoch ∷ v ∷ change ∷ name ∷ []) e other = absurd (other refl)
+log_entry_in-other d values e other = rw (items_in-array d values e)

@@ -1,6 +1,5 @@
 -- A walk over values that stops at the first that lacks its shape.
-use Rattle.std.proofs.Common.{◌≡◌, ℕ, suc, ◌+◌, ◌<◌, ◌≤◌, List, [], ◌∷◌, ◌++◌, length, drop, map, slice_index_or, Option, Some, None, option_map, option_and_then, refl, ap, sym, ◌∙◌, add-one, append_assoc, drop-cons}
-use Rattle.std.proofs.lemmas.List.{append-nil, drop_all}
+use Rattle.std.proofs.Common.{◌≡◌, ℕ, suc, ◌+◌, ◌<◌, List, [], ◌∷◌, ◌++◌, length, drop, map, slice_index_or, Option, Some, None, option_map, option_and_then, refl, ap, sym, ◌∙◌, add-one, append_assoc, drop-cons}
 use Rattle.serde_json.specs.Data.{Data}
 use Rattle.pgp_lines.specs.Tree.{view}
 use Rattle.json.specs.declared.value.Value.{Value}
@@ -27,17 +26,3 @@ walk_on shape values i found v x walk inside is has =
     let here = ap (λ vs. option_map (λ rest. found ++ rest) (each shape (map view vs))) (from_value values i v inside is) in
     let shaped = ap (λ o. option_map (λ rest. found ++ rest) (option_and_then (λ y. option_map (λ xs. y ∷ xs) (each shape (map view (drop (i + 1) values)))) o)) has in
     walk ∙ here ∙ shaped ∙ joined found x (each shape (map view (drop (i + 1) values)))
-
--- the walk stops at a value that lacks its shape
-pub walk_stops : {A V : Type 0} (shape : Data → Option A) (values : List (Value V)) (i : ℕ) (found : List A) (v : Value V) → IsWalk shape values i found
-    → i < length values → v ≡ slice_index_or values i v → shape (view v) ≡ None → each shape (map view values) ≡ None
-walk_stops shape values i found v walk inside is lacks =
-    let here = ap (λ vs. option_map (λ rest. found ++ rest) (each shape (map view vs))) (from_value values i v inside is) in
-    let shaped = ap (λ o. option_map (λ rest. found ++ rest) (option_and_then (λ y. option_map (λ xs. y ∷ xs) (each shape (map view (drop (i + 1) values)))) o)) lacks in
-    walk ∙ here ∙ shaped
-
--- the walk went over all values
-pub walk_ends : {A V : Type 0} (shape : Data → Option A) (values : List (Value V)) (i : ℕ) (found : List A) → IsWalk shape values i found → length values ≤ i
-    → each shape (map view values) ≡ Some found
-walk_ends shape values i found walk past =
-    walk ∙ ap (λ vs. option_map (λ rest. found ++ rest) (each shape (map view vs))) (drop_all i values past) ∙ ap Some (append-nil found)

@@ -19,3 +19,5 @@ members-match_ordering Greater a b c = refl
 pub members-insert_entry : (es : List Entry) (k : String Global) (v : Version) → versions_members (insert_entry string_cmp es k v) ≡ put (string_bytes k) (version_data v) (versions_members es)
 members-insert_entry [] k v = refl
 members-insert_entry (e ∷ es) k v = members-match_ordering (string_cmp k e.0) _ _ _ ∙ rw (members-insert_entry es k v)
+
+pub ruleset version_steps = (members-insert_entry)

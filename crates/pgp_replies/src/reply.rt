@@ -76,6 +76,7 @@ impl ReplyWriter {
 
     /// Puts the text of a reply, as [`write_reply`] writes it, behind what `text` has. Where memory is wanting, `text`
     /// stays as it was.
+    #[tactic(auto, using(crate::proofs::Tokens::text_steps))]
     pub fn put(
         &mut self,
         alloc: Global,
@@ -145,6 +146,7 @@ impl Json for Reply {
     }
 }
 
+#[tactic(auto, using(crate::proofs::Tokens::token_steps))]
 fn write_accepted(
     alloc: Global,
     out: &mut Writer,
@@ -163,6 +165,7 @@ fn write_accepted(
     out.end_object()
 }
 
+#[tactic(auto, using(crate::proofs::Tokens::token_steps))]
 fn write_located(
     alloc: Global,
     out: &mut Writer,
@@ -182,6 +185,7 @@ fn write_located(
 }
 
 /// The group, and the epoch of the map that says where it lies.
+#[tactic(auto, using(crate::proofs::Tokens::token_steps))]
 fn write_place(alloc: Global, out: &mut Writer, pg: PgId, epoch: Epoch) -> Result<(), AllocError>
     ensures ok { OnOk result
         (out.new.tokens ≡ out.old.tokens ++ fields_tokens (place_fields pg epoch)) }

@@ -11,6 +11,7 @@ use pgp_ids::{Epoch, PgId, View};
 use std::alloc::{AllocError, Global};
 
 /// The view, with this count and this epoch.
+#[tactic(auto, using(crate::proofs::Tokens::token_steps))]
 pub(super) fn write_asked(
     alloc: Global,
     out: &mut Writer,
@@ -62,6 +63,7 @@ fn write_history(
 }
 
 /// What the peers lack, and who has to be heard.
+#[tactic(auto, using(crate::proofs::Tokens::token_steps))]
 fn write_peers(alloc: Global, out: &mut Writer, pg: PgId, known: &View) -> Result<(), AllocError>
     ensures ok { OnOk result
         (out.new.tokens ≡ out.old.tokens ++ fields_tokens (peer_fields pg known.now)) }

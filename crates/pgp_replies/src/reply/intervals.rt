@@ -13,6 +13,7 @@ use std::alloc::{AllocError, Global};
 impl Json for Past {
     ghost value = { interval_data };
 
+    #[tactic(auto, using(crate::proofs::Tokens::token_steps))]
     fn write(&self, alloc: Global, out: &mut Writer) -> Result<(), AllocError> {
         let members = &self.members;
         out.begin_object()?;

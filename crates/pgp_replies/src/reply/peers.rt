@@ -45,6 +45,7 @@ fn write_state(
 }
 
 /// The state of a peer that lacks just these objects.
+#[tactic(auto, using(crate::proofs::Tokens::token_steps))]
 fn write_missing(
     alloc: Global,
     out: &mut Writer,
@@ -90,6 +91,7 @@ fn versions_of(
 }
 
 /// Puts an object's version under its name, in place of any that stands there.
+#[tactic(auto, using(crate::proofs::Versions::version_steps))]
 fn insert_version(
     alloc: Global,
     versions: &mut BTreeMap<String, Version>,
@@ -107,6 +109,7 @@ fn insert_version(
 impl Json for BTreeMap<String, Version> {
     ghost value = { λ versions. object (versions_members versions.entries) };
 
+    #[tactic(auto, using(crate::proofs::Tokens::field_of_members))]
     fn write(&self, alloc: Global, out: &mut Writer) -> Result<(), AllocError> {
         out.begin_object()?;
         for (name, version) in self.iter() {

@@ -96,6 +96,7 @@ fn fault_key(fault: &TextFault) -> Option<&str>
 impl Json for Refused {
     ghost value = { refused_data };
 
+    #[tactic(auto, using(crate::proofs::Tokens::token_steps))]
     fn write(&self, alloc: Global, out: &mut Writer) -> Result<(), AllocError> {
         out.begin_object()?;
         write_code(alloc, out, self)?;

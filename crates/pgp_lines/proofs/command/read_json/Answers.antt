@@ -11,11 +11,5 @@ returns-in-Ok-clause-ok c =
     let same : data_of c.args.line.now ≡ read c.in-Ok.text.now = data_of-text c.args.line.now text.1 ∙ ap read (sym text.0) in
     IfOk-weaker c.read_text.result _ _ (λ v is. same ∙ is) c.read_text.ensures.ok
 
-pub returns-in-Ok-clause-err : goal.returns-in-Ok-clause-err
-returns-in-Ok-clause-err c =
-    let text = c.in-Ok.ensures.cases in
-    let same : data_of c.args.line.now ≡ read c.in-Ok.text.now = data_of-text c.args.line.now text.1 ∙ ap read (sym text.0) in
-    rw same c.read_text.ensures.err
-
 pub returns-in-Err-clause-err : goal.returns-in-Err-clause-err
 returns-in-Err-clause-err c = (data_of-refused c.args.line.now (λ text. absurd (c.in-Err.ensures.cases.0 text)), refl)

@@ -1,6 +1,6 @@
-use Rattle.std.proofs.Common.{◌≡◌, [], true, false, Some, None, cond, refl, ap, ◌∙◌, rules, tests}
+use Rattle.std.proofs.Common.{◌≡◌, [], true, false, refl, rules, tests}
 use Rattle.json.specs.Value.{value_view}
-use Rattle.pgp_lines.specs.Tree.{data_in, has_numbers}
+use Rattle.pgp_lines.specs.Tree.{has_numbers}
 use Rattle.pgp_lines.proofs.TreeLemmas.{read-whole}
 use Rattle.pgp_lines.proofs.command.read_text.Goals as goal
 
@@ -9,10 +9,8 @@ returns-then-not-has_numbers-clause-err c =
     let j = value_view c.in_ok-value.value in
     let none : c.read_value.new.reader ≡ [] = search rules in
     let numbers : has_numbers j ≡ false = search (rules, tests) in
-    let whole = read-whole c.args.text.now j (rw (c.in-Ok.ensures.ok, none) at c.in_ok-value.ensures.ok) in (
-      whole ∙ ap (λ b. cond b (Some (data_in j)) None) numbers,
-      refl,
-    )
+    let whole = read-whole c.args.text.now j (rw (c.in-Ok.ensures.ok, none) at c.in_ok-value.ensures.ok) in
+    (rw numbers at whole, refl)
 
 pub returns-clause-ok : goal.returns-clause-ok
 returns-clause-ok c =
@@ -20,4 +18,4 @@ returns-clause-ok c =
     let none : c.read_value.new.reader ≡ [] = search rules in
     let numbers : has_numbers j ≡ true = search (rules, tests) in
     let whole = read-whole c.args.text.now j (rw (c.in-Ok.ensures.ok, none) at c.in_ok-value.ensures.ok) in
-    whole ∙ ap (λ b. cond b (Some (data_in j)) None) numbers
+    rw numbers at whole
