@@ -86,7 +86,7 @@ impl LineBuffer {
     {
         self.started = self.started || !piece.is_empty();
         self.blank = self.blank && all_blank(piece);
-        if self.fate == Fate::Kept && !piece.is_empty() {
+        if self.fate == Fate::Kept {
             self.fate = if piece.len() > LONGEST_LINE
                 || self.bytes.len() > LONGEST_LINE - piece.len()
             {

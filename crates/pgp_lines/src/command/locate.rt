@@ -29,11 +29,7 @@ impl Shape for ObjectName {
         let Some(name) = as_str(value) else {
             return Ok(None);
         };
-        if name.is_empty() || name.len() > ObjectName::MAX_LEN {
-            return Ok(None);
-        }
-        let text = String::from_str(alloc, name)?;
-        Ok(ObjectName::new(text))
+        ObjectName::copy_of(alloc, name)
     }
 }
 

@@ -1,4 +1,4 @@
-use Rattle.std.proofs.Common.{ap, ◌∙◌, w32, refl, nat_eq, arith}
+use Rattle.std.proofs.Common.{ap, ◌∙◌, w32, nat_eq, arith}
 use Rattle.std.proofs.lemmas.Nat.Bits.{bit_at_set_same, bit_at_set_other}
 use Rattle.pgp_ids.specs.SlotSet.{with_slot}
 use Rattle.pgp_ids.specs.SlotBits.{is_set, slots_of}
