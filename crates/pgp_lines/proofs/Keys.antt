@@ -1,15 +1,15 @@
 -- The least of an object's keys that pass a test, as a walk over the members in the line's order finds it.
-use Rattle.std.proofs.Common.{◌≡◌, ℕ, List, [], ◌∷◌, map, Bool, true, false, cond, Option, Some, None, Ordering, Less, Equal, Greater, filter, fold, nat_cmp, is_eq, Bor, refl, sym, ap, ◌∙◌, arith}
+use Rattle.std.proofs.Common.{◌≡◌, ℕ, List, [], ◌∷◌, map, Bool, true, false, cond, Option, Some, None, Ordering, Less, Equal, Greater, filter, fold, nat_cmp, is_eq, not, Bor, refl, sym, ap, ◌∙◌, arith}
 use Rattle.std.proofs.lemmas.Cmp.{nat_list_cmp_total}
 use Rattle.std.proofs.lemmas.Map.Text.{is_eq-slice_cmp}
 use Rattle.std.proofs.lemmas.Slice.Eq.{bytes_eq-Decides}
 use Rattle.std.specs.Cmp.Lexicographic.{slice_cmp}
 use Rattle.std.specs.Ordering.{match_ordering, ordering_reverse}
-use Rattle.json.specs.Value.{members_view as json_members}
-use Rattle.json.specs.declared.value.Value.{Value}
+use Rattle.json.specs.Json as json
+use Rattle.json.specs.Token.{Token}
 use Rattle.serde_json.specs.Data.{Data, Members, no_members, member, put}
-use Rattle.pgp_lines.specs.Shapes.{lesser, least, keys_of}
-use Rattle.pgp_lines.specs.Tree.{members_in, view, picked, least_past}
+use Rattle.pgp_lines.specs.Shapes.{lesser, least, keys_of, is_key, unknown_key_in}
+use Rattle.pgp_lines.specs.Tree.{data_in, members_in, json_of, view, picked}
 
 -- the keys, as contracts see the code's list of them
 abbrev pub texts : List (Bor (List ℕ)) → List (List ℕ)
@@ -91,10 +91,20 @@ module _ (test : List ℕ → Bool) where
   least-put k d no_members = first (test k) k []
   least-put k d (member l e ms) = least-put_at _ k l d e ms refl (least-put k d ms)
 
+  -- the least of those that pass, and of the least so far
+  abbrev least_past : Option (List ℕ) → json.Members → Option (List ℕ)
+  least_past best json.no_members = best
+  least_past best (json.member key j ms) = least_past (past (test key) key best) ms
+
   -- the least key is that which a walk over the members finds
-  pub least-members : {V : Type 0} (ms : List (Bor (List ℕ) × Value V)) (found : Members)
-      → least (filter test (keys_of (members_in (json_members ms) found))) ≡ least_past test (least (filter test (keys_of found))) (map (λ m. m.0.now) ms)
-  least-members [] found = refl
-  least-members (m ∷ ms) found =
-      least-members ms (put m.0.now (view m.1) found)
-      ∙ ap (λ best. least_past test best (map (λ m. m.0.now) ms)) (least-put m.0.now (view m.1) found)
+  least-members : (ms : json.Members) (found : Members) → least_in (members_in ms found) ≡ least_past (least_in found) ms
+  least-members json.no_members found = refl
+  least-members (json.member key j ms) found =
+      least-members ms (put key (data_in j) found) ∙ ap (λ best. least_past best ms) (least-put key (data_in j) found)
+
+-- the least of the keys that are none of these, and of the least so far
+abbrev pub least_unknown : List (List ℕ) → Option (List ℕ) → json.Members → Option (List ℕ)
+least_unknown keys best ms = least_past (λ key. not (is_key keys key)) best ms
+
+pub unknown-object : (keys : List (List ℕ)) (ts : List Token) (ms : json.Members) → json_of ts ≡ json.object ms → unknown_key_in keys (view ts) ≡ least_unknown keys None ms
+unknown-object keys ts ms is = rw is (least-members (λ key. not (is_key keys key)) ms no_members)

@@ -1,5 +1,6 @@
 pub mod NumberLemmas
 pub mod TreeLemmas
+pub mod Tapes
 pub mod Values
 pub mod Walks
 pub mod Keys

@@ -1,17 +1,15 @@
 -- The data of a line's JSON value: how it is read, and what is found in it.
-use Rattle.std.proofs.Common.{◌≡◌, ℕ, List, [], ◌∷◌, Bool, true, false, ◌&&◌, cond, Option, Some, None, option_map, option_and_then, is_some, bytes_eq, true≢false, Bor, refl, sym, ap, ◌∙◌}
+use Rattle.std.proofs.Common.{◌≡◌, ℕ, List, [], Bool, true, false, ◌&&◌, cond, Option, Some, None, option_map, option_and_then, is_some, bytes_eq, true≢false, refl, sym, ap, ◌∙◌}
 use Rattle.std.proofs.lemmas.Slice.Eq.{bytes_eq-Decides}
 use Rattle.json.specs.Token.{Token}
 use Rattle.json.specs.Lex.{tokens}
 use Rattle.json.specs.Json as json
 use Rattle.json.specs.Find as json_find
-use Rattle.json.specs.Value.{value_view, items_view as json_items}
-use Rattle.json.specs.declared.value.Value.{Value}
 use Rattle.serde_json.specs.Data.{Num, Data, number, array, object, item, Members, no_members, put}
 use Rattle.serde_json.specs.Find.{get, get_member}
 use Rattle.serde_json.specs.Read.{number_of, of_json, of_items, of_members, max_depth, read}
 use Rattle.serde_json.proofs.Views.{get_member-put, get_member-put_other}
-use Rattle.pgp_lines.specs.Tree.{number_data, data_in, items_in, members_in, has_numbers, items_have_numbers, members_have_numbers, view, items_view}
+use Rattle.pgp_lines.specs.Tree.{number_data, data_in, items_in, members_in, has_numbers, items_have_numbers, members_have_numbers}
 
 -- ---- how it is read
 
@@ -30,12 +28,10 @@ number_if text (Some n) = refl
 -- a value has data where each of its numbers is in range
 mutual
   pub of_json-by : (j : json.Json) → of_json j ≡ cond (has_numbers j) (Some (data_in j)) None
-  of_json-by json.null = refl
-  of_json-by (json.boolean b) = refl
   of_json-by (json.number s) = number_if s (number_of s)
-  of_json-by (json.string s) = refl
   of_json-by (json.array js) = rw (of_items-by js) (map_if array (items_have_numbers js) (items_in js))
   of_json-by (json.object ms) = rw (of_members-by ms no_members) (map_if object (members_have_numbers ms) (members_in ms no_members))
+  of_json-by j = refl
 
   of_items-by : (js : json.Items) → of_items js ≡ cond (items_have_numbers js) (Some (items_in js)) None
   of_items-by json.no_items = refl
@@ -49,7 +45,7 @@ mutual
   of_members-by (json.member k j ms) found =
       rw (of_json-by j) (then_if _ (has_numbers j) (members_have_numbers ms) (data_in j) _ (of_members-by ms (put k (data_in j) found)))
 
-abbrev whole : Option (json.Json × List Token) → Option Data
+abbrev pub whole : Option (json.Json × List Token) → Option Data
 whole o = option_and_then of_json (option_and_then (λ p. json.if_last p.0 p.1) o)
 
 -- a text that is a value
@@ -98,12 +94,3 @@ pub get-in : (q : List ℕ) (j : json.Json) → get q (data_in j) ≡ option_map
 get-in q (json.number s) = number_has_none q s (number_of s)
 get-in q (json.object ms) = get_member-in q ms no_members ∙ or_none (option_map data_in (json_find.get_member q ms))
 get-in q j = refl
-
--- a value that was found, by its data
-pub found-in : {V : Type 0} (o : Option (Bor (Value V))) → option_map (λ v. view v.now) o ≡ option_map data_in (option_map (λ v. value_view v.now) o)
-found-in None = refl
-found-in (Some v) = refl
-
-pub items_in-view : {V : Type 0} (vs : List (Value V)) → items_in (json_items vs) ≡ items_view vs
-items_in-view [] = refl
-items_in-view (v ∷ vs) = ap (item (view v)) (items_in-view vs)

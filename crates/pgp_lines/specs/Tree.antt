@@ -1,14 +1,12 @@
 -- The JSON value of a line whose texts lie in the line, as the data that `serde_json` would own.
-use Rattle.std.specs.Prelude.{ℕ, List, [], ◌∷◌, ◌&&◌, Bool, true, false, cond, Option, Some, None, is_some, map}
+use Rattle.std.specs.Prelude.{ℕ, suc, ◌-◌, List, [], ◌∷◌, length, ◌&&◌, Bool, true, false, nat_lt, Option, Some, None, is_some}
 use Rattle.std.specs.Float.{binary64}
 use Rattle.fast_float.specs.Text.{scan, nearest}
 use Rattle.json.specs.Json as json
-use Rattle.json.specs.Value.{value_view}
-use Rattle.json.specs.declared.value.Value.{Value}
+use Rattle.json.specs.Token.{Token}
 use Rattle.serde_json.specs.Data.{Num, unsigned, negative, float, Data, null, boolean, number, string, array, object, Items, no_items, item, Members, no_members, put}
 use Rattle.serde_json.specs.Read.{number_of}
-use Rattle.serde_json.specs.View.{items_of}
-use Rattle.pgp_lines.specs.Shapes.{lesser}
+use Rattle.pgp_lines.specs.Shapes.{lesser, items_in as items_of}
 use Rattle.pgp_lines.specs.declared.command.number.Number.{Number}
 use Rattle.pgp_lines.specs.declared.command.number.Number.TheVariants.{Whole, Negative, Real}
 
@@ -58,18 +56,41 @@ abbrev mutual
   members_have_numbers json.no_members = true
   members_have_numbers (json.member k j ms) = has_numbers j && members_have_numbers ms
 
-abbrev pub view : {A : Type 0} → Value A → Data
-view v = data_in (value_view v)
+abbrev value_or_null : Option (json.Json × List Token) → json.Json
+value_or_null None = json.null
+value_or_null (Some p) = p.0
 
-abbrev pub items_view : {A : Type 0} → List (Value A) → Items
-items_view vs = items_of (map view vs)
+-- the value that the tokens begin with, which nests no deeper than it has tokens
+unfoldable pub json_of : List Token → json.Json
+json_of ts = value_or_null (json.value (length ts) ts)
+
+-- the data of the value that the tokens begin with
+abbrev pub view : List Token → Data
+view ts = data_in (json_of ts)
+
+abbrev list_or_none : Option (List Data) → List Data
+list_or_none None = []
+list_or_none (Some ds) = ds
+
+-- the items that an array goes on with
+unfoldable pub items_left : List Token → List Data
+items_left ts = list_or_none (items_of (view (Token.begin_array ∷ ts)))
+
+-- Each number is in range, and no value nests more than 127 deep, where the tokens stand at this depth.
+abbrev pub in_range_from : ℕ → List Token → Bool
+in_range_from depth [] = true
+in_range_from depth (Token.begin_object ∷ ts) = nat_lt depth 127 && in_range_from (suc depth) ts
+in_range_from depth (Token.end_object ∷ ts) = in_range_from (depth - 1) ts
+in_range_from depth (Token.begin_array ∷ ts) = nat_lt depth 127 && in_range_from (suc depth) ts
+in_range_from depth (Token.end_array ∷ ts) = in_range_from (depth - 1) ts
+in_range_from depth (Token.key s ∷ ts) = in_range_from depth ts
+in_range_from depth (Token.string s ∷ ts) = in_range_from depth ts
+in_range_from depth (Token.number s ∷ ts) = is_some (number_of s) && in_range_from depth ts
+in_range_from depth (Token.boolean b ∷ ts) = in_range_from depth ts
+in_range_from depth (Token.null ∷ ts) = in_range_from depth ts
+in_range_from depth (Token.bad ∷ ts) = in_range_from depth ts
 
 -- the lesser of a text and the least so far, if there is one
 abbrev pub picked : List ℕ → Option (List ℕ) → List ℕ
 picked text None = text
 picked text (Some other) = lesser text other
-
--- the least of those that pass the test, and of the least so far
-abbrev pub least_past : (List ℕ → Bool) → Option (List ℕ) → List (List ℕ) → Option (List ℕ)
-least_past test best [] = best
-least_past test best (text ∷ texts) = least_past test (cond (test text) (Some (picked text best)) best) texts

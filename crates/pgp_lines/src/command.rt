@@ -1,9 +1,7 @@
 //! What a line says: the command that it is, or its first fault.
 ghost use Rattle.std.specs.Prelude.{◌≡◌, map, IfOk, IfErr, IfSome};
 ghost use Rattle.pgp_lines.specs.Tree.{view};
-ghost use Rattle.json.specs.Json.{value};
-ghost use Rattle.json.specs.Value.{value_view};
-ghost use Rattle.serde_json.specs.Read.{max_depth, read};
+ghost use Rattle.serde_json.specs.Read.{read};
 ghost use Rattle.pgp_lines.specs.LineFault.{told, not_json};
 ghost use Rattle.pgp_lines.specs.Command.{op_in, op_keys, trace_of, command_with, command_in, data_of, command_of, IsInRange};
 
@@ -30,7 +28,7 @@ use faults::{bad_field_fault, unknown_key_fault};
 use fields::read_required;
 use incremental::read_inc;
 use info::read_info;
-use json::{Error, Reader, Scratch};
+use json::{Error, Scratch, Tape};
 use locate::read_locate;
 use objects::unknown_key;
 use pgp_ids::{Entry, EpochState, ObjectName, PgId, PoolId, PoolKind, Seq, TextFault};
@@ -38,10 +36,7 @@ use simdutf8::compat::from_utf8;
 use std::alloc::Global;
 pub use trace::MAX_EPOCHS;
 use trace::{has_empty_places, read_code, read_epochs};
-use tree::{Value, as_str, get, has_numbers};
-
-/// How deep a line's arrays and objects nest at most.
-const MAX_DEPTH: usize = 127;
+use tree::{Tokens, Value, is_in_range};
 
 /// What a line asks for.
 #[derive(Debug, Drop)]
@@ -91,7 +86,7 @@ pub fn read_line(alloc: Global, line: &[u8]) -> Result<Command, TextFault>
 /// Reads lines one after the other, with room that it keeps from line to line.
 pub struct LineReader {
     room: Scratch,
-    /// Where the value of one line lies; empty between lines.
+    /// Where the tokens of one line lie; empty between lines.
     arena: Bump,
 }
 
@@ -117,13 +112,13 @@ impl LineReader {
         ensures in_range { IfOk result IsInRange }
     {
         let command = read_within(alloc, &self.arena, line, &mut self.room);
-        // Refused only while a block of the arena is out, and the line's value has given back all of its own.
+        // Refused only while a block of the arena is out, and the line's tokens have been given back.
         let _ = self.arena.reset();
         command
     }
 }
 
-/// Reads a line whose value lies in the arena.
+/// Reads a line whose tokens lie in the arena.
 fn read_within<'a>(
     alloc: Global,
     arena: &'a Bump,
@@ -134,17 +129,17 @@ fn read_within<'a>(
     ensures err { IfErr result (λ fault. IfSome (told fault) (λ f. command_of line.now ≡ Err f)) }
     ensures in_range { IfOk result IsInRange }
 {
-    let value = read_json(arena, line, room)?;
-    read_command(alloc, &value)
+    let tokens = read_json(arena, line, room)?;
+    read_command(alloc, &Value::of(&tokens))
 }
 
-/// The value of a JSON text (RFC 8259, nested at most 127 deep), or `NotJson`.
+/// The tokens of a JSON text (RFC 8259, nested at most 127 deep), or `NotJson`.
 fn read_json<'a>(
     arena: &'a Bump,
     line: &'a [u8],
     room: &'a mut Scratch,
-) -> Result<Value<'a>, TextFault>
-    ensures ok { IfOk result (λ v. data_of line.now ≡ Some (view v)) }
+) -> Result<Tokens<'a>, TextFault>
+    ensures ok { IfOk result (λ tokens. data_of line.now ≡ Some (view tokens)) }
     ensures err { IfErr result
         (λ fault. IfSome (told fault) (λ f. (data_of line.now ≡ None) × (f ≡ not_json))) }
 {
@@ -154,44 +149,30 @@ fn read_json<'a>(
     }
 }
 
-/// The value of a text.
+/// The tokens of a text.
 fn read_text<'a>(
     arena: &'a Bump,
     text: &'a str,
     room: &'a mut Scratch,
-) -> Result<Value<'a>, TextFault>
-    ensures ok { IfOk result (λ v. read text.now ≡ Some (view v)) }
+) -> Result<Tokens<'a>, TextFault>
+    ensures ok { IfOk result (λ tokens. read text.now ≡ Some (view tokens)) }
     ensures err { IfErr result
         (λ fault. IfSome (told fault) (λ f. (read text.now ≡ None) × (f ≡ not_json))) }
 {
-    let Ok(mut reader) = Reader::new(text, room) else {
-        return Err(TextFault::Memory);
-    };
-    let value = read_value(arena, &mut reader)?;
-    if reader.next().is_some() {
-        return Err(TextFault::NotJson);
-    }
-    if !has_numbers(&value) {
-        return Err(TextFault::NotJson);
-    }
-    Ok(value)
-}
-
-/// The first value that the reader tells of, its numbers not judged.
-fn read_value<'a>(arena: &'a Bump, reader: &mut Reader<'a>) -> Result<Value<'a>, TextFault>
-    ensures ok { IfOk result (λ v. value max_depth reader.old ≡ Some (value_view v, reader.new)) }
-    ensures err { IfErr result
-        (λ fault. IfSome (told fault) (λ f. (value max_depth reader.old ≡ None) × (f ≡ not_json))) }
-{
-    match json::Value::read(arena, reader, MAX_DEPTH) {
-        Ok(value) => Ok(value),
-        Err(Error::OutOfMemory) => Err(TextFault::Memory),
-        Err(_) => Err(TextFault::NotJson),
+    match Tape::parse(text, room, Vec::new(arena)) {
+        Ok(tokens) => if is_in_range(tokens.nodes()) {
+            Ok(tokens)
+        } else {
+            Err(TextFault::NotJson)
+        },
+        Err(Error::Invalid) => Err(TextFault::NotJson),
+        // That a text is too long for a tape, which begins near 4 GiB, counts as want of memory.
+        Err(_) => Err(TextFault::Memory),
     }
 }
 
 /// The command of an object. The operation is judged first, then the keys, then their values.
-fn read_command(alloc: Global, value: &Value<'_>) -> Result<Command, TextFault>
+fn read_command(alloc: Global, value: &Value<'_, '_>) -> Result<Command, TextFault>
     ensures ok { IfOk result (λ command. command_in (view value.now) ≡ Ok command) }
     ensures err { IfErr result
         (λ fault. IfSome (told fault) (λ f. command_in (view value.now) ≡ Err f)) }
@@ -206,7 +187,7 @@ fn read_command(alloc: Global, value: &Value<'_>) -> Result<Command, TextFault>
 }
 
 /// The command of a line of this operation, past the judgement of its keys.
-fn read_values(alloc: Global, op: Op, value: &Value<'_>) -> Result<Command, TextFault>
+fn read_values(alloc: Global, op: Op, value: &Value<'_, '_>) -> Result<Command, TextFault>
     ensures ok { IfOk result (λ command. command_with op (view value.now) ≡ Ok command) }
     ensures err { IfErr result
         (λ fault. IfSome (told fault) (λ f. command_with op (view value.now) ≡ Err f)) }
@@ -238,10 +219,10 @@ fn read_values(alloc: Global, op: Op, value: &Value<'_>) -> Result<Command, Text
 }
 
 /// The operation that the text at `op` names.
-fn read_op(value: &Value<'_>) -> Option<Op>
+fn read_op(value: &Value<'_, '_>) -> Option<Op>
     ensures { result ≡ op_in (view value.now) }
 {
-    match as_str(get(value, "op")?)? {
+    match value.get("op")?.as_str()? {
         "ask" => Some(Op::Ask),
         "close" => Some(Op::Close),
         "entries" => Some(Op::Entries),
@@ -284,7 +265,7 @@ impl Op {
 }
 
 /// The values of a trace, `code` first: whether a place may be empty depends on it.
-fn read_trace(alloc: Global, value: &Value<'_>) -> Result<Command, TextFault>
+fn read_trace(alloc: Global, value: &Value<'_, '_>) -> Result<Command, TextFault>
     ensures ok { IfOk result (λ command. trace_of (view value.now) ≡ Ok command) }
     ensures err { IfErr result
         (λ fault. IfSome (told fault) (λ f. trace_of (view value.now) ≡ Err f)) }
@@ -292,8 +273,8 @@ fn read_trace(alloc: Global, value: &Value<'_>) -> Result<Command, TextFault>
     let Some(code) = read_code(value) else {
         return Err(bad_field_fault(alloc, "code"));
     };
-    let found = match get(value, "epochs") {
-        Some(epochs) => read_epochs(alloc, epochs, has_empty_places(code))?,
+    let found = match value.get("epochs") {
+        Some(epochs) => read_epochs(alloc, &epochs, has_empty_places(code))?,
         None => None,
     };
     match found {

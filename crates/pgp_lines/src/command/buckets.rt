@@ -9,7 +9,7 @@ ghost use Rattle.pgp_lines.specs.Buckets.{bucket_id_in, bucket_item_in, alg_in, 
 use super::lists::{Shape, read_list_at};
 use super::numbers::{read_byte, read_integer, read_word};
 use super::objects::has_only;
-use super::tree::{Value, as_str, get};
+use super::tree::Value;
 use pgp_ids::{BucketAlg, BucketSpec, Seq};
 use std::alloc::{AllocError, Global};
 
@@ -21,7 +21,7 @@ const GREATEST_ITEM: i64 = 65535;
 impl Shape for BucketSpec {
     ghost shape = { bucket_in };
 
-    fn read(alloc: Global, value: &Value<'_>) -> Result<Option<BucketSpec>, AllocError> {
+    fn read(alloc: Global, value: &Value<'_, '_>) -> Result<Option<BucketSpec>, AllocError> {
         let Some(head) = read_head(value) else {
             return Ok(None);
         };
@@ -39,7 +39,7 @@ impl Shape for BucketSpec {
 impl Shape for i32 {
     ghost shape = { bucket_item_in };
 
-    fn read(_alloc: Global, value: &Value<'_>) -> Result<Option<i32>, AllocError> {
+    fn read(_alloc: Global, value: &Value<'_, '_>) -> Result<Option<i32>, AllocError> {
         match read_integer(value, i64::from(LEAST_ID), GREATEST_ITEM) {
             Some(item) => Ok(Some(item as i32)),
             None => Ok(None),
@@ -51,23 +51,23 @@ impl Shape for i32 {
 impl Shape for u32 {
     ghost shape = { word_in };
 
-    fn read(_alloc: Global, value: &Value<'_>) -> Result<Option<u32>, AllocError> {
+    fn read(_alloc: Global, value: &Value<'_, '_>) -> Result<Option<u32>, AllocError> {
         Ok(read_word(value))
     }
 }
 
 /// The id of a bucket, -65536 to -1.
-fn read_id(value: &Value<'_>) -> Option<i32>
+fn read_id(value: &Value<'_, '_>) -> Option<i32>
     ensures { result ≡ bucket_id_in (view value.now) }
 {
     let id = read_integer(value, i64::from(LEAST_ID), -1)?;
     Some(id as i32)
 }
 
-fn read_alg(value: &Value<'_>) -> Option<BucketAlg>
+fn read_alg(value: &Value<'_, '_>) -> Option<BucketAlg>
     ensures { result ≡ alg_in (view value.now) }
 {
-    match as_str(value)? {
+    match value.as_str()? {
         "uniform" => Some(BucketAlg::Uniform),
         "list" => Some(BucketAlg::List),
         _ => None,
@@ -93,26 +93,26 @@ struct Head {
 }
 
 /// How a bucket chooses: an object with no keys but those of its kind.
-fn alg_of(value: &Value<'_>) -> Option<BucketAlg>
+fn alg_of(value: &Value<'_, '_>) -> Option<BucketAlg>
     ensures { result ≡ alg_of (view value.now) }
 {
-    let alg = read_alg(get(value, "alg")?)?;
+    let alg = read_alg(&value.get("alg")?)?;
     has_only(value, bucket_keys(alg)).then_some(alg)
 }
 
-fn read_head(value: &Value<'_>) -> Option<Head>
+fn read_head(value: &Value<'_, '_>) -> Option<Head>
     ensures { result ≡ head_in (view value.now) }
 {
     let alg = alg_of(value)?;
-    let id = read_id(get(value, "id")?)?;
-    let kind = read_byte(get(value, "type")?)?;
+    let id = read_id(&value.get("id")?)?;
+    let kind = read_byte(&value.get("type")?)?;
     Some(Head { alg, id, kind })
 }
 
 /// The weights of a list bucket; any other has none.
 fn read_weights(
     alloc: Global,
-    value: &Value<'_>,
+    value: &Value<'_, '_>,
     alg: BucketAlg,
 ) -> Result<Option<Seq<u32>>, AllocError>
     ensures { IfOk result (λ found. found ≡ weights_in alg (view value.now)) }

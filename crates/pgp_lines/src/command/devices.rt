@@ -13,7 +13,7 @@ use std::alloc::{AllocError, Global};
 impl Shape for OsdId {
     ghost shape = { osd_in };
 
-    fn read(_alloc: Global, value: &Value<'_>) -> Result<Option<OsdId>, AllocError> {
+    fn read(_alloc: Global, value: &Value<'_, '_>) -> Result<Option<OsdId>, AllocError> {
         Ok(read_osd(value))
     }
 }
@@ -21,7 +21,7 @@ impl Shape for OsdId {
 impl Shape for Option<OsdId> {
     ghost shape = { place_in true };
 
-    fn read(_alloc: Global, value: &Value<'_>) -> Result<Option<Option<OsdId>>, AllocError> {
+    fn read(_alloc: Global, value: &Value<'_, '_>) -> Result<Option<Option<OsdId>>, AllocError> {
         Ok(read_place(value, true))
     }
 }
@@ -29,7 +29,7 @@ impl Shape for Option<OsdId> {
 impl Shape for DeviceWeight {
     ghost shape = { device_weight_in };
 
-    fn read(_alloc: Global, value: &Value<'_>) -> Result<Option<DeviceWeight>, AllocError> {
+    fn read(_alloc: Global, value: &Value<'_, '_>) -> Result<Option<DeviceWeight>, AllocError> {
         Ok(read_device_weight(value))
     }
 }
@@ -37,29 +37,29 @@ impl Shape for DeviceWeight {
 impl Shape for DeviceEpoch {
     ghost shape = { device_epoch_in };
 
-    fn read(_alloc: Global, value: &Value<'_>) -> Result<Option<DeviceEpoch>, AllocError> {
+    fn read(_alloc: Global, value: &Value<'_, '_>) -> Result<Option<DeviceEpoch>, AllocError> {
         Ok(read_device_epoch(value))
     }
 }
 
 /// `[device, weight]`.
-fn read_device_weight(value: &Value<'_>) -> Option<DeviceWeight>
+fn read_device_weight(value: &Value<'_, '_>) -> Option<DeviceWeight>
     ensures { result ≡ device_weight_in (view value.now) }
 {
     let (osd, weight) = read_pair(value)?;
     Some(DeviceWeight {
-        osd: read_osd(osd)?,
-        weight: read_word(weight)?,
+        osd: read_osd(&osd)?,
+        weight: read_word(&weight)?,
     })
 }
 
 /// `[device, epoch]`.
-fn read_device_epoch(value: &Value<'_>) -> Option<DeviceEpoch>
+fn read_device_epoch(value: &Value<'_, '_>) -> Option<DeviceEpoch>
     ensures { result ≡ device_epoch_in (view value.now) }
 {
     let (osd, epoch) = read_pair(value)?;
     Some(DeviceEpoch {
-        osd: read_osd(osd)?,
-        epoch: read_epoch(epoch)?,
+        osd: read_osd(&osd)?,
+        epoch: read_epoch(&epoch)?,
     })
 }

@@ -1,15 +1,15 @@
 //! The line of a part of a member's log.
-ghost use Rattle.std.specs.Prelude.{◌≡◌, [], ◌∷◌, Ok, Err, IfOk, IfErr, IfSome};
+ghost use Rattle.std.specs.Prelude.{◌≡◌, [], ◌∷◌, Some, None, Ok, Err, MatchOption, IfOk, IfErr, IfSome};
 ghost use Rattle.pgp_lines.specs.Tree.{view};
 ghost use Rattle.pgp_lines.specs.LineFault.{told};
-ghost use Rattle.pgp_lines.specs.Shapes.{list_in};
+ghost use Rattle.pgp_lines.specs.Shapes.{items_in, list_in};
 ghost use Rattle.pgp_lines.specs.ReportParts.{change_in, log_entry_of, log_entry_in};
 ghost use Rattle.pgp_lines.specs.Reports.{entries_of};
 
 use super::fields::read_required;
-use super::lists::{Shape, read_each};
+use super::lists::{Shape, read_list_within};
 use super::members::version_of;
-use super::tree::{Value, as_array, as_str};
+use super::tree::Value;
 use pgp_ids::{Change, LogEntry, ObjectName, Report, Seq, TextFault};
 use std::alloc::{AllocError, Global};
 
@@ -20,14 +20,8 @@ const MAX_LOG_ENTRIES: usize = 256;
 impl Shape for Seq<LogEntry> {
     ghost shape = { list_in 1 256 log_entry_in };
 
-    fn read(alloc: Global, value: &Value<'_>) -> Result<Option<Seq<LogEntry>>, AllocError> {
-        let Some(entries) = as_array(value) else {
-            return Ok(None);
-        };
-        if entries.is_empty() || entries.len() > MAX_LOG_ENTRIES {
-            return Ok(None);
-        }
-        read_each(alloc, entries)
+    fn read(alloc: Global, value: &Value<'_, '_>) -> Result<Option<Seq<LogEntry>>, AllocError> {
+        read_list_within(alloc, value, 1, MAX_LOG_ENTRIES)
     }
 }
 
@@ -35,20 +29,35 @@ impl Shape for Seq<LogEntry> {
 impl Shape for LogEntry {
     ghost shape = { log_entry_in };
 
-    fn read(alloc: Global, value: &Value<'_>) -> Result<Option<LogEntry>, AllocError> {
-        let Some(parts) = as_array(value) else {
+    fn read(alloc: Global, value: &Value<'_, '_>) -> Result<Option<LogEntry>, AllocError> {
+        let Some((epoch, v, change, name)) = read_parts(value) else {
             return Ok(None);
         };
-        match parts.as_slice() {
-            [epoch, v, change, name] => log_entry_of(alloc, epoch, v, change, name),
-            _ => Ok(None),
-        }
+        log_entry_of(alloc, &epoch, &v, &change, &name)
     }
+}
+
+/// The four items of a list of four.
+fn read_parts<'t, 'a>(
+    value: &Value<'t, 'a>,
+) -> Option<(Value<'t, 'a>, Value<'t, 'a>, Value<'t, 'a>, Value<'t, 'a>)>
+    ensures { MatchOption result (log_entry_in (view value.now) ≡ None) (λ p. items_in (view value.now)
+        ≡ Some (view p.0 ∷ view p.1 ∷ view p.2 ∷ view p.3 ∷ [])) }
+{
+    let mut items = value.items()?;
+    let epoch = items.next()?;
+    let v = items.next()?;
+    let change = items.next()?;
+    let name = items.next()?;
+    if items.next().is_some() {
+        return None;
+    }
+    Some((epoch, v, change, name))
 }
 
 /// The log entries of a line whose keys are known. They are read in ascending byte order, so that the least bad one is
 /// told.
-pub(super) fn read_entries(alloc: Global, value: &Value<'_>) -> Result<Report, TextFault>
+pub(super) fn read_entries(alloc: Global, value: &Value<'_, '_>) -> Result<Report, TextFault>
     ensures ok { IfOk result (λ report. entries_of (view value.now) ≡ Ok report) }
     ensures err { IfErr result
         (λ fault. IfSome (told fault) (λ f. entries_of (view value.now) ≡ Err f)) }
@@ -68,10 +77,10 @@ pub(super) fn read_entries(alloc: Global, value: &Value<'_>) -> Result<Report, T
 /// The log entry of these parts.
 fn log_entry_of(
     alloc: Global,
-    epoch: &Value<'_>,
-    v: &Value<'_>,
-    change: &Value<'_>,
-    name: &Value<'_>,
+    epoch: &Value<'_, '_>,
+    v: &Value<'_, '_>,
+    change: &Value<'_, '_>,
+    name: &Value<'_, '_>,
 ) -> Result<Option<LogEntry>, AllocError>
     ensures { IfOk result (λ found. found
         ≡ log_entry_of (view epoch.now ∷ view v.now ∷ view change.now ∷ view name.now ∷ [])) }
@@ -92,10 +101,10 @@ fn log_entry_of(
     }
 }
 
-fn read_change(value: &Value<'_>) -> Option<Change>
+fn read_change(value: &Value<'_, '_>) -> Option<Change>
     ensures { result ≡ change_in (view value.now) }
 {
-    match as_str(value)? {
+    match value.as_str()? {
         "modify" => Some(Change::Modify),
         "delete" => Some(Change::Delete),
         _ => None,

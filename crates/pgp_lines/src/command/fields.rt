@@ -6,22 +6,22 @@ ghost use Rattle.pgp_lines.specs.Shapes.{required};
 
 use super::faults::bad_field_fault;
 use super::lists::Shape;
-use super::tree::{Value, get};
+use super::tree::Value;
 use pgp_ids::TextFault;
 use std::alloc::Global;
 
 /// The value that a line must have at a key, or `BadField` of the key.
 pub(super) fn read_required<T: Shape + Drop>(
     alloc: Global,
-    value: &Value<'_>,
+    value: &Value<'_, '_>,
     key: &str,
 ) -> Result<T, TextFault>
     ensures ok { IfOk result (λ found. required key.now T.shape (view value.now) ≡ Ok found) }
     ensures err { IfErr result
         (λ fault. IfSome (told fault) (λ f. required key.now T.shape (view value.now) ≡ Err f)) }
 {
-    let found = match get(value, key) {
-        Some(field) => T::read(alloc, field)?,
+    let found = match value.get(key) {
+        Some(field) => T::read(alloc, &field)?,
         None => None,
     };
     match found {

@@ -9,7 +9,7 @@ ghost use Rattle.pgp_lines.specs.Incremental.{list_at, going_of, pools_of, comin
 use super::faults::bad_field_fault;
 use super::fields::read_required;
 use super::lists::{Shape, read_list};
-use super::tree::{Value, get};
+use super::tree::Value;
 use pgp_ids::{
     BucketSpec, DeviceEpoch, DeviceWeight, Epoch, Incremental, OsdId, PoolSizes, PoolSpec, Seq,
     TempList, TextFault,
@@ -18,7 +18,7 @@ use std::alloc::Global;
 
 /// The incremental of a line whose keys are known. They are read in ascending byte order, so that the least bad one is
 /// told.
-pub(super) fn read_inc(alloc: Global, value: &Value<'_>) -> Result<Incremental, TextFault>
+pub(super) fn read_inc(alloc: Global, value: &Value<'_, '_>) -> Result<Incremental, TextFault>
     ensures ok { IfOk result (λ inc. inc_of (view value.now) ≡ Ok inc) }
     ensures err { IfErr result
         (λ fault. IfSome (told fault) (λ f. inc_of (view value.now) ≡ Err f)) }
@@ -31,7 +31,7 @@ pub(super) fn read_inc(alloc: Global, value: &Value<'_>) -> Result<Incremental, 
 /// The incremental of a line whose tree and going devices were read.
 fn read_rest(
     alloc: Global,
-    value: &Value<'_>,
+    value: &Value<'_, '_>,
     crush: Option<Seq<BucketSpec>>,
     going: Going,
 ) -> Result<Incremental, TextFault>
@@ -65,7 +65,7 @@ struct Going {
     lost: Seq<DeviceEpoch>,
 }
 
-fn read_going(alloc: Global, value: &Value<'_>) -> Result<Going, TextFault>
+fn read_going(alloc: Global, value: &Value<'_, '_>) -> Result<Going, TextFault>
     ensures ok { IfOk result (λ going. going_of (view value.now) ≡ Ok going) }
     ensures err { IfErr result
         (λ fault. IfSome (told fault) (λ f. going_of (view value.now) ≡ Err f)) }
@@ -90,7 +90,7 @@ struct Pools {
     temp: Seq<TempList>,
 }
 
-fn read_pools(alloc: Global, value: &Value<'_>) -> Result<Pools, TextFault>
+fn read_pools(alloc: Global, value: &Value<'_, '_>) -> Result<Pools, TextFault>
     ensures ok { IfOk result (λ pools. pools_of (view value.now) ≡ Ok pools) }
     ensures err { IfErr result
         (λ fault. IfSome (told fault) (λ f. pools_of (view value.now) ≡ Err f)) }
@@ -109,7 +109,7 @@ struct Coming {
     weight: Seq<DeviceWeight>,
 }
 
-fn read_coming(alloc: Global, value: &Value<'_>) -> Result<Coming, TextFault>
+fn read_coming(alloc: Global, value: &Value<'_, '_>) -> Result<Coming, TextFault>
     ensures ok { IfOk result (λ coming. coming_of (view value.now) ≡ Ok coming) }
     ensures err { IfErr result
         (λ fault. IfSome (told fault) (λ f. coming_of (view value.now) ≡ Err f)) }
@@ -127,33 +127,33 @@ fn read_coming(alloc: Global, value: &Value<'_>) -> Result<Coming, TextFault>
 /// The list at a key, which is empty where the key is absent.
 fn list_at<T: Shape + Drop>(
     alloc: Global,
-    value: &Value<'_>,
+    value: &Value<'_, '_>,
     key: &str,
 ) -> Result<Seq<T>, TextFault>
     ensures ok { IfOk result (λ items. list_at key.now T.shape (view value.now) ≡ Ok items) }
     ensures err { IfErr result
         (λ fault. IfSome (told fault) (λ f. list_at key.now T.shape (view value.now) ≡ Err f)) }
 {
-    let Some(list) = get(value, key) else {
+    let Some(list) = value.get(key) else {
         return Ok(Seq::new(alloc));
     };
-    match read_list(alloc, list)? {
+    match read_list(alloc, &list)? {
         Some(items) => Ok(items),
         None => Err(bad_field_fault(alloc, key)),
     }
 }
 
 /// The tree that replaces the old one, if the line has one.
-fn tree_at(alloc: Global, value: &Value<'_>) -> Result<Option<Seq<BucketSpec>>, TextFault>
+fn tree_at(alloc: Global, value: &Value<'_, '_>) -> Result<Option<Seq<BucketSpec>>, TextFault>
     ensures ok { IfOk result
         (λ tree. optional (codes "crush") tree_in None (view value.now) ≡ Ok tree) }
     ensures err { IfErr result (λ fault. IfSome (told fault)
         (λ f. optional (codes "crush") tree_in None (view value.now) ≡ Err f)) }
 {
-    let Some(list) = get(value, "crush") else {
+    let Some(list) = value.get("crush") else {
         return Ok(None);
     };
-    match read_list(alloc, list)? {
+    match read_list(alloc, &list)? {
         Some(buckets) => Ok(Some(buckets)),
         None => Err(bad_field_fault(alloc, "crush")),
     }

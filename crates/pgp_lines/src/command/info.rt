@@ -10,7 +10,7 @@ use pgp_ids::{Epoch, Info, TextFault, Version};
 use std::alloc::Global;
 
 /// The info of a line whose keys are known. They are read in ascending byte order, so that the least bad one is told.
-pub(super) fn read_info(alloc: Global, value: &Value<'_>) -> Result<Info, TextFault>
+pub(super) fn read_info(alloc: Global, value: &Value<'_, '_>) -> Result<Info, TextFault>
     ensures ok { IfOk result (λ info. info_of (view value.now) ≡ Ok info) }
     ensures err { IfErr result
         (λ fault. IfSome (told fault) (λ f. info_of (view value.now) ≡ Err f)) }
@@ -41,7 +41,7 @@ struct Reach {
     log_tail: Version,
 }
 
-fn read_reach(alloc: Global, value: &Value<'_>) -> Result<Reach, TextFault>
+fn read_reach(alloc: Global, value: &Value<'_, '_>) -> Result<Reach, TextFault>
     ensures ok { IfOk result (λ reach. reach_of (view value.now) ≡ Ok reach) }
     ensures err { IfErr result
         (λ fault. IfSome (told fault) (λ f. reach_of (view value.now) ≡ Err f)) }

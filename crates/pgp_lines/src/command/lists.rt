@@ -1,10 +1,10 @@
 //! Lists: those of a fixed number of items, and those of items that are all of one shape.
-ghost use Rattle.std.specs.Prelude.{◌≡◌, Option, option_map, map, IfOk};
+ghost use Rattle.std.specs.Prelude.{◌≡◌, Option, option_map, IfOk};
 ghost use Rattle.serde_json.specs.Data.{Data};
 ghost use Rattle.pgp_lines.specs.Tree.{view};
-ghost use Rattle.pgp_lines.specs.Shapes.{each, list_of, field, pair_in, triple_in};
+ghost use Rattle.pgp_lines.specs.Shapes.{list_in, list_of, field, pair_in, triple_in};
 
-use super::tree::{Value, as_array, get};
+use super::tree::Value;
 use pgp_ids::Seq;
 use std::alloc::{AllocError, Global};
 
@@ -14,72 +14,97 @@ pub(super) trait Shape {
     ghost shape: { Data → Option Self };
 
     /// What the value is, or `None` where it has another shape or is out of range. An `Err` is want of memory.
-    fn read(alloc: Global, value: &Value<'_>) -> Result<Option<Self>, AllocError>
+    fn read(alloc: Global, value: &Value<'_, '_>) -> Result<Option<Self>, AllocError>
         ensures { IfOk result (λ found. found ≡ shape (view value.now)) };
 }
 
 /// A list of any length.
 pub(super) fn read_list<T: Shape + Drop>(
     alloc: Global,
-    value: &Value<'_>,
+    value: &Value<'_, '_>,
 ) -> Result<Option<Seq<T>>, AllocError>
     ensures { IfOk result (λ found. found ≡ list_of T.shape (view value.now)) }
 {
-    match as_array(value) {
-        Some(values) => read_each(alloc, values),
-        None => Ok(None),
+    let Some(mut items) = value.items() else {
+        return Ok(None);
+    };
+    let mut found = Seq::new(alloc);
+    while let Some(item) = items.next() {
+        match T::read(alloc, &item)? {
+            Some(item) => found.push(item)?,
+            None => return Ok(None),
+        }
     }
+    Ok(Some(found))
+}
+
+/// A list of `low` to `high` items.
+pub(super) fn read_list_within<T: Shape + Drop>(
+    alloc: Global,
+    value: &Value<'_, '_>,
+    low: usize,
+    high: usize,
+) -> Result<Option<Seq<T>>, AllocError>
+    ensures { IfOk result (λ found. found ≡ list_in low high T.shape (view value.now)) }
+{
+    let Some(mut items) = value.items() else {
+        return Ok(None);
+    };
+    let mut found = Seq::new(alloc);
+    while let Some(item) = items.next() {
+        if found.len() >= high {
+            return Ok(None);
+        }
+        match T::read(alloc, &item)? {
+            Some(item) => found.push(item)?,
+            None => return Ok(None),
+        }
+    }
+    if found.len() < low {
+        return Ok(None);
+    }
+    Ok(Some(found))
 }
 
 /// The list at a key that an object must have.
 pub(super) fn read_list_at<T: Shape + Drop>(
     alloc: Global,
-    value: &Value<'_>,
+    value: &Value<'_, '_>,
     key: &str,
 ) -> Result<Option<Seq<T>>, AllocError>
     ensures { IfOk result (λ found. found ≡ field key.now (list_of T.shape) (view value.now)) }
 {
-    match get(value, key) {
-        Some(list) => read_list(alloc, list),
+    match value.get(key) {
+        Some(list) => read_list(alloc, &list),
         None => Ok(None),
     }
 }
 
-pub(super) fn read_each<T: Shape + Drop>(
-    alloc: Global,
-    values: &[Value<'_>],
-) -> Result<Option<Seq<T>>, AllocError>
-    ensures { IfOk result (λ found. found ≡ each T.shape (map view values.now)) }
-{
-    let mut items = Seq::new(alloc);
-    for value in values {
-        match T::read(alloc, value)? {
-            Some(item) => items.push(item)?,
-            None => return Ok(None),
-        }
-    }
-    Ok(Some(items))
-}
-
 /// The two items of a list of two.
-pub(super) fn read_pair<'v, 'a>(value: &'v Value<'a>) -> Option<(&'v Value<'a>, &'v Value<'a>)>
-    ensures { option_map (λ p. (view p.0.now, view p.1.now)) result ≡ pair_in (view value.now) }
+pub(super) fn read_pair<'t, 'a>(value: &Value<'t, 'a>) -> Option<(Value<'t, 'a>, Value<'t, 'a>)>
+    ensures { option_map (λ p. (view p.0, view p.1)) result ≡ pair_in (view value.now) }
 {
-    match as_array(value)?.as_slice() {
-        [a, b] => Some((a, b)),
-        _ => None,
+    let mut items = value.items()?;
+    let a = items.next()?;
+    let b = items.next()?;
+    if items.next().is_some() {
+        return None;
     }
+    Some((a, b))
 }
 
 /// The three items of a list of three.
-pub(super) fn read_triple<'v, 'a>(
-    value: &'v Value<'a>,
-) -> Option<(&'v Value<'a>, &'v Value<'a>, &'v Value<'a>)>
-    ensures { option_map (λ t. (view t.0.now, view t.1.now, view t.2.now)) result
-        ≡ triple_in (view value.now) }
+pub(super) fn read_triple<'t, 'a>(
+    value: &Value<'t, 'a>,
+) -> Option<(Value<'t, 'a>, Value<'t, 'a>, Value<'t, 'a>)>
+    ensures { option_map (λ t. (view t.0, view t.1, view t.2)) result ≡ triple_in (view value.now) }
 {
-    match as_array(value)?.as_slice() {
-        [a, b, c] => Some((a, b, c)),
-        _ => None,
+    let mut items = value.items()?;
+    let a = items.next()?;
+    let b = items.next()?;
+    let c = items.next()?;
+    if items.next().is_some() {
+        return None;
     }
+    Some((a, b, c))
 }

@@ -9,14 +9,14 @@ ghost use Rattle.pgp_lines.specs.Reports.{locate_of};
 use super::fields::read_required;
 use super::lists::Shape;
 use super::numbers::read_pool_id;
-use super::tree::{Value, as_str};
+use super::tree::Value;
 use pgp_ids::{ObjectName, PoolId, TextFault};
 use std::alloc::{AllocError, Global};
 
 impl Shape for PoolId {
     ghost shape = { pool_id_in };
 
-    fn read(_alloc: Global, value: &Value<'_>) -> Result<Option<PoolId>, AllocError> {
+    fn read(_alloc: Global, value: &Value<'_, '_>) -> Result<Option<PoolId>, AllocError> {
         Ok(read_pool_id(value))
     }
 }
@@ -25,8 +25,8 @@ impl Shape for PoolId {
 impl Shape for ObjectName {
     ghost shape = { name_in };
 
-    fn read(alloc: Global, value: &Value<'_>) -> Result<Option<ObjectName>, AllocError> {
-        let Some(name) = as_str(value) else {
+    fn read(alloc: Global, value: &Value<'_, '_>) -> Result<Option<ObjectName>, AllocError> {
+        let Some(name) = value.as_str() else {
             return Ok(None);
         };
         ObjectName::copy_of(alloc, name)
@@ -36,7 +36,7 @@ impl Shape for ObjectName {
 /// The pool and the name of an object. The keys are read in ascending byte order, so that the least bad one is told.
 pub(super) fn read_locate(
     alloc: Global,
-    value: &Value<'_>,
+    value: &Value<'_, '_>,
 ) -> Result<(PoolId, ObjectName), TextFault>
     ensures ok { IfOk result (λ object. locate_of (view value.now) ≡ Ok object) }
     ensures err { IfErr result

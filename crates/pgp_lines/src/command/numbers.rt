@@ -4,33 +4,33 @@ ghost use Rattle.pgp_lines.specs.Tree.{view};
 ghost use Rattle.pgp_lines.specs.Shapes.{number_in, integer_in};
 ghost use Rattle.pgp_lines.specs.Ids.{osd_in, place_in, pool_id_in, byte_in, word_in, group_in};
 
-use super::tree::{Value, as_i64, as_u64, is_null};
+use super::tree::Value;
 use pgp_ids::{Epoch, OsdId, PgId, PoolId};
 
 /// The greatest number of a group in its pool.
 const MAX_PG: u64 = 1023;
 
 /// A whole number from `low` to `high`.
-pub(super) fn read_number(value: &Value<'_>, low: u64, high: u64) -> Option<u64>
+pub(super) fn read_number(value: &Value<'_, '_>, low: u64, high: u64) -> Option<u64>
     ensures value { result ≡ number_in low high (view value.now) }
     ensures within { IfSome result (λ n. n ≤ high) }
 {
-    let n = as_u64(value)?;
+    let n = value.as_u64()?;
     (low <= n && n <= high).then_some(n)
 }
 
 /// A whole number from `low` to `high`, which may be negative.
-pub(super) fn read_integer(value: &Value<'_>, low: i64, high: i64) -> Option<i64>
+pub(super) fn read_integer(value: &Value<'_, '_>, low: i64, high: i64) -> Option<i64>
     ensures value { result ≡ integer_in low high (view value.now) }
     ensures above { IfSome result (λ n. low ≤ℤ n) }
     ensures below { IfSome result (λ n. n ≤ℤ high) }
 {
-    let n = as_i64(value)?;
+    let n = value.as_i64()?;
     (low <= n && n <= high).then_some(n)
 }
 
 /// A device, 0 to 4095.
-pub(super) fn read_osd(value: &Value<'_>) -> Option<OsdId>
+pub(super) fn read_osd(value: &Value<'_, '_>) -> Option<OsdId>
     ensures { result ≡ osd_in (view value.now) }
 {
     let number = read_number(value, 0, u64::from(OsdId::MAX))?;
@@ -38,10 +38,10 @@ pub(super) fn read_osd(value: &Value<'_>) -> Option<OsdId>
 }
 
 /// A device, or null where `nulls` allows an empty place.
-pub(super) fn read_place(value: &Value<'_>, nulls: bool) -> Option<Option<OsdId>>
+pub(super) fn read_place(value: &Value<'_, '_>, nulls: bool) -> Option<Option<OsdId>>
     ensures { result ≡ place_in nulls (view value.now) }
 {
-    if nulls && is_null(value) {
+    if nulls && value.is_null() {
         return Some(None);
     }
     let osd = read_osd(value)?;
@@ -49,7 +49,7 @@ pub(super) fn read_place(value: &Value<'_>, nulls: bool) -> Option<Option<OsdId>
 }
 
 /// A pool, 1 to 255.
-pub(super) fn read_pool_id(value: &Value<'_>) -> Option<PoolId>
+pub(super) fn read_pool_id(value: &Value<'_, '_>) -> Option<PoolId>
     ensures { result ≡ pool_id_in (view value.now) }
 {
     let number = read_number(value, 1, u64::from(u8::MAX))?;
@@ -57,7 +57,7 @@ pub(super) fn read_pool_id(value: &Value<'_>) -> Option<PoolId>
 }
 
 /// A group by its pool and its number in the pool, 0 to 1023.
-pub(super) fn read_group(pool: &Value<'_>, pg: &Value<'_>) -> Option<PgId>
+pub(super) fn read_group(pool: &Value<'_, '_>, pg: &Value<'_, '_>) -> Option<PgId>
     ensures { result ≡ group_in (view pool.now) (view pg.now) }
 {
     let pool = read_pool_id(pool)?;
@@ -69,7 +69,7 @@ pub(super) fn read_group(pool: &Value<'_>, pg: &Value<'_>) -> Option<PgId>
 }
 
 /// A number of one byte, 0 to 255.
-pub(super) fn read_byte(value: &Value<'_>) -> Option<u8>
+pub(super) fn read_byte(value: &Value<'_, '_>) -> Option<u8>
     ensures { result ≡ byte_in (view value.now) }
 {
     let number = read_number(value, 0, u64::from(u8::MAX))?;
@@ -77,7 +77,7 @@ pub(super) fn read_byte(value: &Value<'_>) -> Option<u8>
 }
 
 /// A number of four bytes, 0 to 4294967295: a weight or a part of a version.
-pub(super) fn read_word(value: &Value<'_>) -> Option<u32>
+pub(super) fn read_word(value: &Value<'_, '_>) -> Option<u32>
     ensures { result ≡ word_in (view value.now) }
 {
     let number = read_number(value, 0, u64::from(u32::MAX))?;
@@ -85,7 +85,7 @@ pub(super) fn read_word(value: &Value<'_>) -> Option<u32>
 }
 
 /// An epoch, 0 to 4294967295.
-pub(super) fn read_epoch(value: &Value<'_>) -> Option<Epoch>
+pub(super) fn read_epoch(value: &Value<'_, '_>) -> Option<Epoch>
     ensures { result ≡ word_in (view value.now) }
 {
     let number = read_word(value)?;

@@ -8,14 +8,14 @@ ghost use Rattle.pgp_lines.specs.Pools.{pool_keys, pool_kind_in, spread_in, pool
 use super::lists::{Shape, read_list, read_triple};
 use super::numbers::{read_byte, read_group, read_number, read_pool_id};
 use super::objects::has_only;
-use super::tree::{Value, as_str, get};
+use super::tree::Value;
 use pgp_ids::{PoolKind, PoolSizes, PoolSpec, TempList};
 use std::alloc::{AllocError, Global};
 
 impl Shape for PoolSpec {
     ghost shape = { pool_in };
 
-    fn read(_alloc: Global, value: &Value<'_>) -> Result<Option<PoolSpec>, AllocError> {
+    fn read(_alloc: Global, value: &Value<'_, '_>) -> Result<Option<PoolSpec>, AllocError> {
         Ok(read_pool(value))
     }
 }
@@ -23,7 +23,7 @@ impl Shape for PoolSpec {
 impl Shape for PoolSizes {
     ghost shape = { pool_sizes_in };
 
-    fn read(_alloc: Global, value: &Value<'_>) -> Result<Option<PoolSizes>, AllocError> {
+    fn read(_alloc: Global, value: &Value<'_, '_>) -> Result<Option<PoolSizes>, AllocError> {
         Ok(read_sizes(value))
     }
 }
@@ -32,14 +32,14 @@ impl Shape for PoolSizes {
 impl Shape for TempList {
     ghost shape = { temp_in };
 
-    fn read(alloc: Global, value: &Value<'_>) -> Result<Option<TempList>, AllocError> {
+    fn read(alloc: Global, value: &Value<'_, '_>) -> Result<Option<TempList>, AllocError> {
         let Some((pool, pg, places)) = read_triple(value) else {
             return Ok(None);
         };
-        let Some(pg) = read_group(pool, pg) else {
+        let Some(pg) = read_group(&pool, &pg) else {
             return Ok(None);
         };
-        match read_list(alloc, places)? {
+        match read_list(alloc, &places)? {
             Some(osds) => Ok(Some(TempList { pg, osds })),
             None => Ok(None),
         }
@@ -47,14 +47,14 @@ impl Shape for TempList {
 }
 
 /// A pool: an object with all keys of its kind and no other.
-fn read_pool(value: &Value<'_>) -> Option<PoolSpec>
+fn read_pool(value: &Value<'_, '_>) -> Option<PoolSpec>
     ensures { result ≡ pool_in (view value.now) }
 {
     let kind = read_kind(value)?;
     if !has_only(value, pool_keys(kind)) {
         return None;
     }
-    let id = read_pool_id(get(value, "id")?)?;
+    let id = read_pool_id(&value.get("id")?)?;
     let spread = read_spread(value)?;
     Some(PoolSpec {
         id,
@@ -76,10 +76,10 @@ struct Spread {
     leaf: u8,
 }
 
-fn read_spread(value: &Value<'_>) -> Option<Spread>
+fn read_spread(value: &Value<'_, '_>) -> Option<Spread>
     ensures { result ≡ spread_in (view value.now) }
 {
-    let pg_num = read_number(get(value, "pg_num")?, 0, u64::from(u16::MAX))?;
+    let pg_num = read_number(&value.get("pg_num")?, 0, u64::from(u16::MAX))?;
     let size = byte_at(value, "size")?;
     let min_size = byte_at(value, "min_size")?;
     let leaf = byte_at(value, "leaf")?;
@@ -92,17 +92,17 @@ fn read_spread(value: &Value<'_>) -> Option<Spread>
 }
 
 /// The number of one byte at a key.
-fn byte_at(value: &Value<'_>, key: &str) -> Option<u8>
+fn byte_at(value: &Value<'_, '_>, key: &str) -> Option<u8>
     ensures { result ≡ field key.now byte_in (view value.now) }
 {
-    read_byte(get(value, key)?)
+    read_byte(&value.get(key)?)
 }
 
 /// The kind of a pool; an erasure pool has a number of data shards.
-fn read_kind(value: &Value<'_>) -> Option<PoolKind>
+fn read_kind(value: &Value<'_, '_>) -> Option<PoolKind>
     ensures { result ≡ pool_kind_in (view value.now) }
 {
-    match as_str(get(value, "kind")?)? {
+    match value.get("kind")?.as_str()? {
         "replicated" => Some(PoolKind::Replicated),
         "erasure" => {
             let k = byte_at(value, "k")?;
@@ -123,13 +123,13 @@ fn pool_keys(kind: PoolKind) -> &'static [&'static str]
 }
 
 /// `[pool, size, min_size]`.
-fn read_sizes(value: &Value<'_>) -> Option<PoolSizes>
+fn read_sizes(value: &Value<'_, '_>) -> Option<PoolSizes>
     ensures { result ≡ pool_sizes_in (view value.now) }
 {
     let (pool, size, min_size) = read_triple(value)?;
     Some(PoolSizes {
-        pool: read_pool_id(pool)?,
-        size: read_byte(size)?,
-        min_size: read_byte(min_size)?,
+        pool: read_pool_id(&pool)?,
+        size: read_byte(&size)?,
+        min_size: read_byte(&min_size)?,
     })
 }

@@ -1,14 +1,13 @@
 //! The values of a trace line: a code, and the epochs of one group.
-ghost use Rattle.std.specs.Prelude.{◌≡◌, ◌≤◌, codes, length, map, IfOk, IfErr, IfSome};
+ghost use Rattle.std.specs.Prelude.{◌≡◌, codes, IfOk};
 ghost use Rattle.pgp_lines.specs.Tree.{view};
-ghost use Rattle.pgp_lines.specs.Ids.{place_in};
-ghost use Rattle.pgp_lines.specs.Shapes.{each, field};
+ghost use Rattle.pgp_lines.specs.Shapes.{field};
 ghost use Rattle.pgp_lines.specs.Trace.{code_in, erasure_in, has_empty_places, osds_in, sizes_in, facts_in, members_in, epoch_state_in, epochs_in};
 
 use super::numbers::{read_epoch, read_number, read_place};
 use super::objects::has_only;
-use super::tree::{Value, as_array, as_str, get};
-use pgp_ids::{EpochState, MAX_OSDS, Membership, Osds, PoolKind, PrimaryFacts, Seq};
+use super::tree::Value;
+use pgp_ids::{EpochState, Membership, Osds, PoolKind, PrimaryFacts, Seq};
 use std::alloc::{AllocError, Global};
 
 const EPOCH_KEYS: [&str; 6] = ["acting", "min_size", "size", "up", "up_from", "up_thru"];
@@ -21,25 +20,25 @@ const MAX_SHARDS: u64 = 16;
 const MAX_SIZE: u64 = 16;
 
 /// The code of a trace: `{"kind":"replicated"}`, or `{"k":1,"kind":"erasure"}` with 1 to 16 data shards.
-pub(super) fn read_code(value: &Value<'_>) -> Option<PoolKind>
+pub(super) fn read_code(value: &Value<'_, '_>) -> Option<PoolKind>
     ensures { result ≡ field (codes "code") code_in (view value.now) }
 {
-    let code = get(value, "code")?;
-    match as_str(get(code, "kind")?)? {
-        "replicated" => has_only(code, &["kind"]).then_some(PoolKind::Replicated),
-        "erasure" => read_erasure(code),
+    let code = value.get("code")?;
+    match code.get("kind")?.as_str()? {
+        "replicated" => has_only(&code, &["kind"]).then_some(PoolKind::Replicated),
+        "erasure" => read_erasure(&code),
         _ => None,
     }
 }
 
 /// An erasure code with 1 to 16 data shards.
-fn read_erasure(value: &Value<'_>) -> Option<PoolKind>
+fn read_erasure(value: &Value<'_, '_>) -> Option<PoolKind>
     ensures { result ≡ erasure_in (view value.now) }
 {
     if !has_only(value, &["k", "kind"]) {
         return None;
     }
-    let k = read_number(get(value, "k")?, 1, MAX_SHARDS)?;
+    let k = read_number(&value.get("k")?, 1, MAX_SHARDS)?;
     Some(PoolKind::Erasure { k: k as u8 })
 }
 
@@ -51,29 +50,22 @@ pub(super) fn has_empty_places(code: PoolKind) -> bool
 }
 
 /// At most 16 places.
-fn read_osds(value: &Value<'_>, nulls: bool) -> Option<Osds>
+fn read_osds(value: &Value<'_, '_>, nulls: bool) -> Option<Osds>
     ensures { result ≡ osds_in nulls (view value.now) }
 {
-    let places = as_array(value)?;
-    if places.len() > MAX_OSDS {
-        return None;
-    }
-    read_places(places, nulls)
-}
-
-fn read_places(places: &[Value<'_>], nulls: bool) -> Option<Osds>
-    requires { length places.now ≤ MAX_OSDS }
-    ensures { result ≡ each (place_in nulls) (map view places.now) }
-{
+    let mut places = value.items()?;
     let mut osds = Osds::new();
-    for place in places {
-        osds.push(read_place(place, nulls)?);
+    while let Some(place) = places.next() {
+        if osds.is_full() {
+            return None;
+        }
+        osds.push(read_place(&place, nulls)?);
     }
     Some(osds)
 }
 
 /// One epoch: an object with all of [`EPOCH_KEYS`] and no other key.
-fn read_epoch_state(value: &Value<'_>, nulls: bool) -> Option<EpochState>
+fn read_epoch_state(value: &Value<'_, '_>, nulls: bool) -> Option<EpochState>
     ensures { result ≡ epoch_state_in nulls (view value.now) }
 {
     if !has_only(value, &EPOCH_KEYS) {
@@ -85,12 +77,12 @@ fn read_epoch_state(value: &Value<'_>, nulls: bool) -> Option<EpochState>
 }
 
 /// Whom the group has. Each primary is the first device of its list.
-fn read_members(value: &Value<'_>, nulls: bool) -> Option<Membership>
+fn read_members(value: &Value<'_, '_>, nulls: bool) -> Option<Membership>
     ensures { result ≡ members_in nulls (view value.now) }
 {
     let (size, min_size) = read_sizes(value)?;
-    let up = read_osds(get(value, "up")?, nulls)?;
-    let acting = read_osds(get(value, "acting")?, nulls)?;
+    let up = read_osds(&value.get("up")?, nulls)?;
+    let acting = read_osds(&value.get("acting")?, nulls)?;
     Some(Membership {
         up_primary: up.first(),
         up,
@@ -102,53 +94,46 @@ fn read_members(value: &Value<'_>, nulls: bool) -> Option<Membership>
 }
 
 /// How many members a group has, 1 to 16, and with how many of them it may serve.
-fn read_sizes(value: &Value<'_>) -> Option<(u8, u8)>
+fn read_sizes(value: &Value<'_, '_>) -> Option<(u8, u8)>
     ensures { result ≡ sizes_in (view value.now) }
 {
-    let size = read_number(get(value, "size")?, 1, MAX_SIZE)?;
-    let min_size = read_number(get(value, "min_size")?, 1, size)?;
+    let size = read_number(&value.get("size")?, 1, MAX_SIZE)?;
+    let min_size = read_number(&value.get("min_size")?, 1, size)?;
     Some((size as u8, min_size as u8))
 }
 
 /// What the map says of the primary.
-fn read_facts(value: &Value<'_>) -> Option<PrimaryFacts>
+fn read_facts(value: &Value<'_, '_>) -> Option<PrimaryFacts>
     ensures { result ≡ facts_in (view value.now) }
 {
-    let up_from = read_epoch(get(value, "up_from")?)?;
-    let up_thru = read_epoch(get(value, "up_thru")?)?;
+    let up_from = read_epoch(&value.get("up_from")?)?;
+    let up_thru = read_epoch(&value.get("up_thru")?)?;
     Some(PrimaryFacts { up_from, up_thru })
 }
 
 /// The 1 to 4,096 epochs of a trace, the first of which is epoch 1. An `Err` is want of memory.
 pub(super) fn read_epochs(
     alloc: Global,
-    value: &Value<'_>,
+    value: &Value<'_, '_>,
     nulls: bool,
 ) -> Result<Option<Seq<EpochState>>, AllocError>
     ensures { IfOk result (λ found. found ≡ epochs_in nulls (view value.now)) }
 {
-    let Some(states) = as_array(value) else {
+    let Some(mut items) = value.items() else {
         return Ok(None);
     };
-    if states.is_empty() || states.len() > MAX_EPOCHS {
-        return Ok(None);
-    }
-    read_states(alloc, states, nulls)
-}
-
-fn read_states(
-    alloc: Global,
-    values: &[Value<'_>],
-    nulls: bool,
-) -> Result<Option<Seq<EpochState>>, AllocError>
-    ensures { IfOk result (λ found. found ≡ each (epoch_state_in nulls) (map view values.now)) }
-{
     let mut states = Seq::new(alloc);
-    for value in values {
-        match read_epoch_state(value, nulls) {
+    while let Some(item) = items.next() {
+        if states.len() >= MAX_EPOCHS {
+            return Ok(None);
+        }
+        match read_epoch_state(&item, nulls) {
             Some(state) => states.push(state)?,
             None => return Ok(None),
         }
+    }
+    if states.is_empty() {
+        return Ok(None);
     }
     Ok(Some(states))
 }

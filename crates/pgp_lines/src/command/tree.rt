@@ -1,106 +1,174 @@
-//! The JSON value of a line. Its texts lie in the line, and it is looked into as `serde_json` looks into its own.
-ghost use Rattle.std.specs.Prelude.{◌≡◌, option_map, option_and_then, is_some};
-ghost use Rattle.json.specs.Find.{as_number as number_text};
-ghost use Rattle.json.specs.Value.{value_view, items_view as json_items, members_view as json_members};
-ghost use Rattle.serde_json.specs.Find.{get, as_null, as_bool, as_str, as_number, as_u64, as_i64, as_array};
+//! The JSON value of a line, in a flat tape. Its texts lie in the line, and it is looked into as `serde_json` looks into
+//! its own.
+ghost use Rattle.std.specs.Prelude.{◌≡◌, ◌<◌, [], ◌∷◌, length, map, None, option_map, option_and_then, is_some, MatchOption, IfNone, IfSome, OnSome};
+ghost use Rattle.json.specs.Json as spec;
+ghost use Rattle.json.specs.Find.{as_number as number_text, as_object, InMembers};
+ghost use Rattle.json.specs.Tape.{node_token};
+ghost use Rattle.serde_json.specs.Find.{get, as_null, as_bool, as_str, as_number, as_u64, as_i64};
 ghost use Rattle.serde_json.specs.Read.{number_of};
-ghost use Rattle.pgp_lines.specs.Tree.{num_of, view, items_view, has_numbers, items_have_numbers, members_have_numbers};
+ghost use Rattle.pgp_lines.specs.Shapes.{items_in};
+ghost use Rattle.pgp_lines.specs.Tree.{num_of, json_of, view, items_left, in_range_from};
 
 use super::number::Number;
 use bumpalo::Bump;
+use json::{Element, Members, Node, Tape};
+use std::marker::Model;
 
-/// A value whose arrays and objects lie in an arena.
-pub(super) type Value<'a> = json::Value<'a, &'a Bump>;
+/// How deep a line's arrays and objects nest at most.
+const MAX_DEPTH: usize = 127;
 
-/// The value at a key of an object; of one that stands there twice the last.
-pub(super) fn get<'v, 'a>(value: &'v Value<'a>, key: &str) -> Option<&'v Value<'a>>
-    ensures { option_map (λ v. view v.now) result ≡ get key.now (view value.now) }
-{
-    value.get(key)
+/// A line's tokens, which lie in an arena.
+pub(super) type Tokens<'a> = Tape<'a, &'a Bump>;
+
+/// A place in a line's tape at which a value begins. A clause sees the tokens from there on.
+#[derive(Drop)]
+pub(super) struct Value<'t, 'a> {
+    element: Element<'t, 'a>,
 }
 
-pub(super) fn as_str<'a>(value: &Value<'a>) -> Option<&'a str>
-    ensures { option_map (λ s. s.now) result ≡ as_str (view value.now) }
-{
-    value.as_str()
+impl<'t, 'a> Model for Value<'t, 'a> {
+    ghost use Rattle.std.specs.Prelude.{List};
+    ghost use Rattle.json.specs.Token.{Token, tokens_code};
+
+    ghost Value = { List Token };
+
+    ghost coded = { tokens_code };
+
+    ghost use Rattle.json.specs.Find.{HasValue};
+
+    ghost view = { λ v. v.element };
+
+    ghost invariant = { λ v. HasValue v.element };
 }
 
-pub(super) fn as_array<'v, 'a>(value: &'v Value<'a>) -> Option<&'v Vec<Value<'a>, &'a Bump>>
-    ensures { option_map (λ v. items_view v.now.items) result ≡ as_array (view value.now) }
-{
-    if let json::Value::Array(items) = value {
-        Some(items)
-    } else {
-        None
-    }
-}
-
-pub(super) fn as_bool(value: &Value<'_>) -> Option<bool>
-    ensures { result ≡ as_bool (view value.now) }
-{
-    value.as_bool()
-}
-
-pub(super) fn is_null(value: &Value<'_>) -> bool
-    ensures { result ≡ is_some (as_null (view value.now)) }
-{
-    value.is_null()
-}
-
-/// A whole number from 0 on that has 64 bits.
-pub(super) fn as_u64(value: &Value<'_>) -> Option<u64>
-    ensures { result ≡ option_and_then as_u64 (as_number (view value.now)) }
-{
-    number(value).and_then(Number::as_u64)
-}
-
-/// A whole number of 64 bits with a sign.
-pub(super) fn as_i64(value: &Value<'_>) -> Option<i64>
-    ensures { result ≡ option_and_then as_i64 (as_number (view value.now)) }
-{
-    number(value).and_then(Number::as_i64)
-}
-
-/// The number, where it is one in range.
-fn number(value: &Value<'_>) -> Option<Number>
-    ensures { option_map num_of result
-        ≡ option_and_then number_of (number_text (value_view value.now)) }
-{
-    Number::parse(value.as_number()?)
-}
-
-/// Whether each number in the value is in range.
-#[cycle(has_numbers)]
-pub(super) fn has_numbers(value: &Value<'_>) -> bool
-    ensures { result ≡ has_numbers (value_view value.now) }
-{
-    match value {
-        json::Value::Null | json::Value::Bool(_) | json::Value::String(_) => true,
-        json::Value::Number(text) => Number::parse(text).is_some(),
-        json::Value::Array(items) => items_have_numbers(items),
-        json::Value::Object(members) => members_have_numbers(members),
-    }
-}
-
-#[cycle(has_numbers)]
-fn items_have_numbers<'a>(items: &Vec<Value<'a>, &'a Bump>) -> bool
-    ensures { result ≡ items_have_numbers (json_items items.now.items) }
-{
-    for item in items {
-        if !has_numbers(item) {
-            return false;
+impl<'t, 'a> Value<'t, 'a> {
+    /// The value of a whole line.
+    pub(super) fn of(tokens: &'t Tokens<'a>) -> Value<'t, 'a>
+        ensures { result ≡ tokens.now }
+    {
+        Value {
+            element: tokens.root(),
         }
     }
-    true
+
+    /// The value at a key of an object; of one that stands there twice the last.
+    pub(super) fn get(&self, key: &str) -> Option<Value<'t, 'a>>
+        ensures { option_map view result ≡ get key.now (view self.now) }
+    {
+        let element = self.element.get(key)?;
+        Some(Value { element })
+    }
+
+    pub(super) fn as_str(&self) -> Option<&'a str>
+        ensures { option_map (λ s. s.now) result ≡ as_str (view self.now) }
+    {
+        self.element.as_str()
+    }
+
+    /// The items of an array.
+    pub(super) fn items(&self) -> Option<Items<'t, 'a>>
+        ensures { option_map items_left result ≡ items_in (view self.now) }
+    {
+        let items = self.element.items()?;
+        Some(Items { items })
+    }
+
+    /// The members of an object, in the line's order.
+    pub(super) fn members(&self) -> Option<Members<'t, 'a>>
+        ensures { MatchOption result (as_object (json_of self.now) ≡ None)
+            (λ rest. (ms : spec.Members) × (json_of self.now ≡ spec.object ms) × InMembers rest ms) }
+    {
+        self.element.members()
+    }
+
+    pub(super) fn as_bool(&self) -> Option<bool>
+        ensures { result ≡ as_bool (view self.now) }
+    {
+        self.element.as_bool()
+    }
+
+    pub(super) fn is_null(&self) -> bool
+        ensures { result ≡ is_some (as_null (view self.now)) }
+    {
+        self.element.is_null()
+    }
+
+    /// A whole number from 0 on that has 64 bits.
+    pub(super) fn as_u64(&self) -> Option<u64>
+        ensures { result ≡ option_and_then as_u64 (as_number (view self.now)) }
+    {
+        self.number().and_then(Number::as_u64)
+    }
+
+    /// A whole number of 64 bits with a sign.
+    pub(super) fn as_i64(&self) -> Option<i64>
+        ensures { result ≡ option_and_then as_i64 (as_number (view self.now)) }
+    {
+        self.number().and_then(Number::as_i64)
+    }
+
+    /// The number, where it is one in range.
+    fn number(&self) -> Option<Number>
+        ensures { option_map num_of result
+            ≡ option_and_then number_of (number_text (json_of self.now)) }
+    {
+        Number::parse(self.element.as_number()?)
+    }
 }
 
-#[cycle(has_numbers)]
-fn members_have_numbers<'a>(members: &Vec<(&'a str, Value<'a>), &'a Bump>) -> bool
-    ensures { result ≡ members_have_numbers (json_members members.now.items) }
+/// The items of an array that are still to come. A clause sees the tokens from the next item on.
+#[derive(Drop)]
+pub(super) struct Items<'t, 'a> {
+    items: json::Items<'t, 'a>,
+}
+
+impl<'t, 'a> Model for Items<'t, 'a> {
+    ghost use Rattle.std.specs.Prelude.{List};
+    ghost use Rattle.json.specs.Token.{Token, tokens_code};
+
+    ghost Value = { List Token };
+
+    ghost coded = { tokens_code };
+
+    ghost use Rattle.json.specs.Json as spec;
+    ghost use Rattle.json.specs.Find.{InItems};
+
+    ghost view = { λ i. i.items };
+
+    ghost invariant = { λ i. (js : spec.Items) × InItems i.items js };
+}
+
+impl<'t, 'a> Items<'t, 'a> {
+    pub(super) fn next(&mut self) -> Option<Value<'t, 'a>>
+        ensures end { IfNone result (items_left self.old ≡ []) }
+        ensures more { IfSome result (λ v. items_left self.old ≡ view v ∷ items_left self.new) }
+        ensures shorter { OnSome result (length self.new < length self.old) }
+    {
+        let element = self.items.next()?;
+        Some(Value { element })
+    }
+}
+
+/// Whether each number is in range, and no value nests too deep.
+pub(super) fn is_in_range(tokens: &[Node<'_>]) -> bool
+    ensures { result ≡ in_range_from 0 (map node_token tokens.now) }
 {
-    for member in members {
-        if !has_numbers(&member.1) {
-            return false;
+    let mut depth = 0;
+    for token in tokens {
+        match *token {
+            Node::Array(_) | Node::Object(_) => {
+                if depth >= MAX_DEPTH {
+                    return false;
+                }
+                depth += 1;
+            }
+            Node::EndArray | Node::EndObject => depth = depth.saturating_sub(1),
+            Node::Number(text) => {
+                if Number::parse(text).is_none() {
+                    return false;
+                }
+            }
+            Node::Key(_) | Node::String(_) | Node::Bool(_) | Node::Null => {}
         }
     }
     true

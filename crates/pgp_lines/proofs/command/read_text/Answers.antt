@@ -1,21 +1,16 @@
-use Rattle.std.proofs.Common.{◌≡◌, [], true, false, refl, rules, tests}
-use Rattle.json.specs.Value.{value_view}
-use Rattle.pgp_lines.specs.Tree.{has_numbers}
-use Rattle.pgp_lines.proofs.TreeLemmas.{read-whole}
+use Rattle.std.proofs.Common.{refl, arith}
+use Rattle.pgp_lines.proofs.Tapes.{read-tape, read-none}
 use Rattle.pgp_lines.proofs.command.read_text.Goals as goal
 
-pub returns-then-not-has_numbers-clause-err : goal.returns-then-not-has_numbers-clause-err
-returns-then-not-has_numbers-clause-err c =
-    let j = value_view c.in_ok-value.value in
-    let none : c.read_value.new.reader ≡ [] = search rules in
-    let numbers : has_numbers j ≡ false = search (rules, tests) in
-    let whole = read-whole c.args.text.now j (rw (c.in-Ok.ensures.ok, none) at c.in_ok-value.ensures.ok) in
-    (rw numbers at whole, refl)
+pub returns-then-is_in_range-clause-ok : goal.returns-then-is_in_range-clause-ok
+returns-then-is_in_range-clause-ok c =
+    let is = read-tape _ c.args.text.now c.in-Ok.tokens refl c.in-Ok.ensures.ok c.in-Ok.ensures.value in
+    grind (arith, is)
 
-pub returns-clause-ok : goal.returns-clause-ok
-returns-clause-ok c =
-    let j = value_view c.in_ok-value.value in
-    let none : c.read_value.new.reader ≡ [] = search rules in
-    let numbers : has_numbers j ≡ true = search (rules, tests) in
-    let whole = read-whole c.args.text.now j (rw (c.in-Ok.ensures.ok, none) at c.in_ok-value.ensures.ok) in
-    rw numbers at whole
+pub returns-in-Ok-clause-err : goal.returns-in-Ok-clause-err
+returns-in-Ok-clause-err c =
+    let is = read-tape _ c.args.text.now c.in-Ok.tokens refl c.in-Ok.ensures.ok c.in-Ok.ensures.value in
+    (grind (arith, is), refl)
+
+pub returns-in-Err-Invalid-clause-err : goal.returns-in-Err-Invalid-clause-err
+returns-in-Err-Invalid-clause-err c = (read-none _ c.args.text.now refl (c.in-Err-Invalid.ensures.invalid cc), refl)

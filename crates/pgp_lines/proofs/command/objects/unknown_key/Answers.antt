@@ -1,14 +1,25 @@
-use Rattle.std.proofs.Common.{not, sym, ap, ◌∙◌}
-use Rattle.json.proofs.Trees.{view-Object}
-use Rattle.serde_json.specs.Data.{no_members}
-use Rattle.pgp_lines.specs.Shapes.{is_key, unknown_key_in}
-use Rattle.pgp_lines.specs.Tree.{data_in, view}
-use Rattle.pgp_lines.proofs.Keys.{texts, least-members}
+use Rattle.std.proofs.Common.{arith}
+use Rattle.pgp_lines.proofs.Keys.{texts, unknown-object}
 use Rattle.pgp_lines.proofs.command.objects.unknown_key.Goals as goal
 
-pub returns-in-Object : goal.returns-in-Object
-returns-in-Object c =
-    let keys = texts c.args.keys.now in
-    let walked = rw c.as_slice.ensures.value at c.unknown_member.ensures in
-    walked ∙ sym (least-members (λ key. not (is_key keys key)) c.in-Object.members.items no_members)
-    ∙ ap (λ j. unknown_key_in keys (data_in j)) (sym (view-Object c.in-Object.members)) ∙ ap (λ v. unknown_key_in keys (view v)) (sym c.in-Object.is)
+pub loop-key-init : goal.loop-key-init
+loop-key-init c =
+    let found = c.in_ok-members.ensures in
+    (found.0, found.2, unknown-object (texts c.args.keys.now) c.args.value.now found.0 found.1)
+
+pub loop-key-preserved-then-not-is_one_of : goal.loop-key-preserved-then-not-is_one_of
+loop-key-preserved-then-not-is_one_of c =
+    let now = c.loop-key.invariant in
+    let next = c.in-Some.ensures.value now.0 now.1 in
+    (next.1, next.4, grind (arith, now.2, next.2))
+
+pub loop-key-preserved : goal.loop-key-preserved
+loop-key-preserved c =
+    let now = c.loop-key.invariant in
+    let next = c.in-Some.ensures.value now.0 now.1 in
+    (next.1, next.4, grind (arith, now.2, next.2))
+
+pub returns : goal.returns
+returns c =
+    let now = c.loop-key.invariant in
+    grind (arith, now.2, c.in_default.ensures.value now.0 now.1)
