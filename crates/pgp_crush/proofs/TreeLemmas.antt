@@ -1,6 +1,6 @@
 -- What stands in a list of buckets, and what follows from a tree's being checked.
-use Rattle.std.proofs.Common.{◌≡◌, ℕ, ◌<◌, ◌^◌, ◌-◌, Bool, ◌||◌, ◌+◌, List, [], ◌∷◌, map, sum, slice_get, cond, refl, arith, ap, sym, Option, Some, None, IfSome, Bor, false, nat_lt}
-use Rattle.std.specs.List.{find, list_any, position_from}
+use Rattle.std.proofs.Common.{◌≡◌, ℕ, ◌<◌, ◌^◌, ◌-◌, Bool, ◌+◌, List, [], ◌∷◌, map, sum, slice_get, cond, refl, arith, ap, sym, Option, Some, None, IfSome, Bor, false, nat_lt}
+use Rattle.std.specs.List.{find, position_from}
 use Rattle.std.specs.Option.{option_and_then, option_map, option_copied}
 use Rattle.std.proofs.lemmas.Bool.Decides.{nat_tests}
 use Rattle.std.proofs.lemmas.Iterator.Adapters.{position_from-zero}
@@ -14,10 +14,6 @@ use Rattle.pgp_crush.proofs.FaultLemmas.{none-counted}
 use Rattle.pgp_crush.specs.TreeFault.{tree_fault, fault_below_root, has_too_much_weight}
 
 -- ---- lists that are seen through a map
-
-pub any_mapped : {X Y : Type 0} (f : X → Y) (test : Y → Bool) (xs : List X) → list_any test (map f xs) ≡ list_any (λ x. test (f x)) xs
-any_mapped f test [] = refl
-any_mapped f test (x ∷ xs) = ap (λ rest. test (f x) || rest) (any_mapped f test xs)
 
 pub position_mapped : {X Y : Type 0} (f : X → Y) (test : Y → Bool) (xs : List X) (k : ℕ) → position_from test k (map f xs) ≡ position_from (λ x. test (f x)) k xs
 position_mapped f test [] k = refl

@@ -61,8 +61,8 @@ pub fn entry(alloc: Global, line: &str) -> Option<Entry> {
 
 /// The object that clients look for, and its pool.
 pub fn object(alloc: Global) -> Option<(PoolId, ObjectName)> {
-    let name = String::from_str(alloc, "a").ok()?;
-    Some((PoolId::new(1)?, ObjectName::new(name)?))
+    let name = ObjectName::new(alloc, "a").ok()??;
+    Some((PoolId::new(1)?, name))
 }
 
 /// This is what is answered of the group.

@@ -6,7 +6,8 @@ use Rattle.std.proofs.lemmas.List.{get_or-append_right, get_or-drop, length-map,
 use Rattle.std.proofs.lemmas.List.Elements.{filter-append, filter_map-append, All-head, All-tail}
 use Rattle.std.proofs.lemmas.List.Folds.{list_any-append}
 use Rattle.pgp_lists.proofs.Members.{Contains-nil, Contains-here, Contains-later, Contains-first, Contains-cases}
-pub use Rattle.pgp_lists.proofs.Members.{filter-agree}
+pub use Rattle.pgp_lists.proofs.Lists.{any-mapped}
+pub use Rattle.pgp_lists.proofs.Members.{filter-agree, map-agree}
 use Rattle.pgp_map.specs.Last.{last_where}
 
 -- ---- elements that don't pass
@@ -89,11 +90,6 @@ filter_map-agree f g a (suc n) same =
 
 -- ---- functions and tests that agree at each element
 
-pub map-agree : {X Y : Type 0} (f g : X → Y) (xs : List X) → ((x : X) → Contains xs x → f x ≡ g x) → map f xs ≡ map g xs
-map-agree f g [] same = refl
-map-agree f g (x ∷ xs) same =
-    ap₂ (λ y ys. y ∷ ys) (same x (Contains-here x xs)) (map-agree f g xs (λ y there. same y (Contains-later x xs y there)))
-
 pub flat_map-agree : {X Y : Type 0} (f g : X → List Y) (xs : List X) → ((x : X) → Contains xs x → f x ≡ g x) → flat_map f xs ≡ flat_map g xs
 flat_map-agree f g [] same = refl
 flat_map-agree f g (x ∷ xs) same =
@@ -108,10 +104,6 @@ any-agree f g (x ∷ xs) same =
 
 pub none-append : {X : Type 0} (test : X → Bool) (xs ys : List X) → list_any test (xs ++ ys) ≡ false → (list_any test xs ≡ false) × (list_any test ys ≡ false)
 none-append test xs ys none = or_parts (list_any test xs) (list_any test ys) (sym (list_any-append test xs ys) ∙ none)
-
-pub any-mapped : {X Y : Type 0} (f : X → Y) (test : Y → Bool) (xs : List X) → list_any test (map f xs) ≡ list_any (λ x. test (f x)) xs
-any-mapped f test [] = refl
-any-mapped f test (x ∷ xs) = ap (λ b. test (f x) || b) (any-mapped f test xs)
 
 pub filter_map-contains : {X Y : Type 0} (f : X → Option Y) (xs : List X) (y : Y) → Contains (filter_map f xs) y → (x : X) × (f x ≡ Some y)
 filter_map-contains f [] y there = absurd (Contains-nil y there)

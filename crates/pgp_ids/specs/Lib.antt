@@ -5,4 +5,4 @@ pub mod Bucket
 pub mod Version
 pub mod Names
 pub mod Member
-pub mod Text
+pub mod ObjectName

@@ -1,5 +1,5 @@
-ghost use Rattle.std.specs.Prelude.{◌≡◌, ℕ, ◌==◌, ◌≤◌, ◌↔◌, List, length, Some, IsSome, IfSome, IfOk, string_bytes, refl};
-ghost use Rattle.pgp_ids.specs.Text.{text_bytes};
+ghost use Rattle.std.specs.Prelude.{◌≡◌, ℕ, ◌==◌, ◌≤◌, ◌<◌, ◌↔◌, List, length, Some, IsSome, IfSome, IfOk, OnErr, refl};
+ghost use Rattle.pgp_ids.specs.ObjectName.{name_bytes, IsInPlace};
 ghost use Rattle.std.specs.Cmp.{partial_equiv_from_equiv};
 ghost use Rattle.std.specs.Cmp.Lexicographic.{pointwise, slice_cmp, nat_list_eq_equiv, nat_list_cmp_total, texts_po, texts_ties};
 ghost use Rattle.std.specs.Ordering.{nat_cmp};
@@ -11,32 +11,34 @@ use std::fmt;
 use std::marker::Model;
 
 /// The name of an object: 1 to [`ObjectName::MAX_LEN`] bytes of UTF-8, which contracts see as the list of its bytes.
-/// Names are ordered by their bytes. One of at most 24 bytes that is copied from a text takes no memory beyond its own, nor
-/// do its copies.
+/// Names are ordered by their bytes. One of at most [`ObjectName::SHORT_LEN`] bytes lies in the value itself: to make it and
+/// to copy it takes no memory.
 #[derive(Debug)]
 pub struct ObjectName {
-    text: Text,
+    text: Repr,
 }
 
-/// The text of a name, and where it lies.
+/// The text of a name, in place or in memory of its own.
 #[derive(Drop)]
-enum Text {
-    Short(ArrayString<24>),
+enum Repr {
+    Short(ArrayString<SHORT_LEN>),
     Long(String),
 }
 
-impl Text {
+const SHORT_LEN: usize = 24;
+
+impl Repr {
     fn as_str(&self) -> &str
-        ensures { result.now ≡ text_bytes self.now }
+        ensures { result.now ≡ name_bytes self.now }
     {
         match self {
-            Text::Short(short) => short.as_str(),
-            Text::Long(string) => string.as_str(),
+            Repr::Short(short) => short.as_str(),
+            Repr::Long(string) => string.as_str(),
         }
     }
 }
 
-impl fmt::Debug for Text {
+impl fmt::Debug for Repr {
     fn fmt<W: fmt::Write>(&self, f: &mut fmt::Formatter<W>) -> fmt::Result {
         fmt::Debug::fmt(self.as_str(), f)
     }
@@ -52,40 +54,30 @@ impl Drop for ObjectName {
 impl Model for ObjectName {
     ghost Value = { List ℕ };
 
-    ghost view = { λ n. text_bytes n.text };
+    ghost view = { λ n. name_bytes n.text };
 
-    ghost invariant = { λ n. (1 ≤ length (text_bytes n.text)) × (length (text_bytes n.text) ≤ 255) };
+    ghost invariant = { λ n. (1 ≤ length (name_bytes n.text)) × (length (name_bytes n.text) ≤ 255) × IsInPlace n.text };
 }
 
 impl ObjectName {
     /// How many bytes a name has at most.
     pub const MAX_LEN: usize = 255;
 
-    /// The name of this text, where it is neither empty nor too long.
-    pub fn new(text: String) -> Option<Self>
-        ensures in_range { IsSome result ↔ ((1 ≤ length (string_bytes text)) × (length (string_bytes text) ≤ Self.MAX_LEN)) }
-        ensures value { IfSome result (λ name. name ≡ string_bytes text) }
-    {
-        if text.len() >= 1 && text.len() <= Self::MAX_LEN {
-            Some(ObjectName {
-                text: Text::Long(text),
-            })
-        } else {
-            None
-        }
-    }
+    /// How many bytes a name has at most that takes no memory.
+    pub const SHORT_LEN: usize = SHORT_LEN;
 
-    /// The name of a copy of this text, where it is neither empty nor too long.
-    pub fn copy_of(alloc: Global, text: &str) -> Result<Option<Self>, AllocError>
+    /// The name that is this text, where that is neither empty nor too long.
+    pub fn new(alloc: Global, text: &str) -> Result<Option<Self>, AllocError>
         ensures in_range { IfOk result (λ name. IsSome name ↔ ((1 ≤ length text.now) × (length text.now ≤ Self.MAX_LEN))) }
         ensures value { IfOk result (λ name. IfSome name (λ n. n ≡ text.now)) }
+        ensures memory { OnErr result ((Self.SHORT_LEN < length text.now) × (length text.now ≤ Self.MAX_LEN)) }
     {
         if text.is_empty() || text.len() > Self::MAX_LEN {
             return Ok(None);
         }
         let text = match ArrayString::from(text) {
-            Ok(short) => Text::Short(short),
-            Err(_) => Text::Long(String::from_str(alloc, text)?),
+            Ok(short) => Repr::Short(short),
+            Err(_) => Repr::Long(String::from_str(alloc, text)?),
         };
         Ok(Some(ObjectName { text }))
     }
@@ -101,11 +93,12 @@ impl ObjectName {
 
 impl Clone for ObjectName {
     fn clone(&self) -> Result<Self, AllocError>
-        ensures { IfOk result (λ name. name ≡ self.now) }
+        ensures value { IfOk result (λ name. name ≡ self.now) }
+        ensures memory { OnErr result (ObjectName.SHORT_LEN < length self.now) }
     {
         let text = match &self.text {
-            Text::Short(short) => Text::Short(*short),
-            Text::Long(string) => Text::Long(string.clone()?),
+            Repr::Short(short) => Repr::Short(*short),
+            Repr::Long(string) => Repr::Long(string.clone()?),
         };
         Ok(ObjectName { text })
     }

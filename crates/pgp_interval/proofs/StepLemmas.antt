@@ -1,6 +1,6 @@
 -- What a step does to the intervals: the past ones stay, and the current one goes on or ends.
 use Rattle.std.proofs.Common.{◌≡◌, ◌≢◌, ℕ, zero, suc, ◌+◌, ◌<◌, ◌≤◌, List, [], ◌∷◌, ◌++◌, Bool, true, false, not, map, filter, fold, max, refl, ap, sym, ◌∙◌, arith, add-one}
-use Rattle.std.specs.List.{Contains, range_with_len}
+use Rattle.std.specs.List.{range_with_len}
 use Rattle.std.proofs.lemmas.Bool.{cases_lt}
 use Rattle.std.proofs.lemmas.List.{get_or_append_left, get_or_default, get_or_push, length_push}
 use Rattle.pgp_ids.specs.declared.history.EpochState.{EpochState}
@@ -10,14 +10,9 @@ use Rattle.pgp_interval.specs.SameMembers.{is_same}
 use Rattle.pgp_interval.specs.History.{History, stepped, last_place, current_state, state_at, members_at}
 use Rattle.pgp_interval.specs.Runs.{ends_at, opens_at, opening_of, past_ending, past_ends, past_intervals, current_first, current_ending}
 use Rattle.pgp_interval.proofs.Openings.{opening_of-opens, opening_of-stays, opens_at-next}
-use Rattle.pgp_lists.proofs.Members.{Contains-here, Contains-later, filter-agree, filter-contains}
+use Rattle.pgp_lists.proofs.Members.{filter-agree, filter-contains, map-agree}
 use Rattle.pgp_lists.proofs.Ranges.{map_filter_range-passes, map_filter_range-fails}
 use Rattle.pgp_interval.proofs.IntervalLemmas.{range-below, members_at-last_place, same-stays, differ-ends}
-
--- the same values on a list
-map-agree : {X Y : Type 0} (f g : X → Y) (xs : List X) → ((x : X) → Contains xs x → f x ≡ g x) → map f xs ≡ map g xs
-map-agree f g [] same = refl
-map-agree f g (x ∷ xs) same = λ i. same x (Contains-here x xs) i ∷ map-agree f g xs (λ y there. same y (Contains-later x xs y there)) i
 
 -- the epoch that was current, with its facts
 abbrev ended_state : {C : Type 0} → History C → PrimaryFacts → EpochState

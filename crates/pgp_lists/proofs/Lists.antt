@@ -1,5 +1,5 @@
 -- Elements by their places, and tests of lists.
-use Rattle.std.proofs.Common.{◌≡◌, ℕ, zero, suc, ◌<◌, List, [], ◌∷◌, ◌++◌, Some, Bool, true, false, ◌||◌, length, take, drop, set, slice_get, append-nil, refl, ap, sym, ◌∙◌, arith}
+use Rattle.std.proofs.Common.{◌≡◌, ℕ, zero, suc, ◌<◌, List, [], ◌∷◌, ◌++◌, Some, Bool, true, false, ◌||◌, length, map, take, drop, set, slice_get, append-nil, refl, ap, sym, ◌∙◌, arith}
 use Rattle.std.specs.List.{flat_map, list_any}
 use Rattle.std.proofs.lemmas.Bool.{or_parts}
 use Rattle.std.proofs.lemmas.List.{take_at, take-append-drop}
@@ -47,6 +47,16 @@ pub none-at : {X : Type 0} (test : X → Bool) (xs : List X) (n : ℕ) (x : X) �
 none-at test [] n x none is = cc
 none-at test (y ∷ xs) zero x none is = let same : y ≡ x = cc in let parts = or_parts (test y) (list_any test xs) none in ap test (sym same) ∙ parts.0
 none-at test (y ∷ xs) (suc n) x none is = none-at test xs n x (or_parts (test y) (list_any test xs) none).1 is
+
+-- and what the element at each place doesn't pass, none does
+pub none-each : {X : Type 0} (test : X → Bool) (xs : List X) → ((n : ℕ) (x : X) → slice_get xs n ≡ Some x → test x ≡ false) → list_any test xs ≡ false
+none-each test [] each = refl
+none-each test (x ∷ xs) each = rw (each 0 x refl) (none-each test xs (λ n y at. each (suc n) y at))
+
+-- a test of a list that is seen through a map
+pub any-mapped : {X Y : Type 0} (f : X → Y) (test : Y → Bool) (xs : List X) → list_any test (map f xs) ≡ list_any (λ x. test (f x)) xs
+any-mapped f test [] = refl
+any-mapped f test (x ∷ xs) = ap (λ rest. test (f x) || rest) (any-mapped f test xs)
 
 -- an element of the front passes the test
 pub any-front : {X : Type 0} (test : X → Bool) (xs : List X) (n : ℕ) → list_any test (take n xs) ≡ true → list_any test xs ≡ true

@@ -66,6 +66,12 @@ filter-agree {X = X} f g (x ∷ xs) same =
 
 -- ---- maps
 
+-- functions that agree at each element
+pub map-agree : {X Y : Type 0} (f g : X → Y) (xs : List X) → ((x : X) → Contains xs x → f x ≡ g x) → map f xs ≡ map g xs
+map-agree f g [] same = refl
+map-agree f g (x ∷ xs) same =
+    ap₂ (λ y ys. y ∷ ys) (same x (Contains-here x xs)) (map-agree f g xs (λ y there. same y (Contains-later x xs y there)))
+
 pub map-contains : {X Y : Type 0} (f : X → Y) (xs : List X) (y : Y) → Contains (map f xs) y → (x : X) × (Contains xs x × (f x ≡ y))
 map-contains f [] y in' = absurd (Contains-nil y in')
 map-contains f (x ∷ xs) y in' =

@@ -1,5 +1,5 @@
 -- Lists of groups of which one changes, or with one more, and the table of their places.
-use Rattle.std.proofs.Common.{◌≡◌, ℕ, suc, ◌<◌, List, [], ◌∷◌, ◌++◌, inl, inr, Bool, true, false, ◌||◌, cond, Option, Some, None, is_some, length, set, refl, sym, ap, ◌∙◌, subst, arith, length-append, eq-eqb}
+use Rattle.std.proofs.Common.{◌≡◌, ℕ, ◌<◌, List, [], ◌∷◌, ◌++◌, inl, inr, Bool, true, false, ◌||◌, cond, Option, Some, None, is_some, length, set, refl, sym, ap, ◌∙◌, subst, arith, length-append, eq-eqb}
 use Rattle.std.specs.HashMap as hash
 use Rattle.std.specs.List.{list_any}
 use Rattle.std.specs.Option.{option_map}
@@ -10,7 +10,7 @@ use Rattle.std.proofs.Math.Bool.{or-false, or-true}
 use Rattle.std.proofs.lemmas.List.{length-map, map-append}
 use Rattle.std.proofs.lemmas.List.Folds.{list_any-append}
 use Rattle.std.proofs.lemmas.Option.{get_or_from_slice_get, same_Some, slice_get-map, slice_get_within, none-some}
-use Rattle.pgp_lists.proofs.Lists.{get-append, get-last, get-set_other, get-set_same, none-at}
+use Rattle.pgp_lists.proofs.Lists.{get-append, get-last, get-set_other, get-set_same, none-at, none-each}
 use Rattle.pgp_ids.specs.declared.entry.Entry.{Entry}
 use Rattle.pgp_ids.specs.declared.pg_id.PgId.{PgId}
 use Rattle.pgp_map.specs.Pools.{is_same_group}
@@ -192,15 +192,11 @@ groups-more later old groups kept absent step items is are =
 
 -- ---- which groups are kept
 
-none-of : {X : Type 0} (test : X → Bool) (xs : List X) → ((j : ℕ) (x : X) → slice_get xs j ≡ Some x → test x ≡ false) → list_any test xs ≡ false
-none-of test [] each = refl
-none-of test (x ∷ xs) each = rw (each 0 x refl) (none-of test xs (λ j y at. each (suc j) y at))
-
 -- those that the table has, and no other
 pub keeps-found : (groups : Groups) (pg : PgId) → AreAtPlaces groups → is_some (hash.get is_same_group groups.places pg) ≡ keeps pg groups
 keeps-found groups pg are = at (hash.get is_same_group groups.places pg) refl where
   at : (found : Option ℕ) → hash.get is_same_group groups.places pg ≡ found → is_some found ≡ keeps pg groups
-  at None none = sym (none-of (is_same_group pg) (ids_of groups.kept.items) (λ j other there. missing-id groups pg other j are none there))
+  at None none = sym (none-each (is_same_group pg) (ids_of groups.kept.items) (λ j other there. missing-id groups pg other j are none there))
   at (Some place) is = elim (cases_Bool (keeps pg groups)) [
     | inl kept ↦ sym kept
     | inr none ↦ absurd (true≢false (sym (same-self pg) ∙ none-at (is_same_group pg) (ids_of groups.kept.items) place pg none (are.there pg place is)))

@@ -14,6 +14,7 @@ use Rattle.pgp_ids.specs.declared.entry.Entry.TheVariants as entry
 use Rattle.pgp_ids.specs.declared.incremental.Incremental.{Incremental}
 use Rattle.pgp_ids.specs.declared.view.View.{View}
 use Rattle.pgp_ids.specs.declared.pg_id.PgId.{PgId}
+use Rattle.pgp_lists.proofs.Lists.{none-each}
 use Rattle.pgp_map.specs.Pools.{is_same_group}
 use Rattle.pgp_group.specs.Touched.{changes_pool, changes_temp, is_touched, moves_all}
 use Rattle.pgp_log.specs.Kept.{AreAllMarked, AreAtPlaces, ids_of, is_marked, marks_in, marks_of}
@@ -80,17 +81,13 @@ marks-asked old groups pg place kept after are is at there items =
 pub marks-elsewhere : (groups : Groups) (pg : PgId) → AreAtPlaces groups → hash.get is_same_group groups.places pg ≡ None → marks_of groups ≡ without pg (marks_of groups)
 marks-elsewhere groups pg are none = all-other is_marked pg_of (is_same_group pg) groups.kept.items (λ j kept at. missing-group groups pg j kept are none at)
 
-any-of-none : {X : Type 0} (p : X → Bool) (xs : List X) → ((j : ℕ) (x : X) → slice_get xs j ≡ Some x → p x ≡ false) → list_any p xs ≡ false
-any-of-none p [] none = refl
-any-of-none p (x ∷ xs) none = rw (none 0 x refl) (any-of-none p xs (λ j y at. none (suc j) y at))
-
 -- none but the one at this place passes
 any-of-one : {X : Type 0} (p : X → Bool) (xs : List X) (i : ℕ) (x : X) → slice_get xs i ≡ Some x → ((j : ℕ) (y : X) → (j ≡ i → ⊥) → slice_get xs j ≡ Some y → p y ≡ false)
     → list_any p xs ≡ p x
 any-of-one p [] i x at others = cc
 any-of-one p (y ∷ xs) zero x at others =
     let here : y ≡ x = cc in
-    ap (λ b. p y || b) (any-of-none p xs (λ j z found. others (suc j) z (λ e. absurd (omega (arith, e))) found)) ∙ or-false (p y) ∙ ap p here
+    ap (λ b. p y || b) (none-each p xs (λ j z found. others (suc j) z (λ e. absurd (omega (arith, e))) found)) ∙ or-false (p y) ∙ ap p here
 any-of-one p (y ∷ xs) (suc i) x at others =
     ap (λ b. b || list_any p xs) (others 0 y (λ e. absurd (omega (arith, e))) refl)
     ∙ any-of-one p xs i x at (λ j z differs found. others (suc j) z (λ e. differs (omega (arith, e))) found)

@@ -7,6 +7,7 @@ use Rattle.std.proofs.Common.{◌≡◌, ℕ, List, [], ◌∷◌, ◌++◌, Boo
 use Rattle.std.proofs.lemmas.Bool.{and_parts, or_parts, eqb-true}
 use Rattle.std.proofs.lemmas.Bool.Decides.{nat_tests}
 use Rattle.std.proofs.lemmas.Option.{same_Some}
+use Rattle.pgp_lists.proofs.Options.{some-weaker}
 use Rattle.pgp_ids.specs.declared.entry.Entry.{Entry}
 use Rattle.pgp_ids.specs.declared.entry.Entry.TheVariants as entry
 use Rattle.pgp_ids.specs.declared.incremental.Incremental.{Incremental}
@@ -69,17 +70,13 @@ moves_none inc id still =
     let parts = or_parts (is_some inc.crush || nat_lt 0 (length inc.weight)) (nat_lt 0 (length inc.sizes)) still in
     rw (parts.0, unsized inc.sizes id parts.1) refl
 
-if_some : {X : Type 0} (found : Option X) (P Q : X → Type 0) → ((x : X) → P x → Q x) → IfSome found P → IfSome found Q
-if_some None P Q step here = tt
-if_some (Some x) P Q step here = step x here
-
 -- the raw sets stay those of the map, unless the entry is an incremental that may move groups
 pub sets-stay : (log : List Entry) (new : Entry) (sets : RawSets) → fits log new ≡ None → option_map_or moves_any (inc_of new) false ≡ false
     → AreRawSets (incs_of log) sets → AreRawSets (incs_of (log ++ new ∷ [])) sets
 sets-stay log (entry.Inc inc) sets fit still are =
     let fine = faultless-inc log (entry.Inc inc) inc refl (fits-faultless log (entry.Inc inc) fit) in
     rw (incs-inc log (entry.Inc inc) inc refl) (record {
-      each = λ pg. if_some (hash.get is_same_group sets.known pg) (IsRawSet (incs_of log) pg) (IsRawSet (then_with (incs_of log) inc) pg)
+      each = λ pg. some-weaker (hash.get is_same_group sets.known pg) (IsRawSet (incs_of log) pg) (IsRawSet (then_with (incs_of log) inc) pg)
           (λ places is. raw_set-stays (incs_of log) inc pg places fine (moves_none inc pg.pool still) is) (are.each pg);
     })
 sets-stay log (entry.Info info) sets fit still are = rw (incs-other log (entry.Info info) refl) are

@@ -1,5 +1,5 @@
 -- Logs whose entries have other owners too: each element of a list stands for an entry.
-use Rattle.std.proofs.Common.{◌≡◌, ℕ, ◌+◌, ◌<◌, List, [], ◌∷◌, ◌++◌, Option, None, Some, IfSome, Result, Ok, Err, IfOk, true, length, map, take, drop, get_or, ap, sym, ◌∙◌, arith, append_assoc}
+use Rattle.std.proofs.Common.{◌≡◌, ℕ, ◌+◌, ◌<◌, List, [], ◌∷◌, ◌++◌, None, Result, Ok, Err, IfOk, true, length, map, take, drop, get_or, ap, sym, ◌∙◌, arith, append_assoc}
 use Rattle.std.proofs.lemmas.List.{map-append, map_more, take-append-drop, take_all}
 use Rattle.pgp_ids.specs.declared.entry.Entry.{Entry}
 pub use Rattle.pgp_lists.proofs.Results.{on_err}
@@ -48,8 +48,3 @@ closed-by-last f xs i x legal last item =
 pub ok-both : {X E : Type 0} (r : Result X E) (P Q R : X → Type 0) → ((x : X) → P x → Q x → R x) → IfOk r P → IfOk r Q → IfOk r R
 ok-both (Ok x) P Q R goes one two = goes x one two
 ok-both (Err e) P Q R goes one two = tt
-
--- what holds of the value, if there is one
-pub some-weaker : {X : Type 0} (o : Option X) (P Q : X → Type 0) → ((x : X) → P x → Q x) → IfSome o P → IfSome o Q
-some-weaker None P Q goes is = tt
-some-weaker (Some x) P Q goes is = goes x is

@@ -58,7 +58,7 @@ pub fn add(
     change: Change,
     name: &str,
 ) -> Result<(), Fail> {
-    let object = ObjectName::new(String::from_str(alloc, name)?).ok_or("a name")?;
+    let object = ObjectName::new(alloc, name)?.ok_or("a name")?;
     log.add(&LogEntry {
         version,
         change,

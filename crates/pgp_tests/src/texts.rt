@@ -90,7 +90,7 @@ fn one<T: Drop>(alloc: Global, item: T) -> Result<Seq<T>, AllocError> {
 
 /// The peer lacks one object.
 fn peer(alloc: Global, member: Member) -> Result<PeerMissing, Fail> {
-    let object = ObjectName::new(String::from_str(alloc, "a\"")?).ok_or("a name")?;
+    let object = ObjectName::new(alloc, "a\"")?.ok_or("a name")?;
     let version = Version {
         epoch: Epoch::new(1),
         v: 2,

@@ -29,7 +29,7 @@ impl Shape for ObjectName {
         let Some(name) = value.as_str() else {
             return Ok(None);
         };
-        ObjectName::copy_of(alloc, name)
+        ObjectName::new(alloc, name)
     }
 }
 

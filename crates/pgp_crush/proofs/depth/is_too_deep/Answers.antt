@@ -7,7 +7,7 @@ use Rattle.std.specs.HashSet as bag
 use Rattle.pgp_crush.specs.Bucket.{Bucket, bucket_of}
 use Rattle.pgp_crush.specs.TreeFault.{items_of, below_levels}
 use Rattle.pgp_crush.proofs.FaultLemmas.{below_levels-none, is_held_is, any-filter, below_levels-more}
-use Rattle.pgp_crush.proofs.TreeLemmas.{any_mapped}
+use Rattle.pgp_lists.proofs.Lists.{any-mapped}
 use Rattle.pgp_crush.proofs.depth.is_too_deep.Goals as goal
 
 pub loop-level-init : goal.loop-level-init
@@ -23,7 +23,7 @@ pub returns : goal.returns
 returns c =
     let last : c.loop-level._level ≡ 10 = omega arith in
     let passes = λ (b : Bucket). bag.contains int_eq c.loop-level.below b.id in
-    rw (← (rw last at c.loop-level.invariant), any-filter passes (map bucket_of c.args.buckets.now), any_mapped bucket_of passes c.args.buckets.now) c.any_within.ensures
+    rw (← (rw last at c.loop-level.invariant), any-filter passes (map bucket_of c.args.buckets.now), any-mapped bucket_of passes c.args.buckets.now) c.any_within.ensures
 
 pub returns-then-is_empty : goal.returns-then-is_empty
 returns-then-is_empty c =

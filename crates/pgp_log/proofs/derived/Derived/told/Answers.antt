@@ -3,7 +3,7 @@ use Rattle.pgp_map.specs.Pools.{has_group}
 use Rattle.pgp_group.specs.Entries.{incs_of}
 use Rattle.pgp_log.specs.Kept.{marks_of}
 use Rattle.pgp_log.specs.Shard.{is_among}
-use Rattle.pgp_log.proofs.SharedLemmas.{some-weaker}
+use Rattle.pgp_lists.proofs.Options.{some-weaker}
 use Rattle.pgp_log.proofs.derived.Derived.told.Goals as goal
 
 pub returns-clause-view : goal.returns-clause-view

@@ -1,5 +1,5 @@
 use Rattle.pgp_log.proofs.PartLemmas.{derived-there}
-use Rattle.pgp_log.proofs.SharedLemmas.{some-weaker}
+use Rattle.pgp_lists.proofs.Options.{some-weaker}
 use Rattle.pgp_log.proofs.part.Part.told.Goals as goal
 
 pub returns-in-Some-clause-view : goal.returns-in-Some-clause-view
