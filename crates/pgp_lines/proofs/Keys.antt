@@ -8,8 +8,8 @@ use Rattle.std.specs.Ordering.{match_ordering, ordering_reverse}
 use Rattle.json.specs.Json as json
 use Rattle.json.specs.Token.{Token}
 use Rattle.serde_json.specs.Data.{Data, Members, no_members, member, put}
-use Rattle.pgp_lines.specs.Shapes.{lesser, least, keys_of, is_key, unknown_key_in}
-use Rattle.pgp_lines.specs.Tree.{data_in, members_in, json_of, view, picked}
+use Rattle.pgp_lines.specs.Shapes.{lesser, least_with, least, keys_of, is_key, unknown_key_in}
+use Rattle.pgp_lines.specs.Value.{json_data, members_data, json_of, view}
 
 -- the keys, as contracts see the code's list of them
 abbrev pub texts : List (Bor (List ℕ)) → List (List ℕ)
@@ -38,37 +38,37 @@ lesser-grouped a b c =
 
 -- ---- the least of a list
 
-fold-lesser : (a b : List ℕ) (texts : List (List ℕ)) → fold lesser (lesser a b) texts ≡ lesser a (fold lesser b texts)
+fold-lesser : (a b : List ℕ) (xs : List (List ℕ)) → fold lesser (lesser a b) xs ≡ lesser a (fold lesser b xs)
 fold-lesser a b [] = refl
 fold-lesser a b (x ∷ xs) = ap (λ y. fold lesser y xs) (lesser-grouped a b x) ∙ fold-lesser a (lesser b x) xs
 
-fold-picked : (a : List ℕ) (texts : List (List ℕ)) → fold lesser a texts ≡ picked a (least texts)
-fold-picked a [] = refl
-fold-picked a (x ∷ xs) = fold-lesser a x xs
+fold-least_with : (a : List ℕ) (xs : List (List ℕ)) → fold lesser a xs ≡ least_with a (least xs)
+fold-least_with a [] = refl
+fold-least_with a (x ∷ xs) = fold-lesser a x xs
 
-picked-swap : (a b : List ℕ) (best : Option (List ℕ)) → picked a (Some (picked b best)) ≡ picked b (Some (picked a best))
-picked-swap a b None = lesser-swap a b
-picked-swap a b (Some c) = sym (lesser-grouped a b c) ∙ ap (λ x. lesser x c) (lesser-swap a b) ∙ lesser-grouped b a c
+least_with-swap : (a b : List ℕ) (best : Option (List ℕ)) → least_with a (Some (least_with b best)) ≡ least_with b (Some (least_with a best))
+least_with-swap a b None = lesser-swap a b
+least_with-swap a b (Some c) = sym (lesser-grouped a b c) ∙ ap (λ x. lesser x c) (lesser-swap a b) ∙ lesser-grouped b a c
 
-picked-twice : (a : List ℕ) (best : Option (List ℕ)) → picked a best ≡ picked a (Some (picked a best))
-picked-twice a None = sym (lesser-self a)
-picked-twice a (Some b) = sym (lesser-twice a b)
+least_with-twice : (a : List ℕ) (best : Option (List ℕ)) → least_with a best ≡ least_with a (Some (least_with a best))
+least_with-twice a None = sym (lesser-self a)
+least_with-twice a (Some b) = sym (lesser-twice a b)
 
 -- the least past one text more
 abbrev past : Bool → List ℕ → Option (List ℕ) → Option (List ℕ)
-past passes text best = cond passes (Some (picked text best)) best
+past passes text best = cond passes (Some (least_with text best)) best
 
-first : (passes : Bool) (text : List ℕ) (texts : List (List ℕ)) → least (cond passes (text ∷ texts) texts) ≡ past passes text (least texts)
-first true text texts = ap Some (fold-picked text texts)
-first false text texts = refl
+first : (passes : Bool) (text : List ℕ) (others : List (List ℕ)) → least (cond passes (text ∷ others) others) ≡ past passes text (least others)
+first true text others = ap Some (fold-least_with text others)
+first false text others = refl
 
 past-swap : (p q : Bool) (a b : List ℕ) (best : Option (List ℕ)) → past p a (past q b best) ≡ past q b (past p a best)
-past-swap true true a b best = ap Some (picked-swap a b best)
+past-swap true true a b best = ap Some (least_with-swap a b best)
 past-swap false q a b best = refl
 past-swap p false a b best = refl
 
 past-twice : (p : Bool) (a : List ℕ) (best : Option (List ℕ)) → past p a best ≡ past p a (past p a best)
-past-twice true a best = ap Some (picked-twice a best)
+past-twice true a best = ap Some (least_with-twice a best)
 past-twice false a best = refl
 
 -- ---- the least key
@@ -97,10 +97,10 @@ module _ (test : List ℕ → Bool) where
   least_past best (json.member key j ms) = least_past (past (test key) key best) ms
 
   -- the least key is that which a walk over the members finds
-  least-members : (ms : json.Members) (found : Members) → least_in (members_in ms found) ≡ least_past (least_in found) ms
+  least-members : (ms : json.Members) (found : Members) → least_in (members_data ms found) ≡ least_past (least_in found) ms
   least-members json.no_members found = refl
   least-members (json.member key j ms) found =
-      least-members ms (put key (data_in j) found) ∙ ap (λ best. least_past best ms) (least-put key (data_in j) found)
+      least-members ms (put key (json_data j) found) ∙ ap (λ best. least_past best ms) (least-put key (json_data j) found)
 
 -- the least of the keys that are none of these, and of the least so far
 abbrev pub least_unknown : List (List ℕ) → Option (List ℕ) → json.Members → Option (List ℕ)

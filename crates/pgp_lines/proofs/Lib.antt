@@ -1,7 +1,7 @@
 pub mod NumberLemmas
-pub mod TreeLemmas
+pub mod ValueLemmas
 pub mod Tapes
-pub mod Values
+pub mod Readable
 pub mod Walks
 pub mod Keys
 pub mod BucketLemmas

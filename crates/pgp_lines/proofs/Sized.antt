@@ -6,13 +6,13 @@ use Rattle.std.proofs.lemmas.Bool.{and_parts}
 use Rattle.std.proofs.lemmas.Bool.Decides.{leb_tells}
 use Rattle.std.proofs.lemmas.Option.{IfSome_then}
 use Rattle.serde_json.specs.Data.{Data}
-use Rattle.serde_json.specs.Find.{get, as_array, as_bool, as_number, as_u64, as_str}
+use Rattle.serde_json.specs.Find.{get, as_bool, as_number, as_u64, as_str}
 use Rattle.pgp_ids.specs.declared.entry.Entry.TheVariants.{Entries}
 use Rattle.pgp_ids.specs.declared.report.Info.{Info}
 use Rattle.pgp_ids.specs.declared.report.Report.{Report}
 use Rattle.pgp_ids.specs.declared.pool.PoolKind.TheVariants.{Replicated, Erasure}
 use Rattle.pgp_lines.specs.LineFault.{LineFault, no_op, bad_field, ◌>>=◌}
-use Rattle.pgp_lines.specs.Shapes.{is_between, number_in, pair_in, items_list, each, list_in, has_only, field, required, unknown_key_in}
+use Rattle.pgp_lines.specs.Shapes.{is_between, number_in, items_in, pair_in, each, list_in, has_only, field, required, unknown_key_in}
 use Rattle.pgp_lines.specs.Trace.{replicated_in, erasure_in, code_of_kind, code_in, has_empty_places, epochs_in}
 use Rattle.pgp_lines.specs.Ids.{osd_in, pool_id_in, word_in}
 use Rattle.pgp_lines.specs.Incremental.{inc_of}
@@ -88,9 +88,9 @@ length-each shape (d ∷ ds) =
 
 list_sized : {A : Type 0} (low high : ℕ) (shape : Data → Option A) (d : Data) → IfSome (list_in low high shape d) (λ xs. IsWithin low high (length xs))
 list_sized low high shape d =
-    from_any (λ xs. IsWithin low high (length xs)) (as_array d) _
-    (λ items. tested (λ xs. IsWithin low high (length xs)) (is_between low high (length (items_list items))) _
-    (λ is. IfSome_then (each shape (items_list items)) (length-each shape (items_list items)) (λ xs same. rw same (within low high (length (items_list items)) is))))
+    from_any (λ xs. IsWithin low high (length xs)) (items_in d) _
+    (λ ds. tested (λ xs. IsWithin low high (length xs)) (is_between low high (length ds)) _
+    (λ is. IfSome_then (each shape ds) (length-each shape ds) (λ xs same. rw same (within low high (length ds) is))))
 
 number_within : (low high : ℕ) (d : Data) → IfSome (number_in low high d) (IsWithin low high)
 number_within low high d =

@@ -1,23 +1,17 @@
 -- The value that a line's tokens are, and those that are found in it.
-use Rattle.std.proofs.Common.{◌≡◌, ℕ, suc, ◌+◌, ◌-◌, ◌≤◌, max, List, [], ◌∷◌, ◌++◌, length, Bool, true, false, ◌&&◌, cond, Option, Some, None, option_map, option_and_then, IsSome, MatchOption, nat_le, nat_lt, refl, sym, ap, ◌∙◌, subst, arith, append_assoc, append-nil, length-append}
-use Rattle.std.proofs.Math.Bool.{and-true}
-use Rattle.std.proofs.lemmas.Bool.Decides.{nat_tests}
-use Rattle.std.proofs.lemmas.Bool.{le-leb, leb-true}
+use Rattle.std.proofs.Common.{◌≡◌, ℕ, ◌≤◌, List, [], ◌∷◌, ◌++◌, length, Option, Some, None, option_map, MatchOption, refl, sym, ap, ◌∙◌, subst, arith, append_assoc, length-append}
 use Rattle.json.specs.Token.{Token}
-use Rattle.json.specs.Lex.{tokens}
 use Rattle.json.specs.Json as json
 use Rattle.json.specs.Find as json_find
 use Rattle.json.specs.Tree.{json_tokens, items_tokens, members_tokens, depth, items_depth, members_depth}
 use Rattle.json.proofs.Grammar.{closed_array}
-use Rattle.json.proofs.Found.{Some_inj, document-BeginsWith, one_reading, items_close, items_go_on}
-use Rattle.json.proofs.Nesting.{value-depth}
+use Rattle.json.proofs.Found.{items_close, items_go_on}
 use Rattle.json.proofs.Printed.Trees.{value-json_tokens}
-use Rattle.json.proofs.Unique.Spelling.{value-json_tokens_back, tokens-document}
+use Rattle.json.proofs.Unique.Spelling.{value-json_tokens_back}
 use Rattle.serde_json.specs.Find as find
-use Rattle.serde_json.specs.Read.{read}
-use Rattle.pgp_lines.specs.Shapes.{items_list, items_in as items_of}
-use Rattle.pgp_lines.specs.Tree.{data_in, items_in, has_numbers, items_have_numbers, members_have_numbers, json_of, view, items_left, in_range_from}
-use Rattle.pgp_lines.proofs.TreeLemmas.{whole, read-whole, get-in}
+use Rattle.pgp_lines.specs.Shapes.{items_list, items_in}
+use Rattle.pgp_lines.specs.Value.{json_data, items_data, json_of, view, HasItems, items_left}
+use Rattle.pgp_lines.proofs.ValueLemmas.{get-json_data}
 
 -- ---- the value that tokens begin with
 
@@ -50,13 +44,13 @@ pub begins : (ts : List Token) → json_find.HasValue ts → json_find.BeginsWit
 begins ts has = subst (json_find.BeginsWith ts) (sym (json_of-is ts has.0 has.1)) has.1
 
 -- the value at a key
-found_at : (r : Option (List Token)) (o : Option json.Json) → json_find.Finds r o → option_map view r ≡ option_map data_in o
+found_at : (r : Option (List Token)) (o : Option json.Json) → json_find.Finds r o → option_map view r ≡ option_map json_data o
 found_at None o none = rw none
 found_at (Some ts) o found = rw (found.1, json_of-is ts found.0 found.2)
 
-pub got : (key : List ℕ) (ts : List Token) (r : Option (List Token)) → json_find.HasValue ts → ((j : json.Json) → json_find.BeginsWith ts j → json_find.Finds r (json_find.get key j))
+pub got : (key : List ℕ) (ts : List Token) (r : Option (List Token)) → json_find.BeginsWith ts (json_of ts) → ((j : json.Json) → json_find.BeginsWith ts j → json_find.Finds r (json_find.get key j))
     → option_map view r ≡ find.get key (view ts)
-got key ts r has is = found_at r _ (is _ (begins ts has)) ∙ sym (get-in key (json_of ts))
+got key ts r has is = found_at r _ (is _ has) ∙ sym (get-json_data key (json_of ts))
 
 -- ---- the items of an array
 
@@ -83,113 +77,26 @@ items_spelled (json.item k js) ts inside =
     (λ j more us is within. let same : js ≡ more = cc in subst (λ all. Spelled all us) same (items_spelled js us (subst (json_find.InItems us) (sym same) within)))
 
 -- the items that are left are those of any reading of the tokens
-pub items_left-is : (ts : List Token) (js : json.Items) → json_find.InItems ts js → items_left ts ≡ items_list (items_in js)
+pub items_left-is : (ts : List Token) (js : json.Items) → json_find.InItems ts js → items_left ts ≡ items_list (items_data js)
 unfolding items_left
 items_left-is ts js inside =
     let spelled = items_spelled js ts inside in
     rw (spelled.1, json_of-tokens (json.array js) spelled.0)
 
-abbrev pub HasItems : List Token → Type 0
-HasItems ts = (js : json.Items) × json_find.InItems ts js
-
 -- an array, by the first of its items
-pub items_got : (ts : List Token) (r : Option (List Token)) → json_find.HasValue ts
+pub items_got : (ts : List Token) (r : Option (List Token)) → json_find.BeginsWith ts (json_of ts)
     → ((j : json.Json) → json_find.BeginsWith ts j → MatchOption r (json_find.as_array j ≡ None) (λ first. (js : json.Items) × (j ≡ json.array js) × json_find.InItems first js))
-    → option_map items_left r ≡ items_of (view ts)
-items_got ts None has is = let none : json_find.as_array (json_of ts) ≡ None = is _ (begins ts has) in grind arith
+    → option_map items_left r ≡ items_in (view ts)
+items_got ts None has is = let none : json_find.as_array (json_of ts) ≡ None = is _ has in grind arith
 items_got ts (Some first) has is =
-    let found = is _ (begins ts has) in
+    let found = is _ has in
     rw (found.1, items_left-is first found.0 found.2)
 
 -- the items that are left, by the next of them
 pub next_got : (old : List Token) (r : Option (List Token)) (new : List Token) → HasItems old → json_find.NextItem old r new
-    → MatchOption r (items_left old ≡ []) (λ ts. (items_left old ≡ view ts ∷ items_left new) × json_find.HasValue ts × HasItems new)
-next_got old None new has is = items_left-is old has.0 has.1 ∙ ap (λ js. items_list (items_in js)) (is has.0 has.1)
+    → MatchOption r (items_left old ≡ []) (λ ts. (items_left old ≡ view ts ∷ items_left new) × json_find.BeginsWith ts (json_of ts) × HasItems new)
+next_got old None new has is = items_left-is old has.0 has.1 ∙ ap (λ js. items_list (items_data js)) (is has.0 has.1)
 next_got old (Some ts) new has is =
     let found = is has.0 has.1 in
-    let left = items_left-is old has.0 has.1 ∙ ap (λ js. items_list (items_in js)) found.2 in
-    (rw (left, json_of-is ts found.0 found.3, items_left-is new found.1 found.4), (found.0, found.3), (found.1, found.4))
-
--- ---- what a line may have
-
--- no deeper than so deep, in numbers that are in range
-abbrev fits : ℕ → json.Json → Bool
-fits d j = nat_le (depth j + d) 127 && has_numbers j
-
--- a value that opens nothing
-shallow : (d : ℕ) (numbers rest : Bool) → nat_le d 127 ≡ true → (numbers && rest) ≡ ((nat_le (0 + d) 127 && numbers) && rest)
-shallow d numbers rest is = grind (arith, nat_tests)
-
--- one level down
-opened : (n d : ℕ) (numbers inner rest : Bool) → (nat_le (suc d) 127 ≡ true → inner ≡ ((nat_le (n + suc d) 127 && numbers) && rest))
-    → (nat_lt d 127 && inner) ≡ ((nat_le (suc n + d) 127 && numbers) && rest)
-opened n d numbers inner rest then = grind (arith, nat_tests)
-
--- one value and those that follow it
-joined : (m n d : ℕ) (here later rest : Bool) → ((nat_le (m + d) 127 && here) && ((nat_le (n + d) 127 && later) && rest)) ≡ ((nat_le (max m n + d) 127 && (here && later)) && rest)
-joined m n d here later rest = grind (arith, nat_tests)
-
--- and up again
-closed : (d : ℕ) (rest : List Token) → nat_le (suc d) 127 ≡ true → in_range_from (suc d - 1) rest ≡ ((nat_le (0 + suc d) 127 && true) && in_range_from d rest)
-closed d rest is = let up : suc d - 1 ≡ d = omega arith in ap (λ n. in_range_from n rest) up ∙ shallow (suc d) true _ is
-
--- a walk over the tokens of a value, of items and of members
-mutual
-  in_range-value : (j : json.Json) (d : ℕ) (rest : List Token) → nat_le d 127 ≡ true → in_range_from d (json_tokens j ++ rest) ≡ (fits d j && in_range_from d rest)
-  in_range-value (json.array js) d rest is = opened (items_depth js) d (items_have_numbers js) _ _ (λ within. in_range-items js d rest within)
-  in_range-value (json.object ms) d rest is = opened (members_depth ms) d (members_have_numbers ms) _ _ (λ within. in_range-members ms d rest within)
-  in_range-value j d rest is = shallow d (has_numbers j) _ is
-
-  in_range-items : (js : json.Items) (d : ℕ) (rest : List Token) → nat_le (suc d) 127 ≡ true
-      → in_range_from (suc d) (items_tokens js ++ rest) ≡ ((nat_le (items_depth js + suc d) 127 && items_have_numbers js) && in_range_from d rest)
-  in_range-items json.no_items d rest is = closed d rest is
-  in_range-items (json.item j js) d rest is =
-      rw (append_assoc (json_tokens j) (items_tokens js) rest, in_range-value j (suc d) (items_tokens js ++ rest) is, in_range-items js d rest is)
-      (joined (depth j) (items_depth js) (suc d) (has_numbers j) (items_have_numbers js) _)
-
-  in_range-members : (ms : json.Members) (d : ℕ) (rest : List Token) → nat_le (suc d) 127 ≡ true
-      → in_range_from (suc d) (members_tokens ms ++ rest) ≡ ((nat_le (members_depth ms + suc d) 127 && members_have_numbers ms) && in_range_from d rest)
-  in_range-members json.no_members d rest is = closed d rest is
-  in_range-members (json.member k j ms) d rest is =
-      rw (append_assoc (json_tokens j) (members_tokens ms) rest, in_range-value j (suc d) (members_tokens ms ++ rest) is, in_range-members ms d rest is)
-      (joined (depth j) (members_depth ms) (suc d) (has_numbers j) (members_have_numbers ms) _)
-
--- ---- what `serde_json` reads of a text
-
--- a value that nests deeper is not read
-too_deep : (ts : List Token) (j : json.Json) → json_find.BeginsWith ts j → nat_le (depth j) 127 ≡ false
-    → (o : Option (json.Json × List Token)) → json.value 127 ts ≡ o → whole o ≡ None
-too_deep ts j has deep None e = refl
-too_deep ts j has deep (Some (k, rest)) e =
-    let same : j ≡ k = ap (λ p. p.0) (Some_inj (j, has.1) (k, rest) (one_reading has.0 127 ts (j, has.1) (k, rest) has.2 e)) in
-    let within = le-leb (depth k) 127 (value-depth 127 ts rest k e) in
-    absurd cc
-
-read_at : (b : Bool) (text : List ℕ) (j : json.Json) → json.document text ≡ Some j → nat_le (depth j) 127 ≡ b → read text ≡ cond (b && has_numbers j) (Some (data_in j)) None
-read_at true text j is within =
-    let ts = tokens-document text j is ∙ sym (append-nil (json_tokens j)) in
-    read-whole text j (ap (json.value 127) ts ∙ value-json_tokens j 127 [] (leb-true (depth j) 127 within))
-read_at false text j is deep = too_deep (tokens text) j (document-BeginsWith text j is) deep (json.value 127 (tokens text)) refl
-
--- the value of a text, by that which the tape takes and by a walk over its tokens
-read-document : (text : List ℕ) (j : json.Json) → json.document text ≡ Some j → read text ≡ cond (in_range_from 0 (tokens text)) (Some (data_in j)) None
-read-document text j is =
-    let ts = tokens-document text j is ∙ sym (append-nil (json_tokens j)) in
-    let top : depth j + 0 ≡ depth j = omega arith in
-    let walked = ap (in_range_from 0) ts ∙ in_range-value j 0 [] refl ∙ and-true _ ∙ ap (λ n. nat_le n 127 && has_numbers j) top in
-    rw walked (read_at (nat_le (depth j) 127) text j is refl)
-
-pub read-tape : (o : Option json.Json) (text : List ℕ) (ts : List Token) → json.document text ≡ o → (ts ≡ tokens text) × IsSome o
-    → ((j : json.Json) → o ≡ Some j → json_find.BeginsWith ts j) → read text ≡ cond (in_range_from 0 ts) (Some (view ts)) None
-read-tape None text ts is whole has = absurd cc
-read-tape (Some j) text ts is whole has = rw (json_of-is ts j (has j refl), whole.0) (read-document text j is)
-
--- what the tape refuses has no value
-pub read-none : (o : Option (json.Json × List Token)) (text : List ℕ) → json.value 127 (tokens text) ≡ o → json.document text ≡ None → whole o ≡ None
-read-none None text e is = refl
-read-none (Some (j, t ∷ ts)) text e is = refl
-read-none (Some (j, [])) text e is =
-    let within = value-depth 127 (tokens text) [] j e in
-    let deeper = ap (json.value 128) (value-json_tokens_back 127 (tokens text) [] j e) ∙ value-json_tokens j 128 [] (omega arith) in
-    let value : json.document text ≡ Some j = ap (λ o. option_and_then (λ p. json.if_last p.0 p.1) o) deeper in
-    absurd cc
+    let left = items_left-is old has.0 has.1 ∙ ap (λ js. items_list (items_data js)) found.2 in
+    (rw (left, json_of-is ts found.0 found.3, items_left-is new found.1 found.4), begins ts (found.0, found.3), (found.1, found.4))

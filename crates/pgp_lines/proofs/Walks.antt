@@ -4,10 +4,10 @@ use Rattle.std.specs.Prelude.{if◌then◌else◌}
 use Rattle.serde_json.specs.Data.{Data}
 use Rattle.pgp_lines.specs.Shapes.{is_between, each}
 
--- what the values are, by those that were found and the items that are left
-abbrev pub walked : {A : Type 0} → (Data → Option A) → List A → List Data → Option (List A)
-walked shape found left = option_map (λ rest. found ++ rest) (each shape left)
+-- what the values are: those that were found, and each of the items that are left
+abbrev pub each_after : {A : Type 0} → (Data → Option A) → List A → List Data → Option (List A)
+each_after shape found left = option_map (λ rest. found ++ rest) (each shape left)
 
 -- the same of a list of low to high items
-abbrev pub walked_within : {A : Type 0} → (Data → Option A) → ℕ → ℕ → List A → List Data → Option (List A)
-walked_within shape low high found left = if is_between low high (length found + length left) then walked shape found left else None
+abbrev pub list_after : {A : Type 0} → ℕ → ℕ → (Data → Option A) → List A → List Data → Option (List A)
+list_after low high shape found left = if is_between low high (length found + length left) then each_after shape found left else None

@@ -1,6 +1,6 @@
 pub mod LineFault
 pub mod Shapes
-pub mod Tree
+pub mod Value
 pub mod Ids
 pub mod Devices
 pub mod Pools

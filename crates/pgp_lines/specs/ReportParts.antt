@@ -1,5 +1,5 @@
 -- The shapes of members, versions and log entries in lines, in this project's own format over JSON.
-use Rattle.std.specs.Prelude.{ℕ, List, [], ◌∷◌, length, codes, Option, Some, None, option_and_then, if◌then◌else◌}
+use Rattle.std.specs.Prelude.{ℕ, List, length, codes, Option, Some, None, option_and_then, if◌then◌else◌}
 use Rattle.std.specs.Str.{bytes_eq}
 use Rattle.serde_json.specs.Data.{Data}
 use Rattle.serde_json.specs.Find.{as_str}
@@ -9,7 +9,7 @@ use Rattle.pgp_ids.specs.declared.log_entry.Change.TheVariants.{Modify, Delete}
 use Rattle.pgp_ids.specs.declared.log_entry.LogEntry.{LogEntry}
 use Rattle.pgp_ids.specs.declared.pg_id.PgId.{PgId}
 use Rattle.pgp_ids.specs.declared.version.Version.{Version}
-use Rattle.pgp_lines.specs.Shapes.{is_between, number_in, items_in, pair_in, ◌>>=◌}
+use Rattle.pgp_lines.specs.Shapes.{is_between, number_in, pair_in, quadruple_in, ◌>>=◌}
 use Rattle.pgp_lines.specs.Ids.{osd_in, word_in, group_in}
 
 -- [pool, pg]
@@ -51,14 +51,16 @@ change_named word =
 abbrev pub change_in : Data → Option Change
 change_in d = option_and_then change_named (as_str d)
 
-abbrev pub log_entry_of : List Data → Option LogEntry
-log_entry_of (epoch ∷ v ∷ change ∷ name ∷ []) = do
+-- the parts of a log entry
+abbrev pub log_entry_of : Data → Data → Data → Data → Option LogEntry
+log_entry_of epoch v change name = do
   version ← version_of epoch v
   change ← change_in change
   name ← name_in name
   Some (record { version = version; change = change; object = name })
-log_entry_of _ = None
 
 -- [epoch, v, "modify" or "delete", name]
 abbrev pub log_entry_in : Data → Option LogEntry
-log_entry_in d = option_and_then log_entry_of (items_in d)
+log_entry_in d = do
+  parts ← quadruple_in d
+  log_entry_of parts.0 parts.1 parts.2 parts.3

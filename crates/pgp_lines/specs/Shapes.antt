@@ -47,6 +47,14 @@ three_of _ = None
 abbrev pub triple_in : Data → Option (Data × Data × Data)
 triple_in d = option_and_then three_of (items_in d)
 
+abbrev pub four_of : List Data → Option (Data × Data × Data × Data)
+four_of (a ∷ b ∷ c ∷ d ∷ []) = Some (a, b, c, d)
+four_of _ = None
+
+-- the items of a list of four
+abbrev pub quadruple_in : Data → Option (Data × Data × Data × Data)
+quadruple_in d = option_and_then four_of (items_in d)
+
 -- what the values are, where each has this shape
 abbrev pub each : {A : Type 0} → (Data → Option A) → List Data → Option (List A)
 each shape [] = Some []
@@ -54,8 +62,7 @@ each shape (d ∷ ds) = option_and_then (λ x. option_map (λ xs. x ∷ xs) (eac
 
 -- a list of low to high items of this shape
 abbrev pub list_in : {A : Type 0} → ℕ → ℕ → (Data → Option A) → Data → Option (List A)
-list_in low high shape d =
-    option_and_then (λ items. if is_between low high (length (items_list items)) then each shape (items_list items) else None) (as_array d)
+list_in low high shape d = option_and_then (λ ds. if is_between low high (length ds) then each shape ds else None) (items_in d)
 
 -- a list of any length of items of this shape
 abbrev pub list_of : {A : Type 0} → (Data → Option A) → Data → Option (List A)
@@ -64,6 +71,11 @@ list_of shape d = option_and_then (each shape) (items_in d)
 -- the lesser of two texts in byte order
 abbrev pub lesser : List ℕ → List ℕ → List ℕ
 lesser a b = match_ordering (slice_cmp nat_cmp a b) a a b
+
+-- the lesser of a text and the least so far, if there is one
+abbrev pub least_with : List ℕ → Option (List ℕ) → List ℕ
+least_with text None = text
+least_with text (Some best) = lesser text best
 
 -- the least of the texts in byte order
 abbrev pub least : List (List ℕ) → Option (List ℕ)

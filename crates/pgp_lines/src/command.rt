@@ -1,6 +1,6 @@
 //! What a line says: the command that it is, or its first fault.
 ghost use Rattle.std.specs.Prelude.{◌≡◌, map, IfOk, IfErr, IfSome};
-ghost use Rattle.pgp_lines.specs.Tree.{view};
+ghost use Rattle.pgp_lines.specs.Value.{view};
 ghost use Rattle.serde_json.specs.Read.{read};
 ghost use Rattle.pgp_lines.specs.LineFault.{told, not_json};
 ghost use Rattle.pgp_lines.specs.Command.{op_in, op_keys, trace_of, command_with, command_in, data_of, command_of, IsInRange};
@@ -20,7 +20,7 @@ mod numbers;
 mod objects;
 mod pools;
 mod trace;
-mod tree;
+mod value;
 
 use bumpalo::Bump;
 use entries::read_entries;
@@ -36,7 +36,7 @@ use simdutf8::compat::from_utf8;
 use std::alloc::Global;
 pub use trace::MAX_EPOCHS;
 use trace::{has_empty_places, read_code, read_epochs};
-use tree::{Tokens, Value, is_in_range};
+use value::{Tokens, Value, is_readable};
 
 /// What a line asks for.
 #[derive(Debug, Drop)]
@@ -73,8 +73,8 @@ enum Op {
 
 /// Reads a line, without its line feed, as one JSON text.
 ///
-/// Of several faults the first in the order of [`TextFault`] is told. The length is not judged here. `Memory` may come
-/// in place of any answer.
+/// Of several faults the first in the order of [`TextFault`] is told. A text of more than 4,294,967,040 bytes, which no
+/// tape holds, is refused as `Memory`; no other length is judged. `Memory` may come in place of any other answer too.
 pub fn read_line(alloc: Global, line: &[u8]) -> Result<Command, TextFault>
     ensures ok { IfOk result (λ command. command_of line.now ≡ Ok command) }
     ensures err { IfErr result (λ fault. IfSome (told fault) (λ f. command_of line.now ≡ Err f)) }
@@ -160,14 +160,15 @@ fn read_text<'a>(
         (λ fault. IfSome (told fault) (λ f. (read text.now ≡ None) × (f ≡ not_json))) }
 {
     match Tape::parse(text, room, Vec::new(arena)) {
-        Ok(tokens) => if is_in_range(tokens.nodes()) {
+        Ok(tokens) => if is_readable(tokens.nodes()) {
             Ok(tokens)
         } else {
             Err(TextFault::NotJson)
         },
         Err(Error::Invalid) => Err(TextFault::NotJson),
-        // That a text is too long for a tape, which begins near 4 GiB, counts as want of memory.
-        Err(_) => Err(TextFault::Memory),
+        // That a text is too long for a tape counts as want of memory. The last never comes: only a strict reader tells
+        // of a key that stands twice.
+        Err(Error::OutOfMemory | Error::TooLong | Error::DuplicateKey) => Err(TextFault::Memory),
     }
 }
 

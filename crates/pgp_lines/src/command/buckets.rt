@@ -1,6 +1,6 @@
 //! The buckets of a placement tree.
 ghost use Rattle.std.specs.Prelude.{◌≡◌, map, IfOk, length};
-ghost use Rattle.pgp_lines.specs.Tree.{view};
+ghost use Rattle.pgp_lines.specs.Value.{view};
 ghost use Rattle.pgp_ids.specs.Bucket.{weight_count};
 ghost use Rattle.pgp_lines.specs.Ids.{word_in};
 ghost use Rattle.pgp_lines.specs.MadeBucket.{bucket_of};
@@ -9,7 +9,7 @@ ghost use Rattle.pgp_lines.specs.Buckets.{bucket_id_in, bucket_item_in, alg_in, 
 use super::lists::{Shape, read_list_at};
 use super::numbers::{read_byte, read_integer, read_word};
 use super::objects::has_only;
-use super::tree::Value;
+use super::value::Value;
 use pgp_ids::{BucketAlg, BucketSpec, Seq};
 use std::alloc::{AllocError, Global};
 

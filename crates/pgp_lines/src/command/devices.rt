@@ -1,12 +1,12 @@
 //! What a map incremental says of devices.
 ghost use Rattle.std.specs.Prelude.{◌≡◌, true};
-ghost use Rattle.pgp_lines.specs.Tree.{view};
+ghost use Rattle.pgp_lines.specs.Value.{view};
 ghost use Rattle.pgp_lines.specs.Ids.{osd_in, place_in};
 ghost use Rattle.pgp_lines.specs.Devices.{device_weight_in, device_epoch_in};
 
 use super::lists::{Shape, read_pair};
 use super::numbers::{read_epoch, read_osd, read_place, read_word};
-use super::tree::Value;
+use super::value::Value;
 use pgp_ids::{DeviceEpoch, DeviceWeight, OsdId};
 use std::alloc::{AllocError, Global};
 

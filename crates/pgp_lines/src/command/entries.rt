@@ -1,15 +1,15 @@
 //! The line of a part of a member's log.
-ghost use Rattle.std.specs.Prelude.{◌≡◌, [], ◌∷◌, Some, None, Ok, Err, MatchOption, IfOk, IfErr, IfSome};
-ghost use Rattle.pgp_lines.specs.Tree.{view};
+ghost use Rattle.std.specs.Prelude.{◌≡◌, Ok, Err, IfOk, IfErr, IfSome};
+ghost use Rattle.pgp_lines.specs.Value.{view};
 ghost use Rattle.pgp_lines.specs.LineFault.{told};
-ghost use Rattle.pgp_lines.specs.Shapes.{items_in, list_in};
+ghost use Rattle.pgp_lines.specs.Shapes.{list_in};
 ghost use Rattle.pgp_lines.specs.ReportParts.{change_in, log_entry_of, log_entry_in};
 ghost use Rattle.pgp_lines.specs.Reports.{entries_of};
 
 use super::fields::read_required;
-use super::lists::{Shape, read_list_within};
+use super::lists::{Shape, read_list_within, read_quadruple};
 use super::members::version_of;
-use super::tree::Value;
+use super::value::Value;
 use pgp_ids::{Change, LogEntry, ObjectName, Report, Seq, TextFault};
 use std::alloc::{AllocError, Global};
 
@@ -30,29 +30,11 @@ impl Shape for LogEntry {
     ghost shape = { log_entry_in };
 
     fn read(alloc: Global, value: &Value<'_, '_>) -> Result<Option<LogEntry>, AllocError> {
-        let Some((epoch, v, change, name)) = read_parts(value) else {
+        let Some((epoch, v, change, name)) = read_quadruple(value) else {
             return Ok(None);
         };
         log_entry_of(alloc, &epoch, &v, &change, &name)
     }
-}
-
-/// The four items of a list of four.
-fn read_parts<'t, 'a>(
-    value: &Value<'t, 'a>,
-) -> Option<(Value<'t, 'a>, Value<'t, 'a>, Value<'t, 'a>, Value<'t, 'a>)>
-    ensures { MatchOption result (log_entry_in (view value.now) ≡ None) (λ p. items_in (view value.now)
-        ≡ Some (view p.0 ∷ view p.1 ∷ view p.2 ∷ view p.3 ∷ [])) }
-{
-    let mut items = value.items()?;
-    let epoch = items.next()?;
-    let v = items.next()?;
-    let change = items.next()?;
-    let name = items.next()?;
-    if items.next().is_some() {
-        return None;
-    }
-    Some((epoch, v, change, name))
 }
 
 /// The log entries of a line whose keys are known. They are read in ascending byte order, so that the least bad one is
@@ -83,7 +65,7 @@ fn log_entry_of(
     name: &Value<'_, '_>,
 ) -> Result<Option<LogEntry>, AllocError>
     ensures { IfOk result (λ found. found
-        ≡ log_entry_of (view epoch.now ∷ view v.now ∷ view change.now ∷ view name.now ∷ [])) }
+        ≡ log_entry_of (view epoch.now) (view v.now) (view change.now) (view name.now)) }
 {
     let Some(version) = version_of(epoch, v) else {
         return Ok(None);

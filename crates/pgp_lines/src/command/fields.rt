@@ -1,12 +1,12 @@
 //! The values that a line must have.
 ghost use Rattle.std.specs.Prelude.{◌≡◌, Ok, Err, IfOk, IfErr, IfSome};
-ghost use Rattle.pgp_lines.specs.Tree.{view};
+ghost use Rattle.pgp_lines.specs.Value.{view};
 ghost use Rattle.pgp_lines.specs.LineFault.{told};
 ghost use Rattle.pgp_lines.specs.Shapes.{required};
 
 use super::faults::bad_field_fault;
 use super::lists::Shape;
-use super::tree::Value;
+use super::value::Value;
 use pgp_ids::TextFault;
 use std::alloc::Global;
 

@@ -1,6 +1,6 @@
 //! The line of a map incremental.
 ghost use Rattle.std.specs.Prelude.{◌≡◌, [], Ok, Err, None, IfOk, IfErr, IfSome, codes};
-ghost use Rattle.pgp_lines.specs.Tree.{view};
+ghost use Rattle.pgp_lines.specs.Value.{view};
 ghost use Rattle.pgp_lines.specs.LineFault.{told};
 ghost use Rattle.pgp_lines.specs.Shapes.{optional};
 ghost use Rattle.pgp_lines.specs.Buckets.{tree_in};
@@ -9,7 +9,7 @@ ghost use Rattle.pgp_lines.specs.Incremental.{list_at, going_of, pools_of, comin
 use super::faults::bad_field_fault;
 use super::fields::read_required;
 use super::lists::{Shape, read_list};
-use super::tree::Value;
+use super::value::Value;
 use pgp_ids::{
     BucketSpec, DeviceEpoch, DeviceWeight, Epoch, Incremental, OsdId, PoolSizes, PoolSpec, Seq,
     TempList, TextFault,

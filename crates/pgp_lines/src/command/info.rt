@@ -1,11 +1,11 @@
 //! The line of a member's info.
 ghost use Rattle.std.specs.Prelude.{◌≡◌, Ok, Err, IfOk, IfErr, IfSome};
-ghost use Rattle.pgp_lines.specs.Tree.{view};
+ghost use Rattle.pgp_lines.specs.Value.{view};
 ghost use Rattle.pgp_lines.specs.LineFault.{told};
 ghost use Rattle.pgp_lines.specs.Reports.{reach_of, info_of};
 
 use super::fields::read_required;
-use super::tree::Value;
+use super::value::Value;
 use pgp_ids::{Epoch, Info, TextFault, Version};
 use std::alloc::Global;
 

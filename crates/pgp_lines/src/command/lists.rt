@@ -1,10 +1,10 @@
 //! Lists: those of a fixed number of items, and those of items that are all of one shape.
 ghost use Rattle.std.specs.Prelude.{◌≡◌, Option, option_map, IfOk};
 ghost use Rattle.serde_json.specs.Data.{Data};
-ghost use Rattle.pgp_lines.specs.Tree.{view};
-ghost use Rattle.pgp_lines.specs.Shapes.{list_in, list_of, field, pair_in, triple_in};
+ghost use Rattle.pgp_lines.specs.Value.{view};
+ghost use Rattle.pgp_lines.specs.Shapes.{list_in, list_of, field, pair_in, triple_in, quadruple_in};
 
-use super::tree::Value;
+use super::value::Value;
 use pgp_ids::Seq;
 use std::alloc::{AllocError, Global};
 
@@ -38,7 +38,8 @@ pub(super) fn read_list<T: Shape + Drop>(
     Ok(Some(found))
 }
 
-/// A list of `low` to `high` items.
+/// A list of `low` to `high` items. The bound is judged as the list is walked: a longer one is refused after its first
+/// `high` items were read.
 pub(super) fn read_list_within<T: Shape + Drop>(
     alloc: Global,
     value: &Value<'_, '_>,
@@ -107,4 +108,22 @@ pub(super) fn read_triple<'t, 'a>(
         return None;
     }
     Some((a, b, c))
+}
+
+/// The four items of a list of four.
+pub(super) fn read_quadruple<'t, 'a>(
+    value: &Value<'t, 'a>,
+) -> Option<(Value<'t, 'a>, Value<'t, 'a>, Value<'t, 'a>, Value<'t, 'a>)>
+    ensures { option_map (λ q. (view q.0, view q.1, view q.2, view q.3)) result
+        ≡ quadruple_in (view value.now) }
+{
+    let mut items = value.items()?;
+    let a = items.next()?;
+    let b = items.next()?;
+    let c = items.next()?;
+    let d = items.next()?;
+    if items.next().is_some() {
+        return None;
+    }
+    Some((a, b, c, d))
 }

@@ -1,6 +1,6 @@
 //! The line that asks where an object lies.
 ghost use Rattle.std.specs.Prelude.{◌≡◌, Ok, Err, IfOk, IfErr, IfSome};
-ghost use Rattle.pgp_lines.specs.Tree.{view};
+ghost use Rattle.pgp_lines.specs.Value.{view};
 ghost use Rattle.pgp_lines.specs.LineFault.{told};
 ghost use Rattle.pgp_lines.specs.Ids.{pool_id_in};
 ghost use Rattle.pgp_lines.specs.ReportParts.{name_in};
@@ -9,7 +9,7 @@ ghost use Rattle.pgp_lines.specs.Reports.{locate_of};
 use super::fields::read_required;
 use super::lists::Shape;
 use super::numbers::read_pool_id;
-use super::tree::Value;
+use super::value::Value;
 use pgp_ids::{ObjectName, PoolId, TextFault};
 use std::alloc::{AllocError, Global};
 

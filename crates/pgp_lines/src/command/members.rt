@@ -1,13 +1,13 @@
 //! Groups, their members, and the versions of their writes.
 ghost use Rattle.std.specs.Prelude.{◌≡◌};
 ghost use Rattle.serde_json.specs.Find.{as_bool};
-ghost use Rattle.pgp_lines.specs.Tree.{view};
+ghost use Rattle.pgp_lines.specs.Value.{view};
 ghost use Rattle.pgp_lines.specs.Ids.{word_in};
 ghost use Rattle.pgp_lines.specs.ReportParts.{pg_in, member_in, version_of, version_in};
 
 use super::lists::{Shape, read_pair};
 use super::numbers::{read_epoch, read_group, read_number, read_osd, read_word};
-use super::tree::Value;
+use super::value::Value;
 use pgp_ids::{Epoch, Member, PgId, Version};
 use std::alloc::{AllocError, Global};
 

@@ -2,7 +2,7 @@
 ghost use Rattle.std.specs.Prelude.{◌≡◌, ◌==◌, ◌<◌, IsTrue, true, false, option_map, length, slice_index};
 ghost use Rattle.serde_json.specs.Find.{as_u64, as_i64};
 ghost use Rattle.serde_json.specs.Read.{number_of, number_from, float_of};
-ghost use Rattle.pgp_lines.specs.Tree.{num_of};
+ghost use Rattle.pgp_lines.specs.Value.{num_of};
 
 use fast_float::{Numeral, parse_u64};
 
@@ -101,6 +101,7 @@ fn has_minus(bytes: &[u8]) -> bool
     !bytes.is_empty() && bytes[0] == b'-'
 }
 
+/// Whether a text begins with `+`, which `parse_u64` takes and JSON hasn't.
 fn has_plus(bytes: &[u8]) -> bool
     ensures { result ≡ (slice_index bytes.now 0 == 43) }
 {

@@ -1,10 +1,10 @@
 //! Whole numbers of a range, and the ids and epochs that they stand for.
 ghost use Rattle.std.specs.Prelude.{◌≡◌, ◌≤◌, ◌≤ℤ◌, IfSome};
-ghost use Rattle.pgp_lines.specs.Tree.{view};
+ghost use Rattle.pgp_lines.specs.Value.{view};
 ghost use Rattle.pgp_lines.specs.Shapes.{number_in, integer_in};
 ghost use Rattle.pgp_lines.specs.Ids.{osd_in, place_in, pool_id_in, byte_in, word_in, group_in};
 
-use super::tree::Value;
+use super::value::Value;
 use pgp_ids::{Epoch, OsdId, PgId, PoolId};
 
 /// The greatest number of a group in its pool.

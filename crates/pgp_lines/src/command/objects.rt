@@ -1,10 +1,9 @@
 //! Objects whose keys are known.
 ghost use Rattle.std.specs.Prelude.{◌≡◌, map, option_map};
-ghost use Rattle.pgp_lines.specs.Shapes.{is_key, unknown_key_in, has_only};
-ghost use Rattle.pgp_lines.specs.Tree.{view, picked};
+ghost use Rattle.pgp_lines.specs.Shapes.{least_with, is_key, unknown_key_in, has_only};
+ghost use Rattle.pgp_lines.specs.Value.{view};
 
-use super::tree::Value;
-use std::cmp::Ordering;
+use super::value::Value;
 
 /// The least key, in byte order, of an object that is none of `keys`.
 pub(super) fn unknown_key<'a>(value: &Value<'_, 'a>, keys: &[&str]) -> Option<&'a str>
@@ -15,23 +14,20 @@ pub(super) fn unknown_key<'a>(value: &Value<'_, 'a>, keys: &[&str]) -> Option<&'
     let mut least = None;
     while let Some((key, _)) = members.next() {
         if !is_one_of(key, keys) {
-            least = Some(lesser(key, least));
+            least = Some(least_with(key, least));
         }
     }
     least
 }
 
 /// The lesser of a key and the least so far, if there is one.
-fn lesser<'a>(key: &'a str, least: Option<&'a str>) -> &'a str
-    ensures { result.now ≡ picked key.now (option_map (λ k. k.now) least.entry) }
+fn least_with<'a>(key: &'a str, least: Option<&'a str>) -> &'a str
+    ensures { result.now ≡ least_with key.now (option_map (λ k. k.now) least.entry) }
 {
     let Some(least) = least else {
         return key;
     };
-    match key.cmp(least) {
-        Ordering::Greater => least,
-        Ordering::Less | Ordering::Equal => key,
-    }
+    if key <= least { key } else { least }
 }
 
 fn is_one_of(key: &str, keys: &[&str]) -> bool

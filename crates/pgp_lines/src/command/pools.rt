@@ -1,6 +1,6 @@
 //! What a map incremental says of pools and of groups.
 ghost use Rattle.std.specs.Prelude.{◌≡◌, map, IfOk};
-ghost use Rattle.pgp_lines.specs.Tree.{view};
+ghost use Rattle.pgp_lines.specs.Value.{view};
 ghost use Rattle.pgp_lines.specs.Shapes.{field};
 ghost use Rattle.pgp_lines.specs.Ids.{byte_in};
 ghost use Rattle.pgp_lines.specs.Pools.{pool_keys, pool_kind_in, spread_in, pool_in, pool_sizes_in, temp_in};
@@ -8,7 +8,7 @@ ghost use Rattle.pgp_lines.specs.Pools.{pool_keys, pool_kind_in, spread_in, pool
 use super::lists::{Shape, read_list, read_triple};
 use super::numbers::{read_byte, read_group, read_number, read_pool_id};
 use super::objects::has_only;
-use super::tree::Value;
+use super::value::Value;
 use pgp_ids::{PoolKind, PoolSizes, PoolSpec, TempList};
 use std::alloc::{AllocError, Global};
 

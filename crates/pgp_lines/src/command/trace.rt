@@ -1,12 +1,12 @@
 //! The values of a trace line: a code, and the epochs of one group.
 ghost use Rattle.std.specs.Prelude.{◌≡◌, codes, IfOk};
-ghost use Rattle.pgp_lines.specs.Tree.{view};
+ghost use Rattle.pgp_lines.specs.Value.{view};
 ghost use Rattle.pgp_lines.specs.Shapes.{field};
 ghost use Rattle.pgp_lines.specs.Trace.{code_in, erasure_in, has_empty_places, osds_in, sizes_in, facts_in, members_in, epoch_state_in, epochs_in};
 
 use super::numbers::{read_epoch, read_number, read_place};
 use super::objects::has_only;
-use super::tree::Value;
+use super::value::Value;
 use pgp_ids::{EpochState, Membership, Osds, PoolKind, PrimaryFacts, Seq};
 use std::alloc::{AllocError, Global};
 
@@ -49,7 +49,7 @@ pub(super) fn has_empty_places(code: PoolKind) -> bool
     matches!(code, PoolKind::Erasure { .. })
 }
 
-/// At most 16 places.
+/// At most 16 places. The bound is judged as the list is walked: a longer one is refused after its first 16 were read.
 fn read_osds(value: &Value<'_, '_>, nulls: bool) -> Option<Osds>
     ensures { result ≡ osds_in nulls (view value.now) }
 {
@@ -111,7 +111,8 @@ fn read_facts(value: &Value<'_, '_>) -> Option<PrimaryFacts>
     Some(PrimaryFacts { up_from, up_thru })
 }
 
-/// The 1 to 4,096 epochs of a trace, the first of which is epoch 1. An `Err` is want of memory.
+/// The 1 to 4,096 epochs of a trace, the first of which is epoch 1. The bound is judged as the list is walked: a longer
+/// one is refused after its first 4,096 were read. An `Err` is want of memory.
 pub(super) fn read_epochs(
     alloc: Global,
     value: &Value<'_, '_>,

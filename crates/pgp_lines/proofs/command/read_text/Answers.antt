@@ -1,15 +1,15 @@
-use Rattle.std.proofs.Common.{refl, arith}
-use Rattle.pgp_lines.proofs.Tapes.{read-tape, read-none}
+use Rattle.std.proofs.Common.{◌∙◌, refl, arith}
+use Rattle.pgp_lines.proofs.Readable.{read-tape, read-none}
 use Rattle.pgp_lines.proofs.command.read_text.Goals as goal
 
-pub returns-then-is_in_range-clause-ok : goal.returns-then-is_in_range-clause-ok
-returns-then-is_in_range-clause-ok c =
-    let is = read-tape _ c.args.text.now c.in-Ok.tokens refl c.in-Ok.ensures.ok c.in-Ok.ensures.value in
+pub returns-then-is_readable-clause-ok : goal.returns-then-is_readable-clause-ok
+returns-then-is_readable-clause-ok c =
+    let is = read-tape _ c.args.text.now c.in-Ok.tokens refl c.in-Ok.ensures.ok c.in-Ok.ensures.value _ (λ j same. c.is_readable.ensures j (c.nodes.ensures.tokens ∙ same)) in
     grind (arith, is)
 
 pub returns-in-Ok-clause-err : goal.returns-in-Ok-clause-err
 returns-in-Ok-clause-err c =
-    let is = read-tape _ c.args.text.now c.in-Ok.tokens refl c.in-Ok.ensures.ok c.in-Ok.ensures.value in
+    let is = read-tape _ c.args.text.now c.in-Ok.tokens refl c.in-Ok.ensures.ok c.in-Ok.ensures.value _ (λ j same. c.is_readable.ensures j (c.nodes.ensures.tokens ∙ same)) in
     (grind (arith, is), refl)
 
 pub returns-in-Err-Invalid-clause-err : goal.returns-in-Err-Invalid-clause-err

@@ -1,5 +1,5 @@
 use Rattle.std.proofs.lemmas.Result.{IfOk-weaker}
-use Rattle.pgp_lines.specs.Tree.{view}
+use Rattle.pgp_lines.specs.Value.{view}
 use Rattle.pgp_lines.proofs.Sized.{in_range}
 use Rattle.pgp_lines.proofs.command.read_within.Goals as goal
 

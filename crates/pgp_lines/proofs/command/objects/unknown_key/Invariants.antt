@@ -2,7 +2,7 @@ use Rattle.std.proofs.Common.{◌≡◌, length, option_map}
 use Rattle.json.specs.Json.{Members}
 use Rattle.json.specs.Find.{InMembers}
 use Rattle.pgp_lines.specs.Shapes.{unknown_key_in}
-use Rattle.pgp_lines.specs.Tree.{view}
+use Rattle.pgp_lines.specs.Value.{view}
 use Rattle.pgp_lines.proofs.Keys.{texts, least_unknown}
 use Rattle.pgp_lines.proofs.command.objects.unknown_key.Given as goal
 

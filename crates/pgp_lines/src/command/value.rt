@@ -4,17 +4,18 @@ ghost use Rattle.std.specs.Prelude.{◌≡◌, ◌<◌, [], ◌∷◌, length, m
 ghost use Rattle.json.specs.Json as spec;
 ghost use Rattle.json.specs.Find.{as_number as number_text, as_object, InMembers};
 ghost use Rattle.json.specs.Tape.{node_token};
+ghost use Rattle.json.specs.Tree.{json_tokens};
 ghost use Rattle.serde_json.specs.Find.{get, as_null, as_bool, as_str, as_number, as_u64, as_i64};
 ghost use Rattle.serde_json.specs.Read.{number_of};
 ghost use Rattle.pgp_lines.specs.Shapes.{items_in};
-ghost use Rattle.pgp_lines.specs.Tree.{num_of, json_of, view, items_left, in_range_from};
+ghost use Rattle.pgp_lines.specs.Value.{num_of, json_of, view, items_left, is_readable};
 
 use super::number::Number;
 use bumpalo::Bump;
 use json::{Element, Members, Node, Tape};
 use std::marker::Model;
 
-/// How deep a line's arrays and objects nest at most.
+/// How deep arrays and objects nest at most. This is the limit of `serde_json`; that of a tape is 128.
 const MAX_DEPTH: usize = 127;
 
 /// A line's tokens, which lie in an arena.
@@ -34,11 +35,12 @@ impl<'t, 'a> Model for Value<'t, 'a> {
 
     ghost coded = { tokens_code };
 
-    ghost use Rattle.json.specs.Find.{HasValue};
+    ghost use Rattle.json.specs.Find.{BeginsWith};
+    ghost use Rattle.pgp_lines.specs.Value.{json_of};
 
     ghost view = { λ v. v.element };
 
-    ghost invariant = { λ v. HasValue v.element };
+    ghost invariant = { λ v. BeginsWith v.element (json_of v.element) };
 }
 
 impl<'t, 'a> Value<'t, 'a> {
@@ -130,12 +132,11 @@ impl<'t, 'a> Model for Items<'t, 'a> {
 
     ghost coded = { tokens_code };
 
-    ghost use Rattle.json.specs.Json as spec;
-    ghost use Rattle.json.specs.Find.{InItems};
+    ghost use Rattle.pgp_lines.specs.Value.{HasItems};
 
     ghost view = { λ i. i.items };
 
-    ghost invariant = { λ i. (js : spec.Items) × InItems i.items js };
+    ghost invariant = { λ i. HasItems i.items };
 }
 
 impl<'t, 'a> Items<'t, 'a> {
@@ -149,9 +150,10 @@ impl<'t, 'a> Items<'t, 'a> {
     }
 }
 
-/// Whether each number is in range, and no value nests too deep.
-pub(super) fn is_in_range(tokens: &[Node<'_>]) -> bool
-    ensures { result ≡ in_range_from 0 (map node_token tokens.now) }
+/// Whether `serde_json` reads these tokens too: arrays and objects nest at most 127 deep, and each number is a whole
+/// one of 64 bits or a finite float.
+pub(super) fn is_readable(tokens: &[Node<'_>]) -> bool
+    ensures { (j : spec.Json) → map node_token tokens.now ≡ json_tokens j → result ≡ is_readable j }
 {
     let mut depth = 0;
     for token in tokens {
@@ -162,6 +164,7 @@ pub(super) fn is_in_range(tokens: &[Node<'_>]) -> bool
                 }
                 depth += 1;
             }
+            // The brackets of a tape match, so this never saturates.
             Node::EndArray | Node::EndObject => depth = depth.saturating_sub(1),
             Node::Number(text) => {
                 if Number::parse(text).is_none() {

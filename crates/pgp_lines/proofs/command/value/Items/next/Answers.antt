@@ -1,6 +1,6 @@
 use Rattle.std.proofs.Common.{Some, None, arith}
 use Rattle.pgp_lines.proofs.Tapes.{next_got}
-use Rattle.pgp_lines.proofs.command.tree.Items.next.Goals as goal
+use Rattle.pgp_lines.proofs.command.value.Items.next.Goals as goal
 
 pub returns-clause-more : goal.returns-clause-more
 returns-clause-more c =

@@ -1,6 +1,6 @@
 use Rattle.std.proofs.Common.{arith}
-use Rattle.pgp_lines.proofs.Tapes.{begins, items_got}
-use Rattle.pgp_lines.proofs.command.tree.Value.items.Goals as goal
+use Rattle.pgp_lines.proofs.Tapes.{items_got}
+use Rattle.pgp_lines.proofs.command.value.Value.items.Goals as goal
 
 pub returns : goal.returns
 returns c = grind (arith, items_got _ c.items.result c.self.invariant c.items.ensures, c.in_ok-items.was)
@@ -9,4 +9,4 @@ pub returns-in_err-items : goal.returns-in_err-items
 returns-in_err-items c = grind (arith, items_got _ c.items.result c.self.invariant c.items.ensures, c.in_err-items.was)
 
 pub invariant_of-result : goal.invariant_of-result
-invariant_of-result c = let found = c.in_ok-items.ensures _ (begins _ c.self.invariant) in (found.0, found.2)
+invariant_of-result c = let found = c.in_ok-items.ensures _ c.self.invariant in (found.0, found.2)

@@ -1,6 +1,0 @@
-use Rattle.pgp_lines.proofs.Tapes.{begins}
-use Rattle.std.proofs.Common.{arith}
-use Rattle.pgp_lines.proofs.command.tree.Value.members.Goals as goal
-
-pub returns : goal.returns
-returns c = let is = c.members.ensures _ (begins _ c.self.invariant) in grind (arith, is)
