@@ -92,6 +92,7 @@ impl LineBuffer {
             {
                 Fate::TooLong
             } else if self.bytes.extend_from_slice(piece).is_err() {
+                // An empty piece wants no room.
                 Fate::NoMemory
             } else {
                 Fate::Kept
