@@ -76,7 +76,8 @@ pub fn names(alloc: Global) -> Option<Vec<ObjectName>>
     let mut names = Vec::with_capacity(alloc, NAMES).ok()?;
     for number in 0..NAMES {
         let text = format!(in alloc; "object-{number}").ok()?;
-        names.push(ObjectName::new(alloc, text.as_str()).ok()??).ok()?;
+        let name = ObjectName::new(alloc, text.as_str()).ok()??;
+        names.push(name).ok()?;
     }
     Some(names)
 }
