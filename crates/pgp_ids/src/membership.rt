@@ -1,3 +1,5 @@
+ghost use Rattle.std.specs.Prelude.{◌≡◌};
+
 use super::osd::OsdId;
 use super::osds::Osds;
 
@@ -18,4 +20,20 @@ pub struct Membership {
     pub size: u8,
     /// With how many members the group may serve, 1 to `size`.
     pub min_size: u8,
+}
+
+impl Membership {
+    /// A copy, which takes no memory.
+    pub fn copy(&self) -> Membership
+        ensures { result ≡ self.now }
+    {
+        Membership {
+            up: self.up.copy(),
+            up_primary: self.up_primary,
+            acting: self.acting.copy(),
+            acting_primary: self.acting_primary,
+            size: self.size,
+            min_size: self.min_size,
+        }
+    }
 }

@@ -71,6 +71,17 @@ impl Osds {
         self.places.as_slice()
     }
 
+    /// A copy, which takes no memory.
+    pub fn copy(&self) -> Osds
+        ensures { result ≡ self.now }
+    {
+        let mut copy = Osds::new();
+        for place in self.as_slice() {
+            copy.push(*place);
+        }
+        copy
+    }
+
     /// The first device, past the empty places.
     pub fn first(&self) -> Option<OsdId>
         ensures { result ≡ first_osd self.now }

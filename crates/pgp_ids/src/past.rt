@@ -1,3 +1,5 @@
+ghost use Rattle.std.specs.Prelude.{◌≡◌};
+
 use super::epoch::Epoch;
 use super::membership::Membership;
 
@@ -11,4 +13,18 @@ pub struct Past {
     pub members: Membership,
     /// Whether the group may have gone read-write in it, so that writes may have been acknowledged.
     pub rw: bool,
+}
+
+impl Past {
+    /// A copy, which takes no memory.
+    pub fn copy(&self) -> Past
+        ensures { result ≡ self.now }
+    {
+        Past {
+            first: self.first,
+            last: self.last,
+            members: self.members.copy(),
+            rw: self.rw,
+        }
+    }
 }

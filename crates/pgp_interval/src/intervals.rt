@@ -4,8 +4,8 @@ ghost use Rattle.pgp_interval.specs.History.{History, begun, stepped, stayed};
 ghost use Rattle.pgp_interval.specs.IntervalsOf.{IsIntervalsOf};
 ghost use Rattle.pgp_interval.specs.Runs.{past_intervals, current_first};
 
-use super::members::{copy_of, is_same};
-use super::past::{copy_of_past, past_of};
+use super::members::is_same;
+use super::past::past_of;
 use pgp_code::Recoverable;
 use pgp_ids::{Epoch, EpochState, Membership, Past, PrimaryFacts};
 use std::alloc::{AllocError, Global};
@@ -128,7 +128,7 @@ impl<R: Recoverable> Intervals<R> {
     {
         let mut past = Vec::with_capacity(alloc, self.past.len())?;
         for interval in self.past.as_slice() {
-            past.push(copy_of_past(interval))?;
+            past.push(interval.copy())?;
         }
         Ok(past)
     }
@@ -148,7 +148,7 @@ impl<R: Recoverable> Intervals<R> {
         ensures { (h : History R) → IsIntervalsOf R.enough R.by_place h self.now
             → slice_get (past_intervals R.enough R.by_place h) place ≡ Some result }
     {
-        copy_of_past(&self.past[place])
+        self.past[place].copy()
     }
 
     /// The interval that reaches the current epoch: its first epoch and its membership.
@@ -158,6 +158,6 @@ impl<R: Recoverable> Intervals<R> {
         ensures members { (h : History R) → IsIntervalsOf R.enough R.by_place h self.now
             → result.1 ≡ h.current }
     {
-        (self.first, copy_of(&self.current))
+        (self.first, self.current.copy())
     }
 }

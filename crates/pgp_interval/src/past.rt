@@ -1,7 +1,6 @@
 ghost use Rattle.std.specs.Prelude.{◌≡◌};
 ghost use Rattle.pgp_interval.specs.Runs.{past_of};
 
-use super::members::copy_of;
 use super::read_write::may_have_gone_rw;
 use pgp_code::Recoverable;
 use pgp_ids::{Epoch, EpochState, Past};
@@ -16,17 +15,5 @@ pub fn past_of<R: Recoverable>(code: &R, first: Epoch, last: Epoch, ended: Epoch
         last,
         members: ended.members,
         rw,
-    }
-}
-
-/// A copy, which takes no memory.
-pub fn copy_of_past(past: &Past) -> Past
-    ensures { result ≡ past.now }
-{
-    Past {
-        first: past.first,
-        last: past.last,
-        members: copy_of(&past.members),
-        rw: past.rw,
     }
 }

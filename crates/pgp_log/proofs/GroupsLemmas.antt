@@ -1,5 +1,5 @@
 -- Lists of groups of which one changes, or with one more, and the table of their places.
-use Rattle.std.proofs.Common.{◌≡◌, ℕ, ◌<◌, List, [], ◌∷◌, ◌++◌, inl, inr, Bool, true, false, ◌||◌, cond, Option, Some, None, is_some, length, set, refl, sym, ap, ◌∙◌, subst, arith, length-append, eq-eqb}
+use Rattle.std.proofs.Common.{◌≡◌, ℕ, ◌<◌, List, [], ◌∷◌, ◌++◌, inl, inr, Bool, true, false, ◌||◌, cond, Option, Some, None, is_some, length, get_or, set, refl, sym, ap, ◌∙◌, subst, arith, length-append, eq-eqb}
 use Rattle.std.specs.HashMap as hash
 use Rattle.std.specs.List.{list_any}
 use Rattle.std.specs.Option.{option_map}
@@ -9,7 +9,7 @@ use Rattle.std.proofs.lemmas.Bool.{cases_Bool, cases_eq, cases_lt, true≢false}
 use Rattle.std.proofs.Math.Bool.{or-false, or-true}
 use Rattle.std.proofs.lemmas.List.{length-map, map-append}
 use Rattle.std.proofs.lemmas.List.Folds.{list_any-append}
-use Rattle.std.proofs.lemmas.Option.{get_or_from_slice_get, same_Some, slice_get-map, slice_get_within, none-some}
+use Rattle.std.proofs.lemmas.Option.{get_or_from_slice_get, slice_get_read, same_Some, slice_get-map, slice_get_within, none-some}
 use Rattle.pgp_lists.proofs.Lists.{get-append, get-last, get-set_other, get-set_same, none-at, none-each}
 use Rattle.pgp_ids.specs.declared.entry.Entry.{Entry}
 use Rattle.pgp_ids.specs.declared.pg_id.PgId.{PgId}
@@ -52,6 +52,10 @@ at-places old groups same ids are = record {
 pub place-within : (groups : Groups) (pg : PgId) (place : ℕ) → AreAtPlaces groups → hash.get is_same_group groups.places pg ≡ Some place → place < length groups.kept.items
 place-within groups pg place are is =
     omega (arith, slice_get_within (ids_of groups.kept.items) place pg (are.there pg place is), length-map groups.kept.items (λ (kept : Kept). kept.pg))
+
+-- the group that is read there
+pub kept-at : (groups : Groups) (pg : PgId) (place : ℕ) (kept : Kept) → AreAtPlaces groups → hash.get is_same_group groups.places pg ≡ Some place → kept ≡ get_or groups.kept.items place kept → slice_get groups.kept.items place ≡ Some kept
+kept-at groups pg place kept are is read = slice_get_read groups.kept.items (length groups.kept.items) place kept refl (place-within groups pg place are is) read
 
 -- and the group there is the one that was looked for
 pub place-holds : (groups : Groups) (pg : PgId) (place : ℕ) (kept : Kept) → AreAtPlaces groups → hash.get is_same_group groups.places pg ≡ Some place → slice_get groups.kept.items place ≡ Some kept → kept.pg ≡ pg

@@ -3,7 +3,7 @@
 ghost use Rattle.std.specs.Prelude.{◌≡◌, IfOk};
 ghost use Rattle.pgp_group.specs.Touched.{told_at};
 
-use pgp_ids::{Epoch, Membership, MissingObject, Osds, Past, PeerMissing, PeerState, Seq, View};
+use pgp_ids::{Epoch, MissingObject, Past, PeerMissing, PeerState, Seq, View};
 use std::alloc::{AllocError, Global};
 
 /// A copy of the view, at this epoch and after so many entries.
@@ -32,9 +32,9 @@ fn copy_of_view(alloc: Global, view: &View) -> Result<View, AllocError>
     Ok(View {
         count: view.count,
         epoch: view.epoch,
-        up: copy_of_places(&view.up),
+        up: view.up.copy(),
         up_primary: view.up_primary,
-        acting: copy_of_places(&view.acting),
+        acting: view.acting.copy(),
         acting_primary: view.acting_primary,
         first: view.first,
         intervals,
@@ -60,46 +60,9 @@ fn copy_of_intervals(alloc: Global, intervals: &[Past]) -> Result<Seq<Past>, All
 {
     let mut copy = Vec::with_capacity(alloc, intervals.len())?;
     for interval in intervals {
-        copy.push(copy_of_interval(interval))?;
+        copy.push(interval.copy())?;
     }
     Ok(Seq::from_vec(copy))
-}
-
-/// A copy, which takes no memory.
-fn copy_of_interval(interval: &Past) -> Past
-    ensures { result ≡ interval.now }
-{
-    Past {
-        first: interval.first,
-        last: interval.last,
-        members: copy_of_members(&interval.members),
-        rw: interval.rw,
-    }
-}
-
-/// A copy, which takes no memory.
-fn copy_of_members(members: &Membership) -> Membership
-    ensures { result ≡ members.now }
-{
-    Membership {
-        up: copy_of_places(&members.up),
-        up_primary: members.up_primary,
-        acting: copy_of_places(&members.acting),
-        acting_primary: members.acting_primary,
-        size: members.size,
-        min_size: members.min_size,
-    }
-}
-
-/// A copy, which takes no memory.
-fn copy_of_places(places: &Osds) -> Osds
-    ensures { result ≡ places.now }
-{
-    let mut copy = Osds::new();
-    for place in places.as_slice() {
-        copy.push(*place);
-    }
-    copy
 }
 
 fn copy_of_states(alloc: Global, states: &[PeerMissing]) -> Result<Seq<PeerMissing>, AllocError>

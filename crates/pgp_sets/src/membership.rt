@@ -97,15 +97,5 @@ fn acting_set(map: &OsdMap, pool: &PoolSpec, pg: &PgId, up: &Osds) -> Osds
     ensures { (incs : List Incremental) → IsMapOf incs map.now → result ≡ acting_set incs pool.now pg.now up.now }
 {
     let given = without_down(map, pool, map.temp(*pg));
-    if given.is_empty() { copy_of(up) } else { given }
-}
-
-fn copy_of(osds: &Osds) -> Osds
-    ensures { result ≡ osds.now }
-{
-    let mut copy = Osds::new();
-    for place in osds.as_slice() {
-        copy.push(*place);
-    }
-    copy
+    if given.is_empty() { up.copy() } else { given }
 }

@@ -1,9 +1,8 @@
-use Rattle.std.proofs.Common.{◌≡◌, ◌<◌, List, [], ◌∷◌, ◌++◌, Some, None, true, false, is_some, length, refl, sym, ap, ◌∙◌, subst}
+use Rattle.std.proofs.Common.{◌≡◌, ◌<◌, List, [], ◌∷◌, ◌++◌, Some, None, true, false, is_some, refl, sym, ap, ◌∙◌, subst}
 use Rattle.std.specs.HashMap as hash
 use Rattle.std.specs.Prelude.{slice_get}
 use Rattle.std.specs.Vec.{with_item}
 use Rattle.std.proofs.lemmas.List.Elements.{All-set}
-use Rattle.std.proofs.lemmas.Option.{slice_get_read}
 use Rattle.pgp_ids.specs.declared.entry.Entry.{Entry}
 use Rattle.pgp_ids.specs.declared.pg_id.PgId.{PgId}
 use Rattle.pgp_map.specs.Pools.{is_same_group}
@@ -13,7 +12,7 @@ use Rattle.pgp_group.specs.Touched.{is_touched}
 use Rattle.pgp_log.specs.Kept.{AreGroupsOf, IsKeptOf, is_marked}
 use Rattle.pgp_log.specs.declared.groups.Groups.{Groups}
 use Rattle.pgp_log.specs.declared.kept.Kept.{Kept}
-use Rattle.pgp_log.proofs.GroupsLemmas.{groups-inc, groups-told, groups-untold, ids-set, missing-group, place-holds, place-within}
+use Rattle.pgp_log.proofs.GroupsLemmas.{groups-inc, groups-told, groups-untold, ids-set, kept-at, missing-group, place-holds, place-within}
 use Rattle.pgp_log.proofs.MarksLemmas.{another, marks-set, ok-anyhow}
 use Rattle.pgp_log.proofs.SharedLemmas.{on_err}
 use Rattle.pgp_log.proofs.groups.Groups.absorb_report.Goals as goal
@@ -33,8 +32,7 @@ returns-in-Some-clause-ok c =
     let after : Kept = c.absorb_report.new.self in
     let groups : Groups = record old { kept = with_item old.kept place after } in
     let is : hash.get is_same_group old.places pg ≡ Some place = sym c.find.ensures ∙ c.in-Some.is in
-    let within : place < length old.kept.items = place-within old pg place c.requires is in
-    let at : slice_get old.kept.items place ≡ Some kept = slice_get_read old.kept.items (length old.kept.items) place kept refl within c.index_mut-kept.ensures.value in
+    let at : slice_get old.kept.items place ≡ Some kept = kept-at old pg place kept c.requires is c.index_mut-kept.ensures.value in
     on_ok c.absorb_report.result
     ((log : List Entry) → inc_of new ≡ None → IsKeptOf log kept → IsKeptOf (log ++ new ∷ []) after)
     ((log : List Entry) → inc_of new ≡ None → ((other : PgId) → is_same_group pg other ≡ false → is_touched log new other ≡ false) → AreGroupsOf log old → AreGroupsOf (log ++ new ∷ []) groups)
@@ -58,8 +56,7 @@ returns-in-Some-clause-marks c =
     let kept : Kept = c.index_mut-kept.result.now in
     let after : Kept = c.absorb_report.new.self in
     let is : hash.get is_same_group old.places pg ≡ Some place = sym c.find.ensures ∙ c.in-Some.is in
-    let within : place < length old.kept.items = place-within old pg place c.requires is in
-    let at : slice_get old.kept.items place ≡ Some kept = slice_get_read old.kept.items (length old.kept.items) place kept refl within c.index_mut-kept.ensures.value in
+    let at : slice_get old.kept.items place ≡ Some kept = kept-at old pg place kept c.requires is c.index_mut-kept.ensures.value in
     ok-anyhow c.absorb_report.result _
     (λ other differs. marks-set old.kept.items place kept after other at c.absorb_report.ensures.pg
     (another pg kept.pg other (place-holds old pg place kept c.requires is at) differs))
@@ -74,6 +71,5 @@ returns-in-Some-clause-ids c =
     let old : Groups = c.args.self.now in
     let place = c.in-Some.place in
     let kept : Kept = c.index_mut-kept.result.now in
-    let within : place < length old.kept.items = place-within old c.args.pg.now place c.requires (sym c.find.ensures ∙ c.in-Some.is) in
-    let at : slice_get old.kept.items place ≡ Some kept = slice_get_read old.kept.items (length old.kept.items) place kept refl within c.index_mut-kept.ensures.value in
+    let at : slice_get old.kept.items place ≡ Some kept = kept-at old c.args.pg.now place kept c.requires (sym c.find.ensures ∙ c.in-Some.is) c.index_mut-kept.ensures.value in
     ids-set old.kept.items place kept c.absorb_report.new.self at c.absorb_report.ensures.pg

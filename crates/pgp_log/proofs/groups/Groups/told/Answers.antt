@@ -1,13 +1,12 @@
-use Rattle.std.proofs.Common.{◌≡◌, ◌<◌, ◌&&◌, not, true, Some, is_some, length, refl, sym, ap, ap₂, ◌∙◌, subst}
+use Rattle.std.proofs.Common.{◌≡◌, ◌<◌, ◌&&◌, not, true, Some, is_some, sym, ap, ap₂, ◌∙◌, subst}
 use Rattle.std.specs.HashMap as hash
 use Rattle.std.specs.Prelude.{slice_get}
-use Rattle.std.proofs.lemmas.Option.{slice_get_read}
 use Rattle.pgp_map.specs.Pools.{is_same_group}
 use Rattle.pgp_log.specs.Kept.{AreGroupsOf, keeps, marks_of}
 use Rattle.pgp_log.specs.Shard.{is_among}
 use Rattle.pgp_log.specs.declared.groups.Groups.{Groups}
 use Rattle.pgp_log.specs.declared.kept.Kept.{Kept}
-use Rattle.pgp_log.proofs.GroupsLemmas.{keeps-found, place-holds, place-within}
+use Rattle.pgp_log.proofs.GroupsLemmas.{keeps-found, kept-at, place-holds, place-within}
 use Rattle.pgp_log.proofs.KeptLemmas.{there-copied, view-there}
 use Rattle.pgp_log.proofs.MarksLemmas.{marked-at, there-unmarked}
 use Rattle.pgp_log.proofs.groups.Groups.told.Goals as goal
@@ -24,8 +23,7 @@ returns-in-Some-clause-view c =
     let place = c.in-Some.place in
     let kept : Kept = c.index-kept.result.now in
     let is : hash.get is_same_group groups.places pg ≡ Some place = sym c.find.ensures ∙ c.in-Some.is in
-    let within : place < length groups.kept.items = place-within groups pg place c.requires is in
-    let at : slice_get groups.kept.items place ≡ Some kept = slice_get_read groups.kept.items (length groups.kept.items) place kept refl within c.index-kept.ensures in
+    let at : slice_get groups.kept.items place ≡ Some kept = kept-at groups pg place kept c.requires is c.index-kept.ensures in
     view-there pg kept (λ log. AreGroupsOf log groups) c.view.result c.view.ensures (place-holds groups pg place kept c.requires is at) (λ log are. are.each.each place kept at)
 
 pub returns-in-Some-clause-there : goal.returns-in-Some-clause-there
@@ -35,8 +33,7 @@ returns-in-Some-clause-there c =
     let place = c.in-Some.place in
     let kept : Kept = c.index-kept.result.now in
     let is : hash.get is_same_group groups.places pg ≡ Some place = sym c.find.ensures ∙ c.in-Some.is in
-    let within : place < length groups.kept.items = place-within groups pg place c.requires is in
-    let at : slice_get groups.kept.items place ≡ Some kept = slice_get_read groups.kept.items (length groups.kept.items) place kept refl within c.index-kept.ensures in
+    let at : slice_get groups.kept.items place ≡ Some kept = kept-at groups pg place kept c.requires is c.index-kept.ensures in
     let there : keeps pg groups ≡ true = sym (ap is_some (sym is) ∙ keeps-found groups pg c.requires) in
     there-copied c.view.result ∙ ap is_some c.view.ensures ∙ there-unmarked kept.view
     ∙ ap₂ (λ b m. b && not m) (sym there) (sym (marked-at groups pg place kept c.requires is at))

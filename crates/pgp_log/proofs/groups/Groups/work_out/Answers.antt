@@ -1,12 +1,11 @@
-use Rattle.std.proofs.Common.{◌≡◌, ◌<◌, Some, is_some, length, refl, sym, ap, ◌∙◌, subst}
+use Rattle.std.proofs.Common.{◌≡◌, ◌<◌, Some, is_some, refl, sym, ap, ◌∙◌, subst}
 use Rattle.std.specs.HashMap as hash
 use Rattle.std.specs.Prelude.{slice_get}
 use Rattle.std.specs.Vec.{with_item}
-use Rattle.std.proofs.lemmas.Option.{slice_get_read}
 use Rattle.pgp_map.specs.Pools.{is_same_group}
 use Rattle.pgp_log.specs.declared.groups.Groups.{Groups}
 use Rattle.pgp_log.specs.declared.kept.Kept.{Kept}
-use Rattle.pgp_log.proofs.GroupsLemmas.{groups-asked, groups-inc, ids-set, keeps-found, place-within}
+use Rattle.pgp_log.proofs.GroupsLemmas.{groups-asked, groups-inc, ids-set, keeps-found, kept-at, place-within}
 use Rattle.pgp_log.proofs.MarksLemmas.{marks-asked, marks-elsewhere}
 use Rattle.pgp_log.proofs.SharedLemmas.{on_err}
 use Rattle.pgp_log.proofs.groups.Groups.work_out.Goals as goal
@@ -23,11 +22,9 @@ returns-in_ok-renew-in-Some-clause-are c = λ log are lies long.
     let place = c.in-Some.place in
     let kept : Kept = c.index_mut-found.result.now in
     let after : Kept = c.renew.new.self in
-    let groups : Groups = record old { kept = with_item old.kept place after } in
     let is : hash.get is_same_group old.places pg ≡ Some place = sym c.find.ensures ∙ c.in-Some.is in
-    let within : place < length old.kept.items = place-within old pg place c.requires is in
-    let at : slice_get old.kept.items place ≡ Some kept = slice_get_read old.kept.items (length old.kept.items) place kept refl within c.index_mut-found.ensures.value in
-    groups-asked log old groups pg place kept after is at (λ of. c.renew.ensures.kept log of lies long) c.renew.ensures.pg refl refl are
+    let at : slice_get old.kept.items place ≡ Some kept = kept-at old pg place kept c.requires is c.index_mut-found.ensures.value in
+    groups-asked log old _ pg place kept after is at (λ of. c.renew.ensures.kept log of lies long) c.renew.ensures.pg refl refl are
 
 pub returns-in_err-renew-in-Some-clause-are : goal.returns-in_err-renew-in-Some-clause-are
 returns-in_err-renew-in-Some-clause-are c = λ log are lies long.
@@ -36,11 +33,9 @@ returns-in_err-renew-in-Some-clause-are c = λ log are lies long.
     let place = c.in-Some.place in
     let kept : Kept = c.index_mut-found.result.now in
     let after : Kept = c.renew.new.self in
-    let groups : Groups = record old { kept = with_item old.kept place after } in
     let is : hash.get is_same_group old.places pg ≡ Some place = sym c.find.ensures ∙ c.in-Some.is in
-    let within : place < length old.kept.items = place-within old pg place c.requires is in
-    let at : slice_get old.kept.items place ≡ Some kept = slice_get_read old.kept.items (length old.kept.items) place kept refl within c.index_mut-found.ensures.value in
-    groups-asked log old groups pg place kept after is at (λ of. c.renew.ensures.kept log of lies long) c.renew.ensures.pg refl refl are
+    let at : slice_get old.kept.items place ≡ Some kept = kept-at old pg place kept c.requires is c.index_mut-found.ensures.value in
+    groups-asked log old _ pg place kept after is at (λ of. c.renew.ensures.kept log of lies long) c.renew.ensures.pg refl refl are
 
 pub returns-in_err-renew-in-Some-clause-wants : goal.returns-in_err-renew-in-Some-clause-wants
 returns-in_err-renew-in-Some-clause-wants c =
@@ -53,11 +48,9 @@ returns-in_ok-renew-in-Some-clause-marks c =
     let place = c.in-Some.place in
     let kept : Kept = c.index_mut-found.result.now in
     let after : Kept = c.renew.new.self in
-    let groups : Groups = record old { kept = with_item old.kept place after } in
     let is : hash.get is_same_group old.places pg ≡ Some place = sym c.find.ensures ∙ c.in-Some.is in
-    let within : place < length old.kept.items = place-within old pg place c.requires is in
-    let at : slice_get old.kept.items place ≡ Some kept = slice_get_read old.kept.items (length old.kept.items) place kept refl within c.index_mut-found.ensures.value in
-    marks-asked old groups pg place kept after c.requires is at c.in_ok-renew-in-Some.ensures.marks refl
+    let at : slice_get old.kept.items place ≡ Some kept = kept-at old pg place kept c.requires is c.index_mut-found.ensures.value in
+    marks-asked old (record old { kept = with_item old.kept place after }) pg place kept after c.requires is at c.in_ok-renew-in-Some.ensures.marks refl
 
 pub returns-in-None-clause-marks : goal.returns-in-None-clause-marks
 returns-in-None-clause-marks c = marks-elsewhere c.args.self.now c.args.pg.now c.requires (sym c.find.ensures ∙ c.in-None.is)
@@ -67,8 +60,7 @@ returns-in_ok-renew-in-Some-clause-ids c =
     let old : Groups = c.args.self.now in
     let place = c.in-Some.place in
     let kept : Kept = c.index_mut-found.result.now in
-    let within : place < length old.kept.items = place-within old c.args.pg.now place c.requires (sym c.find.ensures ∙ c.in-Some.is) in
-    let at : slice_get old.kept.items place ≡ Some kept = slice_get_read old.kept.items (length old.kept.items) place kept refl within c.index_mut-found.ensures.value in
+    let at : slice_get old.kept.items place ≡ Some kept = kept-at old c.args.pg.now place kept c.requires (sym c.find.ensures ∙ c.in-Some.is) c.index_mut-found.ensures.value in
     ids-set old.kept.items place kept c.renew.new.self at c.renew.ensures.pg
 
 pub returns-in_err-renew-in-Some-clause-ids : goal.returns-in_err-renew-in-Some-clause-ids
@@ -76,8 +68,7 @@ returns-in_err-renew-in-Some-clause-ids c =
     let old : Groups = c.args.self.now in
     let place = c.in-Some.place in
     let kept : Kept = c.index_mut-found.result.now in
-    let within : place < length old.kept.items = place-within old c.args.pg.now place c.requires (sym c.find.ensures ∙ c.in-Some.is) in
-    let at : slice_get old.kept.items place ≡ Some kept = slice_get_read old.kept.items (length old.kept.items) place kept refl within c.index_mut-found.ensures.value in
+    let at : slice_get old.kept.items place ≡ Some kept = kept-at old c.args.pg.now place kept c.requires (sym c.find.ensures ∙ c.in-Some.is) c.index_mut-found.ensures.value in
     ids-set old.kept.items place kept c.renew.new.self at c.renew.ensures.pg
 
 pub returns-in_ok-renew-in-Some-clause-there : goal.returns-in_ok-renew-in-Some-clause-there

@@ -1,5 +1,5 @@
 use Rattle.std.proofs.Common.{◌≡◌, take}
-use Rattle.pgp_log.proofs.copies.copy_of_places.Given as goal
+use Rattle.pgp_ids.proofs.osds.Osds.copy.Given as goal
 
 abbrev pub invariant-loop-place : goal.invariant-loop-place
 invariant-loop-place l = l.copy ≡ take l.place-index l.place-items
