@@ -225,6 +225,29 @@ has_group-stays incs inc pg made s is =
     ∙ ap (nat_lt pg.pg) s.groups
     ∙ sym (ap (λ (o : Option PoolSpec). option_map_or (λ p. nat_lt pg.pg p.pg_num) o false) is)
 
+-- without its pool being made a group stays there or away
+made_of-none : (incs : List Incremental) (id : ℕ) → pool incs id ≡ None → made_of incs id ≡ None
+made_of-none incs id none = unmapped (made_of incs id) (sym (pool-is incs id) ∙ none)
+  where
+    unmapped : (found : Option PoolSpec) → option_map (with_sizes (sizes_of incs id)) found ≡ None → found ≡ None
+    unmapped None none' = refl
+    unmapped (Some made) none' = cc
+
+has_group-without : (incs : List Incremental) (pg : PgId) → pool incs pg.pool ≡ None → has_group incs pg ≡ false
+has_group-without incs pg none = ap (λ (o : Option PoolSpec). option_map_or (λ p. nat_lt pg.pg p.pg_num) o false) none
+
+has_group-by_pool : (incs : List Incremental) (inc : Incremental) (pg : PgId) (found : Option PoolSpec) → map_fault incs inc ≡ None → makes pg.pool inc ≡ false → pool incs pg.pool ≡ found
+    → has_group (then_with incs inc) pg ≡ has_group incs pg
+has_group-by_pool incs inc pg (Some made) fine unmade' is = has_group-stays incs inc pg made (pool-stays incs inc pg.pool made fine is) is
+has_group-by_pool incs inc pg None fine unmade' is =
+    let none : pool (then_with incs inc) pg.pool ≡ None =
+    pool-is (then_with incs inc) pg.pool
+    ∙ ap (option_map (with_sizes (sizes_of (then_with incs inc) pg.pool))) (made_of-stays incs inc pg.pool unmade' ∙ made_of-none incs pg.pool is) in
+    has_group-without (then_with incs inc) pg none ∙ sym (has_group-without incs pg is)
+
+pub has_group-unmade : (incs : List Incremental) (inc : Incremental) (pg : PgId) → map_fault incs inc ≡ None → makes pg.pool inc ≡ false → has_group (then_with incs inc) pg ≡ has_group incs pg
+has_group-unmade incs inc pg fine unmade' = has_group-by_pool incs inc pg (pool incs pg.pool) fine unmade' refl
+
 -- a group that is there is there
 there_then : (incs : List Incremental) (pg : PgId) (h : History AnyCode) (b : Bool) (found : Option PoolSpec) → (if b then option_map (history_of incs pg) found else None) ≡ Some h → b ≡ true
 there_then incs pg h true found is = refl

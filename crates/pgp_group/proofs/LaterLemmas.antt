@@ -37,20 +37,20 @@ use Rattle.pgp_group.proofs.RiseLemmas.{fold_max-least}
 
 -- ---- the histories of a group and of the same group later
 
-record Histories (g : GroupLog) (later : List Entry) (after : GroupLog) : Type 0 where
-  checked : are_checked (incs g ++ incs_of later) ≡ true
-  before : group_history (incs g) g.pg ≡ Some g.history
-  then_is : group_history (incs g ++ incs_of later) g.pg ≡ Some after.history
-  log : after.log ≡ g.log ++ later
-  pg : after.pg ≡ g.pg
-  incs_are : incs after ≡ incs g ++ incs_of later
+pub record Histories (g : GroupLog) (later : List Entry) (after : GroupLog) : Type 0 where
+  pub checked : are_checked (incs g ++ incs_of later) ≡ true
+  pub before : group_history (incs g) g.pg ≡ Some g.history
+  pub then_is : group_history (incs g ++ incs_of later) g.pg ≡ Some after.history
+  pub log : after.log ≡ g.log ++ later
+  pub pg : after.pg ≡ g.pg
+  pub incs_are : incs after ≡ incs g ++ incs_of later
 
 history-in : (log : List Entry) (pg : PgId) (g : GroupLog) → group_in log pg ≡ Some g → (group_history (incs_of log) pg ≡ Some g.history) × ((g.log ≡ log) × (g.pg ≡ pg))
 history-in log pg g is =
     let m = map_some (group_with log pg) (group_history (incs_of log) pg) g is in
     (m.1 ∙ ap (λ (x : GroupLog). Some x.history) m.2, (sym (ap (λ (x : GroupLog). x.log) m.2), sym (ap (λ (x : GroupLog). x.pg) m.2)))
 
-histories : (g : GroupLog) (later : List Entry) (after : GroupLog) → IsAfter g later after → Histories g later after
+pub histories : (g : GroupLog) (later : List Entry) (after : GroupLog) → IsAfter g later after → Histories g later after
 histories g later after is =
     let grown : incs_of (g.log ++ later) ≡ incs g ++ incs_of later = filter_map-append inc_of g.log later in
     let a = history-in (g.log ++ later) g.pg after is.then_is in
@@ -76,13 +76,13 @@ new-counts shorten fine steps g after inc member stamp is differ sent =
     below-first after member stamp (omega (arith, opens, sent, next_epoch (incs g) inc (fine (incs g) inc hs.checked)))
 
 -- an incremental brings no reports
-same-infos : (g after : GroupLog) (inc : Incremental) → IsAfter g (entry.Inc inc ∷ []) after → infos after ≡ infos g
+pub same-infos : (g after : GroupLog) (inc : Incremental) → IsAfter g (entry.Inc inc ∷ []) after → infos after ≡ infos g
 same-infos g after inc is =
     let hs = histories g (entry.Inc inc ∷ []) after is in
     let told : infos_of after.log ≡ infos_of g.log = ap infos_of hs.log ∙ filter_map-append info_of g.log (entry.Inc inc ∷ []) ∙ append-nil (infos_of g.log) in
     ap₂ (λ (pg : PgId) (told : List Info). filter (λ info. is_same_group info.pg pg) told) hs.pg told
 
-same-reports : (g after : GroupLog) (inc : Incremental) → IsAfter g (entry.Inc inc ∷ []) after → reports after ≡ reports g
+pub same-reports : (g after : GroupLog) (inc : Incremental) → IsAfter g (entry.Inc inc ∷ []) after → reports after ≡ reports g
 same-reports g after inc is =
     let hs = histories g (entry.Inc inc ∷ []) after is in
     let told : reports_of after.log ≡ reports_of g.log = ap reports_of hs.log ∙ filter_map-append report_of g.log (entry.Inc inc ∷ []) ∙ append-nil (reports_of g.log) in
@@ -110,7 +110,7 @@ new-reported shorten fine steps g after inc member is differ sent =
 -- ---- what counts after an incremental counted before
 
 -- the greatest epoch with one more incremental
-up_from-snoc : (incs : List Incremental) (inc : Incremental) (osd : ℕ) → up_from (then_with incs inc) osd ≡ fold max (up_from incs osd) (map (λ i. i.epoch) (filter (boots osd) (inc ∷ [])))
+pub up_from-snoc : (incs : List Incremental) (inc : Incremental) (osd : ℕ) → up_from (then_with incs inc) osd ≡ fold max (up_from incs osd) (map (λ i. i.epoch) (filter (boots osd) (inc ∷ [])))
 up_from-snoc incs inc osd =
     ap greatest_epoch (filter-append (boots osd) incs (inc ∷ []))
     ∙ ap (fold max 0) (map-append (λ (i : Incremental). i.epoch) (filter (boots osd) incs) (filter (boots osd) (inc ∷ [])))

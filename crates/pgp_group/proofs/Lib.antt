@@ -22,3 +22,8 @@ pub mod NamesLemmas
 pub mod IndexLemmas
 pub mod NotedLemmas
 pub mod PriorLemmas
+pub mod DeviceLemmas
+pub mod OpeningLemmas
+pub mod ServedLemmas
+pub mod ReckonedLemmas
+pub mod ReliefLemmas

@@ -31,7 +31,7 @@ raised-other : (osd q : ℕ) (status : ℕ → ℕ → Status) (first : ℕ) →
 raised-other osd q status first apart =
     ap (λ (b : Bool). if b then Up else status q first) (false_from_ne_true (nat_eq q osd) (λ hit. apart (eqb-true q osd hit)))
 
-to_up : (old : Status) → is_no_worse old Up ≡ true
+pub to_up : (old : Status) → is_no_worse old Up ≡ true
 to_up Up = refl
 to_up Gone = refl
 to_up Lost = refl

@@ -78,10 +78,10 @@ info_of-is infos distinct info there =
 
 -- ---- a list of what is found
 
-record Mapped {X Y : Type 0} (f : X → Option Y) (xs : List X) (y : Y) : Type 0 where
-  from : X
-  there : Contains xs from
-  is : f from ≡ Some y
+pub record Mapped {X Y : Type 0} (f : X → Option Y) (xs : List X) (y : Y) : Type 0 where
+  pub from : X
+  pub there : Contains xs from
+  pub is : f from ≡ Some y
 
 cons_option-contains : {X Y : Type 0} (f : X → Option Y) (x : X) (xs : List X) (o : Option Y) (ys : List Y) (y : Y) → f x ≡ o → (Contains ys y → Mapped f (x ∷ xs) y) → Contains (cons_option o ys) y → Mapped f (x ∷ xs) y
 cons_option-contains f x xs None ys y is rest there = rest there
@@ -90,7 +90,7 @@ cons_option-contains f x xs (Some z) ys y is rest there = elim (Contains-cases z
   | inr later ↦ rest later
 ]
 
-filter_map-contains : {X Y : Type 0} (f : X → Option Y) (xs : List X) (y : Y) → Contains (filter_map f xs) y → Mapped f xs y
+pub filter_map-contains : {X Y : Type 0} (f : X → Option Y) (xs : List X) (y : Y) → Contains (filter_map f xs) y → Mapped f xs y
 filter_map-contains f [] y there = absurd (Contains-nil y there)
 filter_map-contains f (x ∷ xs) y there =
     cons_option-contains f x xs (f x) (filter_map f xs) y refl

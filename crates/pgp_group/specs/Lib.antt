@@ -20,3 +20,4 @@ pub mod Later
 pub mod Touched
 pub mod KeptNames
 pub mod Interleaving
+pub mod Reckoning

@@ -5,6 +5,7 @@ pub mod causes;
 pub mod growth;
 pub mod interleaving;
 pub mod later;
+pub mod reckoning;
 pub mod touched;
 
 ghost use Rattle.std.specs.Prelude.{ℕ, ◌+◌, ◌-◌, ◌<◌, length, slice_get, ◌≡◌, ◌↔◌, List, [], ◌∷◌, ◌++◌, Some, None, is_some, true, false, option_map, codes, Contains};

@@ -1,0 +1,206 @@
+-- What is so of each interval since it opened.
+use Rattle.std.proofs.Common.{◌≡◌, ◌≢◌, ℕ, zero, suc, ◌+◌, ◌<◌, ◌≤◌, List, [], ◌∷◌, ◌++◌, Option, Some, None, is_some, Bool, true, false, length, refl, ap, sym, ◌∙◌, subst, inl, inr, arith, if◌then◌else◌}
+use Rattle.std.specs.List.{Contains, range_with_len, slice_index_or}
+use Rattle.std.specs.Option.{option_map_or}
+use Rattle.std.proofs.lemmas.Bool.{and_parts, cases_Bool, true≢false}
+use Rattle.pgp_code.specs.AnyCode.{enough_of, is_by_place}
+use Rattle.pgp_code.specs.Pool.{code_of}
+use Rattle.pgp_code.specs.declared.any.AnyCode.{AnyCode}
+use Rattle.pgp_ids.specs.Osds.{first_osd}
+use Rattle.pgp_ids.specs.declared.history.PrimaryFacts.{PrimaryFacts}
+use Rattle.pgp_ids.specs.declared.incremental.Incremental.{Incremental}
+use Rattle.pgp_ids.specs.declared.member.Member.{Member}
+use Rattle.pgp_ids.specs.declared.membership.Membership.{Membership}
+use Rattle.pgp_ids.specs.declared.past.Past.{Past}
+use Rattle.pgp_ids.specs.declared.pg_id.PgId.{PgId}
+use Rattle.pgp_ids.specs.declared.pool.PoolSpec.{PoolSpec}
+use Rattle.pgp_interval.specs.History.{History, begun, stepped, last_place}
+use Rattle.pgp_interval.specs.Runs.{current_first, current_ending, past_intervals}
+use Rattle.pgp_interval.specs.SameMembers.{is_same}
+use Rattle.pgp_interval.proofs.Same.{is_same-eq, eq-is_same}
+use Rattle.pgp_interval.proofs.StepLemmas.{past_intervals-continues, past_intervals-ends, current_first-continues, current_first-ends}
+use Rattle.pgp_lists.proofs.Members.{append-contains, Contains-cases, Contains-nil}
+use Rattle.pgp_lists.proofs.Options.{map_some, some_is}
+use Rattle.pgp_lists.proofs.Taken.{taken-induction, taken-more}
+use Rattle.pgp_map.specs.Checked.{are_checked, is_faultless}
+use Rattle.pgp_map.specs.Devices.{is_up, up_from}
+use Rattle.pgp_map.specs.Map.{epoch}
+use Rattle.pgp_map.specs.MapFault.{then_with}
+use Rattle.pgp_map.specs.Pools.{pool, has_group}
+use Rattle.pgp_prior.specs.Members.{held_member, members_of}
+use Rattle.pgp_sets.proofs.UpLemmas.{acting-are_up}
+use Rattle.pgp_sets.specs.Sets.{are_up, membership, pool_membership}
+use Rattle.pgp_group.specs.GroupHistory.{makes, primary_facts, group_history}
+use Rattle.pgp_group.proofs.DeviceLemmas.{checked-front, checked-last, up_from-stays, up_from-within}
+use Rattle.pgp_group.proofs.GrowthLemmas.{checked-numbered, epoch-snoc, has_group-unmade, history-begins-made, history-grows, history-last, next_epoch}
+use Rattle.pgp_group.proofs.HistoryLemmas.{history-current}
+use Rattle.pgp_group.proofs.PeerLemmas.{filter_map-contains}
+use Rattle.pgp_group.proofs.ViewLemmas.{history_there}
+
+-- the past intervals by the code of the pool
+abbrev pub past_of : History AnyCode → List Past
+past_of h = past_intervals enough_of is_by_place h
+
+-- ---- one incremental more
+
+-- what an incremental without fault makes of the history
+pub record Grows (incs : List Incremental) (h after : History AnyCode) : Type 0 where
+  pub members : Membership
+  pub is : stepped h members (primary_facts incs h.current.acting_primary) ≡ after
+
+pub grows : (incs : List Incremental) (inc : Incremental) (pg : PgId) (h after : History AnyCode) → are_checked (then_with incs inc) ≡ true
+    → group_history incs pg ≡ Some h → group_history (then_with incs inc) pg ≡ Some after → Grows incs h after
+grows incs inc pg h after checked is then' =
+    let counts = checked-numbered checked-front checked-last incs (checked-front incs (inc ∷ []) checked) in
+    let grown = history-grows incs inc pg h counts (checked-last incs inc checked) is in
+    let m = map_some (λ members. stepped h members (primary_facts incs h.current.acting_primary)) (membership (then_with incs inc) pg) after (sym grown ∙ then') in
+    record { members = m.0; is = m.2 }
+
+-- the current interval goes on
+pub record GoesOn (h after : History AnyCode) : Type 0 where
+  pub current : after.current ≡ h.current
+  pub first : current_first after ≡ current_first h
+  pub past : past_of after ≡ past_of h
+
+-- or it ends with these facts, and the next one opens with this epoch
+pub record Ends (epoch : ℕ) (facts : PrimaryFacts) (h after : History AnyCode) : Type 0 where
+  pub first : current_first after ≡ epoch
+  pub past : past_of after ≡ past_of h ++ current_ending enough_of is_by_place h facts ∷ []
+
+pub data Moves (incs : List Incremental) (inc : Incremental) (h after : History AnyCode) : Type 0 where
+  on : after.code ≡ h.code → GoesOn h after → Moves incs inc h after
+  ends : after.code ≡ h.code → Ends inc.epoch (primary_facts incs h.current.acting_primary) h after → Moves incs inc h after
+
+pub moves : (incs : List Incremental) (inc : Incremental) (pg : PgId) (h after : History AnyCode) → are_checked (then_with incs inc) ≡ true
+    → group_history incs pg ≡ Some h → group_history (then_with incs inc) pg ≡ Some after → Moves incs inc h after
+moves incs inc pg h after checked is then' =
+    let facts : PrimaryFacts = primary_facts incs h.current.acting_primary in
+    let g = grows incs inc pg h after checked is then' in
+    let code : after.code ≡ h.code = sym (ap (λ (t : History AnyCode). t.code) g.is) in
+    elim (cases_Bool (is_same g.members h.current)) [
+      | inl same ↦
+          let stays : g.members ≡ h.current = is_same-eq g.members h.current same in
+          let continued : after ≡ stepped h h.current facts = sym g.is ∙ ap (λ (m : Membership). stepped h m facts) stays in
+          on code (record {
+            current = ap (λ (t : History AnyCode). t.current) continued;
+            first = ap current_first continued ∙ current_first-continues h facts;
+            past = ap past_of continued ∙ past_intervals-continues enough_of is_by_place h facts;
+          })
+      | inr differ ↦
+          let moved : g.members ≢ h.current = λ same. true≢false (sym (eq-is_same g.members h.current same) ∙ differ) in
+          let fine = checked-last incs inc checked in
+          let counts = checked-numbered checked-front checked-last incs (checked-front incs (inc ∷ []) checked) in
+          let opened : current_first after ≡ h.first + last_place h + 1 = ap current_first (sym g.is) ∙ current_first-ends h g.members facts moved in
+          ends code (record {
+            first = omega (arith, opened, history-last incs pg h counts is, next_epoch incs inc fine);
+            past = ap past_of (sym g.is) ∙ past_intervals-ends enough_of is_by_place h g.members facts moved;
+          })
+    ]
+
+-- ---- since it opened
+
+-- the acting primary of the current interval is up since the interval opened or longer, which is after each past one opened
+-- and not after the last epoch
+pub record IsOpened (incs : List Incremental) (h : History AnyCode) : Type 0 where
+  pub since : (osd : ℕ) → h.current.acting_primary ≡ Some osd → up_from incs osd ≤ current_first h
+  pub later : (interval : Past) → Contains (past_of h) interval → interval.first < current_first h
+  pub within : current_first h ≤ epoch incs
+
+-- ---- who serves is up
+
+up-at : (incs : List Incremental) (places : List (Option ℕ)) (place osd : ℕ) → are_up incs places ≡ true → slice_index_or places place None ≡ Some osd → is_up incs osd ≡ true
+up-at incs [] place osd all is = cc
+up-at incs (first ∷ places) zero osd all is =
+    ap (λ (o : Option ℕ). option_map_or (is_up incs) o true) (sym is) ∙ (and_parts (option_map_or (is_up incs) first true) (are_up incs places) all).0
+up-at incs (first ∷ places) (suc place) osd all is =
+    up-at incs places place osd (and_parts (option_map_or (is_up incs) first true) (are_up incs places) all).1 is
+
+up-first : (incs : List Incremental) (places : List (Option ℕ)) (osd : ℕ) → are_up incs places ≡ true → first_osd places ≡ Some osd → is_up incs osd ≡ true
+up-first incs [] osd all is = cc
+up-first incs (Some first ∷ places) osd all is =
+    let same : first ≡ osd = cc in
+    ap (is_up incs) (sym same) ∙ (and_parts (is_up incs first) (are_up incs places) all).0
+up-first incs (None ∷ places) osd all is = up-first incs places osd all is
+
+-- the membership of a pool is led by the first of acting
+led-by : (incs : List Incremental) (pg : PgId) (members : Membership) → membership incs pg ≡ Some members → members.acting_primary ≡ first_osd members.acting
+led-by incs pg members is =
+    let made = map_some (pool_membership incs pg) (pool incs pg.pool) members is in
+    subst (λ (m : Membership). m.acting_primary ≡ first_osd m.acting) made.2 refl
+
+pub primary-up : (incs : List Incremental) (pg : PgId) (h : History AnyCode) (osd : ℕ) → group_history incs pg ≡ Some h → h.current.acting_primary ≡ Some osd → is_up incs osd ≡ true
+primary-up incs pg h osd is leads =
+    let there : membership incs pg ≡ Some h.current = history-current incs pg h is in
+    up-first incs h.current.acting osd (acting-are_up incs pg h.current there) (sym (led-by incs pg h.current there) ∙ leads)
+
+pub acting-up : (incs : List Incremental) (pg : PgId) (h : History AnyCode) (member : Member) → group_history incs pg ≡ Some h → Contains (members_of (is_by_place h.code) h.current.acting) member → is_up incs member.osd ≡ true
+acting-up incs pg h member is acts =
+    let all = acting-are_up incs pg h.current (history-current incs pg h is) in
+    let from = filter_map-contains (held_member (is_by_place h.code) h.current.acting) (range_with_len 0 (length h.current.acting)) member acts in
+    let held = map_some (λ (osd : ℕ). record { osd = osd; slot = if is_by_place h.code then from.from else 0 }) (slice_index_or h.current.acting from.from None) member from.is in
+    up-at incs h.current.acting from.from member.osd all (held.1 ∙ ap (λ (m : Member). Some m.osd) held.2)
+
+-- ---- each interval was opened so
+
+opened-begun : (incs : List Incremental) (inc : Incremental) (pg : PgId) (after : History AnyCode) → are_checked (then_with incs inc) ≡ true → has_group incs pg ≡ false
+    → group_history (then_with incs inc) pg ≡ Some after → IsOpened (then_with incs inc) after
+opened-begun incs inc pg after checked absent is =
+    let fine = checked-last incs inc checked in
+    let there : has_group (then_with incs inc) pg ≡ true = sym (history_there (then_with incs inc) pg) ∙ ap is_some is in
+    let making : makes pg.pool inc ≡ true = elim (cases_Bool (makes pg.pool inc)) [
+      | inl makes' ↦ makes'
+      | inr unmade ↦ absurd (true≢false (sym there ∙ has_group-unmade incs inc pg fine unmade ∙ absent))
+    ] in
+    let begins = history-begins-made incs inc pg making there in
+    let made = map_some (λ (pool : PoolSpec). begun (code_of pool.kind) inc.epoch (pool_membership (then_with incs inc) pg pool)) (pool (then_with incs inc) pg.pool) after (sym begins ∙ is) in
+    subst (IsOpened (then_with incs inc)) made.2 (record {
+      since = λ osd leads. omega (arith, up_from-within osd (then_with incs inc) checked, epoch-snoc incs inc);
+      later = λ interval in'. absurd (Contains-nil interval in');
+      within = omega (arith, epoch-snoc incs inc);
+    })
+
+opened-next : (incs : List Incremental) (inc : Incremental) (pg : PgId) (h after : History AnyCode) → are_checked (then_with incs inc) ≡ true
+    → group_history incs pg ≡ Some h → group_history (then_with incs inc) pg ≡ Some after → IsOpened incs h → IsOpened (then_with incs inc) after
+opened-next incs inc pg h after checked is then' opened =
+    let fine = checked-last incs inc checked in
+    let within : current_first h ≤ epoch incs = opened.within in
+    let next : epoch (then_with incs inc) ≡ epoch incs + 1 = epoch-snoc incs inc ∙ next_epoch incs inc fine in
+    elim (moves incs inc pg h after checked is then') [
+      | on code goes ↦ record {
+        since = λ osd leads.
+            let led : h.current.acting_primary ≡ Some osd = ap (λ (m : Membership). m.acting_primary) (sym goes.current) ∙ leads in
+            omega (arith, up_from-stays incs inc osd fine (primary-up incs pg h osd is led), opened.since osd led, goes.first);
+        later = λ interval in'.
+            omega (arith, opened.later interval (subst (λ (l : List Past). Contains l interval) goes.past in'), goes.first);
+        within = omega (arith, goes.first, within, next);
+      }
+      | ends code over ↦ record {
+        since = λ osd leads. omega (arith, up_from-within osd (then_with incs inc) checked, epoch-snoc incs inc, over.first);
+        later = λ interval in'.
+            elim (append-contains (past_of h) _ interval (subst (λ (l : List Past). Contains l interval) over.past in')) [
+              | inl before ↦ omega (arith, opened.later interval before, within, over.first, next_epoch incs inc fine)
+              | inr last ↦ elim (Contains-cases _ [] interval last) [
+                | inl here ↦
+                    let first : current_first h ≡ interval.first = ap (λ (p : Past). p.first) here in
+                    omega (arith, first, within, over.first, next_epoch incs inc fine)
+                | inr none ↦ absurd (Contains-nil interval none)
+              ]
+            ];
+        within = omega (arith, over.first, epoch-snoc incs inc);
+      }
+    ]
+
+pub opened : (pg : PgId) (incs : List Incremental) → are_checked incs ≡ true → (h : History AnyCode) → group_history incs pg ≡ Some h → IsOpened incs h
+opened pg =
+    taken-induction is_faultless (λ (incs : List Incremental). (h : History AnyCode) → group_history incs pg ≡ Some h → IsOpened incs h)
+    (λ h is. cc)
+    (λ incs inc checked fine so_far after then'. step incs inc after (taken-more is_faultless incs inc checked fine) so_far then')
+  where
+    step : (incs : List Incremental) (inc : Incremental) (after : History AnyCode) → are_checked (then_with incs inc) ≡ true → ((h : History AnyCode) → group_history incs pg ≡ Some h → IsOpened incs h)
+        → group_history (then_with incs inc) pg ≡ Some after → IsOpened (then_with incs inc) after
+    step incs inc after checked so_far then' = elim (cases_Bool (has_group incs pg)) [
+      | inl there ↦
+          let before = some_is (group_history incs pg) (history_there incs pg ∙ there) in
+          opened-next incs inc pg before.0 after checked before.1 then' (so_far before.0 before.1)
+      | inr absent ↦ opened-begun incs inc pg after checked absent then'
+    ]

@@ -1,0 +1,160 @@
+-- What makes no group down: boots and losses, and reports that raise no flag.
+use Rattle.std.proofs.Common.{◌≡◌, ℕ, ◌≤◌, List, [], ◌∷◌, ◌++◌, Option, Some, None, Bool, true, false, not, ◌&&◌, ◌||◌, nat_eq, nat_le, nat_lt, fold, map, max, refl, ap, sym, ◌∙◌, subst, inl, inr, arith}
+use Rattle.std.specs.List.{Contains, list_any}
+use Rattle.std.specs.Option.{option_map_or}
+use Rattle.std.proofs.lemmas.Bool.{cases_Bool, false_from_ne_true, true≢false}
+use Rattle.std.proofs.lemmas.Bool.Decides.{nat_tests}
+use Rattle.std.proofs.lemmas.Option.{same_Some}
+use Rattle.std.proofs.lemmas.List.Folds.{list_any-append}
+use Rattle.pgp_code.specs.AnyCode.{enough_of, enough_of-mono, is_by_place}
+use Rattle.pgp_code.specs.declared.any.AnyCode.{AnyCode}
+use Rattle.pgp_ids.specs.declared.entry.Entry.{Entry}
+use Rattle.pgp_ids.specs.declared.entry.Entry.TheVariants as entry
+use Rattle.pgp_ids.specs.declared.incremental.Incremental.{Incremental}
+use Rattle.pgp_ids.specs.declared.member.Member.{Member}
+use Rattle.pgp_ids.specs.declared.membership.Membership.{Membership}
+use Rattle.pgp_ids.specs.declared.past.Past.{Past}
+use Rattle.pgp_ids.specs.declared.report.Info.{Info}
+use Rattle.pgp_interval.specs.History.{History}
+use Rattle.pgp_interval.specs.Runs.{current_ending}
+use Rattle.pgp_lists.proofs.Members.{any-contains, contains-any}
+use Rattle.pgp_map.specs.Devices.{boots, destroys, exists, is_up, lost_at, takes_down}
+use Rattle.pgp_map.specs.MapFault.{map_fault, then_with}
+use Rattle.pgp_prior.specs.Better.{is_no_worse}
+use Rattle.pgp_prior.specs.Blocks.{blocks, has_down, is_down}
+use Rattle.pgp_prior.specs.Members.{members_of}
+use Rattle.pgp_prior.specs.Prior.{is_group_down}
+use Rattle.pgp_prior.proofs.BetterLemmas.{no_worse-relieves, not_down-relieved}
+use Rattle.pgp_sets.specs.Status.{status, status_by}
+use Rattle.pgp_sets.specs.declared.status.Status.{Status}
+use Rattle.pgp_sets.specs.declared.status.Status.TheVariants.{Up}
+use Rattle.pgp_group.specs.Entries.{inc_of, incs_of}
+use Rattle.pgp_group.specs.GroupHistory.{group_history, primary_facts}
+use Rattle.pgp_group.specs.GroupLog.{GroupLog, incs}
+use Rattle.pgp_group.specs.Heard.{les}
+use Rattle.pgp_group.specs.Later.{IsAfter}
+use Rattle.pgp_group.specs.Peering.{past, prior}
+use Rattle.pgp_group.specs.Reckoning.{TakesNothingAway}
+use Rattle.pgp_group.proofs.DeviceLemmas.{checked-last, lost_at-rises, not_booted}
+use Rattle.pgp_group.proofs.LaterLemmas.{histories, same-infos}
+use Rattle.pgp_group.proofs.Lists.{last_where-none, last_where-passes, nothing_new}
+use Rattle.pgp_group.proofs.NotedLemmas.{to_up}
+use Rattle.pgp_group.proofs.OpeningLemmas.{Moves, moves, acting-up}
+use Rattle.pgp_group.proofs.OpeningLemmas.Moves.{on, ends}
+use Rattle.pgp_group.proofs.RiseLemmas.{les-rises}
+
+-- ---- statuses
+
+-- the incremental tells nothing of a device that it doesn't boot
+silent-of : (incs : List Incremental) (inc : Incremental) (osd : ℕ) → TakesNothingAway incs inc → boots osd inc ≡ false → boots osd inc || takes_down osd inc || destroys osd inc ≡ false
+silent-of incs inc osd nothing still = rw (still, ap (list_any (nat_eq osd)) nothing.down, ap (list_any (nat_eq osd)) nothing.gone) refl
+
+up-still : (incs : List Incremental) (inc : Incremental) (osd : ℕ) → TakesNothingAway incs inc → boots osd inc ≡ false → is_up (then_with incs inc) osd ≡ is_up incs osd
+up-still incs inc osd nothing still =
+    let none : list_any (λ (i : Incremental). boots osd i || takes_down osd i || destroys osd i) (inc ∷ []) ≡ false = rw (silent-of incs inc osd nothing still) refl in
+    ap (λ (o : Option Incremental). option_map_or (boots osd) o false) (last_where-none (λ (i : Incremental). boots osd i || takes_down osd i || destroys osd i) incs (inc ∷ []) none)
+
+exists-still : (incs : List Incremental) (inc : Incremental) (osd : ℕ) → TakesNothingAway incs inc → boots osd inc ≡ false → exists (then_with incs inc) osd ≡ exists incs osd
+exists-still incs inc osd nothing still =
+    let none : list_any (λ (i : Incremental). boots osd i || destroys osd i) (inc ∷ []) ≡ false = rw (still, ap (list_any (nat_eq osd)) nothing.gone) refl in
+    ap (λ (o : Option Incremental). option_map_or (boots osd) o false) (last_where-none (λ (i : Incremental). boots osd i || destroys osd i) incs (inc ∷ []) none)
+
+up-booted : (incs : List Incremental) (inc : Incremental) (osd : ℕ) → boots osd inc ≡ true → is_up (then_with incs inc) osd ≡ true
+up-booted incs inc osd booting =
+    let told : (boots osd inc || takes_down osd inc || destroys osd inc) ≡ true = rw booting refl in
+    ap (λ (o : Option Incremental). option_map_or (boots osd) o false) (last_where-passes (λ (i : Incremental). boots osd i || takes_down osd i || destroys osd i) incs inc told) ∙ booting
+
+-- a later loss makes no status worse
+lost-no_worse : (up there : Bool) (old new first : ℕ) → old ≤ new → is_no_worse (status_by up there old first) (status_by up there new first) ≡ true
+lost-no_worse true there old new first rises = refl
+lost-no_worse false false old new first rises = refl
+lost-no_worse false true old new first rises = elim (cases_Bool (nat_lt first old)) [
+  | inl lost ↦ let still : nat_lt first new ≡ true = grind (arith, nat_tests) in rw (lost, still) refl
+  | inr down ↦ elim (cases_Bool (nat_lt first new)) [
+    | inl lost ↦ rw (down, lost) refl
+    | inr still ↦ rw (down, still) refl
+  ]
+]
+
+no_worse : (incs : List Incremental) (inc : Incremental) (osd first : ℕ) → TakesNothingAway incs inc → is_no_worse (status incs osd first) (status (then_with incs inc) osd first) ≡ true
+no_worse incs inc osd first nothing = elim (cases_Bool (boots osd inc)) [
+  | inl booting ↦
+      let up : status (then_with incs inc) osd first ≡ Up =
+      ap (λ (b : Bool). status_by b (exists (then_with incs inc) osd) (lost_at (then_with incs inc) osd) first) (up-booted incs inc osd booting) in
+      ap (is_no_worse (status incs osd first)) up ∙ to_up (status incs osd first)
+  | inr still ↦
+      let is : status (then_with incs inc) osd first ≡ status_by (is_up incs osd) (exists incs osd) (lost_at (then_with incs inc) osd) first =
+      λ i. status_by (up-still incs inc osd nothing still i) (exists-still incs inc osd nothing still i) (lost_at (then_with incs inc) osd) first in
+      ap (is_no_worse (status incs osd first)) is
+      ∙ lost-no_worse (is_up incs osd) (exists incs osd) (lost_at incs osd) (lost_at (then_with incs inc) osd) first (lost_at-rises incs inc osd nothing.lost)
+]
+
+-- ---- the interval that the incremental ends
+
+-- none of its members is down: they were up, and still are
+ending-up : (g : GroupLog) (inc : Incremental) (ending : Past) → map_fault (incs g) inc ≡ None → group_history (incs g) g.pg ≡ Some g.history → TakesNothingAway (incs g) inc → ending.members ≡ g.history.current
+    → has_down (is_by_place g.history.code) (status (then_with (incs g) inc)) ending ≡ false
+ending-up g inc ending fine is nothing same = false_from_ne_true _ (λ down.
+    let members : List Member = members_of (is_by_place g.history.code) ending.members.acting in
+    let found = any-contains (λ (m : Member). is_down (status (then_with (incs g) inc) m.osd ending.first)) members down in
+    let member : Member = found.0 in
+    let acts : Contains (members_of (is_by_place g.history.code) g.history.current.acting) member =
+    subst (λ (m : Membership). Contains (members_of (is_by_place g.history.code) m.acting) member) same found.1.0 in
+    let before : is_up (incs g) member.osd ≡ true = acting-up (incs g) g.pg g.history member is acts in
+    let up : is_up (then_with (incs g) inc) member.osd ≡ true =
+    up-still (incs g) inc member.osd nothing (not_booted (incs g) inc member.osd fine before) ∙ before in
+    let not_down : is_down (status (then_with (incs g) inc) member.osd ending.first) ≡ false =
+    ap (λ (b : Bool). is_down (status_by b (exists (then_with (incs g) inc) member.osd) (lost_at (then_with (incs g) inc) member.osd) ending.first)) up in
+    true≢false (sym found.1.1 ∙ not_down))
+
+-- an interval with no member that is down doesn't block
+free-ending : (late suffices down : Bool) → down ≡ false → late && not suffices && down ≡ false
+free-ending late suffices down none = grind arith
+
+-- ---- the laws
+
+-- whether a group is down, by what is known of it
+abbrev down_by : AnyCode → List Incremental → ℕ → List Past → Bool
+down_by code incs les past = is_group_down (enough_of code) (is_by_place code) (status incs) les past
+
+relieved : (g : GroupLog) (inc : Incremental) → TakesNothingAway (incs g) inc → (prior g).down ≡ false → down_by g.history.code (then_with (incs g) inc) (les g) (past g) ≡ false
+relieved g inc nothing up =
+    not_down-relieved (is_by_place g.history.code) (enough_of g.history.code) (enough_of-mono g.history.code) (les g) (status (incs g)) (status (then_with (incs g) inc)) (past g)
+    (λ p in' m acts. no_worse-relieves _ _ (no_worse (incs g) inc m.osd p.first nothing)) up
+
+pub relief : (g after : GroupLog) (inc : Incremental) → IsAfter g (entry.Inc inc ∷ []) after → TakesNothingAway (incs g) inc → (prior g).down ≡ false → (prior after).down ≡ false
+relief g after inc is nothing up =
+    let hs = histories g (entry.Inc inc ∷ []) after is in
+    let fine = checked-last (incs g) inc hs.checked in
+    let since : les after ≡ les g = ap (λ (told : List Info). fold max 0 (map (λ info. info.history_les) told)) (same-infos g after inc is) in
+    let still = relieved g inc nothing up in
+    let all : (code : AnyCode) → code ≡ g.history.code → (intervals : List Past) → down_by g.history.code (then_with (incs g) inc) (les g) intervals ≡ false → down_by code (incs after) (les after) intervals ≡ false =
+    λ code same intervals none. (λ i. down_by (same i) (hs.incs_are i) (since i) intervals) ∙ none in
+    elim (moves (incs g) inc g.pg g.history after.history hs.checked hs.before hs.then_is) [
+      | on code goes ↦ all after.history.code code (past after) (ap (down_by g.history.code (then_with (incs g) inc) (les g)) goes.past ∙ still)
+      | ends code over ↦
+          let ending : Past = current_ending enough_of is_by_place g.history (primary_facts (incs g) g.history.current.acting_primary) in
+          let test : Past → Bool = blocks (enough_of g.history.code) (is_by_place g.history.code) (status (then_with (incs g) inc)) (les g) in
+          let free : test ending ≡ false = free-ending _ _ _ (ending-up g inc ending fine hs.before nothing refl) in
+          let last : list_any test (ending ∷ []) ≡ false = rw free refl in
+          all after.history.code code (past after)
+          (ap (list_any test) over.past ∙ list_any-append test (past g) (ending ∷ []) ∙ rw (still, last) refl)
+    ]
+
+-- an interval that blocks a group which last began to serve later blocked it before
+blocks-before : (suffices down rw' : Bool) (since later last : ℕ) → since ≤ later → (rw' && nat_le later last) && not suffices && down ≡ true → (rw' && nat_le since last) && not suffices && down ≡ true
+blocks-before suffices down rw' since later last rises blocking = grind (arith, nat_tests)
+
+pub reports_relief : (g after : GroupLog) (new : Entry) → IsAfter g (new ∷ []) after → inc_of new ≡ None → past after ≡ past g → (prior g).down ≡ false → (prior after).down ≡ false
+reports_relief g after new is none same up =
+    let hs = histories g (new ∷ []) after is in
+    let told : incs after ≡ incs g = ap incs_of hs.log ∙ nothing_new inc_of g.log new none in
+    let stays : after.history ≡ g.history =
+    same_Some after.history g.history (sym hs.then_is ∙ ap (λ (l : List Incremental). group_history l g.pg) (sym hs.incs_are ∙ told) ∙ hs.before) in
+    let rises : les g ≤ les after = les-rises g.log (new ∷ []) g.pg g after is.before is.then_is in
+    false_from_ne_true _ (λ down.
+    let was : down_by g.history.code (incs g) (les after) (past g) ≡ true = sym (λ i. down_by (stays i).code (told i) (les after) (same i)) ∙ down in
+    let found = any-contains (blocks (enough_of g.history.code) (is_by_place g.history.code) (status (incs g)) (les after)) (past g) was in
+    let blocking : blocks (enough_of g.history.code) (is_by_place g.history.code) (status (incs g)) (les g) found.0 ≡ true =
+    blocks-before _ _ found.0.rw (les g) (les after) found.0.last rises found.1.1 in
+    true≢false (sym (contains-any (blocks (enough_of g.history.code) (is_by_place g.history.code) (status (incs g)) (les g)) (past g) found.0 found.1.0 blocking) ∙ up))

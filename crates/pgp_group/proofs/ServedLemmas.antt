@@ -1,0 +1,220 @@
+-- That a group which served may have gone read-write in its interval, once that is past, and that whoever serves later has
+-- reckoned with it.
+use Rattle.std.proofs.Common.{◌≡◌, ℕ, ◌+◌, ◌<◌, ◌≤◌, List, [], ◌∷◌, ◌++◌, Option, Some, None, is_some, is_none, Bool, true, false, not, ◌&&◌, ◌||◌, nat_le, nat_lt, map, refl, ap, sym, ◌∙◌, subst, inl, inr, ◌⊎◌, arith}
+use Rattle.std.specs.List.{Contains}
+use Rattle.std.specs.Option.{option_map_or}
+use Rattle.std.proofs.lemmas.Bool.{cases_Bool, or_parts, true≢false}
+use Rattle.std.proofs.lemmas.Bool.Decides.{nat_tests}
+use Rattle.pgp_code.specs.AnyCode.{enough_of, enough_of-mono, is_by_place}
+use Rattle.pgp_code.specs.declared.any.AnyCode.{AnyCode}
+use Rattle.pgp_ids.specs.Osds.{osd_count}
+use Rattle.pgp_ids.specs.declared.entry.Entry.{Entry}
+use Rattle.pgp_ids.specs.declared.incremental.Incremental.{Incremental}
+use Rattle.pgp_ids.specs.declared.member.Member.{Member}
+use Rattle.pgp_ids.specs.declared.membership.Membership.{Membership}
+use Rattle.pgp_ids.specs.declared.past.Past.{Past}
+use Rattle.pgp_ids.specs.declared.pg_id.PgId.{PgId}
+use Rattle.pgp_ids.specs.declared.verdict.Verdict.{Verdict}
+use Rattle.pgp_ids.specs.declared.verdict.Verdict.TheVariants.{NoPrimary, Down, Waiting, Short, NeedUpThru, Serve}
+use Rattle.pgp_interval.specs.History.{History}
+use Rattle.pgp_interval.specs.ReadWrite.{acting_slots, may_have_gone_rw}
+use Rattle.pgp_interval.specs.Runs.{current_first, current_ending}
+use Rattle.pgp_lists.proofs.Members.{append-contains, contains-append, Contains-cases, Contains-here, Contains-nil}
+use Rattle.pgp_lists.proofs.Options.{some_is}
+use Rattle.pgp_map.specs.Checked.{are_checked}
+use Rattle.pgp_map.specs.Devices.{up_from, up_thru}
+use Rattle.pgp_map.specs.Map.{epoch}
+use Rattle.pgp_map.specs.MapFault.{map_fault, then_with}
+use Rattle.pgp_group.specs.Entries.{incs_of}
+use Rattle.pgp_group.specs.GroupHistory.{group_history, primary_facts}
+use Rattle.pgp_group.specs.GroupLog.{GroupLog, incs}
+use Rattle.pgp_group.specs.Later.{IsAfter}
+use Rattle.pgp_group.specs.Peering.{past}
+use Rattle.pgp_group.specs.Reckoning.{WentReadWrite, IsRemembered}
+use Rattle.pgp_group.specs.Verdict.{holds, place_of, verdict}
+use Rattle.pgp_group.proofs.DeviceLemmas.{checked-front, checked-last, up_from-stays, up_thru-rises}
+use Rattle.pgp_group.proofs.FirstLemmas.{along}
+use Rattle.pgp_group.proofs.GrowthLemmas.{next_epoch}
+use Rattle.pgp_group.proofs.LaterLemmas.{histories}
+use Rattle.pgp_group.proofs.OpeningLemmas.{IsOpened, GoesOn, Ends, Moves, moves, opened, past_of, primary-up}
+use Rattle.pgp_group.proofs.OpeningLemmas.Moves.{on, ends}
+use Rattle.pgp_group.proofs.VerdictLemmas.{IsFirstCause-verdict}
+
+-- ---- what a group has that serves
+
+-- a group of this code and membership has all that it takes to serve, led by this device
+record IsFit (code : AnyCode) (members : Membership) (osd : ℕ) : Type 0 where
+  leads : members.acting_primary ≡ Some osd
+  many : nat_le members.min_size (osd_count members.acting) ≡ true
+  slots : enough_of code (acting_slots (is_by_place code) members.acting) ≡ true
+
+record IsServing (g : GroupLog) (osd : ℕ) : Type 0 where
+  fit : IsFit g.history.code g.history.current osd
+  thru : current_first g.history ≤ up_thru (incs g) osd
+
+-- no cause holds for a group that serves
+pub no_cause : (g : GroupLog) (cause : Verdict) → verdict g ≡ Serve → place_of cause < 7 → holds g cause ≡ false
+no_cause g cause serves before =
+    (IsFirstCause-verdict g).none_before cause (subst (λ (v : Verdict). place_of cause < place_of v) (sym serves) before)
+
+serving : (g : GroupLog) → verdict g ≡ Serve → (osd : ℕ) × IsServing g osd
+serving g serves =
+    let leader : is_none g.history.current.acting_primary ≡ false = no_cause g NoPrimary serves (omega arith) in
+    let led = some_of g.history.current.acting_primary leader in
+    let short = or_parts (nat_lt (osd_count g.history.current.acting) g.history.current.min_size) _ (no_cause g Short serves (omega arith)) in
+    let few : nat_lt (osd_count g.history.current.acting) g.history.current.min_size ≡ false = short.0 in
+    let recorded : nat_lt (up_thru (incs g) led.0) (current_first g.history) ≡ false =
+    ap (λ (o : Option ℕ). option_map_or (λ osd. nat_lt (up_thru (incs g) osd) (current_first g.history)) o true) (sym led.1)
+    ∙ no_cause g NeedUpThru serves (omega arith) in
+    (led.0, record {
+      fit = record { leads = led.1; many = grind (arith, nat_tests); slots = not_false _ short.1 };
+      thru = grind (arith, nat_tests);
+    })
+  where
+    some_of : (found : Option ℕ) → is_none found ≡ false → (osd : ℕ) × (found ≡ Some osd)
+    some_of (Some osd) there = (osd, refl)
+    some_of None there = cc
+
+    not_false : (b : Bool) → not b ≡ false → b ≡ true
+    not_false true is = refl
+    not_false false is = cc
+
+-- ---- how its interval stands later
+
+-- the interval that opened at this epoch is current, and all that it takes to serve is there
+record Runs (first osd : ℕ) (incs : List Incremental) (h : History AnyCode) : Type 0 where
+  fit : IsFit h.code h.current osd
+  first_is : current_first h ≡ first
+  thru : first ≤ up_thru incs osd
+  since : up_from incs osd ≤ first
+
+-- it is past, and may have gone read-write
+record IsOver (first : ℕ) (h : History AnyCode) : Type 0 where
+  went : WentReadWrite first (past_of h)
+  each : (interval : Past) → Contains (past_of h) interval → interval.first ≡ first → interval.rw ≡ true
+  later : first < current_first h
+
+abbrev Stands : ℕ → ℕ → List Incremental → History AnyCode → Type 0
+Stands first osd incs h = Runs first osd incs h ⊎ IsOver first h
+
+went_rw : (code : AnyCode) (members : Membership) (osd first : ℕ) (incs : List Incremental) → IsFit code members osd → first ≤ up_thru incs osd → up_from incs osd ≤ first
+    → may_have_gone_rw (enough_of code) (is_by_place code) (record { members = members; facts = primary_facts incs members.acting_primary }) first ≡ true
+went_rw code members osd first incs fit thru since =
+    let recorded : nat_le first (up_thru incs osd) ≡ true = grind (arith, nat_tests) in
+    let up : nat_le (up_from incs osd) first ≡ true = grind (arith, nat_tests) in
+    rw (fit.many, fit.leads, fit.slots, recorded, up) refl
+
+-- what joins the past intervals where the current one ends
+ending_of : List Incremental → History AnyCode → Past
+ending_of incs h = current_ending enough_of is_by_place h (primary_facts incs h.current.acting_primary)
+
+stands-ended : (first osd : ℕ) (incs : List Incremental) (inc : Incremental) (h after : History AnyCode) → inc.epoch ≡ epoch incs + 1 → IsOpened incs h
+    → Ends inc.epoch (primary_facts incs h.current.acting_primary) h after → Runs first osd incs h → IsOver first after
+stands-ended first osd incs inc h after next opened over runs =
+    let ending : Past = current_ending enough_of is_by_place h (primary_facts incs h.current.acting_primary) in
+    let is : current_first h ≡ first = runs.first_is in
+    let rw' : ending.rw ≡ true =
+    went_rw h.code h.current osd (current_first h) incs runs.fit (omega (arith, runs.thru, is)) (omega (arith, runs.since, is)) in
+    record {
+      went = record {
+        interval = ending;
+        there = subst (λ (l : List Past). Contains l ending) (sym over.past) (contains-append (past_of h) (ending ∷ []) ending (inr (Contains-here ending [])));
+        opened = is;
+        rw = rw';
+      };
+      each = λ interval in' same. elim (append-contains (past_of h) (ending ∷ []) interval (subst (λ (l : List Past). Contains l interval) over.past in')) [
+        | inl before ↦ absurd (omega (arith, opened.later interval before, is, same))
+        | inr last ↦ elim (Contains-cases ending [] interval last) [
+          | inl here ↦ ap (λ (p : Past). p.rw) (sym here) ∙ rw'
+          | inr none ↦ absurd (Contains-nil interval none)
+        ]
+      ];
+      later = omega (arith, opened.within, is, over.first, next);
+    }
+
+over-ended : (first : ℕ) (incs : List Incremental) (inc : Incremental) (h after : History AnyCode) → inc.epoch ≡ epoch incs + 1 → IsOpened incs h
+    → Ends inc.epoch (primary_facts incs h.current.acting_primary) h after → IsOver first h → IsOver first after
+over-ended first incs inc h after next opened ended over =
+    let ending : Past = current_ending enough_of is_by_place h (primary_facts incs h.current.acting_primary) in
+    record {
+      went = record {
+        interval = over.went.interval;
+        there = subst (λ (l : List Past). Contains l over.went.interval) (sym ended.past) (contains-append (past_of h) (ending ∷ []) over.went.interval (inl over.went.there));
+        opened = over.went.opened;
+        rw = over.went.rw;
+      };
+      each = λ interval in' same. elim (append-contains (past_of h) (ending ∷ []) interval (subst (λ (l : List Past). Contains l interval) ended.past in')) [
+        | inl before ↦ over.each interval before same
+        | inr last ↦ elim (Contains-cases ending [] interval last) [
+          | inl here ↦
+              let at : current_first h ≡ interval.first = ap (λ (p : Past). p.first) here in
+              absurd (omega (arith, at, same, over.later))
+          | inr none ↦ absurd (Contains-nil interval none)
+        ]
+      ];
+      later = omega (arith, over.later, opened.within, ended.first, next);
+    }
+
+stands-step : (first osd : ℕ) (pg : PgId) (incs : List Incremental) (inc : Incremental) (h after : History AnyCode) → are_checked (then_with incs inc) ≡ true
+    → group_history incs pg ≡ Some h → group_history (then_with incs inc) pg ≡ Some after → Stands first osd incs h → Stands first osd (then_with incs inc) after
+stands-step first osd pg incs inc h after checked is then' stands =
+    let fine = checked-last incs inc checked in
+    let next : inc.epoch ≡ epoch incs + 1 = next_epoch incs inc fine in
+    let open' : IsOpened incs h = opened pg incs (checked-front incs (inc ∷ []) checked) h is in
+    by (moves incs inc pg h after checked is then') fine next open' stands
+  where
+    by : Moves incs inc h after → map_fault incs inc ≡ None → inc.epoch ≡ epoch incs + 1 → IsOpened incs h → Stands first osd incs h → Stands first osd (then_with incs inc) after
+    by (on code goes) fine next open' (inl runs) = inl (record {
+      fit = subst (λ (m : Membership). IsFit after.code m osd) (sym goes.current) (subst (λ (c : AnyCode). IsFit c h.current osd) (sym code) runs.fit);
+      first_is = goes.first ∙ runs.first_is;
+      thru = omega (arith, up_thru-rises incs inc osd fine, runs.thru);
+      since = omega (arith, up_from-stays incs inc osd fine (primary-up incs pg h osd is runs.fit.leads), runs.since);
+    })
+    by (on code goes) fine next open' (inr over) = inr (record {
+      went = subst (WentReadWrite first) (sym goes.past) over.went;
+      each = subst (λ (l : List Past). (interval : Past) → Contains l interval → interval.first ≡ first → interval.rw ≡ true) (sym goes.past) over.each;
+      later = omega (arith, over.later, goes.first);
+    })
+    by (ends code ended) fine next open' (inl runs) = inr (stands-ended first osd incs inc h after next open' ended runs)
+    by (ends code ended) fine next open' (inr over) = inr (over-ended first incs inc h after next open' ended over)
+
+-- ---- the laws
+
+record IsStanding (g after : GroupLog) : Type 0 where
+  osd : ℕ
+  stands : Stands (current_first g.history) osd (incs after) after.history
+
+standing : (g after : GroupLog) (later : List Entry) → IsAfter g later after → verdict g ≡ Serve → IsStanding g after
+standing g after later is serves =
+    let s = serving g serves in
+    let osd : ℕ = s.0 in
+    let first : ℕ = current_first g.history in
+    let hs = histories g later after is in
+    let open' : IsOpened (incs g) g.history = opened g.pg (incs g) (checked-front (incs g) (incs_of later) hs.checked) g.history hs.before in
+    let runs : Stands first osd (incs g) g.history =
+    inl (record { fit = s.1.fit; first_is = refl; thru = s.1.thru; since = open'.since osd s.1.fit.leads }) in
+    record {
+      osd = osd;
+      stands = subst (λ (l : List Incremental). Stands first osd l after.history) (sym hs.incs_are)
+          (along checked-front checked-last g.pg (Stands first osd)
+          (λ is' inc h next checked before then' kept. stands-step first osd g.pg is' inc h next checked before then' kept)
+          (incs_of later) (incs g) g.history after.history hs.checked hs.before hs.then_is runs);
+    }
+
+pub remembered : (g after : GroupLog) (later : List Entry) → IsAfter g later after → verdict g ≡ Serve → IsRemembered g after
+remembered g after later is serves = elim ((standing g after later is serves).stands) [
+  | inl runs ↦ inl runs.first_is
+  | inr over ↦ inr over.went
+]
+
+-- the intervals of a group later
+opened-after : (g after : GroupLog) (later : List Entry) → IsAfter g later after → IsOpened (incs after) after.history
+opened-after g after later is =
+    let hs = histories g later after is in
+    subst (λ (l : List Incremental). IsOpened l after.history) (sym hs.incs_are) (opened g.pg (incs g ++ incs_of later) hs.checked after.history hs.then_is)
+
+pub remembered-each : (g after : GroupLog) (later : List Entry) (interval : Past) → IsAfter g later after → verdict g ≡ Serve → Contains (past after) interval → interval.first ≡ current_first g.history → interval.rw ≡ true
+remembered-each g after later interval is serves in' same = elim ((standing g after later is serves).stands) [
+  | inl runs ↦ absurd (omega (arith, (opened-after g after later is).later interval in', runs.first_is, same))
+  | inr over ↦ over.each interval in' same
+]

@@ -1,0 +1,8 @@
+use Rattle.pgp_group.proofs.ServedLemmas.{remembered, remembered-each}
+use Rattle.pgp_group.proofs.laws.reckoning.served.Goals as goal
+
+pub returns-clause-remembered : goal.returns-clause-remembered
+returns-clause-remembered c = remembered
+
+pub returns-clause-each : goal.returns-clause-each
+returns-clause-each c = remembered-each
