@@ -63,6 +63,19 @@ histories g later after is =
       incs_are = ap incs_of a.1.0 ∙ grown;
     }
 
+-- the log and the group of what a log has
+pub log-in : (log : List Entry) (pg : PgId) (g : GroupLog) → group_in log pg ≡ Some g → g.log ≡ log
+log-in log pg g is = (history-in log pg g is).1.0
+
+pub is_after : (log later : List Entry) (pg : PgId) (g after : GroupLog) → are_checked (incs_of (log ++ later)) ≡ true → group_in log pg ≡ Some g → group_in (log ++ later) pg ≡ Some after → IsAfter g later after
+is_after log later pg g after checked is then' =
+    let same = (history-in log pg g is).1 in
+    record {
+      checked = ap (λ (l : List Entry). are_checked (incs_of (l ++ later))) same.0 ∙ checked;
+      before = (λ i. group_in (same.0 i) (same.1 i)) ∙ is;
+      then_is = (λ i. group_in (same.0 i ++ later) (same.1 i)) ∙ then';
+    }
+
 -- ---- a new interval
 
 below-first : (g : GroupLog) (member : Member) (stamp : ℕ) → stamp < current_first g.history → is_counted g member stamp ≡ false

@@ -24,9 +24,9 @@ use Rattle.pgp_group.specs.GroupLog.{GroupLog, incs}
 use Rattle.pgp_group.specs.Heard.{les, heard, has_member}
 use Rattle.pgp_group.specs.Later.{IsAfter}
 use Rattle.pgp_group.specs.Peering.{past, prior}
-use Rattle.pgp_group.specs.Reckoning.{is_lost, acting_of, heard_or_lost, IsReckonedWith}
+use Rattle.pgp_group.specs.Reckoning.{is_lost, acting_of, heard_or_lost, IsAccountedFor, IsReckonedWith}
 use Rattle.pgp_group.specs.Verdict.{verdict}
-use Rattle.pgp_group.proofs.ServedLemmas.{no_cause, remembered-each}
+use Rattle.pgp_group.proofs.ServedLemmas.{no_cause, remembered, remembered-each}
 
 settled_is : (s : Status) → is_settled s ≡ true → (s ≡ the.Up) ⊎ (is_lost s ≡ true)
 settled_is the.Up is = inl refl
@@ -94,3 +94,19 @@ pub reckoned : (g after : GroupLog) (later : List Entry) (interval : Past) → I
 reckoned g after later interval is served there same serves since =
     let late : nat_le (les after) interval.last ≡ true = grind (arith, nat_tests) in
     reckoned-with after interval serves there (rw (remembered-each g after later interval is served there same, late) refl)
+
+-- whoever serves again has accounted for the interval, where it isn't current still
+pub served_again : (g after : GroupLog) (later : List Entry) → IsAfter g later after → verdict g ≡ Serve → verdict after ≡ Serve
+    → (current_first after.history ≡ current_first g.history) ⊎ IsAccountedFor (current_first g.history) after
+served_again g after later is served serves = elim (remembered g after later is served) [
+  | inl same ↦ inl same
+  | inr went ↦ inr (record {
+    interval = went.interval;
+    there = went.there;
+    opened = went.opened;
+    how = elim (cases_Bool (nat_le (les after) went.interval.last)) [
+      | inl since ↦ inl (reckoned-with after went.interval serves went.there (rw (went.rw, since) refl))
+      | inr early ↦ inr (grind (arith, nat_tests))
+    ];
+  })
+]

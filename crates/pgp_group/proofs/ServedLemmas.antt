@@ -5,6 +5,7 @@ use Rattle.std.specs.List.{Contains}
 use Rattle.std.specs.Option.{option_map_or}
 use Rattle.std.proofs.lemmas.Bool.{cases_Bool, or_parts, true≢false}
 use Rattle.std.proofs.lemmas.Bool.Decides.{nat_tests}
+use Rattle.std.proofs.lemmas.List.Elements.{filter_map-append}
 use Rattle.pgp_code.specs.AnyCode.{enough_of, enough_of-mono, is_by_place}
 use Rattle.pgp_code.specs.declared.any.AnyCode.{AnyCode}
 use Rattle.pgp_ids.specs.Osds.{osd_count}
@@ -20,25 +21,27 @@ use Rattle.pgp_interval.specs.History.{History}
 use Rattle.pgp_interval.specs.ReadWrite.{acting_slots, may_have_gone_rw}
 use Rattle.pgp_interval.specs.Runs.{current_first, current_ending}
 use Rattle.pgp_lists.proofs.Members.{append-contains, contains-append, Contains-cases, Contains-here, Contains-nil}
-use Rattle.pgp_lists.proofs.Options.{some_is}
-use Rattle.pgp_map.specs.Checked.{are_checked}
+use Rattle.pgp_lists.proofs.Options.{none_is, some_is, some_mapped}
+use Rattle.pgp_lists.proofs.Taken.{taken-along}
+use Rattle.pgp_map.specs.Checked.{are_checked, is_faultless}
 use Rattle.pgp_map.specs.Devices.{up_from, up_thru}
 use Rattle.pgp_map.specs.Map.{epoch}
 use Rattle.pgp_map.specs.MapFault.{map_fault, then_with}
-use Rattle.pgp_group.specs.Entries.{incs_of}
+use Rattle.pgp_group.specs.Entries.{inc_of, incs_of}
 use Rattle.pgp_group.specs.GroupHistory.{group_history, primary_facts}
-use Rattle.pgp_group.specs.GroupLog.{GroupLog, incs}
+use Rattle.pgp_group.specs.GroupLog.{GroupLog, group_in, incs}
 use Rattle.pgp_group.specs.Later.{IsAfter}
 use Rattle.pgp_group.specs.Peering.{past}
 use Rattle.pgp_group.specs.Reckoning.{WentReadWrite, IsRemembered}
 use Rattle.pgp_group.specs.Verdict.{holds, place_of, verdict}
 use Rattle.pgp_group.proofs.DeviceLemmas.{checked-front, checked-last, up_from-stays, up_thru-rises}
 use Rattle.pgp_group.proofs.FirstLemmas.{along}
-use Rattle.pgp_group.proofs.GrowthLemmas.{next_epoch}
+use Rattle.pgp_group.proofs.GrowthLemmas.{has_group-grows, next_epoch}
 use Rattle.pgp_group.proofs.LaterLemmas.{histories}
 use Rattle.pgp_group.proofs.OpeningLemmas.{IsOpened, GoesOn, Ends, Moves, moves, opened, past_of, primary-up}
 use Rattle.pgp_group.proofs.OpeningLemmas.Moves.{on, ends}
 use Rattle.pgp_group.proofs.VerdictLemmas.{IsFirstCause-verdict}
+use Rattle.pgp_group.proofs.ViewLemmas.{history_there}
 
 -- ---- what a group has that serves
 
@@ -218,3 +221,17 @@ remembered-each g after later interval is serves in' same = elim ((standing g af
   | inl runs ↦ absurd (omega (arith, (opened-after g after later is).later interval in', runs.first_is, same))
   | inr over ↦ over.each interval in' same
 ]
+
+-- a group that is there stays
+pub stays_there : (pg : PgId) (log later : List Entry) → are_checked (incs_of (log ++ later)) ≡ true → is_some (group_in log pg) ≡ true → is_some (group_in (log ++ later) pg) ≡ true
+stays_there pg log later checked there =
+    let joined : incs_of (log ++ later) ≡ incs_of log ++ incs_of later = filter_map-append inc_of log later in
+    let stays : is_some (group_history (incs_of log ++ incs_of later) pg) ≡ true =
+    taken-along is_faultless (λ (l : List Incremental). is_some (group_history l pg) ≡ true) step (incs_of log) (incs_of later) (ap are_checked (sym joined) ∙ checked)
+    (sym (some_mapped _ (group_history (incs_of log) pg)) ∙ there) in
+    some_mapped _ (group_history (incs_of (log ++ later)) pg) ∙ ap (λ (l : List Incremental). is_some (group_history l pg)) joined ∙ stays
+  where
+    step : (l : List Incremental) (inc : Incremental) → are_checked l ≡ true → is_faultless l inc ≡ true → is_some (group_history l pg) ≡ true → is_some (group_history (then_with l inc) pg) ≡ true
+    step l inc checked' fine there' =
+        let before = some_is (group_history l pg) there' in
+        history_there (then_with l inc) pg ∙ has_group-grows l inc pg before.0 (none_is (map_fault l inc) fine) before.1

@@ -1,7 +1,7 @@
 -- What holds of a placement group that served, in every log that goes on from there: its interval is remembered as one in
 -- which writes may have been taken, and whoever serves later has reckoned with it (Ceph's developer documentation on peering:
 -- past intervals, up_thru, last_epoch_started; the laws are this project's own).
-use Rattle.std.specs.Prelude.{◌≡◌, ◌⊎◌, ℕ, List, [], Bool, true, false, ◌||◌, nat_lt, filter, Contains}
+use Rattle.std.specs.Prelude.{◌≡◌, ◌⊎◌, ℕ, ◌<◌, List, [], Bool, true, false, ◌||◌, nat_lt, filter, Contains}
 use Rattle.std.specs.List.{list_any}
 use Rattle.pgp_code.specs.AnyCode.{enough_of, is_by_place}
 use Rattle.pgp_ids.specs.declared.incremental.Incremental.{Incremental}
@@ -15,7 +15,7 @@ use Rattle.pgp_sets.specs.Status.{status}
 use Rattle.pgp_sets.specs.declared.status.Status.{Status}
 use Rattle.pgp_sets.specs.declared.status.Status.TheVariants.{Up, Gone, Lost, Down}
 use Rattle.pgp_group.specs.GroupLog.{GroupLog, incs}
-use Rattle.pgp_group.specs.Heard.{heard, has_member}
+use Rattle.pgp_group.specs.Heard.{les, heard, has_member}
 use Rattle.pgp_group.specs.Peering.{past}
 
 -- ---- the interval in which a group served
@@ -55,6 +55,13 @@ abbrev pub IsReckonedWith : GroupLog → Past → Type 0
 IsReckonedWith g interval =
     (enough_of g.history.code (slots_of (heard_or_lost g interval)) ≡ true)
     ⊎ (has_down (is_by_place g.history.code) (status (incs g)) interval ≡ false)
+
+-- the interval that opened at this epoch is past, and it is reckoned with, or the group is known to have begun to serve after it
+pub record IsAccountedFor (first : ℕ) (g : GroupLog) : Type 0 where
+  pub interval : Past
+  pub there : Contains (past g) interval
+  pub opened : interval.first ≡ first
+  pub how : IsReckonedWith g interval ⊎ (interval.last < les g)
 
 -- ---- what makes no group down
 

@@ -1,6 +1,8 @@
 //! What holds of any log, and what the definitions say of small ones.
 #![tactic(auto, unfolding(crate::specs::Worked::logs_computed))]
 
+pub mod reckoning;
+
 ghost use Rattle.std.specs.Prelude.{◌≡◌, ℕ, ◌<◌, ◌≤◌, List, [], ◌∷◌, ◌++◌, length, Some, None, true, false, option_map, Ok, Err, codes};
 ghost use Rattle.pgp_refusals.specs.declared.ask_refusal.AskRefusal.TheVariants as ask;
 ghost use Rattle.pgp_ids.specs.declared.entry.Entry.{Entry};

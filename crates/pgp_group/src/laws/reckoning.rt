@@ -1,36 +1,43 @@
 //! Who served is reckoned with: the safety argument of peering, over all logs that go on from one in which a group served.
 
-ghost use Rattle.std.specs.Prelude.{◌≡◌, ◌≤◌, ◌∷◌, [], List, None, false, true, Contains};
+ghost use Rattle.std.specs.Prelude.{◌≡◌, ◌≤◌, ◌⊎◌, ◌∷◌, ◌++◌, [], List, None, false, true, is_some, Contains};
 ghost use Rattle.pgp_ids.specs.declared.entry.Entry.{Entry};
 ghost use Rattle.pgp_ids.specs.declared.entry.Entry.TheVariants as entry;
 ghost use Rattle.pgp_ids.specs.declared.incremental.Incremental.{Incremental};
 ghost use Rattle.pgp_ids.specs.declared.past.Past.{Past};
+ghost use Rattle.pgp_ids.specs.declared.pg_id.PgId.{PgId};
 ghost use Rattle.pgp_ids.specs.declared.verdict.Verdict.TheVariants.{Serve};
 ghost use Rattle.pgp_interval.specs.Runs.{current_first};
-ghost use Rattle.pgp_group.specs.Entries.{inc_of};
-ghost use Rattle.pgp_group.specs.GroupLog.{GroupLog, incs};
+ghost use Rattle.pgp_map.specs.Checked.{are_checked};
+ghost use Rattle.pgp_group.specs.Entries.{inc_of, incs_of};
+ghost use Rattle.pgp_group.specs.GroupLog.{GroupLog, group_in, incs};
 ghost use Rattle.pgp_group.specs.Heard.{les};
 ghost use Rattle.pgp_group.specs.Later.{IsAfter};
 ghost use Rattle.pgp_group.specs.Peering.{past, prior};
-ghost use Rattle.pgp_group.specs.Reckoning.{IsRemembered, IsReckonedWith, TakesNothingAway};
+ghost use Rattle.pgp_group.specs.Reckoning.{IsRemembered, IsReckonedWith, IsAccountedFor, TakesNothingAway};
 ghost use Rattle.pgp_group.specs.Verdict.{verdict};
 
 /// Where a group served, the interval that was current then is current still, or it is past and may have gone read-write, so
-/// that nobody forgets that writes may have been taken in it. It rests on two refusals of maps: up_thru never falls, and a
+/// that nobody forgets that writes may have been taken in it. A group that is there stays. It rests on two refusals of maps: up_thru never falls, and a
 /// device that is up doesn't boot.
 pub fn served()
     ensures remembered { (g after : GroupLog) (later : List Entry) → IsAfter g later after → verdict g ≡ Serve
         → IsRemembered g after }
     ensures each { (g after : GroupLog) (later : List Entry) (interval : Past) → IsAfter g later after → verdict g ≡ Serve
         → Contains (past after) interval → interval.first ≡ current_first g.history → interval.rw ≡ true }
+    ensures there { (pg : PgId) (log later : List Entry) → are_checked (incs_of (log ++ later)) ≡ true
+        → is_some (group_in log pg) ≡ true → is_some (group_in (log ++ later) pg) ≡ true }
 {}
 
 /// Whoever serves later has reckoned with that interval, unless the group is known to have begun to serve since: enough of its
-/// acting members were heard or given up for lost, or none of them is down.
+/// acting members were heard or given up for lost, or none of them is down. So each group that serves again has accounted for
+/// the interval in which it served, or is in it still.
 pub fn reckoned()
-    ensures { (g after : GroupLog) (later : List Entry) (interval : Past) → IsAfter g later after → verdict g ≡ Serve
+    ensures interval { (g after : GroupLog) (later : List Entry) (interval : Past) → IsAfter g later after → verdict g ≡ Serve
         → Contains (past after) interval → interval.first ≡ current_first g.history
         → verdict after ≡ Serve → les after ≤ interval.last → IsReckonedWith after interval }
+    ensures again { (g after : GroupLog) (later : List Entry) → IsAfter g later after → verdict g ≡ Serve → verdict after ≡ Serve
+        → (current_first after.history ≡ current_first g.history) ⊎ IsAccountedFor (current_first g.history) after }
 {}
 
 /// A group that isn't down doesn't become so by an incremental that takes no device down, destroys none, and gives none up for
