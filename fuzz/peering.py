@@ -84,6 +84,11 @@ def counts(maps: Maps, first: int, report: Report) -> bool:
     return stamp >= first and maps.is_up(osd, maps.epoch) and maps.up_from(osd, maps.epoch) <= stamp
 
 
+def heard_of(maps: Maps, first: int, reports: List[Report]) -> Dict[Member, Report]:
+    """The members that are heard, each with its last info that counts."""
+    return {tuple(it["from"]): it for it in reports if it["op"] == "info" and counts(maps, first, it)}
+
+
 def best_of(code: Optional[int], heard: Dict[Member, Report], leader: Optional[Member]) -> Optional[Member]:
     """The member whose info is the best of those heard."""
     starts = [info["history_les"] for info in heard.values()] + [info["les"] for info in heard.values() if info["complete"]]
@@ -142,7 +147,7 @@ def view(maps: Maps, group: Group, history: List[State], reports: List[Report]) 
     past_probe, blocked_by = prior(maps, code, past, les)
     probe = sorted({*present, *past_probe})
     counted = [report for report in reports if counts(maps, first, report)]
-    heard = {tuple(info["from"]): info for info in counted if info["op"] == "info"}
+    heard = heard_of(maps, first, counted)
     best = best_of(code, heard, acting[0] if acting else None)
     parts = [report for report in counted if report["op"] == "entries" and tuple(report["from"]) == best]
     log = None if best is None else log_of(heard[best], parts)

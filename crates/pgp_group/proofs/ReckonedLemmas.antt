@@ -1,5 +1,5 @@
 -- That whoever serves later has reckoned with each interval in which the group served.
-use Rattle.std.proofs.Common.{◌≡◌, ℕ, ◌≤◌, List, Bool, true, false, not, ◌&&◌, ◌||◌, nat_le, nat_lt, map, refl, ap, sym, ◌∙◌, subst, inl, inr, ◌⊎◌, arith}
+use Rattle.std.proofs.Common.{◌≡◌, ℕ, ◌≤◌, List, Bool, true, false, not, ◌&&◌, ◌||◌, nat_le, nat_lt, map, refl, subst, inl, inr, ◌⊎◌, arith}
 use Rattle.std.specs.List.{Contains}
 use Rattle.std.proofs.lemmas.Bool.{cases_Bool}
 use Rattle.std.proofs.lemmas.Bool.Decides.{nat_tests}
@@ -84,8 +84,8 @@ reckoned-with g interval serves there matters' =
     none-contains (blocks (enough_of g.history.code) (is_by_place g.history.code) (status (incs g)) (les g)) (past g) interval (no_cause g Down serves (omega arith)) there in
     elim (unblocked (matters (les g) interval) (enough_of g.history.code settled) (has_down (is_by_place g.history.code) (status (incs g)) interval) matters' free) [
       | inl enough ↦ inl (enough_of-mono g.history.code settled (slots_of (heard_or_lost g interval))
-      (IsSlotSet-slots_of (acting_where is_settled (is_by_place g.history.code) (status (incs g)) interval))
-      (IsSlotSet-slots_of (heard_or_lost g interval)) (settled-within g interval serves there matters') enough)
+          (IsSlotSet-slots_of (acting_where is_settled (is_by_place g.history.code) (status (incs g)) interval))
+          (IsSlotSet-slots_of (heard_or_lost g interval)) (settled-within g interval serves there matters') enough)
       | inr none ↦ inr none
     ]
 

@@ -1,5 +1,5 @@
 -- What makes no group down: boots and losses, and reports that raise no flag.
-use Rattle.std.proofs.Common.{◌≡◌, ℕ, ◌≤◌, List, [], ◌∷◌, ◌++◌, Option, Some, None, Bool, true, false, not, ◌&&◌, ◌||◌, nat_eq, nat_le, nat_lt, fold, map, max, refl, ap, sym, ◌∙◌, subst, inl, inr, arith}
+use Rattle.std.proofs.Common.{◌≡◌, ℕ, ◌≤◌, List, [], ◌∷◌, Option, Some, None, Bool, true, false, not, ◌&&◌, ◌||◌, nat_eq, nat_le, nat_lt, fold, map, max, refl, ap, sym, ◌∙◌, subst, inl, inr, arith}
 use Rattle.std.specs.List.{Contains, list_any}
 use Rattle.std.specs.Option.{option_map_or}
 use Rattle.std.proofs.lemmas.Bool.{cases_Bool, false_from_ne_true, true≢false}
@@ -15,7 +15,6 @@ use Rattle.pgp_ids.specs.declared.member.Member.{Member}
 use Rattle.pgp_ids.specs.declared.membership.Membership.{Membership}
 use Rattle.pgp_ids.specs.declared.past.Past.{Past}
 use Rattle.pgp_ids.specs.declared.report.Info.{Info}
-use Rattle.pgp_interval.specs.History.{History}
 use Rattle.pgp_interval.specs.Runs.{current_ending}
 use Rattle.pgp_lists.proofs.Members.{any-contains, contains-any}
 use Rattle.pgp_map.specs.Devices.{boots, destroys, exists, is_up, lost_at, takes_down}
@@ -26,7 +25,6 @@ use Rattle.pgp_prior.specs.Members.{members_of}
 use Rattle.pgp_prior.specs.Prior.{is_group_down}
 use Rattle.pgp_prior.proofs.BetterLemmas.{no_worse-relieves, not_down-relieved}
 use Rattle.pgp_sets.specs.Status.{status, status_by}
-use Rattle.pgp_sets.specs.declared.status.Status.{Status}
 use Rattle.pgp_sets.specs.declared.status.Status.TheVariants.{Up}
 use Rattle.pgp_group.specs.Entries.{inc_of, incs_of}
 use Rattle.pgp_group.specs.GroupHistory.{group_history, primary_facts}
@@ -39,7 +37,7 @@ use Rattle.pgp_group.proofs.DeviceLemmas.{checked-last, lost_at-rises, not_boote
 use Rattle.pgp_group.proofs.LaterLemmas.{histories, same-infos}
 use Rattle.pgp_group.proofs.Lists.{last_where-none, last_where-passes, nothing_new}
 use Rattle.pgp_group.proofs.NotedLemmas.{to_up}
-use Rattle.pgp_group.proofs.OpeningLemmas.{Moves, moves, acting-up}
+use Rattle.pgp_group.proofs.OpeningLemmas.{moves, acting-up}
 use Rattle.pgp_group.proofs.OpeningLemmas.Moves.{on, ends}
 use Rattle.pgp_group.proofs.RiseLemmas.{les-rises}
 

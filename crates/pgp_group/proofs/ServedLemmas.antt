@@ -1,22 +1,21 @@
 -- That a group which served may have gone read-write in its interval, once that is past, and that whoever serves later has
 -- reckoned with it.
-use Rattle.std.proofs.Common.{◌≡◌, ℕ, ◌+◌, ◌<◌, ◌≤◌, List, [], ◌∷◌, ◌++◌, Option, Some, None, is_some, is_none, Bool, true, false, not, ◌&&◌, ◌||◌, nat_le, nat_lt, map, refl, ap, sym, ◌∙◌, subst, inl, inr, ◌⊎◌, arith}
+use Rattle.std.proofs.Common.{◌≡◌, ℕ, ◌+◌, ◌<◌, ◌≤◌, List, [], ◌∷◌, ◌++◌, Option, Some, None, is_some, is_none, Bool, true, false, not, nat_le, nat_lt, refl, ap, sym, ◌∙◌, subst, inl, inr, ◌⊎◌, arith}
 use Rattle.std.specs.List.{Contains}
 use Rattle.std.specs.Option.{option_map_or}
-use Rattle.std.proofs.lemmas.Bool.{cases_Bool, or_parts, true≢false}
+use Rattle.std.proofs.lemmas.Bool.{or_parts}
 use Rattle.std.proofs.lemmas.Bool.Decides.{nat_tests}
 use Rattle.std.proofs.lemmas.List.Elements.{filter_map-append}
-use Rattle.pgp_code.specs.AnyCode.{enough_of, enough_of-mono, is_by_place}
+use Rattle.pgp_code.specs.AnyCode.{enough_of, is_by_place}
 use Rattle.pgp_code.specs.declared.any.AnyCode.{AnyCode}
 use Rattle.pgp_ids.specs.Osds.{osd_count}
 use Rattle.pgp_ids.specs.declared.entry.Entry.{Entry}
 use Rattle.pgp_ids.specs.declared.incremental.Incremental.{Incremental}
-use Rattle.pgp_ids.specs.declared.member.Member.{Member}
 use Rattle.pgp_ids.specs.declared.membership.Membership.{Membership}
 use Rattle.pgp_ids.specs.declared.past.Past.{Past}
 use Rattle.pgp_ids.specs.declared.pg_id.PgId.{PgId}
 use Rattle.pgp_ids.specs.declared.verdict.Verdict.{Verdict}
-use Rattle.pgp_ids.specs.declared.verdict.Verdict.TheVariants.{NoPrimary, Down, Waiting, Short, NeedUpThru, Serve}
+use Rattle.pgp_ids.specs.declared.verdict.Verdict.TheVariants.{NoPrimary, Short, NeedUpThru, Serve}
 use Rattle.pgp_interval.specs.History.{History}
 use Rattle.pgp_interval.specs.ReadWrite.{acting_slots, may_have_gone_rw}
 use Rattle.pgp_interval.specs.Runs.{current_first, current_ending}
@@ -38,7 +37,7 @@ use Rattle.pgp_group.proofs.DeviceLemmas.{checked-front, checked-last, up_from-s
 use Rattle.pgp_group.proofs.FirstLemmas.{along}
 use Rattle.pgp_group.proofs.GrowthLemmas.{has_group-grows, next_epoch}
 use Rattle.pgp_group.proofs.LaterLemmas.{histories}
-use Rattle.pgp_group.proofs.OpeningLemmas.{IsOpened, GoesOn, Ends, Moves, moves, opened, past_of, primary-up}
+use Rattle.pgp_group.proofs.OpeningLemmas.{IsOpened, Ends, Moves, moves, opened, past_of, primary-up}
 use Rattle.pgp_group.proofs.OpeningLemmas.Moves.{on, ends}
 use Rattle.pgp_group.proofs.VerdictLemmas.{IsFirstCause-verdict}
 use Rattle.pgp_group.proofs.ViewLemmas.{history_there}
@@ -68,11 +67,13 @@ serving g serves =
     let few : nat_lt (osd_count g.history.current.acting) g.history.current.min_size ≡ false = short.0 in
     let recorded : nat_lt (up_thru (incs g) led.0) (current_first g.history) ≡ false =
     ap (λ (o : Option ℕ). option_map_or (λ osd. nat_lt (up_thru (incs g) osd) (current_first g.history)) o true) (sym led.1)
-    ∙ no_cause g NeedUpThru serves (omega arith) in
-    (led.0, record {
-      fit = record { leads = led.1; many = grind (arith, nat_tests); slots = not_false _ short.1 };
-      thru = grind (arith, nat_tests);
-    })
+    ∙ no_cause g NeedUpThru serves (omega arith) in (
+      led.0,
+      record {
+        fit = record { leads = led.1; many = grind (arith, nat_tests); slots = not_false _ short.1 };
+        thru = grind (arith, nat_tests);
+      },
+    )
   where
     some_of : (found : Option ℕ) → is_none found ≡ false → (osd : ℕ) × (found ≡ Some osd)
     some_of (Some osd) there = (osd, refl)
@@ -106,10 +107,6 @@ went_rw code members osd first incs fit thru since =
     let recorded : nat_le first (up_thru incs osd) ≡ true = grind (arith, nat_tests) in
     let up : nat_le (up_from incs osd) first ≡ true = grind (arith, nat_tests) in
     rw (fit.many, fit.leads, fit.slots, recorded, up) refl
-
--- what joins the past intervals where the current one ends
-ending_of : List Incremental → History AnyCode → Past
-ending_of incs h = current_ending enough_of is_by_place h (primary_facts incs h.current.acting_primary)
 
 stands-ended : (first osd : ℕ) (incs : List Incremental) (inc : Incremental) (h after : History AnyCode) → inc.epoch ≡ epoch incs + 1 → IsOpened incs h
     → Ends inc.epoch (primary_facts incs h.current.acting_primary) h after → Runs first osd incs h → IsOver first after

@@ -1,0 +1,225 @@
+#!/usr/bin/env python3
+"""Checks three laws of peering on generated logs, by the model alone.
+
+    fuzz/laws.py [--seed N] [--logs N | --minutes M] [--wrong NAME]
+
+served: where a group served, the interval that was current then is current later, or it is past and may have gone read-write.
+reckoned: whoever serves later has heard enough of that interval's acting members, or they were given up for lost, or none of
+them is down, unless the group is known to have begun to serve after the interval ended.
+relief: a group that isn't down doesn't become so by an incremental that takes no device down, destroys none, and gives none up
+for lost at an earlier epoch than before; nor by a report.
+
+Each front of a log at which a group served is held against each later front. Prints how often the premise of each law held, and
+in how many of these the case was the one that the law is about. --wrong puts a wrong definition into the model, under which a
+law doesn't hold: then a log that breaks it is found, or the status is 1. Otherwise a broken law is printed with its log, and
+the status is 1.
+"""
+
+import argparse
+import collections
+import random
+import sys
+import time
+from typing import Any, Callable, Counter, Dict, Iterator, List, NamedTuple, Optional, Set, Tuple
+
+import grammar
+import maps
+import model
+import peering
+from maps import Group
+
+Line = Dict[str, Any]
+View = Dict[str, Any]
+
+
+class Broken(NamedTuple):
+    """A law that doesn't hold of a group after the last of these lines."""
+
+    law: str
+    group: Group
+    lines: List[Line]
+
+
+# What the laws say
+
+
+def past_interval(view: View, first: int) -> Optional[Dict[str, Any]]:
+    """The past interval that opened in this epoch."""
+    return next((it for it in view["intervals"] if it["first"] == first), None)
+
+
+def is_remembered(view: View, first: int) -> bool:
+    past = past_interval(view, first)
+    return view["first"] == first if past is None else past["rw"]
+
+
+def is_reckoned_with(log: model.Model, group: Group, view: View, past: Dict[str, Any]) -> bool:
+    code, now = log.maps.code(group[0]), log.maps
+    heard = peering.heard_of(now, view["first"], log.reports.get(group, []))
+    acting = [(it, now.status(it[0], past["first"])) for it in maps.members(code, past["acting"])]
+    settled = [slot for (osd, slot), status in acting if (osd, slot) in heard or status == "Lost"]
+    return maps.are_enough(code, settled) or all(status != "Down" for _, status in acting)
+
+
+def takes_nothing_away(log: model.Model, entry: Line) -> bool:
+    """Tells whether the entry, which comes next, is a report, a Close, or an incremental of which relief speaks."""
+    if entry["op"] != "inc":
+        return True
+    old = log.maps.losts
+    falls = any(epoch < old.last(osd, log.maps.epoch, 0) for osd, epoch in entry.get("lost", ()))
+    return not entry.get("down") and not entry.get("gone") and not falls
+
+
+# Logs
+
+
+class Watch:
+    """A log that grows, and the groups of it that the laws are held against."""
+
+    def __init__(self, rng: random.Random, counted: Counter[str]):
+        self.log, self.rng, self.counted = model.Model(), rng, counted
+        self.story = grammar.Story(rng, self.log, 10**6)
+        self.story.most_pools = rng.choice((1, 2))
+        self.lines: List[Line] = []
+        self.views: Dict[Group, View] = {}
+        self.served: Dict[Group, Set[int]] = collections.defaultdict(set)  # the first epochs of the intervals of service
+
+    def next_line(self) -> Line:
+        """Often boots and losses alone, which relief speaks of."""
+        now = self.log.maps
+        if now.epoch and not self.story.plan and self.rng.random() < 0.05:
+            down = [osd for osd in self.story.devices if now.exists(osd, now.epoch) and not now.is_up(osd, now.epoch)]
+            self.rng.shuffle(down)
+            cut = self.rng.randrange(len(down) + 1)
+            lost = [[osd, self.rng.randint(now.losts.last(osd, now.epoch, 0), now.epoch + 1)] for osd in down[cut:]]
+            return self.story.inc_only(up=down[:cut], lost=lost)
+        return self.story.line()
+
+    def take(self) -> Iterator[Broken]:
+        """One line more; gives each law that it breaks."""
+        line = self.next_line()
+        is_entry = line["op"] in ("inc", "info", "entries")
+        relieves = is_entry and takes_nothing_away(self.log, line)
+        self.lines.append(line)
+        answer = self.log.answer(grammar.compact(line))
+        if not is_entry or answer is None or answer.code:
+            return
+        for group in self.groups():
+            view = self.log.view(group)
+            for law in self.broken(group, view, relieves):
+                yield Broken(law, group, self.lines)
+            if view["verdict"] == "Serve":
+                self.served[group].add(view["first"])
+            self.views[group] = view
+
+    def groups(self) -> List[Group]:
+        """The first groups of each pool, which the story is about."""
+        made = self.log.maps.made
+        return [(pool, pg) for pool in made for pg in range(min(made[pool]["pg_num"], 2))]
+
+    def broken(self, group: Group, view: View, relieves: bool) -> Iterator[str]:
+        for first in self.served[group]:
+            past = past_interval(view, first)
+            self.counted.update({"served": 1, "served, past": past is not None})
+            if not is_remembered(view, first):
+                yield "served"
+            if past is None or view["verdict"] != "Serve":
+                continue
+            since = view["les"] > past["last"]
+            self.counted.update({"reckoned": 1, "reckoned, not served since": not since})
+            if not since and not is_reckoned_with(self.log, group, view, past):
+                yield "reckoned"
+        before = self.views.get(group)
+        if relieves and before is not None and not before["blocked_by"]:
+            self.counted.update({"relief": 1, "relief, an interval closed": before["first"] != view["first"]})
+            if view["blocked_by"]:
+                yield "relief"
+
+
+# Wrong definitions
+
+
+def flag_by_first_epoch() -> None:
+    """An interval's flag goes by the map of its first epoch."""
+    plain = peering.intervals
+
+    def wrong(code: Optional[int], begin: int, states: List[peering.State]) -> List[peering.Interval]:
+        found = plain(code, begin, states)
+        return [it._replace(rw=peering.may_write(code, it.first, states[it.first - begin])) for it in found]
+
+    peering.intervals = wrong
+
+
+def probe_without_members() -> None:
+    """The members of past intervals needn't be heard."""
+    plain = peering.prior
+    peering.prior = lambda now, code, past, les: ([], plain(now, code, past, les)[1])
+
+
+def lost_in_its_epoch() -> None:
+    """A loss counts in the epoch that tells of it alone."""
+    plain = maps.Maps.status
+
+    def wrong(self: maps.Maps, osd: int, first: int) -> str:
+        status = plain(self, osd, first)
+        return "Down" if status == "Lost" and self.losts.when(osd, self.epoch) != self.epoch else status
+
+    maps.Maps.status = wrong  # type: ignore[method-assign]
+
+
+WRONG: Dict[str, Callable[[], None]] = {it.__name__: it for it in (flag_by_first_epoch, probe_without_members, lost_in_its_epoch)}
+
+
+# Runs
+
+
+def check(seed: str, is_over: Callable[[int], bool], counted: Counter[str]) -> Iterator[Broken]:
+    """Log after log; gives the first broken law of each."""
+    number = 0
+    while not is_over(number):
+        rng = random.Random(f"{seed}/{number}")
+        watch = Watch(rng, counted)
+        for _ in range(rng.choice((50, 150, 400))):
+            found = next(watch.take(), None)
+            if found is not None:
+                yield found
+                break
+        number += 1
+        counted["logs"] += 1
+
+
+def figures(counted: Counter[str]) -> str:
+    return ", ".join(f"{counted[key]:,} {key}" for key in sorted(counted))
+
+
+def told(found: Broken) -> Tuple[str, bytes]:
+    return f"{found.law} is broken for group {found.group}", b"".join(grammar.compact(it) + b"\n" for it in found.lines)
+
+
+def main() -> int:
+    parser = argparse.ArgumentParser(description=__doc__, formatter_class=argparse.RawDescriptionHelpFormatter)
+    parser.add_argument("--seed", default="1")
+    parser.add_argument("--logs", type=int, default=200, metavar="N", help="how many logs (by default 200)")
+    parser.add_argument("--minutes", type=float, metavar="M", help="goes on for so long instead")
+    parser.add_argument("--wrong", choices=WRONG, metavar="NAME", help=", ".join(WRONG))
+    options = parser.parse_args()
+    if options.wrong:
+        WRONG[options.wrong]()
+    end = time.monotonic() + 60 * (options.minutes or 0)
+    is_over = (lambda _: time.monotonic() > end) if options.minutes else (lambda number: number >= options.logs)
+    counted: Counter[str] = collections.Counter()
+    found = next(check(options.seed, is_over, counted), None)
+    print(figures(counted))
+    if options.wrong:
+        print(told(found)[0] if found else "no law is broken")
+        return 0 if found else 1
+    if found:
+        text, lines = told(found)
+        print(text, file=sys.stderr)
+        sys.stdout.buffer.write(lines)
+        return 1
+    return 0
+
+
+if __name__ == "__main__":
+    sys.exit(main())

@@ -1,0 +1,43 @@
+"""Tests of the laws of peering on generated logs: they hold by the model, and each wrong definition breaks one."""
+
+import pathlib
+import subprocess
+import sys
+import unittest
+from typing import List
+
+LAWS = pathlib.Path(__file__).resolve().parent.parent / "laws.py"
+
+
+def run(*words: str) -> "subprocess.CompletedProcess[str]":
+    return subprocess.run([sys.executable, str(LAWS), *words], capture_output=True, text=True, check=False)
+
+
+class Laws(unittest.TestCase):
+    def counts(self, text: str) -> "dict[str, int]":
+        """What was counted, by its name."""
+        words: List[str] = text.split("\n")[0].replace(", past", " past").replace(", not", " not").replace(", an", " an").split(", ")
+        return {name: int(number.replace(",", "")) for number, name in (it.split(" ", 1) for it in words)}
+
+    def test_hold_and_are_not_vacuous(self) -> None:
+        done = run("--logs", "12", "--seed", "laws")
+        self.assertEqual((done.returncode, done.stderr), (0, ""))
+        found = self.counts(done.stdout)
+        self.assertEqual(found["logs"], 12)
+        for name in ("served past", "reckoned not served since", "relief an interval closed"):
+            self.assertGreater(found[name], 0, name)
+
+    def test_wrong_definitions_break_them(self) -> None:
+        for wrong, law in (("flag_by_first_epoch", "served"), ("probe_without_members", "reckoned"), ("lost_in_its_epoch", "relief")):
+            with self.subTest(wrong):
+                done = run("--logs", "300", "--wrong", wrong)
+                self.assertEqual(done.returncode, 0)
+                self.assertIn(f"{law} is broken for group", done.stdout)
+
+    def test_a_law_that_is_not_broken_is_told(self) -> None:
+        done = run("--logs", "1", "--wrong", "probe_without_members", "--seed", "none")
+        self.assertEqual((done.returncode, done.stdout.split("\n")[1]), (1, "no law is broken"))
+
+
+if __name__ == "__main__":
+    unittest.main()
