@@ -1,5 +1,5 @@
 -- The table of devices of a map.
-use Rattle.std.specs.Prelude.{ℕ, Bool, true, false, max, Option, Some, None, unwrap_or, is_some, if◌then◌else◌}
+use Rattle.std.specs.Prelude.{ℕ, Bool, true, false, not, ◌||◌, max, Option, Some, None, unwrap_or, is_some, if◌then◌else◌}
 use Rattle.std.specs.HashMap as hash
 use Rattle.std.specs.HashMap.{HashMap}
 use Rattle.std.specs.Prelude.{nat_eq, ◌≡◌}
@@ -90,3 +90,12 @@ pub record HasPlaces {S : Type 0} (inc : Incremental) (table : HashMap ℕ Devic
   pub gone : (q : ℕ) → list_any (nat_eq q) inc.gone ≡ true → has_place table q ≡ true
   pub up_thru : (q : ℕ) → list_any (λ told. nat_eq told.osd q) inc.up_thru ≡ true → has_place table q ≡ true
   pub lost : (q : ℕ) → list_any (λ told. nat_eq told.osd q) inc.lost ≡ true → has_place table q ≡ true
+
+-- the incremental names a device that doesn't exist, its weight aside; by a test which devices exist
+abbrev pub names_absent : (ℕ → Bool) → Incremental → Bool
+names_absent exists inc =
+    list_any (λ osd. not (exists osd)) inc.up
+    || list_any (λ osd. not (exists osd)) inc.down
+    || list_any (λ osd. not (exists osd)) inc.gone
+    || list_any (λ told. not (exists told.osd)) inc.up_thru
+    || list_any (λ told. not (exists told.osd)) inc.lost

@@ -1,9 +1,9 @@
 //! The table of devices.
 
-ghost use Rattle.std.specs.Prelude.{◌≡◌, ℕ, true, max, nat_eq, OnOk, if◌then◌else◌};
+ghost use Rattle.std.specs.Prelude.{◌≡◌, ℕ, true, false, not, max, nat_eq, OnOk, OnErr, if◌then◌else◌};
 ghost use Rattle.std.specs.List.{list_any};
 ghost use Rattle.pgp_lists.specs.Last.{last_where};
-ghost use Rattle.pgp_tables.specs.DeviceTable.{absent, device_at, has_place, after_event, with_told, changed, HasPlaces};
+ghost use Rattle.pgp_tables.specs.DeviceTable.{absent, device_at, has_place, after_event, with_told, changed, names_absent, HasPlaces};
 
 use super::device::Device;
 use pgp_ids::{DeviceEpoch, Epoch, Incremental, OsdId};
@@ -39,6 +39,7 @@ fn place(table: &mut HashMap<OsdId, Device>, osd: OsdId) -> Result<(), AllocErro
     ensures same { (q : ℕ) → device_at table.new q ≡ device_at table.old q }
     ensures placed { OnOk result (has_place table.new osd ≡ true) }
     ensures kept { (q : ℕ) → has_place table.old q ≡ true → has_place table.new q ≡ true }
+    ensures wants { OnErr result ((device_at table.old osd).exists ≡ false) }
 {
     if !table.contains_key(&osd) {
         table.insert(osd, absent())?;
@@ -51,6 +52,7 @@ pub fn place_all(table: &mut HashMap<OsdId, Device>, osds: &[OsdId]) -> Result<(
     ensures same { (q : ℕ) → device_at table.new q ≡ device_at table.old q }
     ensures placed { OnOk result ((q : ℕ) → list_any (nat_eq q) osds.now ≡ true → has_place table.new q ≡ true) }
     ensures kept { (q : ℕ) → has_place table.old q ≡ true → has_place table.new q ≡ true }
+    ensures wants { OnErr result (list_any (λ osd. not (device_at table.old osd).exists) osds.now ≡ true) }
 {
     for osd in osds {
         place(table, *osd)?;
@@ -66,6 +68,7 @@ pub fn place_told(
     ensures same { (q : ℕ) → device_at table.new q ≡ device_at table.old q }
     ensures placed { OnOk result ((q : ℕ) → list_any (λ entry. nat_eq entry.osd q) told.now ≡ true → has_place table.new q ≡ true) }
     ensures kept { (q : ℕ) → has_place table.old q ≡ true → has_place table.new q ≡ true }
+    ensures wants { OnErr result (list_any (λ entry. not (device_at table.old entry.osd).exists) told.now ≡ true) }
 {
     for entry in told {
         place(table, entry.osd)?;
@@ -170,10 +173,11 @@ fn tell_all(table: &mut HashMap<OsdId, Device>, told: &[DeviceEpoch], said: Told
     }
 }
 
-/// Gives each device a place that the incremental names, its weight aside.
+/// Gives each device a place that the incremental names, its weight aside. Only for one that doesn't exist it takes memory.
 pub fn place_named(table: &mut HashMap<OsdId, Device>, inc: &Incremental) -> Result<(), AllocError>
     ensures same { (q : ℕ) → device_at table.new q ≡ device_at table.old q }
     ensures placed { OnOk result (HasPlaces inc.now table.new) }
+    ensures wants { OnErr result (names_absent (λ q. (device_at table.old q).exists) inc.now ≡ true) }
 {
     place_all(table, inc.up.as_slice())?;
     place_all(table, inc.down.as_slice())?;

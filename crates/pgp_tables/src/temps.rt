@@ -1,6 +1,6 @@
 //! The table of pg_temp lists.
 
-ghost use Rattle.std.specs.Prelude.{◌≡◌, ◌≤◌, ℕ, List, Option, true, OnOk, length, take, if◌then◌else◌};
+ghost use Rattle.std.specs.Prelude.{◌≡◌, ◌≤◌, ◌<◌, ℕ, List, Option, true, OnOk, OnErr, length, take, if◌then◌else◌};
 ghost use Rattle.std.specs.List.{list_any};
 ghost use Rattle.pgp_ids.specs.declared.pg_id.PgId.{PgId as Group};
 ghost use Rattle.pgp_lists.specs.Last.{last_where};
@@ -39,6 +39,7 @@ pub fn place_all(table: &mut HashMap<PgId, Osds>, temps: &[TempList]) -> Result<
     ensures same { (q : Group) → temp_at table.new q ≡ temp_at table.old q }
     ensures placed { OnOk result ((q : Group) → list_any (λ given. is_same_group given.pg q) temps.now ≡ true → has_temp table.new q ≡ true) }
     ensures kept { (q : Group) → has_temp table.old q ≡ true → has_temp table.new q ≡ true }
+    ensures wants { OnErr result (0 < length temps.now) }
 {
     for given in temps {
         place(table, given.pg)?;
