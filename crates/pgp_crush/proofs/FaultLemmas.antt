@@ -1,12 +1,13 @@
 -- The tests of a list of buckets.
-use Rattle.std.proofs.Common.{◌≡◌, ◌<◌, ℕ, ◌+◌, zero, suc, ℤ, List, [], ◌∷◌, length, Bool, false, cond, ◌||◌, nat_lt, inl, inr, refl, arith, ap, sym, ◌∙◌, add-one, None}
+use Rattle.std.proofs.Common.{◌≡◌, ◌<◌, ℕ, ◌+◌, zero, suc, ℤ, List, [], ◌∷◌, length, map, get_or, length-append, Bool, false, cond, ◌||◌, nat_lt, inl, inr, refl, arith, ap, sym, ◌∙◌, add-one, None}
 use Rattle.std.specs.List.{list_any, find, filter, count_by}
 use Rattle.std.specs.Ordering.{int_eq}
 use Rattle.std.proofs.lemmas.List.Folds.{list_any-append}
 use Rattle.std.proofs.lemmas.List.Sums.{sum_by-cons}
 use Rattle.std.proofs.lemmas.Bool.{cases_Bool, cases_lt}
 use Rattle.std.proofs.lemmas.Bool.Decides.{nat_tests}
-use Rattle.pgp_crush.specs.Bucket.{Bucket, is_held}
+use Rattle.pgp_ids.specs.declared.bucket.BucketSpec.{BucketSpec}
+use Rattle.pgp_crush.specs.Bucket.{Bucket, bucket_of, is_held}
 use Rattle.pgp_crush.specs.TreeFault.{items_of, below_levels}
 
 -- an item is held exactly if it is an item of some bucket
@@ -44,3 +45,12 @@ below_levels-none tree k (suc m) none low = none-held (below_levels tree m) tree
   | inl before ↦ ap items_of (below_levels-none tree k m none before)
   | inr last ↦ let same : m ≡ k = omega arith in rw same none
 ])
+
+-- where the bucket at a place has an item, the list has one
+pub has_item : (buckets : List BucketSpec) (k : ℕ) (b : BucketSpec) → k < length buckets → b ≡ get_or buckets k b → 0 < length b.items → 0 < length (items_of (map bucket_of buckets))
+has_item [] k b within item some = absurd (omega arith)
+has_item (x ∷ buckets) zero b within item some =
+    let same : 0 < length x.items = rw (← item) some in
+    omega (arith, length-append x.items (items_of (map bucket_of buckets)), same)
+has_item (x ∷ buckets) (suc k) b within item some =
+    omega (arith, length-append x.items (items_of (map bucket_of buckets)), has_item buckets k b (omega arith) item some)

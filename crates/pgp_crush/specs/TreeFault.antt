@@ -81,3 +81,8 @@ fault_number TooDeep = Some 5
 fault_number TooMany = Some 6
 fault_number WeightSum = Some 7
 fault_number Memory = None
+
+-- looking at the list may take memory: a bucket has an item, or the list has one root. What holds nothing and has not one root
+-- is refused without.
+abbrev pub may_lack_memory : List Bucket → Bool
+may_lack_memory tree = nat_lt 0 (length (items_of tree)) || not (has_no_root tree)

@@ -1,6 +1,6 @@
 //! The tests that make a list of buckets a tree.
 
-ghost use Rattle.std.specs.Prelude.{◌≡◌, ℤ, ℕ, ◌<◌, ◌-◌, ◌^◌, None, map, length, sum, nat_lt, slice_get, true, false, IfOk, IfSome, IfNone, OnSome, count_by, not};
+ghost use Rattle.std.specs.Prelude.{◌≡◌, ℤ, ℕ, ◌<◌, ◌-◌, ◌^◌, None, map, length, sum, nat_lt, slice_get, true, false, IfOk, IfSome, IfNone, OnSome, OnErr, count_by, not};
 ghost use Rattle.std.specs.List.{list_any, position_from};
 ghost use Rattle.std.specs.Ordering.{int_eq};
 ghost use Rattle.std.specs.HashSet as bag;
@@ -73,7 +73,8 @@ fn has_twice_held(alloc: Global, buckets: &[BucketSpec], items: &[i32]) -> Resul
 
 /// The items of all buckets.
 pub(crate) fn items_of(alloc: Global, buckets: &[BucketSpec]) -> Result<Vec<i32>, AllocError>
-    ensures { IfOk result (λ items. items.items ≡ items_of (map bucket_of buckets.now)) }
+    ensures value { IfOk result (λ items. items.items ≡ items_of (map bucket_of buckets.now)) }
+    ensures wants { OnErr result (0 < length (items_of (map bucket_of buckets.now))) }
 {
     let mut items = Vec::new(alloc);
     for bucket in buckets {

@@ -1,6 +1,6 @@
 //! Sets of ids, and where each bucket of a list stands.
 
-ghost use Rattle.std.specs.Prelude.{◌≡◌, ℤ, drop, map, IfOk};
+ghost use Rattle.std.specs.Prelude.{◌≡◌, ◌<◌, ℤ, drop, length, map, IfOk, OnErr};
 ghost use Rattle.std.specs.List.{list_any};
 ghost use Rattle.std.specs.Ordering.{int_eq};
 ghost use Rattle.std.specs.HashSet as bag;
@@ -14,7 +14,8 @@ use std::collections::{HashMap, HashSet};
 
 /// The set of these ids.
 pub(crate) fn set_of(alloc: Global, ids: &[i32]) -> Result<HashSet<i32>, AllocError>
-    ensures { IfOk result (λ set. (q : ℤ) → bag.contains int_eq set q ≡ list_any (int_eq q) ids.now) }
+    ensures value { IfOk result (λ set. (q : ℤ) → bag.contains int_eq set q ≡ list_any (int_eq q) ids.now) }
+    ensures wants { OnErr result (0 < length ids.now) }
 {
     let mut set = HashSet::new(alloc);
     for id in ids {

@@ -1,10 +1,10 @@
 //! Checked placement trees.
 
-ghost use Rattle.std.specs.Prelude.{◌≡◌, ◌<◌, ◌^◌, ◌⊎◌, map, sum, Some, None, IfSome, IfOk, IfErr, OnOk};
+ghost use Rattle.std.specs.Prelude.{◌≡◌, ◌<◌, ◌^◌, ◌⊎◌, map, sum, true, Some, None, Err, IfSome, IfOk, IfErr, OnOk};
 ghost use Rattle.std.specs.Option.{option_copied, option_map};
 ghost use Rattle.pgp_crush.specs.Bucket.{bucket_of, bucket_at, root_of};
 ghost use Rattle.pgp_crush.specs.Indexed.{IsIndexed};
-ghost use Rattle.pgp_crush.specs.TreeFault.{tree_fault};
+ghost use Rattle.pgp_crush.specs.TreeFault.{tree_fault, may_lack_memory};
 
 use super::fault::TreeFault;
 use super::faults::{fault_below_root, find_root, items_of};
@@ -50,11 +50,13 @@ impl Model for Tree {
 }
 
 impl Tree {
-    /// The tree of these buckets, or the first fault of the list in the order of [`TreeFault`].
+    /// The tree of these buckets, or the first fault of the list in the order of [`TreeFault`]. A list without items and without
+    /// one root has its fault answered without memory.
     pub fn check(alloc: Global, buckets: Vec<BucketSpec>) -> Result<Tree, TreeFault>
         ensures ok { IfOk result (λ tree. tree ≡ map bucket_of buckets.items) }
         ensures faultless { OnOk result (tree_fault (map bucket_of buckets.items) ≡ None) }
         ensures fault { IfErr result (λ fault. (fault ≡ TreeFault.Memory) ⊎ (tree_fault (map bucket_of buckets.items) ≡ Some fault)) }
+        ensures wants { result ≡ Err TreeFault.Memory → may_lack_memory (map bucket_of buckets.items) ≡ true }
     {
         let (root, index) = root_and_index(alloc, &buckets)?;
         Ok(Tree {
@@ -88,6 +90,7 @@ fn root_and_index(
 ) -> Result<(usize, HashMap<i32, usize>), TreeFault>
     ensures ok { IfOk result (λ found. IsIndexed buckets.now found.0 found.1) }
     ensures fault { IfErr result (λ fault. (fault ≡ TreeFault.Memory) ⊎ (tree_fault (map bucket_of buckets.now) ≡ Some fault)) }
+    ensures wants { result ≡ Err TreeFault.Memory → may_lack_memory (map bucket_of buckets.now) ≡ true }
 {
     let items = items_of(alloc, buckets)?;
     let held = set_of(alloc, &items)?;

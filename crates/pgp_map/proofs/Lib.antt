@@ -2,5 +2,6 @@ pub mod DeviceLemmas
 pub mod WeightLemmas
 pub mod FaultLemmas
 pub mod MapLemmas
+pub mod RepeatLemmas
 pub mod CheckLemmas
 pub mod CheckedLemmas

@@ -12,3 +12,4 @@ pub mod HeldLaws
 pub mod Room
 pub mod Examples
 pub mod Findings
+pub mod Memory

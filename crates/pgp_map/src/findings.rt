@@ -5,10 +5,9 @@ ghost use Rattle.pgp_map.specs.Findings.{first_of};
 
 use super::fault::MapFault;
 
-/// The tests that an incremental fails, its tree aside.
+/// The tests that an incremental of the next epoch fails, its tree aside.
 #[derive(Clone, Copy)]
 pub(crate) struct Findings {
-    pub epoch_gap: bool,
     pub twice: bool,
     pub unknown_device: bool,
     pub already_up: bool,
@@ -26,9 +25,7 @@ impl Findings {
     pub fn first(&self) -> Option<MapFault>
         ensures { result ≡ first_of self.now }
     {
-        if self.epoch_gap {
-            Some(MapFault::EpochGap)
-        } else if self.twice {
+        if self.twice {
             Some(MapFault::Twice)
         } else if self.unknown_device {
             Some(MapFault::UnknownDevice)

@@ -8,11 +8,14 @@
 #![tactic(auto)]
 
 mod fault;
+mod few;
 mod findings;
 pub mod laws;
 mod map;
+mod new_pools;
 mod ranges;
 mod repeats;
+mod searched;
 mod standing;
 mod temp_check;
 mod trees;

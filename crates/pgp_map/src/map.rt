@@ -1,8 +1,9 @@
 //! The cluster map.
 
-ghost use Rattle.std.specs.Prelude.{◌≡◌, ◌≤◌, ℕ, List, [], Some, None, OnOk, OnErr, IfOk, IfErr, ◌⊎◌, option_copied, option_map, map, length, false};
+ghost use Rattle.std.specs.Prelude.{◌≡◌, ◌≤◌, ℕ, List, [], true, Some, None, Err, OnOk, OnErr, IfOk, IfErr, ◌⊎◌, option_copied, option_map, map, length, false};
 ghost use Rattle.pgp_crush.specs.Bucket.{bucket_of};
 ghost use Rattle.pgp_map.specs.Room.{HasRoom};
+ghost use Rattle.pgp_map.specs.Memory.{has_long_list, MayLackMemory, may_grow};
 ghost use Rattle.pgp_map.specs.MapOf.{IsMapOf, Says};
 ghost use Rattle.pgp_map.specs.Held.{held_exists, held_up, held_lost_at, held_pool};
 ghost use Rattle.pgp_map.specs.Devices.{exists, is_up, up_from, down_at, up_thru, lost_at, weight, weights};
@@ -13,6 +14,8 @@ ghost use Rattle.pgp_map.specs.Findings.{AreFindings};
 
 use super::fault::MapFault;
 use super::findings::Findings;
+use super::new_pools::NewPools;
+use super::searched::Searched;
 use super::trees::{check_tree, given_tree};
 use super::weights::Weights;
 use super::{ranges, repeats, standing, temp_check};
@@ -72,28 +75,33 @@ impl OsdMap {
     }
 
     /// Whether the incremental can be applied. It can't if it has a fault, of which the first in the order of [`MapFault`] is
-    /// answered; or there was no memory to look at it. The map stays as it is.
+    /// answered; or there was no memory to look at it. Memory is taken only for an incremental of the next epoch that has a
+    /// list of more than sixteen items, or for a tree where the rest has no fault. The map stays as it is.
     pub fn check(&self, inc: &Incremental) -> Result<(), MapFault>
         ensures ok { OnOk result (Says self.now (λ incs. map_fault incs inc.now ≡ None)) }
         ensures tree { OnOk result (given_fault inc.now.crush ≡ None) }
         ensures fault { IfErr result (λ fault. (fault ≡ MapFault.Memory) ⊎ Says self.now (λ incs. map_fault incs inc.now ≡ Some fault)) }
+        ensures wants { result ≡ Err MapFault.Memory → Says self.now (λ incs. MayLackMemory incs inc.now) }
     {
+        if self.has_epoch_gap(inc) {
+            return Err(MapFault::EpochGap);
+        }
         match self.findings(inc)?.first() {
             Some(fault) => Err(fault),
             None => check_tree(self.alloc, &inc.crush),
         }
     }
 
-    /// The tests that the incremental fails, its tree aside.
+    /// The tests that the incremental of the next epoch fails, its tree aside.
     fn findings(&self, inc: &Incremental) -> Result<Findings, AllocError>
-        ensures { IfOk result (λ findings. Says self.now (λ incs. AreFindings incs inc.now findings)) }
+        ensures value { IfOk result (λ findings. Says self.now (λ incs. AreFindings incs inc.now findings)) }
+        ensures wants { OnErr result (has_long_list inc.now ≡ true) }
     {
         let twice = repeats::has_twice(self.alloc, inc)?;
         let unknown_device = self.has_unknown_device(inc)?;
         let still_up = self.has_still_up(inc)?;
         let bad_temp = self.has_bad_temp(inc)?;
         Ok(Findings {
-            epoch_gap: self.has_epoch_gap(inc),
             twice,
             unknown_device,
             already_up: standing::has_up(&self.devices, inc.up.as_slice()),
@@ -114,22 +122,19 @@ impl OsdMap {
         u64::from(inc.epoch.number()) != u64::from(self.epoch.number()) + 1
     }
 
-    /// Down, gone, weight, up_thru or lost names a device that is absent and doesn't boot. Which devices boot is looked at
-    /// only where one is absent.
+    /// Down, gone, weight, up_thru or lost names a device that is absent and doesn't boot.
     fn has_unknown_device(&self, inc: &Incremental) -> Result<bool, AllocError>
-        ensures { IfOk result (λ unknown. Says self.now (λ incs. unknown ≡ has_unknown_device incs inc.now)) }
+        ensures value { IfOk result (λ unknown. Says self.now (λ incs. unknown ≡ has_unknown_device incs inc.now)) }
+        ensures wants { OnErr result (has_long_list inc.now ≡ true) }
     {
-        let told = repeats::told_devices(self.alloc, inc)?;
-        if !standing::has_absent(&self.devices, &told) {
-            return Ok(false);
-        }
-        let boots = repeats::set_of(self.alloc, inc.up.as_slice())?;
-        Ok(standing::has_unknown(&self.devices, &boots, &told))
+        let boots = Searched::of(self.alloc, inc.up.as_slice())?;
+        Ok(standing::has_unknown(&self.devices, &boots, inc))
     }
 
     /// A device is destroyed that is up, or given up for lost that is up in the new map.
     fn has_still_up(&self, inc: &Incremental) -> Result<bool, AllocError>
-        ensures { IfOk result (λ up. Says self.now (λ incs. up ≡ has_still_up incs inc.now)) }
+        ensures value { IfOk result (λ up. Says self.now (λ incs. up ≡ has_still_up incs inc.now)) }
+        ensures wants { OnErr result (has_long_list inc.now ≡ true) }
     {
         let destroyed = standing::has_up(&self.devices, inc.gone.as_slice());
         let lost = self.has_lost_up(inc)?;
@@ -138,24 +143,26 @@ impl OsdMap {
 
     /// A device is given up for lost that is up in the new map.
     fn has_lost_up(&self, inc: &Incremental) -> Result<bool, AllocError>
-        ensures { IfOk result (λ up. Says self.now (λ incs. up ≡ has_lost_up incs inc.now)) }
+        ensures value { IfOk result (λ up. Says self.now (λ incs. up ≡ has_lost_up incs inc.now)) }
+        ensures wants { OnErr result (has_long_list inc.now ≡ true) }
     {
         if inc.lost.is_empty() {
             return Ok(false);
         }
-        let boots = repeats::set_of(self.alloc, inc.up.as_slice())?;
-        let falls = repeats::falling_set(self.alloc, inc)?;
-        Ok(standing::has_lost_up(&self.devices, &boots, &falls, inc.lost.as_slice()))
+        let boots = Searched::of(self.alloc, inc.up.as_slice())?;
+        let downs = Searched::of(self.alloc, inc.down.as_slice())?;
+        let destroyed = Searched::of(self.alloc, inc.gone.as_slice())?;
+        let told = inc.lost.as_slice();
+        Ok(standing::has_lost_up(&self.devices, &boots, &downs, &destroyed, told))
     }
 
     /// A group is given a list that it can't have in the new map, by pools that aren't known.
     fn has_bad_temp(&self, inc: &Incremental) -> Result<bool, AllocError>
-        ensures { IfOk result (λ bad. Says self.now (λ incs. has_pool_known incs inc.now ≡ false → bad ≡ has_bad_temp incs inc.now)) }
+        ensures value { IfOk result (λ bad. Says self.now (λ incs. has_pool_known incs inc.now ≡ false → bad ≡ has_bad_temp incs inc.now)) }
+        ensures wants { OnErr result (has_long_list inc.now ≡ true) }
     {
-        let made = temp_check::made_by_id(self.alloc, inc.pools.as_slice())?;
-        let sizes = temp_check::sizes_by_pool(self.alloc, inc.sizes.as_slice())?;
-        let temps = inc.temp.as_slice();
-        temp_check::has_bad_temp(self.alloc, &self.pools, &made, &sizes, temps)
+        let pools = NewPools::of(self.alloc, inc.pools.as_slice(), inc.sizes.as_slice())?;
+        Ok(temp_check::has_bad_temp(&self.pools, &pools, inc.temp.as_slice()))
     }
 
     /// A pool is made of numbers out of range or given sizes to which it can't change, or there are too many groups.
@@ -168,12 +175,13 @@ impl OsdMap {
             || self.group_count.saturating_add(made) > MAX_GROUPS
     }
 
-    /// Makes this the map after the incremental, which [`OsdMap::check`] doesn't refuse. After an error the map says what
-    /// it said before.
+    /// Makes this the map after the incremental, which [`OsdMap::check`] doesn't refuse. It takes memory only for a device that
+    /// isn't there, or for weights, pools, pg_temp lists or a tree. After an error the map says what it said before.
     pub fn apply(&mut self, inc: &Incremental) -> Result<(), AllocError>
         requires { given_fault inc.now.crush ≡ None }
         ensures ok { OnOk result (Says self.old (λ incs. map_fault incs inc.now ≡ None → IsMapOf (then_with incs inc.now) self.new)) }
         ensures err { OnErr result (Says self.old (λ incs. IsMapOf incs self.new)) }
+        ensures wants { OnErr result (Says self.old (λ incs. may_grow incs inc.now ≡ true)) }
     {
         let tree = given_tree(self.alloc, &inc.crush)?;
         self.make_room(inc)?;
@@ -185,6 +193,7 @@ impl OsdMap {
     fn make_room(&mut self, inc: &Incremental) -> Result<(), AllocError>
         ensures same { Says self.old (λ incs. IsMapOf incs self.new) }
         ensures room { OnOk result (HasRoom inc.now self.new) }
+        ensures wants { OnErr result (Says self.old (λ incs. may_grow incs inc.now ≡ true)) }
     {
         devices::place_named(&mut self.devices, inc)?;
         self.weights.place(inc.weight.as_slice())?;

@@ -2,30 +2,63 @@
 
 ghost use Rattle.std.specs.Prelude.{◌≡◌, not, ◌||◌, ◌&&◌, nat_eq, nat_lt};
 ghost use Rattle.std.specs.List.{list_any};
-ghost use Rattle.std.specs.HashSet as bag;
+ghost use Rattle.pgp_map.specs.MapFault.{told_devices};
 ghost use Rattle.pgp_tables.specs.DeviceTable.{device_at};
 
-use pgp_ids::{DeviceEpoch, Epoch, OsdId};
+use super::searched::Searched;
+use pgp_ids::{DeviceEpoch, DeviceWeight, Epoch, Incremental, OsdId};
 use pgp_tables::Device;
 use pgp_tables::devices::device_at;
-use std::collections::{HashMap, HashSet};
+use std::collections::HashMap;
 
-/// A device is named that doesn't exist.
-pub(crate) fn has_absent(table: &HashMap<OsdId, Device>, osds: &[OsdId]) -> bool
-    ensures { result ≡ list_any (λ osd. not (device_at table.now osd).exists) osds.now }
+/// The device neither exists nor is one of those that boot.
+fn is_unknown(table: &HashMap<OsdId, Device>, boots: &Searched, osd: OsdId) -> bool
+    ensures { result ≡ not ((device_at table.now osd).exists || list_any (nat_eq osd) boots.now.osds.now) }
 {
-    osds.iter().any(|osd| !device_at(table, *osd).exists)
+    !(device_at(table, osd).exists || boots.contains(&osd))
 }
 
-/// A device is named that neither exists nor is one of those that boot.
+/// One of the devices is unknown.
+fn any_unknown(table: &HashMap<OsdId, Device>, boots: &Searched, osds: &[OsdId]) -> bool
+    ensures { result ≡ list_any (λ osd. not ((device_at table.now osd).exists || list_any (nat_eq osd) boots.now.osds.now)) osds.now }
+{
+    osds.iter().any(|osd| is_unknown(table, boots, *osd))
+}
+
+/// A device that is given a weight is unknown.
+fn weighs_unknown(
+    table: &HashMap<OsdId, Device>,
+    boots: &Searched,
+    weights: &[DeviceWeight],
+) -> bool
+    ensures { result ≡ list_any (λ entry. not ((device_at table.now entry.osd).exists || list_any (nat_eq entry.osd) boots.now.osds.now)) weights.now }
+{
+    weights
+        .iter()
+        .any(|entry| is_unknown(table, boots, entry.osd))
+}
+
+/// A device of which an epoch is told is unknown.
+fn tells_unknown(table: &HashMap<OsdId, Device>, boots: &Searched, told: &[DeviceEpoch]) -> bool
+    ensures { result ≡ list_any (λ entry. not ((device_at table.now entry.osd).exists || list_any (nat_eq entry.osd) boots.now.osds.now)) told.now }
+{
+    told.iter().any(|entry| is_unknown(table, boots, entry.osd))
+}
+
+/// A device is named, of which something else is told than that it boots, that neither exists nor is one of those that boot.
+#[tactic(auto, using(crate::proofs::CheckLemmas::told_steps))]
 pub(crate) fn has_unknown(
     table: &HashMap<OsdId, Device>,
-    boots: &HashSet<OsdId>,
-    osds: &[OsdId],
+    boots: &Searched,
+    inc: &Incremental,
 ) -> bool
-    ensures { result ≡ list_any (λ osd. not ((device_at table.now osd).exists || bag.contains nat_eq boots.now osd)) osds.now }
+    ensures { result ≡ list_any (λ osd. not ((device_at table.now osd).exists || list_any (nat_eq osd) boots.now.osds.now)) (told_devices inc.now) }
 {
-    osds.iter().any(|osd| !(device_at(table, *osd).exists || boots.contains(osd)))
+    any_unknown(table, boots, inc.down.as_slice())
+        || any_unknown(table, boots, inc.gone.as_slice())
+        || weighs_unknown(table, boots, inc.weight.as_slice())
+        || tells_unknown(table, boots, inc.up_thru.as_slice())
+        || tells_unknown(table, boots, inc.lost.as_slice())
 }
 
 /// A device is up.
@@ -45,18 +78,20 @@ pub(crate) fn has_down(table: &HashMap<OsdId, Device>, osds: &[OsdId]) -> bool
     })
 }
 
-/// A device is given up for lost that is up after some boot and others fall.
+/// A device is given up for lost that is up after some boot and others are taken down or destroyed.
 pub(crate) fn has_lost_up(
     table: &HashMap<OsdId, Device>,
-    boots: &HashSet<OsdId>,
-    falls: &HashSet<OsdId>,
+    boots: &Searched,
+    downs: &Searched,
+    destroyed: &Searched,
     told: &[DeviceEpoch],
 ) -> bool
-    ensures { result ≡ list_any (λ entry. bag.contains nat_eq boots.now entry.osd || not (bag.contains nat_eq falls.now entry.osd) && (device_at table.now entry.osd).is_up) told.now }
+    ensures { result ≡ list_any (λ entry. list_any (nat_eq entry.osd) boots.now.osds.now || not (list_any (nat_eq entry.osd) downs.now.osds.now || list_any (nat_eq entry.osd) destroyed.now.osds.now) && (device_at table.now entry.osd).is_up) told.now }
 {
     told.iter().any(|entry| {
         boots.contains(&entry.osd)
-            || !falls.contains(&entry.osd) && device_at(table, entry.osd).is_up
+            || !(downs.contains(&entry.osd) || destroyed.contains(&entry.osd))
+                && device_at(table, entry.osd).is_up
     })
 }
 

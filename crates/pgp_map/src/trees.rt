@@ -1,9 +1,10 @@
 //! Placement trees that incrementals give.
 
-ghost use Rattle.std.specs.Prelude.{◌≡◌, ◌⊎◌, map, option_map, Some, None, IfOk, IfErr, OnOk};
+ghost use Rattle.std.specs.Prelude.{◌≡◌, ◌⊎◌, map, option_map, true, Some, None, Err, IfOk, IfErr, OnOk, OnErr};
 ghost use Rattle.pgp_crush.specs.Bucket.{bucket_of};
 ghost use Rattle.pgp_crush.specs.TreeFault.{tree_fault};
 ghost use Rattle.pgp_map.specs.MapFault.{given_fault};
+ghost use Rattle.pgp_map.specs.Memory.{is_filled, has_bucket};
 
 use super::fault::MapFault;
 use pgp_crush::{Tree, TreeFault};
@@ -15,15 +16,18 @@ pub(crate) fn tree_of(alloc: Global, buckets: &[BucketSpec]) -> Result<Tree, Tre
     ensures ok { IfOk result (λ tree. tree ≡ map bucket_of buckets.now) }
     ensures faultless { OnOk result (tree_fault (map bucket_of buckets.now) ≡ None) }
     ensures fault { IfErr result (λ fault. (fault ≡ TreeFault.Memory) ⊎ (tree_fault (map bucket_of buckets.now) ≡ Some fault)) }
+    ensures wants { result ≡ Err TreeFault.Memory → is_filled buckets.now ≡ true }
 {
     let copies = copies_of(alloc, buckets)?;
     Tree::check(alloc, copies)
 }
 
 /// The first fault of the tree that an incremental gives, if it gives one.
+#[tactic(auto, using(std::proofs::lemmas::Bool::Decides::nat_tests))]
 pub(crate) fn check_tree(alloc: Global, crush: &Option<Seq<BucketSpec>>) -> Result<(), MapFault>
     ensures ok { OnOk result (given_fault crush.now ≡ None) }
     ensures fault { IfErr result (λ fault. (fault ≡ MapFault.Memory) ⊎ (given_fault crush.now ≡ Some fault)) }
+    ensures wants { result ≡ Err MapFault.Memory → has_bucket crush.now ≡ true }
 {
     match crush {
         None => Ok(()),
@@ -36,12 +40,14 @@ pub(crate) fn check_tree(alloc: Global, crush: &Option<Seq<BucketSpec>>) -> Resu
 }
 
 /// The tree that an incremental gives, if it gives one. It is one without fault.
+#[tactic(auto, using(std::proofs::lemmas::Bool::Decides::nat_tests))]
 pub(crate) fn given_tree(
     alloc: Global,
     crush: &Option<Seq<BucketSpec>>,
 ) -> Result<Option<Tree>, AllocError>
     requires { given_fault crush.now ≡ None }
-    ensures { IfOk result (λ tree. tree ≡ option_map (map bucket_of) crush.now) }
+    ensures ok { IfOk result (λ tree. tree ≡ option_map (map bucket_of) crush.now) }
+    ensures wants { OnErr result (has_bucket crush.now ≡ true) }
 {
     match crush {
         None => Ok(None),
@@ -54,8 +60,10 @@ pub(crate) fn given_tree(
 }
 
 /// Copies of these buckets.
+#[tactic(auto, using(std::proofs::lemmas::Bool::Decides::nat_tests))]
 fn copies_of(alloc: Global, buckets: &[BucketSpec]) -> Result<Vec<BucketSpec>, AllocError>
-    ensures { IfOk result (λ copies. map bucket_of copies.items ≡ map bucket_of buckets.now) }
+    ensures ok { IfOk result (λ copies. map bucket_of copies.items ≡ map bucket_of buckets.now) }
+    ensures wants { OnErr result (is_filled buckets.now ≡ true) }
 {
     let mut copies = Vec::new(alloc);
     for bucket in buckets {

@@ -1,7 +1,8 @@
 //! The table of weights.
 
-ghost use Rattle.std.specs.Prelude.{◌≡◌, ℕ, ◌<◌, true, false, nat_eq, slice_index_or, length, IsOk, OnOk};
+ghost use Rattle.std.specs.Prelude.{◌≡◌, ℕ, ◌<◌, true, false, nat_eq, slice_index_or, length, OnOk, OnErr};
 ghost use Rattle.pgp_lists.specs.Last.{last_where};
+ghost use Rattle.pgp_map.specs.Memory.{is_filled};
 ghost use Rattle.pgp_map.specs.WeightTable.{is_whole, weight_in, with_weight};
 
 use pgp_crush::DEVICES;
@@ -54,9 +55,11 @@ impl Weights {
     }
 
     /// Takes the memory for the table, if it has none and will need it for these weights.
+    #[tactic(auto, using(std::proofs::lemmas::Bool::Decides::nat_tests))]
     pub fn place(&mut self, given: &[DeviceWeight]) -> Result<(), AllocError>
         ensures same { (q : ℕ) → weight_in self.new.table.items q ≡ weight_in self.old.table.items q }
         ensures placed { OnOk result (0 < length given.now → length self.new.table.items ≡ DEVICES) }
+        ensures wants { OnErr result (is_filled given.now ≡ true) }
     {
         if self.table.is_empty() && !given.is_empty() {
             self.table = vec![in self.alloc; FULL; DEVICES]?;

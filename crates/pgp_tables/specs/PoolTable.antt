@@ -1,7 +1,8 @@
 -- The table of pools of a map.
-use Rattle.std.specs.Prelude.{ℕ, nat_eq, Option, Some, None, option_map}
+use Rattle.std.specs.Prelude.{ℕ, List, nat_eq, Option, Some, None, option_map}
 use Rattle.std.specs.HashMap as hash
 use Rattle.std.specs.HashMap.{HashMap}
+use Rattle.pgp_lists.specs.Last.{last_where}
 use Rattle.pgp_ids.specs.declared.pool.PoolSizes.{PoolSizes}
 use Rattle.pgp_ids.specs.declared.pool.PoolSpec.{PoolSpec}
 
@@ -16,5 +17,7 @@ or_made None pool = pool
 or_made (Some made) pool = Some made
 
 -- the pool after some are made and some are given sizes
-abbrev pub new_pool : {R S T : Type 0} → HashMap ℕ PoolSpec R → HashMap ℕ PoolSpec S → HashMap ℕ PoolSizes T → ℕ → Option PoolSpec
-new_pool old made sizes id = option_map (with_sizes (hash.get nat_eq sizes id)) (or_made (hash.get nat_eq made id) (hash.get nat_eq old id))
+abbrev pub new_pool : {R : Type 0} → HashMap ℕ PoolSpec R → List PoolSpec → List PoolSizes → ℕ → Option PoolSpec
+new_pool old made sizes id =
+    option_map (with_sizes (last_where (λ given. nat_eq given.pool id) sizes))
+    (or_made (last_where (λ pool. nat_eq pool.id id) made) (hash.get nat_eq old id))

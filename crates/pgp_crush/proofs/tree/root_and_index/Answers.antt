@@ -8,11 +8,11 @@ use Rattle.pgp_crush.proofs.tree.root_and_index.Goals as goal
 
 pub find_root-requires : goal.find_root-requires
 find_root-requires c = λ q.
-    c.in_ok-held.ensures q ∙ ap (list_any (int_eq q)) (c.deref.ensures.value ∙ c.in_ok-items.ensures) ∙ is_held_is (map bucket_of c.args.buckets.now) q
+    c.in_ok-held.ensures.value q ∙ ap (list_any (int_eq q)) (c.deref.ensures.value ∙ c.in_ok-items.ensures.value) ∙ is_held_is (map bucket_of c.args.buckets.now) q
 
 pub fault_below_root-requires-clause-held_is : goal.fault_below_root-requires-clause-held_is
 fault_below_root-requires-clause-held_is c = λ q.
-    c.in_ok-held.ensures q ∙ ap (list_any (int_eq q)) (c.deref.ensures.value ∙ c.in_ok-items.ensures) ∙ is_held_is (map bucket_of c.args.buckets.now) q
+    c.in_ok-held.ensures.value q ∙ ap (list_any (int_eq q)) (c.deref.ensures.value ∙ c.in_ok-items.ensures.value) ∙ is_held_is (map bucket_of c.args.buckets.now) q
 
 pub returns-in_default-clause-fault : goal.returns-in_default-clause-fault
 unfolding tree_fault

@@ -5,4 +5,4 @@ use Rattle.pgp_tables.specs.PoolTable.{new_pool}
 use Rattle.pgp_map.proofs.temp_check.has_bad_temp.Given as goal
 
 abbrev pub invariant-loop-given : goal.invariant-loop-given
-invariant-loop-given l = list_any (λ given. is_bad_list (new_pool l.old l.made l.sizes given.pg.pool) given) (take l.given-index l.temps) ≡ false
+invariant-loop-given l = list_any (λ given. is_bad_list (new_pool l.old l.pools.made.now l.pools.sizes.now given.pg.pool) given) (take l.given-index l.temps) ≡ false
