@@ -3,6 +3,7 @@ use Rattle.std.proofs.Common.{◌≡◌, ℕ, List, [], ◌∷◌, map, Bool, tr
 use Rattle.std.specs.Prelude.{Option, Some}
 use Rattle.std.specs.List.{list_any}
 use Rattle.std.specs.Option.{option_or}
+use Rattle.std.proofs.lemmas.Bool.Decides.{nat_tests}
 use Rattle.std.proofs.lemmas.List.Folds.{list_any-append}
 use Rattle.pgp_crush.specs.Bucket.{bucket_of}
 use Rattle.pgp_crush.specs.TreeFault.{may_lack_memory}
@@ -52,4 +53,4 @@ found-otherwise f memory = grind arith
 -- a list of buckets for which memory may be lacking has a bucket
 pub lacks-filled : (buckets : List BucketSpec) → may_lack_memory (map bucket_of buckets) ≡ true → is_filled buckets ≡ true
 lacks-filled [] lacks = cc
-lacks-filled (b ∷ buckets) lacks = refl
+lacks-filled (b ∷ buckets) lacks = grind (arith, nat_tests)

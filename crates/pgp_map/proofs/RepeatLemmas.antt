@@ -1,6 +1,7 @@
 -- Lists in which something is named twice.
-use Rattle.std.proofs.Common.{◌≡◌, ℕ, List, [], ◌∷◌, ◌++◌, Bool, ◌||◌, map, refl, ap, sym, ◌∙◌, arith}
-use Rattle.std.specs.List.{list_any}
+use Rattle.std.proofs.Common.{◌≡◌, ℕ, List, [], ◌∷◌, ◌++◌, Option, Some, None, Bool, ◌||◌, nat_eq, map, refl, ap, append_assoc, ◌∙◌, arith}
+use Rattle.std.specs.List.{filter_map, list_any}
+use Rattle.std.specs.Option.{option_eq}
 use Rattle.std.proofs.lemmas.List.Folds.{list_any-append}
 use Rattle.pgp_lists.proofs.Lists.{any-mapped}
 use Rattle.pgp_lists.specs.Repeats.{has_repeat}
@@ -37,8 +38,9 @@ pub repeat-three : {X : Type 0} (same : X → X → Bool) (xs ys zs : List X)
     → has_repeat same (xs ++ ys ++ zs) ≡ (has_repeat same xs || has_repeat same ys || has_repeat same zs
     || list_any (λ x. list_any (same x) ys) xs || list_any (λ x. list_any (same x) zs) xs || list_any (λ y. list_any (same y) zs) ys)
 repeat-three same xs ys zs =
-    joined _ (has_repeat same xs) (has_repeat same (ys ++ zs)) (has_repeat same ys) (has_repeat same zs) _ _ _ _
-    (repeat-append same xs (ys ++ zs)) (repeat-append same ys zs)
+    joined (has_repeat same (xs ++ ys ++ zs)) (has_repeat same xs) (has_repeat same (ys ++ zs)) (has_repeat same ys) (has_repeat same zs)
+    (list_any (λ x. list_any (same x) (ys ++ zs)) xs) (list_any (λ x. list_any (same x) ys) xs) (list_any (λ x. list_any (same x) zs) xs) (list_any (λ y. list_any (same y) zs) ys)
+    (ap (has_repeat same) (append_assoc xs ys zs) ∙ repeat-append same xs (ys ++ zs)) (repeat-append same ys zs)
     ((λ i. list_any (λ x. list_any-append (same x) ys zs i) xs) ∙ any-either (λ x. list_any (same x) ys) (λ x. list_any (same x) zs) xs)
   where
     joined : (all p rest q r meets ab ac bc : Bool) → all ≡ (p || rest || meets) → rest ≡ (q || r || bc) → meets ≡ (ab || ac)
@@ -54,3 +56,11 @@ repeat-joined f g same xs ys =
     ∙ (λ i. has_repeat (λ a b. same (f a) (f b)) xs || has_repeat (λ a b. same (g a) (g b)) ys || list_any (λ x. any-mapped g (same (f x)) ys i) xs)
 
 pub ruleset repeat_steps = (repeat-mapped, repeat-three, repeat-joined)
+
+-- a place that holds a device is one of the list without the empty places
+pub any-held : (osd : ℕ) (places : List (Option ℕ)) → list_any (option_eq nat_eq (Some osd)) places ≡ list_any (nat_eq osd) (filter_map (λ place. place) places)
+any-held osd [] = refl
+any-held osd (None ∷ places) = any-held osd places
+any-held osd (Some other ∷ places) = λ i. nat_eq osd other || any-held osd places i
+
+pub ruleset placed_steps = (any-held)

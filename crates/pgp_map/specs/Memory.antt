@@ -1,6 +1,6 @@
 -- For which incrementals a map may lack memory: to look at them, and to take them (this project's own choice). Lists of up to
 -- sixteen items are searched as they stand; of longer ones sets and tables are made.
-use Rattle.std.specs.Prelude.{◌≡◌, ◌⊎◌, ℕ, List, length, Bool, true, false, ◌||◌, nat_lt, Option}
+use Rattle.std.specs.Prelude.{◌≡◌, ◌⊎◌, List, length, Bool, true, false, ◌||◌, nat_lt, Option}
 use Rattle.std.specs.Option.{option_map_or}
 use Rattle.pgp_ids.specs.declared.bucket.BucketSpec.{BucketSpec}
 use Rattle.pgp_ids.specs.declared.incremental.Incremental.{Incremental}

@@ -54,11 +54,12 @@ pub(crate) fn has_unknown(
 ) -> bool
     ensures { result ≡ list_any (λ osd. not ((device_at table.now osd).exists || list_any (nat_eq osd) boots.now.osds.now)) (told_devices inc.now) }
 {
-    any_unknown(table, boots, inc.down.as_slice())
-        || any_unknown(table, boots, inc.gone.as_slice())
-        || weighs_unknown(table, boots, inc.weight.as_slice())
-        || tells_unknown(table, boots, inc.up_thru.as_slice())
-        || tells_unknown(table, boots, inc.lost.as_slice())
+    let falls = any_unknown(table, boots, inc.down.as_slice());
+    let goes = any_unknown(table, boots, inc.gone.as_slice());
+    let weighs = weighs_unknown(table, boots, inc.weight.as_slice());
+    let lasts = tells_unknown(table, boots, inc.up_thru.as_slice());
+    let is_lost = tells_unknown(table, boots, inc.lost.as_slice());
+    falls || goes || weighs || lasts || is_lost
 }
 
 /// A device is up.

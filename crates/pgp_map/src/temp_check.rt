@@ -28,17 +28,11 @@ fn has_device_twice(places: &[Option<OsdId>]) -> bool
 }
 
 /// The device stands in one of the places.
+#[tactic(auto, using(crate::proofs::RepeatLemmas::placed_steps))]
 fn is_placed(osd: OsdId, places: &[Option<OsdId>]) -> bool
     ensures { result ≡ list_any (nat_eq osd) (filter_map (λ place. place) places.now) }
 {
-    for place in places {
-        if let Some(other) = place
-            && osd == *other
-        {
-            return true;
-        }
-    }
-    false
+    places.contains(&Some(osd))
 }
 
 /// A place of the list is empty.
@@ -81,10 +75,7 @@ pub(crate) fn has_bad_temp(
 ) -> bool
     ensures { result ≡ list_any (λ given. is_bad_list (new_pool old.now pools.now.made.now pools.now.sizes.now given.pg.pool) given) temps.now }
 {
-    for given in temps {
-        if is_bad_list(pools.pool(old, given.pg.pool), given) {
-            return true;
-        }
-    }
-    false
+    temps
+        .iter()
+        .any(|given| is_bad_list(pools.pool(old, given.pg.pool), given))
 }

@@ -1,6 +1,7 @@
 use Rattle.std.proofs.Common.{◌∙◌, arith}
 use Rattle.std.proofs.lemmas.Bool.Decides.{nat_tests}
 use Rattle.std.proofs.lemmas.Result.{on_err_weaker}
+use Rattle.pgp_lists.proofs.Results.{on_err}
 use Rattle.pgp_map.proofs.map.OsdMap.make_room.Goals as goal
 
 pub returns-clause-same : goal.returns-clause-same
@@ -16,13 +17,13 @@ returns-clause-same c = λ incs is. record {
 }
 
 pub returns-in_err-place_named-clause-wants : goal.returns-in_err-place_named-clause-wants
-returns-in_err-place_named-clause-wants c = λ incs is. grind (arith, simp is.devices_are at c.in_err-place_named.ensures.wants)
+returns-in_err-place_named-clause-wants c = on_err c.from_residual.result _ (λ incs is. grind (arith, simp is.devices_are at c.in_err-place_named.ensures.wants))
 
 pub returns-in_err-place-clause-wants : goal.returns-in_err-place-clause-wants
-returns-in_err-place-clause-wants c = λ incs is. grind (arith, c.in_err-place.ensures.wants)
+returns-in_err-place-clause-wants c = on_err c.from_residual-in_err-place.result _ (λ incs is. grind (arith, c.in_err-place.ensures.wants))
 
 pub returns-in_err-reserve-clause-wants : goal.returns-in_err-reserve-clause-wants
-returns-in_err-reserve-clause-wants c = λ incs is. grind (arith, nat_tests, c.len.ensures, c.in_err-reserve.ensures.succeeds)
+returns-in_err-reserve-clause-wants c = on_err c.from_residual-in_err-reserve.result _ (λ incs is. grind (arith, nat_tests, c.len.ensures, c.in_err-reserve.ensures.succeeds))
 
 pub returns-clause-wants : goal.returns-clause-wants
 returns-clause-wants c = on_err_weaker c.place_all.result (λ some. λ incs is. grind (arith, nat_tests, some)) c.place_all.ensures.wants
