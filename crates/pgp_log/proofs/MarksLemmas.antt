@@ -7,7 +7,7 @@ use Rattle.std.proofs.lemmas.Bool.{cases_Bool, or_parts, true≢false}
 use Rattle.std.proofs.lemmas.List.{take_more_set}
 use Rattle.std.proofs.lemmas.List.Elements.{All-head, All-tail}
 use Rattle.std.proofs.lemmas.List.Folds.{list_any-append}
-use Rattle.std.proofs.lemmas.Option.{slice_get_within}
+use Rattle.std.proofs.lemmas.Option.{same_Some, slice_get_within}
 use Rattle.std.proofs.Math.Bool.{and-false, and-true, or-false}
 use Rattle.pgp_ids.specs.declared.entry.Entry.{Entry}
 use Rattle.pgp_ids.specs.declared.entry.Entry.TheVariants as entry
@@ -15,6 +15,7 @@ use Rattle.pgp_ids.specs.declared.incremental.Incremental.{Incremental}
 use Rattle.pgp_ids.specs.declared.view.View.{View}
 use Rattle.pgp_ids.specs.declared.pg_id.PgId.{PgId}
 use Rattle.pgp_lists.proofs.Lists.{none-each}
+use Rattle.pgp_lists.specs.Repeats.{has_repeat}
 use Rattle.pgp_map.specs.Pools.{is_same_group}
 use Rattle.pgp_group.specs.Touched.{changes_pool, changes_temp, is_touched, moves_all}
 use Rattle.pgp_log.specs.Kept.{AreAllMarked, AreAtPlaces, ids_of, is_marked, marks_in, marks_of}
@@ -22,7 +23,7 @@ use Rattle.pgp_log.specs.Shard.{is_among, without}
 use Rattle.pgp_log.specs.declared.groups.Groups.{Groups}
 use Rattle.pgp_log.specs.declared.kept.Kept.{Kept}
 use Rattle.pgp_log.proofs.GroupsLemmas.{missing-group, other-group, place-holds, same-self}
-use Rattle.pgp_log.proofs.PassingLemmas.{all-other, any-passing, drop-few, drop-more, front-fails, front-passes, passing-fails, unmarked}
+use Rattle.pgp_log.proofs.PassingLemmas.{all-other, any-passing, drop-few, drop-more, front-fails, front-passes, passing-fails, passing-once, unmarked}
 use Rattle.pgp_log.proofs.RawSetLemmas.{same_group}
 
 abbrev pg_of : Kept → PgId
@@ -165,6 +166,31 @@ all-marks [] all = refl
 all-marks (kept ∷ groups) all =
     let here : is_marked kept ≡ true = All-head (λ (k : Kept). is_marked k ≡ true) kept groups all in
     rw here (ap (λ ids. kept.pg ∷ ids) (all-marks groups (All-tail (λ (k : Kept). is_marked k ≡ true) kept groups all)))
+
+-- ---- each group once
+
+-- a list of which no two places have the same
+no-repeat : {X : Type 0} (same : X → X → Bool) (xs : List X) → ((i j : ℕ) (x y : X) → slice_get xs i ≡ Some x → slice_get xs j ≡ Some y → same x y ≡ true → i ≡ j)
+    → has_repeat same xs ≡ false
+no-repeat same [] apart = refl
+no-repeat {X = X} same (x ∷ xs) apart =
+    rw (none-each (same x) xs other) (no-repeat same xs (λ i j y z one two is. omega (arith, apart (suc i) (suc j) y z one two is)))
+  where
+    other : (j : ℕ) (y : X) → slice_get xs j ≡ Some y → same x y ≡ false
+    other j y there = elim (cases_Bool (same x y)) [
+      | inl is ↦ absurd (omega (arith, apart 0 (suc j) x y refl there is))
+      | inr differs ↦ differs
+    ]
+
+-- the table says of each group one place
+ids-once : (groups : Groups) → AreAtPlaces groups → has_repeat is_same_group (ids_of groups.kept.items) ≡ false
+ids-once groups are =
+    no-repeat is_same_group (ids_of groups.kept.items)
+    (λ i j pg other one two is. same_Some i j (sym (are.found pg i one) ∙ ap (hash.get is_same_group groups.places) (same_group pg other is) ∙ are.found other j two))
+
+-- and so no group is twice among the marks
+pub marks-once : (groups : Groups) → AreAtPlaces groups → has_repeat is_same_group (marks_of groups) ≡ false
+marks-once groups are = passing-once is_marked pg_of is_same_group groups.kept.items (ids-once groups are)
 
 -- ---- other groups
 

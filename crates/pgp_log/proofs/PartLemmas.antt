@@ -15,7 +15,7 @@ use Rattle.pgp_log.specs.declared.derived.Derived.{Derived}
 use Rattle.pgp_log.specs.declared.owner.Owner.{Owner}
 use Rattle.pgp_log.proofs.ComingLemmas.{has_group-same}
 use Rattle.pgp_log.proofs.LogLemmas.{legal-snoc}
-use Rattle.pgp_log.proofs.MarksLemmas.{all-marks, pool-left}
+use Rattle.pgp_log.proofs.MarksLemmas.{all-marks, marks-once, pool-left}
 use Rattle.pgp_log.proofs.TakeLemmas.{incs-inc, incs-other}
 
 -- what is there follows from the log
@@ -56,8 +56,16 @@ pub marked-anew : (owner : Owner) (log : List Entry) (derived : Derived) (found 
 marked-anew owner log derived found none is all =
     subst (λ (o : Option Derived). AreMarked (shard_with owner log o) (marks_of derived.groups)) (sym none) (record {
       each = λ pg. ap (is_among pg) (all-marks derived.groups.kept.items all) ∙ is.own_are pg;
+      once = marks-once derived.groups is.groups_are.places_are;
       in_order = tt;
     })
+
+-- those that are there
+pub marked-there : (owner : Owner) (log : List Entry) (derived : Derived) (found : Option Derived) → found ≡ Some derived → IsDerivedOf owner log derived
+    → AreMarked (shard_with owner log found) (marks_of derived.groups)
+marked-there owner log derived found there is =
+    subst (λ (o : Option Derived). AreMarked (shard_with owner log o) (marks_of derived.groups)) (sym there)
+    (record { each = λ pg. refl; once = marks-once derived.groups is.groups_are.places_are; in_order = refl })
 
 -- what holds where a call succeeds
 pub ok-holds : {T E : Type 0} (r : Result T E) (P : Type 0) → is_err r ≡ false → OnOk r P → P

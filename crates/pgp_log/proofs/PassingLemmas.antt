@@ -1,10 +1,12 @@
 -- The names of the elements that pass a test, as one of the elements comes to fail it.
 use Rattle.std.proofs.Common.{◌≡◌, ℕ, zero, suc, ◌+◌, ◌<◌, ◌≤◌, List, [], ◌∷◌, ◌++◌, Bool, true, false, not, ◌&&◌, ◌||◌, cond, Some, map, length, take, drop, set, slice_get, append-nil, length-append, refl, sym, ap, ◌∙◌, arith}
 use Rattle.std.specs.List.{filter, list_any}
+use Rattle.std.proofs.lemmas.Bool.{or_parts}
 use Rattle.std.proofs.lemmas.List.{map-append, drop-append-le}
 use Rattle.std.proofs.lemmas.List.Elements.{filter-append, filter_more}
 use Rattle.std.proofs.lemmas.Option.{get_or_from_slice_get, slice_get_within}
 use Rattle.std.proofs.Math.ListN.{drop_of_length-le}
+use Rattle.pgp_lists.specs.Repeats.{has_repeat}
 
 -- a name of one that passes, found from the elements
 pub any-passing : {X Y : Type 0} (m : X → Bool) (f : X → Y) (q : Y → Bool) (xs : List X) → list_any q (map f (filter m xs)) ≡ list_any (λ x. m x && q (f x)) xs
@@ -69,3 +71,27 @@ drop-few n xs x many =
 -- one more, which fails
 pub passing-fails : {X Y : Type 0} (m : X → Bool) (f : X → Y) (xs : List X) (x : X) → m x ≡ false → map f (filter m (xs ++ x ∷ [])) ≡ map f (filter m xs)
 passing-fails m f xs x fails = ap (map f) (filter-append m xs (x ∷ []) ∙ rw fails (append-nil (filter m xs)))
+
+-- ---- each name once
+
+-- a name that none has, none of those that pass has
+none-passing : {X Y : Type 0} (m : X → Bool) (f : X → Y) (q : Y → Bool) (xs : List X) → list_any q (map f xs) ≡ false → list_any q (map f (filter m xs)) ≡ false
+none-passing m f q [] none = refl
+none-passing m f q (x ∷ xs) none = at (m x) refl (none-passing m f q xs parts.1) where
+  parts : (q (f x) ≡ false) × (list_any q (map f xs) ≡ false)
+  parts = or_parts (q (f x)) (list_any q (map f xs)) none
+
+  at : (b : Bool) → m x ≡ b → list_any q (map f (filter m xs)) ≡ false → list_any q (map f (cond (m x) (x ∷ filter m xs) (filter m xs))) ≡ false
+  at true is rest = rw is (rw parts.0 rest)
+  at false is rest = rw is rest
+
+-- where no name is twice in the list, none is among those that pass
+pub passing-once : {X Y : Type 0} (m : X → Bool) (f : X → Y) (same : Y → Y → Bool) (xs : List X) → has_repeat same (map f xs) ≡ false → has_repeat same (map f (filter m xs)) ≡ false
+passing-once m f same [] once = refl
+passing-once m f same (x ∷ xs) once = at (m x) refl (passing-once m f same xs parts.1) where
+  parts : (list_any (same (f x)) (map f xs) ≡ false) × (has_repeat same (map f xs) ≡ false)
+  parts = or_parts (list_any (same (f x)) (map f xs)) (has_repeat same (map f xs)) once
+
+  at : (b : Bool) → m x ≡ b → has_repeat same (map f (filter m xs)) ≡ false → has_repeat same (map f (cond (m x) (x ∷ filter m xs) (filter m xs))) ≡ false
+  at true is rest = rw is (rw (none-passing m f (same (f x)) xs parts.0) rest)
+  at false is rest = rw is rest

@@ -5,6 +5,7 @@ use Rattle.std.specs.List.{filter, list_any}
 use Rattle.std.specs.Option.{option_map_or}
 use Rattle.pgp_ids.specs.declared.entry.Entry.{Entry}
 use Rattle.pgp_ids.specs.declared.pg_id.PgId.{PgId}
+use Rattle.pgp_lists.specs.Repeats.{has_repeat}
 use Rattle.pgp_map.specs.Pools.{has_group, is_same_group}
 use Rattle.pgp_group.specs.Entries.{incs_of}
 use Rattle.pgp_group.specs.Touched.{is_touched}
@@ -69,9 +70,10 @@ has_own s pg = is_own s.shard s.shards pg && has_group (incs_of s.front) pg
 abbrev pub is_marked : Shard → PgId → Bool
 is_marked s pg = option_map_or (is_among pg) s.marks (has_own s pg)
 
--- these are the groups that have to be worked out, in the order of the marks, where these are there
+-- these are the groups that have to be worked out, each once, in the order of the marks, where these are there
 pub record AreMarked (s : Shard) (ids : List PgId) : Type 0 where
   pub each : (pg : PgId) → is_among pg ids ≡ is_marked s pg
+  pub once : has_repeat is_same_group ids ≡ false
   pub in_order : IfSome s.marks (λ marks. ids ≡ marks)
 
 -- the entry marks none but the groups that it touches: each other is marked after it just where it was before; and the marks

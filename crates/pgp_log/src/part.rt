@@ -119,8 +119,9 @@ impl Part {
         ensures left { IfOk result (λ left. IfSome self.new.derived (λ derived. left ≡ length (marks_of derived.groups))) }
         ensures wants { OnErr result (HasInc (map arc_value entries.now)) }
     {
+        let count = entries.len();
         let mut derived = self.take(owner, entries)?;
-        let left = derived.renew(max, entries.len());
+        let left = derived.renew(max, count);
         self.derived = Some(derived);
         left
     }

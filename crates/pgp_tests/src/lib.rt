@@ -11,6 +11,8 @@ mod codes;
 #[cfg(test)]
 mod fixtures;
 #[cfg(test)]
+mod fresh_shards;
+#[cfg(test)]
 mod groups;
 #[cfg(test)]
 mod hashes;

@@ -1,7 +1,7 @@
-use Rattle.std.proofs.Common.{◌≡◌, Option, None, map}
+use Rattle.std.proofs.Common.{◌≡◌, Option, Some, None, map}
 use Rattle.std.specs.Arc.{arc_value}
 use Rattle.pgp_log.specs.declared.derived.Derived.{Derived}
-use Rattle.pgp_log.proofs.PartLemmas.{marked-anew}
+use Rattle.pgp_log.proofs.PartLemmas.{derived-there, marked-anew, marked-there}
 use Rattle.pgp_log.proofs.SharedLemmas.{ok-both}
 use Rattle.pgp_log.proofs.part.Part.take.Goals as goal
 
@@ -11,3 +11,11 @@ returns-in-None-clause-marks c =
     let none : found ≡ None = cc in
     ok-both c.of.result _ _ _
     (λ derived is all. marked-anew c.args.owner (map arc_value c.args.entries.now) derived found none is all) c.of.ensures.is c.of.ensures.marked
+
+pub returns-in_Some-clause-marks : goal.returns-in_Some-clause-marks
+returns-in_Some-clause-marks c =
+    let found : Option Derived = c.args.self.now.derived in
+    let derived : Derived = c.in-Some.derived in
+    let there : found ≡ Some derived = cc in
+    marked-there c.args.owner (map arc_value c.args.entries.now) derived found there
+    (derived-there c.args.owner (map arc_value c.args.entries.now) found derived c.requires there)
