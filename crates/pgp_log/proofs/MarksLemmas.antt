@@ -159,6 +159,15 @@ renewing-renews first now max i more left kept after was at passes there some is
       few = omega (arith, is.few);
     }
 
+-- one that is marked is among the marks
+pub some-marked : (groups : List Kept) (i : ℕ) (kept : Kept) → slice_get groups i ≡ Some kept → is_marked kept ≡ true → 0 < length (marks_in groups)
+some-marked [] i kept at marked = cc
+some-marked (first ∷ groups) zero kept at marked = let here : first ≡ kept = cc in rw (ap is_marked here ∙ marked) (omega arith)
+some-marked (first ∷ groups) (suc i) kept at marked = by (is_marked first) refl (some-marked groups i kept at marked) where
+  by : (b : Bool) → is_marked first ≡ b → 0 < length (marks_in groups) → 0 < length (marks_in (first ∷ groups))
+  by true is rest = rw is (omega arith)
+  by false is rest = rw is rest
+
 -- ---- each group is marked
 
 pub all-marks : (groups : List Kept) → AreAllMarked groups → marks_in groups ≡ ids_of groups

@@ -1,5 +1,6 @@
 -- What follows from the entries that a shard has read, or that it isn't there, and the marks.
-use Rattle.std.proofs.Common.{◌≡◌, List, [], ◌∷◌, ◌++◌, Option, Some, None, IfSome, false, ◌&&◌, Result, Ok, Err, is_err, OnOk, refl, sym, ap, ◌∙◌, subst}
+use Rattle.std.proofs.Common.{◌≡◌, List, [], ◌∷◌, ◌++◌, Option, Some, None, IfSome, is_some, true, false, ◌&&◌, Result, Ok, Err, is_err, OnOk, refl, sym, ap, ◌∙◌, subst}
+use Rattle.std.proofs.lemmas.Bool.{true≢false}
 use Rattle.pgp_ids.specs.declared.entry.Entry.{Entry}
 use Rattle.pgp_ids.specs.declared.entry.Entry.TheVariants as entry
 use Rattle.pgp_ids.specs.declared.pg_id.PgId.{PgId}
@@ -66,6 +67,13 @@ pub marked-there : (owner : Owner) (log : List Entry) (derived : Derived) (found
 marked-there owner log derived found there is =
     subst (λ (o : Option Derived). AreMarked (shard_with owner log o) (marks_of derived.groups)) (sym there)
     (record { each = λ pg. refl; once = marks-once derived.groups is.groups_are.places_are; in_order = refl })
+
+-- where nothing is kept, the marks aren't there
+pub no-marks : {P : Type 0} (owner : Owner) (log : List Entry) (found : Option Derived) → found ≡ None → is_some (shard_with owner log found).marks ≡ true → P
+no-marks owner log found none there = absurd (true≢false (sym there ∙ ap (λ (o : Option Derived). is_some (shard_with owner log o).marks) none))
+
+pub if-marks : (owner : Owner) (log : List Entry) (found : Option Derived) (P : List PgId → Type 0) → found ≡ None → IfSome (shard_with owner log found).marks P
+if-marks owner log found P none = subst (λ (o : Option Derived). IfSome (shard_with owner log o).marks P) (sym none) tt
 
 -- what holds where a call succeeds
 pub ok-holds : {T E : Type 0} (r : Result T E) (P : Type 0) → is_err r ≡ false → OnOk r P → P

@@ -1,6 +1,6 @@
 //! What a shard keeps beside the entries that it has read.
 
-ghost use Rattle.std.specs.Prelude.{◌≡◌, ◌&&◌, not, ◌++◌, [], ◌∷◌, List, None, true, false, nat_eq, map, length, drop, is_some, IfOk, IfSome, OnOk, OnErr};
+ghost use Rattle.std.specs.Prelude.{◌≡◌, ◌<◌, ◌&&◌, min, not, ◌++◌, [], ◌∷◌, List, None, true, false, nat_eq, map, length, drop, is_some, IfOk, IfSome, OnOk, OnErr};
 ghost use Rattle.std.specs.List.{list_any};
 ghost use Rattle.std.specs.Arc.{arc_value};
 ghost use Rattle.pgp_ids.specs.declared.entry.Entry.{Entry as AnyEntry};
@@ -166,6 +166,9 @@ impl Derived {
             → IsDerivedOf owner log self.new }
         ensures marks { OnOk result (marks_of self.new.groups ≡ without pg.now (marks_of self.old.groups)) }
         ensures wants { OnErr result ((owner : AnyOwner) (log : List AnyEntry) → IsDerivedOf owner log self.old → HasInc log) }
+        ensures wants_there { OnErr result ((owner : AnyOwner) (log : List AnyEntry) → IsDerivedOf owner log self.old
+            → has_group (incs_of log) pg.now ≡ true) }
+        ensures wants_marked { OnErr result (is_among pg.now (marks_of self.old.groups) ≡ true) }
     {
         self.groups.work_out(&self.after, count, pg)
     }
@@ -196,6 +199,7 @@ impl Derived {
         ensures marks { OnOk result (marks_of self.new.groups ≡ drop max (marks_of self.old.groups)) }
         ensures left { IfOk result (λ left. left ≡ length (marks_of self.new.groups)) }
         ensures wants { OnErr result ((owner : AnyOwner) (log : List AnyEntry) → IsDerivedOf owner log self.old → HasInc log) }
+        ensures wants_marked { OnErr result (0 < min max (length (marks_of self.old.groups))) }
     {
         self.groups.renew(&self.after, count, max)
     }

@@ -1,6 +1,6 @@
 //! The groups of a shard.
 
-ghost use Rattle.std.specs.Prelude.{◌≡◌, ◌&&◌, not, ◌++◌, [], ◌∷◌, List, Some, None, true, false, length, drop, is_some, IfOk, IfSome, OnOk, OnErr};
+ghost use Rattle.std.specs.Prelude.{◌≡◌, ◌<◌, ◌&&◌, min, not, ◌++◌, [], ◌∷◌, List, Some, None, true, false, length, drop, is_some, IfOk, IfSome, OnOk, OnErr};
 ghost use Rattle.std.specs.HashMap as hash;
 ghost use Rattle.pgp_ids.specs.declared.entry.Entry.{Entry as AnyEntry};
 ghost use Rattle.pgp_ids.specs.declared.entry.Entry.TheVariants as entry;
@@ -127,6 +127,8 @@ impl Groups {
         ensures ids { ids_of self.new.kept.items ≡ ids_of self.old.kept.items }
         ensures marks { OnOk result (marks_of self.new ≡ without pg.now (marks_of self.old)) }
         ensures wants { OnErr result ((log : List AnyEntry) → AreGroupsOf log self.old → HasInc log) }
+        ensures wants_there { OnErr result (keeps pg.now self.old ≡ true) }
+        ensures wants_marked { OnErr result (is_among pg.now (marks_of self.old) ≡ true) }
     {
         match self.find(pg) {
             Some(place) => {
@@ -167,6 +169,7 @@ impl Groups {
         ensures marks { OnOk result (marks_of self.new ≡ drop max (marks_of self.old)) }
         ensures left { IfOk result (λ left. left ≡ length (marks_of self.new)) }
         ensures wants { OnErr result ((log : List AnyEntry) → AreGroupsOf log self.old → HasInc log) }
+        ensures wants_marked { OnErr result (0 < min max (length (marks_of self.old))) }
     {
         renew(self.kept.as_mut_slice(), map, count, max)
     }
@@ -202,6 +205,7 @@ fn renew(groups: &mut [Kept], map: &OsdMap, count: usize, max: usize) -> Result<
     ensures marks { OnOk result (marks_in groups.new ≡ drop max (marks_in groups.old)) }
     ensures left { IfOk result (λ left. left ≡ length (marks_in groups.new)) }
     ensures wants { OnErr result ((log : List AnyEntry) → AreKeptOf log groups.old → HasInc log) }
+    ensures wants_marked { OnErr result (0 < min max (length (marks_in groups.old))) }
 {
     let mut more = max;
     let mut left = 0;

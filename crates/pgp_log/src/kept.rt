@@ -212,11 +212,13 @@ impl Kept {
     }
 
     /// Works out what the entries say of the group, where something touched it since that was last done. `map` is the last
-    /// map, and `count` the number of entries. After an `Err` it stands for the same log.
+    /// map, and `count` the number of entries. A group that isn't marked takes no memory. After an `Err` it stands for the same
+    /// log.
     pub(crate) fn renew(&mut self, map: &OsdMap, count: usize) -> Result<(), AllocError>
         ensures kept { (log : List AnyEntry) → IsKeptOf log self.old → IsMapOf (incs_of log) map.now → length log ≡ count
             → IsKeptOf log self.new }
         ensures marks { OnOk result (is_some self.new.view ≡ true) }
+        ensures wants { OnErr result (is_marked self.old ≡ true) }
         ensures pg { self.new.pg ≡ self.old.pg }
     {
         if self.is_marked() {

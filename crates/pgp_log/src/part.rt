@@ -1,6 +1,6 @@
 //! What a shard keeps beside the entries that it has read, or that it isn't there.
 
-ghost use Rattle.std.specs.Prelude.{◌≡◌, ◌&&◌, not, ◌++◌, [], ◌∷◌, List, None, Some, true, map, is_some, false, length, IfOk, IfSome, OnOk, OnErr};
+ghost use Rattle.std.specs.Prelude.{◌≡◌, ◌<◌, ◌&&◌, min, not, ◌++◌, [], ◌∷◌, List, None, Some, true, map, is_some, false, length, IfOk, IfSome, OnOk, OnErr};
 ghost use Rattle.std.specs.Arc.{arc_value};
 ghost use Rattle.pgp_ids.specs.declared.entry.Entry.{Entry as AnyEntry};
 ghost use Rattle.pgp_map.specs.Pools.{has_group};
@@ -70,6 +70,10 @@ impl Part {
         ensures marks { OnOk result (IsUnmarked pg.now (shard_with owner (map arc_value entries.now) self.old.derived)
             (shard_with owner (map arc_value entries.now) self.new.derived)) }
         ensures wants { OnErr result (HasInc (map arc_value entries.now)) }
+        ensures wants_there { OnErr result (is_some (shard_with owner (map arc_value entries.now) self.old.derived).marks ≡ true
+            → has_group (incs_of (map arc_value entries.now)) pg.now ≡ true) }
+        ensures wants_marked { OnErr result (is_some (shard_with owner (map arc_value entries.now) self.old.derived).marks ≡ true
+            → is_marked (shard_with owner (map arc_value entries.now) self.old.derived) pg.now ≡ true) }
     {
         let mut derived = self.take(owner, entries)?;
         let there = derived.work_out(pg, entries.len());
@@ -118,6 +122,8 @@ impl Part {
             (shard_with owner (map arc_value entries.now) self.new.derived)) }
         ensures left { IfOk result (λ left. IfSome self.new.derived (λ derived. left ≡ length (marks_of derived.groups))) }
         ensures wants { OnErr result (HasInc (map arc_value entries.now)) }
+        ensures wants_marked { OnErr result (IfSome (shard_with owner (map arc_value entries.now) self.old.derived).marks
+            (λ marks. 0 < min max (length marks))) }
     {
         let count = entries.len();
         let mut derived = self.take(owner, entries)?;
@@ -134,6 +140,7 @@ impl Part {
             (marks_of derived.groups)) }
         ensures taken { self.new ≡ record self.old { derived = None } }
         ensures wants { OnErr result (HasInc (map arc_value entries.now)) }
+        ensures wants_away { OnErr result (self.old.derived ≡ None) }
     {
         match self.derived.take() {
             Some(derived) => Ok(derived),

@@ -1,6 +1,6 @@
 //! One shard: what it has read of the log, and what it answers by that.
 
-ghost use Rattle.std.specs.Prelude.{◌≡◌, ◌≢◌, ◌<◌, ◌++◌, length, map, is_some, option_copied, option_map, false, true, None, Some, Err, IsOk, IfOk, IfSome, OnOk, OnErr};
+ghost use Rattle.std.specs.Prelude.{◌≡◌, ◌≢◌, ◌<◌, ◌++◌, min, length, map, is_some, option_copied, option_map, false, true, None, Some, Err, IsOk, IfOk, IfSome, OnOk, OnErr};
 ghost use Rattle.std.specs.Arc.{arc_value};
 ghost use Rattle.pgp_refusals.specs.declared.ask_refusal.AskRefusal.TheVariants.{UnknownGroup, Memory};
 ghost use Rattle.pgp_map.specs.Pools.{has_group};
@@ -119,13 +119,16 @@ impl ShardState {
     }
 
     /// Works out what the shard has read says of one of its groups, where it is marked, and takes the mark away. `UnknownGroup`:
-    /// what was read makes no such group. `Memory`: there was none, which is so only where an incremental was read. What the
-    /// shard has read stays.
+    /// what was read makes no such group. `Memory`: there was none, which is so only where an incremental was read, and, where the
+    /// marks are there, only where the group is marked. What the shard has read stays.
     pub fn work_out(&mut self, pg: &PgId) -> Result<(), AskRefusal>
         requires { is_own self.old.shard self.old.shards pg.now ≡ true }
         ensures ok { IsOk result → has_group (incs_of self.old.front) pg.now ≡ true }
         ensures unknown { result ≡ Err UnknownGroup → has_group (incs_of self.old.front) pg.now ≡ false }
         ensures wants { result ≡ Err Memory → HasInc self.old.front }
+        ensures wants_there { result ≡ Err Memory → is_some self.old.marks ≡ true
+            → has_group (incs_of self.old.front) pg.now ≡ true }
+        ensures wants_marked { result ≡ Err Memory → is_some self.old.marks ≡ true → is_marked self.old pg.now ≡ true }
         ensures same { HasReadSame self.old self.new }
         ensures marks { result ≢ Err Memory → IsUnmarked pg.now self.old self.new }
     {
@@ -148,13 +151,15 @@ impl ShardState {
     }
 
     /// All that the shard has read says of one of its groups, which needn't be worked out again then. `UnknownGroup`: what was
-    /// read makes no such group. `Memory`: there was none, which is so only where an incremental was read. What the shard has
-    /// read stays.
+    /// read makes no such group. `Memory`: there was none, which is so only where an incremental was read, and, where the marks are
+    /// there, only where what was read makes the group. What the shard has read stays.
     pub fn ask(&mut self, pg: PgId) -> Result<View, AskRefusal>
         requires { is_own self.old.shard self.old.shards pg ≡ true }
         ensures ok { IfOk result (λ view. scratch self.old.front pg ≡ Some view) }
         ensures unknown { result ≡ Err UnknownGroup → has_group (incs_of self.old.front) pg ≡ false }
         ensures wants { result ≡ Err Memory → HasInc self.old.front }
+        ensures wants_there { result ≡ Err Memory → is_some self.old.marks ≡ true
+            → has_group (incs_of self.old.front) pg ≡ true }
         ensures same { HasReadSame self.old self.new }
         ensures marks { result ≢ Err Memory → IsUnmarked pg self.old self.new }
     {
@@ -179,13 +184,15 @@ impl ShardState {
     }
 
     /// Works out up to `max` of the shard's groups that never were worked out, or that something touched since, so that a
-    /// question for one of them finds it done. How many groups of the shard still have to be worked out. What the shard has
-    /// read stays.
+    /// question for one of them finds it done. How many groups of the shard still have to be worked out. It is out of memory only
+    /// where an incremental was read, and, where the marks are there, only where one of them was to be taken away. What the shard
+    /// has read stays.
     pub fn renew(&mut self, max: usize) -> Result<usize, AllocError>
         ensures same { HasReadSame self.old self.new }
         ensures marks { OnOk result (AreUnmarked max self.old self.new) }
         ensures left { IfOk result (λ left. IfSome self.new.marks (λ marks. left ≡ length marks)) }
         ensures wants { OnErr result (HasInc self.old.front) }
+        ensures wants_marked { OnErr result (IfSome self.old.marks (λ marks. 0 < min max (length marks))) }
     {
         self.part.renew(self.owner, self.front.as_slice(), max)
     }

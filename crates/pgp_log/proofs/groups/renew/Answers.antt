@@ -1,13 +1,13 @@
-use Rattle.std.proofs.Common.{◌≡◌, ◌<◌, List, Some, get_or, length, set, refl, sym, ap, ◌∙◌, subst, arith}
+use Rattle.std.proofs.Common.{◌≡◌, ◌<◌, List, Some, true, get_or, length, set, refl, sym, ap, ◌∙◌, subst, arith}
 use Rattle.std.specs.Prelude.{slice_get}
 use Rattle.std.proofs.lemmas.List.{set-get_or}
 use Rattle.std.proofs.lemmas.Option.{slice_get_read}
 use Rattle.pgp_lists.proofs.Lists.{get-set_other}
-use Rattle.pgp_log.specs.Kept.{IsKeptOf, is_marked}
+use Rattle.pgp_log.specs.Kept.{IsKeptOf, is_marked, marks_in}
 use Rattle.pgp_log.specs.declared.kept.Kept.{Kept}
 use Rattle.pgp_log.proofs.GroupsLemmas.{each-kept, ids-set}
 use Rattle.pgp_log.proofs.KeptLemmas.{kept-inc}
-use Rattle.pgp_log.proofs.MarksLemmas.{renewing-leaves, renewing-passes, renewing-renews}
+use Rattle.pgp_log.proofs.MarksLemmas.{renewing-leaves, renewing-passes, renewing-renews, some-marked}
 use Rattle.pgp_log.proofs.SharedLemmas.{on_err}
 use Rattle.pgp_log.proofs.groups.renew.Goals as goal
 use Rattle.pgp_log.proofs.groups.renew.Goals.{then-is_marked+then-more-gt0+in_ok-renew, then-is_marked+else-more-gt0, else-is_marked}
@@ -80,3 +80,16 @@ returns-in_err-renew-clause-wants c =
     let at : slice_get groups i ≡ Some item = slice_get_read groups (length groups) i item refl within c.kept-item.is in
     let was : slice_get c.args.groups.now i ≡ Some item = sym (c.loop-kept.invariant.rest i (omega arith)) ∙ at in
     on_err c.from_residual.result _ (λ log are. kept-inc log item (are.each i item was))
+
+pub returns-in_err-renew-clause-wants_marked : goal.returns-in_err-renew-clause-wants_marked
+returns-in_err-renew-clause-wants_marked c =
+    let first : List Kept = c.args.groups.now in
+    let groups : List Kept = c.loop-kept.groups in
+    let i = c.loop-kept.kept-index in
+    let item : Kept = c.kept-item.result in
+    let within : i < length groups = omega (arith, c.loop-kept-test.true, c.loop-kept.auto.groups) in
+    let at : slice_get groups i ≡ Some item = slice_get_read groups (length groups) i item refl within c.kept-item.is in
+    let was : slice_get first i ≡ Some item = sym (c.loop-kept.invariant.rest i (omega arith)) ∙ at in
+    let marked : is_marked item ≡ true = ap is_marked c.kept-item.is ∙ sym c.is_marked.ensures ∙ c.if-is_marked.true in
+    let some : 0 < length (marks_in first) = some-marked first i item was marked in
+    on_err c.from_residual.result _ (omega (arith, some, c.if-more-gt0.true, c.loop-kept.invariant.renewing.room))

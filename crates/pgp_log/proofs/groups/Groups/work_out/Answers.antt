@@ -6,7 +6,7 @@ use Rattle.pgp_map.specs.Pools.{is_same_group}
 use Rattle.pgp_log.specs.declared.groups.Groups.{Groups}
 use Rattle.pgp_log.specs.declared.kept.Kept.{Kept}
 use Rattle.pgp_log.proofs.GroupsLemmas.{groups-asked, groups-inc, ids-set, keeps-found, kept-at, place-within}
-use Rattle.pgp_log.proofs.MarksLemmas.{marks-asked, marks-elsewhere}
+use Rattle.pgp_log.proofs.MarksLemmas.{marked-at, marks-asked, marks-elsewhere}
 use Rattle.pgp_log.proofs.SharedLemmas.{on_err}
 use Rattle.pgp_log.proofs.groups.Groups.work_out.Goals as goal
 
@@ -40,6 +40,20 @@ returns-in_err-renew-in-Some-clause-are c = λ log are lies long.
 pub returns-in_err-renew-in-Some-clause-wants : goal.returns-in_err-renew-in-Some-clause-wants
 returns-in_err-renew-in-Some-clause-wants c =
     on_err c.from_residual.result _ (λ log are. groups-inc log c.args.self.now c.args.pg.now (ap is_some (sym c.find.ensures ∙ c.in-Some.is)) are)
+
+pub returns-in_err-renew-in-Some-clause-wants_there : goal.returns-in_err-renew-in-Some-clause-wants_there
+returns-in_err-renew-in-Some-clause-wants_there c =
+    on_err c.from_residual.result _ (sym (keeps-found c.args.self.now c.args.pg.now c.requires) ∙ ap is_some (sym c.find.ensures ∙ c.in-Some.is))
+
+pub returns-in_err-renew-in-Some-clause-wants_marked : goal.returns-in_err-renew-in-Some-clause-wants_marked
+returns-in_err-renew-in-Some-clause-wants_marked c =
+    let old : Groups = c.args.self.now in
+    let pg = c.args.pg.now in
+    let place = c.in-Some.place in
+    let kept : Kept = c.index_mut-found.result.now in
+    let is : hash.get is_same_group old.places pg ≡ Some place = sym c.find.ensures ∙ c.in-Some.is in
+    let at : slice_get old.kept.items place ≡ Some kept = kept-at old pg place kept c.requires is c.index_mut-found.ensures.value in
+    on_err c.from_residual.result _ (marked-at old pg place kept c.requires is at ∙ c.in_err-renew-in-Some.ensures.wants)
 
 pub returns-in_ok-renew-in-Some-clause-marks : goal.returns-in_ok-renew-in-Some-clause-marks
 returns-in_ok-renew-in-Some-clause-marks c =
