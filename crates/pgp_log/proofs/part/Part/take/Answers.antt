@@ -12,8 +12,8 @@ returns-in-None-clause-marks c =
     ok-both c.of.result _ _ _
     (λ derived is all. marked-anew c.args.owner (map arc_value c.args.entries.now) derived found none is all) c.of.ensures.is c.of.ensures.marked
 
-pub returns-in_Some-clause-marks : goal.returns-in_Some-clause-marks
-returns-in_Some-clause-marks c =
+pub returns-in-Some-clause-marks : goal.returns-in-Some-clause-marks
+returns-in-Some-clause-marks c =
     let found : Option Derived = c.args.self.now.derived in
     let derived : Derived = c.in-Some.derived in
     let there : found ≡ Some derived = cc in
