@@ -107,6 +107,99 @@ fn is_down_again_once_a_lost_shard_is_destroyed(rt: HostRuntime) -> Result<(), F
     is_answered(&rt, &ONE_DESTROYED)
 }
 
+/// A pool whose first interval may have gone read-write, and then lines with what is answered after each of them.
+struct Outage(&'static [(&'static str, &'static str)]);
+
+/// Whether just this is answered after each line, by one group that is asked each time.
+fn goes_so(alloc: Global, outage: &Outage) -> Result<bool, Fail> {
+    let Outage(steps) = outage;
+    let mut told = Told::begin(alloc, SHARDS)?;
+    told.take_all(alloc, &[SERVED])?;
+    told.answers(alloc, 2, steps)
+}
+
+/// Two of three shards went down, after three entries.
+const TWO_DOWN: &str =
+    r#"{"acting":[0,3,4],"acting_primary":0,"best":null,"blocked_by":[1,2],"count":3,"epoch":3,"first":3,"intervals":[{"acting":[0,1,2],"acting_primary":0,"first":1,"last":2,"min_size":2,"rw":true,"size":3,"up":[null,null,null],"up_primary":null}],"les":0,"missing":[],"ok":"ask","pg":[1,0],"probe":[[0,0],[3,1],[4,2]],"up":[null,null,null],"up_primary":null,"verdict":"Down"}"#;
+
+/// One of them was given up for lost, after four entries.
+const ONE_GIVEN_UP: &str =
+    r#"{"acting":[0,3,4],"acting_primary":0,"best":null,"blocked_by":[],"count":4,"epoch":4,"first":3,"intervals":[{"acting":[0,1,2],"acting_primary":0,"first":1,"last":2,"min_size":2,"rw":true,"size":3,"up":[null,null,null],"up_primary":null}],"les":0,"missing":[],"ok":"ask","pg":[1,0],"probe":[[0,0],[3,1],[4,2]],"up":[null,null,null],"up_primary":null,"verdict":"Waiting"}"#;
+
+static LOST_AND_DESTROYED: Outage = Outage(&[
+    (MOVED, TWO_DOWN),
+    (LOST, ONE_GIVEN_UP),
+    (
+        r#"{"op":"inc","epoch":5,"gone":[1]}"#,
+        r#"{"acting":[0,3,4],"acting_primary":0,"best":null,"blocked_by":[2],"count":5,"epoch":5,"first":3,"intervals":[{"acting":[0,1,2],"acting_primary":0,"first":1,"last":2,"min_size":2,"rw":true,"size":3,"up":[null,null,null],"up_primary":null}],"les":0,"missing":[],"ok":"ask","pg":[1,0],"probe":[[0,0],[3,1],[4,2]],"up":[null,null,null],"up_primary":null,"verdict":"Down"}"#,
+    ),
+    (
+        r#"{"op":"inc","epoch":6,"gone":[2]}"#,
+        r#"{"acting":[0,3,4],"acting_primary":0,"best":null,"blocked_by":[],"count":6,"epoch":6,"first":3,"intervals":[{"acting":[0,1,2],"acting_primary":0,"first":1,"last":2,"min_size":2,"rw":true,"size":3,"up":[null,null,null],"up_primary":null}],"les":0,"missing":[],"ok":"ask","pg":[1,0],"probe":[[0,0],[3,1],[4,2]],"up":[null,null,null],"up_primary":null,"verdict":"Waiting"}"#,
+    ),
+]);
+
+#[test]
+fn follows_shards_that_are_destroyed_after_one_was_lost(rt: HostRuntime) -> Result<(), Fail> {
+    assert!(rt; goes_so(rt.alloc(), &LOST_AND_DESTROYED)?);
+    Ok(())
+}
+
+static LOST_NO_MORE: Outage = Outage(&[
+    (MOVED, TWO_DOWN),
+    (LOST, ONE_GIVEN_UP),
+    (
+        r#"{"op":"inc","epoch":5,"lost":[[1,1]]}"#,
+        r#"{"acting":[0,3,4],"acting_primary":0,"best":null,"blocked_by":[1,2],"count":5,"epoch":5,"first":3,"intervals":[{"acting":[0,1,2],"acting_primary":0,"first":1,"last":2,"min_size":2,"rw":true,"size":3,"up":[null,null,null],"up_primary":null}],"les":0,"missing":[],"ok":"ask","pg":[1,0],"probe":[[0,0],[3,1],[4,2]],"up":[null,null,null],"up_primary":null,"verdict":"Down"}"#,
+    ),
+    (
+        r#"{"op":"inc","epoch":6,"up":[1]}"#,
+        r#"{"acting":[0,3,4],"acting_primary":0,"best":null,"blocked_by":[],"count":6,"epoch":6,"first":3,"intervals":[{"acting":[0,1,2],"acting_primary":0,"first":1,"last":2,"min_size":2,"rw":true,"size":3,"up":[null,null,null],"up_primary":null}],"les":0,"missing":[],"ok":"ask","pg":[1,0],"probe":[[0,0],[1,1],[3,1],[4,2]],"up":[null,null,null],"up_primary":null,"verdict":"Waiting"}"#,
+    ),
+]);
+
+#[test]
+fn follows_a_shard_that_is_lost_and_then_is_so_no_more(rt: HostRuntime) -> Result<(), Fail> {
+    assert!(rt; goes_so(rt.alloc(), &LOST_NO_MORE)?);
+    Ok(())
+}
+
+static TOLD_LOST_TOO_EARLY: Outage = Outage(&[
+    (MOVED, TWO_DOWN),
+    (
+        r#"{"op":"inc","epoch":4,"lost":[[1,1]]}"#,
+        r#"{"acting":[0,3,4],"acting_primary":0,"best":null,"blocked_by":[1,2],"count":4,"epoch":4,"first":3,"intervals":[{"acting":[0,1,2],"acting_primary":0,"first":1,"last":2,"min_size":2,"rw":true,"size":3,"up":[null,null,null],"up_primary":null}],"les":0,"missing":[],"ok":"ask","pg":[1,0],"probe":[[0,0],[3,1],[4,2]],"up":[null,null,null],"up_primary":null,"verdict":"Down"}"#,
+    ),
+]);
+
+#[test]
+fn waits_on_for_a_shard_lost_before_the_interval_began(rt: HostRuntime) -> Result<(), Fail> {
+    assert!(rt; goes_so(rt.alloc(), &TOLD_LOST_TOO_EARLY)?);
+    Ok(())
+}
+
+static UP_AGAIN: Outage = Outage(&[
+    (MOVED, TWO_DOWN),
+    (
+        r#"{"op":"inc","epoch":4,"up":[1]}"#,
+        r#"{"acting":[0,3,4],"acting_primary":0,"best":null,"blocked_by":[],"count":4,"epoch":4,"first":3,"intervals":[{"acting":[0,1,2],"acting_primary":0,"first":1,"last":2,"min_size":2,"rw":true,"size":3,"up":[null,null,null],"up_primary":null}],"les":0,"missing":[],"ok":"ask","pg":[1,0],"probe":[[0,0],[1,1],[3,1],[4,2]],"up":[null,null,null],"up_primary":null,"verdict":"Waiting"}"#,
+    ),
+    (
+        r#"{"op":"info","pg":[1,0],"from":[1,1],"stamp":3,"les":0,"history_les":0,"last_update":[0,0],"log_tail":[0,0],"complete":true}"#,
+        r#"{"acting":[0,3,4],"acting_primary":0,"best":null,"blocked_by":[],"count":5,"epoch":4,"first":3,"intervals":[{"acting":[0,1,2],"acting_primary":0,"first":1,"last":2,"min_size":2,"rw":true,"size":3,"up":[null,null,null],"up_primary":null}],"les":0,"missing":[],"ok":"ask","pg":[1,0],"probe":[[0,0],[1,1],[3,1],[4,2]],"up":[null,null,null],"up_primary":null,"verdict":"Waiting"}"#,
+    ),
+    (
+        r#"{"op":"info","pg":[1,0],"from":[0,0],"stamp":3,"les":0,"history_les":0,"last_update":[0,0],"log_tail":[0,0],"complete":true}"#,
+        r#"{"acting":[0,3,4],"acting_primary":0,"best":[0,0],"blocked_by":[],"count":6,"epoch":4,"first":3,"intervals":[{"acting":[0,1,2],"acting_primary":0,"first":1,"last":2,"min_size":2,"rw":true,"size":3,"up":[null,null,null],"up_primary":null}],"les":0,"missing":[],"ok":"ask","pg":[1,0],"probe":[[0,0],[1,1],[3,1],[4,2]],"up":[null,null,null],"up_primary":null,"verdict":"Waiting"}"#,
+    ),
+]);
+
+#[test]
+fn follows_a_shard_that_comes_up_again(rt: HostRuntime) -> Result<(), Fail> {
+    assert!(rt; goes_so(rt.alloc(), &UP_AGAIN)?);
+    Ok(())
+}
+
 static EARLIER_INFOS: Case = Case(
     COPIES,
     &[RESIZED, EMPTY_0, EMPTY_1, EMPTY_2],

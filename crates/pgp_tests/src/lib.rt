@@ -19,6 +19,8 @@ mod hashes;
 #[cfg(test)]
 mod infos;
 #[cfg(test)]
+mod judged_intervals;
+#[cfg(test)]
 mod log_stream;
 #[cfg(test)]
 mod marks;

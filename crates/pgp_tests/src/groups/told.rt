@@ -125,14 +125,41 @@ impl Told {
         Ok(())
     }
 
+    /// Whether just this is answered after each of these lines, which come after so many entries.
+    pub fn answers(
+        &mut self,
+        alloc: Global,
+        count: usize,
+        steps: &[(&str, &str)],
+    ) -> Result<bool, Fail>
+        requires { AreTold self.old.before self.old.after self.old.group }
+    {
+        let mut count = count;
+        let mut same = true;
+        for step in steps {
+            let (line, words) = *step;
+            self.take_line(alloc, line)?;
+            count = count.saturating_add(1);
+            let text = self.answer(alloc, count)?;
+            same = text.as_slice() == words.as_bytes() && same;
+        }
+        Ok(same)
+    }
+
     /// What is answered of the group after so many entries.
-    pub fn answer(&mut self, alloc: Global, count: usize) -> Result<Vec<u8>, Fail> {
+    pub fn answer(&mut self, alloc: Global, count: usize) -> Result<Vec<u8>, Fail>
+        requires { AreTold self.old.before self.old.after self.old.group }
+        ensures { AreTold self.new.before self.new.after self.new.group }
+    {
         let pg = group()?;
         let view = self.view(count)?;
         Ok(text_of(alloc, Reply::Asked(pg, view))?)
     }
 
-    fn view(&mut self, count: usize) -> Result<View, AllocError> {
+    fn view(&mut self, count: usize) -> Result<View, AllocError>
+        requires { AreTold self.old.before self.old.after self.old.group }
+        ensures { AreTold self.new.before self.new.after self.new.group }
+    {
         match self.group.view(&self.after, count) {
             Ok(view) => Ok(view),
             Err(_) => self.group.view(&self.after, count),
