@@ -23,6 +23,8 @@ mod judged_intervals;
 #[cfg(test)]
 mod log_stream;
 #[cfg(test)]
+mod map_readers;
+#[cfg(test)]
 mod marks;
 #[cfg(test)]
 mod missing;
