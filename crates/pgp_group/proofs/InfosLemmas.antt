@@ -15,8 +15,8 @@ use Rattle.pgp_ids.specs.declared.member.Member.{Member}
 use Rattle.pgp_ids.specs.declared.membership.Membership.{Membership}
 use Rattle.pgp_ids.specs.declared.pg_id.PgId.{PgId}
 use Rattle.pgp_ids.specs.declared.report.Info.{Info}
-use Rattle.pgp_info.specs.Heard.{Heard, with_infos}
-use Rattle.pgp_info.specs.declared.preference.Preference.{Preference}
+use Rattle.pgp_info.specs.Best.{HasDistinctMembers}
+use Rattle.pgp_info.specs.Heard.{with_infos}
 use Rattle.pgp_interval.specs.History.{History, last_place, stepped}
 use Rattle.pgp_interval.specs.Runs.{current_first}
 use Rattle.pgp_interval.specs.SameMembers.{is_same}
@@ -24,6 +24,7 @@ use Rattle.pgp_interval.proofs.Openings.{opening_of-le}
 use Rattle.pgp_interval.proofs.Same.{is_same-eq, eq-is_same}
 use Rattle.pgp_interval.proofs.StepLemmas.{current_first-continues, current_first-ends}
 use Rattle.pgp_lists.proofs.Members.{Contains-here, Contains-later, Contains-cases, Contains-nil, append-contains, contains-append, filter-contains}
+use Rattle.pgp_lists.proofs.Pairs.{AllPairs-nil}
 use Rattle.pgp_map.specs.Devices.{is_up, up_from}
 use Rattle.pgp_map.specs.Map.{epoch}
 use Rattle.pgp_map.specs.MapFault.{then_with}
@@ -33,7 +34,7 @@ use Rattle.pgp_group.specs.Heard.{has_member, heard, last_of_each_member}
 use Rattle.pgp_group.specs.KeptInfos.{counts, KeepsInfos, IsToldBy}
 use Rattle.pgp_group.specs.declared.infos.Infos.{Infos}
 use Rattle.pgp_group.proofs.GrowthLemmas.{epoch-snoc, history-last}
-use Rattle.pgp_group.proofs.HeardLemmas.{last_of-contains, last_of-snoc}
+use Rattle.pgp_group.proofs.HeardLemmas.{HasDistinctMembers-last_of, last_of-contains, last_of-snoc}
 use Rattle.pgp_group.proofs.LaterLemmas.{counts_by, counts-after, outlasts, Moves}
 use Rattle.pgp_group.proofs.Lists.{filter-agree, filter-both, filter-each}
 
@@ -104,6 +105,7 @@ counts-same g after incs_is history_is =
 pub KeepsInfos-same : (g after : GroupLog) (kept : Infos) → infos after ≡ infos g → incs after ≡ incs g → after.history ≡ g.history → KeepsInfos g kept → KeepsInfos after kept
 KeepsInfos-same g after kept told incs_is history_is is = record {
   all_are = is.all_are ∙ sym told;
+  distinct = is.distinct;
   les_is = is.les_is ∙ ap (λ (l : List Info). fold max 0 (map (λ (i : Info). i.history_les) l)) (sym told);
   seen_within = subst (λ (l : List Info). kept.seen ≤ length l) (sym told) is.seen_within;
   each_sent = λ settled info there.
@@ -117,17 +119,24 @@ KeepsInfos-same g after kept told incs_is history_is is = record {
 
 -- ---- none yet
 
+distinct-nothing : (told : List Info) → told ≡ [] → HasDistinctMembers told
+distinct-nothing told nothing = subst HasDistinctMembers (sym nothing) (AllPairs-nil (λ a b. a.member ≢ b.member))
+
+heard-forgotten : (g : GroupLog) (kept : Infos) → kept.seen ≡ 0 → kept.heard.infos ≡ []
+    → last_of_each_member (filter (counts g) (take kept.seen (infos g))) ≡ filter (counts g) kept.heard.infos
+heard-forgotten g kept seen heard' =
+    ap (λ (n : ℕ). last_of_each_member (filter (counts g) (take n (infos g)))) seen
+    ∙ ap (filter (counts g)) (sym heard')
+
 pub KeepsInfos-none : (g : GroupLog) (kept : Infos) → infos g ≡ [] → kept.all.items ≡ [] → kept.les ≡ 0 → kept.seen ≡ 0 → kept.heard.infos ≡ [] → KeepsInfos g kept
 KeepsInfos-none g kept none all les' seen heard' = record {
   all_are = all ∙ sym none;
+  distinct = distinct-nothing kept.heard.infos heard';
   les_is = les' ∙ ap (λ (l : List Info). fold max 0 (map (λ (i : Info). i.history_les) l)) (sym none);
   seen_within = omega (arith, seen);
   each_sent = λ settled info there. absurd (Contains-nil info (subst (λ (l : List Info). Contains l info) none there));
   heard_sent = λ settled info there. absurd (Contains-nil info (subst (λ (l : List Info). Contains l info) heard' there));
-  heard_are = λ settled.
-      ap (λ (l : List Info). last_of_each_member (filter (counts g) (take kept.seen l))) none
-      ∙ ap (λ (n : ℕ). last_of_each_member (filter (counts g) (take n []))) seen
-      ∙ ap (filter (counts g)) (sym heard');
+  heard_are = λ settled. heard-forgotten g kept seen heard';
 }
 
 -- ---- one more
@@ -136,6 +145,7 @@ pub KeepsInfos-new : (g after : GroupLog) (info : Info) (at : ℕ) (old kept : I
     → kept.all.items ≡ old.all.items ++ info ∷ [] → kept.les ≡ max old.les info.history_les → kept.seen ≡ old.seen → kept.heard.infos ≡ old.heard.infos → kept.ahead ≡ (old.ahead || nat_lt at info.stamp)
     → KeepsInfos after kept
 KeepsInfos-new g after info at old kept here told is all les' seen heard' ahead = record {
+  distinct = subst HasDistinctMembers (sym heard') is.distinct;
   all_are = all ∙ ap (λ (l : List Info). l ++ info ∷ []) is.all_are ∙ sym told.infos_are;
   les_is = les' ∙ ap (λ (e : ℕ). max e info.history_les) is.les_is
       ∙ sym (fold-append max 0 (map (λ (i : Info). i.history_les) (infos g)) (info.history_les ∷ []))
@@ -186,6 +196,7 @@ pub KeepsInfos-inc : (g after : GroupLog) (inc : Incremental) (kept : Infos) →
     → KeepsInfos g kept → KeepsInfos after kept
 KeepsInfos-inc g after inc kept told incs_is next moved is = record {
   all_are = is.all_are ∙ sym told;
+  distinct = is.distinct;
   les_is = is.les_is ∙ ap (λ (l : List Info). fold max 0 (map (λ (i : Info). i.history_les) l)) (sym told);
   seen_within = subst (λ (l : List Info). kept.seen ≤ length l) (sym told) is.seen_within;
   each_sent = λ settled info there. later info (is.each_sent settled info (subst (λ (l : List Info). Contains l info) told there));
@@ -228,8 +239,20 @@ heard-more g kept is settled =
     ∙ ap last_of_each_member (sym (filter-append (counts g) (take kept.seen (infos g)) (drop kept.seen (infos g))))
     ∙ ap (λ (l : List Info). last_of_each_member (filter (counts g) l)) (take-append-drop kept.seen (infos g))
 
-pub KeepsInfos-heard : (g : GroupLog) (old kept : Infos) → KeepsInfos g old → kept.all.items ≡ old.all.items → kept.les ≡ old.les → kept.ahead ≡ old.ahead → kept.seen ≡ length old.all.items → kept.heard.infos ≡ heard g → KeepsInfos g kept
-KeepsInfos-heard g old kept is all les' ahead seen heard' =
+-- the same, where those are dropped that count no more
+pub heard-on : (g : GroupLog) (kept : Infos) → KeepsInfos g kept → kept.ahead ≡ false
+    → with_infos (filter (counts g) (drop kept.seen (infos g))) (filter (counts g) kept.heard.infos) ≡ heard g
+heard-on g kept is settled =
+    let front : List Info = filter (counts g) (take kept.seen (infos g)) in
+    let back : List Info = filter (counts g) (drop kept.seen (infos g)) in
+    ap (with_infos back) (sym (is.heard_are settled))
+    ∙ with_infos-last back front
+    ∙ ap last_of_each_member (sym (filter-append (counts g) (take kept.seen (infos g)) (drop kept.seen (infos g))))
+    ∙ ap (λ (l : List Info). last_of_each_member (filter (counts g) l)) (take-append-drop kept.seen (infos g))
+
+pub KeepsInfos-heard : (g : GroupLog) (old kept : Infos) → KeepsInfos g old → kept.all.items ≡ old.all.items → kept.les ≡ old.les → kept.ahead ≡ old.ahead → kept.seen ≡ length old.all.items
+    → kept.heard.infos ≡ heard g → KeepsInfos g kept
+KeepsInfos-heard g old kept is all les' ahead seen infos_are =
     let long : kept.seen ≡ length (infos g) = seen ∙ ap (λ (l : List Info). length l) is.all_are in
     let whole : take kept.seen (infos g) ≡ infos g = take_all kept.seen (infos g) (omega (arith, long)) in
     let among : (info : Info) → Contains (heard g) info → Contains (infos g) info × (counts g info ≡ true) = λ info there.
@@ -237,25 +260,41 @@ KeepsInfos-heard g old kept is all les' ahead seen heard' =
     record {
       all_are = all ∙ is.all_are;
       les_is = les' ∙ is.les_is;
+      distinct = subst HasDistinctMembers (sym infos_are) (HasDistinctMembers-last_of (filter (counts g) (infos g)));
       seen_within = omega (arith, long);
       each_sent = λ settled. is.each_sent (sym ahead ∙ settled);
-      heard_sent = λ settled info there. is.each_sent (sym ahead ∙ settled) info (among info (subst (λ (l : List Info). Contains l info) heard' there)).0;
+      heard_sent = λ settled info there. is.each_sent (sym ahead ∙ settled) info (among info (subst (λ (l : List Info). Contains l info) infos_are there)).0;
       heard_are = λ settled.
           ap (λ (l : List Info). last_of_each_member (filter (counts g) l)) whole
           ∙ sym (filter-each (counts g) (heard g) (λ info there. (among info there).1))
-          ∙ ap (filter (counts g)) (sym heard');
+          ∙ ap (filter (counts g)) (sym infos_are);
     }
 
+-- ---- after an error
+
+-- nothing is looked at any more
+pub KeepsInfos-forgotten : (g : GroupLog) (old kept : Infos) → KeepsInfos g old → kept.all.items ≡ old.all.items → kept.les ≡ old.les → kept.ahead ≡ old.ahead → kept.seen ≡ 0 → kept.heard.infos ≡ [] → KeepsInfos g kept
+KeepsInfos-forgotten g old kept is all les' ahead seen heard' = record {
+  all_are = all ∙ is.all_are;
+  les_is = les' ∙ is.les_is;
+  distinct = distinct-nothing kept.heard.infos heard';
+  seen_within = omega (arith, seen);
+  each_sent = λ settled. is.each_sent (sym ahead ∙ settled);
+  heard_sent = λ settled info there. absurd (Contains-nil info (subst (λ (l : List Info). Contains l info) heard' there));
+  heard_are = λ settled. heard-forgotten g kept seen heard';
+}
+
 -- the infos as they were, also where they are kept elsewhere
-pub KeepsInfos-moved : (g : GroupLog) (old kept : Infos) → KeepsInfos g old → kept.all.items ≡ old.all.items → kept.les ≡ old.les → kept.seen ≡ old.seen → kept.heard ≡ old.heard → kept.ahead ≡ old.ahead → KeepsInfos g kept
+pub KeepsInfos-moved : (g : GroupLog) (old kept : Infos) → KeepsInfos g old → kept.all.items ≡ old.all.items → kept.les ≡ old.les → kept.seen ≡ old.seen → kept.heard.infos ≡ old.heard.infos → kept.ahead ≡ old.ahead → KeepsInfos g kept
 KeepsInfos-moved g old kept is all les' seen heard' ahead = record {
   all_are = all ∙ is.all_are;
   les_is = les' ∙ is.les_is;
+  distinct = subst HasDistinctMembers (sym heard') is.distinct;
   seen_within = subst (λ (n : ℕ). n ≤ length (infos g)) (sym seen) is.seen_within;
   each_sent = λ settled. is.each_sent (sym ahead ∙ settled);
-  heard_sent = λ settled info there. is.heard_sent (sym ahead ∙ settled) info (subst (λ (h : Heard Preference). Contains h.infos info) heard' there);
+  heard_sent = λ settled info there. is.heard_sent (sym ahead ∙ settled) info (subst (λ (l : List Info). Contains l info) heard' there);
   heard_are = λ settled.
       ap (λ (n : ℕ). last_of_each_member (filter (counts g) (take n (infos g)))) seen
       ∙ is.heard_are (sym ahead ∙ settled)
-      ∙ ap (λ (h : Heard Preference). filter (counts g) h.infos) (sym heard');
+      ∙ ap (filter (counts g)) (sym heard');
 }

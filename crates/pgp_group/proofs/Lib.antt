@@ -14,6 +14,7 @@ pub mod UntoldLemmas
 pub mod SameViewLemmas
 pub mod UntouchedLemmas
 pub mod InterleavingLemmas
+pub mod CountedLemmas
 pub mod InfosLemmas
 pub mod LogsLemmas
 pub mod ReportsLemmas

@@ -1,22 +1,28 @@
 -- Statuses as the entries of their devices are renewed, one after another.
-use Rattle.std.proofs.Common.{◌≡◌, ℕ, ◌+◌, ◌<◌, List, [], ◌∷◌, ◌++◌, Bool, true, false, ◌||◌, nat_eq, length, refl, ap, sym, ◌∙◌, subst, inl, inr, eqb-true, eq-eqb, take, get_or, if◌then◌else◌}
+use Rattle.std.proofs.Common.{arith, ◌≡◌, ℕ, ◌+◌, ◌<◌, List, [], ◌∷◌, ◌++◌, Bool, true, false, ◌||◌, nat_eq, length, refl, ap, sym, ◌∙◌, subst, inl, inr, eqb-true, eq-eqb, take, get_or, if◌then◌else◌}
 use Rattle.std.specs.List.{list_any}
 use Rattle.std.proofs.Math.Bool.{or-false, or-true}
 use Rattle.std.proofs.lemmas.Bool.{cases_Bool, false_from_ne_true}
 use Rattle.std.proofs.lemmas.List.{take_more}
 use Rattle.std.proofs.lemmas.List.Folds.{list_any-append}
 use Rattle.pgp_ids.specs.declared.past.Past.{Past}
-use Rattle.pgp_map.specs.Held.{held_exists, held_lost_at, held_up}
 use Rattle.pgp_map.specs.declared.map.OsdMap.{OsdMap}
 use Rattle.pgp_prior.specs.Better.{is_no_worse}
 use Rattle.pgp_prior.specs.Changes.{is_no_better, IsChange}
-use Rattle.pgp_sets.specs.Status.{held_status, status_by}
+use Rattle.pgp_sets.specs.Status.{held_status}
 use Rattle.pgp_sets.specs.declared.status.Status.{Status}
 use Rattle.pgp_sets.specs.declared.status.Status.TheVariants.{Up, Gone, Lost, Down}
-use Rattle.pgp_group.specs.Noted.{renoted, has_noted, status_noted, up_of, any_change, HasEachMember, GivesEach}
+use Rattle.pgp_group.specs.Noted.{renoted, has_noted, status_noted, up_of, allows, HasEachMember, GivesEach}
 use Rattle.pgp_group.specs.declared.noted.EachUp.{EachUp}
 use Rattle.pgp_group.specs.declared.noted.Noted.{Noted}
+use Rattle.pgp_group.specs.declared.noted.Turn.{Turn}
+use Rattle.pgp_group.specs.declared.noted.Turn.TheVariants as turn
 use Rattle.pgp_group.proofs.IndexLemmas.{AgreeOnEach}
+
+-- ---- a status that stays is allowed by any turn
+
+pub allows-same : (kind : Turn) (status : Status) → allows kind status status ≡ true
+allows-same kind status = grind arith
 
 -- ---- any change of a device is one to up, and then one from up
 
@@ -43,23 +49,13 @@ from_up Gone = refl
 from_up Lost = refl
 from_up Down = refl
 
-module _ (by_place : Bool) (osd : ℕ) (told old new : ℕ → ℕ → Status) (past : List Past) (change : IsChange any_change by_place osd told old new past) where
+module _ (by_place : Bool) (osd : ℕ) (told old new : ℕ → ℕ → Status) (past : List Past) (change : IsChange (allows turn.Again) by_place osd told old new past) where
   pub change-up : (all : EachUp) → IsChange is_no_worse by_place osd (up_of all) old (raised osd old) past
   change-up all interval there = record {
     of_it = λ m acts same. raised-it osd old interval.first;
     allowed_of_it = λ m acts same. ap (is_no_worse (old osd interval.first)) (raised-it osd old interval.first) ∙ to_up (old osd interval.first);
     of_others = λ m acts apart. raised-other osd m.osd old interval.first apart;
   }
-
-  -- where it is told that the device is up
-  pub change-to_up : (all : EachUp) → ((first : ℕ) → told osd first ≡ Up) → IsChange is_no_worse by_place osd (up_of all) old new past
-  change-to_up all up interval there =
-      let is = change interval there in
-      record {
-        of_it = λ m acts same. is.of_it m acts same ∙ up interval.first;
-        allowed_of_it = λ m acts same. ap (is_no_worse (old osd interval.first)) (is.of_it m acts same ∙ up interval.first) ∙ to_up (old osd interval.first);
-        of_others = is.of_others;
-      }
 
   pub change-from_up : IsChange is_no_better by_place osd told (raised osd old) new past
   change-from_up interval there =
@@ -69,9 +65,6 @@ module _ (by_place : Bool) (osd : ℕ) (told old new : ℕ → ℕ → Status) (
         allowed_of_it = λ m acts same. ap (λ (s : Status). is_no_better s (new osd interval.first)) (raised-it osd old interval.first) ∙ from_up (new osd interval.first);
         of_others = λ m acts apart. is.of_others m acts apart ∙ sym (raised-other osd m.osd old interval.first apart);
       }
-
-pub held-up : (map : OsdMap) (osd first : ℕ) → held_up map osd ≡ true → held_status map osd first ≡ Up
-held-up map osd first up = ap (λ (b : Bool). status_by b (held_exists map osd) (held_lost_at map osd) first) up
 
 -- ---- the devices of the entries so far have the statuses of the map
 
@@ -99,13 +92,23 @@ module _ (map : OsdMap) (noted : List Noted) (i : ℕ) (entry : Noted) (within :
       ap (λ (b : Bool). taken map status b q first)
       (has-more noted i entry q within item ∙ ap (λ b. has_noted q (take i noted) || b) (false_from_ne_true (nat_eq entry.osd q) (λ hit. apart (eqb-true entry.osd q hit))) ∙ or-false (has_noted q (take i noted)))
 
-  -- where the device's entry says something else than the map
-  pub partly-change : (by_place : Bool) (past : List Past) → IsChange any_change by_place entry.osd (held_status map) (partly map (take i noted) status) (partly map (take (i + 1) noted) status) past
-  partly-change by_place past interval there = record {
+  -- where the device's entry says something else than the map, and its statuses turned so
+  pub partly-change : (by_place : Bool) (past : List Past) (kind : Turn) → ((first : ℕ) → allows kind (status_noted entry first) (held_status map entry.osd first) ≡ true) → GivesEach by_place status past noted
+      → IsChange (allows kind) by_place entry.osd (held_status map) (partly map (take i noted) status) (partly map (take (i + 1) noted) status) past
+  partly-change by_place past kind turned gives interval there = record {
     of_it = λ m acts same. partly-it entry.osd interval.first refl;
-    allowed_of_it = λ m acts same. refl;
+    allowed_of_it = λ m acts same.
+        let was : status entry.osd interval.first ≡ status_noted entry interval.first =
+        ap (λ q. status q interval.first) (sym same) ∙ gives interval m entry there acts (i, within, sym item) (sym same) in
+        ap (allows kind (partly map (take i noted) status entry.osd interval.first)) (partly-it entry.osd interval.first refl)
+        ∙ allowed (has_noted entry.osd (take i noted)) interval.first (ap (λ s. allows kind s (held_status map entry.osd interval.first)) was ∙ turned interval.first);
     of_others = λ m acts apart. partly-other m.osd interval.first (λ same. apart (sym same));
   }
+    where
+      allowed : (b : Bool) (first : ℕ) → allows kind (status entry.osd first) (held_status map entry.osd first) ≡ true
+          → allows kind (taken map status b entry.osd first) (held_status map entry.osd first) ≡ true
+      allowed true first is = allows-same kind (held_status map entry.osd first)
+      allowed false first is = is
 
   -- where it says the same
   pub partly-same : (by_place : Bool) (past : List Past) → renoted map entry ≡ entry → GivesEach by_place status past noted

@@ -1,6 +1,7 @@
 -- What is kept of the infos of a group while more come (this project's own choice).
 use Rattle.std.specs.Prelude.{◌≡◌, ◌≤◌, [], ◌∷◌, ◌++◌, Bool, false, length, take, filter, Contains}
 use Rattle.pgp_ids.specs.declared.report.Info.{Info}
+use Rattle.pgp_info.specs.Best.{HasDistinctMembers}
 use Rattle.pgp_map.specs.Map.{epoch}
 use Rattle.pgp_group.specs.GroupLog.{GroupLog, incs, infos}
 use Rattle.pgp_group.specs.Heard.{is_counted, last_of_each_member, les}
@@ -10,12 +11,13 @@ use Rattle.pgp_group.specs.declared.infos.Infos.{Infos}
 abbrev pub counts : GroupLog → Info → Bool
 counts g info = is_counted g info.member info.stamp
 
--- all infos are kept, with the last epoch in which the group is known to have begun to serve. Where each was sent in this
--- epoch or before, those are kept of which the ones that count are the last of their members, of the infos that were
--- looked at
+-- all infos are kept, with the last epoch in which the group is known to have begun to serve, and some infos of distinct
+-- members as heard. Where each was sent in this epoch or before, those are kept as heard of which the ones that count are
+-- the last of their members, of the infos that were looked at
 pub record KeepsInfos (g : GroupLog) (kept : Infos) : Type 0 where
   pub all_are : kept.all.items ≡ infos g
   pub les_is : kept.les ≡ les g
+  pub distinct : HasDistinctMembers kept.heard.infos
   pub seen_within : kept.seen ≤ length (infos g)
   pub each_sent : kept.ahead ≡ false → (info : Info) → Contains (infos g) info → info.stamp ≤ epoch (incs g)
   pub heard_sent : kept.ahead ≡ false → (info : Info) → Contains kept.heard.infos info → info.stamp ≤ epoch (incs g)

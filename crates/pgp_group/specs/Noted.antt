@@ -5,12 +5,16 @@ use Rattle.pgp_ids.specs.declared.member.Member.{Member}
 use Rattle.pgp_ids.specs.declared.past.Past.{Past}
 use Rattle.pgp_map.specs.Held.{held_exists, held_up, held_lost_at}
 use Rattle.pgp_map.specs.declared.map.OsdMap.{OsdMap}
+use Rattle.pgp_prior.specs.Better.{is_no_worse}
+use Rattle.pgp_prior.specs.Changes.{is_no_better, is_same_or_gone}
 use Rattle.pgp_prior.specs.Members.{members_of}
 use Rattle.pgp_sets.specs.Status.{status_by}
 use Rattle.pgp_sets.specs.declared.status.Status.{Status}
 use Rattle.pgp_sets.specs.declared.status.Status.TheVariants.{Up}
 use Rattle.pgp_group.specs.declared.noted.Noted.{Noted}
 use Rattle.pgp_group.specs.declared.noted.EachUp.{EachUp}
+use Rattle.pgp_group.specs.declared.noted.Turn.{Turn}
+use Rattle.pgp_group.specs.declared.noted.Turn.TheVariants as turn
 
 -- what the map says of the device
 abbrev pub noted_of : OsdMap → ℕ → Noted
@@ -36,9 +40,12 @@ status_noted entry first = status_by entry.up entry.there entry.lost_at first
 abbrev pub up_of : EachUp → ℕ → ℕ → Status
 up_of all osd first = Up
 
--- a status may change to any
-abbrev pub any_change : Status → Status → Bool
-any_change old new = true
+-- a turn of this kind may change the first status to the second
+abbrev pub allows : Turn → Status → Status → Bool
+allows turn.Better = is_no_worse
+allows turn.Worse = is_no_better
+allows turn.Gone = is_same_or_gone
+allows turn.Again = λ old new. true
 
 -- each acting member of these intervals is noted
 abbrev pub HasEachMember : Bool → List Past → List Noted → Type 0

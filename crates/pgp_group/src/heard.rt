@@ -1,8 +1,9 @@
 //! Whom a group has heard.
 
-ghost use Rattle.std.specs.Prelude.{◌≡◌, not, slice_get, filter, IfOk, OnOk};
+ghost use Rattle.std.specs.Prelude.{◌≡◌, not, false, Contains, slice_get, filter, IfOk, IfSome, IfNone, OnOk};
 ghost use Rattle.std.specs.List.{list_any};
 ghost use Rattle.pgp_prior.specs.Members.{members_of};
+ghost use Rattle.pgp_info.specs.Best.{HasDistinctMembers};
 ghost use Rattle.pgp_info.specs.Heard.{with_infos};
 ghost use Rattle.pgp_group.specs.GroupLog.{GroupLog};
 ghost use Rattle.pgp_group.specs.Heard.{has_member, last_of_each_member};
@@ -55,6 +56,30 @@ pub(crate) fn hear(
         }
     }
     Ok(())
+}
+
+/// Drops the infos that don't count.
+pub(crate) fn forget_uncounted(best: &mut Best<Preference>, map: &OsdMap, first: Epoch)
+    ensures { (g : GroupLog) → IsPresent g map.now first → HasDistinctMembers best.old.infos
+        → best.new ≡ record best.old { infos = filter (counts g) best.old.infos } }
+{
+    while let Some(info) = uncounted(best.infos(), map, first) {
+        best.drop_member(&info.member);
+    }
+}
+
+/// The first of these infos that doesn't count.
+fn uncounted(infos: &[Info], map: &OsdMap, first: Epoch) -> Option<Info>
+    ensures there { IfSome result (Contains infos.now) }
+    ensures uncounted { IfSome result (λ info. (g : GroupLog) → IsPresent g map.now first → counts g info ≡ false) }
+    ensures none { IfNone result ((g : GroupLog) → IsPresent g map.now first → filter (counts g) infos.now ≡ infos.now) }
+{
+    for info in infos {
+        if !is_counted(map, first, info.member, info.stamp) {
+            return Some(*info);
+        }
+    }
+    None
 }
 
 /// Whether one of these members wasn't heard.

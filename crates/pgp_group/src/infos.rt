@@ -1,13 +1,13 @@
 //! The infos of a group, and whom it has heard by them.
 
-ghost use Rattle.std.specs.Prelude.{◌≡◌, ◌≤◌, ◌||◌, [], nat_lt, max, length, drop, IfOk, OnOk, OnErr};
+ghost use Rattle.std.specs.Prelude.{◌≡◌, ◌≤◌, ◌||◌, [], true, false, nat_lt, max, length, drop, IfOk, OnOk, OnErr};
 ghost use Rattle.pgp_map.specs.Map.{epoch as epoch_of};
 ghost use Rattle.pgp_group.specs.GroupLog.{GroupLog, incs, infos};
 ghost use Rattle.pgp_group.specs.Heard.{heard};
 ghost use Rattle.pgp_group.specs.KeptInfos.{KeepsInfos, IsToldBy};
 ghost use Rattle.pgp_group.specs.Present.{IsPresent};
 
-use super::heard::{hear, heard};
+use super::heard::{forget_uncounted, hear, heard};
 use pgp_ids::{Epoch, Info};
 use pgp_info::{Best, Preference};
 use pgp_map::OsdMap;
@@ -16,14 +16,16 @@ use std::alloc::{AllocError, Global};
 /// All infos of a group, and those by which members are heard.
 ///
 /// Each info is judged once when it is looked at first: one that doesn't count then never counts. Those that counted are
-/// kept, the last of each member, and judged again at each look, since a device may have gone down or an interval ended.
+/// kept from look to look, the last of each member with the best of them. A look puts those that came since, and drops those
+/// that count no more, since a device may have gone down or an interval ended. Only where the pool prefers other copies than
+/// before, since another member leads, the best is found anew.
 #[derive(Drop)]
 pub(crate) struct Infos {
     /// All infos, counted or not, in the order in which they came.
     all: Vec<Info>,
     /// The last epoch in which the group is known to have begun to serve, by all infos.
     les: Epoch,
-    /// Of the infos that were looked at, the last of each member that counted then.
+    /// Of the infos that were looked at, the last of each member that counted then, and the best of these.
     heard: Best<Preference>,
     /// How many were looked at.
     seen: usize,
@@ -73,8 +75,47 @@ impl Infos {
     }
 
     /// Looks at the infos that came since the last look, and again at those that are kept, by the last map and the first
-    /// epoch of the current interval. After an error the infos are as before.
+    /// epoch of the current interval. After an error the infos are as before, or all will be looked at again.
     pub(crate) fn look(
+        &mut self,
+        alloc: Global,
+        map: &OsdMap,
+        first: Epoch,
+        prefer: Preference,
+    ) -> Result<(), AllocError>
+        ensures ok { OnOk result ((g : GroupLog) → IsPresent g map.now first → KeepsInfos g self.old
+            → self.new.heard ≡ record { prefer = prefer; infos = heard g }) }
+        ensures kept { (g : GroupLog) → IsPresent g map.now first → KeepsInfos g self.old → KeepsInfos g self.new }
+    {
+        if !self.goes_on(&prefer) {
+            return self.hear_anew(alloc, map, first, prefer);
+        }
+        // It takes no memory to hear nobody.
+        let nobody = heard(alloc, map, first, &[], prefer)?;
+        forget_uncounted(&mut self.heard, map, first);
+        let unseen = unseen(self.all.as_slice(), self.seen);
+        match hear(&mut self.heard, map, first, unseen) {
+            Ok(()) => {
+                self.seen = self.told();
+                Ok(())
+            }
+            Err(fault) => {
+                self.forget(nobody);
+                Err(fault)
+            }
+        }
+    }
+
+    /// Whether the best that is kept can go on being kept, by this preference.
+    fn goes_on(&self, prefer: &Preference) -> bool
+        ensures settled { result ≡ true → self.now.ahead ≡ false }
+        ensures same { result ≡ true → prefer.now ≡ self.now.heard.prefer }
+    {
+        !self.ahead && is_same(prefer, self.heard.prefer())
+    }
+
+    /// Finds the best of those who are heard anew, by another preference.
+    fn hear_anew(
         &mut self,
         alloc: Global,
         map: &OsdMap,
@@ -91,7 +132,7 @@ impl Infos {
         Ok(())
     }
 
-    /// Whom the group has heard.
+    /// Whom the group has heard, by this preference.
     fn heard_by(
         &self,
         alloc: Global,
@@ -102,12 +143,25 @@ impl Infos {
         ensures { IfOk result (λ best. (g : GroupLog) → IsPresent g map.now first → KeepsInfos g self.now
             → best ≡ record { prefer = prefer; infos = heard g }) }
     {
+        let all = self.all.as_slice();
         if self.ahead {
-            return heard(alloc, map, first, self.all.as_slice(), prefer);
+            return heard(alloc, map, first, all, prefer);
         }
         let mut best = heard(alloc, map, first, self.heard.infos(), prefer)?;
-        hear(&mut best, map, first, self.unseen())?;
+        hear(&mut best, map, first, unseen(all, self.seen))?;
         Ok(best)
+    }
+
+    /// Forgets what was looked at.
+    fn forget(&mut self, nobody: Best<Preference>)
+        ensures all { self.new.all.items ≡ self.old.all.items }
+        ensures les { self.new.les ≡ self.old.les }
+        ensures heard { self.new.heard ≡ nobody }
+        ensures seen { self.new.seen ≡ 0 }
+        ensures ahead { self.new.ahead ≡ self.old.ahead }
+    {
+        self.heard = nobody;
+        self.seen = 0;
     }
 
     /// How many infos there are.
@@ -116,19 +170,25 @@ impl Infos {
     {
         self.all.len()
     }
+}
 
-    /// The infos that weren't looked at.
-    fn unseen(&self) -> &[Info]
-        ensures { self.now.seen ≤ length self.now.all.items → result.now ≡ drop self.now.seen self.now.all.items }
-    {
-        let all = self.all.as_slice();
-        if self.seen <= all.len() {
-            let (_, unseen) = all.split_at(self.seen);
-            unseen
-        } else {
-            all
-        }
+/// The infos after those that were looked at.
+fn unseen(all: &[Info], seen: usize) -> &[Info]
+    ensures { seen ≤ length all.now → result.now ≡ drop seen all.now }
+{
+    if seen <= all.len() {
+        let (_, unseen) = all.split_at(seen);
+        unseen
+    } else {
+        all
     }
+}
+
+/// Whether both prefer the same copies.
+fn is_same(a: &Preference, b: &Preference) -> bool
+    ensures { result ≡ true → a.now ≡ b.now }
+{
+    a == b
 }
 
 /// The later one of two epochs.

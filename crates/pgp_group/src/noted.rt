@@ -9,7 +9,7 @@ ghost use Rattle.pgp_prior.specs.IndexOf.{Basis, IsIndexOf};
 ghost use Rattle.pgp_prior.specs.Members.{members_of};
 ghost use Rattle.pgp_sets.specs.Status.{held_status};
 ghost use Rattle.pgp_sets.specs.declared.status.Status.{Status};
-ghost use Rattle.pgp_group.specs.Noted.{noted_of, renoted_all, has_noted, any_change, HasEachMember, GivesEach, AreOfMap};
+ghost use Rattle.pgp_group.specs.Noted.{noted_of, renoted_all, has_noted, status_noted, allows, HasEachMember, GivesEach, AreOfMap};
 
 use pgp_code::AnyCode;
 use pgp_ids::{Epoch, OsdId, Past};
@@ -87,7 +87,40 @@ fn note(noted: &mut Vec<Noted>, osd: OsdId, map: &OsdMap) -> Result<(), AllocErr
     Ok(())
 }
 
-/// Notes what the map says now of each device that is noted, and lets the index take each status that changed.
+/// How the statuses of a device changed from one look to the next.
+#[derive(Clone, Copy)]
+pub(crate) enum Turn {
+    /// It came up, or was given up for lost.
+    Better,
+    /// It went down, and may have been given up or destroyed since, or it counts as lost no more.
+    Worse,
+    /// It was down or lost, and was destroyed.
+    Gone,
+    /// It was destroyed, made again, and went down since.
+    Again,
+}
+
+/// How the statuses of the device changed from the one entry to the other.
+fn turn_of(was: &Noted, now: &Noted) -> Turn
+    ensures { (first : ℕ) → allows result (status_noted was.now first) (status_noted now.now first) ≡ true }
+{
+    if now.up {
+        Turn::Better
+    } else if was.up {
+        Turn::Worse
+    } else if !now.there {
+        Turn::Gone
+    } else if !was.there {
+        Turn::Again
+    } else if now.lost_at < was.lost_at {
+        Turn::Worse
+    } else {
+        Turn::Better
+    }
+}
+
+/// Notes what the map says now of each device that is noted, and tells the index of each device of which it says something
+/// else.
 pub(crate) fn renew_all(noted: &mut [Noted], index: &mut PriorIndex<AnyCode>, map: &OsdMap)
     ensures noted { noted.new ≡ renoted_all map.now noted.old }
     ensures index { (b : Basis Code) → IsIndexOf enough_of is_by_place b index.old
@@ -97,21 +130,27 @@ pub(crate) fn renew_all(noted: &mut [Noted], index: &mut PriorIndex<AnyCode>, ma
     for entry in noted.iter_mut() {
         let now = Noted::of(map, entry.osd);
         if !is_same(&now, entry) {
-            renew(index, entry.osd, map);
+            renew(index, turn_of(entry, &now), entry.osd, map);
             *entry = now;
         }
     }
 }
 
-/// Lets the index take the status of the device: any may have risen to up, and from there fallen to the one that it has.
-fn renew(index: &mut PriorIndex<AnyCode>, osd: OsdId, map: &OsdMap)
+/// Lets the index take the statuses of the device, by the call for how they changed. Those of a device that was made again
+/// rose to up, and fell from there.
+fn renew(index: &mut PriorIndex<AnyCode>, turn: Turn, osd: OsdId, map: &OsdMap)
     ensures { (b : Basis Code) (status : ℕ → ℕ → Status) → IsIndexOf enough_of is_by_place b index.old
-        → IsChange any_change (is_by_place b.code) osd (held_status map.now) b.status status b.past
+        → IsChange (allows turn) (is_by_place b.code) osd (held_status map.now) b.status status b.past
         → IsIndexOf enough_of is_by_place (record b { status = status }) index.new }
 {
-    index.device_better(osd, &EachUp);
-    if !map.is_up(osd) {
-        index.device_worse(osd, map);
+    match turn {
+        Turn::Better => index.device_better(osd, map),
+        Turn::Worse => index.device_worse(osd, map),
+        Turn::Gone => index.device_gone(osd, map),
+        Turn::Again => {
+            index.device_better(osd, &EachUp);
+            index.device_worse(osd, map);
+        }
     }
 }
 

@@ -72,6 +72,13 @@ impl<P: Prefer> Best<P> {
         Ok(())
     }
 
+    /// Which copies are preferred.
+    pub fn prefer(&self) -> &P
+        ensures { result.now ≡ self.now.prefer }
+    {
+        &self.prefer
+    }
+
     /// The infos that are kept, the last of each member.
     pub fn infos(&self) -> &[Info]
         ensures { result.now ≡ self.now.infos }

@@ -1,10 +1,10 @@
-use Rattle.std.proofs.Common.{◌≡◌, ◌+◌, ap, arith, get_or, set, subst, sym, take, ◌∙◌}
+use Rattle.std.proofs.Common.{◌≡◌, ℕ, true, ◌+◌, ap, arith, get_or, set, subst, sym, take, ◌∙◌}
 use Rattle.std.proofs.lemmas.List.Edits.{map_over_more}
 use Rattle.pgp_code.specs.AnyCode.{enough_of, is_by_place}
 use Rattle.pgp_prior.specs.Changes.{IsChange}
 use Rattle.pgp_prior.specs.IndexOf.{IsIndexOf}
 use Rattle.pgp_sets.specs.Status.{held_status}
-use Rattle.pgp_group.specs.Noted.{renoted, any_change}
+use Rattle.pgp_group.specs.Noted.{renoted, status_noted, allows}
 use Rattle.pgp_group.specs.declared.noted.Noted.{Noted}
 use Rattle.pgp_group.proofs.IndexLemmas.{index-agree}
 use Rattle.pgp_group.proofs.Lists.{under_way}
@@ -30,10 +30,14 @@ loop-entry-preserved c =
         index = λ b is gives.
             let old = partly map (take i all) b.status in
             let new = partly map (take (i + 1) all) b.status in
+            let kind = w.turn_of.result in
+            let turned : (first : ℕ) → allows kind (status_noted x first) (held_status map x.osd first) ≡ true = λ first.
+            subst (λ (e : Noted). allows kind (status_noted x first) (status_noted e first) ≡ true) said
+            (subst (λ (e : Noted). allows kind (status_noted e first) (status_noted c.of-now.result first) ≡ true) (sym c.entry-item.is) (w.turn_of.ensures first)) in
             subst (IsIndexOf enough_of is_by_place (record b { status = new })) (sym w.index-is)
             (w.renew.ensures (record b { status = old }) new (so_far.index b is gives)
-            (subst (λ (e : Noted). IsChange any_change (is_by_place b.code) e.osd (held_status map) old new b.past) c.entry-item.is
-            (partly-change map all i x within item b.status (is_by_place b.code) b.past)));
+            (subst (λ (e : Noted). IsChange (allows kind) (is_by_place b.code) e.osd (held_status map) old new b.past) c.entry-item.is
+            (partly-change map all i x within item b.status (is_by_place b.code) b.past kind turned gives)));
       }
       | else-not-is_same w ↦
           let as_before : renoted map x ≡ x = sym said ∙ c.is_same.ensures.same w.if-not-is_same.false ∙ sym c.entry-item.is in

@@ -15,9 +15,9 @@ pub returns-then-self : goal.returns-then-self
 returns-then-self c =
     let by : List Info → Heard Preference = λ l. record { prefer = c.args.prefer; infos = l } in
     IfOk-weaker c.heard.result
-    (λ best. (g : GroupLog) → IsPresent g c.args.map.now c.args.first → best ≡ by (last_of_each_member (filter (counts g) c.as_slice.result.now)))
+    (λ best. (g : GroupLog) → IsPresent g c.args.map.now c.args.first → best ≡ by (last_of_each_member (filter (counts g) c.as_slice-all.result.now)))
     (λ best. (g : GroupLog) → IsPresent g c.args.map.now c.args.first → KeepsInfos g c.args.self.now → best ≡ by (heard g))
-    (λ best is g here kept. is g here ∙ ap (λ (l : List Info). by (last_of_each_member (filter (counts g) l))) (c.as_slice.ensures.value ∙ kept.all_are))
+    (λ best is g here kept. is g here ∙ ap (λ (l : List Info). by (last_of_each_member (filter (counts g) l))) (c.as_slice-all.ensures.value ∙ kept.all_are))
     c.heard.ensures
 
 pub returns : goal.returns
@@ -26,8 +26,9 @@ returns c = λ g here kept.
     let by : List Info → Heard Preference = λ l. record { prefer = c.args.prefer; infos = l } in
     let more : Heard Preference → List Info → Heard Preference = λ h l. record h { infos = with_infos (filter (counts g) l) h.infos } in
     let settled : old.ahead ≡ false = c.if-self.false in
-    let within : old.seen ≤ length old.all.items = subst (λ (l : List Info). old.seen ≤ length l) (sym kept.all_are) kept.seen_within in
-    let unseen : c.unseen.result.now ≡ drop old.seen (infos g) = c.unseen.ensures within ∙ ap (drop old.seen) kept.all_are in
+    let all : c.as_slice-all.result.now ≡ infos g = c.as_slice-all.ensures.value ∙ kept.all_are in
+    let within : old.seen ≤ length c.as_slice-all.result.now = subst (λ (l : List Info). old.seen ≤ length l) (sym all) kept.seen_within in
+    let unseen : c.unseen.result.now ≡ drop old.seen (infos g) = c.unseen.ensures within ∙ ap (drop old.seen) all in
     c.in_ok-hear.ensures g here
     ∙ ap₂ more (c.in_ok-best.ensures g here) unseen
     ∙ ap (λ (l : List Info). more (by (last_of_each_member (filter (counts g) l))) (drop old.seen (infos g))) c.infos.ensures

@@ -1,0 +1,42 @@
+use Rattle.std.proofs.Common.{◌≡◌, ◌<◌, List, length, ap, subst, sym, ◌∙◌}
+use Rattle.std.specs.List.{Contains, filter}
+use Rattle.pgp_ids.specs.declared.report.Info.{Info}
+use Rattle.pgp_info.specs.Best.{HasDistinctMembers}
+use Rattle.pgp_info.specs.Heard.{Heard}
+use Rattle.pgp_info.specs.declared.preference.Preference.{Preference}
+use Rattle.pgp_group.specs.KeptInfos.{counts}
+use Rattle.pgp_group.proofs.CountedLemmas.{distinct-without, passing-without, shorter-without}
+use Rattle.pgp_group.proofs.heard.forget_uncounted.Goals as goal
+
+pub loop-info-preserved : goal.loop-info-preserved
+loop-info-preserved c =
+    let now = c.loop-info.best in
+    let info = c.in-Some.info in
+    let there : Contains now.infos info = subst (λ (l : List Info). Contains l info) c.infos.ensures c.in-Some.ensures.there in
+    record {
+      prefer = ap (λ (h : Heard Preference). h.prefer) c.drop_member.ensures ∙ c.loop-info.invariant.prefer;
+      left = λ g here distinct.
+          let was = c.loop-info.invariant.left g here distinct in
+          let fails = c.in-Some.ensures.uncounted g here in (
+            subst (λ (h : Heard Preference). HasDistinctMembers h.infos) (sym c.drop_member.ensures) (distinct-without info.member now.infos was.0),
+            ap (λ (h : Heard Preference). filter (counts g) h.infos) c.drop_member.ensures
+                ∙ passing-without (counts g) now.infos info was.0 there fails
+                ∙ was.1,
+          );
+    }
+
+pub returns : goal.returns
+returns c = λ g here distinct.
+    let now = c.loop-info.best in
+    let left = c.loop-info.invariant.left g here distinct in
+    let all : filter (counts g) now.infos ≡ now.infos =
+    subst (λ (l : List Info). filter (counts g) l ≡ l) c.infos.ensures (c.in_default.ensures.none g here) in
+    ap (λ (l : List Info). record now { infos = l }) (sym all ∙ left.1)
+    ∙ ap (λ (p : Preference). record { prefer = p; infos = filter (counts g) c.args.best.now.infos }) c.loop-info.invariant.prefer
+
+pub loop-info-smaller : goal.loop-info-smaller
+loop-info-smaller c =
+    let now = c.loop-info.best in
+    let info = c.in-Some.info in
+    let there : Contains now.infos info = subst (λ (l : List Info). Contains l info) c.infos.ensures c.in-Some.ensures.there in
+    subst (λ (h : Heard Preference). length h.infos < length now.infos) (sym c.drop_member.ensures) (shorter-without now.infos info there)
