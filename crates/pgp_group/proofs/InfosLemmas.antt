@@ -23,7 +23,7 @@ use Rattle.pgp_interval.specs.SameMembers.{is_same}
 use Rattle.pgp_interval.proofs.Openings.{opening_of-le}
 use Rattle.pgp_interval.proofs.Same.{is_same-eq, eq-is_same}
 use Rattle.pgp_interval.proofs.StepLemmas.{current_first-continues, current_first-ends}
-use Rattle.pgp_lists.proofs.Members.{Contains-here, Contains-later, Contains-cases, Contains-nil, append-contains, contains-append, filter-contains}
+use Rattle.pgp_lists.proofs.Members.{Contains-cases, Contains-nil, append-contains, contains-append, filter-contains}
 use Rattle.pgp_lists.proofs.Pairs.{AllPairs-nil}
 use Rattle.pgp_map.specs.Devices.{is_up, up_from}
 use Rattle.pgp_map.specs.Map.{epoch}
