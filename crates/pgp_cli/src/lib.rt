@@ -11,7 +11,7 @@ mod status;
 mod streams;
 mod words;
 
-pub use laws::{command_lines, counts_of_runs, wrong_counts};
+pub use laws::{command_lines, counts_of_runs, right_counts, statuses, wrong_counts};
 pub use run_options::RunOptions;
 pub use status::{DONE, FAULT, USAGE, status_of, without_words};
 pub use streams::Watched;

@@ -13,3 +13,7 @@ returns-clause-both c = refl
 pub returns-clause-most : goal.returns-clause-most
 unfolding clap_on_literals
 returns-clause-most c = refl
+
+pub returns-clause-most_workers : goal.returns-clause-most_workers
+unfolding clap_on_literals
+returns-clause-most_workers c = refl
