@@ -9,20 +9,16 @@ use Rattle.pgp_text.specs.Command.{command_of}
 use Rattle.pgp_lines.specs.declared.command.Command.{Command}
 use Rattle.pgp_lines.specs.declared.command.Command.TheVariants.{Submit, Ask, Locate, Trace}
 use Rattle.pgp_core.specs.Wants.{want_of, LacksReply}
-use Rattle.pgp_core.specs.Answer.{line_text, long_text}
+use Rattle.pgp_core.specs.Answer.{line_text}
 use Rattle.pgp_core.specs.Lines.{is_blank}
 use Rattle.pgp_core.specs.Script.{longest_line, MayMeet}
 use Rattle.pgp_core.specs.Line.{KeptBy, Holds}
 use Rattle.pgp_core.specs.Told.{PutsText, PutsLine, MayLack}
-use Rattle.pgp_core.specs.declared.line.Fate.TheVariants.{Kept, TooLong}
+use Rattle.pgp_core.specs.declared.line.Fate.TheVariants.{Kept, TooLong, NoMemory}
 use Rattle.pgp_core.specs.declared.line.LineBuffer.{LineBuffer}
 use Rattle.pgp_core.specs.declared.want.NoAnswer.{NoAnswer}
-use Rattle.pgp_core.specs.declared.want.NoAnswer.TheVariants.{Memory, Gone}
+use Rattle.pgp_core.specs.declared.want.NoAnswer.TheVariants as why
 use Rattle.pgp_core.proofs.ToldLemmas.{by-itself}
-
-pub some-byte : (line : List ℕ) → is_blank line ≡ false → 0 < length line
-some-byte [] some = cc
-some-byte (byte ∷ line) some = omega arith
 
 pub puts-blank : (alone : Bool) (log : List Entry) (text line : List ℕ) → is_blank line ≡ true → PutsLine alone log log line text text []
 puts-blank alone log text line is = record {
@@ -41,17 +37,17 @@ puts-text alone before after line old new blank puts few =
       whole = append-nil new ∙ puts.text;
     }
 
-pub puts-long : (alone : Bool) (log : List Entry) (buffer : LineBuffer) (old new : List ℕ) → buffer.fate ≡ TooLong → buffer.blank ≡ false
-    → new ≡ old ++ (long_text ++ 10 ∷ []) → (line : List ℕ) → Holds buffer line → PutsLine alone log log line old new []
-puts-long alone log buffer old new fate some is line holds =
-    let blank : is_blank line ≡ false = sym holds.blank ∙ some in
-    let more : longest_line < length line = subst (λ f. KeptBy f buffer.bytes.items line) fate holds.kept in
-    let long : nat_lt longest_line (length line) ≡ true = grind (arith, nat_tests) in
-    record {
-      text = long_text ++ 10 ∷ [];
-      told = record { by = log; may = by-itself alone log; met = None; meets = tt; text_is = rw (blank, long) refl; log_is = rw (blank, long) refl };
-      whole = append-nil new ∙ is;
-    }
+-- a line that was too long for its buffer
+pub is-long : (buffer : LineBuffer) → buffer.fate ≡ TooLong → buffer.blank ≡ false → (line : List ℕ) → Holds buffer line
+    → (is_blank line ≡ false) × (longest_line < length line)
+is-long buffer fate some line holds = (sym holds.blank ∙ some, subst (λ f. KeptBy f buffer.bytes.items line) fate holds.kept)
+
+-- one that found no memory
+pub is-short : (buffer : LineBuffer) (few : ℕ) → buffer.fate ≡ NoMemory few → buffer.blank ≡ false → (line : List ℕ) → Holds buffer line
+    → (is_blank line ≡ false) × (length line ≤ longest_line)
+is-short buffer few fate some line holds =
+    let kept : (length line ≡ few) × (few ≤ longest_line) = subst (λ f. KeptBy f buffer.bytes.items line) fate holds.kept in
+    (sym holds.blank ∙ some, omega (arith, kept.0, kept.1))
 
 -- what holds of the bytes that are kept holds of the line
 pub kept-whole : (buffer : LineBuffer) (P : List ℕ → Type 0) → buffer.fate ≡ Kept → (length buffer.bytes.items ≤ longest_line → P buffer.bytes.items)
@@ -61,17 +57,18 @@ kept-whole buffer P fate there line holds =
     (subst (λ l. length l ≤ longest_line → P l) kept.0 there) kept.1
 
 -- a line can meet what its command meets
-line-meets : (line : List ℕ) (command : Command) → 0 < length line → length line ≤ longest_line → command_of line ≡ Ok command → MayMeet (Some (want_of command)) line
+line-meets : (line : List ℕ) (command : Command) → is_blank line ≡ false → length line ≤ longest_line → command_of line ≡ Ok command → MayMeet (Some (want_of command)) line
 line-meets line (Submit entry) some short reads = record { short = short; entry = entry; reads = reads }
-line-meets line (Ask pg) some short reads = some
-line-meets line (Locate pool name) some short reads = some
-line-meets line (Trace code epochs) some short reads = some
+line-meets line (Ask pg) some short reads = (some, short)
+line-meets line (Locate pool name) some short reads = (some, short)
+line-meets line (Trace code epochs) some short reads = (some, short)
 
 -- what a line lacks, from what its command lacks
-pub lacks-of : (alone : Bool) (line : List ℕ) (command : Command) → command_of line ≡ Ok command → (why : NoAnswer) → LacksReply alone command why
-    → 0 < length line → length line ≤ longest_line → MayLack alone why line
-lacks-of alone line command reads (Memory want) is some short = rw is (line-meets line command some short reads)
-lacks-of alone line command reads Gone is some short = record { shared = is; short = short; command = command; reads = reads }
+pub lacks-of : (alone : Bool) (line : List ℕ) (command : Command) → command_of line ≡ Ok command → (lack : NoAnswer) → LacksReply alone command lack
+    → is_blank line ≡ false → length line ≤ longest_line → MayLack alone lack line
+lacks-of alone line command reads why.TooLong is some short = absurd is
+lacks-of alone line command reads (why.Memory want) is some short = rw is (line-meets line command some short reads)
+lacks-of alone line command reads why.Gone is some short = record { shared = is; short = short; command = command; reads = reads }
 
 -- no byte was read
 pub is-empty : (line : List ℕ) → nat_lt 0 (length line) ≡ false → line ≡ []

@@ -1,8 +1,11 @@
 -- One line more of what is written for lines, and what is written where one thread alone adds to the log.
-use Rattle.std.proofs.Common.{◌≡◌, ℕ, suc, List, [], ◌∷◌, ◌++◌, Bool, true, false, Option, Some, length, refl, sym, ap, ap₂, subst, ◌∙◌, append_assoc, append-nil}
+use Rattle.std.proofs.Common.{◌≡◌, ℕ, suc, ◌<◌, List, [], ◌∷◌, ◌++◌, Bool, true, false, Option, Some, None, length, nat_lt, arith, refl, sym, ap, ap₂, subst, ◌∙◌, append_assoc, append-nil}
+use Rattle.std.proofs.lemmas.Bool.Decides.{nat_tests}
 use Rattle.pgp_ids.specs.declared.entry.Entry.{Entry}
+use Rattle.pgp_core.specs.Answer.{long_text}
 use Rattle.pgp_core.specs.Answerer.{MayAnswerBy}
-use Rattle.pgp_core.specs.Script.{MayMeet, MayMeetEach, answer, answers, log_past, Answers, want_text}
+use Rattle.pgp_core.specs.Lines.{is_blank}
+use Rattle.pgp_core.specs.Script.{MayMeet, MayMeetEach, answer, answers, log_past, longest_line, Answers, want_text}
 use Rattle.pgp_core.specs.Told.{IsTold, PutsLine, AreTold}
 use Rattle.pgp_core.specs.declared.want.Want.{Want}
 use Rattle.pgp_core.proofs.ScriptLemmas.{answers-cons}
@@ -19,6 +22,17 @@ told-want alone before after line old new want meets may same = record {
   told = record { by = after; may = may; met = Some want; meets = meets; text_is = refl; log_is = refl };
   whole = ap (λ l. l ++ (want_text want ++ 10 ∷ [])) same;
 }
+
+-- a line that is too long has its constant text
+pub told-long : (alone : Bool) (before after : List Entry) (line old new : List ℕ) → (is_blank line ≡ false) × (longest_line < length line) → MayAnswerBy alone before after → new ≡ old
+    → PutsLine alone before after line old new (long_text ++ 10 ∷ [])
+told-long alone before after line old new is may same =
+    let long : nat_lt longest_line (length line) ≡ true = let more : longest_line < length line = is.1 in grind (arith, nat_tests) in
+    record {
+      text = long_text ++ 10 ∷ [];
+      told = record { by = after; may = may; met = None; meets = tt; text_is = rw (is.0, long) refl; log_is = rw (is.0, long) refl };
+      whole = ap (λ l. l ++ (long_text ++ 10 ∷ [])) same;
+    }
 
 pub told-push : (alone : Bool) (before mid after : List Entry) (lines : List (List ℕ)) (line out text : List ℕ)
     → AreTold alone before lines mid out → IsTold alone mid after line text → AreTold alone before (lines ++ line ∷ []) after (out ++ text)

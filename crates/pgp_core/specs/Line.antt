@@ -10,7 +10,7 @@ use Rattle.pgp_core.specs.declared.line.LineBuffer.{LineBuffer}
 abbrev pub KeptBy : Fate → List ℕ → List ℕ → Type 0
 KeptBy Kept bytes line = (bytes ≡ line) × (length line ≤ longest_line)
 KeptBy TooLong bytes line = longest_line < length line
-KeptBy NoMemory bytes line = 0 < length line
+KeptBy (NoMemory few) bytes line = (length line ≡ few) × (few ≤ longest_line)
 
 -- the buffer is that of this line
 pub record Holds (buffer : LineBuffer) (line : List ℕ) : Type 0 where

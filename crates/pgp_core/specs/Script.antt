@@ -1,5 +1,5 @@
 -- The text of a script: what is written for its lines, where some of them may have met want of memory.
-use Rattle.std.specs.Prelude.{◌≡◌, ℕ, ◌<◌, ◌≤◌, List, [], ◌∷◌, ◌++◌, Option, Some, None, Ok, nat_lt, length, take, flat_map, slice_index_or, if◌then◌else◌}
+use Rattle.std.specs.Prelude.{◌≡◌, ℕ, ◌≤◌, List, [], ◌∷◌, ◌++◌, Option, Some, None, Ok, false, nat_lt, length, take, flat_map, slice_index_or, if◌then◌else◌}
 use Rattle.std.specs.List.{range_with_len}
 use Rattle.pgp_ids.specs.declared.entry.Entry.{Entry}
 use Rattle.pgp_refusals.specs.declared.refusal.Refusal.TheVariants as refusal
@@ -24,11 +24,11 @@ pub record IsEntryLine (line : List ℕ) : Type 0 where
   pub entry : Entry
   pub reads : command_of line ≡ Ok (Submit entry)
 
--- a line can meet this want of memory: that of a line only where it has a byte, that of an entry only where it was read
--- as one
+-- A line can meet this want of memory: that of a line only where it isn't blank and not too long, that of an entry only where
+-- it was read as one. So a blank line never has an answer, and one that is too long always has its own.
 abbrev pub MayMeet : Option Want → List ℕ → Type 0
 MayMeet None line = Unit {0}
-MayMeet (Some want.Line) line = 0 < length line
+MayMeet (Some want.Line) line = (is_blank line ≡ false) × (length line ≤ longest_line)
 MayMeet (Some want.Entry) line = IsEntryLine line
 
 -- the text for a line that met want of memory
@@ -41,7 +41,7 @@ abbrev pub reply_text_of : List Entry → List ℕ → List ℕ
 reply_text_of log line = if nat_lt longest_line (length line) then long_text else line_text log line
 
 -- What is written for a line, given the log before it and the want of memory that it met, if any. A line that met one has
--- its constant text, blank or not; of the others a blank one has nothing, and each other one line.
+-- its constant text; of the others a blank one has nothing, and each other one line.
 abbrev pub answer : List Entry → Option Want → List ℕ → List ℕ
 answer log (Some want) line = want_text want ++ 10 ∷ []
 answer log None line = if is_blank line then [] else reply_text_of log line ++ 10 ∷ []

@@ -1,10 +1,11 @@
 //! The answer to a line, as text.
-ghost use Rattle.std.specs.Prelude.{◌≡◌, ◌≢◌, ◌<◌, ◌≤◌, ◌+◌, ◌++◌, ◌∷◌, [], length, take, option_copied, option_map, vec_len, vec_capacity, true, false, IsOk, IfErr, OnOk, OnErr, Err};
+ghost use Rattle.std.specs.Prelude.{◌≡◌, ◌≢◌, ◌≤◌, ◌+◌, ◌++◌, ◌∷◌, [], length, take, option_copied, option_map, vec_len, vec_capacity, true, false, IsOk, IfErr, OnOk, OnErr, Err};
 ghost use Rattle.pgp_text.specs.Command.{IsInRange};
 ghost use Rattle.pgp_text.specs.Reply.{reply_text};
 ghost use Rattle.pgp_group.specs.Touched.{told_at};
-ghost use Rattle.pgp_core.specs.Answer.{asked_reply, long_text};
+ghost use Rattle.pgp_core.specs.Answer.{asked_reply};
 ghost use Rattle.pgp_core.specs.Answerer.{MayAnswerBy, is_accepted};
+ghost use Rattle.pgp_core.specs.Lines.{is_blank};
 ghost use Rattle.pgp_core.specs.Script.{longest_line};
 ghost use Rattle.pgp_core.specs.Told.{PutsFault, PutsReply, PutsText, MayLack};
 ghost use Rattle.pgp_lines.specs.LineFault.{told};
@@ -31,7 +32,8 @@ pub fn answer_line<A: Answerer>(
     text: &mut Vec<u8>,
 ) -> Result<(), NoAnswer>
     ensures ok { OnOk result (PutsText A.alone (A.log answerer.old) (A.log answerer.new) line.now text.old.items text.new.items) }
-    ensures lacks { IfErr result (λ why. 0 < length line.now → length line.now ≤ longest_line → MayLack A.alone why line.now) }
+    ensures lacks { IfErr result (λ why. is_blank line.now ≡ false → length line.now ≤ longest_line
+        → MayLack A.alone why line.now) }
     ensures text { OnErr result (text.new.items ≡ text.old.items) }
     ensures log { OnErr result (MayAnswerBy A.alone (A.log answerer.old) (A.log answerer.new)) }
 {
@@ -98,16 +100,6 @@ fn want_of(command: &Command) -> Want
         Command::Submit(_) => Want::Entry,
         Command::Ask(_) | Command::Locate { .. } | Command::Trace { .. } => Want::Line,
     }
-}
-
-/// Puts the answer to a line that is too long behind the text, with a line feed.
-pub fn put_long(alloc: Global, writer: &mut ReplyWriter, text: &mut Vec<u8>) -> Result<(), NoAnswer>
-    ensures ok { OnOk result (text.new.items ≡ text.old.items ++ (long_text ++ 10 ∷ [])) }
-    ensures lacks { IfErr result (λ why. why ≡ NoAnswer.Memory Want.Line) }
-    ensures err { OnErr result (text.new.items ≡ text.old.items) }
-{
-    let reply = Reply::Refused(Refused::Line(TextFault::LineTooLong));
-    put_reply(alloc, writer, &reply, text).or(Err(NoAnswer::Memory(Want::Line)))
 }
 
 /// Puts the answer to a line that has this fault behind the text, with a line feed.

@@ -1,11 +1,12 @@
 //! Who answers the commands of a script.
 
-ghost use Rattle.std.specs.Prelude.{◌≡◌, Bool, false, List, Err, IfOk, OnOk, OnErr};
+ghost use Rattle.std.specs.Prelude.{◌≡◌, Bool, true, false, List, Err, IfOk, OnOk, OnErr};
 ghost use Rattle.pgp_ids.specs.declared.entry.Entry.{Entry};
 ghost use Rattle.pgp_text.specs.Command.{IsInRange};
 ghost use Rattle.pgp_lines.specs.declared.command.Command.TheVariants.{Ask};
 ghost use Rattle.pgp_core.specs.Answerer.{MayAnswerBy, Replies};
 ghost use Rattle.pgp_core.specs.Told.{PutsReply};
+ghost use Rattle.pgp_core.specs.Wants.{MayFindNone};
 
 use super::answer::put_reply;
 use pgp_ids::PgId;
@@ -41,11 +42,13 @@ pub trait Answerer {
     ghost log: { Self → List Entry };
 
     /// The reply to a command. Where it is an entry that the log takes, the log has it from now on; where there is no reply,
-    /// the command adds nothing. `Gone` comes only where others add to the log too.
+    /// the command adds nothing. `Gone` comes only where others add to the log too. Where nobody does, a refusal that is found
+    /// without memory is never `Memory`.
     fn reply(&mut self, alloc: Global, command: Command) -> Result<Reply, NoReply>
         requires { IsInRange command }
         ensures reply { IfOk result (λ reply. Replies alone (log self.old) (log self.new) command reply) }
         ensures kept { OnErr result (MayAnswerBy alone (log self.old) (log self.new)) }
+        ensures memory { result ≡ Err NoReply.Memory → alone ≡ true → MayFindNone (log self.old) command }
         ensures gone { result ≡ Err NoReply.Gone → alone ≡ false };
 
     /// Puts the reply to a question about a group behind the text, with a line feed. One who keeps what it says can write that

@@ -1,13 +1,14 @@
 //! The line that is being read, and what is written for it.
 
 ghost use Rattle.std.specs.Prelude.{◌≡◌, ◌≤◌, ◌&&◌, not, nat_le, ℕ, List, [], ◌∷◌, ◌++◌, length, OnOk, IfOk, IfErr, OnErr};
+ghost use Rattle.pgp_core.specs.Answer.{long_text};
 ghost use Rattle.pgp_core.specs.Answerer.{MayAnswerBy};
-ghost use Rattle.pgp_core.specs.Line.{Holds};
+ghost use Rattle.pgp_core.specs.Line.{KeptBy, Holds};
 ghost use Rattle.pgp_core.specs.Lines.{is_blank};
 ghost use Rattle.pgp_core.specs.Script.{longest_line, want_text};
 ghost use Rattle.pgp_core.specs.Told.{PutsLine, MayLack, IsLeft};
 
-use super::answer::{answer_line, put_long};
+use super::answer::answer_line;
 use super::answerer::Answerer;
 use super::codec::Codec;
 use super::want::{NoAnswer, Want};
@@ -16,6 +17,9 @@ use std::alloc::Global;
 /// How many bytes a line has at most, without its line feed.
 pub const LONGEST_LINE: usize = 1_048_576;
 
+/// The answer to a line that is too long. It takes no memory.
+const LONG_LINE: &[u8] = b"{\"code\":30,\"refused\":\"LineTooLong\"}\n";
+
 /// The answer to a line for which there was no memory. It takes none.
 const NO_LINE: &[u8] = b"{\"code\":41,\"refused\":\"Memory\"}\n";
 
@@ -23,14 +27,14 @@ const NO_LINE: &[u8] = b"{\"code\":41,\"refused\":\"Memory\"}\n";
 const NO_ENTRY: &[u8] = b"{\"code\":51,\"refused\":\"Memory\"}\n";
 
 /// What became of the bytes of a line.
-#[derive(Clone, Copy, PartialEq, Eq)]
+#[derive(Clone, Copy)]
 pub enum Fate {
     /// They are kept.
     Kept,
     /// There are more than [`LONGEST_LINE`], and they are passed over.
     TooLong,
-    /// There was no memory for them, and they are passed over.
-    NoMemory,
+    /// There was no memory for them, and they are passed over. There are so many, as few as a line may have.
+    NoMemory { length: usize },
 }
 
 /// Nobody answers the command of the line any more.
@@ -48,8 +52,15 @@ pub struct LineBuffer {
     pub blank: bool,
 }
 
+/// The answer to a line that is too long.
+fn long_line() -> &'static [u8]
+    ensures { result.now ≡ long_text ++ 10 ∷ [] }
+{
+    LONG_LINE
+}
+
 /// The answer to a line that met want of memory.
-pub fn want_line(want: Want) -> &'static [u8]
+fn want_line(want: Want) -> &'static [u8]
     ensures { result.now ≡ want_text want ++ 10 ∷ [] }
 {
     match want {
@@ -86,23 +97,12 @@ impl LineBuffer {
     {
         self.started = self.started || !piece.is_empty();
         self.blank = self.blank && all_blank(piece);
-        if self.fate == Fate::Kept {
-            self.fate = if piece.len() > LONGEST_LINE
-                || self.bytes.len() > LONGEST_LINE - piece.len()
-            {
-                Fate::TooLong
-            } else if self.bytes.extend_from_slice(piece).is_err() {
-                // An empty piece wants no room.
-                Fate::NoMemory
-            } else {
-                Fate::Kept
-            };
-        }
+        self.fate = keep(&mut self.bytes, self.fate, piece);
     }
 
     /// Puts the answer to the line, which ends with this piece, behind the text, and gives what is still to be written of it:
-    /// where memory was wanting, a constant text. Where the line is an entry that the log takes, the log has it from now on.
-    /// Where nobody answers it any more, the text stays.
+    /// where the line is too long, or there was no memory, a constant text. Where the line is an entry that the log takes, the
+    /// log has it from now on. Where nobody answers it any more, the text stays.
     pub fn answer<A: Answerer>(
         &mut self,
         alloc: Global,
@@ -118,6 +118,7 @@ impl LineBuffer {
     {
         match self.put_answer(alloc, codec, piece, answerer, text) {
             Ok(()) => Ok(&[]),
+            Err(NoAnswer::TooLong) => Ok(long_line()),
             Err(NoAnswer::Memory(want)) => Ok(want_line(want)),
             Err(NoAnswer::Gone) => Err(Unanswered),
         }
@@ -167,12 +168,34 @@ impl LineBuffer {
         ensures text { OnErr result (text.new.items ≡ text.old.items) }
         ensures log { OnErr result (MayAnswerBy A.alone (A.log answerer.old) (A.log answerer.new)) }
     {
-        match self.fate {
-            Fate::NoMemory => Err(NoAnswer::Memory(Want::Line)),
-            Fate::TooLong if self.blank => Ok(()),
-            Fate::TooLong => put_long(alloc, &mut codec.writer, text),
-            Fate::Kept => put_line(alloc, codec, self.bytes.as_slice(), answerer, text),
+        if self.blank {
+            return Ok(());
         }
+        match self.fate {
+            Fate::Kept => put_line(alloc, codec, self.bytes.as_slice(), answerer, text),
+            Fate::TooLong => Err(NoAnswer::TooLong),
+            Fate::NoMemory { .. } => Err(NoAnswer::Memory(Want::Line)),
+        }
+    }
+}
+
+/// What becomes of the bytes of a line with this further piece, of which so much is kept.
+fn keep(bytes: &mut Vec<u8>, fate: Fate, piece: &[u8]) -> Fate
+    ensures { (line : List ℕ) → KeptBy fate bytes.old.items line → KeptBy result bytes.new.items (line ++ piece.now) }
+{
+    let length = match fate {
+        Fate::Kept => bytes.len(),
+        Fate::NoMemory { length } => length,
+        Fate::TooLong => return Fate::TooLong,
+    };
+    if piece.len() > LONGEST_LINE || length > LONGEST_LINE - piece.len() {
+        return Fate::TooLong;
+    }
+    match fate {
+        Fate::Kept if bytes.extend_from_slice(piece).is_ok() => Fate::Kept,
+        _ => Fate::NoMemory {
+            length: length + piece.len(),
+        },
     }
 }
 

@@ -1,7 +1,9 @@
 //! The replies of a log to commands.
 ghost use Rattle.std.specs.Prelude.{◌≡◌, ◌≤◌, ◌++◌, ◌∷◌, [], length, IfOk, OnErr, None, true};
 ghost use Rattle.pgp_core.specs.Answer.{reply_of, log_after, asked_reply, traced_reply, submitted_reply, log_with};
+ghost use Rattle.pgp_core.specs.Wants.{MayFindNone};
 ghost use Rattle.pgp_text.specs.Command.{IsInRange};
+ghost use Rattle.pgp_lines.specs.declared.command.Command.TheVariants.{Submit};
 ghost use Rattle.pgp_log.specs.Fits.{fits};
 ghost use Rattle.pgp_group.specs.View.{scratch};
 
@@ -42,6 +44,7 @@ fn reply_to(alloc: Global, command: Command, log: &mut Log) -> Result<Reply, All
     ensures reply { IfOk result (λ reply. reply ≡ reply_of log.old command) }
     ensures log { IfOk result (λ _. log.new ≡ log_after log.old command) }
     ensures kept { OnErr result (log.new ≡ log.old) }
+    ensures memory { OnErr result (MayFindNone log.old command) }
 {
     match command {
         Command::Submit(entry) => submit(entry, log),
@@ -56,6 +59,7 @@ fn submit(entry: Entry, log: &mut Log) -> Result<Reply, AllocError>
     ensures reply { IfOk result (λ reply. reply ≡ submitted_reply log.old entry (fits log.old entry)) }
     ensures log { IfOk result (λ _. log.new ≡ log_with log.old entry (fits log.old entry)) }
     ensures kept { OnErr result (log.new ≡ log.old) }
+    ensures memory { OnErr result (MayFindNone log.old (Submit entry)) }
 {
     match log.judge(&entry) {
         Ok(()) => accept(entry, log),

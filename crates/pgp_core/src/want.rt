@@ -10,6 +10,8 @@ pub enum Want {
 /// Why a line has no answer of its own.
 #[derive(Clone, Copy)]
 pub enum NoAnswer {
+    /// It is too long, and a constant text says so.
+    TooLong,
     /// There was no memory, and a constant text says so.
     Memory(Want),
     /// Nobody answers its command any more.

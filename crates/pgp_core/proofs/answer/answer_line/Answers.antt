@@ -17,4 +17,4 @@ pub returns-in-Err-clause-ok : goal.returns-in-Err-clause-ok
 returns-in-Err-clause-ok g c = on_ok_weaker _ (puts-fault _ _ c.args.line.now (told c.in-Err.fault) _ _ c.in-Err.ensures.err) c.put_fault.ensures.ok
 
 pub returns-in-Err-clause-lacks : goal.returns-in-Err-clause-lacks
-returns-in-Err-clause-lacks g c = IfErr-weaker c.put_fault.result _ _ (λ why is some short. rw is some) c.put_fault.ensures.lacks
+returns-in-Err-clause-lacks g c = IfErr-weaker c.put_fault.result _ _ (λ why is some short. rw is (some, short)) c.put_fault.ensures.lacks

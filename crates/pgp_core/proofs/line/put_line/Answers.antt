@@ -1,6 +1,6 @@
 use Rattle.std.proofs.Common.{sym, ◌∙◌}
 use Rattle.std.proofs.lemmas.Result.{on_ok_weaker, IfErr-weaker}
-use Rattle.pgp_core.proofs.LineLemmas.{some-byte, puts-blank, puts-text}
+use Rattle.pgp_core.proofs.LineLemmas.{puts-blank, puts-text}
 use Rattle.pgp_core.proofs.line.put_line.Goals as goal
 
 pub returns-then-all_blank-clause-ok : goal.returns-then-all_blank-clause-ok
@@ -12,4 +12,4 @@ returns-else-all_blank-clause-ok g c =
 
 pub returns-else-all_blank-clause-lacks : goal.returns-else-all_blank-clause-lacks
 returns-else-all_blank-clause-lacks g c =
-    IfErr-weaker c.answer_line.result _ _ (λ why lacks. lacks (some-byte c.args.line.now (sym c.all_blank.ensures ∙ c.if-all_blank.false))) c.answer_line.ensures.lacks
+    IfErr-weaker c.answer_line.result _ _ (λ why lacks. lacks (sym c.all_blank.ensures ∙ c.if-all_blank.false)) c.answer_line.ensures.lacks
