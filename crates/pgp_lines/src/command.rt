@@ -1,5 +1,6 @@
 //! What a line says: the command that it is, or its first fault.
-ghost use Rattle.std.specs.Prelude.{◌≡◌, map, IfOk, IfErr, IfSome};
+ghost use Rattle.std.specs.Prelude.{◌≡◌, true, map, is_some, Err, IfOk, IfErr, IfSome};
+ghost use Rattle.std.specs.Str.{is_utf8};
 ghost use Rattle.pgp_lines.specs.Value.{view};
 ghost use Rattle.serde_json.specs.Read.{read};
 ghost use Rattle.pgp_lines.specs.LineFault.{told, not_json};
@@ -74,10 +75,13 @@ enum Op {
 /// Reads a line, without its line feed, as one JSON text.
 ///
 /// Of several faults the first in the order of [`TextFault`] is told. A text of more than 4,294,967,040 bytes, which no
-/// tape holds, is refused as `Memory`; no other length is judged. `Memory` may come in place of any other answer too.
+/// tape holds, is refused as `Memory`; no other length is judged. `Memory` may come in place of any other answer too, but for
+/// bytes that are no UTF-8.
 pub fn read_line(alloc: Global, line: &[u8]) -> Result<Command, TextFault>
     ensures ok { IfOk result (λ command. command_of line.now ≡ Ok command) }
     ensures err { IfErr result (λ fault. IfSome (told fault) (λ f. command_of line.now ≡ Err f)) }
+    // Bytes that are no text are found out without memory.
+    ensures memory { result ≡ Err TextFault.Memory → is_utf8 line.now ≡ true }
     ensures in_range { IfOk result IsInRange }
 {
     LineReader::new(alloc).read(alloc, line)
@@ -109,6 +113,7 @@ impl LineReader {
         ensures ok { IfOk result (λ command. command_of line.now ≡ Ok command) }
         ensures err { IfErr result
             (λ fault. IfSome (told fault) (λ f. command_of line.now ≡ Err f)) }
+        ensures memory { result ≡ Err TextFault.Memory → is_utf8 line.now ≡ true }
         ensures in_range { IfOk result IsInRange }
     {
         let command = read_within(alloc, &self.arena, line, &mut self.room);
@@ -127,6 +132,7 @@ fn read_within<'a>(
 ) -> Result<Command, TextFault>
     ensures ok { IfOk result (λ command. command_of line.now ≡ Ok command) }
     ensures err { IfErr result (λ fault. IfSome (told fault) (λ f. command_of line.now ≡ Err f)) }
+    ensures memory { result ≡ Err TextFault.Memory → is_utf8 line.now ≡ true }
     ensures in_range { IfOk result IsInRange }
 {
     let tokens = read_json(arena, line, room)?;
@@ -142,6 +148,8 @@ fn read_json<'a>(
     ensures ok { IfOk result (λ tokens. data_of line.now ≡ Some (view tokens)) }
     ensures err { IfErr result
         (λ fault. IfSome (told fault) (λ f. (data_of line.now ≡ None) × (f ≡ not_json))) }
+    ensures text { IfOk result (λ _. is_utf8 line.now ≡ true) }
+    ensures memory { result ≡ Err TextFault.Memory → is_utf8 line.now ≡ true }
 {
     match from_utf8(line) {
         Ok(text) => read_text(arena, text, room),
@@ -177,6 +185,8 @@ fn read_command(alloc: Global, value: &Value<'_, '_>) -> Result<Command, TextFau
     ensures ok { IfOk result (λ command. command_in (view value.now) ≡ Ok command) }
     ensures err { IfErr result
         (λ fault. IfSome (told fault) (λ f. command_in (view value.now) ≡ Err f)) }
+    // That no operation is named is found out without memory.
+    ensures memory { result ≡ Err TextFault.Memory → is_some (op_in (view value.now)) ≡ true }
 {
     let Some(op) = read_op(value) else {
         return Err(TextFault::NoOp);

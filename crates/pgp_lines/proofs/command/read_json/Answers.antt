@@ -27,3 +27,10 @@ returns-in-Ok-clause-ok c =
 
 pub returns-in-Err-clause-err : goal.returns-in-Err-clause-err
 returns-in-Err-clause-err c = (data_of-refused c.args.line.now (λ text. absurd (c.in-Err.ensures.cases.0 text)), refl)
+
+pub returns-in-Ok-clause-text : goal.returns-in-Ok-clause-text
+returns-in-Ok-clause-text c =
+    IfOk-weaker c.read_text.result _ _ (λ v is. is_utf8-from_IsUtf8 c.args.line.now c.in-Ok.ensures.cases.1) c.read_text.ensures.ok
+
+pub returns-in-Ok-clause-memory : goal.returns-in-Ok-clause-memory
+returns-in-Ok-clause-memory c = λ memory. is_utf8-from_IsUtf8 c.args.line.now c.in-Ok.ensures.cases.1
