@@ -8,6 +8,8 @@ mod command_line;
 #[cfg(test)]
 mod faults;
 #[cfg(test)]
+mod full_log;
+#[cfg(test)]
 mod memory;
 #[cfg(test)]
 mod program;
@@ -17,5 +19,9 @@ mod runs;
 mod same;
 #[cfg(test)]
 mod script;
+#[cfg(test)]
+mod stored;
+#[cfg(test)]
+mod stored_scripts;
 #[cfg(test)]
 mod streams;
