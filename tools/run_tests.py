@@ -1,0 +1,260 @@
+#!/usr/bin/env python3
+"""Runs all tests: those of the tools, the gate, and those on the program that the gate built.
+
+    tools/test.sh [--quick | --after-gate] [--seed S]
+
+In this order, each part with its count and its seconds:
+
+  tests of tools/, tests of fuzz/   unit tests in Python, but for those that need the built program
+  gate                              `rt ci`
+  tests of tools/, with the program all unit tests of tools/
+  examples                          each example and each line of docs/FORMAT.md has its answer (run_examples.py)
+  statuses                          the program ends in each of its statuses (check_statuses.py)
+  workers                           the same bytes with workers as without (compare_workers.py)
+  fuzz                              generated scripts have the answers of the model, for a minute at most (fuzz/fuzz.py)
+  allocations refused               each allocation of a short script refused in turn, with and without workers
+                                    (refuse_allocations.py)
+
+--quick runs what stands before the gate alone, and --after-gate what stands after it, on the program that an earlier gate or
+`rt run` left. --seed is that of the generated scripts, 1 if not said.
+
+Needs bash, Python and `rt`, and a C compiler for the last part: a part that lacks what it needs is skipped, and its line says
+what that is. All but the gate have eight minutes together, and each part a bound of its own; one that takes longer has
+failed. The gate says its lines as they come, another part where it failed. Nothing is installed, and no file is left in the
+tree but in folders `out`. The last line is `N passed, M failed`, of all parts together, and the status is 1 where something
+failed.
+"""
+
+import argparse
+import contextlib
+import os
+import pathlib
+import re
+import shutil
+import signal
+import subprocess
+import sys
+import time
+from typing import Callable, List, NamedTuple, Optional, Tuple
+
+ROOT = pathlib.Path(__file__).resolve().parent.parent
+PROGRAM = ROOT / "crates/pgpeer/out/pgpeer"
+NO_PROGRAM = ROOT / "no program yet"
+SHORT_SCRIPTS = (("first", 1, 0), ("first", 2, 2))  # an example, shards and workers
+FUZZED_LINES = 300_000  # fewer where a minute goes by before
+MOST_SECONDS = 480  # for all parts but the gate
+MOST_SHOWN = 4000  # characters of what a failed part said
+
+Counts = Tuple[int, int]  # passed, failed
+
+
+class Part(NamedTuple):
+    """A command, and how its counts are read from what it said."""
+
+    name: str
+    words: List[str]
+    seconds: float  # its bound
+    counts: Callable[[str], Optional[Counts]]
+    needs: Tuple[str, ...] = ()  # other programs, without which it is skipped
+    program: pathlib.Path = NO_PROGRAM  # where unit tests find the built program
+
+
+# How many passed and failed, by what a part said; None where it said no count.
+
+
+def unit_tests(said: str) -> Optional[Counts]:
+    found = re.search(r"^Ran (\d+) tests? in", said, re.M)
+    if not found:
+        return None
+    told = {key: int(number) for key, number in re.findall(r"(failures|errors|skipped|unexpected successes)=(\d+)", said)}
+    failed = sum(told.get(key, 0) for key in ("failures", "errors", "unexpected successes"))
+    return max(int(found[1]) - failed - told.get("skipped", 0), 0), failed
+
+
+def gate(said: str) -> Optional[Counts]:
+    found = re.search(r"^(\d+) passed, (\d+) failed\s*\Z", said, re.M)
+    return (int(found[1]), int(found[2])) if found else None
+
+
+def tried_and_wrong(said: str) -> Optional[Counts]:
+    """The last line of run_examples.py and check_statuses.py."""
+    found = re.search(r"^(\d+) (?:examples|runs), (\d+) wrong\s*\Z", said, re.M)
+    return (int(found[1]) - int(found[2]), int(found[2])) if found else None
+
+
+def compared_runs(said: str) -> Optional[Counts]:
+    found = re.search(r"^(\d+) scripts, (\d+) runs of each with workers, (\d+) wrong\s*\Z", said, re.M)
+    return (int(found[1]) * int(found[2]) - int(found[3]), int(found[3])) if found else None
+
+
+def scripts(said: str) -> Optional[Counts]:
+    found = re.search(r"^([\d,]+) scripts, .* (\d+) wrong answers, (\d+) other statuses, (\d+) hangs\.$", said, re.M)
+    if not found:
+        return None
+    failed = sum(int(it) for it in found.groups()[1:])
+    return int(found[1].replace(",", "")) - failed, failed
+
+
+def allocations(said: str) -> Optional[Counts]:
+    found = re.search(r"^(\d+) allocations, \d+ answers$", said, re.M)
+    wrong = re.findall(r"\d+", "".join(re.findall(r"^wrong where these were refused: \[(.*)\]$", said, re.M)))
+    return (int(found[1]) - len(wrong), len(wrong)) if found else None
+
+
+# The parts
+
+
+def python(*words: object) -> List[str]:
+    return [sys.executable, *map(str, words)]
+
+
+def tests_in(folder: str) -> List[str]:
+    return python("-m", "unittest", "discover", "-s", f"{folder}/tests")
+
+
+def before_gate() -> List[Part]:
+    return [
+        Part("tests of tools/", tests_in("tools"), 240, unit_tests),
+        Part("tests of fuzz/", tests_in("fuzz"), 120, unit_tests),
+    ]
+
+
+def after_gate(seed: str) -> List[Part]:
+    fuzz = python("fuzz/fuzz.py", "--lines", FUZZED_LINES, "--minutes", 1, "--seconds", 60, "--seed", seed)
+    sweep = python("tools/refuse_allocations.py", PROGRAM)
+    return [
+        Part("tests of tools/, with the program", tests_in("tools"), 240, unit_tests, program=PROGRAM),
+        Part("examples", python("tools/run_examples.py"), 60, tried_and_wrong),
+        Part("statuses", python("tools/check_statuses.py"), 60, tried_and_wrong),
+        Part("workers", python("tools/compare_workers.py", "--seconds", 30), 90, compared_runs),
+        Part(f"fuzz, seed {seed}", fuzz, 130, scripts),
+    ] + [
+        Part(
+            f"allocations refused, {script}.jsonl, {shards} shards, {workers} workers",
+            [*sweep, f"examples/{script}.jsonl", "--shards", str(shards), "--workers", str(workers)],
+            90,
+            allocations,
+            ("cc",),
+        )
+        for script, shards, workers in SHORT_SCRIPTS
+    ]
+
+
+# Runs
+
+
+class Ended(NamedTuple):
+    """What a command said, and its status: None where it took longer than its bound."""
+
+    said: str
+    status: Optional[int]
+
+
+def end_group(pid: int) -> None:
+    """Ends what is left of a process that was started in a group of its own."""
+    with contextlib.suppress(ProcessLookupError):
+        os.killpg(pid, signal.SIGKILL)
+
+
+def ended(part: Part, seconds: float) -> Ended:
+    """Runs a part at the top of the tree, for so many seconds at most, with no file of Python's left behind."""
+    env = {**os.environ, "PYTHONDONTWRITEBYTECODE": "1", "PGPEER": str(part.program)}
+    with subprocess.Popen(
+        part.words,
+        cwd=ROOT,
+        env=env,
+        stdin=subprocess.DEVNULL,
+        stdout=subprocess.PIPE,
+        stderr=subprocess.STDOUT,
+        start_new_session=True,
+    ) as run:
+        try:
+            said, _ = run.communicate(timeout=seconds)
+            status: Optional[int] = run.returncode
+        except subprocess.TimeoutExpired:
+            end_group(run.pid)
+            said, _ = run.communicate()
+            status = None
+        finally:
+            end_group(run.pid)
+    return Ended(said.decode(errors="replace"), status)
+
+
+def judged(part: Part, end: Ended) -> Counts:
+    """The counts of a part that ended so. One that fails, or counts nothing, without a failure of its own counts as one."""
+    passed, failed = part.counts(end.said) or (0, 0)
+    is_well = end.status == 0 and failed == 0 and passed > 0
+    return passed, failed if is_well else max(failed, 1)
+
+
+def run_part(part: Part, seconds: float) -> Counts:
+    """Runs a part for so many seconds at most, prints its line, and gives its counts."""
+    lacking = [it for it in part.needs if not shutil.which(it)]
+    if lacking:
+        print(f"{part.name}: skipped, since {lacking[0]} isn't there", flush=True)
+        return 0, 0
+    start = time.monotonic()
+    end = ended(part, seconds)
+    passed, failed = judged(part, end)
+    if failed:
+        print(end.said[-MOST_SHOWN:].rstrip("\n"))
+    late = "" if end.status is not None else f", not ended after {seconds:.0f} seconds"
+    skipped = re.search(r"^(?:OK|FAILED) \(.*\bskipped=(\d+)", end.said, re.M)
+    left_out = f", {skipped[1]} skipped without the program" if skipped and part.program == NO_PROGRAM else ""
+    print(f"{part.name}: {passed} passed, {failed} failed{left_out}{late} ({time.monotonic() - start:.0f} s)", flush=True)
+    return passed, failed
+
+
+def run_parts(parts: List[Part], end: float) -> List[Counts]:
+    """Runs the parts one after the other, until this time of the clock at the latest."""
+    return [run_part(part, max(1.0, min(part.seconds, end - time.monotonic()))) for part in parts]
+
+
+def run_gate() -> Counts:
+    """Runs the gate, and prints what it says as it comes."""
+    start, said, status = time.monotonic(), [], None
+    try:
+        how = {"stdin": subprocess.DEVNULL, "stdout": subprocess.PIPE, "stderr": subprocess.STDOUT}
+        with subprocess.Popen(["rt", "ci"], cwd=ROOT, **how) as run:
+            for line in run.stdout or ():
+                said.append(line.decode(errors="replace"))
+                print(said[-1], end="", flush=True)
+        status = run.returncode
+    except OSError as why:
+        print(f"rt ci: {why.strerror}")
+    passed, failed = judged(Part("gate", [], 0, gate), Ended("".join(said), status))
+    print(f"gate: {passed} passed, {failed} failed ({time.monotonic() - start:.0f} s)", flush=True)
+    return passed, failed
+
+
+def run_on_program(seed: str, end: float) -> List[Counts]:
+    if not os.access(PROGRAM, os.X_OK):
+        print(f"tests on the program: 0 passed, 1 failed, since there is no {PROGRAM.relative_to(ROOT)}")
+        return [(0, 1)]
+    return run_parts(after_gate(seed), end)
+
+
+def main(words: Optional[List[str]] = None) -> int:
+    parser = argparse.ArgumentParser(description=__doc__, formatter_class=argparse.RawDescriptionHelpFormatter)
+    some = parser.add_mutually_exclusive_group()
+    some.add_argument("--quick", action="store_true", help="the unit tests alone")
+    some.add_argument("--after-gate", action="store_true", help="what stands after the gate alone")
+    parser.add_argument("--seed", default="1", help="of the generated scripts")
+    options = parser.parse_args(words)
+    counts: List[Counts] = []
+    end = time.monotonic() + MOST_SECONDS
+    if not options.after_gate:
+        counts += run_parts(before_gate(), end)
+    if not options.after_gate and not options.quick:
+        start = time.monotonic()
+        counts.append(run_gate())
+        end += time.monotonic() - start
+    if not options.quick:
+        counts += run_on_program(options.seed, end)
+    passed, failed = sum(it[0] for it in counts), sum(it[1] for it in counts)
+    print(f"{passed} passed, {failed} failed")
+    return 1 if failed else 0
+
+
+if __name__ == "__main__":
+    sys.exit(main())

@@ -1,0 +1,178 @@
+"""Tests of run_tests.py, on a tree of stubs with an `rt` that is a script."""
+
+import contextlib
+import io
+import os
+import pathlib
+import sys
+import tempfile
+import time
+import unittest
+from unittest import mock
+
+HERE = pathlib.Path(__file__).resolve().parent
+sys.path.insert(0, str(HERE.parent))
+
+import run_tests  # noqa: E402
+
+# Each stub says what the tool says whose name it has; `told` in the place of it is said instead, and ends with status 1.
+SAYS = {
+    "tools/run_examples.py": "47 examples, 0 wrong",
+    "tools/check_statuses.py": "14 runs, 0 wrong",
+    "tools/compare_workers.py": "8 scripts, 3 runs of each with workers, 0 wrong",
+    "tools/refuse_allocations.py": "153 allocations, 8 answers",
+    "fuzz/fuzz.py": "1,060 scripts, 55,530 lines, 9 bytes, 0 wrong answers, 0 other statuses, 0 hangs.",
+}
+STUB = "import sys, time\n{before}\nprint({said!r})\nsys.exit({status})\n"
+UNIT_TEST = """import os, unittest
+class Sums(unittest.TestCase):
+    def test_adds(self):
+        self.assertEqual(1 + 1, {sum})
+    @unittest.skipUnless(os.access(os.environ["PGPEER"], os.X_OK), "no program")
+    def test_on_the_program(self):
+        pass
+"""
+RT = """#!/bin/sh
+test "$*" = ci || exit 9
+echo "rt: proved"
+{build}
+echo "{last}"
+exit {status}
+"""
+BUILD = "mkdir -p crates/pgpeer/out && cp /bin/true crates/pgpeer/out/pgpeer"
+ALL = 2 + 110 + 2 + 47 + 14 + 24 + 1060 + 2 * 153
+
+
+class WithTree(unittest.TestCase):
+    def setUp(self):
+        room = tempfile.TemporaryDirectory()
+        self.addCleanup(room.cleanup)
+        self.root, self.bin = pathlib.Path(room.name) / "root", pathlib.Path(room.name) / "bin"
+        for folder in ("tools/tests", "fuzz/tests"):
+            (self.root / folder).mkdir(parents=True)
+            self.unit_test(folder, 2)
+        self.bin.mkdir()
+        for name, said in SAYS.items():
+            self.stub(name, said)
+        self.rt(BUILD, "110 passed, 0 failed", 0)
+        path = {"PATH": f"{self.bin}:{os.environ['PATH']}"}
+        program = self.root / "crates/pgpeer/out/pgpeer"
+        for patch in (
+            mock.patch.dict(os.environ, path),
+            mock.patch.object(run_tests, "ROOT", self.root),
+            mock.patch.object(run_tests, "PROGRAM", program),
+            mock.patch.object(run_tests.shutil, "which", lambda name: f"/bin/{name}"),
+        ):
+            patch.start()
+            self.addCleanup(patch.stop)
+
+    def stub(self, name, said, status=0, before=""):
+        (self.root / name).write_text(STUB.format(said=said, status=status, before=before))
+
+    def unit_test(self, folder, total):
+        (self.root / folder / "test_sums.py").write_text(UNIT_TEST.format(sum=total))
+
+    def rt(self, build, last, status):
+        (self.bin / "rt").write_text(RT.format(build=build, last=last, status=status))
+        (self.bin / "rt").chmod(0o755)
+
+    def run_all(self, *words):
+        """The status, and the lines that were written."""
+        out = io.StringIO()
+        with contextlib.redirect_stdout(out):
+            status = run_tests.main(list(words))
+        return status, out.getvalue().splitlines()
+
+
+class Runs(WithTree):
+    def test_all_parts_are_run_and_counted(self):
+        status, lines = self.run_all("--seed", "7")
+        self.assertEqual((status, lines[-1]), (0, f"{ALL} passed, 0 failed"))
+        self.assertRegex(lines[0], r"^tests of tools/: 1 passed, 0 failed, 1 skipped without the program \(\d+ s\)$")
+        self.assertIn("rt: proved", lines)
+        self.assertRegex("\n".join(lines), r"\nfuzz, seed 7: 1060 passed, 0 failed \(\d+ s\)\n")
+        self.assertRegex("\n".join(lines), r"\ntests of tools/, with the program: 2 passed, 0 failed \(\d+ s\)\n")
+
+    def test_no_file_is_left_but_in_out(self):
+        before = {it for it in self.root.rglob("*")}
+        self.run_all()
+        left = {str(it.relative_to(self.root)) for it in set(self.root.rglob("*")) - before}
+        self.assertEqual(left, {"crates", "crates/pgpeer", "crates/pgpeer/out", "crates/pgpeer/out/pgpeer"})
+
+    def test_a_failing_example_fails(self):
+        self.stub("tools/run_examples.py", "map.jsonl: answer 3 is {} and not []\n47 examples, 1 wrong", 1)
+        status, lines = self.run_all()
+        self.assertEqual((status, lines[-1]), (1, f"{ALL - 1} passed, 1 failed"))
+        self.assertIn("map.jsonl: answer 3 is {} and not []", lines)
+
+    def test_a_failing_unit_test_fails_and_all_else_is_run(self):
+        self.unit_test("fuzz/tests", 3)
+        status, lines = self.run_all()
+        self.assertEqual((status, lines[-1]), (1, f"{ALL - 1} passed, 1 failed"))
+        self.assertIn("AssertionError: 2 != 3", lines)
+
+    def test_a_gate_that_fails_and_builds_no_program_fails(self):
+        self.rt("echo 'rt: FAILED: pgp_map'", "108 passed, 2 failed", 1)
+        status, lines = self.run_all()
+        self.assertEqual((status, lines[-1]), (1, "110 passed, 3 failed"))
+        self.assertIn("tests on the program: 0 passed, 1 failed, since there is no crates/pgpeer/out/pgpeer", lines)
+
+    def test_a_gate_that_ends_early_fails(self):
+        for last, status in (("rt: stopped", 2), ("110 passed, 0 failed", 1), ("0 passed, 0 failed", 0)):
+            self.rt(BUILD, last, status)
+            self.assertEqual(self.run_all()[0], 1)
+
+    def test_a_missing_gate_fails(self):
+        (self.bin / "rt").unlink()
+        with mock.patch.dict(os.environ, {"PATH": str(self.bin)}):
+            status, lines = self.run_all()
+        self.assertEqual(status, 1)
+        self.assertIn("rt ci: No such file or directory", lines)
+
+    def test_a_part_that_says_no_count_fails(self):
+        for name in SAYS:
+            self.stub(name, "Traceback", 1)
+        status, lines = self.run_all()
+        self.assertEqual((status, lines[-1]), (1, "114 passed, 6 failed"))
+
+    def test_a_part_without_end_is_stopped(self):
+        self.stub("tools/check_statuses.py", "", before="time.sleep(60)")
+        start = time.monotonic()
+        with mock.patch.object(run_tests, "MOST_SECONDS", 8):
+            status, lines = self.run_all("--after-gate")
+        self.assertEqual(status, 1)
+        self.assertLess(time.monotonic() - start, 30)
+
+    def test_without_a_compiler_the_sweep_is_skipped(self):
+        with mock.patch.object(run_tests.shutil, "which", lambda name: None):
+            status, lines = self.run_all()
+        self.assertEqual((status, lines[-1]), (0, f"{ALL - 2 * 153} passed, 0 failed"))
+        self.assertIn("allocations refused, first.jsonl, 1 shards, 0 workers: skipped, since cc isn't there", lines)
+
+    def test_the_parts_that_are_asked_for(self):
+        status, lines = self.run_all("--quick")
+        self.assertEqual((status, len(lines), lines[-1]), (0, 3, "2 passed, 0 failed"))
+        status, lines = self.run_all("--after-gate")
+        self.assertEqual((status, lines[-1]), (1, "0 passed, 1 failed"))
+        self.run_all()
+        status, lines = self.run_all("--after-gate")
+        self.assertEqual((status, lines[-1]), (0, f"{ALL - 112} passed, 0 failed"))
+
+
+class Counts(unittest.TestCase):
+    def test_what_tools_say(self):
+        for read, said, wanted in [
+            (run_tests.unit_tests, "Ran 78 tests in 1s\n\nFAILED (failures=1, errors=2, skipped=8)\n", (67, 3)),
+            (run_tests.unit_tests, "Ran 1 test in 1s\n\nOK\n", (1, 0)),
+            (run_tests.gate, "3 passed, 0 failed\nrt: ok\n110 passed, 2 failed\n", (110, 2)),
+            (run_tests.tried_and_wrong, "a: wrong\n14 runs, 3 wrong\n", (11, 3)),
+            (run_tests.compared_runs, "8 scripts, 3 runs of each with workers, 5 wrong\n", (19, 5)),
+            (run_tests.scripts, "1,060 scripts, 5 lines, 2 wrong answers, 1 other statuses, 3 hangs.\nScripts: 1 full.\n", (1054, 6)),
+            (run_tests.allocations, "153 allocations, 8 answers\n   151 all answers\nwrong where these were refused: [3, 17]\n", (151, 2)),
+        ]:
+            self.assertEqual(read(said), wanted)
+            self.assertIsNone(read("Traceback\n"))
+
+
+if __name__ == "__main__":
+    unittest.main()
