@@ -32,7 +32,7 @@ import shutil
 import subprocess
 import sys
 import tempfile
-from typing import Dict, Iterable, Iterator, List, NamedTuple, Optional, Tuple
+from typing import Dict, Iterator, List, NamedTuple, Optional, Tuple
 
 ROOT = pathlib.Path(__file__).resolve().parent.parent
 RESULT = re.compile(r"must-fail (\w+)/(\S+\.edit): (refused|NOT REFUSED|BAD EDIT)")
@@ -170,11 +170,11 @@ def made(texts: Dict[pathlib.Path, str]) -> Iterator[None]:
             file.write_bytes(content)
 
 
-def tests_run(tree: Tree, crate: str, names: Iterable[str]) -> Tuple[Dict[str, str], str]:
-    """Runs tests of a crate without a proof: how each ended, `ok` or `FAILED`, and all that was said."""
-    words = ["rt", "try", "--test", "--seconds", str(tree.seconds), "--", *names]
+def test_run(tree: Tree, crate: str, test: str) -> Tuple[Optional[str], str]:
+    """Runs a test of a crate without a proof: how it ended, `ok` or `FAILED`, or None where it didn't run, and what was said."""
+    words = ["rt", "try", "--test", "--seconds", str(tree.seconds), "--", test]
     run = subprocess.run(words, cwd=tree.crates / crate, stdout=subprocess.PIPE, stderr=subprocess.STDOUT, text=True)
-    return {found[1]: found[2] for found in ENDED.finditer(run.stdout)}, run.stdout
+    return {found[1]: found[2] for found in ENDED.finditer(run.stdout)}.get(test), run.stdout
 
 
 def told_by(said: str, test: str) -> str:
@@ -191,10 +191,10 @@ def verdict(tree: Tree, edit: Edit) -> Tuple[bool, str]:
     except BadEdit as why:
         return False, f"BAD EDIT: {why}"
     with made(texts):
-        ended, said = tests_run(tree, edit.tests, [edit.test])
-    if ended.get(edit.test) == "FAILED":
+        ended, said = test_run(tree, edit.tests, edit.test)
+    if ended == "FAILED":
         return True, f"failed: {told_by(said, edit.test)}"
-    if ended.get(edit.test) == "ok":
+    if ended == "ok":
         return False, "NOT REFUSED"
     print(said[-2000:], end="", flush=True)
     return False, "BAD EDIT: the test didn't run"
@@ -203,14 +203,12 @@ def verdict(tree: Tree, edit: Edit) -> Tuple[bool, str]:
 def failing_unchanged(tree: Tree, edits: List[Edit]) -> List[str]:
     """The tests that don't pass where nothing is changed."""
     failing = []
-    for crate in sorted({edit.tests for edit in edits}):
-        names = sorted({edit.test for edit in edits if edit.tests == crate})
-        ended, said = tests_run(tree, crate, names)
-        failing += [f"{crate}: {name}" for name in names if ended.get(name) != "ok"]
-        passed = sum(ended.get(name) == "ok" for name in names)
-        print(f"{crate}, unchanged: {passed} of {len(names)} tests pass", flush=True)
-        if passed < len(names):
+    for crate, test in sorted({(edit.tests, edit.test) for edit in edits}):
+        ended, said = test_run(tree, crate, test)
+        print(f"{crate}, unchanged: {test} {ended or 'did not run'}", flush=True)
+        if ended != "ok":
             print(said[-2000:], end="", flush=True)
+            failing.append(f"{crate}: {test}")
     return failing
 
 

@@ -24,13 +24,13 @@ if words[0] == "must-fail":
         what = "refused, as it must be" if "wrong" in file.read_text() else "NOT REFUSED"
         print(f"rt: must-fail {{words[1]}}/{{file.name}}: {{what}}")
     sys.exit(0)
-assert words[:3] == ["try", "--test", "--seconds"] and words[4] == "--", words
+assert words[:3] == ["try", "--test", "--seconds"] and words[4] == "--" and len(words) == 6, words
 text = pathlib.Path("../low/src/lib.rt").read_text()
 if "unreadable" in text:
     print("src/lib.rt:1:1: error\\nrun=none proved=no")
     sys.exit(1)
 for name in ("adds", "counts", "stops"):
-    if any(it in name for it in words[5:]):
+    if words[5] in name:
         fails = name == "stops" or name == "adds" and "two = 2" not in text
         print(f"test sums::{{name}} ... " + ("FAILED\\n    left: 1\\n    right: 3" if fails else "ok"))
 """
@@ -76,7 +76,7 @@ class RefusedByTests(WithTree):
         self.edit("adds_three")
         status, out = self.run_tool("--tests")
         self.assertEqual(status, 0)
-        self.assertIn("low_tests, unchanged: 1 of 1 tests pass\n", out)
+        self.assertIn("low_tests, unchanged: adds ok\n", out)
         self.assertIn("| low_tests | adds_three | low | adds | failed: left: 1; right: 3 |", out)
 
     def test_a_test_that_passes_does_not(self):
