@@ -1,4 +1,6 @@
 //! A log that gets as long as it may has the same answers over an engine as on one thread.
+//!
+//! Under `rt try --test`, which looks at each access, these tests take minutes: it needs `--seconds`.
 
 ghost use Rattle.std.specs.Prelude.{◌≤◌};
 
