@@ -1,12 +1,13 @@
 //! Which front a shard reads, and by which one it answers.
 use crate::desk::{Desk, Placer, Ticket};
-use crate::lines::{SHARD, TO_SERVE};
+use crate::lines::{EMPTY_0, SHARD, TO_SERVE};
 use crate::opened::{Trial, tried};
-use crate::steps::{are_level, ask, holds, is_count, is_level, put, read_on, serves};
+use crate::steps::{are_level, ask, holds, is_count, is_level, put, put_map, read_on, serves};
 use pgp_engine::Naming;
 use std::process::Abort;
 use std::sync::Wait;
 use std::thread::{Threads, join, yield_now};
+use std::time::{Clock, Instant};
 
 /// How often a thread looks at most.
 const TURNS: u32 = 1_000_000;
@@ -128,4 +129,69 @@ pub fn ask_by_first<J: Naming, R: Wait + Abort + AllocGlobal>(
 #[test]
 fn an_ask_reads_past_the_callers_receipt(rt: HostRuntime) {
     tried(&rt, Trial::FirstReceipt);
+}
+
+// Lets the shard take turns in which there is nothing to read, before anyone asks about its group.
+pub fn ask_ahead<J: Naming, R: Wait + Abort + AllocGlobal>(
+    rt: &R,
+    desk: &Desk<J>,
+    client: &mut Placer<J>,
+) {
+    let told = submit_all(rt, desk);
+    for _ in 0..3 {
+        let read = read_on(rt, desk, SHARD, TO_SERVE.len());
+        is_level(rt, client, &read, &told);
+    }
+    serves(rt, desk);
+}
+
+#[test]
+fn a_group_that_was_worked_out_ahead_is_answered_as_any(rt: HostRuntime) {
+    tried(&rt, Trial::WorkedAhead);
+}
+
+/// How many infos a shard reads at its first ask.
+const INFOS: usize = 10_000;
+
+/// How often it is asked then.
+const ASKS: usize = 20;
+
+// How many nanoseconds an ask takes.
+fn time_of_ask<J: Naming, R: Wait + Abort + Clock>(
+    rt: &R,
+    desk: &Desk<J>,
+    known: &Ticket<J>,
+) -> u128 {
+    let start = Instant::now(rt).ok().expect(rt, "a clock");
+    let _answer = ask(rt, desk, known);
+    start.elapsed(rt).ok().expect(rt, "a clock").as_nanos()
+}
+
+// The quickest of many asks after which nothing came, in nanoseconds.
+fn time_of_quickest<J: Naming, R: Wait + Abort + Clock>(
+    rt: &R,
+    desk: &Desk<J>,
+    known: &Ticket<J>,
+) -> u128 {
+    let mut least = u128::MAX;
+    for _ in 0..ASKS {
+        least = least.min(time_of_ask(rt, desk, known));
+    }
+    least
+}
+
+// The first ask reads all infos. A later one that did so too would take about as long.
+pub fn ask_once_more<J: Naming, R: Wait + Abort + Clock + AllocGlobal>(rt: &R, desk: &Desk<J>) {
+    let mut told = put_map(rt, desk);
+    for _ in 0..INFOS {
+        told = put(rt, desk, EMPTY_0, &told);
+    }
+    let first = time_of_ask(rt, desk, &told);
+    let least = time_of_quickest(rt, desk, &told);
+    assert!(rt; least < first / 8, "a shard reads an entry once");
+}
+
+#[test]
+fn a_shard_reads_an_entry_once(rt: HostRuntime) {
+    tried(&rt, Trial::ReadOnce);
 }

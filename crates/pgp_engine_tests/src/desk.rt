@@ -2,15 +2,16 @@
 //! hand any of them to any thread.
 ghost use Rattle.std.specs.Prelude.{◌≡◌, ◌<◌};
 ghost use Rattle.pgp_feed.specs.Receipts.{feed_of};
-ghost use Rattle.pgp_engine_tests.specs.declared.opened.TheConstants.{SHARDS, WORKERS};
+ghost use Rattle.pgp_engine_tests.specs.declared.opened.TheConstants.{SHARDS};
 
-use crate::opened::{SHARDS, WORKERS};
+use crate::opened::SHARDS;
 use pgp_engine::{AskFault, Client, Engine, Gate, LocateFault, Naming, SubmitFault};
 use pgp_feed::Receipt;
 use pgp_ids::{Entry, Epoch, Membership, ObjectName, PgId, PoolId, View};
 use pgp_text::Reply;
 use std::cmp::Ordering;
 use std::marker::PhantomData;
+use std::process::Abort;
 use std::sync::Wait;
 
 /// A receipt of the engine's feed.
@@ -90,17 +91,18 @@ impl<J: Naming> Told<J> {
     }
 }
 
-/// An engine of two shards and two workers.
+/// An engine of two shards.
 pub struct Desk<J: Naming> {
     engine: Engine<J>,
-    ghost sizes: { engine ≡ record { shards = SHARDS; workers = WORKERS } },
+    workers: usize,
+    ghost sizes: { engine ≡ record { shards = SHARDS; workers = workers } },
 }
 
 impl<J: Naming> Desk<J> {
-    pub fn over(engine: Engine<J>) -> Desk<J>
-        requires { engine ≡ record { shards = SHARDS; workers = WORKERS } }
+    pub fn over(engine: Engine<J>, workers: usize) -> Desk<J>
+        requires { engine ≡ record { shards = SHARDS; workers = workers } }
     {
-        Desk { engine }
+        Desk { engine, workers }
     }
 
     pub fn told<R: Wait>(&self, rt: &R) -> Ticket<J> {
@@ -142,14 +144,13 @@ impl<J: Naming> Desk<J> {
     }
 
     /// Serves the shards of a seat until they have read a Close. It has none: there is no ticket.
-    pub fn work<R: Wait, G: Gate>(
+    pub fn work<R: Wait + Abort, G: Gate>(
         &self,
         rt: &R,
         seat: usize,
         gate: &G,
-    ) -> Result<Option<Ticket<J>>, AskFault>
-        requires { seat < WORKERS }
-    {
+    ) -> Result<Option<Ticket<J>>, AskFault> {
+        assert!(rt; seat < self.workers, "a seat");
         match self.engine.work(rt, seat, gate)? {
             Some(receipt) => Ok(Some(Ticket::over(receipt))),
             None => Ok(None),
@@ -157,7 +158,7 @@ impl<J: Naming> Desk<J> {
     }
 
     pub fn end(self, rt: &impl Wait) {
-        let Desk { engine } = self;
+        let Desk { engine, workers: _ } = self;
         engine.give_up(rt);
     }
 }

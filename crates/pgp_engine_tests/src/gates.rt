@@ -148,6 +148,11 @@ impl<C: Clock> Both<C> {
         }
     }
 
+    /// The worker of each shard was there.
+    pub fn was_reached(&self) -> bool {
+        self.reached[0].is_raised() && self.reached[1].is_raised()
+    }
+
     pub fn ran_out(&self) -> bool {
         self.ran_out.is_raised()
     }

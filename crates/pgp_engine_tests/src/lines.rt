@@ -13,6 +13,9 @@ pub const MAP: &str =
 /// The shard that answers for the group.
 pub const SHARD: usize = 1;
 
+/// Puts the group on the same devices in another order.
+pub const MOVE: &str = r#"{"op":"inc","epoch":2,"temp":[[1,0,[2,1,0]]]}"#;
+
 /// An incremental of epoch 1 that changes nothing.
 pub const STEP: &str = r#"{"op":"inc","epoch":1}"#;
 
@@ -42,6 +45,10 @@ pub const SERVES: &str =
 /// Where the map puts the object that clients look for.
 pub const PLACE: &str =
     r#"{"acting":[0,1,2],"acting_primary":0,"epoch":1,"ok":"locate","pg":[1,0],"up":[0],"up_primary":0}"#;
+
+/// Where the map puts it once the group was moved.
+pub const MOVED: &str =
+    r#"{"acting":[2,1,0],"acting_primary":2,"epoch":2,"ok":"locate","pg":[1,0],"up":[0],"up_primary":0}"#;
 
 /// The one group of the pool.
 pub fn group() -> PgId {

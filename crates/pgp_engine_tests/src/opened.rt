@@ -1,15 +1,17 @@
 //! How a test gets its engine, over a feed that was just made.
-ghost use Rattle.std.specs.Prelude.{◌≡◌, length};
+ghost use Rattle.std.specs.Prelude.{◌≡◌, ◌≤◌, length};
 ghost use Rattle.pgp_engine_tests.specs.Opened.{IsOpened};
 
-use crate::absorbs::{absorb_by_two, ask_by_first, ask_by_older};
-use crate::clients::place_by_two;
+use crate::absorbs::{absorb_by_two, ask_ahead, ask_by_first, ask_by_older, ask_once_more};
+use crate::clients::{outlive, place_by_two};
 use crate::closes::close_and_submit;
 use crate::desk::{Desk, Placer};
 use crate::growths::call_again;
 use crate::races::race;
 use crate::submits::{submit_many_times, submit_twice};
-use crate::workers::{close_beside, hold_one, place_past_both, work_at_once};
+use crate::workers::{
+    close_beside, hold_one, leave_one_idle, place_past_both, wake_each, work_at_once,
+};
 use pgp_engine::{Client, Engine, MakeFault, Naming};
 use pgp_feed::{Feed, Tap};
 use std::marker::Brand;
@@ -21,8 +23,8 @@ use std::time::Clock;
 /// How many shards the engines of the tests have.
 pub const SHARDS: usize = 2;
 
-/// How many workers serve them.
-pub const WORKERS: usize = 2;
+/// How many workers serve them, one for each shard.
+const WORKERS: usize = SHARDS;
 
 /// How many taps their feeds have: one for each shard and for the intake, and two for clients.
 const TAPS: usize = SHARDS + 3;
@@ -43,6 +45,11 @@ pub enum Trial {
     BothAtOnce,
     ClientPasses,
     CloseBeside,
+    WorkedAhead,
+    ReadOnce,
+    EachWoken,
+    MoreWorkers,
+    Outlived,
 }
 
 fn run<
@@ -63,6 +70,11 @@ fn run<
         Trial::BothAtOnce => work_at_once(rt, desk, one),
         Trial::ClientPasses => place_past_both(rt, desk, one),
         Trial::CloseBeside => close_beside(rt, desk, one),
+        Trial::WorkedAhead => ask_ahead(rt, desk, one),
+        Trial::ReadOnce => ask_once_more(rt, desk),
+        Trial::EachWoken => wake_each(rt, desk, one),
+        Trial::MoreWorkers => leave_one_idle(rt, desk, one),
+        Trial::Outlived => {}
     }
 }
 
@@ -91,21 +103,36 @@ fn over<
     requires opened { IsOpened feed taps.items J.feed }
     requires count { length taps.items ≡ TAPS }
 {
-    let (engine, clients) = Engine::<J>::make(rt, rt.alloc(), feed, taps, SHARDS, WORKERS)?;
-    let desk = Desk::over(engine);
-    run_with(rt, trial, &desk, clients);
-    desk.end(rt);
+    let workers = workers_of(trial);
+    let (engine, clients) = Engine::<J>::make(rt, rt.alloc(), feed, taps, SHARDS, workers)?;
+    run_with(rt, trial, Desk::over(engine, workers), clients);
     Ok(())
+}
+
+// How many workers the engine has.
+fn workers_of(trial: Trial) -> usize
+    ensures { (1 ≤ result) × (result ≤ 64) }
+{
+    match trial {
+        Trial::MoreWorkers => WORKERS + 1,
+        _ => WORKERS,
+    }
 }
 
 fn run_with<
     J: Naming + Send + Sync,
     R: Threads + Wait + Abort + Clock + AllocGlobal + Sync + Copy + Drop,
->(rt: &R, trial: Trial, desk: &Desk<J>, clients: Vec<Client<J>>)
+>(rt: &R, trial: Trial, desk: Desk<J>, clients: Vec<Client<J>>)
     requires { length clients.items ≡ 2 }
 {
     let (mut one, mut other) = both(clients);
-    run(rt, trial, desk, &mut one, &mut other);
+    match trial {
+        Trial::Outlived => outlive(rt, desk, &mut one, &mut other),
+        _ => {
+            run(rt, trial, &desk, &mut one, &mut other);
+            desk.end(rt);
+        }
+    }
 }
 
 // The two clients.

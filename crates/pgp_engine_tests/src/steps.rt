@@ -3,7 +3,7 @@ ghost use Rattle.std.specs.Prelude.{◌<◌};
 ghost use Rattle.pgp_engine_tests.specs.declared.opened.TheConstants.{SHARDS};
 
 use crate::desk::{Desk, Placed, Placer, Ticket, Told};
-use crate::lines::{MAP, PLACE, SERVES, entry, group, is_placed, is_told, object};
+use crate::lines::{MAP, SERVES, entry, group, is_placed, is_told, object};
 use crate::opened::SHARDS;
 use pgp_engine::Naming;
 use pgp_ids::{Entry, ObjectName, PoolId, View};
@@ -113,8 +113,8 @@ pub fn find<J: Naming, R: Abort>(
     client.locate(pool, name).ok().expect(rt, "a place")
 }
 
-/// The object lies where the map puts it.
-pub fn lies<J: Naming, R: Abort + AllocGlobal>(rt: &R, place: Placed<J>) {
-    let text = is_placed(rt.alloc(), place, PLACE);
+/// This is what is answered of an object that lies there.
+pub fn lies<J: Naming, R: Abort + AllocGlobal>(rt: &R, place: Placed<J>, answer: &str) {
+    let text = is_placed(rt.alloc(), place, answer);
     assert!(rt; text.ok().expect(rt, "memory"));
 }

@@ -1,7 +1,7 @@
 //! What workers do, each on a thread of its own.
 use crate::desk::{Desk, Placer, Ticket};
 use crate::gates::{Both, Held, rest};
-use crate::lines::{CLOSE, EMPTY_0, EMPTY_1};
+use crate::lines::{CLOSE, EMPTY_0, EMPTY_1, MOVE, MOVED, PLACE};
 use crate::opened::{Trial, tried};
 use crate::races::{Outcome, both_submit};
 use crate::refusals::was_refused;
@@ -13,8 +13,9 @@ use pgp_ids::Entry;
 use std::cmp::Ordering;
 use std::process::Abort;
 use std::sync::Wait;
+use std::thread;
 use std::thread::{Threads, join};
-use std::time::Clock;
+use std::time::{Clock, Duration};
 
 /// How often a thread looks at most.
 const TURNS: u32 = 100_000;
@@ -42,14 +43,15 @@ fn close<J: Naming, R: Wait + Abort + AllocGlobal>(rt: &R, desk: &Desk<J>) -> Ti
     put(rt, desk, CLOSE, &desk.told(rt))
 }
 
-// Adds an info, on a thread of its own.
+// Submits the entry that the line is, on a thread of its own.
 fn add_elsewhere<J: Naming + Send + Sync, R: Threads + Wait + Abort + AllocGlobal + Sync>(
     rt: &R,
     desk: &Desk<J>,
+    line: &str,
     known: &Ticket<J>,
 ) -> Ticket<J> {
-    let info = given(rt, EMPTY_0);
-    let (told, ()) = join(rt, || desk.submit(rt, info, known), || ());
+    let next = given(rt, line);
+    let (told, ()) = join(rt, || desk.submit(rt, next, known), || ());
     told.ok().expect(rt, "taken")
 }
 
@@ -87,7 +89,7 @@ fn ask_past<
     R: Threads + Wait + Abort + Clock + AllocGlobal + Sync + Copy + Drop,
 >(rt: &R, desk: &Desk<J>, gate: &Held<R>, map: &Ticket<J>) {
     assert!(rt; gate.is_reached());
-    let told = add_elsewhere(rt, desk, map);
+    let told = add_elsewhere(rt, desk, EMPTY_0, map);
     let answer = ask(rt, desk, &told);
     is_count(rt, answer.at.len(), told.len());
     is_count(rt, answer.view.count, told.len());
@@ -110,6 +112,7 @@ pub fn work_at_once<
     let gate = Both::new(*rt);
     let (ends, closed) = work_and_look(rt, desk, &gate, map.len());
     assert!(rt; !gate.ran_out());
+    assert!(rt; gate.was_reached(), "both workers pass the gate");
     are_level(rt, client, &ends, &closed);
 }
 
@@ -147,12 +150,14 @@ fn two_workers_are_in_at_once(rt: HostRuntime) {
     tried(&rt, Trial::BothAtOnce);
 }
 
-// The gate forces it: both shards are held until the client has placed its object.
+// The gate forces it: both shards are held until the client has placed its object, by another map than it did before.
 pub fn place_past_both<
     J: Naming + Send + Sync,
     R: Threads + Wait + Abort + Clock + AllocGlobal + Sync + Copy + Drop,
 >(rt: &R, desk: &Desk<J>, client: &mut Placer<J>) {
     let map = put_map(rt, desk);
+    let (pool, name) = sought(rt);
+    lies(rt, find(rt, client, pool, &name), PLACE);
     let gate = Held::new(*rt, [true, true]);
     let (ends, closed) = work_and_place(rt, desk, &gate, &map, client);
     assert!(rt; !gate.ran_out());
@@ -187,12 +192,12 @@ fn place_past<
     R: Threads + Wait + Abort + Clock + AllocGlobal + Sync + Copy + Drop,
 >(rt: &R, desk: &Desk<J>, gate: &Held<R>, map: &Ticket<J>, client: &mut Placer<J>) {
     assert!(rt; gate.is_reached());
-    let told = add_elsewhere(rt, desk, map);
+    let told = add_elsewhere(rt, desk, MOVE, map);
     client.learn(&told);
     let (pool, name) = sought(rt);
     let place = find(rt, client, pool, &name);
     holds(rt, client, &place.at, &told);
-    lies(rt, place);
+    lies(rt, place, MOVED);
 }
 
 #[test]
@@ -271,4 +276,71 @@ pub fn close_beside<
 #[test]
 fn infos_beside_a_close_are_taken_or_refused_by_it(rt: HostRuntime) {
     tried(&rt, Trial::CloseBeside);
+}
+
+/// How many infos are submitted, each to workers that sleep.
+const INFOS: usize = 20;
+
+// Both shards read each info by themselves, though the workers had time to fall asleep before it.
+fn wake_and_close<J: Naming, R: Wait + Abort + Clock + AllocGlobal>(
+    rt: &R,
+    desk: &Desk<J>,
+) -> Ticket<J> {
+    let mut told = desk.told(rt);
+    for _ in 0..INFOS {
+        assert!(rt; is_read(rt, desk, told.len()), "a submit wakes the workers");
+        thread::sleep(rt, Duration::from_millis(1));
+        told = put(rt, desk, EMPTY_0, &told);
+    }
+    assert!(rt; is_read(rt, desk, told.len()), "a submit wakes the workers");
+    close(rt, desk)
+}
+
+// No gate forces it that the workers sleep: a millisecond is ample for them to find that there is nothing to read.
+pub fn wake_each<J: Naming + Send + Sync, R: Threads + Wait + Abort + Clock + AllocGlobal + Sync>(
+    rt: &R,
+    desk: &Desk<J>,
+    client: &mut Placer<J>,
+) {
+    put_map(rt, desk);
+    let (ends, closed) = join(
+        rt,
+        || both_work(rt, desk, &Open),
+        || wake_and_close(rt, desk),
+    );
+    are_level(rt, client, &ends, &closed);
+}
+
+#[test]
+fn each_submit_wakes_the_workers(rt: HostRuntime) {
+    tried(&rt, Trial::EachWoken);
+}
+
+// What the worker of the third seat ends with, and then the Close.
+fn idle_and_close<J: Naming, R: Wait + Abort + AllocGlobal>(rt: &R, desk: &Desk<J>) -> Ticket<J> {
+    let idle = desk.work(rt, 2, &Open);
+    assert!(rt;
+        idle.ok().expect(rt, "no fault").is_none(),
+        "a worker without a shard"
+    );
+    close(rt, desk)
+}
+
+// Three workers over two shards: the third ends before the log is closed.
+pub fn leave_one_idle<
+    J: Naming + Send + Sync,
+    R: Threads + Wait + Abort + Clock + AllocGlobal + Sync,
+>(rt: &R, desk: &Desk<J>, client: &mut Placer<J>) {
+    put_map(rt, desk);
+    let (ends, closed) = join(
+        rt,
+        || both_work(rt, desk, &Open),
+        || idle_and_close(rt, desk),
+    );
+    are_level(rt, client, &ends, &closed);
+}
+
+#[test]
+fn a_worker_without_a_shard_ends_at_once(rt: HostRuntime) {
+    tried(&rt, Trial::MoreWorkers);
 }
