@@ -1,8 +1,9 @@
 //! How an engine is made.
-ghost use Rattle.std.specs.Prelude.{◌≡◌, ◌+◌, ◌<◌, ◌≤◌, [], length, All, IfOk, OnOk};
+ghost use Rattle.std.specs.Prelude.{◌≡◌, ◌+◌, ◌<◌, ◌≤◌, [], length, All, IfOk, IfErr, OnOk};
 ghost use Rattle.pgp_feed.specs.Receipts.{entries_of, feed_of};
 ghost use Rattle.pgp_feed.specs.Feeds.{told_of};
 ghost use Rattle.pgp_feed.specs.Taps.{last_of};
+ghost use Rattle.pgp_feed.specs.declared.fault.MakeFault.TheVariants.{Memory};
 ghost use Rattle.pgp_engine.specs.Clients.{IsNew};
 
 use super::Engine;
@@ -50,8 +51,8 @@ fn make_clients<J: Naming>(alloc: Global, taps: Vec<Tap>) -> Result<Vec<Client<J
 
 impl<J: Naming> Engine<J> {
     /// The engine over a feed in which nothing was published yet, with so many shards, to be served by so many workers, and a
-    /// client for each tap that neither a shard nor the intake has, with the empty front. Refused for want of memory, the
-    /// feed is given up.
+    /// client for each tap that neither a shard nor the intake has, with the empty front. Refused, which is for `Memory`
+    /// alone, the feed is given up.
     pub fn make<R: Wait>(
         rt: &R,
         alloc: Global,
@@ -69,6 +70,7 @@ impl<J: Naming> Engine<J> {
         ensures sizes { IfOk result (λ made. made.0 ≡ record { shards = shards; workers = workers }) }
         ensures clients { IfOk result (λ made. length made.1.items + shards + 1 ≡ length taps.items) }
         ensures new { IfOk result (λ made. All IsNew made.1.items) }
+        ensures err { IfErr result (λ fault. fault ≡ Memory) }
     {
         let (engine, taps) = Engine::over(rt, alloc, feed, taps, shards, workers)?;
         match make_clients(alloc, taps) {
@@ -98,6 +100,7 @@ impl<J: Naming> Engine<J> {
         ensures sizes { IfOk result (λ made. made.0 ≡ record { shards = shards; workers = workers }) }
         ensures left { IfOk result (λ made. length made.1.items + shards + 1 ≡ length taps.items) }
         ensures feed { IfOk result (λ made. All (λ tap. feed_of (last_of tap) ≡ J.feed) made.1.items) }
+        ensures err { IfErr result (λ fault. fault ≡ Memory) }
     {
         let mut taps = taps;
         let Ok(all) = make_shards(alloc, &mut taps, shards) else {
