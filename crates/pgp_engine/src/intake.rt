@@ -1,11 +1,10 @@
 //! Where entries come in: the one writer of the log, and the judge of what the log takes next.
 use crate::naming::Naming;
+use crate::unread::Unread;
 use pgp_feed::{Feed, Tap};
-use pgp_ids::Entry;
 use pgp_log::Judge;
 use std::alloc::Global;
 use std::marker::{Model, PhantomData};
-use std::sync::Arc;
 
 mod judging;
 mod steps;
@@ -19,8 +18,8 @@ pub struct Intake<J: Naming> {
     feed: Feed,
     tap: Tap,
     judge: Judge,
-    // What the judge has to take, kept from one submit to the next for its room.
-    unread: Vec<Arc<Entry>>,
+    // Where what the judge has to take is read to.
+    unread: Unread,
     of: PhantomData<J>,
 }
 

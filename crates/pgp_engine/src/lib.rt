@@ -17,6 +17,7 @@ mod intake;
 mod naming;
 mod shard;
 mod submitted;
+mod unread;
 
 pub use answer::Answer;
 pub use client::{Client, LocateFault, Place};

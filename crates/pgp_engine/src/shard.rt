@@ -1,10 +1,9 @@
 //! A shard of the engine: it reads the feed, and answers for some of the groups.
 use crate::naming::Naming;
+use crate::unread::Unread;
 use pgp_feed::{Receipt, Tap};
-use pgp_ids::Entry;
 use pgp_log::ShardState;
 use std::marker::{Model, PhantomData};
-use std::sync::Arc;
 
 mod reading;
 mod steps;
@@ -15,8 +14,8 @@ pub struct Shard<J: Naming> {
     state: ShardState,
     front: Receipt,
     tap: Tap,
-    // What is read next, kept from one turn to the next for its room.
-    unread: Vec<Arc<Entry>>,
+    // Where the next entries are read to.
+    unread: Unread,
     of: PhantomData<J>,
 }
 

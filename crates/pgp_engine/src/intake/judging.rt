@@ -13,6 +13,7 @@ ghost use Rattle.pgp_engine.specs.Intakes.{MayRefuse};
 ghost use Rattle.pgp_engine.specs.declared.fault.SubmitFault.TheVariants as submit;
 
 use crate::fault::SubmitFault;
+use crate::unread::Unread;
 use pgp_feed::{Feed, Receipt, Tap};
 use pgp_ids::{Entry, Refusal};
 use pgp_log::Judge;
@@ -45,7 +46,7 @@ pub(super) fn catch_up(
     judge: &mut Judge,
     told: &Receipt,
     tap: &mut Tap,
-    unread: &mut Vec<Arc<Entry>>,
+    unread: &mut Unread,
 ) -> Result<(), SubmitFault>
     requires feed { feed_of told.now ≡ feed_of (last_of tap.old) }
     requires follows { Follows (entries_of told.now) judge.old }
@@ -58,9 +59,10 @@ pub(super) fn catch_up(
     if taken == told.len() {
         return Ok(());
     }
-    unread.clear();
-    tap.read(told, taken, unread)?;
-    take_all(judge, unread.as_slice())?;
+    let mut list = unread.lend();
+    tap.read(told, taken, &mut list)?;
+    take_all(judge, list.as_slice())?;
+    unread.keep(list);
     Ok(())
 }
 

@@ -12,6 +12,7 @@ use super::judging::{catch_up, fits, publish};
 use crate::fault::SubmitFault;
 use crate::naming::Naming;
 use crate::submitted::Submitted;
+use crate::unread::Unread;
 use pgp_feed::{Feed, Receipt, Tap};
 use pgp_ids::Entry;
 use pgp_log::Judge;
@@ -32,7 +33,7 @@ impl<J: Naming> Intake<J> {
             feed,
             tap,
             judge: Judge::start(alloc),
-            unread: Vec::new(alloc),
+            unread: Unread::new(alloc),
             of: PhantomData,
         }
     }

@@ -18,6 +18,7 @@ use super::reading::{after, longer};
 use crate::answer::Answer;
 use crate::fault::AskFault;
 use crate::naming::Naming;
+use crate::unread::Unread;
 use pgp_feed::{Receipt, Tap};
 use pgp_ids::{AskRefusal, PgId};
 use pgp_log::ShardState;
@@ -39,7 +40,7 @@ impl<J: Naming> Shard<J> {
             state: ShardState::start(alloc, shard, shards),
             front,
             tap,
-            unread: Vec::new(alloc),
+            unread: Unread::new(alloc),
             of: PhantomData,
         }
     }
@@ -66,10 +67,11 @@ impl<J: Naming> Shard<J> {
         if read == target.len() {
             return Ok(());
         }
-        self.unread.clear();
-        self.tap.read(target, read, &mut self.unread)?;
-        match self.state.absorb_all(self.unread.as_slice()) {
+        let mut unread = self.unread.lend();
+        self.tap.read(target, read, &mut unread)?;
+        match self.state.absorb_all(unread.as_slice()) {
             Ok(()) => {
+                self.unread.keep(unread);
                 self.front = target.again();
                 Ok(())
             }

@@ -13,7 +13,7 @@ returns-clause-follows c =
     let log : List Entry = entries_of c.args.told.now in
     let news : List Entry = map arc_value c.as_slice.result.now in
     let rest : news ≡ drop (length f.taken) log =
-    ap (map arc_value) c.as_slice.ensures.value ∙ (appended _ _ _ c.clear.ensures.items c.in_ok-read.ensures.read.0 ∙ ap (λ n. drop n log) (c.count-taken.ensures.count f.taken f.is_judge)) in
+    ap (map arc_value) c.as_slice.ensures.value ∙ (appended _ _ _ c.lend-list.ensures c.in_ok-read.ensures.read.0 ∙ ap (λ n. drop n log) (c.count-taken.ensures.count f.taken f.is_judge)) in
     follows_log log c.take_all.new.judge
     (subst (λ (l : List Entry). IsJudgeOf l c.take_all.new.judge) (with_rest f.taken log news f.is_front rest)
     (c.in_ok-take_all.ensures.ok f.taken f.is_judge (rest_legal f.taken log news f.is_front rest c.len.ensures.legal)))

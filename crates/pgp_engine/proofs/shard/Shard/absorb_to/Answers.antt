@@ -19,7 +19,7 @@ absorb_all-requires g c =
     let f : IsFrontOf front log = subst (λ (s : Reader). IsFrontOf s.front log) (sym c.self.view_is) c.requires.more in
     let read : c.len-read.result ≡ length front = c.len-read.ensures.length ∙ ap length c.self.invariant.named.entries in
     let rest : news ≡ drop (length front) log =
-    ap (map arc_value) c.as_slice.ensures.value ∙ (appended _ _ _ c.clear.ensures.items c.in_ok-read.ensures.read.0 ∙ ap (λ n. drop n log) read) in
+    ap (map arc_value) c.as_slice.ensures.value ∙ (appended _ _ _ c.lend-unread.ensures c.in_ok-read.ensures.read.0 ∙ ap (λ n. drop n log) read) in
     rest_legal front log news f rest c.len.ensures.legal
 
 pub returns-in-Ok-clause-ok : goal.returns-in-Ok-clause-ok
@@ -30,7 +30,7 @@ returns-in-Ok-clause-ok g c =
     let f : IsFrontOf front log = subst (λ (s : Reader). IsFrontOf s.front log) (sym c.self.view_is) c.requires.more in
     let read : c.len-read.result ≡ length front = c.len-read.ensures.length ∙ ap length c.self.invariant.named.entries in
     let rest : news ≡ drop (length front) log =
-    ap (map arc_value) c.as_slice.ensures.value ∙ (appended _ _ _ c.clear.ensures.items c.in_ok-read.ensures.read.0 ∙ ap (λ n. drop n log) read) in
+    ap (map arc_value) c.as_slice.ensures.value ∙ (appended _ _ _ c.lend-unread.ensures c.in_ok-read.ensures.read.0 ∙ ap (λ n. drop n log) read) in
     c.in-Ok.ensures.ok.front_is ∙ with_rest front log news f rest
 
 pub returns-in-Ok-clause-marks : goal.returns-in-Ok-clause-marks
@@ -41,7 +41,7 @@ returns-in-Ok-clause-marks g c = λ same.
     let f : IsFrontOf front log = subst (λ (s : Reader). IsFrontOf s.front log) (sym c.self.view_is) c.requires.more in
     let read : c.len-read.result ≡ length front = c.len-read.ensures.length ∙ ap length c.self.invariant.named.entries in
     let rest : news ≡ drop (length front) log =
-    ap (map arc_value) c.as_slice.ensures.value ∙ (appended _ _ _ c.clear.ensures.items c.in_ok-read.ensures.read.0 ∙ ap (λ n. drop n log) read) in
+    ap (map arc_value) c.as_slice.ensures.value ∙ (appended _ _ _ c.lend-unread.ensures c.in_ok-read.ensures.read.0 ∙ ap (λ n. drop n log) read) in
     let now : c.absorb_all.new.self.front ≡ log = c.in-Ok.ensures.ok.front_is ∙ with_rest front log news f rest in
     let size : length log ≡ length front = ap length (sym now ∙ same ∙ sym (ap (λ (s : Reader). s.front) c.self.view_is)) in
     let all : c.len-read.result ≡ c.len.result = read ∙ sym size ∙ sym c.len.ensures.length in
@@ -56,7 +56,7 @@ returns-in-Ok-clause-legal g c =
     let f : IsFrontOf front log = subst (λ (s : Reader). IsFrontOf s.front log) (sym c.self.view_is) c.requires.more in
     let read : c.len-read.result ≡ length front = c.len-read.ensures.length ∙ ap length c.self.invariant.named.entries in
     let rest : news ≡ drop (length front) log =
-    ap (map arc_value) c.as_slice.ensures.value ∙ (appended _ _ _ c.clear.ensures.items c.in_ok-read.ensures.read.0 ∙ ap (λ n. drop n log) read) in
+    ap (map arc_value) c.as_slice.ensures.value ∙ (appended _ _ _ c.lend-unread.ensures c.in_ok-read.ensures.read.0 ∙ ap (λ n. drop n log) read) in
     ap is_legal c.in-Ok.ensures.ok.front_is ∙ rest_legal front log news f rest c.len.ensures.legal
 
 pub front-requires : goal.front-requires
@@ -67,7 +67,7 @@ front-requires g c =
     let f : IsFrontOf front log = subst (λ (s : Reader). IsFrontOf s.front log) (sym c.self.view_is) c.requires.more in
     let read : c.len-read.result ≡ length front = c.len-read.ensures.length ∙ ap length c.self.invariant.named.entries in
     let rest : news ≡ drop (length front) log =
-    ap (map arc_value) c.as_slice.ensures.value ∙ (appended _ _ _ c.clear.ensures.items c.in_ok-read.ensures.read.0 ∙ ap (λ n. drop n log) read) in
+    ap (map arc_value) c.as_slice.ensures.value ∙ (appended _ _ _ c.lend-unread.ensures c.in_ok-read.ensures.read.0 ∙ ap (λ n. drop n log) read) in
     let some = some_read c.self.inside.state c.absorb_all.new.self log news f rest c.in-Err.ensures.err in
     subst (λ (n : ℕ). n ≤ length log) (sym c.count.ensures) some.0
 
@@ -79,7 +79,7 @@ invariant_of-self-in-Err g c =
     let f : IsFrontOf front log = subst (λ (s : Reader). IsFrontOf s.front log) (sym c.self.view_is) c.requires.more in
     let read : c.len-read.result ≡ length front = c.len-read.ensures.length ∙ ap length c.self.invariant.named.entries in
     let rest : news ≡ drop (length front) log =
-    ap (map arc_value) c.as_slice.ensures.value ∙ (appended _ _ _ c.clear.ensures.items c.in_ok-read.ensures.read.0 ∙ ap (λ n. drop n log) read) in
+    ap (map arc_value) c.as_slice.ensures.value ∙ (appended _ _ _ c.lend-unread.ensures c.in_ok-read.ensures.read.0 ∙ ap (λ n. drop n log) read) in
     let after = c.absorb_all.new.self in
     let part : take (length after.front) log ≡ after.front = (some_read c.self.inside.state after log news f rest c.in-Err.ensures.err).1 in
     let last : List Entry = entries_of (last_of c.read.new.self) in

@@ -1,0 +1,52 @@
+//! Where entries are read to.
+ghost use Rattle.std.specs.Prelude.{◌≡◌, ◌≤◌, [], vec_capacity};
+ghost use Rattle.pgp_engine.specs.declared.unread.TheConstants.{KEPT_PLACES};
+
+use pgp_ids::Entry;
+use std::alloc::Global;
+use std::mem::replace;
+use std::sync::Arc;
+
+/// How many entries there is room for at most between two reads.
+pub const KEPT_PLACES: usize = 1024;
+
+/// A list that entries are read to. Between two reads it has none of them, and room for at most [`KEPT_PLACES`].
+pub(crate) struct Unread {
+    alloc: Global,
+    list: Vec<Arc<Entry>>,
+    ghost empty: { list.items ≡ [] },
+    ghost few: { vec_capacity list ≤ KEPT_PLACES },
+}
+
+// Written out, so that a crate which lets one go has nothing to prove of what lies within.
+impl Drop for Unread {
+    fn drop(self) {
+        let Unread { alloc: _, list: _ } = self;
+    }
+}
+
+impl Unread {
+    /// It takes no memory.
+    pub fn new(alloc: Global) -> Unread {
+        Unread {
+            alloc,
+            list: Vec::new(alloc),
+        }
+    }
+
+    /// The list, to read to. Where it isn't kept afterwards, as after a fault, the next one begins without room.
+    pub fn lend(&mut self) -> Vec<Arc<Entry>>
+        ensures { result.items ≡ [] }
+    {
+        replace(&mut self.list, Vec::new(self.alloc))
+    }
+
+    /// Lets the entries go that were read, and keeps the list for its room, unless that is for more than [`KEPT_PLACES`].
+    pub fn keep(&mut self, read: Vec<Arc<Entry>>) {
+        let mut list = read;
+        list.clear();
+        if list.capacity() <= KEPT_PLACES {
+            self.list = list;
+        }
+    }
+}
