@@ -1,5 +1,5 @@
 -- A shard that reads the feed, and what it does.
-use Rattle.std.specs.Prelude.{◌≡◌, ℕ, ◌+◌, List, length, Option, true}
+use Rattle.std.specs.Prelude.{◌≡◌, ℕ, ◌+◌, ◌<◌, ◌⊎◌, List, length, Option, true}
 use Rattle.logbook.specs.Pages.{Book}
 use Rattle.pgp_ids.specs.declared.entry.Entry.{Entry}
 use Rattle.pgp_ids.specs.declared.pg_id.PgId.{PgId}
@@ -43,6 +43,10 @@ pub record GoesOn (old new : Reader) : Type 0 where
 pub record StaysThere (old new : Reader) : Type 0 where
   pub state_is : HasReadSame (state_of old) (state_of new)
   pub seen_is : new.seen ≡ old.seen
+
+-- the shard had read less than its tap gave, or than the caller's receipt names
+abbrev pub HadToRead : Reader → Reader → Receipt → Type 0
+HadToRead old new q = (length old.front < length new.seen) ⊎ (length old.front < length (entries_of q))
 
 -- the shard has read so many entries more, or all that there were: its tap gave a newest front, and it has read that one so
 -- far

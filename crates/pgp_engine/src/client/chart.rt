@@ -1,5 +1,5 @@
 //! The map by which a client places objects.
-ghost use Rattle.std.specs.Prelude.{◌≡◌, List, [], ◌++◌, map, true, None, Some, Err, OnOk, IfOk};
+ghost use Rattle.std.specs.Prelude.{◌≡◌, ◌≢◌, ◌<◌, List, [], ◌++◌, length, map, true, None, Some, Err, OnOk, OnErr, IfOk};
 ghost use Rattle.std.specs.Arc.{arc_value};
 ghost use Rattle.pgp_ids.specs.declared.entry.Entry.{Entry as AnyEntry};
 ghost use Rattle.pgp_map.specs.Pools.{pool};
@@ -9,7 +9,7 @@ ghost use Rattle.pgp_log.specs.Locate.{place_of_object, place_with};
 ghost use Rattle.pgp_feed.specs.Receipts.{entries_of, feed_of};
 ghost use Rattle.pgp_feed.specs.Taps.{last_of};
 ghost use Rattle.pgp_feed.specs.declared.receipt.Receipt.{Receipt as AnyReceipt};
-ghost use Rattle.pgp_engine.specs.declared.client.fault.LocateFault.TheVariants.{UnknownPool};
+ghost use Rattle.pgp_engine.specs.declared.client.fault.LocateFault.TheVariants.{UnknownPool, Memory, NoReader};
 ghost use Rattle.pgp_engine.specs.Clients.{IsChartOf, IsChartWithin, GoesOn};
 
 use super::fault::LocateFault;
@@ -57,6 +57,7 @@ impl Chart {
         ensures feed { feed_of (last_of tap.new) ≡ feed_of (last_of tap.old) }
         ensures whole { OnOk result (IsChartOf (entries_of front.now) self.new) }
         ensures within { IsChartWithin (entries_of front.now) self.new }
+        ensures reads { OnErr result (0 < length (entries_of front.now)) }
     {
         let taken = self.judge.count();
         if taken == front.len() {
@@ -99,6 +100,7 @@ impl Chart {
         ensures epoch { IfOk result (λ place. place.epoch ≡ epoch_of (entries_of at)) }
         ensures unknown { (front : AnyReceipt) → result ≡ Err (UnknownPool front)
             → (front ≡ at) × (pool (incs_of (entries_of at)) id ≡ None) }
+        ensures known { (result ≢ Err Memory) × (result ≢ Err NoReader) }
     {
         let map = self.judge.map();
         match self.sets.locate(map, id, name) {

@@ -1,5 +1,5 @@
 //! What a client answers.
-ghost use Rattle.std.specs.Prelude.{◌≡◌, ◌≤◌, [], ◌⊎◌, length, None, Some, Err, IfOk};
+ghost use Rattle.std.specs.Prelude.{◌≡◌, ◌<◌, ◌≤◌, [], ◌⊎◌, length, None, Some, Err, IfOk};
 ghost use Rattle.std.specs.Ordering.{nat_cmp};
 ghost use Rattle.pgp_map.specs.Pools.{pool};
 ghost use Rattle.pgp_group.specs.Entries.{incs_of};
@@ -8,7 +8,7 @@ ghost use Rattle.pgp_log.specs.Locate.{place_of_object, place_with};
 ghost use Rattle.pgp_feed.specs.Receipts.{entries_of, feed_of, Holds};
 ghost use Rattle.pgp_feed.specs.Taps.{last_of};
 ghost use Rattle.pgp_feed.specs.declared.receipt.Receipt.{Receipt as AnyReceipt};
-ghost use Rattle.pgp_engine.specs.declared.client.fault.LocateFault.TheVariants.{UnknownPool};
+ghost use Rattle.pgp_engine.specs.declared.client.fault.LocateFault.TheVariants.{UnknownPool, Memory, NoReader};
 
 use super::Client;
 use super::chart::Chart;
@@ -72,7 +72,7 @@ impl<J: Naming> Client<J> {
     }
 
     /// Where the object of this name lies by the newest front, to which the client's moves on. `UnknownPool`: that front makes
-    /// no such pool. After `Memory` and `NoReader` the same call may answer.
+    /// no such pool. After `Memory` and `NoReader`, which come of no empty front, the same call may answer.
     pub fn locate(&mut self, id: PoolId, name: &ObjectName) -> Result<Place, LocateFault>
         ensures feed { feed_of self.new ≡ J.feed }
         ensures later { Holds self.new self.old }
@@ -81,6 +81,8 @@ impl<J: Naming> Client<J> {
         ensures epoch { IfOk result (λ place. place.epoch ≡ epoch_of (entries_of self.new)) }
         ensures unknown { (at : AnyReceipt) → result ≡ Err (UnknownPool at)
             → (at ≡ self.new) × (pool (incs_of (entries_of self.new)) id ≡ None) }
+        ensures reads { result ≡ Err NoReader → 0 < length (entries_of self.new) }
+        ensures wants { result ≡ Err Memory → 0 < length (entries_of self.new) }
     {
         let at = self.newest();
         self.chart.follow(&mut self.tap, &at)?;

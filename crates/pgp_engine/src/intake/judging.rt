@@ -1,6 +1,7 @@
 //! How the judge of an intake keeps up with the log, and what it says of the next entry.
-ghost use Rattle.std.specs.Prelude.{◌≡◌, [], ◌∷◌, ◌++◌, map, true, None, IfErr, OnOk, OnErr, MatchResult};
+ghost use Rattle.std.specs.Prelude.{◌≡◌, ◌≢◌, ◌<◌, [], ◌∷◌, ◌++◌, length, map, true, is_some, None, Err, IfErr, OnOk, OnErr, MatchResult};
 ghost use Rattle.std.specs.Arc.{arc_value};
+ghost use Rattle.pgp_group.specs.Entries.{inc_of};
 ghost use Rattle.pgp_log.specs.Fits.{fits};
 ghost use Rattle.pgp_log.specs.Judge.{IsJudgeOf, OfItsLog, CanTake};
 ghost use Rattle.pgp_log.specs.Log.{is_legal};
@@ -54,6 +55,7 @@ pub(super) fn catch_up(
     ensures follows { Follows (entries_of told.now) judge.new }
     ensures feed { feed_of (last_of tap.new) ≡ feed_of (last_of tap.old) }
     ensures err { IfErr result (λ fault. refused_at fault ≡ None) }
+    ensures reads { OnErr result (0 < length (entries_of told.now)) }
 {
     let taken = judge.count();
     if taken == told.len() {
@@ -69,7 +71,9 @@ pub(super) fn catch_up(
 /// Why the told log doesn't take the entry, if it doesn't.
 pub(super) fn fits(judge: &Judge, told: &Receipt, entry: &Entry) -> Result<(), SubmitFault>
     requires { IsJudgeOf (entries_of told.now) judge.now }
-    ensures { MatchResult result (λ _. fits (entries_of told.now) entry.now ≡ None) (MayRefuse (feed_of told.now) (entries_of told.now) entry.now) }
+    ensures fit { MatchResult result (λ _. fits (entries_of told.now) entry.now ≡ None) (MayRefuse (feed_of told.now) (entries_of told.now) entry.now) }
+    ensures reads { result ≢ Err submit.NoReader }
+    ensures wants { result ≡ Err submit.Memory → is_some (inc_of entry.now) ≡ true }
 {
     match judge.fits(entry) {
         Ok(()) => Ok(()),

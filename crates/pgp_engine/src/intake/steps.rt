@@ -1,11 +1,12 @@
 //! What an intake does.
-ghost use Rattle.std.specs.Prelude.{◌≡◌, ◌<◌, [], ◌∷◌, ◌++◌, length, IfOk, MatchBool, MatchResult};
+ghost use Rattle.std.specs.Prelude.{◌≡◌, ◌<◌, [], ◌∷◌, ◌++◌, length, Err, IfOk, MatchBool, MatchResult};
 ghost use Rattle.pgp_log.specs.Log.{epoch_of, IsFrontOf};
 ghost use Rattle.pgp_feed.specs.Receipts.{entries_of, feed_of};
 ghost use Rattle.pgp_feed.specs.Feeds.{told_of};
 ghost use Rattle.pgp_feed.specs.Taps.{last_of};
 ghost use Rattle.pgp_engine.specs.Fronts.{Names};
-ghost use Rattle.pgp_engine.specs.Intakes.{MayRefuse};
+ghost use Rattle.pgp_engine.specs.Intakes.{MayRefuse, MayWant};
+ghost use Rattle.pgp_engine.specs.declared.fault.SubmitFault.TheVariants.{Memory, NoReader};
 
 use super::Intake;
 use super::judging::{catch_up, fits, publish};
@@ -56,10 +57,13 @@ impl<J: Naming> Intake<J> {
     }
 
     /// Publishes the entry, if the log takes it. `Refused`: the whole log that was told doesn't take it, and the receipt is
-    /// of that log. Whatever the fault, the log is as before.
+    /// of that log. `NoReader`: the log isn't empty. `Memory`: it isn't, or the entry fits or is an incremental. Whatever the
+    /// fault, the log is as before.
     pub fn submit<R: Wait>(&mut self, rt: &R, entry: Entry) -> Result<Receipt, SubmitFault>
         ensures log { MatchResult result (λ _. self.new ≡ self.old ++ entry ∷ []) (λ _. self.new ≡ self.old) }
         ensures told { MatchResult result (Names J.feed self.new) (MayRefuse J.feed self.old entry) }
+        ensures reads { result ≡ Err NoReader → 0 < length self.old }
+        ensures wants { result ≡ Err Memory → MayWant self.old entry }
     {
         self.submit_with_epoch(rt, entry)
             .map(|submitted| submitted.at)
@@ -74,6 +78,8 @@ impl<J: Naming> Intake<J> {
         ensures log { MatchResult result (λ _. self.new ≡ self.old ++ entry ∷ []) (λ _. self.new ≡ self.old) }
         ensures told { MatchResult result (λ submitted. Names J.feed self.new submitted.at) (MayRefuse J.feed self.old entry) }
         ensures epoch { IfOk result (λ submitted. submitted.epoch ≡ epoch_of (entries_of submitted.at)) }
+        ensures reads { result ≡ Err NoReader → 0 < length self.old }
+        ensures wants { result ≡ Err Memory → MayWant self.old entry }
     {
         let told = self.feed.told();
         catch_up(&mut self.judge, &told, &mut self.tap, &mut self.unread)?;

@@ -1,5 +1,5 @@
 //! Which front a shard reads next.
-ghost use Rattle.std.specs.Prelude.{◌≡◌, ◌+◌, ◌≤◌, length};
+ghost use Rattle.std.specs.Prelude.{◌≡◌, ◌+◌, ◌≤◌, ◌⊎◌, length};
 ghost use Rattle.pgp_log.specs.Log.{front, IsFrontOf};
 ghost use Rattle.pgp_feed.specs.Receipts.{entries_of, feed_of};
 ghost use Rattle.pgp_feed.specs.Taps.{last_of};
@@ -27,6 +27,7 @@ pub(super) fn longer(tap: &mut Tap, one: &Receipt, other: &Receipt) -> Receipt
     ensures feed { feed_of result ≡ feed_of (last_of tap.old) }
     ensures one { IsFrontOf (entries_of one.now) (entries_of result) }
     ensures other { IsFrontOf (entries_of other.now) (entries_of result) }
+    ensures either { (result ≡ one.now) ⊎ (result ≡ other.now) }
     ensures same { last_of tap.new ≡ last_of tap.old }
 {
     match tap.meet(one, other) {

@@ -1,17 +1,18 @@
 //! What a shard does.
-ghost use Rattle.std.specs.Prelude.{◌≡◌, ◌<◌, ◌↔◌, [], true, false, None, Some, IsTrue, IsSome, IfOk, IfErr, IfSome, OnOk, MatchResult};
+ghost use Rattle.std.specs.Prelude.{◌≡◌, ◌≢◌, ◌<◌, ◌⊎◌, ◌↔◌, [], length, true, false, None, Some, Err, IsTrue, IsSome, IfOk, IfErr, IfSome, OnOk, OnErr, MatchResult};
 ghost use Rattle.pgp_map.specs.Pools.{has_group};
 ghost use Rattle.pgp_group.specs.Entries.{incs_of};
 ghost use Rattle.pgp_group.specs.View.{scratch};
 ghost use Rattle.pgp_log.specs.Fits.{is_closed};
-ghost use Rattle.pgp_log.specs.Log.{is_legal, IsFrontOf};
+ghost use Rattle.pgp_log.specs.Log.{is_legal, HasInc, IsFrontOf};
 ghost use Rattle.pgp_log.specs.Shard.{AreUnmarked};
 ghost use Rattle.pgp_feed.specs.Receipts.{entries_of, feed_of};
 ghost use Rattle.pgp_feed.specs.Taps.{last_of};
 ghost use Rattle.pgp_engine.specs.Asks.{IsAnswer, MayFailToAnswer};
 ghost use Rattle.pgp_engine.specs.Faults.{fault_at};
 ghost use Rattle.pgp_engine.specs.Fronts.{Names};
-ghost use Rattle.pgp_engine.specs.Shards.{GoesOn, HasAbsorbed, RenewsIfIdle, Serves, StaysThere, state_of};
+ghost use Rattle.pgp_engine.specs.Shards.{GoesOn, HadToRead, HasAbsorbed, RenewsIfIdle, Serves, StaysThere, state_of};
+ghost use Rattle.pgp_engine.specs.declared.fault.AskFault.TheVariants.{Memory, NoReader};
 
 use super::Shard;
 use super::reading::{after, longer};
@@ -62,6 +63,7 @@ impl<J: Naming> Shard<J> {
         ensures seen { OnOk result (IsFrontOf self.new.front self.new.seen) }
         ensures legal { OnOk result (is_legal self.new.front ≡ true) }
         ensures err { IfErr result (λ fault. fault_at fault ≡ None) }
+        ensures reads { OnErr result (length self.old.front < length (entries_of target.now)) }
     {
         let read = self.front.len();
         if read == target.len() {
@@ -84,13 +86,15 @@ impl<J: Naming> Shard<J> {
 
     /// Reads at most so many further entries of the log, and answers the receipt of what it has read then. Without memory
     /// it may have read some of them. Where there is nothing to read, it works out anew as many of its groups: `max` bounds
-    /// both.
+    /// both. `NoReader`: there was something to read. `Memory`: there was, or the map isn't empty.
     pub fn absorb_some(&mut self, max: usize) -> Result<Receipt, AskFault>
         ensures on { GoesOn self.old self.new }
         ensures absorbed { OnOk result (HasAbsorbed self.old self.new max) }
         ensures renewed { OnOk result (RenewsIfIdle self.old self.new max) }
         ensures named { IfOk result (Names J.feed self.new.front) }
         ensures err { IfErr result (λ fault. fault_at fault ≡ None) }
+        ensures reads { result ≡ Err NoReader → length self.old.front < length self.new.seen }
+        ensures wants { result ≡ Err Memory → (length self.old.front < length self.new.seen) ⊎ HasInc self.new.front }
     {
         let read = self.front.len();
         let front = self.read_some(max)?;
@@ -108,6 +112,7 @@ impl<J: Naming> Shard<J> {
         ensures marks { OnOk result (self.new.front ≡ self.old.front → self.new.marks ≡ self.old.marks) }
         ensures named { IfOk result (Names J.feed self.new.front) }
         ensures err { IfErr result (λ fault. fault_at fault ≡ None) }
+        ensures reads { OnErr result (length self.old.front < length self.new.seen) }
     {
         let newest = self.tap.newest();
         let target = after(&newest, self.front.len(), max);
@@ -120,6 +125,8 @@ impl<J: Naming> Shard<J> {
         ensures same { StaysThere self.old self.new }
         ensures marks { OnOk result (AreUnmarked max (state_of self.old) (state_of self.new)) }
         ensures err { IfErr result (λ fault. fault_at fault ≡ None) }
+        ensures memory { IfErr result (λ fault. fault ≡ Memory) }
+        ensures wants { OnErr result (HasInc self.new.front) }
     {
         match self.state.renew(max) {
             Ok(_) => Ok(()),
@@ -142,6 +149,8 @@ impl<J: Naming> Shard<J> {
         ensures absent { IfErr result (λ fault. IsSome (fault_at fault) → has_group (incs_of self.old.front) pg ≡ false) }
         ensures named { IfOk result (λ answer. Names J.feed self.old.front answer.at) }
         ensures err_named { IfErr result (λ fault. IfSome (fault_at fault) (Names J.feed self.old.front)) }
+        ensures reads { result ≢ Err NoReader }
+        ensures wants { result ≡ Err Memory → HasInc self.new.front }
     {
         let at = self.front.again();
         match self.state.ask(pg) {
@@ -153,7 +162,8 @@ impl<J: Naming> Shard<J> {
 
     /// All that the log says of one of the shard's groups, by a front that holds the caller's. The shard reads on first, up
     /// to the newest front or to the caller's, and answers by what it has read then, which the answer's receipt names.
-    /// `UnknownGroup`: that front makes no such group.
+    /// `UnknownGroup`: that front makes no such group. `NoReader`: there was something to read. `Memory`: there was, or the map
+    /// isn't empty.
     pub fn ask(&mut self, pg: PgId, q: &Receipt) -> Result<Answer, AskFault>
         requires feed { feed_of q.now ≡ J.feed }
         requires serves { Serves self.old pg }
@@ -161,6 +171,8 @@ impl<J: Naming> Shard<J> {
         ensures answer { MatchResult result (IsAnswer q.now pg) (MayFailToAnswer q.now pg) }
         ensures front { IfOk result (λ answer. Names J.feed self.new.front answer.at) }
         ensures unknown_front { IfErr result (λ fault. IfSome (fault_at fault) (Names J.feed self.new.front)) }
+        ensures reads { result ≡ Err NoReader → HadToRead self.old self.new q.now }
+        ensures wants { result ≡ Err Memory → HadToRead self.old self.new q.now ⊎ HasInc self.new.front }
     {
         let newest = self.tap.newest();
         let target = longer(&mut self.tap, &newest, q);
