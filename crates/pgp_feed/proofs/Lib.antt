@@ -5,3 +5,4 @@ pub mod Adding
 pub mod Puts
 pub mod Shares
 pub mod Opens
+pub mod Refused

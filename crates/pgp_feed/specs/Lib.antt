@@ -5,6 +5,8 @@ pub mod OneLog
 pub mod Seats
 pub mod Taps
 pub mod Feeds
+pub mod Supplies
 pub mod Puts
 pub mod Appends
 pub mod Faults
+pub mod ReadFaults

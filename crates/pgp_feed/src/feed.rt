@@ -9,9 +9,11 @@ use crate::receipt::Receipt;
 use crate::rule::{OneLog, View};
 use crate::store::{Operation, Store};
 use left_right::writer::Writer;
+use warm::Warm;
 
 mod make;
 mod steps;
+mod warm;
 
 pub(crate) type LogWriter = Writer<Store, Operation, View, OneLog>;
 
@@ -20,6 +22,8 @@ pub struct Feed {
     word: Length,
     told: Receipt,
     writer: LogWriter,
+    /// A publish finds room in the queue.
+    warm: Warm,
     ghost word_is: { word ≡ word_of (feed_of told) },
     ghost whole: { IsWhole told },
     ghost shown: { writer.desk.shown.value.told ≡ told },

@@ -1,17 +1,19 @@
 //! How a feed is made.
-ghost use Rattle.std.specs.Prelude.{◌≡◌, ◌≤◌, [], ◌∷◌, None, Some, drop, length, option_map, All, IfOk, OnOk};
+ghost use Rattle.std.specs.Prelude.{◌≡◌, ◌≤◌, [], Some, drop, length, option_map, vec_capacity, All, IfOk, IfErr, IsErr, OnErr, MatchResult};
 ghost use Rattle.left_right.specs.Sides.{view};
 ghost use Rattle.pgp_feed.specs.Receipts.{entries_of, feed_of};
 ghost use Rattle.pgp_feed.specs.Feeds.{told_of};
 ghost use Rattle.pgp_feed.specs.Taps.{last_of};
-ghost use Rattle.pgp_feed.specs.declared.store.Operation.TheVariants.{Skip};
+ghost use Rattle.pgp_feed.specs.Supplies.{IsSupplied};
+ghost use Rattle.pgp_feed.specs.declared.fault.MakeFault.TheVariants.{Memory, NoReader};
 
 use super::steps::shown;
+use super::warm::skip_twice;
 use super::{Feed, LogWriter};
 use crate::fault::MakeFault;
 use crate::receipt::Receipt;
 use crate::rule::Tells;
-use crate::store::{Operation, Store};
+use crate::store::Store;
 use crate::tap::Tap;
 use pgp_log::LONGEST_LOG;
 use std::alloc::{AllocError, Global};
@@ -38,20 +40,9 @@ fn opened(alloc: Global, told: &Receipt, readers: usize) -> Result<LogWriter, Al
     LogWriter::new(alloc, first, second, readers)
 }
 
-// Makes room in the queue for two operations, as many as it holds from then on: the last that was shown, and the next.
-fn skip_twice(writer: &mut LogWriter) -> Result<(), AllocError>
-    requires { drop writer.old.behind writer.old.log.items ≡ [] }
-    ensures desk { writer.new.desk ≡ writer.old.desk }
-    ensures queued { OnOk result (drop writer.new.behind writer.new.log.items ≡ Skip ∷ Skip ∷ []) }
-{
-    if writer.append(Operation::Skip).is_err() {
-        return Err(AllocError);
-    }
-    if writer.append(Operation::Skip).is_err() {
-        return Err(AllocError);
-    }
-    Ok(())
-}
+// No reader's place was given.
+#[derive(Drop)]
+struct NoPlace;
 
 impl Feed {
     // A feed without taps. Its writer's own view names it, so it publishes the empty log.
@@ -61,61 +52,91 @@ impl Feed {
     {
         let (word, told) = Receipt::open();
         let mut writer = opened(alloc, &told, readers)?;
-        if skip_twice(&mut writer).is_err() {
+        let Ok(warm) = skip_twice(&mut writer) else {
             writer.take(rt);
             return Err(AllocError);
-        }
+        };
         // The first publish shows the two, the second empties the queue.
         let writer = shown(rt, shown(rt, writer, &told), &told);
-        Ok(Feed { word, told, writer })
+        Ok(Feed {
+            word,
+            told,
+            writer,
+            warm,
+        })
     }
 
     // One more tap, which has seen what was told.
-    fn tap(&mut self) -> Result<Tap, MakeFault>
+    fn tap(&mut self) -> Result<Tap, NoPlace>
         ensures told { told_of self.new ≡ told_of self.old }
         ensures last { IfOk result (λ tap. last_of tap ≡ told_of self.old) }
     {
         let Ok(mut reader) = self.writer.factory().reader() else {
-            return Err(MakeFault::NoReader);
+            return Err(NoPlace);
         };
         reader.learn::<Tells>(self.writer.tell::<Tells>());
         Ok(Tap::over(reader, self.told.again()))
     }
 
-    // As many taps as are asked for.
-    fn taps(&mut self, alloc: Global, count: usize) -> Result<Vec<Tap>, MakeFault>
+    // As many taps as are asked for, in a list with room for them.
+    fn taps(&mut self, list: Vec<Tap>, count: usize) -> Result<Vec<Tap>, NoPlace>
+        requires { (list.items ≡ []) × (count ≤ vec_capacity list) }
         ensures told { told_of self.new ≡ told_of self.old }
         ensures count { IfOk result (λ taps. length taps.items ≡ count) }
         ensures each { IfOk result (λ taps. All (λ tap. last_of tap ≡ told_of self.old) taps.items) }
     {
-        let Ok(mut taps) = Vec::with_capacity(alloc, count) else {
-            return Err(MakeFault::Memory);
-        };
+        let mut taps = list;
         while taps.len() < count {
             let tap = self.tap()?;
-            if taps.push(tap).is_err() {
-                return Err(MakeFault::Memory);
-            }
+            taps.push(tap).unwrap();
         }
         Ok(taps)
     }
 
+    // All that takes memory: a feed without taps, and a list with room for so many.
+    fn supplied<R: Wait>(rt: &R, alloc: Global, taps: usize) -> Result<(Feed, Vec<Tap>), AllocError>
+        requires { (1 ≤ taps) × (taps ≤ 129) }
+        ensures { IfOk result (λ made. IsSupplied made.0 made.1 taps) }
+    {
+        let list = Vec::with_capacity(alloc, taps)?;
+        let feed = Feed::alone(rt, alloc, taps)?;
+        Ok((feed, list))
+    }
+
+    // What was supplied, with its taps: refused by `Memory` where nothing was, and else by `NoReader` alone.
+    fn seated<R: Wait>(
+        rt: &R,
+        supplied: Result<(Feed, Vec<Tap>), AllocError>,
+        taps: usize,
+    ) -> Result<(Feed, Vec<Tap>), MakeFault>
+        requires { IfOk supplied (λ made. IsSupplied made.0 made.1 taps) }
+        ensures memory { OnErr supplied (IsErr result) }
+        ensures fault { IfErr result (λ fault. MatchResult supplied (λ _. fault ≡ NoReader) (λ _. fault ≡ Memory)) }
+        ensures empty { IfOk result (λ made. entries_of (told_of made.0) ≡ []) }
+        ensures taps { IfOk result (λ made. length made.1.items ≡ taps) }
+        ensures each { IfOk result (λ made. All (λ tap. last_of tap ≡ told_of made.0) made.1.items) }
+    {
+        let Ok((mut feed, list)) = supplied else {
+            return Err(MakeFault::Memory);
+        };
+        match feed.taps(list, taps) {
+            Ok(made) => Ok((feed, made)),
+            Err(NoPlace) => {
+                feed.give_up(rt);
+                Err(MakeFault::NoReader)
+            }
+        }
+    }
+
     /// A feed with an empty log, and so many taps, each with the empty front. Both copies have room for the longest log.
+    /// Refused by `Memory` where there is no memory for the copies, the writer's queue, the readers' places or the list of
+    /// taps; with all of these, by `NoReader` where a tap isn't given its place.
     pub fn make<R: Wait>(rt: &R, alloc: Global, taps: usize) -> Result<(Feed, Vec<Tap>), MakeFault>
         requires { (1 ≤ taps) × (taps ≤ 129) }
         ensures empty { IfOk result (λ made. entries_of (told_of made.0) ≡ []) }
         ensures taps { IfOk result (λ made. length made.1.items ≡ taps) }
         ensures each { IfOk result (λ made. All (λ tap. last_of tap ≡ told_of made.0) made.1.items) }
     {
-        let Ok(mut feed) = Feed::alone(rt, alloc, taps) else {
-            return Err(MakeFault::Memory);
-        };
-        match feed.taps(alloc, taps) {
-            Ok(made) => Ok((feed, made)),
-            Err(fault) => {
-                feed.give_up(rt);
-                Err(fault)
-            }
-        }
+        Feed::seated(rt, Feed::supplied(rt, alloc, taps), taps)
     }
 }

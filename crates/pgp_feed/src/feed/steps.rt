@@ -15,7 +15,7 @@ use core::mem::replace_with;
 use pgp_ids::Entry;
 use std::sync::{Arc, Wait};
 
-// Keeps the operation until there is room for it. The queue has room since the feed was made, so the first try does.
+// Keeps the operation until there is room for it. The queue is warm, so the first try does.
 fn queued<R: Wait>(rt: &R, writer: LogWriter, operation: Operation) -> LogWriter
     requires { drop writer.behind writer.log.items ≡ [] }
     ensures desk { result.desk ≡ writer.desk }
@@ -60,7 +60,7 @@ impl Feed {
     }
 
     /// Adds an entry that the log takes next. It waits for the readers that still read the copy to be changed.
-    /// Refused for want of memory, the entry comes back.
+    /// Where the entry can have no more owners, it comes back.
     pub fn publish<R: Wait>(&mut self, rt: &R, entry: Arc<Entry>) -> Result<Receipt, Arc<Entry>>
         requires { fits (entries_of (told_of self.old)) (arc_value entry) ≡ None }
         ensures feed { feed_of (told_of self.new) ≡ feed_of (told_of self.old) }
@@ -91,6 +91,7 @@ impl Feed {
             word: _,
             told: _,
             writer,
+            warm: _,
         } = self;
         writer.take(rt);
     }

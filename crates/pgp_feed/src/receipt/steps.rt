@@ -1,5 +1,5 @@
 //! What a receipt answers.
-ghost use Rattle.std.specs.Prelude.{◌≡◌, ◌+◌, ◌≤◌, length, true, MatchBool};
+ghost use Rattle.std.specs.Prelude.{◌≡◌, ◌+◌, ◌≤◌, nat_le, if◌then◌else◌, length, true, MatchBool};
 ghost use Rattle.std.specs.Ordering.{nat_cmp};
 ghost use Rattle.pgp_log.specs.Fits.{longest_log};
 ghost use Rattle.pgp_log.specs.Log.{is_legal, front, IsFrontOf};
@@ -52,10 +52,12 @@ impl Receipt {
         self.len.cmp(&other.len)
     }
 
-    /// This front holds the other's, of the same feed; if not, the other holds this one.
+    /// Whether this front is no shorter than the other's, of the same feed. Then it holds the other; if not, the other holds
+    /// it.
     pub(crate) fn holds(&self, other: &Receipt) -> bool
         requires { feed_of other.now ≡ feed_of self.now }
-        ensures { MatchBool result (Holds self.now other.now) (Holds other.now self.now) }
+        ensures longer { result ≡ nat_le (length (entries_of other.now)) (length (entries_of self.now)) }
+        ensures holds { MatchBool result (Holds self.now other.now) (Holds other.now self.now) }
     {
         match self.meet(other) {
             Ordering::Less => false,
@@ -63,9 +65,10 @@ impl Receipt {
         }
     }
 
-    /// The longer of two receipts of one feed, which holds both.
+    /// The longer of two receipts of one feed, which holds both; this one where neither is longer.
     pub(crate) fn longer(&self, other: &Receipt) -> Receipt
         requires { feed_of other.now ≡ feed_of self.now }
+        ensures which { result ≡ (if nat_le (length (entries_of other.now)) (length (entries_of self.now)) then self.now else other.now) }
         ensures this { Holds result self.now }
         ensures that { Holds result other.now }
     {

@@ -1,9 +1,10 @@
 //! How entries are read from a copy.
-ghost use Rattle.std.specs.Prelude.{◌≡◌, ◌≤◌, [], ◌∷◌, drop, length, map, MatchResult};
+ghost use Rattle.std.specs.Prelude.{◌≡◌, ◌+◌, ◌-◌, ◌<◌, ◌≤◌, [], ◌∷◌, drop, length, map, vec_len, vec_capacity, MatchResult, IfErr, OnOk};
 ghost use Rattle.std.specs.Arc.{arc_value};
 ghost use Rattle.pgp_feed.specs.Receipts.{entries_of, feed_of, Holds};
 ghost use Rattle.pgp_feed.specs.OneLog.{IsTold};
 ghost use Rattle.pgp_feed.specs.Appends.{Appends};
+ghost use Rattle.pgp_feed.specs.ReadFaults.{IsCopyFault};
 
 use super::Store;
 use crate::fault::ReadFault;
@@ -12,19 +13,21 @@ use pgp_ids::Entry;
 use std::alloc::AllocError;
 use std::sync::Arc;
 
-// Appends one more owner of the entry.
+// Appends one more owner of the entry, into room that is there.
 fn push_shared(entry: &Arc<Entry>, into: &mut Vec<Arc<Entry>>) -> Result<(), AllocError>
-    ensures { MatchResult result (λ _. Appends into.old.items into.new.items (arc_value entry.now ∷ [])) (λ _. into.new.items ≡ into.old.items) }
+    requires room { vec_len into.old < vec_capacity into.old }
+    ensures len { OnOk result (vec_len into.new ≡ vec_len into.old + 1) }
+    ensures capacity { vec_capacity into.old ≤ vec_capacity into.new }
+    ensures pushed { MatchResult result (λ _. Appends into.old.items into.new.items (arc_value entry.now ∷ [])) (λ _. into.new.items ≡ into.old.items) }
 {
     let copy = Arc::try_clone(entry)?;
-    match into.push(copy) {
-        Ok(()) => Ok(()),
-        Err(_) => Err(AllocError),
-    }
+    into.push(copy).unwrap();
+    Ok(())
 }
 
-// Appends all entries, or none.
+// Appends all entries, or none, into room that is there. It is refused where an entry can have no more owners.
 fn append_shared(from: &[Arc<Entry>], into: &mut Vec<Arc<Entry>>) -> Result<(), AllocError>
+    requires room { vec_len into.old + length from.now ≤ vec_capacity into.old }
     ensures { MatchResult result (λ _. Appends into.old.items into.new.items (map arc_value from.now)) (λ _. into.new.items ≡ into.old.items) }
 {
     let before = into.len();
@@ -38,7 +41,8 @@ fn append_shared(from: &[Arc<Entry>], into: &mut Vec<Arc<Entry>>) -> Result<(), 
 }
 
 impl Store {
-    /// Appends the entries of a receipt's front from a place on. It is refused where this copy doesn't reach so far.
+    /// Appends the entries of a receipt's front from a place on, into room that is there. It is refused where this copy
+    /// doesn't reach so far, or an entry can have no more owners.
     pub(crate) fn read(
         &self,
         receipt: &Receipt,
@@ -48,7 +52,9 @@ impl Store {
         requires told { IsTold self.now }
         requires feed { feed_of receipt.now ≡ feed_of self.now.told }
         requires at { at ≤ length (entries_of receipt.now) }
-        ensures { MatchResult result (λ _. Appends into.old.items into.new.items (drop at (entries_of receipt.now)) × Holds self.now.told receipt.now) (λ _. into.new.items ≡ into.old.items) }
+        requires room { vec_len into.old + (length (entries_of receipt.now) - at) ≤ vec_capacity into.old }
+        ensures refused { IfErr result (IsCopyFault at receipt.now self.now.told) }
+        ensures read { MatchResult result (λ _. Appends into.old.items into.new.items (drop at (entries_of receipt.now)) × Holds self.now.told receipt.now) (λ _. into.new.items ≡ into.old.items) }
     {
         if !self.told.holds(receipt) {
             return Err(ReadFault::NoReader);

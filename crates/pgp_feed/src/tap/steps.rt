@@ -1,11 +1,12 @@
 //! What a tap answers.
-ghost use Rattle.std.specs.Prelude.{◌≡◌, ◌≤◌, Some, drop, length, option_map, MatchResult};
+ghost use Rattle.std.specs.Prelude.{◌≡◌, ◌≤◌, Some, drop, length, option_map, MatchResult, IfErr};
 ghost use Rattle.std.specs.Ordering.{nat_cmp};
 ghost use Rattle.left_right.specs.Sides.{view};
 ghost use Rattle.pgp_log.specs.Log.{IsFrontOf};
 ghost use Rattle.pgp_feed.specs.Receipts.{entries_of, feed_of, Holds};
 ghost use Rattle.pgp_feed.specs.Taps.{last_of};
 ghost use Rattle.pgp_feed.specs.Appends.{Appends};
+ghost use Rattle.pgp_feed.specs.ReadFaults.{IsTapFault};
 
 use super::{LogReader, Tap};
 use crate::fault::ReadFault;
@@ -54,7 +55,9 @@ impl Tap {
         a.meet(b)
     }
 
-    /// Appends the entries of a receipt's front from a place on. Refused, the list is as before.
+    /// Appends the entries of a receipt's front from a place on. Refused, the list is as before: by `Memory` where it finds
+    /// no room for them, or an entry can have no more owners; by `NoReader` where no copy is lent that reaches the front. The
+    /// room is made before a copy is lent, so that a publish waits for no more than the clones.
     pub fn read(
         &mut self,
         receipt: &Receipt,
@@ -64,8 +67,12 @@ impl Tap {
         requires feed { feed_of receipt.now ≡ feed_of (last_of self.old) }
         requires at { at ≤ length (entries_of receipt.now) }
         ensures later { Holds (last_of self.new) (last_of self.old) }
+        ensures refused { IfErr result (IsTapFault at receipt.now (last_of self.old) (last_of self.new)) }
         ensures read { MatchResult result (λ _. Appends into.old.items into.new.items (drop at (entries_of receipt.now)) × Holds (last_of self.new) receipt.now) (λ _. into.new.items ≡ into.old.items) }
     {
+        if into.reserve(receipt.len() - at).is_err() {
+            return Err(ReadFault::Memory);
+        }
         let reader = self.reader.take().unwrap();
         match reader.enter_as::<Sees>() {
             Ok(reading) => {

@@ -6,8 +6,8 @@ use Rattle.pgp_feed.specs.Appends.{Appends}
 use Rattle.pgp_feed.proofs.Shares.{slice_read}
 use Rattle.pgp_feed.proofs.store.Store.read.Goals as goal
 
-pub returns-in-Ok : goal.returns-in-Ok
-returns-in-Ok c =
+pub returns-in-Ok-clause-read : goal.returns-in-Ok-clause-read
+returns-in-Ok-clause-read c =
     let s = c.args.self.now in
     let r = c.args.receipt.now in
     let holds : Holds s.told r = search rules in
