@@ -4,6 +4,10 @@
 #![tactic(auto)]
 
 #[cfg(test)]
+mod counts;
+#[cfg(test)]
+mod ended;
+#[cfg(test)]
 mod entries;
 #[cfg(test)]
 mod longest;
@@ -11,6 +15,8 @@ mod longest;
 mod memory;
 #[cfg(test)]
 mod pairs;
+#[cfg(test)]
+mod refusals;
 #[cfg(test)]
 mod run;
 #[cfg(test)]

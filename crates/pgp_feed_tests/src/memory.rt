@@ -1,4 +1,4 @@
-//! Each call is tried a second time where it answers want of memory, and has left all as it was. Of all allocations one may
+//! Each call is tried a second time where it is out of memory, and has left all as it was. Of all allocations one may
 //! be refused: `rt try --test --fail-alloc N` refuses the Nth.
 ghost use Rattle.pgp_feed_tests.specs.Runs.{IsOpened};
 

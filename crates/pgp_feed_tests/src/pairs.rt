@@ -44,7 +44,7 @@ fn published_and_met<N: Naming, R: Wait + Abort>(
 ) -> Result<(), Fail> {
     let mut one = one.ok_or("a tap")?;
     let mut other = other.ok_or("a second tap")?;
-    let tickets = tickets(rt, alloc, press, &mut one)?;
+    let tickets = tickets(rt, alloc, press, &mut one, &mut other)?;
     all_meet(rt, alloc, &mut one, &tickets)?;
     all_meet(rt, alloc, &mut other, &tickets)?;
     assert_eq!(rt;
@@ -56,28 +56,33 @@ fn published_and_met<N: Naming, R: Wait + Abort>(
     Ok(())
 }
 
-/// Receipts of each front, from the writer and from a tap, and some made of others.
+/// Receipts of each front, from the writer and from both taps, and some made of others.
 fn tickets<N: Naming, R: Wait + Abort>(
     rt: &R,
     alloc: Global,
     press: &mut Press<N>,
-    reader: &mut Reader<N>,
+    one: &mut Reader<N>,
+    other: &mut Reader<N>,
 ) -> Result<Vec<Ticket<N>>, Fail> {
     let mut tickets = Vec::new(alloc);
     tickets.push(press.told())?;
-    tickets.push(reader.newest())?;
+    tickets.push(one.newest())?;
+    tickets.push(other.newest())?;
     for number in NUMBERS {
         let entry = numbered(alloc, number).ok_or("an entry")?;
         let told = press.publish(rt, entry).ok().ok_or("published")?;
-        assert_eq!(rt; reader.newest().len(), told.len());
+        assert_eq!(rt; one.newest().len(), told.len());
+        assert_eq!(rt; other.newest().len(), told.len());
         tickets.push(told)?;
-        tickets.push(reader.newest())?;
+        tickets.push(one.newest())?;
+        tickets.push(other.newest())?;
     }
     let whole = press.told();
     tickets.push(whole.front(0))?;
     tickets.push(whole.front(3))?;
     tickets.push(whole.front(3).again())?;
     tickets.push(whole)?;
+    assert_eq!(rt; tickets.len(), 25);
     Ok(tickets)
 }
 
