@@ -28,7 +28,8 @@ fn push_shared(entry: &Arc<Entry>, into: &mut Vec<Arc<Entry>>) -> Result<(), All
 // Appends all entries, or none, into room that is there. It is refused where an entry can have no more owners.
 fn append_shared(from: &[Arc<Entry>], into: &mut Vec<Arc<Entry>>) -> Result<(), AllocError>
     requires room { vec_len into.old + length from.now ≤ vec_capacity into.old }
-    ensures { MatchResult result (λ _. Appends into.old.items into.new.items (map arc_value from.now)) (λ _. into.new.items ≡ into.old.items) }
+    ensures some { IfErr result (λ _. 0 < length from.now) }
+    ensures appended { MatchResult result (λ _. Appends into.old.items into.new.items (map arc_value from.now)) (λ _. into.new.items ≡ into.old.items) }
 {
     let before = into.len();
     for entry in from {

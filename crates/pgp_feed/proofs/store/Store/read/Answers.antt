@@ -1,4 +1,4 @@
-use Rattle.std.proofs.Common.{rules, ◌≡◌, List, map, subst, ap, ◌∙◌}
+use Rattle.std.proofs.Common.{rules, arith, ◌≡◌, ◌<◌, List, length, map, subst, ap, ◌∙◌}
 use Rattle.std.specs.Arc.{arc_value}
 use Rattle.pgp_ids.specs.declared.entry.Entry.{Entry}
 use Rattle.pgp_feed.specs.Receipts.{entries_of, Holds}
@@ -13,4 +13,9 @@ returns-in-Ok-clause-read c =
     let holds : Holds s.told r = search rules in
     let is : map arc_value c.deref.result.now ≡ entries_of s.told = ap (map arc_value) c.deref.ensures.value ∙ c.requires.told in
     let slice = slice_read c.deref.result.now (entries_of s.told) (entries_of r) c.args.at c.len.result is holds.front c.len.ensures.length (rw c.len.ensures.length c.requires.at) in
-    (subst (λ (l : List Entry). Appends c.args.into.now.items c.append_shared.new.into.items l) slice c.in-Ok.ensures, holds)
+    (subst (λ (l : List Entry). Appends c.args.into.now.items c.append_shared.new.into.items l) slice c.in-Ok.ensures.appended, holds)
+
+pub returns-in-Err-clause-refused : goal.returns-in-Err-clause-refused
+returns-in-Err-clause-refused c =
+    let some : 0 < length c.deref.result.now = c.in-Err.ensures.some in
+    (omega (arith, some, c.deref.ensures.len, c.len.ensures.length), search rules)

@@ -1,6 +1,7 @@
 use Rattle.std.proofs.Common.{sym, ◌∙◌, option_map}
 use Rattle.left_right.specs.Sides.{view}
 use Rattle.pgp_feed.specs.Receipts.{feed_of}
+use Rattle.pgp_feed.specs.Taps.{last_of}
 use Rattle.pgp_feed.proofs.Refused.{tap_refused}
 use Rattle.pgp_feed.proofs.Views.{turns, holds_self, knows_feed, known_one}
 use Rattle.pgp_feed.proofs.tap.Tap.read.Goals as goal
@@ -23,4 +24,6 @@ longer-requires c =
     rw c.get-store.ensures (knows_feed (view reader.place) (feed_of tap.last) c.in-Ok.reading.part.value is c.in-Ok.ensures.1.later)
 
 pub returns-in-Ok-clause-refused : goal.returns-in-Ok-clause-refused
-returns-in-Ok-clause-refused c = tap_refused _ _ _ _ _ _ c.read-read.ensures.refused c.longer.ensures.which c.longer.ensures.that
+returns-in-Ok-clause-refused c =
+    tap_refused c.read-read.result c.args.at c.args.receipt.now (last_of c.args.self.now) c.get-store.result.now.told c.longer.result
+    c.read-read.ensures.refused c.longer.ensures.which c.longer.ensures.that
