@@ -1,4 +1,5 @@
-use Rattle.std.proofs.Common.{rules, arith, ◌≡◌, ◌<◌, List, length, map, subst, ap, ◌∙◌}
+use Rattle.std.proofs.Common.{rules, arith, ◌≡◌, ◌<◌, ◌-◌, List, length, map, take, drop, subst, ap, ◌∙◌}
+use Rattle.std.proofs.lemmas.List.{length-take}
 use Rattle.std.specs.Arc.{arc_value}
 use Rattle.pgp_ids.specs.declared.entry.Entry.{Entry}
 use Rattle.pgp_feed.specs.Receipts.{entries_of, Holds}
@@ -17,5 +18,7 @@ returns-in-Ok-clause-read c =
 
 pub returns-in-Err-clause-refused : goal.returns-in-Err-clause-refused
 returns-in-Err-clause-refused c =
-    let some : 0 < length c.deref.result.now = c.in-Err.ensures.some in
-    (omega (arith, some, c.deref.ensures.len, c.len.ensures.length), search rules)
+    let more = c.len.result - c.args.at in
+    let all = drop c.args.at c.deref.result.now in
+    let some : 0 < length (take more all) = c.in-Err.ensures.some in
+    (omega (arith, some, length-take more all, c.len.ensures.length), search rules)
