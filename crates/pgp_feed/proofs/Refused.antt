@@ -1,5 +1,5 @@
 -- What a read that is refused says of the tap.
-use Rattle.std.proofs.Common.{◌≡◌, ℕ, ◌<◌, ◌⊎◌, Bool, true, false, Result, Ok, Err, IfErr, length, inl, inr, sym, subst, refl}
+use Rattle.std.proofs.Common.{◌≡◌, ℕ, ◌<◌, ◌⊎◌, Bool, true, false, Result, Ok, Err, IfErr, length, inl, inr, sym, subst}
 use Rattle.std.specs.Prelude.{nat_le, if◌then◌else◌}
 use Rattle.pgp_feed.specs.declared.receipt.Receipt.{Receipt}
 use Rattle.pgp_feed.specs.declared.fault.ReadFault.{ReadFault}
