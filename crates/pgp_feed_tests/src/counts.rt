@@ -3,7 +3,7 @@ ghost use Rattle.std.specs.Prelude.{◌≤◌};
 ghost use Rattle.pgp_feed_tests.specs.Runs.{AreNamed, IsOpened};
 
 use crate::entries::{number_of, numbered};
-use crate::run::{Naming, Press, Reader, next_reader};
+use crate::run::{Naming, Press, Reader};
 use pgp_feed::{Feed, Tap};
 use std::alloc::Global;
 use std::marker::Brand;
@@ -60,21 +60,15 @@ fn all_read<N: Naming, R: Wait + Abort>(
         let entry = numbered(alloc, number).ok_or("an entry")?;
         press.publish(rt, entry).ok().ok_or("published")?;
     }
-    let count = taps.len();
-    for _ in 0..count {
-        let reader: Option<Reader<N>> = next_reader(taps);
+    while let Some(tap) = taps.pop() {
+        let reader: Reader<N> = Reader::over(tap);
         is_read(rt, alloc, reader)?;
     }
-    assert!(rt; taps.is_empty());
     Ok(())
 }
 
-fn is_read<N: Naming, R: Abort>(
-    rt: &R,
-    alloc: Global,
-    reader: Option<Reader<N>>,
-) -> Result<(), Fail> {
-    let mut reader = reader.ok_or("a tap")?;
+fn is_read<N: Naming, R: Abort>(rt: &R, alloc: Global, reader: Reader<N>) -> Result<(), Fail> {
+    let mut reader = reader;
     let mut entries = Vec::new(alloc);
     let newest = reader.newest();
     reader.read(&newest, 0, &mut entries)?;

@@ -77,7 +77,7 @@ pub struct Reader<N: Naming> {
 
 #[tactic(auto, using(crate::proofs::Named::named_too))]
 impl<N: Naming> Reader<N> {
-    fn over(tap: Tap) -> Reader<N>
+    pub fn over(tap: Tap) -> Reader<N>
         requires { feed_of (last_of tap) ≡ N.feed }
     {
         Reader {

@@ -1,12 +1,13 @@
-use Rattle.std.proofs.Common.{◌≡◌, ℕ, ◌≤◌, List, length, map, take, drop, ap, sym, ◌∙◌, subst, arith}
+use Rattle.std.proofs.Common.{◌≡◌, ℕ, ◌≤◌, ◌<◌, List, length, map, take, drop, ap, sym, ◌∙◌, subst, arith}
 use Rattle.std.specs.Arc.{arc_value}
 use Rattle.pgp_ids.specs.declared.entry.Entry.{Entry}
 use Rattle.pgp_log.specs.Log.{IsFrontOf, is_legal}
+use Rattle.pgp_log.proofs.SharedLemmas.{on_err}
 use Rattle.pgp_feed.specs.Receipts.{entries_of}
 use Rattle.pgp_feed.specs.Taps.{last_of}
-use Rattle.pgp_feed.proofs.Fronts.{front_trans}
+use Rattle.pgp_feed.proofs.Fronts.{front_self, front_trans}
 use Rattle.pgp_engine.specs.Shards.{Reader}
-use Rattle.pgp_engine.proofs.FrontLemmas.{take_front}
+use Rattle.pgp_engine.proofs.FrontLemmas.{front_short, take_front}
 use Rattle.pgp_engine.proofs.JudgeLemmas.{with_rest, rest_legal}
 use Rattle.pgp_engine.proofs.ReadLemmas.{appended, some_read}
 use Rattle.pgp_engine.proofs.shard.Shard.absorb_to.Goals as goal
@@ -71,8 +72,8 @@ front-requires g c =
     let some = some_read c.self.inside.state c.absorb_all.new.self log news f rest c.in-Err.ensures.err in
     subst (λ (n : ℕ). n ≤ length log) (sym c.count.ensures) some.0
 
-pub invariant_of-self-in-Err : goal.invariant_of-self-in-Err
-invariant_of-self-in-Err g c =
+pub invariant_of-self-in-Err-1 : goal.invariant_of-self-in-Err-1
+invariant_of-self-in-Err-1 g c =
     let front : List Entry = c.self.inside.state.front in
     let log : List Entry = entries_of c.args.target.now in
     let news : List Entry = map arc_value c.as_slice.result.now in
@@ -91,3 +92,31 @@ invariant_of-self-in-Err g c =
       last_is = sym c.read.ensures.later.feed ∙ c.self.invariant.last_is;
       seen = front_trans after.front log last (subst (λ (l : List Entry). IsFrontOf l log) part (take_front (length after.front) log)) c.in_ok-read.ensures.read.1.front;
     }
+
+pub returns-in-Err-clause-reads : goal.returns-in-Err-clause-reads
+returns-in-Err-clause-reads g c =
+    let front : List Entry = c.self.inside.state.front in
+    let log : List Entry = entries_of c.args.target.now in
+    let f : IsFrontOf front log = subst (λ (s : Reader). IsFrontOf s.front log) (sym c.self.view_is) c.requires.more in
+    let read : c.len-read.result ≡ length front = c.len-read.ensures.length ∙ ap length c.self.invariant.named.entries in
+    let size : length front ≤ length log = front_short front log f in
+    let less : length front < length log = omega (arith, read, size, c.len.ensures.length) in
+    subst (λ (s : Reader). length s.front < length log) c.self.view_is less
+
+pub returns-in_err-read-clause-reads : goal.returns-in_err-read-clause-reads
+returns-in_err-read-clause-reads g c =
+    let front : List Entry = c.self.inside.state.front in
+    let log : List Entry = entries_of c.args.target.now in
+    let f : IsFrontOf front log = subst (λ (s : Reader). IsFrontOf s.front log) (sym c.self.view_is) c.requires.more in
+    let read : c.len-read.result ≡ length front = c.len-read.ensures.length ∙ ap length c.self.invariant.named.entries in
+    let size : length front ≤ length log = front_short front log f in
+    let less : length front < length log = omega (arith, read, size, c.len.ensures.length) in
+    on_err c.from_residual.result _ (subst (λ (s : Reader). length s.front < length log) c.self.view_is less)
+
+pub returns-in_err-read-clause-on : goal.returns-in_err-read-clause-on
+returns-in_err-read-clause-on g c = record {
+    shard_is = ap (λ (s : Reader). s.shard) c.self.view_is;
+    shards_are = ap (λ (s : Reader). s.shards) c.self.view_is;
+    front_is = subst (λ (s : Reader). IsFrontOf s.front c.self.inside.state.front) c.self.view_is (front_self c.self.inside.state.front);
+    seen_is = subst (λ (s : Reader). IsFrontOf s.seen (entries_of (last_of c.read.new.self))) c.self.view_is c.read.ensures.later.front;
+  }
