@@ -103,7 +103,7 @@ def script_of(dumps: Dumps, folder: str) -> Tuple[str, str]:
     for name, text in (("osdmap.json", dumps.osdmap), ("crush.json", dumps.crush)):
         files.append(os.path.join(folder, name))
         pathlib.Path(files[-1]).write_text(text)
-    tool = [sys.executable, str(HERE / "from_ceph.py"), "--ask", *files]
+    tool = [sys.executable, str(HERE / "from_ceph.py"), "--alone", "--ask", *files]
     run = subprocess.run(tool, capture_output=True, text=True)
     if run.returncode != 0:
         raise RuntimeError(run.stderr)

@@ -1,362 +1,62 @@
 #!/usr/bin/env python3
 """Draws what a script says of one group, as an SVG picture.
 
-    tools/draw_group.py [--program PATH] SCRIPT POOL.PG > group.svg
+    tools/draw_group.py [--program PATH] [--from EPOCH] [--to EPOCH] [--output PICTURE] SCRIPT POOL.PG > group.svg
 
-SCRIPT is a file of lines for pgpeer, POOL.PG the group as Ceph writes it, PG in hexadecimal. The program (by default
-crates/pgpeer/out/pgpeer) is asked after each entry that it takes. Lines of the script that ask are passed over; an entry
-that is refused is told on standard error and not drawn.
+SCRIPT is a file of lines for pgpeer, or `-`, and POOL.PG the group as Ceph writes it, PG in hexadecimal. The program (by
+default crates/pgpeer/out/pgpeer) is asked after each entry that it takes. Lines of the script that ask are passed over; an
+entry that is refused is told on standard error and not drawn. Where the script has its epochs beside it
+(SCRIPT.epochs.json, or --epochs FILE), the picture's are Ceph's, and so are those of --from and --to.
 
 The picture has one column for each entry, from left to right, under the epoch of its map. At the top each device that was
 ever in up or acting has a row, with a bar where it stood in acting: its colour says whether the interval may have gone
 read-write, and the current interval stands apart. Below stand the verdicts, and for whom the group waits: devices that are
 down and block it, and devices that have yet to be heard. Beyond 200 columns runs of entries that change nothing for the group
-are folded.
+are folded, and then the oldest, but never the intervals that block the group, the last that may have gone read-write, or
+(as many as have room) others whose members have to be heard.
 
-Status 0: the picture was written. Status 2: the command line or the script is wrong, or the group isn't in its map.
+Status 0: the picture was written. Status 2: the command line or the script is wrong, the group isn't in its map, or a write
+failed; with --output there is no picture then.
 """
 
 import argparse
+import bisect
 import itertools
-import json
-import pathlib
-import subprocess
 import sys
 from html import escape
-from typing import Any, Dict, Iterable, Iterator, List, NamedTuple, Optional, Sequence, Tuple
+from typing import Any, Dict, Iterator, List, Optional, Tuple
 
-PROGRAM = pathlib.Path(__file__).resolve().parent.parent / "crates/pgpeer/out/pgpeer"
-ENTRIES = ("inc", "info", "entries", "close")
-MOST_COLUMNS = 200
+from ceph_epochs import Epochs, epochs_of
+from ceph_json import Unusable, ended, write
+from group_columns import Column, folded
+from group_steps import (MOST_EPOCH, PROGRAM, Event, Group, History, Pool, Span, Step, answers, followed, group_of, missing_group,
+                         read_script)
+from group_words import osds_text, reason
+from svg_marks import DARK, LETTERS, LIGHT, line, rect, room_for, style, text, triangle
 
-Member = Tuple[int, int]  # a device and its slot
-
-
-class Unusable(Exception):
-    """The script or the program can't be used; the text says why."""
-
-
-# What the program says
-
-
-class Event(NamedTuple):
-    """What an incremental does to a device: "up", "down" or "gone"."""
-
-    osd: int
-    kind: str
-
-
-class Step(NamedTuple):
-    """An entry that was taken, and the answer about the group after it."""
-
-    op: str
-    events: List[Event]
-    view: Dict[str, Any]
-    unheard: List[Member]
-
-    def state(self) -> Tuple[Any, ...]:
-        """What the picture shows of the group after the entry."""
-        return self.view["first"], self.view["verdict"], self.view["blocked_by"], self.unheard
-
-
-class Span(NamedTuple):
-    """An interval; rw is None in the current one."""
-
-    first: int
-    last: int
-    up: List[Optional[int]]
-    acting: List[Optional[int]]
-    primary: Optional[int]
-    rw: Optional[bool]
-
-    def devices(self) -> Iterator[int]:
-        return (osd for osd in self.up + self.acting if osd is not None)
-
-
-class Pool(NamedTuple):
-    kind: str
-    k: Optional[int]
-    size: int
-    min_size: int
-
-    def text(self) -> str:
-        code = f", any {self.k} shards are enough" if self.k else ""
-        return f"{self.kind} pool, size {self.size}, min_size {self.min_size}{code}"
-
-
-class Group(NamedTuple):
-    """All that is drawn of a group."""
-
-    name: str
-    pool: Pool
-    steps: List[Step]
-
-    def spans(self) -> List[Span]:
-        view = self.steps[-1].view
-        past = [Span(it["first"], it["last"], it["up"], it["acting"], it["acting_primary"], it["rw"]) for it in view["intervals"]]
-        return past + [Span(view["first"], view["epoch"], view["up"], view["acting"], view["acting_primary"], None)]
-
-
-class History:
-    """What the taken entries say of devices, the group's pool and its reports."""
-
-    def __init__(self, pool: int, pg: int):
-        self.pool, self.pg = pool, pg
-        self.booted: Dict[int, int] = {}  # the epochs since which devices are up
-        self.stamps: Dict[Member, List[int]] = {}
-        self.made: Optional[Pool] = None
-
-    def take(self, entry: Dict[str, Any]) -> List[Event]:
-        """Takes an entry; gives what it does to devices."""
-        if entry["op"] == "info" and entry["pg"] == [self.pool, self.pg]:
-            osd, slot = entry["from"]
-            self.stamps.setdefault((osd, slot), []).append(entry["stamp"])
-        if entry["op"] != "inc":
-            return []
-        for pool in entry.get("pools", []):
-            if pool["id"] == self.pool:
-                self.made = Pool(pool["kind"], pool.get("k"), pool["size"], pool["min_size"])
-        for number, size, min_size in entry.get("sizes", []):
-            if number == self.pool and self.made:
-                self.made = self.made._replace(size=size, min_size=min_size)
-        events = [Event(osd, kind) for kind in ("up", "down", "gone") for osd in entry.get(kind, [])]
-        for osd, kind in events:
-            if kind == "up":
-                self.booted[osd] = entry["epoch"]
-            else:
-                self.booted.pop(osd, None)
-        return events
-
-    def unheard(self, view: Dict[str, Any]) -> List[Member]:
-        """The members that have to be heard and have no info that counts."""
-        return [(osd, slot) for osd, slot in view["probe"] if not self.heard((osd, slot), view["first"])]
-
-    def heard(self, member: Member, first: int) -> bool:
-        """A report counts if its stamp isn't before the current interval, and its device is up and booted no later."""
-        since = self.booted.get(member[0])
-        return since is not None and any(stamp >= max(first, since) for stamp in self.stamps.get(member, []))
-
-
-def read_script(path: str) -> List[Tuple[int, str, Dict[str, Any]]]:
-    """The entries of a script: number of the line, its text and its value."""
-    try:
-        text = pathlib.Path(path).read_text(encoding="utf-8")
-    except OSError as fault:
-        raise Unusable(f"{path}: {fault.strerror}") from fault
-    except UnicodeDecodeError as fault:
-        raise Unusable(f"{path} is not UTF-8") from fault
-    entries = []
-    for number, line in enumerate(text.split("\n"), 1):
-        if not line.strip(" \t\r"):
-            continue
-        try:
-            value = json.loads(line)
-        except (ValueError, RecursionError) as fault:
-            raise Unusable(f"{path}, line {number} is not JSON: {fault}") from fault
-        if not isinstance(value, dict) or not isinstance(value.get("op"), str):
-            raise Unusable(f"{path}, line {number} is no object with a key 'op'")
-        if value["op"] in ENTRIES:
-            entries.append((number, line, value))
-    return entries
-
-
-def answers(program: str, lines: Iterable[str]) -> List[Dict[str, Any]]:
-    """The program's answers to the lines."""
-    try:
-        run = subprocess.run([program, "run"], input="\n".join(lines) + "\n", capture_output=True, text=True)
-    except OSError as fault:
-        raise Unusable(f"{program}: {fault.strerror}") from fault
-    if run.returncode != 0:
-        raise Unusable(f"{program} ended with status {run.returncode}: {run.stderr.strip()}")
-    return [json.loads(line) for line in run.stdout.splitlines()]
-
-
-def followed(program: str, path: str, pool: int, pg: int) -> Group:
-    """The group after each entry of the script from which on it is there."""
-    entries = read_script(path)
-    question = json.dumps({"op": "ask", "pg": [pool, pg]})
-    said = answers(program, itertools.chain.from_iterable((line, question) for _, line, _ in entries))
-    history, steps = History(pool, pg), []
-    for (number, _, entry), taken, view in zip(entries, said[::2], said[1::2]):
-        if "ok" not in taken:
-            key = f" ({taken['key']})" if "key" in taken else ""
-            print(f"draw_group: {path}, line {number} was refused: {taken['refused']}{key}", file=sys.stderr)
-            continue
-        events = history.take(entry)
-        if "ok" in view:
-            steps.append(Step(entry["op"], events, view, history.unheard(view)))
-    if not steps or history.made is None:
-        raise Unusable(f"{path} makes no group {pool}.{pg:x}")
-    return Group(f"{pool}.{pg:x}", history.made, steps)
-
-
-# Words
-
-
-def osds_text(osds: Iterable[int]) -> str:
-    names = [f"osd.{osd}" for osd in sorted(set(osds))]
-    return " and ".join([", ".join(names[:-1]), names[-1]] if len(names) > 1 else names)
-
-
-def member_text(member: Sequence[int], pool: Pool) -> str:
-    return f"osd.{member[0]}" + (f" (shard {member[1]})" if pool.k else "")
-
-
-def reason(step: Step, pool: Pool) -> str:
-    """The verdict in words, and why."""
-    view, verdict = step.view, step.view["verdict"]
-    primary = view["acting_primary"]
-    why = {
-        "NoPrimary": "no device of the acting set is up",
-        "Down": f"writes may be on {osds_text(view['blocked_by'])} alone, which may come back",
-        "Waiting": f"not heard yet: {', '.join(member_text(it, pool) for it in step.unheard)}",
-        "Incomplete": "no copy that was heard is complete and new enough",
-        "Short": "the acting set has too few members",
-        "NeedLog": f"the log of {member_text(view['best'] or (0, 0), pool)}, the best copy, has gaps",
-        "NeedUpThru": f"the map doesn't say yet that osd.{primary} was up in this interval",
-        "Serve": behind(view, pool),
-    }
-    return f"{verdict}: {why[verdict]}"
-
-
-def behind(view: Dict[str, Any], pool: Pool) -> str:
-    """Which members lack something."""
-    lacks = []
-    for peer in view["missing"]:
-        name, count = member_text(peer["member"], pool), len(peer.get("objects", ()))
-        if peer["state"] != "missing":
-            lacks.append(f"{name} {'needs a backfill' if peer['state'] == 'backfill' else 'has diverged'}")
-        elif count:
-            lacks.append(f"{name} lacks {count} object{'s' if count > 1 else ''}")
-    return ", ".join(lacks) or "all who were heard have all objects"
-
-
-# Columns
-
-
-class Column(NamedTuple):
-    """A step, or several that are folded into one column."""
-
-    steps: List[Step]
-
-    def step(self) -> Step:
-        return self.steps[-1]
-
-    def epochs(self) -> Tuple[int, int]:
-        return self.steps[0].view["epoch"], self.steps[-1].view["epoch"]
-
-    def is_mixed(self) -> bool:
-        """Tells whether the column holds steps of different states."""
-        return any(step.state() != self.steps[0].state() for step in self.steps)
-
-
-def folded(steps: List[Step], most: int = MOST_COLUMNS) -> List[Column]:
-    """A column for each step. Where they are too many, the longest runs in which nothing changes become two columns, their
-    first step and the others; and where that isn't enough, the oldest columns become one."""
-    runs = [list(run) for _, run in itertools.groupby(steps, Step.state)]
-    count, short = len(steps), set()
-    for at in sorted(range(len(runs)), key=lambda at: -len(runs[at])):
-        if count > most and len(runs[at]) > 2:
-            short.add(at)
-            count -= len(runs[at]) - 2
-    columns = []
-    for at, run in enumerate(runs):
-        columns += [Column(run[:1]), Column(run[1:])] if at in short else [Column([step]) for step in run]
-    if len(columns) <= most:
-        return columns
-    oldest = columns[: len(columns) - most + 1]
-    return [Column([step for column in oldest for step in column.steps]), *columns[len(oldest) :]]
-
-
-# Drawing
+__all__ = ["Column", "DARK", "Event", "Group", "History", "LIGHT", "PROGRAM", "Picture", "Pool", "Span", "Step", "answers",
+           "folded", "followed", "main", "missing_group", "osds_text", "read_script", "room_for"]
 
 LEFT, RIGHT, TOP = 84, 24, 66
 ROW, BAR = 26, 14  # heights
 STRIP, WAIT = 24, 16
 LEAST_WIDTH = 760
-LETTERS = {"Serve": "S", "NeedUpThru": "U", "NeedLog": "L", "Short": "F", "Incomplete": "I", "Waiting": "W", "Down": "D",
-           "NoPrimary": "N"}
 MARKS = {"inc": "m", "info": "i", "entries": "e", "close": "c"}
-
-LIGHT = {
-    "page": "#ffffff", "text": "#1b2128", "soft": "#56616d", "line": "#dfe4ea", "axis": "#9aa4af",
-    "wrote": "#2f6fb5", "on-wrote": "#ffffff", "idle": "#8a95a2", "on-idle": "#1b2128", "now": "#d9c8f2", "now-edge": "#6d3fb0",
-    "on-now": "#2b1650", "band": "#f6f1fd", "Serve": "#1f7a4a", "NeedUpThru": "#37738f", "NeedLog": "#776a12", "Short": "#a85400",
-    "Incomplete": "#a8321c", "Waiting": "#8a6100", "Down": "#b3202c", "NoPrimary": "#555e68", "on-verdict": "#ffffff",
-    "blocks": "#b3202c", "unheard": "#b37d0a", "boots": "#1f7a4a", "falls": "#b3202c",
-}
-DARK = {
-    "page": "#14181d", "text": "#e8ecf1", "soft": "#a4afbb", "line": "#2a313a", "axis": "#66717d",
-    "wrote": "#5b9be0", "on-wrote": "#0b1622", "idle": "#5f6c7a", "on-idle": "#ffffff", "now": "#4a3670", "now-edge": "#b692f0",
-    "on-now": "#f3ebff", "band": "#1d1828", "Serve": "#4cc38a", "NeedUpThru": "#6fb7d8", "NeedLog": "#cdbb4a", "Short": "#f0a050",
-    "Incomplete": "#f08a6c", "Waiting": "#e8b64c", "Down": "#f2727c", "NoPrimary": "#9aa4af", "on-verdict": "#0f1317",
-    "blocks": "#f2727c", "unheard": "#e8b64c", "boots": "#4cc38a", "falls": "#f2727c",
-}
-
-
-def rules(colour: Dict[str, str]) -> str:
-    """The style sheet's rules that have to do with colour."""
-    lines = [
-        f".page{{fill:{colour['page']}}} .band{{fill:{colour['band']}}}",
-        f"text{{fill:{colour['text']}}} .soft{{fill:{colour['soft']}}}",
-        f".line{{stroke:{colour['line']}}} .axis{{stroke:{colour['axis']}}} .fold{{fill:{colour['line']}}}",
-        f".wrote{{fill:{colour['wrote']}}} .idle{{fill:{colour['idle']}}}",
-        f".now{{fill:{colour['now']};stroke:{colour['now-edge']}}} .edge{{stroke:{colour['now-edge']}}}",
-        f".on-wrote{{fill:{colour['on-wrote']}}} .on-idle{{fill:{colour['on-idle']}}} .on-now{{fill:{colour['on-now']}}}",
-        f".alone{{stroke:{colour['soft']}}} .on-verdict{{fill:{colour['on-verdict']}}}",
-        f".blocks{{fill:{colour['blocks']}}} .unheard{{stroke:{colour['unheard']}}}",
-        f".boots{{fill:{colour['boots']}}} .falls{{fill:{colour['falls']}}}",
-        *(f".{verdict}{{fill:{colour[verdict]}}}" for verdict in LETTERS),
-    ]
-    return "\n".join(lines)
-
-
-def style() -> str:
-    return f"""<style>
-text{{font-family:system-ui,"DejaVu Sans",Arial,sans-serif;font-size:12px}}
-.title{{font-size:16px;font-weight:600}} .small{{font-size:10px}} .mid{{text-anchor:middle}} .end{{text-anchor:end}}
-.clear{{fill-opacity:0}} .now{{stroke-width:1.5}} .alone,.unheard{{fill:none;stroke-width:1.5}} .alone{{stroke-dasharray:3 2}}
-.edge{{stroke-width:1.5;stroke-dasharray:5 3}}
-{rules(LIGHT)}
-@media (prefers-color-scheme:dark){{
-{rules(DARK)}
-}}
-</style>"""
-
-
-def text(x: float, y: float, words: str, kind: str = "") -> str:
-    return f'<text x="{x:.1f}" y="{y:.1f}"' + (f' class="{kind}"' if kind else "") + f">{escape(words)}</text>"
-
-
-def rect(x: float, y: float, width: float, height: float, kind: str, tip: str = "", round_by: int = 0) -> str:
-    corners = f' rx="{round_by}"' if round_by else ""
-    head = f'<rect x="{x:.1f}" y="{y:.1f}" width="{width:.1f}" height="{height:.1f}" class="{kind}"{corners}'
-    return f"{head}><title>{escape(tip)}</title></rect>" if tip else f"{head}/>"
-
-
-def line(x: float, y: float, to_x: float, to_y: float, kind: str) -> str:
-    return f'<line x1="{x:.1f}" y1="{y:.1f}" x2="{to_x:.1f}" y2="{to_y:.1f}" class="{kind}"/>'
-
-
-def triangle(x: float, y: float, upward: bool) -> str:
-    points = ((x, y + 6), (x + 7, y + 6), (x + 3.5, y)) if upward else ((x, y), (x + 7, y), (x + 3.5, y + 6))
-    place = " ".join(f"{a:.1f},{b:.1f}" for a, b in points)
-    return f'<polygon points="{place}" class="{"boots" if upward else "falls"}"/>'
-
-
-def room_for(words: str, size: int = 12) -> float:
-    """About how wide the words are, rather more than less."""
-    return len(words) * size * 0.62
 
 
 class Picture:
     """The picture of a group: columns, rows and what stands in them."""
 
-    def __init__(self, group: Group):
-        self.group, self.spans, self.columns = group, group.spans(), folded(group.steps)
+    def __init__(self, group: Group, epochs: Epochs = Epochs()):
+        self.group, self.named = group, epochs
+        self.columns = folded(group.steps, group.spans())
+        self.begins = [column.epochs()[0] for column in self.columns]
+        first = group.steps[0].view["epoch"]
+        self.spans = [span for span in group.spans() if span.last >= first]
+        self.places = {span.first: self.columns_of(span) for span in self.spans}
         self.wide = max(12.0, min(84.0, 700 / len(self.columns)))
-        self.rows = sorted({osd for span in self.spans for osd in span.devices()})
-        self.has_empty = any(None in span.acting for span in self.spans)
+        self.rows = sorted({osd for span in self.spans if self.places[span.first] for osd in span.devices()})
+        self.has_empty = any(None in span.acting for span in self.spans if self.places[span.first])
         self.waited = sorted({osd for column in self.columns for osd in waited_by(column.step())})
         self.strip_y = TOP + ROW * (len(self.rows) + self.has_empty) + 28
         self.waits_y = self.strip_y + STRIP + (40 if self.waited else 22)
@@ -368,8 +68,9 @@ class Picture:
 
     def columns_of(self, span: Span) -> Optional[Tuple[int, int]]:
         """The first column of an interval and the one after its last, without mixed ones."""
-        found = [at for at, column in enumerate(self.columns)
-                 if not column.is_mixed() and span.first <= column.epochs()[0] and column.epochs()[1] <= span.last]
+        at = bisect.bisect_left(self.begins, span.first)
+        found = list(itertools.takewhile(lambda place: self.columns[place].epochs()[1] <= span.last, range(at, len(self.columns))))
+        found = [place for place in found if not self.columns[place].is_mixed()]
         return (found[0], found[-1] + 1) if found else None
 
     def svg(self) -> str:
@@ -392,7 +93,7 @@ class Picture:
 
     def band(self) -> Iterator[str]:
         """The ground of the current interval."""
-        place = self.columns_of(self.spans[-1])
+        place = self.places[self.spans[-1].first]
         if place:
             top, bottom = TOP + 2, self.strip_y + STRIP
             yield rect(self.x(place[0]), top, self.x(place[1]) - self.x(place[0]), bottom - top, "band")
@@ -415,7 +116,7 @@ class Picture:
             first, last = column.epochs()
             if first == after and last == after:
                 continue
-            x, words = self.x(at), str(first if first != after else last)
+            x, words = self.x(at), self.named.text(first if first != after else last)
             yield line(x, TOP, x, TOP + 5, "axis")
             if x >= free:
                 yield text(x + 1, TOP - 2, words, "small soft")
@@ -424,7 +125,7 @@ class Picture:
 
     def bars(self) -> Iterator[str]:
         for span in self.spans:
-            place = self.columns_of(span)
+            place = self.places[span.first]
             if place:
                 x, wide = self.x(place[0]), self.x(place[1]) - self.x(place[0])
                 yield from self.bars_of(span, x, wide)
@@ -434,7 +135,7 @@ class Picture:
         told = {"now": "current interval", "wrote": "may have gone read-write", "idle": "did not go read-write"}[kind]
         for at, osd in enumerate(self.rows):
             y = TOP + ROW * at + 12
-            tip = f"osd.{osd}, epochs {span.first} to {span.last}: {told}"
+            tip = f"osd.{osd}, epochs {self.named.text(span.first)} to {self.named.text(span.last)}: {told}"
             if osd in span.acting:
                 yield rect(x + 0.5, y, wide - 1, BAR, kind, tip, 2)
                 if osd == span.primary:
@@ -477,7 +178,7 @@ class Picture:
         for at, column in enumerate(self.columns):
             if column.is_mixed():
                 continue
-            tip = f"epoch {column.epochs()[1]}, {reason(column.step(), self.group.pool)}"
+            tip = f"epoch {self.named.text(column.epochs()[1])}, {reason(column.step(), self.group.pool)}"
             yield rect(self.x(at), self.strip_y, self.wide, STRIP, "clear", tip)
             mark = MARKS[column.step().op] if len(column.steps) == 1 else "\u2026"
             yield text(self.x(at + 0.5), self.strip_y + STRIP + 12, mark, "small mid soft")
@@ -523,7 +224,7 @@ class Picture:
                 top, bottom = TOP + 6, self.legend_y - 14
                 x = self.x(at)
                 words = f"{len(column.steps)} entries"
-                yield rect(x + 1, top, self.wide - 2, bottom - top, "fold", f"epochs {first} to {last}: {words}")
+                yield rect(x + 1, top, self.wide - 2, bottom - top, "fold", f"epochs {self.named.text(first)} to {self.named.text(last)}: {words}")
                 middle = x + self.wide / 2 + 4, (top + bottom) / 2
                 place = f'transform="rotate(-90 {middle[0]:.1f} {middle[1]:.1f})"'
                 yield f'<text x="{middle[0]:.1f}" y="{middle[1]:.1f}" class="small mid soft" {place}>{words}</text>'
@@ -590,34 +291,42 @@ def waited_by(step: Step) -> Dict[int, str]:
     return {**waits, **{osd: "blocks" for osd in step.view["blocked_by"]}}
 
 
-def group_of(words: str) -> Tuple[int, int]:
-    """A pool and a group's number from POOL.PG."""
-    pool, dot, pg = words.partition(".")
-    try:
-        found = int(pool), int(pg, 16)
-    except ValueError as fault:
-        raise Unusable(f"'{words}' is no group; groups are written POOL.PG, as 1.a") from fault
-    if not (1 <= found[0] <= 255 and 0 <= found[1] <= 1023):
-        raise Unusable(f"there can be no group '{words}'")
-    return found
+def script_epoch(epochs: Epochs, epoch: Optional[int], otherwise: int) -> int:
+    """The script's epoch for one that the command line names."""
+    if epoch is None:
+        return otherwise
+    if epoch < 0:
+        raise Unusable(f"there is no epoch {epoch}")
+    return epochs.in_script(epoch)
+
+
+def drawn(options: argparse.Namespace) -> str:
+    epochs = epochs_of(options.script, options.epochs)
+    since, until = script_epoch(epochs, options.since, 0), script_epoch(epochs, options.until, MOST_EPOCH)
+    group, refused = followed(options.program, options.script, *group_of(options.group), since, until)
+    for told in refused:
+        print(f"draw_group: {told}", file=sys.stderr)
+    return Picture(group, epochs).svg()
 
 
 def main(words: Optional[List[str]] = None) -> int:
     about, _, more = (__doc__ or "").split("\n\n", 2)
     parser = argparse.ArgumentParser(prog="draw_group", description=about, epilog=more,
                                      formatter_class=argparse.RawDescriptionHelpFormatter)
-    parser.add_argument("script", metavar="SCRIPT", help="a file of lines for pgpeer")
+    parser.add_argument("script", metavar="SCRIPT", help="a file of lines for pgpeer, or -")
     parser.add_argument("group", metavar="POOL.PG", help="the group, PG in hexadecimal")
     parser.add_argument("--program", default=str(PROGRAM), help="the built pgpeer")
+    parser.add_argument("--from", dest="since", type=int, metavar="EPOCH", help="the first epoch that is drawn")
+    parser.add_argument("--to", dest="until", type=int, metavar="EPOCH", help="the last epoch, at whose end the group is told")
+    parser.add_argument("--epochs", metavar="FILE", help="how the script's epochs and Ceph's go together")
+    parser.add_argument("--output", "-o", metavar="PICTURE", help="the picture's file, which is written whole or not at all")
     options = parser.parse_args(words)
-    try:
-        group = followed(options.program, options.script, *group_of(options.group))
-        picture = Picture(group).svg()
-    except Unusable as fault:
-        print(f"draw_group: error: {fault}", file=sys.stderr)
-        return 2
-    sys.stdout.write(picture)
-    return 0
+
+    def body() -> int:
+        write(drawn(options), options.output)
+        return 0
+
+    return ended("draw_group", body)
 
 
 if __name__ == "__main__":

@@ -217,8 +217,7 @@ class BadInput(unittest.TestCase):
 @unittest.skipUnless(HAS_PROGRAM, f"no program {PROGRAM}")
 class Examples(unittest.TestCase):
     def group(self, name, pool, pg):
-        with contextlib.redirect_stderr(io.StringIO()):
-            return draw_group.followed(PROGRAM, str(ROOT / f"examples/{name}.jsonl"), pool, pg)
+        return draw_group.followed(PROGRAM, str(ROOT / f"examples/{name}.jsonl"), pool, pg)[0]
 
     def test_a_group_waits_just_while_someone_is_unheard(self):
         for name, pool, pg in (("outage", 1, 0), ("blocked", 1, 0), ("lost_shard", 2, 3), ("reports", 1, 0), ("map", 1, 5)):

@@ -61,10 +61,10 @@ class Case(unittest.TestCase):
         return [json.loads(line) for line in out.splitlines()]
 
     def told(self, *words):
-        """What is told of the map, which --strict takes for an error."""
-        status, _, err = self.run_tool(*words)
+        """What is told of the map alone, which --strict takes for an error."""
+        status, _, err = self.run_tool("--alone", *words)
         self.assertEqual(status, 0)
-        strict, out, err_of_strict = self.run_tool("--strict", *words)
+        strict, out, err_of_strict = self.run_tool("--strict", "--alone", *words)
         self.assertEqual((strict, out), (2 if err else 0, "" if err else out))
         self.assertTrue(err_of_strict.startswith(err))
         return err
@@ -132,6 +132,13 @@ class Lines(Case):
     def test_a_map_of_list_and_uniform_buckets_is_carried_whole(self):
         self.assertEqual(self.told(), "")
 
+    def test_history_and_reports_are_told_each_time_and_how_they_are_had(self):
+        status, out, err = self.run_tool("--strict")
+        self.assertEqual((status, out), (2, ""))
+        self.assertEqual(len(err.splitlines()), 2)
+        self.assertIn("not carried: the map's history, and what members report of groups: tools/from_ceph.py fetch", err)
+        self.assertEqual(self.run_tool()[0], 0)
+
     def test_text_before_a_dump_is_passed_over(self):
         text = "marking all OSDs up and in\n" + json.dumps(self.osdmap)
         status, out, _ = written([self.file("osdmap.json", text), self.file("crush.json", self.crush)])
@@ -155,6 +162,7 @@ class NotCarried(Case):
         cause = "straw2 buckets, carried as list buckets of the same weights, so places differ"
         self.assertIn(f"{cause}: -9 'all', -1 'h0'", self.told())
         self.assertEqual({bucket["alg"] for bucket in self.lines()[0]["crush"]}, {"list"})
+        self.assertIn("groups lie as in Ceph with history --groups FILE", self.told())
 
     def test_device_classes_and_the_tree_of_their_rule(self):
         self.osdmap, self.crush = dump("classes", "osdmap"), dump("classes", "crush")

@@ -1,0 +1,212 @@
+"""Reads devices, pools and pg_temp lists of a Ceph cluster's map, and tells what a script has no key for."""
+
+import re
+from typing import List, NamedTuple, Optional, Set, Tuple
+
+from ceph_json import Node, Notes, Unusable, ranges
+
+MOST_DEVICES = 4096
+MOST_POOLS = 255
+MOST_GROUPS = 1024  # of one pool
+MOST_GROUPS_IN_ALL = 16384
+MOST_PLACES = 16  # of one group
+
+IN = 0x10000  # the weight of a device that takes its whole share
+NONE = 2147483647  # an empty place, as Ceph prints it
+REPLICATED, ERASURE = 1, 3  # the types of Ceph's pools
+PLAIN_PLUGINS = ("jerasure", "isa")  # their codes read from any k shards
+HALTS = ("pauserd", "pausewr", "noup", "nodown", "noin", "noout", "full")
+
+
+Group = Tuple[int, int]  # a pool and a group's number
+Places = List[Optional[int]]  # devices; an empty place is None
+
+
+class Device(NamedTuple):
+    """A device of the map; its weight is in units of 1/0x10000, the others are epochs."""
+
+    id: int
+    up: bool
+    weight: int
+    up_from: int = 0
+    up_thru: int = 0
+    down_at: int = 0
+    lost_at: int = 0
+
+    def served(self) -> bool:
+        """Tells whether an up_thru was recorded since it booted."""
+        return self.up and self.up_thru > 0 and self.up_thru >= self.up_from
+
+
+class Pool(NamedTuple):
+    id: int
+    name: str
+    pg_num: int
+    size: int
+    min_size: int
+    rule: int
+    k: Optional[int]  # None where the pool is replicated
+
+    def label(self) -> str:
+        return f"pool {self.id} '{self.name}'"
+
+
+class Temp(NamedTuple):
+    """A group's pg_temp list; an empty place is None."""
+
+    pool: int
+    pg: int
+    osds: Places
+
+
+# Reading
+
+
+def read_devices(osdmap: Node, notes: Notes) -> List[Device]:
+    devices, seen = [], set()
+    for osd in osdmap.key("osds").items():
+        device = read_device(osd)
+        if device.id in seen:
+            raise Unusable(f"{osd.where}.osd is {device.id}, which stands there twice")
+        seen.add(device.id)
+        affinity = osd.key("primary_affinity").number() if osd.has("primary_affinity") else 1
+        if affinity != 1:
+            notes.tell("primary affinities", f"osd.{device.id} has {affinity}")
+        if 0 <= device.id < MOST_DEVICES:
+            devices.append(device)
+        else:
+            notes.tell(f"devices above {MOST_DEVICES - 1}, left out", f"osd.{device.id}")
+    return devices
+
+
+def read_device(osd: Node) -> Device:
+    share = osd.key("weight").number()
+    if not 0 <= share < IN:
+        raise Unusable(f"{osd.key('weight').where} is out of range")
+    epochs = (osd.count_of(key) for key in ("up_from", "up_thru", "down_at", "lost_at"))
+    return Device(osd.key("osd").whole(), osd.key("up").whole() != 0, round(share * IN), *epochs)
+
+
+def data_shards(osdmap: Node, pool: Node, label: str, size: int, notes: Notes) -> int:
+    """How many shards the erasure pool reads from, by its profile."""
+    name = pool.key("erasure_code_profile").text()
+    profile = osdmap.key("erasure_code_profiles").key(name)
+    try:
+        k = int(profile.key("k").text())
+    except ValueError as fault:
+        raise Unusable(f"{profile.where}.k is no whole number") from fault
+    plugin = profile.key("plugin").text() if profile.has("plugin") else "jerasure"
+    if plugin not in PLAIN_PLUGINS:
+        notes.tell("erasure codes that don't read from any k shards, carried as if they did",
+                   f"{plugin} of profile '{name}' in {label}")
+    if not 1 <= k <= size:
+        raise Unusable(f"{profile.where}.k is {k}, and the size of {label} is {size}")
+    return k
+
+
+def read_pool(osdmap: Node, pool: Node, notes: Notes) -> Optional[Pool]:
+    """The pool, or None where it is left out."""
+    number, size = pool.key("pool").whole(), pool.key("size").whole()
+    name = pool.key("pool_name").text() if pool.has("pool_name") else ""
+    label, kind = f"pool {number} '{name}'", pool.key("type").whole()
+    if kind not in (REPLICATED, ERASURE):
+        raise Unusable(f"{pool.where}.type is {kind}, neither replicated (1) nor erasure (3)")
+    min_size, pg_num = pool.key("min_size").whole(), pool.key("pg_num").whole()
+    if pg_num < 1:
+        raise Unusable(f"{pool.where}.pg_num is {pg_num}")
+    k = data_shards(osdmap, pool, label, size, notes) if kind == ERASURE else None
+    if not 1 <= number <= MOST_POOLS:
+        notes.tell(f"pools above {MOST_POOLS}, left out", label)
+        return None
+    if not 1 <= size <= MOST_PLACES:
+        notes.tell(f"pools whose size isn't 1 to {MOST_PLACES}, left out", f"{label} of size {size}")
+        return None
+    if not 1 <= min_size <= size:
+        notes.tell("min_size that isn't 1 to size, carried as the nearest that is", f"{label} has {min_size}")
+        min_size = max(1, min(min_size, size))
+    if pg_num > MOST_GROUPS:
+        notes.tell(f"pg_num above {MOST_GROUPS}, of which the first {MOST_GROUPS} are carried, so objects fall into others",
+                   f"{label} has {pg_num}")
+    tell_pool(pool, label, notes)
+    return Pool(number, name, min(pg_num, MOST_GROUPS), size, min_size, pool.key("crush_rule").whole(), k)
+
+
+def tell_pool(pool: Node, label: str, notes: Notes) -> None:
+    """Tells of a pool what its line has no key for."""
+    if pool.has("pg_placement_num") and pool.key("pg_placement_num").whole() != pool.key("pg_num").whole():
+        notes.tell("pgp_num other than pg_num, so places differ", f"{label} has {pool.key('pg_placement_num').whole()}")
+    if pool.has("flags_names") and "hashpspool" not in pool.key("flags_names").text().split(","):
+        notes.tell("pools without the flag hashpspool, so places differ", label)
+    if pool.has("tier_of") and pool.key("tier_of").whole() >= 0:
+        notes.tell("cache tiers", f"{label} of pool {pool.key('tier_of').whole()}")
+
+
+def read_pools(osdmap: Node, notes: Notes) -> List[Pool]:
+    nodes = osdmap.key("pools").items()
+    numbers = [pool.key("pool").whole() for pool in nodes]
+    twice = next((at for at, number in enumerate(numbers) if number in numbers[:at]), None)
+    if twice is not None:
+        raise Unusable(f"{nodes[twice].where}.pool is {numbers[twice]}, which stands there twice")
+    pools = [read_pool(osdmap, pool, notes) for pool in nodes]
+    return sorted((pool for pool in pools if pool), key=lambda pool: pool.id)
+
+
+def read_group(text: Node) -> Group:
+    """A group's pool and number from Ceph's POOL.HEX; what follows of a shard, as in 2.1s0, is passed over."""
+    found = re.fullmatch(r"([0-9]{1,9})\.([0-9a-f]{1,8})(s[0-9]+)?", text.text())
+    if not found:
+        raise Unusable(f"{text.where} is no group")
+    return int(found[1]), int(found[2], 16)
+
+
+def group_text(group: Group) -> str:
+    return f"{group[0]}.{group[1]:x}"
+
+
+def places_of(node: Node) -> Places:
+    """A list of devices as Ceph prints it."""
+    return [None if osd.whole() in (NONE, -1) else osd.whole() for osd in node.items()]
+
+
+def read_temps(osdmap: Node, pools: List[Pool], notes: Notes) -> List[Temp]:
+    """The pg_temp lists of the groups that are carried."""
+    temps, by_id = [], {pool.id: pool for pool in pools}
+    for entry in osdmap.key("pg_temp").items():
+        number, group = read_group(entry.key("pgid"))
+        places, pool = places_of(entry.key("osds")), by_id.get(number)
+        if pool is None or group >= pool.pg_num:
+            continue
+        fault = temp_fault(pool, places)
+        if fault:
+            notes.tell("pg_temp lists, left out", f"{entry.key('pgid').text()} has {fault}")
+        else:
+            temps.append(Temp(number, group, places))
+    return temps
+
+
+def temp_fault(pool: Pool, places: Places) -> Optional[str]:
+    """What the list has that no pg_temp list of the pool may have."""
+    osds = [osd for osd in places if osd is not None]
+    if len(places) > MOST_PLACES or pool.k is not None and len(places) != pool.size:
+        return f"{len(places)} places"
+    if pool.k is None and None in places:
+        return "an empty place"
+    if len(set(osds)) < len(osds):
+        return "a device twice"
+    return next((f"osd.{osd}" for osd in osds if not 0 <= osd < MOST_DEVICES), None)
+
+
+def tell_map(osdmap: Node, wanted: Set[int], notes: Notes) -> None:
+    """Tells of the map what a script has no key for."""
+    for key, what in (("pg_upmap", "upmaps"), ("pg_upmap_items", "upmaps"), ("pg_upmap_primaries", "upmaps"),
+                      ("primary_temp", "primary_temp")):
+        for entry in osdmap.items_of(key):
+            if read_group(entry.key("pgid"))[0] in wanted:
+                notes.tell(what, entry.key("pgid").text())
+    flags = osdmap.key("flags").text().split(",") if osdmap.has("flags") else []
+    for flag in flags:
+        if flag in HALTS:
+            notes.tell("flags", flag)
+    if osdmap.has("stretch_mode") and osdmap.key("stretch_mode").has("stretch_mode_enabled"):
+        if osdmap.key("stretch_mode").key("stretch_mode_enabled").value:
+            notes.tell("stretch mode", "enabled")

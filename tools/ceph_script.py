@@ -1,0 +1,355 @@
+"""The script of a Ceph cluster's history: its map as it was first known, an incremental for each later epoch, and reports."""
+
+from typing import Any, Dict, Iterator, List, NamedTuple, Optional, Set, Tuple
+
+from ceph_epochs import Epochs, numbered
+from ceph_folder import Dumps, version_of
+from ceph_history import Change, Changes, Lawful, Line, Snapshot, earlier
+from ceph_json import MOST, Node, Notes, Unusable, compact
+from ceph_map import Group, Places, Pool, Temp, group_text, read_devices, read_group, read_pools, read_temps, tell_map
+from ceph_query import (Info, Query, Version, entries_lines, info_line, infos_of_stats, read_log, read_query, tell_faults)
+from ceph_sets import Where, carried, dumped_sets, stats_of, up_alone
+from ceph_tree import Bucket, Crush, carried_tree, choice_of, pools_of_one_root, read_crush, tell_classes, within_all_groups
+
+LONGEST_LINE = 1048576  # bytes, without the line feed
+
+Log = List[Tuple[Version, str, str]]
+
+
+class Wanted(NamedTuple):
+    """What of a cluster is wanted."""
+
+    pools: List[int]  # all where it is empty
+    since: int = 0  # the first epoch, or 0
+    until: int = MOST
+    own_sets: bool = False  # acting sets are those that Ceph printed
+    ask: bool = False
+
+
+class Script(NamedTuple):
+    lines: List[Line]
+    epochs: Optional[Epochs]  # None where they are the script's own
+
+
+def bucket_object(bucket: Bucket) -> Line:
+    head = {"id": bucket.id, "type": bucket.type}
+    if bucket.alg == "uniform":
+        return {**head, "alg": "uniform", "items": bucket.items}
+    return {**head, "alg": "list", "items": bucket.items, "weights": bucket.weights}
+
+
+def pool_object(pool: Pool, leaf: int) -> Line:
+    kind: Line = {"kind": "replicated"} if pool.k is None else {"kind": "erasure", "k": pool.k}
+    return {"id": pool.id, "pg_num": pool.pg_num, **kind, "size": pool.size, "min_size": pool.min_size, "leaf": leaf}
+
+
+def pool_parts(pools: List[Pool], temps: List[Temp], leaves: Dict[int, int]) -> Iterator[Line]:
+    """The incrementals that make the pools, as few as lines hold, each pool with its pg_temp lists."""
+    part: Line = {"pools": [], "temp": []}
+    for pool in pools:
+        new = [pool_object(pool, leaves[pool.id])], [[t.pool, t.pg, t.osds] for t in temps if t.pool == pool.id]
+        longer = {"pools": part["pools"] + new[0], "temp": part["temp"] + new[1]}
+        if part["pools"] and len(compact(longer)) > LONGEST_LINE - 65536:
+            yield part
+            longer = {"pools": new[0], "temp": new[1]}
+        part = longer
+    if part["pools"]:
+        yield part
+
+
+def incremental(epoch: int, part: Line) -> Line:
+    return {"op": "inc", "epoch": epoch, **{key: value for key, value in part.items() if value}}
+
+
+# What the dumps say
+
+
+class Story:
+    """A cluster's history, as its dumps tell it."""
+
+    def __init__(self, dumps: Dumps, wanted: Wanted, notes: Notes):
+        self.dumps, self.wanted, self.notes = dumps, wanted, notes
+        maps = {epoch: node for epoch, node in sorted(dumps.maps.items()) if wanted.since <= epoch <= wanted.until}
+        if not maps:
+            raise Unusable("there is no map of the epochs that are wanted")
+        self.latest = max(maps)
+        self.crush = self.read_trees()
+        self.snapshots = [self.snapshot(epoch, node) for epoch, node in maps.items()]
+        self.pools = {pool.id: pool for snapshot in self.snapshots for pool in snapshot.pools.values()}
+        self.queries = [query for query in map(read_query, dumps.queries) if query.group[0] in self.pools]
+        self.sets = self.read_sets() if wanted.own_sets else {}
+        self.first = self.first_epoch()
+
+    def read_trees(self) -> Dict[int, Crush]:
+        trees = {version: read_crush(node, self.notes) for version, node in sorted(self.dumps.trees.items())}
+        for node in list(self.dumps.trees.values())[-1:]:
+            tell_classes(node, self.notes)
+        return trees
+
+    def snapshot(self, epoch: int, node: Node) -> Snapshot:
+        pools = [pool for pool in read_pools(node, self.notes) if not self.wanted.pools or pool.id in self.wanted.pools]
+        pools = within_all_groups(pools, self.notes)
+        devices = {device.id: device for device in read_devices(node, self.notes)}
+        temps = {(temp.pool, temp.pg): temp.osds for temp in read_temps(node, pools, self.notes)}
+        changed = {it.key("pool").whole(): it.count_of("last_change") for it in node.key("pools").items()}
+        tell_map(node, {pool.id for pool in pools}, self.notes)
+        return Snapshot(epoch, devices, {pool.id: pool for pool in pools}, changed, temps, version_of(node))
+
+    def read_sets(self) -> Dict[int, Dict[Group, Where]]:
+        """Where groups lie, by the epochs in which they came to lie there, as far as dumps tell."""
+        found = {epoch: dict(sets) for epoch, sets in self.dumps.sets.items()}
+        for dump in self.dumps.stats:
+            sets = dumped_sets(dump)
+            for group, where in sets.where.items():
+                found.setdefault(sets.since[group], {})[group] = where
+        for query in self.queries:
+            found.setdefault(query.since, {})[query.group] = where_of(query)
+            for past in query.past:
+                size = self.pools[query.group[0]].size
+                found.setdefault(past.first, {}).setdefault(query.group, where_of_past(past, size, bool(self.pools[query.group[0]].k)))
+        return found
+
+    def first_epoch(self) -> int:
+        """The epoch of the first map, or that of an earlier interval that matters still."""
+        found = self.snapshots[0].epoch
+        for query in self.queries:
+            les = max((info.history_les for info in query.infos), default=0)
+            found = min([found, query.epoch, *(past.first for past in query.past if past.last >= les)])
+        return max(found, self.wanted.since, 1)
+
+    # Reports
+
+    def infos(self) -> List[Info]:
+        """The infos of all members, in the order of their epochs; one for each member and epoch."""
+        found = {(info.group, info.member, info.stamp): info for query in self.queries for info in query.infos}
+        asked = {query.group for query in self.queries if query.epoch >= self.snapshots[-1].epoch}
+        for dump in self.dumps.stats:
+            for stat in stats_of(dump):
+                for info in infos_of_stats(stat, self.pools):
+                    late = info._replace(stamp=max(info.stamp, self.first))
+                    if info.group not in asked:
+                        found.setdefault((late.group, late.member, late.stamp), late)
+        last = self.snapshots[-1]
+        kept = (info for info in found.values() if tell_faults(info, last.pools, list(self.devices()), last.epoch, self.notes))
+        return sorted((info for info in kept if info.stamp >= self.first), key=lambda info: (info.stamp, info.group, info.member))
+
+    def devices(self) -> Set[int]:
+        return {osd for snapshot in self.snapshots for osd in snapshot.devices}
+
+    def logs(self) -> Dict[Tuple[Group, int], Log]:
+        found: Dict[Tuple[Group, int], Log] = {}
+        for osd, name, node in self.dumps.logs:
+            group = read_group(Node(name, node.where))
+            found.setdefault((group, osd), []).extend(read_log(node, f"{group_text(group)} of osd.{osd}", self.notes))
+        return found
+
+
+def where_of(query: Query) -> Where:
+    up, acting = (next((osd for osd in places if osd is not None), None) for places in (query.up, query.acting))
+    return Where(tuple(query.up), up, tuple(query.acting), acting)
+
+
+def where_of_past(past: Any, size: int, is_erasure: bool) -> Where:
+    places: Places = [osd for osd, _ in past.acting]
+    if is_erasure:
+        by_slot = {slot: osd for osd, slot in past.acting}
+        places = [by_slot.get(slot) for slot in range(size)]
+    first = next((osd for osd in places if osd is not None), None)
+    return Where(tuple(places), first, tuple(places), first)
+
+
+# The script
+
+
+class Writer:
+    """Writes a story: its first map in a few incrementals, then one for each epoch."""
+
+    def __init__(self, story: Story):
+        self.story, self.notes = story, story.notes
+        first = story.snapshots[0]
+        self.base = earlier(first, story.first) if story.first < first.epoch else first
+        self.changes = Changes(story.first, max(story.snapshots[-1].epoch, story.first), self.notes)
+        self.root, self.leaves = self.judged()
+        self.infos, self.log = story.infos(), story.logs()
+
+    def judged(self) -> Tuple[Optional[int], Dict[int, int]]:
+        """The root of the tree, and each pool's failure domain. Pools of other roots are left out."""
+        story, pools = self.story, [self.story.pools[it] for it in sorted(self.story.pools)]
+        if story.wanted.own_sets:
+            return None, {pool.id: 0 for pool in pools}
+        if not story.crush:
+            self.notes.tell("the tree, in whose place the script has none (ceph osd crush dump)", "no CRUSH dump was given")
+            return None, {pool.id: 0 for pool in pools}
+        crush = story.crush[max(story.crush)]
+        root, kept = pools_of_one_root(crush, pools, self.notes)
+        story.pools = {pool.id: pool for pool in kept}
+        return root, {pool.id: choice_of(crush, pool).type for pool in kept}
+
+    def tree(self, version: int) -> Optional[List[Line]]:
+        """The tree of a version, None where it isn't known."""
+        if self.story.wanted.own_sets or not self.story.crush:
+            return None
+        if version not in self.story.crush:
+            told = f"version {version} (ceph osd getcrushmap EPOCH -o FILE, crushtool -i FILE --dump)"
+            self.notes.tell("trees of some epochs, in whose place the one before or the next stands", told)
+            later = [it for it in self.story.crush if it > version]
+            version = min(later) if later else max(self.story.crush)
+        root = self.root
+        return [bucket_object(it) for it in carried_tree(self.story.crush[version], root, self.notes)]
+
+    def write(self) -> Script:
+        story = self.story
+        self.follow()
+        parts = self.first_parts()
+        named = [epoch for info in self.infos for epoch in epochs_named(info)]
+        named += [version[0] for log in self.log.values() for version, _, _ in log]
+        epochs = numbered(story.first, len(parts), named)
+        base = epochs.in_script(story.first)
+        parts = [{} for _ in range(base - len(parts))] + parts
+        self.serve(parts[-1], base)
+        lines = [incremental(at, part) for at, part in enumerate(parts, 1)]
+        lines += self.reports(story.first, epochs)
+        lines += self.later(epochs, {osd: thru for osd, thru in parts[-1].get("up_thru", [])})
+        if story.wanted.ask:
+            last = story.snapshots[-1]
+            lines += [{"op": "ask", "pg": [pool.id, pg]} for pool in sorted(last.pools.values()) if pool.id in story.pools
+                      for pg in range(min(pool.pg_num, story.pools[pool.id].pg_num))]
+        return Script(lines, epochs)
+
+    def follow(self) -> None:
+        """Finds what changes from map to map."""
+        story, before = self.story, self.base
+        for snapshot in story.snapshots:
+            if snapshot.epoch > before.epoch:
+                self.changes.take(before, snapshot)
+            before = snapshot
+        self.changes.guess(self.is_told)
+        known = {snapshot.epoch for snapshot in story.snapshots}
+        for query in story.queries:
+            for past in query.past:
+                self.changes.wrote(leaders(past), past.first, past.last, known)
+
+    def is_told(self, since: int, now: int) -> bool:
+        """Tells whether a query tells of the intervals between two epochs."""
+        return any(query.told_from <= since + 1 and now - 1 <= max(query.told_to, query.epoch) and query.told_from
+                   for query in self.story.queries)
+
+    def first_parts(self) -> List[Line]:
+        """The incrementals that make the first map: devices boot, those that are down go down, pools are made."""
+        pools = [pool for pool in self.base.pools.values() if pool.id in self.story.pools]
+        temps = [Temp(*group, places) for group, places in self.base.temps.items()]
+        if self.story.wanted.own_sets:
+            temps = self.first_sets(pools)
+        tree = self.tree(self.base.tree) if pools else None
+        devices = [device for device in self.base.devices.values() if device.up_from or device.up or pools]
+        absent = sorted({item for bucket in tree or [] for item in bucket["items"] if item >= 0} - set(self.base.devices))
+        weights = [[device.id, device.weight] for device in devices if device.weight != 0x10000] + [[osd, 0] for osd in absent]
+        down = sorted([device.id for device in devices if not device.up] + absent)
+        first = {"up": sorted([*(device.id for device in devices), *absent]), "weight": sorted(weights), "crush": tree or []}
+        parts: List[Line] = [it for it in (first, {"down": down}, {"gone": absent}) if any(it.values())]
+        parts += pool_parts(pools, temps, self.leaves)
+        self.lawful = Lawful({it.id for it in devices if it.up}, {it.id for it in devices if not it.up}, {}, {it.id: it for it in pools}, self.notes)
+        return parts or [{}]
+
+    def serve(self, part: Line, epoch: int) -> None:
+        """Has the first map know of devices that were up in an interval that began before it."""
+        served = [device.id for device in self.base.devices.values() if device.served()]
+        if served and "pools" in part:
+            part["up_thru"] = [[osd, epoch] for osd in sorted(served)]
+
+    # Later epochs
+
+    def later(self, epochs: Epochs, thru: Dict[int, int]) -> Iterator[Line]:
+        self.lawful.thru = thru
+        has_tree = bool(self.base.pools) and not self.story.wanted.own_sets
+        acting = Acting(self, epochs) if self.story.wanted.own_sets else None
+        version = self.base.tree
+        for ceph_epoch in range(self.story.first + 1, self.changes.last + 1):
+            epoch, change = epochs.in_script(ceph_epoch), self.changes.by_epoch.get(ceph_epoch, Change())
+            change.pools = {it: pool for it, pool in change.pools.items() if it in self.story.pools}
+            version = change.tree if change.tree is not None else version
+            parts = self.lawful.parts(change, epoch, ceph_epoch, epochs.in_script)
+            if change.tree is not None and has_tree or change.pools and not has_tree:
+                parts["crush"] = self.tree(version)
+                has_tree = True
+            parts["pools"] = [pool_object(pool, self.leaves[pool.id]) for pool in change.pools.values()]
+            if acting:
+                parts["temp"] = acting.temps(ceph_epoch, self.lawful)
+            yield incremental(epoch, parts)
+            yield from self.reports(ceph_epoch, epochs)
+
+    def first_sets(self, pools: List[Pool]) -> List[Temp]:
+        """The acting sets of the first map: the last that are known by then, or else the first."""
+        epochs = sorted(self.story.sets)
+        ordered = [it for it in epochs if it <= self.story.first][::-1] + [it for it in epochs if it > self.story.first]
+        temps = []
+        for pool in pools:
+            for pg in range(pool.pg_num):
+                where = next((self.story.sets[it][pool.id, pg] for it in ordered if (pool.id, pg) in self.story.sets[it]), None)
+                places = where and carried((pool.id, pg), pool, where, self.notes)
+                if places:
+                    temps.append(Temp(pool.id, pg, places))
+                elif where is None:
+                    told = "acting sets of groups of which no dump tells (osdmaptool MAP --test-map-pgs-dump-all)"
+                    self.notes.tell(told, group_text((pool.id, pg)))
+        return temps
+
+    def reports(self, ceph_epoch: int, epochs: Epochs) -> Iterator[Line]:
+        """The reports of an epoch."""
+        for info in self.infos:
+            if info.stamp == ceph_epoch and info.group[0] in self.story.pools:
+                yield info_line(info, epochs)
+                log = self.log.get((info.group, info.member[0]), [])
+                yield from entries_lines(info, log, epochs)
+                if info.log_tail != info.last_update and not log:
+                    told = "log entries (ceph-objectstore-tool --op log), without which a group whose log isn't empty is NeedLog"
+                    self.notes.tell(told, group_text(info.group))
+
+
+class Acting:
+    """The acting sets of a script in which they are Ceph's."""
+
+    def __init__(self, writer: Writer, epochs: Epochs):
+        self.writer, self.story = writer, writer.story
+        self.lists: Dict[Group, Places] = {}
+        for temp in writer.first_sets(list(writer.base.pools.values())):
+            self.lists[temp.pool, temp.pg] = temp.osds
+
+    def temps(self, epoch: int, lawful: Lawful) -> List[List[Any]]:
+        """The pg_temp lists of an epoch: those of groups that don't lie where Ceph has them."""
+        found = []
+        for group, where in sorted(self.story.sets.get(epoch, {}).items()):
+            pool = lawful.pools.get(group[0])
+            if pool is None or group[1] >= pool.pg_num:
+                continue
+            places = carried(group, pool, where, self.story.notes)
+            if places is not None and places != self.filtered(group, pool, lawful.up):
+                self.lists[group] = places
+                found.append([*group, places])
+        return found
+
+    def filtered(self, group: Group, pool: Pool, up: Set[int]) -> Places:
+        places = [osd if osd in up else None for osd in self.lists.get(group, [])]
+        return places if pool.k is not None else [osd for osd in places if osd is not None]
+
+
+def leaders(past: Any) -> List[int]:
+    """The members of which one led the interval: that of the lowest shard, in an erasure pool."""
+    if any(slot for _, slot in past.acting):
+        return [min(past.acting, key=lambda member: member[1])[0]]
+    return [osd for osd, _ in past.acting]
+
+
+def epochs_named(info: Info) -> List[int]:
+    return [info.les, info.history_les, info.last_epoch_clean, info.last_update[0], info.log_tail[0]]
+
+
+def history(dumps: Dumps, wanted: Wanted, notes: Notes) -> Script:
+    """The script of the dumps."""
+    story = Story(dumps, wanted, notes)
+    for epoch, group in up_alone(story.sets):
+        notes.tell("changes of up sets alone, which begin an interval in Ceph", f"{group_text(group)} in epoch {epoch}")
+    writer = Writer(story)
+    if not writer.infos:
+        notes.tell("reports (ceph pg PG query for each group), without which no group serves", "none was given")
+    return writer.write()

@@ -1,0 +1,43 @@
+"""What is said of a group: devices, verdicts and why."""
+
+from typing import Any, Dict, Iterable, Sequence
+
+from group_steps import Pool, Step
+
+
+def osds_text(osds: Iterable[int]) -> str:
+    names = [f"osd.{osd}" for osd in sorted(set(osds))]
+    return " and ".join([", ".join(names[:-1]), names[-1]] if len(names) > 1 else names)
+
+
+def member_text(member: Sequence[int], pool: Pool) -> str:
+    return f"osd.{member[0]}" + (f" (shard {member[1]})" if pool.k else "")
+
+
+def reason(step: Step, pool: Pool) -> str:
+    """The verdict in words, and why."""
+    view, verdict = step.view, step.view["verdict"]
+    primary = view["acting_primary"]
+    why = {
+        "NoPrimary": "no device of the acting set is up",
+        "Down": f"writes may be on {osds_text(view['blocked_by'])} alone, which may come back",
+        "Waiting": f"not heard yet: {', '.join(member_text(it, pool) for it in step.unheard)}",
+        "Incomplete": "no copy that was heard is complete and new enough",
+        "Short": "the acting set has too few members",
+        "NeedLog": f"the log of {member_text(view['best'] or (0, 0), pool)}, the best copy, has gaps",
+        "NeedUpThru": f"the map doesn't say yet that osd.{primary} was up in this interval",
+        "Serve": behind(view, pool),
+    }
+    return f"{verdict}: {why[verdict]}"
+
+
+def behind(view: Dict[str, Any], pool: Pool) -> str:
+    """Which members lack something."""
+    lacks = []
+    for peer in view["missing"]:
+        name, count = member_text(peer["member"], pool), len(peer.get("objects", ()))
+        if peer["state"] != "missing":
+            lacks.append(f"{name} {'needs a backfill' if peer['state'] == 'backfill' else 'has diverged'}")
+        elif count:
+            lacks.append(f"{name} lacks {count} object{'s' if count > 1 else ''}")
+    return ", ".join(lacks) or "all who were heard have all objects"
