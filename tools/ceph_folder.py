@@ -11,7 +11,7 @@ from typing import Dict, List, Optional, Tuple
 
 from ceph_json import Node, Notes, Unusable, parsed, text_of
 from ceph_map import Group
-from ceph_sets import Where, dumped_sets, is_printed, printed_sets
+from ceph_sets import Where, is_printed, printed_sets
 
 LOG_NAME = re.compile(r"(?:^|[^0-9])osd\.?(\d{1,4})[^0-9].*?(\d{1,3}\.[0-9a-f]{1,3})(?:s(\d{1,2}))?(?=[^0-9a-f]|$)")
 
@@ -73,11 +73,13 @@ def read_folder(paths: List[str], notes: Notes) -> Dumps:
     named = [path for path in paths if not os.path.isdir(path)]
     for path in files_of(paths):
         try:
-            read_file(path, dumps, loose)
+            text, node, kind = told_apart(path)
         except Unusable as fault:
             if path in named:
                 raise
             notes.tell("files that are no dump of Ceph's", str(fault))
+        else:
+            take_file(path, text, node, kind, dumps, loose)
     if not dumps.maps:
         raise Unusable(f"{' '.join(paths)}: no map, as `ceph osd dump --format json` prints it")
     place_trees(dumps, loose)
@@ -86,14 +88,23 @@ def read_folder(paths: List[str], notes: Notes) -> Dumps:
     return dumps
 
 
-def read_file(path: str, dumps: Dumps, loose: Loose) -> None:
+def told_apart(path: str) -> Tuple[str, Node, str]:
+    """A file's text, its value and what it is."""
     text = text_of(path)
+    where = "standard input" if path == "-" else path
     if is_printed(text):
-        loose.groups.append((path, text))
-        return
-    node = parsed(text, "standard input" if path == "-" else path)
+        return text, Node(None, where), "groups"
+    node = parsed(text, where)
     kind = kind_of(node)
-    if kind == "map":
+    if not kind:
+        raise Unusable(f"{where} is no map, tree, list of groups, query or log of Ceph's")
+    return text, node, kind
+
+
+def take_file(path: str, text: str, node: Node, kind: str, dumps: Dumps, loose: Loose) -> None:
+    if kind == "groups":
+        loose.groups.append((path, text))
+    elif kind == "map":
         add_map(path, node, dumps, loose)
     elif kind == "tree":
         loose.trees.append((path, node))
@@ -101,10 +112,8 @@ def read_file(path: str, dumps: Dumps, loose: Loose) -> None:
         dumps.queries.append(node)
     elif kind == "stats":
         dumps.stats.append(node)
-    elif kind == "log":
-        dumps.logs.append((*log_of(path), node))
     else:
-        raise Unusable(f"{path} is no map, tree, list of groups, query or log of Ceph's")
+        dumps.logs.append((*log_of(path), node))
 
 
 def add_map(path: str, node: Node, dumps: Dumps, loose: Loose) -> None:

@@ -301,7 +301,7 @@ class Writer:
                 yield info_line(info, epochs)
                 log = self.log.get((info.group, info.member[0]), [])
                 yield from entries_lines(info, log, epochs)
-                if info.log_tail != info.last_update and not log:
+                if info.log_tail != info.last_update and not any(group == info.group for group, _ in self.log):
                     told = "log entries (ceph-objectstore-tool --op log), without which a group whose log isn't empty is NeedLog"
                     self.notes.tell(told, group_text(info.group))
 
@@ -347,6 +347,10 @@ def epochs_named(info: Info) -> List[int]:
 def history(dumps: Dumps, wanted: Wanted, notes: Notes) -> Script:
     """The script of the dumps."""
     story = Story(dumps, wanted, notes)
+    if wanted.own_sets:
+        other = {group for sets in story.sets.values() for group, where in sets.items() if where.up != where.acting}
+        told = f"{len(other)} groups had another at times" if other else "which they were in each dump"
+        notes.tell("up sets beside Ceph's acting sets; they are empty in the script", told)
     for epoch, group in up_alone(story.sets):
         notes.tell("changes of up sets alone, which begin an interval in Ceph", f"{group_text(group)} in epoch {epoch}")
     writer = Writer(story)

@@ -1,86 +1,49 @@
 #!/usr/bin/env python3
-"""Compares where groups lie by pgpeer with where they lie by Ceph, on maps that Ceph made.
+"""Compares where groups lie by pgpeer, and whether they serve, with what Ceph says, on maps and clusters that Ceph made.
 
     tools/check_against_ceph.py [--program PATH] [--keep FOLDER] [NAME...]
+    tools/check_against_ceph.py --outages N [--steps N] [--seed N] [--jobs N] [--program PATH] [--keep FOLDER]
+    tools/check_against_ceph.py --again FOLDER [--program PATH]
 
 PATH is the built program (by default crates/pgpeer/out/pgpeer). Needs Debian's ceph-base, ceph-common, ceph-mon and ceph-osd.
 
-Two maps are made by `osdmaptool --createsimple` and `crushtool --build`. For the others a monitor runs on the loopback
-address in a folder of its own; each of 24 devices boots once, as an OSD that keeps its store in memory, and is stopped again
-while the flag nodown keeps it up. Then trees, pools, devices that are down, out, reweighted or removed, and pg_temp lists are
-given by `ceph`, as an operator would. Each map is taken over by from_ceph.py, every group is asked for, and the up and acting
-sets and primaries are compared with those of `osdmaptool --test-map-pgs-dump-all`.
+The first form has maps. Two are made by `osdmaptool --createsimple` and `crushtool --build`. For the others a monitor runs on
+the loopback address in a folder of its own; each of 24 devices boots once, as an OSD that keeps its store in memory, and is
+stopped again while the flag nodown keeps it up. Then trees, pools, devices that are down, out, reweighted or removed, and
+pg_temp lists are given by `ceph`, as an operator would. Each map is taken over by from_ceph.py, every group is asked for, and
+the up and acting sets and primaries are compared with those of `osdmaptool --test-map-pgs-dump-all`. Prints a table in
+Markdown. The maps of its first part have to agree; those of the second hold what from_ceph.py says that it can't carry over,
+and their differences are counted. --keep writes each map's dumps into FOLDER. NAME is a map to make; without one all are made.
 
-Prints a table in Markdown. The maps of its first part have to agree; those of the second hold what from_ceph.py says that it
-can't carry over, and their differences are counted. --keep writes each map's dumps into FOLDER. NAME is a map to make; without
-one all are made. Status 1: a group of the first part differs.
+The second form takes N clusters whose devices run through random outages, and compares all groups after each step: sets,
+primaries, past intervals, who is probed, who blocks, and the state. Each difference is counted under the rule that explains
+it. --keep keeps what Ceph said, and --again compares that once more, without Ceph. Without python3-rados there is no outage.
+
+Status 1: a group of the first part differs, or a difference has no rule. Status 2: the command line is wrong.
 """
 
 import argparse
-import contextlib
 import json
 import os
 import pathlib
-import re
 import shutil
-import socket
 import subprocess
 import sys
-import tempfile
-import time
-import uuid
-from typing import Any, Callable, Dict, Iterator, List, NamedTuple, Optional, Tuple
+from typing import Any, Callable, Dict, Iterator, List, NamedTuple, Tuple
 
+import ceph_check_outages
 import from_ceph
+from ceph_cluster import Cluster, Dumps, room, run
+from ceph_sets import Where, printed_sets
 
 HERE = pathlib.Path(__file__).resolve().parent
 PROGRAM = HERE.parent / "crates/pgpeer/out/pgpeer"
 DEVICES = 24
-NONE = 2147483647
 TOOLS = ("osdmaptool", "crushtool", "monmaptool", "ceph", "ceph-authtool", "ceph-mon", "ceph-osd")
-MOST_SECONDS = 60  # for one command
 MOST_SHOWN = 5  # differences of a map that has to differ
-
-Places = Tuple[Optional[int], ...]
-
-
-class Where(NamedTuple):
-    """Where one group lies. An empty place and an absent primary are None."""
-
-    up: Places
-    up_primary: Optional[int]
-    acting: Places
-    acting_primary: Optional[int]
-
-
-class Dumps(NamedTuple):
-    """A map, its tree and where its groups lie, as Ceph's tools print them."""
-
-    osdmap: str
-    crush: str
-    groups: str
 
 
 # Comparing
-
-
-def osd_of(text: str) -> Optional[int]:
-    return None if int(text) in (-1, NONE) else int(text)
-
-
-def places_of(text: str) -> Places:
-    return tuple(osd_of(osd) for osd in text.split(",") if osd)
-
-
-SETS = re.compile(r"^(\d+)\.([0-9a-f]+) raw .* up \(\[(.*?)\], p(-?\d+)\) acting \(\[(.*?)\], p(-?\d+)\)", re.MULTILINE)
-
-
-def ceph_says(groups: str) -> Dict[Tuple[int, int], Where]:
-    """Where each group lies by what `osdmaptool --test-map-pgs-dump-all` printed."""
-    return {
-        (int(pool), int(group, 16)): Where(places_of(up), osd_of(up_first), places_of(acting), osd_of(acting_first))
-        for pool, group, up, up_first, acting, acting_first in SETS.findall(groups)
-    }
 
 
 def pgpeer_says(program: str, script: str) -> Dict[Tuple[int, int], Where]:
@@ -128,7 +91,7 @@ class Row(NamedTuple):
 
 def compared(program: str, name: str, dumps: Dumps, folder: str) -> Row:
     script, told = script_of(dumps, folder)
-    ours, theirs = pgpeer_says(program, script), ceph_says(dumps.groups)
+    ours, theirs = pgpeer_says(program, script), printed_sets(dumps.groups, name)
     if ours.keys() - theirs.keys():
         raise RuntimeError(f"{name}: Ceph has no groups {sorted(ours.keys() - theirs.keys())}")
     other = [f"{p}.{g:x}: pgpeer {ours[p, g]}, Ceph {theirs[p, g]}" for p, g in sorted(ours) if ours[p, g] != theirs[p, g]]
@@ -154,163 +117,7 @@ def table(rows: List[Row]) -> str:
     return "\n".join(lines)
 
 
-# Ceph's tools
-
-
-def run(*words: str) -> str:
-    """What the command prints."""
-    done = subprocess.run(words, capture_output=True, text=True, timeout=MOST_SECONDS)
-    if done.returncode != 0:
-        raise RuntimeError(f"{' '.join(words)}: {done.stderr.strip()}")
-    return done.stdout
-
-
-def free_port() -> int:
-    with socket.socket() as taken:
-        taken.bind(("127.0.0.1", 0))
-        return taken.getsockname()[1]
-
-
-CONF = """\
-[global]
-fsid = {fsid}
-mon host = v1:127.0.0.1:{port}/0
-auth cluster required = none
-auth service required = none
-auth client required = none
-keyring = {folder}/keyring
-log file = {folder}/$name.log
-admin socket = {folder}/$name.asok
-run dir = {folder}
-mon data = {folder}/mon
-mon allow pool size one = true
-mon allow pool delete = true
-mon max pg per osd = 100000
-mon osd min in ratio = 0
-mon osd min up ratio = 0
-mon osd report timeout = 86400
-mon osd down out interval = 0
-mon data avail crit = 1
-paxos propose interval = 0.02
-paxos min wait = 0.01
-osd pool default pg autoscale mode = off
-osd objectstore = memstore
-memstore device bytes = 67108864
-osd data = {folder}/osd$id
-osd class load list =
-osd crush update on start = false
-osd class update on start = {classes}
-"""
-
-
-class Cluster:
-    """A monitor, and devices that are in its map as if they ran."""
-
-    def __init__(self, folder: str):
-        self.folder, self.conf, self.fsid = folder, f"{folder}/ceph.conf", str(uuid.uuid4())
-        port = free_port()
-        pathlib.Path(self.conf).write_text(CONF.format(fsid=self.fsid, port=port, folder=folder, classes="false"))
-        run("monmaptool", "--create", "--fsid", self.fsid, "--addv", "a", f"[v1:127.0.0.1:{port}/0]", f"{folder}/monmap")
-        run("ceph-authtool", "--create-keyring", f"{folder}/keyring", "--gen-key", "-n", "mon.", "--cap", "mon", "allow *")
-        run("ceph-mon", "-c", self.conf, "--mkfs", "-i", "a", "--monmap", f"{folder}/monmap", "--keyring", f"{folder}/keyring")
-        self.monitor = self.start("ceph-mon", "-i", "a")
-
-    def start(self, *words: str) -> subprocess.Popen:
-        quiet = subprocess.DEVNULL
-        return subprocess.Popen([*words, "-c", self.conf, "-f"], stdout=quiet, stderr=quiet)
-
-    def stop(self) -> None:
-        self.monitor.kill()
-        self.monitor.wait()
-
-    def ceph(self, *words: str) -> str:
-        """What `ceph` prints. At times it asks before it knows the monitor; then nothing was done, and it is called again."""
-        for left in reversed(range(5)):
-            try:
-                return run("ceph", "-c", self.conf, "--connect-timeout", str(MOST_SECONDS), *words)
-            except RuntimeError as fault:
-                if left == 0 or "problem getting command descriptions" not in str(fault):
-                    raise
-        raise AssertionError
-
-    def osdmap(self) -> Dict[str, Any]:
-        return json.loads(self.ceph("osd", "dump", "--format", "json"))
-
-    def add(self, count: int) -> None:
-        """Adds devices, each of which boots once."""
-        for _ in range(count):
-            self.ceph("osd", "new", str(uuid.uuid4()))
-        self.ceph("osd", "set", "nodown")
-        self.boot(range(count))
-        self.ceph("osd", "unset", "nodown")
-
-    def boot(self, osds: Any) -> None:
-        """Has the devices boot, one after the other. The flag nodown keeps each up once it is stopped."""
-        ids = {osd["osd"]: osd["uuid"] for osd in self.osdmap()["osds"]}
-        for osd in osds:
-            shutil.rmtree(f"{self.folder}/osd{osd}", ignore_errors=True)
-            os.mkdir(f"{self.folder}/osd{osd}")
-            run("ceph-osd", "-c", self.conf, "-i", str(osd), "--mkfs", "--osd-uuid", ids[osd])
-            daemon = self.start("ceph-osd", "-i", str(osd))
-            try:
-                self.wait_for(osd)
-            finally:
-                daemon.kill()
-                daemon.wait()
-
-    def wait_for(self, osd: int) -> None:
-        end = time.monotonic() + MOST_SECONDS
-        while not any(it["osd"] == osd and it["up"] for it in self.osdmap()["osds"]):
-            if time.monotonic() > end:
-                raise RuntimeError(f"osd.{osd} didn't boot")
-            time.sleep(0.1)
-
-    def clear(self) -> None:
-        """Takes the pools away, and has each device up, in and of full weight."""
-        osdmap = self.osdmap()
-        for pool in osdmap["pools"]:
-            name = pool["pool_name"]
-            self.ceph("osd", "pool", "rm", name, name, "--yes-i-really-really-mean-it")
-        for osd in osdmap["osds"]:
-            if osd["weight"] != 1:
-                self.ceph("osd", "reweight", str(osd["osd"]), "1")
-            if osd["primary_affinity"] != 1:
-                self.ceph("osd", "primary-affinity", str(osd["osd"]), "1")
-        self.ceph("osd", "set", "nodown")
-        self.boot([osd["osd"] for osd in osdmap["osds"] if not osd["up"]])
-        self.ceph("osd", "unset", "nodown")
-
-    def tree(self, text: str) -> None:
-        """Gives the map another tree, from the text that crushtool compiles."""
-        pathlib.Path(f"{self.folder}/tree.txt").write_text(text)
-        run("crushtool", "-c", f"{self.folder}/tree.txt", "-o", f"{self.folder}/tree")
-        self.ceph("osd", "setcrushmap", "-i", f"{self.folder}/tree")
-
-    def replicated(self, name: str, groups: int, size: int, min_size: int, rule: str) -> int:
-        """Makes a replicated pool; gives its number."""
-        self.ceph("osd", "pool", "create", name, str(groups), str(groups), "replicated", rule)
-        self.ceph("osd", "pool", "set", name, "size", str(size), "--yes-i-really-mean-it")
-        self.ceph("osd", "pool", "set", name, "min_size", str(min_size))
-        return self.osdmap()["pool_max"]
-
-    def erasure(self, name: str, groups: int, k: int, m: int, rule: Optional[str] = None) -> int:
-        """Makes an erasure pool; gives its number. Without a rule Ceph makes its own."""
-        profile = f"{name}-{k}-{m}"
-        self.ceph("osd", "erasure-code-profile", "set", profile, f"k={k}", f"m={m}", "--force")
-        self.ceph("osd", "pool", "create", name, str(groups), str(groups), "erasure", profile, *([rule] if rule else []))
-        return self.osdmap()["pool_max"]
-
-    def temp(self, pool: int, group: int, osds: List[int]) -> None:
-        self.ceph("osd", "pg-temp", f"{pool}.{group:x}", *(str(osd) for osd in osds))
-
-    def each(self, words: str, osds: List[int], *more: str) -> None:
-        for osd in osds:
-            self.ceph("osd", *words.split(), str(osd), *more)
-
-    def dumps(self) -> Dumps:
-        self.ceph("osd", "getmap", "-o", f"{self.folder}/map")
-        groups = run("osdmaptool", f"{self.folder}/map", "--test-map-pgs-dump-all")
-        return Dumps(self.ceph("osd", "dump", "--format", "json"), self.ceph("osd", "crush", "dump"), groups)
+# Trees
 
 
 def tree_text(tree: Dict[str, Tuple[str, str, Dict[str, float]]], rules: List[str]) -> str:
@@ -518,16 +325,6 @@ BUILT = {
 }
 
 
-@contextlib.contextmanager
-def room() -> Iterator[str]:
-    """A folder that is gone afterwards."""
-    folder = tempfile.mkdtemp(prefix="pgpeer-ceph-")
-    try:
-        yield folder
-    finally:
-        shutil.rmtree(folder, ignore_errors=True)
-
-
 def made(names: List[str]) -> Iterator[Tuple[str, Dumps]]:
     """The maps of these names, in the order in which they can be made."""
     with room() as folder:
@@ -562,14 +359,24 @@ def main() -> int:
     parser.add_argument("names", metavar="NAME", nargs="*", help=f"one of {', '.join(known)}")
     parser.add_argument("--program", default=str(PROGRAM), help="the built pgpeer")
     parser.add_argument("--keep", metavar="FOLDER", help="write the dumps of each map into this folder")
+    parser.add_argument("--outages", type=int, metavar="N", help="take so many clusters through outages")
+    parser.add_argument("--steps", type=int, default=10, metavar="N", help="steps of each (10)")
+    parser.add_argument("--seed", type=int, default=1, metavar="N", help="the first cluster's seed, the next has one more (1)")
+    parser.add_argument("--jobs", type=int, default=1, metavar="N", help="clusters side by side (1)")
+    parser.add_argument("--again", metavar="FOLDER", help="compare what was kept there")
     options = parser.parse_args()
     if not set(options.names) <= set(known):
         parser.error(f"no map is called {', '.join(sorted(set(options.names) - set(known)))}")
     if not os.access(options.program, os.X_OK):
         parser.error(f"no program {options.program}; README.md says how to build it")
+    if options.again:
+        return ceph_check_outages.again(options.program, options.again)
     absent = [tool for tool in TOOLS if not shutil.which(tool)]
     if absent:
         parser.error(f"no {', '.join(absent)}; they are in Debian's ceph-base, ceph-common, ceph-mon and ceph-osd")
+    if options.outages is not None:
+        seeds = range(options.seed, options.seed + max(options.outages, 1))
+        return ceph_check_outages.outages(options.program, seeds, options.steps, max(options.jobs, 1), options.keep)
     rows = []
     for name, dumps in made(options.names or known):
         if options.keep:

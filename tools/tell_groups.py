@@ -21,6 +21,7 @@ from group_steps import PROGRAM, answers, group_of, missing_group, read_script
 from group_words import osds_text
 
 View = Dict[str, Any]
+Member = Tuple[int, int]  # a device and its slot
 
 
 def member_text(member: Iterable[int], is_erasure: bool) -> str:
@@ -51,8 +52,16 @@ def members_of(places: List[Optional[int]], is_erasure: bool) -> Set[Tuple[int, 
     return {(osd, at if is_erasure else 0) for at, osd in enumerate(places) if osd is not None}
 
 
-def details(view: View, is_erasure: bool, epochs: Epochs) -> Iterator[str]:
-    """Lines about a group."""
+def blocking_text(view: View, members: List[Member], k: Optional[int]) -> str:
+    """That an interval that matters blocks the group, and who of it is down: too few of its members are up."""
+    up = {slot for osd, slot in members if [osd, slot] in view["probe"]}
+    down = [osd for osd, _ in members if osd in view["blocked_by"]]
+    return f"; down: {osds_text(down)}" if down and len(up) < (k or 1) else ""
+
+
+def details(view: View, k: Optional[int], epochs: Epochs) -> Iterator[str]:
+    """Lines about a group; k is None in a replicated pool."""
+    is_erasure = k is not None
     lead = "nobody" if view["acting_primary"] is None else f"osd.{view['acting_primary']}"
     yield f"  up {places_text(view['up'])}, acting {places_text(view['acting'])}, led by {lead}, since epoch {epochs.text(view['first'])}"
     yield f"  has to hear {', '.join(member_text(it, is_erasure) for it in view['probe']) or 'nobody'}"
@@ -62,11 +71,10 @@ def details(view: View, is_erasure: bool, epochs: Epochs) -> Iterator[str]:
     left_out = superseded(mattering, is_erasure)
     yield "  past intervals that may have gone read-write and matter" + (":" if mattering else ": none")
     for it in mattering:
-        where = " ".join(member_text(member, is_erasure) for member in sorted(members_of(it["acting"], is_erasure)))
-        blocks = [osd for osd in view["blocked_by"] if osd in it["acting"]]
+        members = sorted(members_of(it["acting"], is_erasure))
         more = " (Ceph lists a later one in its place)" if it["first"] in left_out else ""
-        down = f"; down: {osds_text(blocks)}" if blocks else ""
-        yield f"    epochs {epochs.text(it['first'])} to {epochs.text(it['last'])} on {where}{down}{more}"
+        where = " ".join(member_text(member, is_erasure) for member in members)
+        yield f"    epochs {epochs.text(it['first'])} to {epochs.text(it['last'])} on {where}{blocking_text(view, members, k)}{more}"
     if len(wrote) > len(mattering):
         yield f"  before it last began to serve: {len(wrote) - len(mattering)} more"
 
@@ -100,7 +108,7 @@ def told(options: argparse.Namespace) -> str:
     lines = []
     for group, view in views.items():
         lines.append(head(view, f"{group[0]}.{group[1]:x}", epochs))
-        lines += details(view, pools.get(group[0], {}).get("kind") == "erasure", epochs) if wanted else []
+        lines += details(view, pools.get(group[0], {}).get("k"), epochs) if wanted else []
     return "".join(f"{line}\n" for line in lines)
 
 

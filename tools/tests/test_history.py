@@ -1,0 +1,384 @@
+"""Tests of `from_ceph.py history` and tell_groups.py, on dumps of real clusters that were taken through outages."""
+
+import contextlib
+import io
+import json
+import os
+import pathlib
+import random
+import shutil
+import sys
+import tempfile
+import unittest
+
+HERE = pathlib.Path(__file__).resolve().parent
+ROOT = HERE.parent.parent
+sys.path.insert(0, str(HERE.parent))
+
+import ceph_epochs  # noqa: E402
+import ceph_folder  # noqa: E402
+import ceph_history  # noqa: E402
+import ceph_json  # noqa: E402
+import ceph_query  # noqa: E402
+import ceph_sets  # noqa: E402
+import from_ceph  # noqa: E402
+import tell_groups  # noqa: E402
+from ceph_map import Device, Pool  # noqa: E402
+
+MAPS = HERE / "maps"
+OUTAGE, STRAW2, LOGGED = MAPS / "outage", MAPS / "straw2-outage", MAPS / "logged"
+PROGRAM = os.environ.get("PGPEER", str(tell_groups.PROGRAM))
+HAS_PROGRAM = os.access(PROGRAM, os.X_OK)
+
+
+def written(main, *words):
+    """The status of a call, and what it wrote to standard output and to standard error."""
+    out, err = io.StringIO(), io.StringIO()
+    with contextlib.redirect_stdout(out), contextlib.redirect_stderr(err):
+        try:
+            status = main([str(word) for word in words])
+        except SystemExit as ended:
+            status = ended.code
+    return status, out.getvalue(), err.getvalue()
+
+
+class Case(unittest.TestCase):
+    def setUp(self):
+        folder = tempfile.TemporaryDirectory()
+        self.addCleanup(folder.cleanup)
+        self.folder = pathlib.Path(folder.name)
+
+    def history(self, *words):
+        status, out, err = written(from_ceph.main, "history", *words)
+        self.assertEqual(status, 0, err)
+        return [json.loads(line) for line in out.splitlines()], err
+
+    def told(self, *words):
+        """What tell_groups says of a history."""
+        script = self.folder / "script.jsonl"
+        self.history("--output", script, *words)
+        status, out, err = written(tell_groups.main, "--program", PROGRAM, script, *self.groups)
+        self.assertEqual((status, err), (0, ""))
+        return out
+
+    groups = ()
+
+
+def incrementals(lines):
+    return {line["epoch"]: line for line in lines if line["op"] == "inc"}
+
+
+def changes(old, new, notes=None):
+    """The changes between maps of devices alone, given as epochs and devices."""
+    found = ceph_history.Changes(old[0], new[0], notes or ceph_json.Notes())
+    found.take(*(ceph_history.Snapshot(epoch, {it.id: it for it in devices}, {}, {}, {}, 1) for epoch, devices in (old, new)))
+    return found
+
+
+class Outage(Case):
+    def test_the_example_is_the_script_of_the_outage(self):
+        lines, err = self.history("--ask", OUTAGE)
+        kept = (ROOT / "examples/ceph_outage.jsonl").read_text().splitlines()
+        self.assertEqual(lines, [json.loads(line) for line in kept])
+        self.assertIn("epochs without a map, made to measure from the next one (ceph osd dump EPOCH --format json): 18, 20, 22-25", err)
+        self.assertIn("Ceph's are those of the script and 15 more", err)
+
+    def test_devices_boot_and_go_down_in_the_epochs_that_the_next_map_tells(self):
+        lines = incrementals(self.history(OUTAGE)[0])
+        found = {epoch + 15: {key: line[key] for key in ("up", "down") if key in line} for epoch, line in lines.items() if epoch > 2}
+        wanted = {18: {"down": [2]}, 20: {"down": [1]}, 22: {"down": [0]}, 23: {"up": [1]}, 25: {"up": [2]}}
+        self.assertEqual({epoch: it for epoch, it in found.items() if it}, wanted)
+
+    def test_the_intervals_that_the_query_lists_have_gone_read_write(self):
+        lines = incrementals(self.history(OUTAGE)[0])
+        self.assertEqual(lines[24 - 15]["up_thru"], [[1, 23 - 15]])
+
+    def test_reports_have_the_stamp_of_their_query(self):
+        infos = [line for line in self.history(OUTAGE)[0] if line["op"] == "info"]
+        self.assertEqual([(it["from"][0], it["stamp"] + 15) for it in infos], [(0, 17), (1, 17), (2, 17), (0, 19), (1, 19), (0, 21), (1, 26)])
+        last = {"op": "info", "pg": [1, 0], "from": [1, 0], "stamp": 11, "les": 4, "history_les": 4, "last_update": [0, 0], "log_tail": [0, 0], "complete": True}
+        self.assertEqual(infos[-1], last)
+
+    def test_a_part_of_the_epochs(self):
+        lines = self.history("--from", 19, "--to", 21, OUTAGE)[0]
+        self.assertEqual(max(incrementals(lines)) - min(incrementals(lines)), 21 - 19 + len(incrementals(lines)) - 3)
+        self.assertEqual(incrementals(lines)[max(incrementals(lines)) - 1]["down"], [1])
+
+    @unittest.skipUnless(HAS_PROGRAM, f"no program {PROGRAM}")
+    def test_it_is_told_as_ceph_tells_it(self):
+        self.groups = ("1.0",)
+        text = self.told(OUTAGE)
+        document = (ROOT / "docs/REAL_MAPS.md").read_text()
+        self.assertIn("".join(f"    {line}\n" for line in text.splitlines()), document)
+        peering = json.loads((OUTAGE / "d-blocked.query.json").read_text())["recovery_state"][1]
+        for it in peering["past_intervals"][0]["intervals"]:
+            self.assertIn(f"epochs {it['first']} to {it['last']} on osd.{it['acting']}", text)
+        self.assertIn("Down, blocked by " + " and ".join(f"osd.{it['osd']}" for it in peering["peering_blocked_by"]) + "\n", text)
+        self.assertIn("has to hear " + ", ".join(f"osd.{osd}" for osd in peering["probing_osds"]) + "\n", text)
+
+    @unittest.skipUnless(HAS_PROGRAM, f"no program {PROGRAM}")
+    def test_the_picture_has_epochs_of_ceph(self):
+        import draw_group
+        status, out, _ = written(draw_group.main, "--program", PROGRAM, ROOT / "examples/ceph_outage.jsonl", "1.0")
+        self.assertEqual((status, out), (0, (ROOT / "docs/ceph_outage.svg").read_text()))
+        self.assertIn("osd.0, epochs 20 to 21: may have gone read-write", out)
+        self.assertIn(">17</text>", out)
+
+
+class OwnSets(Case):
+    def test_acting_sets_are_those_that_were_dumped_in_each_epoch(self):
+        lines, err = self.history(STRAW2)
+        self.assertNotIn("straw2", err)
+        self.assertIn("not carried: up sets beside Ceph's acting sets", err)
+        epochs = ceph_epochs.Epochs(50 - len(incrementals(lines)) + 14, 50)
+        up, temps = set(), {}
+        for epoch, line in sorted(incrementals(lines).items()):
+            self.assertNotIn("crush", line)
+            up = (up | set(line.get("up", []))) - set(line.get("down", []))
+            temps.update({(pool, pg): osds for pool, pg, osds in line.get("temp", [])})
+            if epochs.in_ceph(epoch) is None or not (STRAW2 / f"{epochs.in_ceph(epoch)}.groups.txt").exists():
+                continue
+            sets = ceph_sets.printed_sets((STRAW2 / f"{epochs.in_ceph(epoch)}.groups.txt").read_text(), "")
+            for (pool, pg), where in sets.items():
+                acting = [osd if osd in up else None for osd in temps.get((pool, pg), [])]
+                acting = [osd for osd in acting if osd is not None] if pool == 3 else acting
+                self.assertEqual(tuple(acting), where.acting, (epoch, pool, pg))
+
+    @unittest.skipUnless(HAS_PROGRAM, f"no program {PROGRAM}")
+    def test_verdicts_are_those_of_the_cluster(self):
+        verdicts = dict(line.split(" in epoch 64: ") for line in self.told(STRAW2).splitlines())
+        for name, verdict in verdicts.items():
+            state = json.loads((STRAW2 / f"{name}.query.json").read_text())["state"]
+            wanted = "Down" if state == "down" else "NeedLog"  # no log entries are there
+            self.assertEqual(verdict.split(",")[0], wanted, name)
+        self.assertEqual(len(verdicts), 6)
+
+    def test_sets_of_pg_dump(self):
+        for path in STRAW2.glob("*.groups.txt"):
+            shutil.copy(path, self.folder)
+        dump = json.loads((STRAW2 / "pgs.json").read_text())
+        sets = ceph_sets.dumped_sets(ceph_json.Node(dump, "pgs"))
+        printed = ceph_sets.printed_sets((STRAW2 / "64.groups.txt").read_text(), "")
+        same = [group for group, where in sets.where.items() if where.acting == printed[group].acting]
+        self.assertGreaterEqual(len(same), 2)
+        self.assertTrue(all(since >= 44 for since in sets.since.values()))
+
+    def test_without_groups_straw2_is_told_with_how_to_get_them(self):
+        files = [STRAW2 / name for name in ("64.osd.json", "50.crush.json")]
+        shutil.copy(files[1], self.folder / "64.crush.json")
+        err = self.history(files[0], self.folder / "64.crush.json")[1]
+        self.assertIn("straw2 buckets", err)
+        self.assertIn("--groups FILE", err)
+        lines, err = self.history("--groups", STRAW2 / "64.groups.txt", files[0])
+        self.assertIn([3, 0, [2]], [temp for line in lines for temp in line.get("temp", [])])
+
+    def test_groups_without_sets_are_named(self):
+        (self.folder / "64.groups.txt").write_text("3.0 raw ([2], p2) up ([2], p2) acting ([2], p2)\n")
+        err = self.history("--groups", self.folder / "64.groups.txt", STRAW2 / "64.osd.json")[1]
+        self.assertIn("acting sets of groups of which no dump tells (osdmaptool MAP --test-map-pgs-dump-all): 3.1, 3.2, 3.3, 4.0, 4.1", err)
+
+
+class Reports(Case):
+    def test_log_entries(self):
+        lines = self.history(LOGGED)[0]
+        entries = [line for line in lines if line["op"] == "entries"]
+        self.assertEqual([it["log"] for it in entries], [[[3, 1, "modify", "obj2"], [3, 2, "modify", "obj4"]]])
+        self.assertEqual(entries[0]["from"], [0, 0])
+
+    @unittest.skipUnless(HAS_PROGRAM, f"no program {PROGRAM}")
+    def test_a_group_whose_log_is_there_serves(self):
+        text = self.told(LOGGED)
+        self.assertIn("1.0 in epoch 25: Serve\n1.1 in epoch 25: NeedLog\n", text)
+
+    def test_members_of_erasure_groups_have_their_shards(self):
+        query = ceph_query.read_query(ceph_json.load(str(STRAW2 / "4.0.query.json")))
+        self.assertEqual(query.infos[0].member, (3, 0))
+        self.assertEqual(query.past[0].acting, [(0, 2), (1, 1)])
+        self.assertEqual((query.blocked_by, query.probing), ([0, 1], [(3, 0)]))
+
+    def test_infos_of_pg_dump_are_those_of_clean_groups(self):
+        pools = {3: Pool(3, "", 4, 3, 1, 0, None)}
+        stat = {"pgid": "3.1", "state": "active+clean", "version": "50'7", "log_start": "40'2", "last_epoch_clean": 45, "reported_epoch": 52, "acting": [2, 0]}
+        infos = ceph_query.infos_of_stats(ceph_json.Node(stat, ""), pools)
+        self.assertEqual([(it.member, it.les, it.last_update, it.log_tail, it.stamp) for it in infos], [((2, 0), 45, (50, 7), (40, 2), 52), ((0, 0), 45, (50, 7), (40, 2), 52)])
+        self.assertEqual(ceph_query.infos_of_stats(ceph_json.Node({**stat, "state": "active+undersized"}, ""), pools), [])
+
+    def test_names_of_objects(self):
+        for text, name in (("1:104778fc:::obj2:head", "obj2"), ("1:0:::a%3ab%25:head", "a:b%"), ("1:0:n::a:head", "1:0:n::a:head"), ("1:0:::a:4", "1:0:::a:4")):
+            self.assertEqual(ceph_query.object_name(text), name)
+
+    def test_a_report_later_than_the_last_map_is_told(self):
+        err = self.history(OUTAGE / "a-healthy.osd.json", OUTAGE / "a-healthy.crush.json", OUTAGE / "b-osd2-down.query.json")[1]
+        self.assertIn("reports of later epochs than the last map, left out (ceph osd dump EPOCH --format json): 1.0 of osd.0, 1.0 of osd.1", err)
+
+
+class FromMapToMap(unittest.TestCase):
+    UP = Device(1, True, 65536, up_from=5)
+
+    def test_of_the_next_epoch(self):
+        found = changes((9, [self.UP]), (10, [self.UP._replace(up=False, down_at=10, weight=0, up_thru=9)])).by_epoch[10]
+        self.assertEqual((found.up, found.down, found.weight, found.up_thru), (set(), {1}, {1: 0}, {1: 9}))
+
+    def test_of_a_later_epoch(self):
+        found = changes((9, [self.UP]), (20, [self.UP._replace(up_from=15, down_at=12)])).by_epoch
+        self.assertEqual({epoch: (it.up, it.down) for epoch, it in found.items()}, {12: (set(), {1}), 15: ({1}, set())})
+        found = changes((9, [self.UP._replace(up=False, down_at=8)]), (20, [self.UP._replace(up=False, up_from=13, down_at=17)])).by_epoch
+        self.assertEqual({epoch: (it.up, it.down) for epoch, it in found.items()}, {13: ({1}, set()), 17: (set(), {1})})
+
+    def test_lost_and_removed(self):
+        down = self.UP._replace(up=False, down_at=8)
+        self.assertEqual(changes((9, [down]), (10, [down._replace(lost_at=9)])).by_epoch[10].lost, {1: 9})
+        self.assertEqual(changes((9, [down]), (20, [down._replace(lost_at=13)])).by_epoch[14].lost, {1: 13})
+        self.assertEqual(changes((9, [down]), (10, [])).by_epoch[10].gone, {1})
+
+    def test_an_up_thru_of_a_gap_is_taken_for_recorded_as_soon_as_it_may_have_been(self):
+        found = changes((9, [self.UP]), (14, [self.UP._replace(up_thru=12)]))
+        found.guess(lambda since, now: False)
+        self.assertEqual({epoch: it.up_thru for epoch, it in found.by_epoch.items()}, {10: {1: 9}, 11: {1: 10}, 12: {1: 11}, 13: {1: 12}})
+        found = changes((9, [self.UP]), (14, [self.UP._replace(up_thru=12)]))
+        found.guess(lambda since, now: True)
+        self.assertEqual({epoch: it.up_thru for epoch, it in found.by_epoch.items()}, {13: {1: 12}})
+
+    def test_what_the_program_would_refuse_is_left_out(self):
+        lawful = ceph_history.Lawful({1}, {2}, {1: 7}, {}, ceph_json.Notes())
+        change = ceph_history.Change(up={1, 3}, down={2}, gone={1, 4}, up_thru={1: 6}, weight={3: 9, 8: 1}, lost={1: 3})
+        parts = {key: value for key, value in lawful.parts(change, 8, 8, lambda epoch: epoch).items() if value}
+        self.assertEqual(parts, {"up": [3], "weight": [[3, 9]]})
+        later = lawful.parts(ceph_history.Change(up={8}), 9, 9, lambda epoch: epoch)
+        self.assertEqual(later["weight"], [[8, 1]])
+
+    def test_too_many_epochs(self):
+        with self.assertRaisesRegex(ceph_json.Unusable, "--from EPOCH begins later"):
+            ceph_history.Changes(1, 10**6, ceph_json.Notes())
+
+
+class Numbers(Case):
+    def test_older_epochs_keep_their_order(self):
+        epochs = ceph_epochs.numbered(100, 3, [7, 40, 40, 0, 120, 99, 60])
+        self.assertEqual([epochs.in_script(it) for it in (0, 7, 40, 60, 99, 100, 103)], [0, 1, 2, 3, 4, 5, 8])
+        self.assertEqual([epochs.in_ceph(it) for it in (0, 1, 4, 5, 8)], [0, 7, 99, 100, 103])
+        self.assertEqual(ceph_epochs.numbered(1, 1, []), ceph_epochs.Epochs(0, 1, ()))
+
+    def test_the_file_beside_a_script(self):
+        epochs = ceph_epochs.numbered(100, 3, [7])
+        path = self.folder / "s.epochs.json"
+        path.write_text(ceph_epochs.side_text(epochs))
+        self.assertEqual(ceph_epochs.epochs_of(str(self.folder / "s.jsonl")), epochs)
+        self.assertEqual(ceph_epochs.epochs_of(str(self.folder / "other.jsonl")), ceph_epochs.Epochs())
+        for text in ("{}", '{"offset":9,"first":4}', '{"offset":2,"first":9,"older":[3,2]}', '{"offset":NaN,"first":1}', "[]"):
+            path.write_text(text)
+            with self.assertRaises(ceph_json.Unusable):
+                ceph_epochs.epochs_of(str(self.folder / "s.jsonl"))
+
+    def test_a_fresh_clusters_epochs_are_those_of_the_script(self):
+        osdmap = json.loads((OUTAGE / "a-healthy.osd.json").read_text())
+        for epoch in (1, 2, 3):
+            devices = [{**it, "up_from": 2, "up_thru": 0} for it in osdmap["osds"]] if epoch > 1 else []
+            pools = osdmap["pools"] if epoch > 2 else []
+            (self.folder / f"{epoch}.osd.json").write_text(json.dumps({**osdmap, "epoch": epoch, "osds": devices, "pools": pools}))
+        shutil.copy(OUTAGE / "a-healthy.crush.json", self.folder / "3.crush.json")
+        lines, err = self.history(self.folder)
+        self.assertEqual([(it["epoch"], *sorted(it)) for it in lines], [(1, "epoch", "op"), (2, "epoch", "op", "up"), (3, "crush", "epoch", "op", "pools")])
+        self.assertNotIn("epochs:", err)
+
+
+class BadInput(Case):
+    def assert_error(self, text, ended):
+        status, out, err = ended
+        self.assertEqual((status, out), (2, ""), err)
+        self.assertTrue(err.splitlines()[-1].startswith("from_ceph: error: "), err)
+        self.assertIn(text, err)
+
+    def test_folders_without_a_map(self):
+        self.assert_error("no map, as", written(from_ceph.main, "history", self.folder))
+        self.assert_error("nowhere: No such file", written(from_ceph.main, "history", self.folder / "nowhere"))
+
+    def test_maps_of_two_clusters_and_two_maps_of_an_epoch(self):
+        self.assert_error("are maps of two clusters", written(from_ceph.main, "history", OUTAGE, STRAW2))
+        osdmap = json.loads((OUTAGE / "a-healthy.osd.json").read_text())
+        (self.folder / "x.osd.json").write_text(json.dumps({**osdmap, "flags": "noup"}))
+        self.assert_error("two maps of epoch 17", written(from_ceph.main, "history", OUTAGE, self.folder))
+
+    def test_a_tree_of_no_epoch(self):
+        for name in ("a", "b"):
+            shutil.copy(OUTAGE / "a-healthy.crush.json", self.folder / f"{name}.json")
+        files = self.folder / "a.json", self.folder / "b.json", OUTAGE / "a-healthy.osd.json", OUTAGE / "b-osd2-down.osd.json"
+        self.assert_error("of which epoch?", written(from_ceph.main, "history", *files))
+
+    def test_strict(self):
+        status, out, err = written(from_ceph.main, "history", "--strict", OUTAGE)
+        self.assertEqual((status, out), (2, ""))
+        self.assertIn("--strict was given", err)
+
+    def test_a_pool_and_epochs_that_are_not_there(self):
+        self.assert_error("no pool 9", written(from_ceph.main, "history", "--pool", 9, OUTAGE))
+        self.assert_error("no map of the epochs", written(from_ceph.main, "history", "--from", 99, OUTAGE))
+
+    def test_a_file_that_is_no_dump_is_told(self):
+        for path in OUTAGE.iterdir():
+            shutil.copy(path, self.folder)
+        (self.folder / "notes.txt").write_text("hello")
+        self.assertIn("files that are no dump of Ceph's: ", self.history(self.folder)[1])
+
+    def test_broken_dumps_end_with_one_line(self):
+        """Cut, empty, random and swapped files, and values of another kind anywhere in them."""
+        rng = random.Random(5)
+        for folder in (OUTAGE, STRAW2, LOGGED):
+            names = sorted(path.name for path in folder.iterdir())
+            for turn in range(40):
+                room = self.folder / f"{folder.name}{turn}"
+                shutil.copytree(folder, room)
+                name = rng.choice(names)
+                text = (folder / name).read_text()
+                (room / name).write_bytes(broken(rng, text, (folder / rng.choice(names)).read_text()))
+                status, out, err = written(from_ceph.main, "history", "--ask", room)
+                self.assertIn(status, (0, 2), err)
+                if status == 2:
+                    self.assertEqual(out, "")
+                    self.assertEqual(err.count("error: "), 1, err)
+
+
+def broken(rng, text, other):
+    kind = rng.randrange(5)
+    if kind == 0:
+        return text[: rng.randrange(len(text))].encode()
+    if kind == 1:
+        return bytes(rng.randrange(256) for _ in range(rng.choice((0, 1, 300))))
+    if kind == 2:
+        return other.encode()
+    try:
+        value = json.loads(text)
+    except ValueError:
+        return text.replace(rng.choice("0123456789[]"), rng.choice(("", "99999999999", "x", "-1"))).encode()
+    for _ in range(rng.randint(1, 3)):
+        change(rng, value)
+    return json.dumps(value).encode()
+
+
+def change(rng, value):
+    """Puts something else somewhere into a value."""
+    other = rng.choice((None, True, -1, 0, 2**31, 2**70, 1e300, float("nan"), float("inf"), "", "x", "1'", "\ud800", [], {}, [[]], 0.5))
+    while True:
+        keys = list(value) if isinstance(value, dict) else list(range(len(value)))
+        if not keys:
+            return
+        key = rng.choice(keys)
+        if isinstance(value[key], (dict, list)) and value[key] and rng.random() < 0.85:
+            value = value[key]
+        elif rng.random() < 0.2:
+            del value[key]
+            return
+        else:
+            value[key] = other
+            return
+
+
+class Fuzzed(unittest.TestCase):
+    def test_folder_reader_names(self):
+        self.assertEqual(ceph_folder.log_of("x/osd.2-1.0.log.json"), (2, "1.0"))
+        self.assertEqual(ceph_folder.log_of("osd12.2.1fs3.log.json"), (12, "2.1fs3"))
+        self.assertEqual([ceph_folder.stem(it) for it in ("a.osd.json", "26.groups.txt", "26.json")], ["a", "26", "26"])
+
+
+if __name__ == "__main__":
+    unittest.main()
