@@ -34,7 +34,7 @@ def made(life: Life) -> Optional[Record]:
         with room() as folder:
             try:
                 return lived(folder, life.seed, life.steps, leaders)
-            except (RuntimeError, OSError) as fault:
+            except Exception as fault:  # whatever Ceph does, the other clusters go on
                 print(f"cluster {life.seed}: {fault}", file=sys.stderr)
     return None
 

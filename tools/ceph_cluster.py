@@ -4,6 +4,7 @@ import contextlib
 import json
 import os
 import pathlib
+import random
 import shutil
 import socket
 import subprocess
@@ -11,6 +12,8 @@ import tempfile
 import time
 import uuid
 from typing import Any, Dict, Iterator, List, NamedTuple, Optional
+
+from ceph_json import Unusable
 
 MOST_SECONDS = 60  # for one command
 
@@ -35,16 +38,23 @@ def room() -> Iterator[str]:
 
 def run(*words: str) -> str:
     """What the command prints."""
-    done = subprocess.run(words, capture_output=True, text=True, timeout=MOST_SECONDS)
+    try:
+        done = subprocess.run(words, capture_output=True, text=True, timeout=MOST_SECONDS)
+    except subprocess.TimeoutExpired as fault:
+        raise Unusable(f"{' '.join(words)}: no answer within {MOST_SECONDS} seconds") from fault
     if done.returncode != 0:
-        raise RuntimeError(f"{' '.join(words)}: {done.stderr.strip()}")
+        raise Unusable(f"{' '.join(words)}: {done.stderr.strip()[-500:]}")
     return done.stdout
 
 
 def free_port() -> int:
-    with socket.socket() as taken:
-        taken.bind(("127.0.0.1", 0))
-        return taken.getsockname()[1]
+    """A port that nobody has, below those that the kernel gives to whoever asks, so that two clusters seldom pick the same."""
+    for _ in range(1000):
+        port = random.SystemRandom().randrange(12000, 32000)
+        with contextlib.suppress(OSError), socket.socket() as taken:
+            taken.bind(("127.0.0.1", port))
+            return port
+    raise Unusable("there is no free port")
 
 
 CONF = """\
@@ -104,7 +114,7 @@ class Cluster:
         for left in reversed(range(5)):
             try:
                 return run("ceph", "-c", self.conf, "--connect-timeout", str(MOST_SECONDS), *words)
-            except RuntimeError as fault:
+            except Unusable as fault:
                 if left == 0 or "problem getting command descriptions" not in str(fault):
                     raise
         raise AssertionError
@@ -138,7 +148,7 @@ class Cluster:
         end = time.monotonic() + MOST_SECONDS
         while not any(it["osd"] == osd and it["up"] for it in self.osdmap()["osds"]):
             if time.monotonic() > end:
-                raise RuntimeError(f"osd.{osd} didn't boot")
+                raise Unusable(f"osd.{osd} didn't boot")
             time.sleep(0.1)
 
     def clear(self) -> None:

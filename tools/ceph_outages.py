@@ -19,6 +19,7 @@ from dataclasses import asdict, dataclass, field
 from typing import Any, Callable, Dict, List, Optional, Tuple
 
 from ceph_cluster import MOST_SECONDS, Cluster, run
+from ceph_json import Unusable
 
 DEBIAN = "/usr/lib/python3/dist-packages"
 SETTLED, PATIENCE, POLL = 0.6, 14.0, 0.3  # seconds
@@ -64,10 +65,13 @@ class Record:
 
 def kept(path: str) -> Record:
     """A record that was kept."""
-    value = json.loads(pathlib.Path(path).read_text())
-    found = Record(value["seed"], seconds=value["seconds"])
-    found.maps, found.trees = ({int(key): it for key, it in value[name].items()} for name in ("maps", "trees"))
-    found.steps = [StepRecord(**step) for step in value["steps"]]
+    try:
+        value = json.loads(pathlib.Path(path).read_text())
+        found = Record(value["seed"], seconds=value["seconds"])
+        found.maps, found.trees = ({int(key): it for key, it in value[name].items()} for name in ("maps", "trees"))
+        found.steps = [StepRecord(**step) for step in value["steps"]]
+    except (ValueError, KeyError, TypeError, AttributeError) as fault:
+        raise Unusable(f"{path} is no record of a cluster: {fault}") from fault
     return found
 
 
@@ -110,7 +114,7 @@ class LiveCluster(Cluster):
     def command(self, words: Dict[str, Any]) -> bytes:
         status, out, said = self.rados.mon_command(json.dumps({"format": "json", **words}), b"")
         if status != 0:
-            raise RuntimeError(f"{words}: {said}")
+            raise Unusable(f"{words}: {said}")
         return out
 
     def dump(self, epoch: Optional[int] = None) -> Dict[str, Any]:

@@ -23,7 +23,6 @@ Status 1: a group of the first part differs, or a difference has no rule. Status
 """
 
 import argparse
-import json
 import os
 import pathlib
 import shutil
@@ -34,7 +33,9 @@ from typing import Any, Callable, Dict, Iterator, List, NamedTuple, Tuple
 import ceph_check_outages
 import from_ceph
 from ceph_cluster import Cluster, Dumps, room, run
+from ceph_json import Unusable, ended
 from ceph_sets import Where, printed_sets
+from group_steps import answers
 
 HERE = pathlib.Path(__file__).resolve().parent
 PROGRAM = HERE.parent / "crates/pgpeer/out/pgpeer"
@@ -48,12 +49,10 @@ MOST_SHOWN = 5  # differences of a map that has to differ
 
 def pgpeer_says(program: str, script: str) -> Dict[Tuple[int, int], Where]:
     """Where each group lies by the program's answers to the script, all of whose lines have to be taken."""
-    run = subprocess.run([program, "run"], input=script, capture_output=True, text=True, check=True)
-    found = {}
-    for line, text in zip(script.splitlines(), run.stdout.splitlines()):
-        answer = json.loads(text)
+    found, lines = {}, script.splitlines()
+    for line, answer in zip(lines, answers(program, lines)):
         if "ok" not in answer:
-            raise RuntimeError(f"{text} is the answer to {line[:200]}")
+            raise Unusable(f"{answer} is the answer to {line[:200]}")
         if answer["ok"] == "ask":
             (pool, pg), up, acting = answer["pg"], tuple(answer["up"]), tuple(answer["acting"])
             found[pool, pg] = Where(up, answer["up_primary"], acting, answer["acting_primary"])
@@ -69,7 +68,7 @@ def script_of(dumps: Dumps, folder: str) -> Tuple[str, str]:
     tool = [sys.executable, str(HERE / "from_ceph.py"), "--alone", "--ask", *files]
     run = subprocess.run(tool, capture_output=True, text=True)
     if run.returncode != 0:
-        raise RuntimeError(run.stderr)
+        raise Unusable(run.stderr)
     return run.stdout, run.stderr
 
 
@@ -93,7 +92,7 @@ def compared(program: str, name: str, dumps: Dumps, folder: str) -> Row:
     script, told = script_of(dumps, folder)
     ours, theirs = pgpeer_says(program, script), printed_sets(dumps.groups, name)
     if ours.keys() - theirs.keys():
-        raise RuntimeError(f"{name}: Ceph has no groups {sorted(ours.keys() - theirs.keys())}")
+        raise Unusable(f"{name}: Ceph has no groups {sorted(ours.keys() - theirs.keys())}")
     other = [f"{p}.{g:x}: pgpeer {ours[p, g]}, Ceph {theirs[p, g]}" for p, g in sorted(ours) if ours[p, g] != theirs[p, g]]
     osdmap = from_ceph.parsed(dumps.osdmap, name).value
     erasure = {pool["pool"] for pool in osdmap["pools"] if pool["type"] == from_ceph.ERASURE}
@@ -370,10 +369,15 @@ def main() -> int:
     if not os.access(options.program, os.X_OK):
         parser.error(f"no program {options.program}; README.md says how to build it")
     if options.again:
-        return ceph_check_outages.again(options.program, options.again)
+        return ended("check_against_ceph", lambda: ceph_check_outages.again(options.program, options.again))
     absent = [tool for tool in TOOLS if not shutil.which(tool)]
     if absent:
         parser.error(f"no {', '.join(absent)}; they are in Debian's ceph-base, ceph-common, ceph-mon and ceph-osd")
+    return ended("check_against_ceph", lambda: checked(options, known))
+
+
+def checked(options: argparse.Namespace, known: List[str]) -> int:
+    """The status of a comparison of maps, or of outages."""
     if options.outages is not None:
         seeds = range(options.seed, options.seed + max(options.outages, 1))
         return ceph_check_outages.outages(options.program, seeds, options.steps, max(options.jobs, 1), options.keep)

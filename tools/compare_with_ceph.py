@@ -14,15 +14,19 @@ are written out here once more, in Python, and each of their values below is com
   placements random trees of list and uniform buckets, weights, inputs and numbers of places, both kinds of rule
 
 crushtool runs with `choose_total_tries 50` and the tunables of Ceph's current profile, with which its rules of one take and
-one choose are those of this project. Prints how many values agree, and ends with status 1 at the first that does not.
+one choose are those of this project. Prints how many values agree, and ends with status 1 at the first that does not, and
+with status 2 where a tool isn't there, fails, or what is printed can't be written.
 """
 
 import argparse
 import random
 import re
+import shutil
 import subprocess
 import sys
 import tempfile
+
+from ceph_json import Unusable, ended
 
 WORD = 2**32
 NONE = 2147483647  # an empty place, as crushtool prints it
@@ -174,7 +178,10 @@ def indep(tree, root, weights, x, kind, n):
 
 
 def run(*command):
-    return subprocess.run(command, check=True, capture_output=True, text=True).stdout
+    done = subprocess.run(command, capture_output=True, text=True)
+    if done.returncode != 0:
+        raise Unusable(f"{' '.join(command)} ended with {done.returncode}: {done.stderr.strip()[-300:]}")
+    return done.stdout
 
 
 def text_of(tree, root, rule):
@@ -332,6 +339,13 @@ def main():
     parser.add_argument("--inputs", type=int, default=100, help="inputs of each hash of words")
     parser.add_argument("--trees", type=int, default=300, help="random trees, of 64 placements each")
     options = parser.parse_args()
+    absent = [tool for tool in ("osdmaptool", "crushtool") if not shutil.which(tool)]
+    if absent:
+        parser.error(f"no {', '.join(absent)}; they are in Debian's ceph-base and ceph-osd")
+    return ended("compare_with_ceph", lambda: compare(options))
+
+
+def compare(options):
     rng = random.Random(1)
     inputs = [(0, 0), (1, 1), (2**31 - 2, 40)]
     inputs += [(rng.randrange(2**31), rng.randrange(400)) for _ in range(options.inputs)]
@@ -341,8 +355,9 @@ def main():
         print(f"{compare_two_words(folder, inputs)} devices in or out agree")
         print(f"{compare_three_words(folder, inputs)} choices of uniform buckets agree")
         print(f"{compare_four_words(folder, inputs)} choices of list buckets agree")
-        print(f"{compare_placements(folder, options.trees)} placements agree")
+        print(f"{compare_placements(folder, options.trees)} placements agree", flush=True)
+    return 0
 
 
 if __name__ == "__main__":
-    main()
+    sys.exit(main())

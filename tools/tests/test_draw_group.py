@@ -6,6 +6,7 @@ import json
 import os
 import pathlib
 import re
+import subprocess
 import sys
 import tempfile
 import unittest
@@ -16,6 +17,8 @@ ROOT = HERE.parent.parent
 sys.path.insert(0, str(HERE.parent))
 
 import draw_group  # noqa: E402
+import group_columns as draw_group_columns  # noqa: E402
+import group_steps  # noqa: E402
 
 PROGRAM = os.environ.get("PGPEER", str(draw_group.PROGRAM))
 HAS_PROGRAM = os.access(PROGRAM, os.X_OK)
@@ -108,6 +111,50 @@ class Columns(unittest.TestCase):
             columns = draw_group.folded(steps)
             self.assertLessEqual(len(columns), 200)
             self.assertEqual([it for column in columns for it in column.steps], steps)
+
+
+class NeverHidden(unittest.TestCase):
+    """Intervals that are never folded away, however many there are."""
+
+    PAST = [interval(e, e + 1, [9] if e == 11 else [e % 7], e in (11, 41, 71) or e % 5 == 0) for e in range(1, 1999, 2)]
+
+    def steps(self, les):
+        steps = [step(e, first=e - 1 + e % 2, blocked=(9,)) for e in range(1, 2001)]
+        last = step(2000, first=1999, blocked=(9,), verdict="Down", intervals=self.PAST)
+        last.view["les"] = les
+        return [*steps[:-1], last]
+
+    def test_what_blocks_and_what_may_have_gone_read_write_last(self):
+        drawing = picture(self.steps(0))
+        self.assertLessEqual(len(drawing.columns), draw_group_columns.MOST_COLUMNS)
+        shown = {span.first for span in drawing.spans if drawing.places[span.first]}
+        self.assertIn(11, shown)
+        self.assertIn(max(it["first"] for it in self.PAST if it["rw"]), shown)
+        self.assertEqual([it for column in drawing.columns for it in column.steps], drawing.group.steps)
+
+    def test_who_has_to_be_heard_of_few_intervals_that_matter(self):
+        wanted = {it["first"] for it in self.PAST if it["rw"] and it["last"] >= 1900}
+        drawing = picture(self.steps(1900))
+        self.assertLessEqual(wanted, {span.first for span in drawing.spans if drawing.places[span.first]})
+
+    def test_a_picture_of_thousands_of_intervals_is_small(self):
+        text = picture(self.steps(0)).svg()
+        self.assertLess(len(text), 400_000)
+        xml.fromstring(text)
+
+
+class Touches(unittest.TestCase):
+    def test_entries_that_may_change_something_for_a_group(self):
+        for entry, wanted in (({"down": [4]}, True), ({"down": [5]}, False), ({"up_thru": [[4, 1]]}, True), ({"lost": [[6, 1]]}, False),
+                              ({"weight": [[6, 1]]}, True), ({"temp": [[1, 0, [6]]]}, True), ({"temp": [[1, 1, [4]]]}, False), ({}, False)):
+            self.assertEqual(group_steps.may_touch({"op": "inc", "epoch": 2, **entry}, [1, 0], {4}), wanted, entry)
+        self.assertTrue(group_steps.may_touch({"op": "info", "pg": [1, 0]}, [1, 0], set()))
+        self.assertFalse(group_steps.may_touch({"op": "info", "pg": [1, 1]}, [1, 0], set()))
+
+    def test_an_answer_without_its_intervals(self):
+        line = b'{"first":3,"intervals":[{"acting":[1]}],"les":0,"missing":[]}'
+        self.assertEqual(group_steps.without_intervals(line), b'{"first":3,"intervals":[],"les":0,"missing":[]}')
+        self.assertEqual(group_steps.without_intervals(b"{}"), b"{}")
 
 
 class Bars(unittest.TestCase):
@@ -211,7 +258,42 @@ class BadInput(unittest.TestCase):
 
     @unittest.skipUnless(HAS_PROGRAM, f"no program {PROGRAM}")
     def test_a_group_that_is_not_in_the_map(self):
-        self.assert_error("makes no group 9.0", written(["--program", PROGRAM, str(ROOT / "examples/outage.jsonl"), "9.0"]))
+        told = "makes no group 9.0; it has 1.0"
+        self.assert_error(told, written(["--program", PROGRAM, str(ROOT / "examples/outage.jsonl"), "9.0"]))
+
+    def test_a_picture_that_fails_leaves_no_file(self):
+        picture_path = self.folder / "group.svg"
+        script = self.script('{"op":"inc","epoch":1}')
+        self.assert_error("none: No such file", written(["--program", str(self.folder / "none"), "-o", str(picture_path), script, "1.0"]))
+        self.assertEqual([path.name for path in self.folder.iterdir()], ["script.jsonl"])
+        self.assert_error("false ended with status 1", written(["--program", "false", script, "1.0"]))
+        self.assert_error("echo gave an answer that is not JSON", written(["--program", "echo", script, "1.0"]))
+
+    @unittest.skipUnless(HAS_PROGRAM, f"no program {PROGRAM}")
+    def test_a_full_disk_a_closed_pipe_and_no_folder(self):
+        script = ROOT / "examples/blocked.jsonl"
+        words = [sys.executable, HERE.parent / "draw_group.py", "--program", PROGRAM, script, "1.0"]
+        with open("/dev/full", "w") as full:
+            run = subprocess.run(words, stdout=full, stderr=subprocess.PIPE, text=True)
+        self.assertEqual((run.returncode, run.stderr), (2, "draw_group: error: writing: No space left on device\n"))
+        end, begin = os.pipe()
+        os.close(end)
+        run = subprocess.run(words, stdout=begin, stderr=subprocess.PIPE, text=True)
+        os.close(begin)
+        self.assertEqual((run.returncode, run.stderr), (2, "draw_group: error: writing: Broken pipe\n"))
+        status, _, err = written(["--program", PROGRAM, "-o", str(self.folder / "none/x.svg"), str(script), "1.0"])
+        self.assertEqual((status, len(err.splitlines())), (2, 1))
+
+    @unittest.skipUnless(HAS_PROGRAM, f"no program {PROGRAM}")
+    def test_a_script_from_standard_input_and_some_of_its_epochs(self):
+        script = (ROOT / "examples/blocked.jsonl").read_text()
+        words = [sys.executable, HERE.parent / "draw_group.py", "--program", PROGRAM, "--from", "4", "--to", "7", "-", "1.0"]
+        run = subprocess.run(words, input=script, capture_output=True, text=True)
+        self.assertEqual((run.returncode, run.stderr), (0, ""))
+        self.assertIn("At the end, Down: writes may be on osd.0 and osd.1 alone", run.stdout)
+        tips = [node.text for node in xml.fromstring(run.stdout).iter(f"{SVG}title")]
+        epochs = {int(found[1]) for found in (re.match(r"epoch (\d+), ", tip) for tip in tips) if found}
+        self.assertEqual(epochs, {4, 5, 6, 7})
 
 
 @unittest.skipUnless(HAS_PROGRAM, f"no program {PROGRAM}")
