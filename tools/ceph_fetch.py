@@ -119,8 +119,11 @@ def main(words: List[str]) -> int:
     parser.add_argument("--to", dest="until", type=int, default=2**32 - 1, metavar="EPOCH", help="the last epoch")
     parser.add_argument("--no-groups", action="store_true", help="don't keep where groups lie, for a tree of list buckets")
     options = parser.parse_args(words)
+    try:
+        ceph = Ceph(shlex.split(options.ceph) or ["ceph"], options.folder)
+    except ValueError as fault:
+        raise Unusable(f"--ceph '{options.ceph}': {fault}") from fault
     os.makedirs(options.folder, exist_ok=True)
-    ceph = Ceph(shlex.split(options.ceph) or ["ceph"], options.folder)
     last = fetch_maps(ceph, options.since, options.until)
     epochs = sorted(int(name.split(".")[0]) for name in os.listdir(options.folder) if name.endswith(".osd.json") and name[:1].isdigit())
     if not options.no_groups:

@@ -112,7 +112,11 @@ class LiveCluster(Cluster):
         self.stop()
 
     def command(self, words: Dict[str, Any]) -> bytes:
-        status, out, said = self.rados.mon_command(json.dumps({"format": "json", **words}), b"")
+        text = json.dumps({"format": "json", **words})
+        status, out, said = self.rados.mon_command(text, b"")
+        if "wrong fsid" in said:  # the client doesn't know the cluster yet
+            time.sleep(1)
+            status, out, said = self.rados.mon_command(text, b"")
         if status != 0:
             raise Unusable(f"{words}: {said}")
         return out

@@ -6,15 +6,18 @@ import io
 import json
 import os
 import pathlib
+import random
+import subprocess
 import sys
 import tempfile
 import unittest
 
 HERE = pathlib.Path(__file__).resolve().parent
-sys.path.insert(0, str(HERE.parent))
+sys.path[:0] = [str(HERE.parent), str(HERE)]
 
 import check_against_ceph  # noqa: E402
 import from_ceph  # noqa: E402
+from changes import change  # noqa: E402
 
 MAPS = HERE / "maps"
 PROGRAM = os.environ.get("PGPEER", str(check_against_ceph.PROGRAM))
@@ -259,6 +262,44 @@ class BadInput(Case):
         self.assert_error("has the rule 7, which CRUSH doesn't have", self.run_tool())
         self.osdmap["erasure_code_profiles"] = {}
         self.assert_error("osdmap.json.erasure_code_profiles has no key 'ec-2-2'", self.run_tool())
+
+    def test_numbers_that_no_map_has(self):
+        for key, value in (("weight", float("nan")), ("weight", 1e300), ("weight", -1), ("primary_affinity", float("inf")), ("up_from", -3), ("up_thru", 2**40)):
+            self.osdmap = copy.deepcopy(dump("temps", "osdmap"))
+            self.osdmap["osds"][2][key] = value
+            self.assert_error(f"osdmap.json.osds[2].{key} ", self.run_tool())
+        self.osdmap = copy.deepcopy(dump("temps", "osdmap"))
+        self.osdmap["osds"].append(self.osdmap["osds"][0])
+        self.assert_error("which stands there twice", self.run_tool())
+
+    def test_random_changes_end_with_a_script_or_one_line(self):
+        rng = random.Random(11)
+        for _ in range(150):
+            self.osdmap, self.crush = copy.deepcopy(dump(self.name, "osdmap")), copy.deepcopy(dump(self.name, "crush"))
+            for _ in range(rng.randint(1, 3)):
+                change(rng, rng.choice((self.osdmap, self.crush)))
+            status, out, err = self.run_tool("--ask")
+            self.assertIn(status, (0, 2), err)
+            if status == 2:
+                self.assertEqual((out, err.count("error: ")), ("", 1), err)
+
+    def test_swapped_files(self):
+        osdmap, crush = self.file("a.json", self.osdmap), self.file("b.json", self.crush)
+        self.assert_error("b.json has no key 'osds'", written([crush, osdmap]))
+
+    def test_standard_input_a_full_disk_and_a_closed_pipe(self):
+        tool, crush = str(HERE.parent / "from_ceph.py"), self.file("crush.json", self.crush)
+        words, text = [sys.executable, tool, "--alone", "-", crush], json.dumps(self.osdmap)
+        run = subprocess.run(words, input=text, capture_output=True, text=True)
+        self.assertEqual((run.returncode, run.stdout, run.stderr), self.run_tool("--alone"))
+        with open("/dev/full", "w") as full:
+            run = subprocess.run(words, input=text, stdout=full, stderr=subprocess.PIPE, text=True)
+        self.assertEqual((run.returncode, run.stderr), (2, "from_ceph: error: writing: No space left on device\n"))
+        end, begin = os.pipe()
+        os.close(end)
+        run = subprocess.run(words, input=text, stdout=begin, stderr=subprocess.PIPE, text=True)
+        os.close(begin)
+        self.assertEqual((run.returncode, run.stderr), (2, "from_ceph: error: writing: Broken pipe\n"))
 
     def test_a_command_line_without_a_file(self):
         self.assert_error("required", written([]))

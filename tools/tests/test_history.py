@@ -13,7 +13,7 @@ import unittest
 
 HERE = pathlib.Path(__file__).resolve().parent
 ROOT = HERE.parent.parent
-sys.path.insert(0, str(HERE.parent))
+sys.path[:0] = [str(HERE.parent), str(HERE)]
 
 import ceph_epochs  # noqa: E402
 import ceph_folder  # noqa: E402
@@ -23,6 +23,7 @@ import ceph_query  # noqa: E402
 import ceph_sets  # noqa: E402
 import from_ceph  # noqa: E402
 import tell_groups  # noqa: E402
+from changes import broken  # noqa: E402
 from ceph_map import Device, Pool  # noqa: E402
 
 MAPS = HERE / "maps"
@@ -336,41 +337,6 @@ class BadInput(Case):
                 if status == 2:
                     self.assertEqual(out, "")
                     self.assertEqual(err.count("error: "), 1, err)
-
-
-def broken(rng, text, other):
-    kind = rng.randrange(5)
-    if kind == 0:
-        return text[: rng.randrange(len(text))].encode()
-    if kind == 1:
-        return bytes(rng.randrange(256) for _ in range(rng.choice((0, 1, 300))))
-    if kind == 2:
-        return other.encode()
-    try:
-        value = json.loads(text)
-    except ValueError:
-        return text.replace(rng.choice("0123456789[]"), rng.choice(("", "99999999999", "x", "-1"))).encode()
-    for _ in range(rng.randint(1, 3)):
-        change(rng, value)
-    return json.dumps(value).encode()
-
-
-def change(rng, value):
-    """Puts something else somewhere into a value."""
-    other = rng.choice((None, True, -1, 0, 2**31, 2**70, 1e300, float("nan"), float("inf"), "", "x", "1'", "\ud800", [], {}, [[]], 0.5))
-    while True:
-        keys = list(value) if isinstance(value, dict) else list(range(len(value)))
-        if not keys:
-            return
-        key = rng.choice(keys)
-        if isinstance(value[key], (dict, list)) and value[key] and rng.random() < 0.85:
-            value = value[key]
-        elif rng.random() < 0.2:
-            del value[key]
-            return
-        else:
-            value[key] = other
-            return
 
 
 class Fuzzed(unittest.TestCase):
