@@ -5,7 +5,7 @@ import os
 import pathlib
 import sys
 import time
-from typing import Dict, Iterator, NamedTuple, Optional, Sequence
+from typing import Dict, Iterator, List, NamedTuple, Optional
 
 from ceph_cluster import room, run
 from ceph_compare import Result, compare_record, table, verdict_table
@@ -22,6 +22,7 @@ class Life(NamedTuple):
 
     seed: int
     steps: int
+    is_straw2: bool
 
 
 def leaders(text: str) -> Dict[str, Optional[int]]:
@@ -33,33 +34,32 @@ def made(life: Life) -> Optional[Record]:
     for _ in range(TRIES):
         with room() as folder:
             try:
-                return lived(folder, life.seed, life.steps, leaders)
+                return lived(folder, *life, leaders)
             except Exception as fault:  # whatever Ceph does, the other clusters go on
                 print(f"cluster {life.seed}: {fault}", file=sys.stderr)
     return None
 
 
-def records(seeds: Sequence[int], steps: int, jobs: int) -> Iterator[Record]:
-    lives = [Life(seed, steps) for seed in seeds]
+def records(lives: List[Life], jobs: int) -> Iterator[Record]:
     with concurrent.futures.ProcessPoolExecutor(jobs) as pool:
         for record in pool.map(made, lives):
             if record is not None:
                 yield record
 
 
-def outages(program: str, seeds: Sequence[int], steps: int, jobs: int, folder: Optional[str]) -> int:
-    """The status of a comparison with so many clusters."""
+def outages(program: str, lives: List[Life], jobs: int, folder: Optional[str]) -> int:
+    """The status of a comparison with these clusters."""
     begun, result, clusters = time.monotonic(), Result(), 0
     if folder:
         os.makedirs(folder, exist_ok=True)
-    for record in records(seeds, steps, jobs):
+    for record in records(lives, jobs):
         clusters += 1
         if folder:
             record.keep(f"{folder}/{record.seed}.outage.json")
         compare_record(program, record, result)
         print(f"cluster {record.seed}: {len(record.steps)} steps in {record.seconds:.0f} s", file=sys.stderr)
     print(run("osdmaptool", "--version").strip())
-    return reported(result, clusters, time.monotonic() - begun, len(seeds) - clusters)
+    return reported(result, clusters, time.monotonic() - begun, len(lives) - clusters)
 
 
 def again(program: str, folder: str) -> int:

@@ -26,9 +26,11 @@ NO_LEADER = "no leader"
 FEW_SHARDS = "few shards"
 HEARD_BEFORE = "heard before"
 TWICE = "device twice"
+UP_ALONE = "up alone"
 UNSETTLED = "unsettled"
 
-LEFT_OUT = "pg_temp lists, left out"  # of what history tells
+# What `history` tells of groups, and the rule that it makes.
+TOLD = {"pg_temp lists, left out": TWICE, "acting sets, left out": TWICE, "changes of up sets alone, which begin an interval in Ceph": UP_ALONE}
 
 
 class Difference(NamedTuple):
@@ -216,18 +218,19 @@ def peering_findings(case: Case, query: Query) -> List[Finding]:
 # A record
 
 
-def step_script(record: Record, step: StepRecord) -> Tuple[List[str], List[Group], Set[str]]:
-    """The lines up to a step, with its reports alone; the groups that are asked for at the end; and those of which a pg_temp
-    list couldn't be carried."""
+def step_script(record: Record, step: StepRecord) -> Tuple[List[str], List[Group], Dict[str, str]]:
+    """The lines up to a step, with its reports alone; the groups that are asked for at the end; and the rules of groups that
+    couldn't be carried whole."""
     maps = {epoch: Node(it, f"epoch {epoch}") for epoch, it in record.maps.items() if epoch <= step.epoch}
     versions = {version_of(node) for node in maps.values()}
     trees = {version: Node(it, f"tree {version}") for version, it in record.trees.items() if version in versions}
     queries = [Node(it, f"query of {group}") for group, it in step.queries.items()]
     notes = Notes()
-    made = history(Dumps(maps, trees, queries=queries), Wanted([], ask=True), notes)
-    left_out = {told.split()[0] for told in notes.things.get(LEFT_OUT, ())}
-    groups = [tuple(line["pg"]) for line in made.lines if line["op"] == "ask"]
-    return [compact(it) for line in made.lines for it in (line, *entries(line))], groups, left_out
+    sets = {epoch: printed_sets(text, "osdmaptool") for epoch, text in record.sets.items() if epoch <= step.epoch}
+    made = history(Dumps(maps, trees, sets, queries=queries), Wanted([], own_sets=bool(sets), ask=True), notes)
+    told = {thing.split()[0]: rule for cause, rule in TOLD.items() for thing in notes.things.get(cause, ())}
+    groups: List[Group] = [(line["pg"][0], line["pg"][1]) for line in made.lines if line["op"] == "ask"]
+    return [compact(it) for line in made.lines for it in (line, *entries(line))], groups, told
 
 
 def entries(line: Line) -> Iterator[Line]:
@@ -242,7 +245,7 @@ def entries(line: Line) -> Iterator[Line]:
 
 def compare_step(program: str, record: Record, at: int, result: Result) -> None:
     step = record.steps[at]
-    lines, groups, left_out = step_script(record, step)
+    lines, groups, told = step_script(record, step)
     said = answers(program, lines)
     refused = [(line, answer) for line, answer in zip(lines, said) if "ok" not in answer]
     for line, answer in refused:
@@ -259,7 +262,9 @@ def compare_step(program: str, record: Record, at: int, result: Result) -> None:
         result.states += 1
         result.verdicts[view["verdict"], ceph_state(query.state) if query else "no answer"] += 1
         for finding in compared(case):
-            named = finding.rule or (TWICE if group_text(group) in left_out else "")
+            if finding.what.startswith("up") and record.sets:
+                continue  # up sets aren't carried beside Ceph's acting sets
+            named = finding.rule or told.get(group_text(group), "")
             take_finding(record, at, group, finding._replace(rule=named), result)
 
 

@@ -3,7 +3,7 @@
 import re
 from typing import List, NamedTuple, Optional, Set, Tuple
 
-from ceph_json import Node, Notes, Unusable, ranges
+from ceph_json import Node, Notes, Unusable
 
 MOST_DEVICES = 4096
 MOST_POOLS = 255

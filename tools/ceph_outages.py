@@ -57,6 +57,7 @@ class Record:
     maps: Dict[int, Any] = field(default_factory=dict)
     trees: Dict[int, Any] = field(default_factory=dict)
     steps: List[StepRecord] = field(default_factory=list)
+    sets: Dict[int, str] = field(default_factory=dict)  # what osdmaptool printed of each epoch, where buckets are straw2
     seconds: float = 0.0
 
     def keep(self, path: str) -> None:
@@ -68,20 +69,20 @@ def kept(path: str) -> Record:
     try:
         value = json.loads(pathlib.Path(path).read_text())
         found = Record(value["seed"], seconds=value["seconds"])
-        found.maps, found.trees = ({int(key): it for key, it in value[name].items()} for name in ("maps", "trees"))
+        dicts = [{int(key): it for key, it in value.get(name, {}).items()} for name in ("maps", "trees", "sets")]
+        found.maps, found.trees, found.sets = dicts
         found.steps = [StepRecord(**step) for step in value["steps"]]
     except (ValueError, KeyError, TypeError, AttributeError) as fault:
         raise Unusable(f"{path} is no record of a cluster: {fault}") from fault
     return found
 
 
-def tree_text(rng: random.Random, devices: int) -> str:
-    """A tree of all devices under the root, or of hosts of one or two, of list or uniform buckets."""
+def tree_text(alg: str, devices: int) -> str:
+    """A tree of all devices under the root, which is a bucket of the kind."""
     lines = ["tunable choose_local_tries 0", "tunable choose_local_fallback_tries 0", "tunable choose_total_tries 50",
              "tunable chooseleaf_descend_once 1", "tunable chooseleaf_vary_r 1", "tunable chooseleaf_stable 1",
              "tunable straw_calc_version 1", "tunable allowed_bucket_algs 54"]
     lines += [f"device {osd} osd.{osd}" for osd in range(devices)] + ["type 0 osd", "type 1 host", "type 10 root"]
-    alg = rng.choice(("list", "uniform"))
     lines += ["root all {", "id -1", f"alg {alg}", "hash 0", *(f"item osd.{osd} weight 1.0" for osd in range(devices)), "}"]
     for number, mode in enumerate(("firstn", "indep")):
         kind = ("replicated", "erasure")[number]
@@ -95,7 +96,9 @@ class LiveCluster(Cluster):
 
     def __init__(self, folder: str, rng: random.Random):
         super().__init__(folder)
-        self.rng, self.daemons, self.ids = rng, {}, {}
+        self.rng = rng
+        self.daemons: Dict[int, "subprocess.Popen[bytes]"] = {}
+        self.ids: Dict[int, str] = {}
         self.dead: List[int] = []  # devices whose stores are gone
         with open(self.conf, "a", encoding="utf-8") as conf:
             conf.write(MORE_CONF)
@@ -124,7 +127,7 @@ class LiveCluster(Cluster):
     def dump(self, epoch: Optional[int] = None) -> Dict[str, Any]:
         return json.loads(self.command({"prefix": "osd dump", **({"epoch": epoch} if epoch else {})}))
 
-    def make(self, devices: int) -> None:
+    def make(self, devices: int, alg: str) -> None:
         """Makes devices, the tree and two pools."""
         for osd in range(devices):
             self.ids[osd] = str(uuid.uuid4())
@@ -134,7 +137,7 @@ class LiveCluster(Cluster):
             self.daemons[osd] = self.start("ceph-osd", "-i", str(osd))
         for osd in range(devices):
             self.until(lambda: self.is_up(osd))
-        self.tree(tree_text(self.rng, devices))
+        self.tree(tree_text(alg, devices))
         size = self.rng.choice((2, 3, 3))
         self.replicated("rep", 8, size, self.rng.randint(1, size), "rule0")
         k, m = self.rng.choice(((2, 1), (2, 2), (3, 1), (3, 2)) if devices > 4 else ((2, 1), (2, 2)))
@@ -247,9 +250,9 @@ class LiveCluster(Cluster):
         except ValueError:
             return None
 
-    def sets(self) -> str:
+    def sets(self, epoch: Optional[int] = None) -> str:
         binary = f"{self.folder}/map"
-        pathlib.Path(binary).write_bytes(self.command({"prefix": "osd getmap"}))
+        pathlib.Path(binary).write_bytes(self.command({"prefix": "osd getmap", **({"epoch": epoch} if epoch else {})}))
         return run("osdmaptool", binary, "--test-map-pgs-dump-all")
 
     def tree_of(self, epoch: int) -> Dict[str, Any]:
@@ -277,12 +280,12 @@ class LiveCluster(Cluster):
             time.sleep(POLL)
 
 
-def lived(folder: str, seed: int, steps: int, leaders: Callable[[str], Dict[str, Optional[int]]]) -> Record:
+def lived(folder: str, seed: int, steps: int, is_straw2: bool, leaders: Callable[[str], Dict[str, Optional[int]]]) -> Record:
     """A cluster's life of so many steps."""
     begun, rng, record = time.monotonic(), random.Random(seed), Record(seed)
     cluster = LiveCluster(folder, rng)
     try:
-        cluster.make(rng.choice((4, 4, 5, 6)))
+        cluster.make(rng.choice((4, 4, 5, 6)), "straw2" if is_straw2 else rng.choice(("list", "uniform")))
         cluster.settled(leaders)
         for _ in range(steps):
             events = []
@@ -295,6 +298,8 @@ def lived(folder: str, seed: int, steps: int, leaders: Callable[[str], Dict[str,
         for epoch in range(1, record.steps[-1].epoch + 1):
             record.maps[epoch] = cluster.dump(epoch)
         for epoch, osdmap in record.maps.items():
+            if is_straw2:
+                record.sets[epoch] = cluster.sets(epoch)
             if osdmap["crush_version"] not in record.trees:
                 record.trees[osdmap["crush_version"]] = cluster.tree_of(epoch)
     finally:

@@ -110,8 +110,9 @@ def read_query(node: Node) -> Query:
 def leader_of(acting: Places, shard: Optional["re.Match[str]"]) -> Member:
     """The member that was asked: that of the shard, in an erasure pool, else the first."""
     slot = int(shard[1]) if shard else 0
-    if shard and slot < len(acting) and acting[slot] is not None:
-        return acting[slot], slot
+    asked = acting[slot] if shard and slot < len(acting) else None
+    if asked is not None:
+        return asked, slot
     return next((osd, at if shard else 0) for at, osd in enumerate(acting) if osd is not None)
 
 

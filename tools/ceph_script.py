@@ -6,7 +6,7 @@ from ceph_epochs import Epochs, numbered
 from ceph_folder import Dumps, version_of
 from ceph_history import Change, Changes, Lawful, Line, Snapshot, earlier
 from ceph_json import MOST, Node, Notes, Unusable, compact
-from ceph_map import Group, Places, Pool, Temp, group_text, read_devices, read_group, read_pools, read_temps, tell_map
+from ceph_map import IN, Group, Places, Pool, Temp, group_text, read_devices, read_group, read_pools, read_temps, tell_map
 from ceph_query import (Info, Query, Version, entries_lines, info_line, infos_of_stats, read_log, read_query, tell_faults)
 from ceph_sets import Where, carried, dumped_sets, stats_of, up_alone
 from ceph_tree import Bucket, Crush, carried_tree, choice_of, pools_of_one_root, read_crush, tell_classes, within_all_groups
@@ -205,7 +205,8 @@ class Writer:
         named += [version[0] for log in self.log.values() for version, _, _ in log]
         epochs = numbered(story.first, len(parts), named)
         base = epochs.in_script(story.first)
-        parts = [{} for _ in range(base - len(parts))] + parts
+        fillers: List[Line] = [{} for _ in range(base - len(parts))]
+        parts = fillers + parts
         self.serve(parts[-1], base)
         lines = [incremental(at, part) for at, part in enumerate(parts, 1)]
         lines += self.reports(story.first, epochs)
@@ -241,9 +242,9 @@ class Writer:
         if self.story.wanted.own_sets:
             temps = self.first_sets(pools)
         tree = self.tree(self.base.tree) if pools else None
-        devices = [device for device in self.base.devices.values() if device.up_from or device.up or pools]
+        devices = [device for device in self.base.devices.values() if device.up_from or device.up or device.weight != IN or pools]
         absent = sorted({item for bucket in tree or [] for item in bucket["items"] if item >= 0} - set(self.base.devices))
-        weights = [[device.id, device.weight] for device in devices if device.weight != 0x10000] + [[osd, 0] for osd in absent]
+        weights = [[device.id, device.weight] for device in devices if device.weight != IN] + [[osd, 0] for osd in absent]
         down = sorted([device.id for device in devices if not device.up] + absent)
         first = {"up": sorted([*(device.id for device in devices), *absent]), "weight": sorted(weights), "crush": tree or []}
         parts: List[Line] = [it for it in (first, {"down": down}, {"gone": absent}) if any(it.values())]

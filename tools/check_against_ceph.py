@@ -2,7 +2,7 @@
 """Compares where groups lie by pgpeer, and whether they serve, with what Ceph says, on maps and clusters that Ceph made.
 
     tools/check_against_ceph.py [--program PATH] [--keep FOLDER] [NAME...]
-    tools/check_against_ceph.py --outages N [--steps N] [--seed N] [--jobs N] [--program PATH] [--keep FOLDER]
+    tools/check_against_ceph.py --outages N [--steps N] [--seed N] [--jobs N] [--straw2] [--program PATH] [--keep FOLDER]
     tools/check_against_ceph.py --again FOLDER [--program PATH]
 
 PATH is the built program (by default crates/pgpeer/out/pgpeer). Needs Debian's ceph-base, ceph-common, ceph-mon and ceph-osd.
@@ -362,6 +362,7 @@ def main() -> int:
     parser.add_argument("--steps", type=int, default=10, metavar="N", help="steps of each (10)")
     parser.add_argument("--seed", type=int, default=1, metavar="N", help="the first cluster's seed, the next has one more (1)")
     parser.add_argument("--jobs", type=int, default=1, metavar="N", help="clusters side by side (1)")
+    parser.add_argument("--straw2", action="store_true", help="of clusters with straw2 buckets, whose acting sets are Ceph's")
     parser.add_argument("--again", metavar="FOLDER", help="compare what was kept there")
     options = parser.parse_args()
     if not set(options.names) <= set(known):
@@ -380,7 +381,8 @@ def checked(options: argparse.Namespace, known: List[str]) -> int:
     """The status of a comparison of maps, or of outages."""
     if options.outages is not None:
         seeds = range(options.seed, options.seed + max(options.outages, 1))
-        return ceph_check_outages.outages(options.program, seeds, options.steps, max(options.jobs, 1), options.keep)
+        lives = [ceph_check_outages.Life(seed, options.steps, options.straw2) for seed in seeds]
+        return ceph_check_outages.outages(options.program, lives, max(options.jobs, 1), options.keep)
     rows = []
     for name, dumps in made(options.names or known):
         if options.keep:

@@ -24,9 +24,9 @@ from typing import Any, Callable, Dict, Iterator, List, NamedTuple, Optional, Tu
 
 import ceph_fetch
 from ceph_epochs import side_path, side_text
-from ceph_folder import Dumps, read_folder
+from ceph_folder import read_folder
 from ceph_json import MOST, Node, Notes, Unusable, compact, ended, load, parsed, ranges, write
-from ceph_map import (ERASURE, IN, NONE, Device, Pool, Temp, read_devices, read_pool, read_pools, read_temps, tell_map)
+from ceph_map import (ERASURE, IN, NONE, Device, Pool, read_devices, read_pool, read_pools, read_temps, tell_map)
 from ceph_script import Script, Wanted, bucket_object, history, incremental, pool_parts
 from ceph_tree import PROFILE, Bucket, carried_tree, choice_of, pools_of_one_root, read_crush, tell_classes, within_all_groups
 
@@ -197,12 +197,12 @@ def written(options: argparse.Namespace, made: Script) -> int:
 
 
 def main(words: Optional[List[str]] = None) -> int:
-    words = sys.argv[1:] if words is None else words
-    if words[:1] == ["fetch"]:
-        return ended("from_ceph", lambda: ceph_fetch.main(words[1:]))
-    is_history = words[:1] == ["history"]
+    given = sys.argv[1:] if words is None else words
+    if given[:1] == ["fetch"]:
+        return ended("from_ceph", lambda: ceph_fetch.main(given[1:]))
+    is_history = given[:1] == ["history"]
     command = history_command() if is_history else map_command()
-    options = command.parser.parse_args(words[1:] if is_history else words)
+    options = command.parser.parse_args(given[1:] if is_history else given)
 
     def body() -> int:
         notes = Notes()

@@ -5,7 +5,7 @@ import pathlib
 import re
 import subprocess
 import tempfile
-from typing import Any, Dict, Iterable, Iterator, List, NamedTuple, Optional, Set, Tuple
+from typing import Any, Dict, Generator, Iterable, Iterator, List, NamedTuple, Optional, Set, Tuple, cast
 
 from ceph_json import Unusable, text_of
 
@@ -148,7 +148,7 @@ def up_to(entries: List[Entry], epoch: int) -> List[Entry]:
 # The program
 
 
-def streamed(program: str, lines: Iterable[str]) -> Iterator[bytes]:
+def streamed(program: str, lines: Iterable[str]) -> Generator[bytes, None, None]:
     """The program's answers to the lines, one after the other."""
     with tempfile.TemporaryFile() as script, tempfile.TemporaryFile() as errors:
         script.writelines(line.encode() + b"\n" for line in lines)
@@ -157,6 +157,7 @@ def streamed(program: str, lines: Iterable[str]) -> Iterator[bytes]:
             run = subprocess.Popen([program, "run"], stdin=script, stdout=subprocess.PIPE, stderr=errors)
         except OSError as fault:
             raise Unusable(f"{program}: {fault.strerror}") from fault
+        assert run.stdout is not None
         try:
             yield from run.stdout
         finally:
@@ -251,7 +252,9 @@ def lines_of(asked: Asked, question: str) -> Iterator[str]:
 def steps_of(program: str, path: str, asked: Asked, group: List[int], since: int, last: View) -> Tuple[Group, List[str]]:
     """The group's steps from an epoch on."""
     said = streamed(program, lines_of(asked, json.dumps({"op": "ask", "pg": group})))
-    history, steps, refused, view = History(*group), [], [], {}
+    history, view = History(*group), cast(View, {})
+    steps: List[Step] = []
+    refused: List[str] = []
     try:
         for (number, _, entry), is_asked in zip(asked.entries, asked.after):
             taken = answer_of(next(said), program)

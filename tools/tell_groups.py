@@ -16,7 +16,7 @@ import sys
 from typing import Any, Dict, Iterable, Iterator, List, Optional, Set, Tuple
 
 from ceph_epochs import Epochs, epochs_of
-from ceph_json import Unusable, ended, write
+from ceph_json import ended, write
 from group_steps import PROGRAM, answers, group_of, missing_group, read_script
 from group_words import osds_text
 
