@@ -1,9 +1,14 @@
-"""Runs clusters through outages, or takes what was kept of them, and prints how the program's answers compare with Ceph's."""
+"""Runs clusters through outages, or takes what was kept of them, and prints how the program's answers compare with Ceph's.
+
+Each cluster is run by a process of its own, since Ceph's client library may end it; then the cluster is made once more.
+"""
 
 import concurrent.futures
 import os
 import pathlib
+import subprocess
 import sys
+import tempfile
 import time
 from typing import Dict, Iterator, List, NamedTuple, Optional
 
@@ -14,7 +19,8 @@ from ceph_outages import Record, kept, lived
 from ceph_sets import printed_sets
 
 MOST_SHOWN = 30
-TRIES = 2  # of a cluster, whose monitor's port may be another's by the time it starts
+TRIES = 3  # of a cluster
+MOST_SECONDS = 120  # of a cluster, and as many of each step
 
 
 class Life(NamedTuple):
@@ -31,17 +37,33 @@ def leaders(text: str) -> Dict[str, Optional[int]]:
 
 
 def made(life: Life) -> Optional[Record]:
-    for _ in range(TRIES):
-        with room() as folder:
+    """What Ceph said in a cluster's life; None where it failed each time."""
+    with tempfile.TemporaryDirectory() as folder:
+        path = os.path.join(folder, "record.json")
+        words = [sys.executable, __file__, str(life.seed), str(life.steps), str(int(life.is_straw2)), path]
+        for _ in range(TRIES):
             try:
-                return lived(folder, *life, leaders)
-            except Exception as fault:  # whatever Ceph does, the other clusters go on
-                print(f"cluster {life.seed}: {fault}", file=sys.stderr)
+                run_of = subprocess.run(words, capture_output=True, text=True, timeout=MOST_SECONDS * (1 + life.steps))
+            except subprocess.TimeoutExpired:
+                print(f"cluster {life.seed}: no end", file=sys.stderr)
+                continue
+            if run_of.returncode == 0:
+                return kept(path)
+            said = run_of.stderr.strip().splitlines() or ["no word"]
+            print(f"cluster {life.seed}: ended with status {run_of.returncode}: {said[-1]}", file=sys.stderr)
     return None
 
 
+def make(words: List[str]) -> int:
+    """Makes one cluster, and keeps what Ceph said."""
+    life = Life(int(words[0]), int(words[1]), words[2] == "1")
+    with room() as folder:
+        lived(folder, *life, leaders).keep(words[3])
+    return 0
+
+
 def records(lives: List[Life], jobs: int) -> Iterator[Record]:
-    with concurrent.futures.ProcessPoolExecutor(jobs) as pool:
+    with concurrent.futures.ThreadPoolExecutor(jobs) as pool:
         for record in pool.map(made, lives):
             if record is not None:
                 yield record
@@ -79,3 +101,7 @@ def reported(result: Result, clusters: int, seconds: float, failed: int) -> int:
     for it in unnamed[:MOST_SHOWN]:
         print(f"cluster {it.seed}, step {it.step + 1}, {it.group}: {it.what}: pgpeer {it.ours}, Ceph {it.theirs}")
     return 1 if unnamed or failed or not result.states else 0
+
+
+if __name__ == "__main__":
+    sys.exit(make(sys.argv[1:]))

@@ -1,6 +1,7 @@
 """A Ceph cluster of one monitor on the loopback address, whose devices keep their stores in memory."""
 
 import contextlib
+import ctypes
 import json
 import os
 import pathlib
@@ -16,6 +17,7 @@ from typing import Any, Dict, Iterator, List, NamedTuple, Optional
 from ceph_json import Unusable
 
 MOST_SECONDS = 60  # for one command
+LIBC = ctypes.CDLL(None)
 
 
 class Dumps(NamedTuple):
@@ -45,6 +47,11 @@ def run(*words: str) -> str:
     if done.returncode != 0:
         raise Unusable(f"{' '.join(words)}: {done.stderr.strip()[-500:]}")
     return done.stdout
+
+
+def end_with_parent() -> None:
+    """Has the kernel end the process once its parent ends, however that comes."""
+    LIBC.prctl(1, 9)  # PR_SET_PDEATHSIG, SIGKILL
 
 
 def free_port() -> int:
@@ -103,7 +110,7 @@ class Cluster:
 
     def start(self, *words: str) -> subprocess.Popen:
         quiet = subprocess.DEVNULL
-        return subprocess.Popen([*words, "-c", self.conf, "-f"], stdout=quiet, stderr=quiet)
+        return subprocess.Popen([*words, "-c", self.conf, "-f"], stdout=quiet, stderr=quiet, preexec_fn=end_with_parent)
 
     def stop(self) -> None:
         self.monitor.kill()
