@@ -5,7 +5,7 @@ from typing import Any, Dict, Iterator, List, NamedTuple, Optional, Set, Tuple
 from ceph_epochs import Epochs, numbered
 from ceph_folder import Dumps, version_of
 from ceph_history import Change, Changes, Lawful, Line, Snapshot, earlier
-from ceph_json import MOST, Node, Notes, Unusable, compact
+from ceph_json import MOST, Node, Notes, Unusable, compact, ranges
 from ceph_map import IN, Group, Places, Pool, Temp, group_text, read_devices, read_group, read_pools, read_temps, tell_map
 from ceph_query import (Info, Query, Version, entries_lines, info_line, infos_of_stats, read_log, read_query, tell_faults)
 from ceph_sets import Where, carried, dumped_sets, stats_of, up_alone
@@ -180,7 +180,8 @@ class Writer:
         if not story.crush:
             self.notes.tell("the tree, in whose place the script has none (ceph osd crush dump)", "no CRUSH dump was given")
             return None, {pool.id: 0 for pool in pools}
-        crush = story.crush[max(story.crush)]
+        rules = {number: rule for version in sorted(story.crush) for number, rule in story.crush[version].rules.items()}
+        crush = Crush(story.crush[max(story.crush)].buckets, rules)  # the rules of pools that were deleted too
         root, kept = pools_of_one_root(crush, pools, self.notes)
         story.pools = {pool.id: pool for pool in kept}
         return root, {pool.id: choice_of(crush, pool).type for pool in kept}
@@ -352,6 +353,10 @@ def history(dumps: Dumps, wanted: Wanted, notes: Notes) -> Script:
         other = {group for sets in story.sets.values() for group, where in sets.items() if where.up != where.acting}
         told = f"{len(other)} groups had another at times" if other else "which they were in each dump"
         notes.tell("up sets beside Ceph's acting sets; they are empty in the script", told)
+        silent = ranges(epoch for epoch in range(story.first, story.snapshots[-1].epoch + 1) if epoch not in dumps.sets)
+        if silent:
+            notes.tell("acting sets of epochs without a dump of groups (osdmaptool MAP --test-map-pgs-dump-all), but for what "
+                       "queries and ceph pg dump tell", silent)
     for epoch, group in up_alone(story.sets):
         notes.tell("changes of up sets alone, which begin an interval in Ceph", f"{group_text(group)} in epoch {epoch}")
     writer = Writer(story)

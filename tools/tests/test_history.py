@@ -171,6 +171,9 @@ class OwnSets(Case):
         self.assertIn("straw2 buckets", err)
         self.assertIn("--groups FILE", err)
         lines, err = self.history("--groups", STRAW2 / "64.groups.txt", files[0])
+        self.assertNotIn("acting sets of epochs", err)
+        several = [STRAW2 / f"{epoch}.osd.json" for epoch in range(60, 65)]
+        self.assertIn("but for what queries and ceph pg dump tell: 60-63\n", self.history("--groups", STRAW2 / "64.groups.txt", *several)[1])
         self.assertIn([3, 0, [2]], [temp for line in lines for temp in line.get("temp", [])])
 
     def test_groups_without_sets_are_named(self):
@@ -251,6 +254,31 @@ class FromMapToMap(unittest.TestCase):
     def test_too_many_epochs(self):
         with self.assertRaisesRegex(ceph_json.Unusable, "--from EPOCH begins later"):
             ceph_history.Changes(1, 10**6, ceph_json.Notes())
+
+
+class Pools(Case):
+    def test_a_pool_that_is_deleted_with_its_rule_stays(self):
+        osdmap = json.loads((OUTAGE / "a-healthy.osd.json").read_text())
+        crush = json.loads((OUTAGE / "a-healthy.crush.json").read_text())
+        other = {**osdmap["pools"][0], "pool": 2, "pool_name": "other", "crush_rule": 1}
+        rules = [*crush["rules"], {**crush["rules"][0], "rule_id": 1}]
+        for epoch, pools, version in ((1, [*osdmap["pools"], other], 1), (2, osdmap["pools"], 2)):
+            (self.folder / f"{epoch}.osd.json").write_text(json.dumps({**osdmap, "epoch": epoch, "pools": pools, "crush_version": version}))
+            (self.folder / f"{epoch}.crush.json").write_text(json.dumps({**crush, "rules": rules[: 3 - epoch]}))
+        lines, err = self.history(self.folder)
+        self.assertEqual([pool["id"] for line in lines for pool in line.get("pools", [])], [1, 2])
+        self.assertIn("pools that were deleted, which stay in the script: pool 2 'other' in epoch 2", err)
+
+    def test_a_pool_that_is_made_and_resized(self):
+        osdmap = json.loads((OUTAGE / "a-healthy.osd.json").read_text())
+        pool = osdmap["pools"][0]
+        for epoch, pools in ((20, []), (21, [{**pool, "min_size": 2}]), (25, [{**pool, "size": 2, "last_change": "23"}])):
+            (self.folder / f"{epoch}.osd.json").write_text(json.dumps({**osdmap, "epoch": epoch, "pools": pools}))
+        shutil.copy(OUTAGE / "a-healthy.crush.json", self.folder / "20.crush.json")
+        lines = incrementals(self.history(self.folder)[0])
+        made = next(epoch for epoch, line in lines.items() if "pools" in line)
+        self.assertEqual((lines[made]["pools"][0]["min_size"], "crush" in lines[made]), (2, True))
+        self.assertEqual(lines[made + 2]["sizes"], [[1, 2, 1]])
 
 
 class Numbers(Case):
