@@ -12,7 +12,7 @@ from ceph_json import Node, Notes, compact
 from ceph_map import Group, group_text
 from ceph_outages import Record, StepRecord
 from ceph_query import MOST_ENTRIES, Line, Member, Query, read_query
-from ceph_script import Wanted, history
+from ceph_script import Selection, history
 from ceph_sets import Where, printed_sets
 from group_steps import View, answers
 
@@ -86,7 +86,7 @@ def devices_of(osdmap: Dict[str, Any]) -> Devices:
     return Devices(up, exists, *({it["osd"]: it[key] for it in osds} for key in ("lost_at", "down_at")))
 
 
-class Rule(NamedTuple):
+class PoolCode(NamedTuple):
     """What of a pool plays a part: k is None where it is replicated."""
 
     k: Optional[int]
@@ -98,9 +98,9 @@ class Rule(NamedTuple):
         return len({slot for _, slot in members}) >= (self.k or 1)
 
 
-def rules_of(osdmap: Dict[str, Any]) -> Dict[int, Rule]:
+def rules_of(osdmap: Dict[str, Any]) -> Dict[int, PoolCode]:
     profiles = osdmap["erasure_code_profiles"]
-    return {pool["pool"]: Rule(int(profiles[pool["erasure_code_profile"]]["k"]) if pool["type"] == 3 else None)
+    return {pool["pool"]: PoolCode(int(profiles[pool["erasure_code_profile"]]["k"]) if pool["type"] == 3 else None)
             for pool in osdmap["pools"]}
 
 
@@ -112,11 +112,11 @@ def without_superseded(intervals: List[Interval]) -> List[Interval]:
     return [it for at, it in enumerate(intervals) if not any(set(later[2]) <= set(it[2]) for later in intervals[at + 1 :])]
 
 
-def wrote(view: View, rule: Rule) -> List[Interval]:
+def wrote(view: View, rule: PoolCode) -> List[Interval]:
     return [(it["first"], it["last"], rule.members(it["acting"])) for it in view["intervals"] if it["rw"]]
 
 
-def blocked(intervals: List[Interval], les: int, devices: Devices, rule: Rule) -> Set[int]:
+def blocked(intervals: List[Interval], les: int, devices: Devices, rule: PoolCode) -> Set[int]:
     """The devices that are down in intervals that block."""
     found: Set[int] = set()
     for first, last, members in intervals:
@@ -127,7 +127,7 @@ def blocked(intervals: List[Interval], les: int, devices: Devices, rule: Rule) -
     return found
 
 
-def participants(view: View, since: int, devices: Devices, rule: Rule) -> Set[Member]:
+def participants(view: View, since: int, devices: Devices, rule: PoolCode) -> Set[Member]:
     """The members of past intervals that are up, whether these may have gone read-write or not."""
     past = (it for it in view["intervals"] if it["last"] >= since)
     return {member for it in past for member in rule.members(it["acting"]) if member[0] in devices.up}
@@ -154,7 +154,7 @@ class Case(NamedTuple):
     where: Where
     query: Optional[Query]
     devices: Devices
-    rule: Rule
+    rule: PoolCode
     is_settled: bool
 
 
@@ -227,7 +227,7 @@ def step_script(record: Record, step: StepRecord) -> Tuple[List[str], List[Group
     queries = [Node(it, f"query of {group}") for group, it in step.queries.items()]
     notes = Notes()
     sets = {epoch: printed_sets(text, "osdmaptool") for epoch, text in record.sets.items() if epoch <= step.epoch}
-    made = history(Dumps(maps, trees, sets, queries=queries), Wanted([], own_sets=bool(sets), ask=True), notes)
+    made = history(Dumps(maps, trees, sets, queries=queries), Selection([], own_sets=bool(sets), ask=True), notes)
     told = {thing.split()[0]: rule for cause, rule in TOLD.items() for thing in notes.things.get(cause, ())}
     groups: List[Group] = [(line["pg"][0], line["pg"][1]) for line in made.lines if line["op"] == "ask"]
     return [compact(it) for line in made.lines for it in (line, *entries(line))], groups, told

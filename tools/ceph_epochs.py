@@ -39,7 +39,7 @@ class Epochs(NamedTuple):
 
 
 def numbered(first: int, parts: int, named: Iterable[int]) -> Epochs:
-    """The epochs of a script whose map is that of Ceph's epoch `first` after so many parts, with reports that name epochs."""
+    """The epochs of a script whose map is that of Ceph's epoch `first` after `parts` parts, with reports that name epochs."""
     older = tuple(sorted({epoch for epoch in named if 0 < epoch < first}))
     return Epochs(first - max(parts, len(older) + 1), first, older)
 

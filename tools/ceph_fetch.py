@@ -46,7 +46,7 @@ def printed(words: List[str]) -> str:
     return run.stdout.decode(errors="replace")
 
 
-def told(text: str) -> None:
+def tell(text: str) -> None:
     print(f"from_ceph: {text}", file=sys.stderr)
 
 
@@ -57,7 +57,7 @@ def fetch_maps(ceph: Ceph, since: int, until: int) -> Node:
     if since > last or until < first:
         raise Unusable(f"the monitor has the maps of epochs {first} to {last}")
     if since < first and since:
-        told(f"not carried: maps before epoch {first}, which the monitor has no more")
+        tell(f"not carried: maps before epoch {first}, which the monitor has no more")
     versions, node = set(), report
     for epoch in range(max(since, first, 1), min(until, last) + 1):
         node = ceph.value("osd", "dump", str(epoch))
@@ -79,13 +79,13 @@ def fetch_tree(ceph: Ceph, epoch: int, is_last: bool) -> None:
     elif is_last:
         ceph.keep(f"{epoch}.crush.json", ceph.text("osd", "crush", "dump"))
     else:
-        told(f"not carried: the tree of epoch {epoch} (install crushtool, of Debian's ceph-base)")
+        tell(f"not carried: the tree of epoch {epoch} (install crushtool, of Debian's ceph-base)")
 
 
 def fetch_sets(ceph: Ceph, since: int, until: int) -> None:
     """Keeps where groups lie in each epoch, for trees that a script can't have."""
     if not shutil.which("osdmaptool"):
-        told("not carried: where groups lie in each epoch (install osdmaptool, of Debian's ceph-osd)")
+        tell("not carried: where groups lie in each epoch (install osdmaptool, of Debian's ceph-osd)")
         return
     binary = os.path.join(ceph.folder, ".map")
     for epoch in range(since, until + 1):
@@ -105,9 +105,9 @@ def fetch_queries(ceph: Ceph, osdmap: Node) -> None:
         except Unusable:
             silent.append(group)
     if silent:
-        told(f"not carried: reports of groups that gave no answer, as a group without a primary doesn't: {', '.join(silent)}")
+        tell(f"not carried: reports of groups that gave no answer, as a group without a primary doesn't: {', '.join(silent)}")
     if len(groups) > MOST_QUERIES:
-        told(f"not carried: reports of {len(groups) - MOST_QUERIES} groups more (ceph tell PG query > PG.query.json)")
+        tell(f"not carried: reports of {len(groups) - MOST_QUERIES} groups more (ceph tell PG query > PG.query.json)")
 
 
 def main(words: List[str]) -> int:

@@ -29,7 +29,7 @@ class Dumps:
 
 
 @dataclass
-class Loose:
+class LooseFiles:
     """Files whose epoch their name has to tell, and the epochs of maps by the beginning of their names."""
 
     epochs: Dict[str, int] = field(default_factory=dict)
@@ -69,7 +69,7 @@ def kind_of(node: Node) -> str:
 
 
 def read_folder(paths: List[str], notes: Notes) -> Dumps:
-    dumps, loose = Dumps(), Loose()
+    dumps, loose = Dumps(), LooseFiles()
     named = [path for path in paths if not os.path.isdir(path)]
     for path in files_of(paths):
         try:
@@ -101,7 +101,7 @@ def told_apart(path: str) -> Tuple[str, Node, str]:
     return text, node, kind
 
 
-def take_file(path: str, text: str, node: Node, kind: str, dumps: Dumps, loose: Loose) -> None:
+def take_file(path: str, text: str, node: Node, kind: str, dumps: Dumps, loose: LooseFiles) -> None:
     if kind == "groups":
         loose.groups.append((path, text))
     elif kind == "map":
@@ -116,7 +116,7 @@ def take_file(path: str, text: str, node: Node, kind: str, dumps: Dumps, loose: 
         dumps.logs.append((*log_of(path), node))
 
 
-def add_map(path: str, node: Node, dumps: Dumps, loose: Loose) -> None:
+def add_map(path: str, node: Node, dumps: Dumps, loose: LooseFiles) -> None:
     epoch = node.key("epoch").count()
     if epoch == 0:
         raise Unusable(f"{node.where}.epoch is 0")
@@ -142,7 +142,7 @@ def log_of(path: str) -> Tuple[int, str]:
     return int(found[1]), found[2] + (f"s{found[3]}" if found[3] else "")
 
 
-def epoch_of(path: str, loose: Loose) -> int:
+def epoch_of(path: str, loose: LooseFiles) -> int:
     name = stem(path)
     if name in loose.epochs:
         return loose.epochs[name]
@@ -157,7 +157,7 @@ def version_of(node: Node) -> int:
     return node.count_of("crush_version")
 
 
-def place_trees(dumps: Dumps, loose: Loose) -> None:
+def place_trees(dumps: Dumps, loose: LooseFiles) -> None:
     """Finds the version of each tree, by the map of its epoch."""
     versions = {version_of(node) for node in dumps.maps.values()}
     for path, node in loose.trees:

@@ -178,7 +178,7 @@ class Lawful:
         self.waiting: Dict[int, int] = {}  # weights of devices that the script doesn't have yet
 
     def parts(self, change: Change, epoch: int, ceph_epoch: int, in_script: Callable[[int], int]) -> Line:
-        """The parts of the incremental but for pools and tree; it leads to `epoch` in the script."""
+        """The parts of the incremental except pools and tree; it leads to `epoch` in the script."""
         found: Line = dict(zip(("up", "down", "gone"), self.turned(change)))
         exists = self.known | set(found["gone"])
         self.waiting.update(change.weight)

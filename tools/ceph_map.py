@@ -67,7 +67,7 @@ def read_devices(osdmap: Node, notes: Notes) -> List[Device]:
     for osd in osdmap.key("osds").items():
         device = read_device(osd)
         if device.id in seen:
-            raise Unusable(f"{osd.where}.osd is {device.id}, which stands there twice")
+            raise Unusable(f"{osd.where}.osd is {device.id}, which is twice in the list")
         seen.add(device.id)
         affinity = osd.key("primary_affinity").number() if osd.has("primary_affinity") else 1
         if affinity != 1:
@@ -146,7 +146,7 @@ def read_pools(osdmap: Node, notes: Notes) -> List[Pool]:
     numbers = [pool.key("pool").whole() for pool in nodes]
     twice = next((at for at, number in enumerate(numbers) if number in numbers[:at]), None)
     if twice is not None:
-        raise Unusable(f"{nodes[twice].where}.pool is {numbers[twice]}, which stands there twice")
+        raise Unusable(f"{nodes[twice].where}.pool is {numbers[twice]}, which is twice in the list")
     pools = [read_pool(osdmap, pool, notes) for pool in nodes]
     return sorted((pool for pool in pools if pool), key=lambda pool: pool.id)
 

@@ -281,7 +281,7 @@ class LiveCluster(Cluster):
 
 
 def lived(folder: str, seed: int, steps: int, is_straw2: bool, leaders: Callable[[str], Dict[str, Optional[int]]]) -> Record:
-    """A cluster's life of so many steps."""
+    """A cluster's life of `steps` steps."""
     begun, rng, record = time.monotonic(), random.Random(seed), Record(seed)
     cluster = LiveCluster(folder, rng)
     try:

@@ -37,7 +37,7 @@ class Info(NamedTuple):
     complete: bool
 
 
-class Past(NamedTuple):
+class PastInterval(NamedTuple):
     """A past interval that Ceph says may have gone read-write."""
 
     first: int
@@ -58,7 +58,7 @@ class Query(NamedTuple):
     infos: List[Info]
     told_from: int  # the epochs of which the past intervals tell; 0 where none are there
     told_to: int
-    past: List[Past]
+    past: List[PastInterval]
     probing: Optional[List[Member]]  # while it peers
     blocked_by: List[int]
 
@@ -122,7 +122,7 @@ def peering_of(node: Node) -> Optional[Node]:
     return next((state for state in states if state.has("past_intervals")), None)
 
 
-def read_past(peering: Optional[Node], is_erasure: bool) -> Tuple[int, int, List[Past]]:
+def read_past(peering: Optional[Node], is_erasure: bool) -> Tuple[int, int, List[PastInterval]]:
     if peering is None or not peering.items_of("past_intervals"):
         return 0, 0, []
     whole = peering.key("past_intervals").items()[0]
@@ -130,7 +130,7 @@ def read_past(peering: Optional[Node], is_erasure: bool) -> Tuple[int, int, List
     for interval in whole.items_of("intervals"):
         names = interval.key("acting").text().split(",")
         acting = [read_member(Node(name, interval.where), is_erasure) for name in names if name]
-        past.append(Past(interval.key("first").count(), interval.key("last").count(), acting))
+        past.append(PastInterval(interval.key("first").count(), interval.key("last").count(), acting))
     return whole.count_of("first"), whole.count_of("last"), past
 
 

@@ -16,7 +16,7 @@ LONGEST_LINE = 1048576  # bytes, without the line feed
 Log = List[Tuple[Version, str, str]]
 
 
-class Wanted(NamedTuple):
+class Selection(NamedTuple):
     """What of a cluster is wanted."""
 
     pools: List[int]  # all where it is empty
@@ -67,7 +67,7 @@ def incremental(epoch: int, part: Line) -> Line:
 class Story:
     """A cluster's history, as its dumps tell it."""
 
-    def __init__(self, dumps: Dumps, wanted: Wanted, notes: Notes):
+    def __init__(self, dumps: Dumps, wanted: Selection, notes: Notes):
         self.dumps, self.wanted, self.notes = dumps, wanted, notes
         maps = {epoch: node for epoch, node in sorted(dumps.maps.items()) if wanted.since <= epoch <= wanted.until}
         if not maps:
@@ -264,7 +264,7 @@ class Writer:
     def later(self, epochs: Epochs, thru: Dict[int, int]) -> Iterator[Line]:
         self.lawful.thru = thru
         has_tree = bool(self.base.pools) and not self.story.wanted.own_sets
-        acting = Acting(self, epochs) if self.story.wanted.own_sets else None
+        acting = ActingSets(self, epochs) if self.story.wanted.own_sets else None
         version = self.base.tree
         for ceph_epoch in range(self.story.first + 1, self.changes.last + 1):
             epoch, change = epochs.in_script(ceph_epoch), self.changes.by_epoch.get(ceph_epoch, Change())
@@ -308,7 +308,7 @@ class Writer:
                     self.notes.tell(told, group_text(info.group))
 
 
-class Acting:
+class ActingSets:
     """The acting sets of a script in which they are Ceph's."""
 
     def __init__(self, writer: Writer, epochs: Epochs):
@@ -346,7 +346,7 @@ def epochs_named(info: Info) -> List[int]:
     return [info.les, info.history_les, info.last_epoch_clean, info.last_update[0], info.log_tail[0]]
 
 
-def history(dumps: Dumps, wanted: Wanted, notes: Notes) -> Script:
+def history(dumps: Dumps, wanted: Selection, notes: Notes) -> Script:
     """The script of the dumps."""
     story = Story(dumps, wanted, notes)
     if wanted.own_sets:
@@ -355,7 +355,7 @@ def history(dumps: Dumps, wanted: Wanted, notes: Notes) -> Script:
         notes.tell("up sets beside Ceph's acting sets; they are empty in the script", told)
         silent = ranges(epoch for epoch in range(story.first, story.snapshots[-1].epoch + 1) if epoch not in dumps.sets)
         if silent:
-            notes.tell("acting sets of epochs without a dump of groups (osdmaptool MAP --test-map-pgs-dump-all), but for what "
+            notes.tell("acting sets of epochs without a dump of groups (osdmaptool MAP --test-map-pgs-dump-all), except what "
                        "queries and ceph pg dump tell", silent)
     for epoch, group in up_alone(story.sets):
         notes.tell("changes of up sets alone, which begin an interval in Ceph", f"{group_text(group)} in epoch {epoch}")

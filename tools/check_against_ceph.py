@@ -358,7 +358,7 @@ def main() -> int:
     parser.add_argument("names", metavar="NAME", nargs="*", help=f"one of {', '.join(known)}")
     parser.add_argument("--program", default=str(PROGRAM), help="the built pgpeer")
     parser.add_argument("--keep", metavar="FOLDER", help="write the dumps of each map into this folder")
-    parser.add_argument("--outages", type=int, metavar="N", help="take so many clusters through outages")
+    parser.add_argument("--outages", type=int, metavar="N", help="take N clusters through outages")
     parser.add_argument("--steps", type=int, default=10, metavar="N", help="steps of each (10)")
     parser.add_argument("--seed", type=int, default=1, metavar="N", help="the first cluster's seed, the next has one more (1)")
     parser.add_argument("--jobs", type=int, default=1, metavar="N", help="clusters side by side (1)")

@@ -27,7 +27,7 @@ from ceph_epochs import side_path, side_text
 from ceph_folder import read_folder
 from ceph_json import MOST, Node, Notes, Unusable, compact, ended, load, parsed, ranges, write
 from ceph_map import (ERASURE, IN, NONE, Device, Pool, read_devices, read_pool, read_pools, read_temps, tell_map)
-from ceph_script import Script, Wanted, bucket_object, history, incremental, pool_parts
+from ceph_script import Script, Selection, bucket_object, history, incremental, pool_parts
 from ceph_tree import PROFILE, Bucket, carried_tree, choice_of, pools_of_one_root, read_crush, tell_classes, within_all_groups
 
 __all__ = ["ERASURE", "IN", "NONE", "PROFILE", "Unusable", "main", "parsed", "script"]
@@ -110,7 +110,7 @@ def map_alone(options: argparse.Namespace, notes: Notes) -> Script:
 def whole_history(options: argparse.Namespace, notes: Notes) -> Script:
     """The script of all dumps. Where the tree can't be carried and groups were dumped, acting sets are Ceph's."""
     dumps = read_folder([*options.files, *options.groups], notes)
-    wanted = Wanted(options.pool, options.since, options.until, bool(options.groups), options.ask)
+    wanted = Selection(options.pool, options.since, options.until, bool(options.groups), options.ask)
     if options.groups and not (dumps.sets or dumps.stats):
         raise Unusable(f"{' '.join(options.groups)}: no groups, as osdmaptool --test-map-pgs-dump-all prints them")
     for pool in options.pool:

@@ -37,8 +37,8 @@ def telling(spans: Sequence[Span], view: View, most: int) -> List[Span]:
 
 def folded(steps: List[Step], spans: Sequence[Span] = (), most: int = MOST_COLUMNS) -> List[Column]:
     """A column for each step. Where they are too many, the longest runs in which nothing changes become two columns, their
-    first step and the others; and where that isn't enough, the oldest columns become one, but for those of intervals that
-    are never hidden."""
+    first step and the others; and where that isn't enough, the oldest columns become one, except those of intervals
+    that are never hidden."""
     runs = [list(run) for _, run in itertools.groupby(steps, Step.state)]
     count, short = len(steps), set()
     for at in sorted(range(len(runs)), key=lambda at: -len(runs[at])):

@@ -199,7 +199,7 @@ def without_intervals(line: bytes) -> bytes:
 # The group
 
 
-class Asked(NamedTuple):
+class AskedScript(NamedTuple):
     """A script that is asked about a group after those of its entries that may change something for it."""
 
     entries: List[Entry]
@@ -238,18 +238,18 @@ def followed(program: str, path: str, pool: int, pg: int, since: int = 0, until:
     if "ok" not in last:
         raise missing_group(path, f"{pool}.{pg:x}", pools_of(entry for _, _, entry in entries))
     devices = devices_of(last, entries, group)
-    asked = Asked(entries, [may_touch(entry, group, devices) for _, _, entry in entries])
+    asked = AskedScript(entries, [may_touch(entry, group, devices) for _, _, entry in entries])
     return steps_of(program, path, asked, group, since, last)
 
 
-def lines_of(asked: Asked, question: str) -> Iterator[str]:
+def lines_of(asked: AskedScript, question: str) -> Iterator[str]:
     for (_, line, _), is_asked in zip(asked.entries, asked.after):
         yield line
         if is_asked:
             yield question
 
 
-def steps_of(program: str, path: str, asked: Asked, group: List[int], since: int, last: View) -> Tuple[Group, List[str]]:
+def steps_of(program: str, path: str, asked: AskedScript, group: List[int], since: int, last: View) -> Tuple[Group, List[str]]:
     """The group's steps from an epoch on."""
     said = streamed(program, lines_of(asked, json.dumps({"op": "ask", "pg": group})))
     history, view = History(*group), cast(View, {})

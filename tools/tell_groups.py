@@ -96,7 +96,7 @@ def views_of(program: str, lines: List[str], groups: List[Tuple[int, int]]) -> D
     return {group: view for group, view in zip(groups, found) if "ok" in view}
 
 
-def told(options: argparse.Namespace) -> str:
+def groups_text(options: argparse.Namespace) -> str:
     entries, epochs = read_script(options.script), epochs_of(options.script, options.epochs)
     pools = pools_of(entries)
     every = [(pool, pg) for pool, it in sorted(pools.items()) for pg in range(min(max(it["pg_num"], 0), 1024))]
@@ -123,7 +123,7 @@ def main(words: Optional[List[str]] = None) -> int:
     options = parser.parse_args(words)
 
     def body() -> int:
-        write(told(options))
+        write(groups_text(options))
         return 0
 
     return ended("tell_groups", body)

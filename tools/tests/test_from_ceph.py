@@ -270,7 +270,7 @@ class BadInput(Case):
             self.assert_error(f"osdmap.json.osds[2].{key} ", self.run_tool())
         self.osdmap = copy.deepcopy(dump("temps", "osdmap"))
         self.osdmap["osds"].append(self.osdmap["osds"][0])
-        self.assert_error("which stands there twice", self.run_tool())
+        self.assert_error("which is twice in the list", self.run_tool())
 
     def test_random_changes_end_with_a_script_or_one_line(self):
         rng = random.Random(11)

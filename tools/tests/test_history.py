@@ -173,7 +173,7 @@ class OwnSets(Case):
         lines, err = self.history("--groups", STRAW2 / "64.groups.txt", files[0])
         self.assertNotIn("acting sets of epochs", err)
         several = [STRAW2 / f"{epoch}.osd.json" for epoch in range(60, 65)]
-        self.assertIn("but for what queries and ceph pg dump tell: 60-63\n", self.history("--groups", STRAW2 / "64.groups.txt", *several)[1])
+        self.assertIn("except what queries and ceph pg dump tell: 60-63\n", self.history("--groups", STRAW2 / "64.groups.txt", *several)[1])
         self.assertIn([3, 0, [2]], [temp for line in lines for temp in line.get("temp", [])])
 
     def test_groups_without_sets_are_named(self):
@@ -367,7 +367,7 @@ class BadInput(Case):
                     self.assertEqual(err.count("error: "), 1, err)
 
 
-class Fuzzed(unittest.TestCase):
+class FolderNames(unittest.TestCase):
     def test_folder_reader_names(self):
         self.assertEqual(ceph_folder.log_of("x/osd.2-1.0.log.json"), (2, "1.0"))
         self.assertEqual(ceph_folder.log_of("osd12.2.1fs3.log.json"), (12, "2.1fs3"))

@@ -20,7 +20,7 @@ import tell_groups  # noqa: E402
 KEPT = HERE / "maps/outages"
 PROGRAM = os.environ.get("PGPEER", str(tell_groups.PROGRAM))
 HAS_PROGRAM = os.access(PROGRAM, os.X_OK)
-WHOLE, CODED = ceph_compare.Rule(None), ceph_compare.Rule(2)
+WHOLE, CODED = ceph_compare.PoolCode(None), ceph_compare.PoolCode(2)
 
 
 def devices(up, down=(), lost=None, down_at=None):
@@ -59,7 +59,7 @@ class Rules(unittest.TestCase):
 
 
 @unittest.skipUnless(HAS_PROGRAM, f"no program {PROGRAM}")
-class Kept(unittest.TestCase):
+class KeptRecord(unittest.TestCase):
     @classmethod
     def setUpClass(cls):
         cls.record = ceph_outages.kept(str(KEPT / "107.outage.json"))
