@@ -29,8 +29,8 @@ TWICE = "device twice"
 UP_ALONE = "up alone"
 UNSETTLED = "unsettled"
 
-# What `history` tells of groups, and the rule that it makes.
-TOLD = {"pg_temp lists, left out": TWICE, "acting sets, left out": TWICE, "changes of up sets alone, which begin an interval in Ceph": UP_ALONE}
+# What `history` tells of groups, and the rule that it makes; of several the last.
+TOLD = {"changes of up sets alone, which begin an interval in Ceph": UP_ALONE, "pg_temp lists, left out": TWICE, "acting sets, left out": TWICE}
 
 
 class Difference(NamedTuple):
@@ -264,7 +264,8 @@ def compare_step(program: str, record: Record, at: int, result: Result) -> None:
         for finding in compared(case):
             if finding.what.startswith("up") and record.sets:
                 continue  # up sets aren't carried beside Ceph's acting sets
-            named = finding.rule or told.get(group_text(group), "")
+            of_group = told.get(group_text(group), "")
+            named = finding.rule or ("" if of_group == UP_ALONE and finding.what.startswith("acting") else of_group)
             take_finding(record, at, group, finding._replace(rule=named), result)
 
 
