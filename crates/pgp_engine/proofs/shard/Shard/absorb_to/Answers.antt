@@ -115,8 +115,8 @@ returns-in_err-read-clause-reads g c =
 
 pub returns-in_err-read-clause-on : goal.returns-in_err-read-clause-on
 returns-in_err-read-clause-on g c = record {
-    shard_is = ap (λ (s : Reader). s.shard) c.self.view_is;
-    shards_are = ap (λ (s : Reader). s.shards) c.self.view_is;
-    front_is = subst (λ (s : Reader). IsFrontOf s.front c.self.inside.state.front) c.self.view_is (front_self c.self.inside.state.front);
-    seen_is = subst (λ (s : Reader). IsFrontOf s.seen (entries_of (last_of c.read.new.self))) c.self.view_is c.read.ensures.later.front;
-  }
+  shard_is = ap (λ (s : Reader). s.shard) c.self.view_is;
+  shards_are = ap (λ (s : Reader). s.shards) c.self.view_is;
+  front_is = subst (λ (s : Reader). IsFrontOf s.front c.self.inside.state.front) c.self.view_is (front_self c.self.inside.state.front);
+  seen_is = subst (λ (s : Reader). IsFrontOf s.seen (entries_of (last_of c.read.new.self))) c.self.view_is c.read.ensures.later.front;
+}
