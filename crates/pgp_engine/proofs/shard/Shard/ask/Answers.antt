@@ -1,7 +1,6 @@
-use Rattle.std.proofs.Common.{◌≡◌, ◌<◌, inl, length, ap, sym, ◌∙◌, subst}
+use Rattle.std.proofs.Common.{◌<◌, inl, length, ap, sym, ◌∙◌, subst}
 use Rattle.pgp_log.specs.Log.{IsFrontOf}
 use Rattle.pgp_feed.specs.Receipts.{entries_of}
-use Rattle.pgp_feed.specs.Taps.{last_of}
 use Rattle.pgp_engine.specs.Shards.{Reader}
 use Rattle.pgp_engine.proofs.ReadLemmas.{had_to_read}
 use Rattle.pgp_engine.proofs.shard.Shard.ask.Goals as goal
