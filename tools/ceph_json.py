@@ -146,12 +146,17 @@ def compact(value: Any) -> str:
 
 
 def write(text: str, path: Optional[str] = None) -> None:
-    """Writes to standard output, or to a file, which is there whole or not at all."""
+    """Writes to standard output, to a device or a pipe, or to a file, which is there whole or not at all."""
     if path is None:
         sys.stdout.write(text)
         sys.stdout.flush()
         return
-    folder = os.path.dirname(os.path.abspath(path))
+    if os.path.exists(path) and not os.path.isfile(path):
+        with open(path, "w", encoding="utf-8") as place:
+            place.write(text)
+        return
+    path = os.path.realpath(path)
+    folder = os.path.dirname(path)
     handle, part = tempfile.mkstemp(prefix=".part-", dir=folder)
     try:
         with os.fdopen(handle, "w", encoding="utf-8") as file:

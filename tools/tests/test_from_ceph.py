@@ -301,6 +301,20 @@ class BadInput(Case):
         os.close(begin)
         self.assertEqual((run.returncode, run.stderr), (2, "from_ceph: error: writing: Broken pipe\n"))
 
+    def test_output_to_a_pipe_and_through_a_link(self):
+        words = ["--alone", self.file("osdmap.json", self.osdmap), self.file("crush.json", self.crush)]
+        whole = written(words)[1]
+        pipe, link, target = self.folder / "pipe", self.folder / "link", self.folder / "target"
+        os.mkfifo(pipe)
+        with subprocess.Popen(["cat", pipe], stdout=subprocess.PIPE, text=True) as reader:
+            self.assertEqual(written([*words, "--output", str(pipe)])[:2], (0, ""))
+            self.assertEqual(reader.communicate()[0], whole)
+        self.assertTrue(pipe.is_fifo())
+        link.symlink_to(target)
+        self.assertEqual(written([*words, "--output", str(link)])[:2], (0, ""))
+        self.assertTrue(link.is_symlink())
+        self.assertEqual(target.read_text(), whole)
+
     def test_a_command_line_without_a_file(self):
         self.assert_error("required", written([]))
 
