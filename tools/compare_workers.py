@@ -1,23 +1,32 @@
 #!/usr/bin/env python3
 """Runs scripts with workers and without, and says where the bytes differ.
 
-    tools/compare_workers.py [PROGRAM] [--with SHARDSxWORKERS ...] [--folder FOLDER ...] [--seconds S]
+    tools/compare_workers.py [PROGRAM] [--with SHARDSxWORKERS ...] [--folder FOLDER ...] [--stored] [--seconds S]
 
-PROGRAM is crates/pgpeer/out/pgpeer where none is given. Each script of examples/ and of each FOLDER is run with
-`--workers 0`, and then with 1 shard and 1 worker, 3 and 2, and 64 and 64, or as --with says: what is written, what is
+PROGRAM is crates/pgpeer/out/pgpeer where none is given. Each script of examples/ and of each FOLDER, and with --stored each
+of crates/pgp_scripts/stdin, where each stands under a line `# NAME`, is run with `--workers 0`, and then with 1 shard and 1 worker, 3 and 2, and 64 and 64, or as --with says: what is written, what is
 told on standard error and the status have to be the same. A script is a file whose name ends in .jsonl, but not in
 .answers.jsonl, or in .in. A run has S seconds, 120 where nothing is said. Exits with 1 where a run differs or doesn't end.
 """
 
 import argparse
 import pathlib
+import re
 import subprocess
 import sys
 from typing import List, NamedTuple, Optional, Tuple
 
 ROOT = pathlib.Path(__file__).resolve().parent.parent
 PROGRAM = ROOT / "crates" / "pgpeer" / "out" / "pgpeer"
+STORED = ROOT / "crates" / "pgp_scripts" / "stdin"
 COUNTS = [(1, 1), (3, 2), (64, 64)]  # shards and workers
+
+
+class Script(NamedTuple):
+    """A script, and what it is called."""
+
+    name: str
+    text: bytes
 
 
 class End(NamedTuple):
@@ -52,10 +61,16 @@ def difference(wanted: Optional[End], found: Optional[End]) -> Optional[str]:
     return None
 
 
-def scripts_in(folder: pathlib.Path) -> List[pathlib.Path]:
+def scripts_in(folder: pathlib.Path) -> List[Script]:
     """The scripts of a folder, by name."""
     files = [file for file in folder.iterdir() if file.suffix in (".jsonl", ".in")]
-    return sorted(file for file in files if not file.name.endswith(".answers.jsonl"))
+    return [Script(str(file), file.read_bytes()) for file in sorted(files) if not file.name.endswith(".answers.jsonl")]
+
+
+def stored_scripts(stored: bytes) -> List[Script]:
+    """The scripts that stand each under a line `# NAME`."""
+    parts = [part.partition(b"\n") for part in re.split(rb"(?m)^# ", stored)[1:]]
+    return [Script(name.decode(), text) for name, _, text in parts]
 
 
 def counts(text: str) -> Tuple[int, int]:
@@ -64,16 +79,16 @@ def counts(text: str) -> Tuple[int, int]:
     return int(shards), int(workers)
 
 
-def compared(program: str, script: pathlib.Path, options: argparse.Namespace) -> List[str]:
+def compared(program: str, script: Script, options: argparse.Namespace) -> List[str]:
     """Says for one script in which runs it differs, and how."""
-    text, wrong = script.read_bytes(), []
-    wanted = ended(program, text, 1, 0, options.seconds)
+    wrong = []
+    wanted = ended(program, script.text, 1, 0, options.seconds)
     if wanted is None:
-        wrong.append(f"{script}: no end in {options.seconds} seconds without workers")
+        wrong.append(f"{script.name}: no end in {options.seconds} seconds without workers")
     for shards, workers in options.counts or COUNTS:
-        what = difference(wanted, ended(program, text, shards, workers, options.seconds))
+        what = difference(wanted, ended(program, script.text, shards, workers, options.seconds))
         if what:
-            wrong.append(f"{script} with --shards {shards} --workers {workers}: {what}")
+            wrong.append(f"{script.name} with --shards {shards} --workers {workers}: {what}")
     return wrong
 
 
@@ -82,9 +97,11 @@ def main(words: Optional[List[str]] = None) -> int:
     parser.add_argument("program", nargs="?", default=str(PROGRAM), metavar="PROGRAM")
     parser.add_argument("--with", dest="counts", type=counts, nargs="+", metavar="SHARDSxWORKERS")
     parser.add_argument("--folder", type=pathlib.Path, action="append", default=[], metavar="FOLDER")
+    parser.add_argument("--stored", action="store_true")
     parser.add_argument("--seconds", type=float, default=120.0, metavar="S")
     options = parser.parse_args(words)
     scripts = [script for folder in [ROOT / "examples", *options.folder] for script in scripts_in(folder)]
+    scripts += stored_scripts(STORED.read_bytes()) if options.stored else []
     wrong = [what for script in scripts for what in compared(options.program, script, options)]
     for what in wrong:
         print(what)

@@ -10,7 +10,7 @@ In this order, each part with its count and its seconds:
   tests of tools/, with the program all unit tests of tools/
   examples                          each example and each line of docs/FORMAT.md has its answer (run_examples.py)
   statuses                          the program ends in each of its statuses (check_statuses.py)
-  workers                           the same bytes with workers as without (compare_workers.py)
+  workers                           examples and stored scripts have the same bytes with workers (compare_workers.py)
   fuzz                              generated scripts have the answers of the model, for a minute at most (fuzz/fuzz.py)
   allocations refused               each allocation of a short script refused in turn, with and without workers
                                     (refuse_allocations.py)
@@ -126,7 +126,7 @@ def after_gate(seed: str) -> List[Part]:
         Part("tests of tools/, with the program", tests_in("tools"), 240, unit_tests, program=PROGRAM),
         Part("examples", python("tools/run_examples.py"), 60, tried_and_wrong),
         Part("statuses", python("tools/check_statuses.py"), 60, tried_and_wrong),
-        Part("workers", python("tools/compare_workers.py", "--seconds", 30), 90, compared_runs),
+        Part("workers", python("tools/compare_workers.py", "--stored", "--seconds", 30), 90, compared_runs),
         Part(f"fuzz, seed {seed}", fuzz, 130, scripts),
     ] + [
         Part(

@@ -107,7 +107,13 @@ class CompareWorkers(WithFakes):
 
     def test_scripts_are_those_without_answers(self):
         folder = self.scripts(b_jsonl="", a_in="", b_answers_jsonl="", a_out="")
-        self.assertEqual([file.name for file in compare_workers.scripts_in(folder)], ["a.in", "b.jsonl"])
+        names = [pathlib.Path(script.name).name for script in compare_workers.scripts_in(folder)]
+        self.assertEqual(names, ["a.in", "b.jsonl"])
+
+    def test_stored_scripts_stand_under_their_names(self):
+        stored = b"# one script\n[]\n # a line of it\n# another\n"
+        found = [compare_workers.Script("one script", b"[]\n # a line of it\n"), compare_workers.Script("another", b"")]
+        self.assertEqual(compare_workers.stored_scripts(stored), found)
 
     @unittest.skipUnless(HAS_WORKERS, f"{PROGRAM} isn't there, or has no workers")
     def test_the_built_program_writes_the_same_bytes(self):

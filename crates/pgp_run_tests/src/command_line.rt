@@ -80,6 +80,9 @@ fn names_in_order(text: &[u8], words: &[&str]) -> bool {
     let mut rest = text;
     for word in words {
         let word = word.as_bytes();
+        if word.is_empty() {
+            continue;
+        }
         let Some(at) = rest.windows(word.len()).position(|part| part == word) else {
             return false;
         };

@@ -20,8 +20,4 @@ mod same;
 #[cfg(test)]
 mod script;
 #[cfg(test)]
-mod stored;
-#[cfg(test)]
-mod stored_scripts;
-#[cfg(test)]
 mod streams;
