@@ -148,13 +148,16 @@ def up_to(entries: List[Entry], epoch: int) -> List[Entry]:
 # The program
 
 
+READ_BYTES = 1 << 20  # at a time: answers with thousands of intervals are long
+
+
 def streamed(program: str, lines: Iterable[str]) -> Generator[bytes, None, None]:
     """The program's answers to the lines, one after the other."""
     with tempfile.TemporaryFile() as script, tempfile.TemporaryFile() as errors:
         script.writelines(line.encode() + b"\n" for line in lines)
         script.seek(0)
         try:
-            run = subprocess.Popen([program, "run"], stdin=script, stdout=subprocess.PIPE, stderr=errors)
+            run = subprocess.Popen([program, "run"], bufsize=READ_BYTES, stdin=script, stdout=subprocess.PIPE, stderr=errors)
         except OSError as fault:
             raise Unusable(f"{program}: {fault.strerror}") from fault
         assert run.stdout is not None
