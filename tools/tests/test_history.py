@@ -21,6 +21,7 @@ import ceph_history  # noqa: E402
 import ceph_json  # noqa: E402
 import ceph_query  # noqa: E402
 import ceph_sets  # noqa: E402
+import draw_group  # noqa: E402
 import from_ceph  # noqa: E402
 import tell_groups  # noqa: E402
 from changes import broken  # noqa: E402
@@ -365,6 +366,20 @@ class BadInput(Case):
                 if status == 2:
                     self.assertEqual(out, "")
                     self.assertEqual(err.count("error: "), 1, err)
+
+    @unittest.skipUnless(HAS_PROGRAM, f"no program {PROGRAM}")
+    def test_broken_scripts_are_drawn_and_told_or_end_with_one_line(self):
+        """Cut, empty, random and swapped scripts, and values of another kind anywhere in them."""
+        rng = random.Random(6)
+        whole, dump = (ROOT / "examples/ceph_outage.jsonl").read_text(), (OUTAGE / "a-healthy.osd.json").read_text()
+        script = self.folder / "script.jsonl"
+        for _ in range(30):
+            script.write_bytes(broken(rng, whole, dump))
+            for main in (tell_groups.main, draw_group.main):
+                status, out, err = written(main, "--program", PROGRAM, script, "1.0")
+                self.assertIn(status, (0, 2), err)
+                if status == 2:
+                    self.assertEqual((out, err.count("error: ")), ("", 1), err)
 
 
 class FolderNames(unittest.TestCase):
