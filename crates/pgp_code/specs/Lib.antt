@@ -1,3 +1,4 @@
 pub mod Enough
+pub mod Parts
 pub mod AnyCode
 pub mod Pool

@@ -2,25 +2,32 @@ ghost use Rattle.std.specs.Prelude.{◌≡◌};
 ghost use Rattle.pgp_code.specs.Pool.{code_of};
 
 use super::erasure::Erasure;
+use super::grouped::Grouped;
 use super::recoverable::Recoverable;
 use super::replicated::Replicated;
 use pgp_ids::{PoolKind, SlotSet};
 
 /// The code of any pool.
-#[derive(Clone, Copy, Debug, PartialEq, Eq)]
+#[derive(Clone, Copy, Debug)]
 pub enum AnyCode {
     Replicated(Replicated),
     Erasure(Erasure),
+    Grouped(Grouped),
 }
 
 impl AnyCode {
-    /// The code of a pool of this kind. An erasure pool without data shards, which no map takes, counts as one with one.
+    /// The code of a pool of this kind. An erasure pool without data shards counts as one with one, and so does a grouped
+    /// pool without parts or with a least number of 0. No map takes such a pool.
     pub fn of_pool(kind: PoolKind) -> Self
         ensures { result ≡ code_of kind }
     {
         match kind {
             PoolKind::Replicated => AnyCode::Replicated(Replicated),
             PoolKind::Erasure { k } => AnyCode::Erasure(Erasure::with_shards(k)),
+            PoolKind::Grouped { groups } => match Grouped::new(groups) {
+                Some(code) => AnyCode::Grouped(code),
+                None => AnyCode::Erasure(Erasure::with_shards(1)),
+            },
         }
     }
 }
@@ -40,6 +47,7 @@ impl Recoverable for AnyCode {
         match self {
             AnyCode::Replicated(code) => code.enough(have),
             AnyCode::Erasure(code) => code.enough(have),
+            AnyCode::Grouped(code) => code.enough(have),
         }
     }
 
@@ -47,6 +55,7 @@ impl Recoverable for AnyCode {
         match self {
             AnyCode::Replicated(code) => code.by_place(),
             AnyCode::Erasure(code) => code.by_place(),
+            AnyCode::Grouped(code) => code.by_place(),
         }
     }
 }

@@ -6,11 +6,13 @@
 
 mod any;
 mod erasure;
+mod grouped;
 pub mod laws;
 mod recoverable;
 mod replicated;
 
 pub use any::AnyCode;
 pub use erasure::Erasure;
+pub use grouped::Grouped;
 pub use recoverable::Recoverable;
 pub use replicated::Replicated;

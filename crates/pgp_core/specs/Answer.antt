@@ -47,12 +47,13 @@ located_reply log id name (Some pool) =
     let pg = group_in_pool id name pool in
     Located pg (pool_membership (incs_of log) pg pool) (epoch_of log)
 
--- A trace is answered by the intervals of the history that it tells. Without an epoch it tells of none.
+-- A trace is answered by the intervals of the history that it tells, of a group of which no info is known. Without an epoch it
+-- tells of none.
 abbrev pub traced_reply : PoolKind → List EpochState → Reply
 traced_reply kind [] = Traced 1 []
 traced_reply kind (opening ∷ others) =
     let history = told_history (code_of kind) opening others in
-    Traced (current_first history) (past_intervals enough_of is_by_place history)
+    Traced (current_first history) (past_intervals enough_of is_by_place [] history)
 
 abbrev pub reply_of : List Entry → Command → Reply
 reply_of log (Submit entry) = submitted_reply log entry (fits log entry)

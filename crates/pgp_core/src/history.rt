@@ -1,4 +1,4 @@
-ghost use Rattle.std.specs.Prelude.{◌<◌, IfOk, length};
+ghost use Rattle.std.specs.Prelude.{◌<◌, [], IfOk, length};
 ghost use Rattle.std.specs.Vec.Iter.{into_iter_items};
 ghost use Rattle.pgp_code.specs.AnyCode.{enough_of, is_by_place};
 ghost use Rattle.pgp_interval.specs.IntervalsOf.{IsIntervalsOf};
@@ -20,7 +20,8 @@ pub fn history(
     others: IntoIter<EpochState>,
 ) -> Result<Intervals<AnyCode>, AllocError>
     requires { length (into_iter_items others) < MAX_EPOCHS }
-    ensures { IfOk result (IsIntervalsOf enough_of is_by_place (told_history code opening (into_iter_items others))) }
+    ensures { IfOk result
+        (IsIntervalsOf enough_of is_by_place (told_history code opening (into_iter_items others)) []) }
 {
     let mut history = Intervals::begin(alloc, code, Epoch::new(1), opening.members);
     let mut facts = opening.facts;

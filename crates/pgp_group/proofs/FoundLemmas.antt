@@ -4,7 +4,6 @@ use Rattle.std.specs.List.{list_any, slice_get}
 use Rattle.std.specs.Option.{option_and_then, option_map, option_map_or}
 use Rattle.pgp_code.specs.AnyCode.{is_by_place}
 use Rattle.pgp_code.specs.declared.any.AnyCode.{AnyCode}
-use Rattle.pgp_code.specs.declared.any.AnyCode.TheVariants as code
 use Rattle.pgp_ids.specs.Member.{is_before}
 use Rattle.pgp_ids.specs.declared.member.Member.{Member}
 use Rattle.pgp_ids.specs.declared.membership.Membership.{Membership}
@@ -29,10 +28,6 @@ use Rattle.pgp_group.specs.declared.found.Found.{Found}
 use Rattle.pgp_group.specs.declared.logs.CountedLog.{CountedLog}
 
 -- ---- the best copy
-
-prefers-by_place : (c : AnyCode) (leader : Option Member) → (if is_by_place c then oldest_first leader else newest_first leader) ≡ prefers c leader
-prefers-by_place (code.Replicated c) leader = refl
-prefers-by_place (code.Erasure c) leader = refl
 
 pub best-is : (g : GroupLog) (found : Heard Preference) → AreHeard g found → best_info (prefers_by found.prefer) found.infos ≡ best g
 best-is g found are = ap₂ best_info are.prefer are.infos
@@ -77,7 +72,7 @@ pub prefer-is : (g : GroupLog) (by_place : Bool) (primary : Option Member) (curr
     → (if by_place then oldest_first primary else newest_first primary) ≡ prefers g.history.code (leader g)
 prefer-is g by_place primary current by_is current_is primary_is =
     let leads : primary ≡ leader g = primary_is ∙ (λ i. slice_get (members_of (by_is i) (current_is i).acting) 0) in
-    (λ i. if by_is i then oldest_first (leads i) else newest_first (leads i)) ∙ prefers-by_place g.history.code (leader g)
+    (λ i. if by_is i then oldest_first (leads i) else newest_first (leads i))
 
 -- ---- whom the group needs
 

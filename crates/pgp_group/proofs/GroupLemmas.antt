@@ -1,7 +1,8 @@
 -- What a group keeps as its log grows.
-use Rattle.std.proofs.Common.{◌≡◌, ◌≢◌, ◌≤◌, ℕ, List, [], ◌∷◌, ◌++◌, Option, Some, None, true, false, ◌||◌, nat_eq, refl, ap, sym, ◌∙◌, subst, inl, inr, append-nil}
+use Rattle.std.proofs.Common.{◌≡◌, ◌≢◌, ◌≤◌, ℕ, List, [], ◌∷◌, ◌++◌, Option, Some, None, true, false, ◌||◌, nat_eq, refl, ap, sym, ◌∙◌, subst, inl, inr, append-nil, map}
 use Rattle.std.specs.List.{filter, list_any}
 use Rattle.std.proofs.lemmas.Bool.{cases_Bool, true≢false}
+use Rattle.std.proofs.lemmas.List.{map-append}
 use Rattle.std.specs.Option.{option_map, option_map_or}
 use Rattle.std.specs.Prelude.{Result, Ok, Err}
 use Rattle.std.specs.Result.{OnOk}
@@ -23,6 +24,8 @@ use Rattle.pgp_interval.specs.History.{History, begun, stepped}
 use Rattle.pgp_interval.specs.IntervalsOf.{Running, IsIntervalsOf}
 use Rattle.pgp_interval.specs.Runs.{current_ending, past_intervals}
 use Rattle.pgp_interval.specs.SameMembers.{is_same}
+use Rattle.pgp_interval.specs.Raised.{raised}
+use Rattle.pgp_interval.proofs.CleanLemmas.{past_intervals-more}
 use Rattle.pgp_interval.proofs.Same.{is_same-eq, eq-is_same}
 use Rattle.pgp_interval.proofs.StepLemmas.{past_intervals-continues, past_intervals-ends}
 pub use Rattle.pgp_lists.proofs.Results.{on_err}
@@ -32,9 +35,9 @@ use Rattle.pgp_map.specs.Pools.{pool, has_group, is_same_group}
 use Rattle.pgp_sets.specs.Sets.{pool_membership, membership}
 use Rattle.pgp_group.specs.Entries.{inc_of, info_of, report_of, incs_of, infos_of, reports_of}
 use Rattle.pgp_group.specs.GroupHistory.{AreNumbered, made_at, primary_facts, group_history}
-use Rattle.pgp_group.specs.GroupLog.{GroupLog, group_in, group_with, infos, reports}
-use Rattle.pgp_group.specs.GroupOf.{Keeps, IsGroupOf, IsSilent}
-use Rattle.pgp_group.specs.Touched.{has_osd, names}
+use Rattle.pgp_group.specs.GroupLog.{GroupLog, cleans, group_in, group_with, infos, reports}
+use Rattle.pgp_group.specs.GroupOf.{Keeps, IsGroupOf, IsSilent, TellsNothingAhead}
+use Rattle.pgp_group.specs.Touched.{has_osd, names, was_member}
 use Rattle.pgp_group.specs.KeptInfos.{KeepsInfos, IsToldBy}
 use Rattle.pgp_group.specs.KeptNames.{KeepsNames}
 use Rattle.pgp_group.specs.KeptPrior.{KeepsPrior}
@@ -48,7 +51,7 @@ use Rattle.pgp_group.specs.declared.reckoned.Reckoned.{Reckoned}
 use Rattle.pgp_group.specs.declared.reports.Reports.{Reports}
 use Rattle.pgp_group.proofs.GrowthLemmas.{history-begins, history-grows, next_epoch, numbered-more}
 use Rattle.pgp_group.proofs.InfosLemmas.{KeepsInfos-same, KeepsInfos-inc, moves}
-use Rattle.pgp_group.proofs.Lists.{nothing_new, one_new, kept_new, left_new}
+use Rattle.pgp_group.proofs.Lists.{any-mapped, nothing_new, one_new, kept_new, left_new}
 use Rattle.pgp_group.proofs.NamesLemmas.{KeepsNames-begun, KeepsNames-same, KeepsNames-ended}
 use Rattle.pgp_group.proofs.PriorLemmas.{KeepsPrior-grown}
 use Rattle.pgp_group.proofs.ReportsLemmas.{KeepsReports-same, KeepsReports-inc}
@@ -57,21 +60,21 @@ use Rattle.pgp_group.proofs.RiseLemmas.{les-later}
 -- ---- an entry that brings no map
 
 -- the epoch in which the group last began to serve never falls
-les-grows : (log : List Entry) (new : Entry) (pg : PgId) (h after : History AnyCode) → les (group_with log pg h) ≤ les (group_with (log ++ new ∷ []) pg after)
+pub les-grows : (log : List Entry) (new : Entry) (pg : PgId) (h after : History AnyCode) → les (group_with log pg h) ≤ les (group_with (log ++ new ∷ []) pg after)
 les-grows log new pg h after = les-later log (new ∷ []) pg
 
 -- the past intervals stay, and the current one may join them
-past-grows : (h : History AnyCode) (members : Membership) (facts : PrimaryFacts) → (later : List Past) × (past_intervals enough_of is_by_place (stepped h members facts) ≡ past_intervals enough_of is_by_place h ++ later)
-past-grows h members facts = elim (cases_Bool (is_same members h.current)) [
+past-grows : (epochs : List ℕ) (h : History AnyCode) (members : Membership) (facts : PrimaryFacts) → (later : List Past) × (past_intervals enough_of is_by_place epochs (stepped h members facts) ≡ past_intervals enough_of is_by_place epochs h ++ later)
+past-grows epochs h members facts = elim (cases_Bool (is_same members h.current)) [
   | inl same ↦
       let stays : members ≡ h.current = is_same-eq members h.current same in (
         [],
-        ap (λ (m : Membership). past_intervals enough_of is_by_place (stepped h m facts)) stays
-            ∙ past_intervals-continues enough_of is_by_place h facts ∙ sym (append-nil (past_intervals enough_of is_by_place h)),
+        ap (λ (m : Membership). past_intervals enough_of is_by_place epochs (stepped h m facts)) stays
+            ∙ past_intervals-continues enough_of is_by_place epochs h facts ∙ sym (append-nil (past_intervals enough_of is_by_place epochs h)),
       )
   | inr moved ↦ (
-    current_ending enough_of is_by_place h facts ∷ [],
-    past_intervals-ends enough_of is_by_place h members facts (λ same. true≢false (sym (eq-is_same members h.current same) ∙ moved)),
+    current_ending enough_of is_by_place epochs h facts ∷ [],
+    past_intervals-ends enough_of is_by_place epochs h members facts (λ same. true≢false (sym (eq-is_same members h.current same) ∙ moved)),
   )
 ]
 
@@ -79,14 +82,29 @@ past-grows h members facts = elim (cases_Bool (is_same members h.current)) [
 abbrev pub left_alone : Group → Running AnyCode × Reckoned
 left_alone group = (group.intervals, group.reckoned)
 
--- what a group has, after an entry that brings no map
+-- the epochs in which the group was clean are those of before, where no info of it came
+cleans-same : (g after : GroupLog) → infos after ≡ infos g → cleans after ≡ cleans g
+cleans-same g after told = ap (map (λ (info : Info). info.last_epoch_clean)) told
+
+-- and so are its past intervals, where its history stays too
+pub past-same : (g after : GroupLog) → after.history ≡ g.history → infos after ≡ infos g → past after ≡ past g
+past-same g after same told = λ i. past_intervals enough_of is_by_place (cleans-same g after told i) (same i)
+
+-- the intervals are those of the group still
+intervals-same : (g after : GroupLog) (intervals : Running AnyCode) → infos after ≡ infos g → IsIntervalsOf enough_of is_by_place after.history (cleans g) intervals → IsIntervalsOf enough_of is_by_place after.history (cleans after) intervals
+intervals-same g after intervals told is = subst (λ (epochs : List ℕ). IsIntervalsOf enough_of is_by_place after.history epochs intervals) (sym (cleans-same g after told)) is
+
+-- what a group has, after an entry that brings neither a map nor an info of the group
 pub IsGroupOf-other : (log : List Entry) (new : Entry) (pg : PgId) (old group : Group) (is : IsGroupOf log pg old) → inc_of new ≡ None
+    → filter (λ (i : Info). is_same_group i.pg pg) (infos_of (log ++ new ∷ [])) ≡ filter (λ (i : Info). is_same_group i.pg pg) (infos_of log)
     → group.pg ≡ old.pg → left_alone group ≡ left_alone old
     → KeepsInfos (group_with (log ++ new ∷ []) pg is.history) group.infos
     → KeepsReports (group_with (log ++ new ∷ []) pg is.history) group.reports
     → KeepsNames (group_with (log ++ new ∷ []) pg is.history) group.named
     → IsGroupOf (log ++ new ∷ []) pg group
-IsGroupOf-other log new pg old group is none pg_is left infos' reports' named' =
+IsGroupOf-other log new pg old group is none told pg_is left infos' reports' named' =
+    let g : GroupLog = group_with log pg is.history in
+    let after : GroupLog = group_with (log ++ new ∷ []) pg is.history in
     let incs : incs_of (log ++ new ∷ []) ≡ incs_of log = nothing_new inc_of log new none in
     record {
       history = is.history;
@@ -94,13 +112,14 @@ IsGroupOf-other log new pg old group is none pg_is left infos' reports' named' =
       numbered = subst AreNumbered (sym incs) is.numbered;
       keeps = record {
         pg_is = pg_is ∙ is.keeps.pg_is;
-        intervals_are = subst (IsIntervalsOf enough_of is_by_place is.history) (sym (ap (λ (parts : Running AnyCode × Reckoned). parts.0) left)) is.keeps.intervals_are;
+        intervals_are = intervals-same g after group.intervals told
+            (subst (IsIntervalsOf enough_of is_by_place is.history (cleans g)) (sym (ap (λ (parts : Running AnyCode × Reckoned). parts.0) left)) is.keeps.intervals_are);
         infos_are = infos';
         reports_are = reports';
         named_are = named';
-        prior_is = subst (KeepsPrior (group_with (log ++ new ∷ []) pg is.history)) (sym (ap (λ (parts : Running AnyCode × Reckoned). parts.1) left))
-            (KeepsPrior-grown (group_with log pg is.history) (group_with (log ++ new ∷ []) pg is.history) old.reckoned [] refl
-            (sym (append-nil (past (group_with log pg is.history)))) (les-grows log new pg is.history is.history) is.keeps.prior_is);
+        prior_is = subst (KeepsPrior after) (sym (ap (λ (parts : Running AnyCode × Reckoned). parts.1) left))
+            (KeepsPrior-grown g after old.reckoned [] refl
+            (past-same g after refl told ∙ sym (append-nil (past g))) (les-grows log new pg is.history is.history) is.keeps.prior_is);
       };
     }
 
@@ -151,7 +170,8 @@ pub names-kept : (log : List Entry) (new : Entry) (pg : PgId) (h : History AnyCo
     → filter (λ (report : Report). is_same_group report.pg pg) (reports_of (log ++ new ∷ [])) ≡ filter (λ (report : Report). is_same_group report.pg pg) (reports_of log)
     → KeepsNames (group_with log pg h) named → KeepsNames (group_with (log ++ new ∷ []) pg h) named
 names-kept log new pg h named told sent is =
-    KeepsNames-same (group_with log pg h) (group_with (log ++ new ∷ []) pg h) named named refl told sent refl is
+    KeepsNames-same (group_with log pg h) (group_with (log ++ new ∷ []) pg h) named named
+    (past-same (group_with log pg h) (group_with (log ++ new ∷ []) pg h) refl told) told sent refl is
 
 -- an info of the group
 pub infos-told : (log : List Entry) (info : Info) (pg : PgId) (h : History AnyCode) → is_same_group info.pg pg ≡ true
@@ -171,18 +191,60 @@ reports-told log report pg h same = record {
   history_is = refl;
 }
 
+-- the epochs in which the group was clean, by one info more
+pub cleans-told : (log : List Entry) (info : Info) (pg : PgId) (h : History AnyCode) → is_same_group info.pg pg ≡ true
+    → cleans (group_with (log ++ entry.Info info ∷ []) pg h) ≡ cleans (group_with log pg h) ++ info.last_epoch_clean ∷ []
+cleans-told log info pg h same =
+    ap (map (λ (i : Info). i.last_epoch_clean)) (infos-new log info pg same)
+    ∙ map-append (λ (i : Info). i.last_epoch_clean) (infos (group_with log pg h)) (info ∷ [])
+
+-- in its past intervals the same devices stood
+pub stood-told : (log : List Entry) (info : Info) (pg : PgId) (h : History AnyCode) → is_same_group info.pg pg ≡ true → (osd : ℕ)
+    → list_any (was_member osd) (past (group_with (log ++ entry.Info info ∷ []) pg h)) ≡ list_any (was_member osd) (past (group_with log pg h))
+stood-told log info pg h same osd =
+    let epochs : List ℕ = cleans (group_with log pg h) in
+    let more : List ℕ = info.last_epoch_clean ∷ [] in
+    ap (λ (told : List ℕ). list_any (was_member osd) (past_intervals enough_of is_by_place told h)) (cleans-told log info pg h same)
+    ∙ ap (list_any (was_member osd)) (past_intervals-more enough_of is_by_place epochs more h)
+    ∙ any-mapped (raised (enough_of h.code) (is_by_place h.code) more) (was_member osd) (past_intervals enough_of is_by_place epochs h)
+
+-- what a group has, after an info of it
+pub IsGroupOf-told : (log : List Entry) (info : Info) (pg : PgId) (old group : Group) (is : IsGroupOf log pg old) → group.pg ≡ old.pg
+    → IsIntervalsOf enough_of is_by_place is.history (cleans (group_with (log ++ entry.Info info ∷ []) pg is.history)) group.intervals
+    → KeepsInfos (group_with (log ++ entry.Info info ∷ []) pg is.history) group.infos
+    → KeepsReports (group_with (log ++ entry.Info info ∷ []) pg is.history) group.reports
+    → KeepsNames (group_with (log ++ entry.Info info ∷ []) pg is.history) group.named
+    → KeepsPrior (group_with (log ++ entry.Info info ∷ []) pg is.history) group.reckoned
+    → IsGroupOf (log ++ entry.Info info ∷ []) pg group
+IsGroupOf-told log info pg old group is pg_is intervals infos' reports' named' prior' =
+    let incs : incs_of (log ++ entry.Info info ∷ []) ≡ incs_of log = nothing_new inc_of log (entry.Info info) refl in
+    record {
+      history = is.history;
+      history_is = ap (λ (l : List Incremental). group_history l pg) incs ∙ is.history_is;
+      numbered = subst AreNumbered (sym incs) is.numbered;
+      keeps = record {
+        pg_is = pg_is ∙ is.keeps.pg_is;
+        intervals_are = intervals;
+        infos_are = infos';
+        reports_are = reports';
+        named_are = named';
+        prior_is = prior';
+      };
+    }
+
 -- ---- an incremental
 
 pub IsGroupOf-inc : (log : List Entry) (inc : Incremental) (pg : PgId) (old group : Group) (members : Membership) (is : IsGroupOf log pg old) → map_fault (incs_of log) inc ≡ None
     → membership (then_with (incs_of log) inc) pg ≡ Some members
     → group.pg ≡ old.pg → group.infos ≡ old.infos → group.reports ≡ old.reports → group.reckoned ≡ old.reckoned
-    → IsIntervalsOf enough_of is_by_place (stepped is.history members (primary_facts (incs_of log) is.history.current.acting_primary)) group.intervals
+    → IsIntervalsOf enough_of is_by_place (stepped is.history members (primary_facts (incs_of log) is.history.current.acting_primary)) (cleans (group_with log pg is.history)) group.intervals
     → KeepsNames (group_with (log ++ entry.Inc inc ∷ []) pg (stepped is.history members (primary_facts (incs_of log) is.history.current.acting_primary))) group.named
     → IsGroupOf (log ++ entry.Inc inc ∷ []) pg group
 IsGroupOf-inc log inc pg old group members is fine lies pg_is infos' reports' reckoned' intervals named' =
     let incs : incs_of (log ++ entry.Inc inc ∷ []) ≡ then_with (incs_of log) inc = one_new inc_of log (entry.Inc inc) inc refl in
     let after : History AnyCode = stepped is.history members (primary_facts (incs_of log) is.history.current.acting_primary) in
-    let grown = past-grows is.history members (primary_facts (incs_of log) is.history.current.acting_primary) in
+    let told = infos-same log (entry.Inc inc) pg refl in
+    let grown = past-grows (cleans (group_with log pg is.history)) is.history members (primary_facts (incs_of log) is.history.current.acting_primary) in
     record {
       history = after;
       history_is = ap (λ (l : List Incremental). group_history l pg) incs
@@ -191,10 +253,10 @@ IsGroupOf-inc log inc pg old group members is fine lies pg_is infos' reports' re
       numbered = subst AreNumbered (sym incs) (numbered-more (incs_of log) inc is.numbered fine);
       keeps = record {
         pg_is = pg_is ∙ is.keeps.pg_is;
-        intervals_are = intervals;
+        intervals_are = intervals-same (group_with log pg is.history) (group_with (log ++ entry.Inc inc ∷ []) pg after) group.intervals told intervals;
         infos_are = subst (KeepsInfos (group_with (log ++ entry.Inc inc ∷ []) pg after)) (sym infos')
             (KeepsInfos-inc (group_with log pg is.history) (group_with (log ++ entry.Inc inc ∷ []) pg after) inc old.infos
-            (infos-same log (entry.Inc inc) pg refl) incs (next_epoch (incs_of log) inc fine)
+            told incs (next_epoch (incs_of log) inc fine)
             (moves (incs_of log) pg is.history members (primary_facts (incs_of log) is.history.current.acting_primary) is.numbered is.history_is)
             is.keeps.infos_are);
         reports_are = subst (KeepsReports (group_with (log ++ entry.Inc inc ∷ []) pg after)) (sym reports')
@@ -205,7 +267,7 @@ IsGroupOf-inc log inc pg old group members is fine lies pg_is infos' reports' re
         named_are = named';
         prior_is = subst (KeepsPrior (group_with (log ++ entry.Inc inc ∷ []) pg after)) (sym reckoned')
             (KeepsPrior-grown (group_with log pg is.history) (group_with (log ++ entry.Inc inc ∷ []) pg after) old.reckoned grown.0 refl
-            grown.1 (les-grows log (entry.Inc inc) pg is.history after) is.keeps.prior_is);
+            (past-same (group_with log pg after) (group_with (log ++ entry.Inc inc ∷ []) pg after) refl told ∙ grown.1) (les-grows log (entry.Inc inc) pg is.history after) is.keeps.prior_is);
       };
     }
 
@@ -214,7 +276,9 @@ pub names-stay : (log : List Entry) (inc : Incremental) (pg : PgId) (h : History
     → KeepsNames (group_with log pg h) named → KeepsNames (group_with (log ++ entry.Inc inc ∷ []) pg (stepped h h.current facts)) named
 names-stay log inc pg h facts named is =
     KeepsNames-same (group_with log pg h) (group_with (log ++ entry.Inc inc ∷ []) pg (stepped h h.current facts)) named named
-    (past_intervals-continues enough_of is_by_place h facts) (infos-same log (entry.Inc inc) pg refl) (reports-same log (entry.Inc inc) pg refl) refl is
+    (past-same (group_with log pg (stepped h h.current facts)) (group_with (log ++ entry.Inc inc ∷ []) pg (stepped h h.current facts)) refl (infos-same log (entry.Inc inc) pg refl)
+    ∙ past_intervals-continues enough_of is_by_place (cleans (group_with log pg h)) h facts)
+    (infos-same log (entry.Inc inc) pg refl) (reports-same log (entry.Inc inc) pg refl) refl is
 
 -- the interval ends
 pub names-end : (log : List Entry) (inc : Incremental) (pg : PgId) (h : History AnyCode) (members : Membership) (facts : PrimaryFacts) (old mid new : Named) → members ≢ h.current
@@ -222,8 +286,9 @@ pub names-end : (log : List Entry) (inc : Incremental) (pg : PgId) (h : History 
     → ((osd : ℕ) → list_any (nat_eq osd) new.osds.items ≡ (has_osd osd h.current.acting || list_any (nat_eq osd) mid.osds.items))
     → KeepsNames (group_with log pg h) old → KeepsNames (group_with (log ++ entry.Inc inc ∷ []) pg (stepped h members facts)) new
 names-end log inc pg h members facts old mid new differ up acting is =
-    KeepsNames-ended (group_with log pg h) (group_with (log ++ entry.Inc inc ∷ []) pg (stepped h members facts)) old mid new (current_ending enough_of is_by_place h facts)
-    (past_intervals-ends enough_of is_by_place h members facts differ) (infos-same log (entry.Inc inc) pg refl) (reports-same log (entry.Inc inc) pg refl) up acting is
+    KeepsNames-ended (group_with log pg h) (group_with (log ++ entry.Inc inc ∷ []) pg (stepped h members facts)) old mid new (current_ending enough_of is_by_place (cleans (group_with log pg h)) h facts)
+    (past-same (group_with log pg (stepped h members facts)) (group_with (log ++ entry.Inc inc ∷ []) pg (stepped h members facts)) refl (infos-same log (entry.Inc inc) pg refl)
+    ∙ past_intervals-ends enough_of is_by_place (cleans (group_with log pg h)) h members facts differ) (infos-same log (entry.Inc inc) pg refl) (reports-same log (entry.Inc inc) pg refl) up acting is
 
 -- ---- the first epoch
 
@@ -238,7 +303,7 @@ begun_as incs pg kind members (Some made) is lies =
 pub IsGroupOf-begun : (log : List Entry) (pg : PgId) (kind : PoolKind) (members : Membership) (group : Group) → AreNumbered (incs_of log) → has_group (incs_of log) pg ≡ true → made_at (incs_of log) pg.pool ≡ epoch (incs_of log) → IsSilent log pg
     → option_map (λ made. made.kind) (pool (incs_of log) pg.pool) ≡ Some kind → membership (incs_of log) pg ≡ Some members
     → group.pg ≡ pg → ((g : GroupLog) → infos g ≡ [] → KeepsInfos g group.infos) → ((g : GroupLog) → reports g ≡ [] → KeepsReports g group.reports)
-    → IsIntervalsOf enough_of is_by_place (begun (code_of kind) (epoch (incs_of log)) members) group.intervals → group.named.osds.items ≡ []
+    → IsIntervalsOf enough_of is_by_place (begun (code_of kind) (epoch (incs_of log)) members) [] group.intervals → group.named.osds.items ≡ []
     → ((g : GroupLog) → g.history.code ≡ code_of kind → KeepsPrior g group.reckoned)
     → IsGroupOf log pg group
 IsGroupOf-begun log pg kind members group counts there now silent is lies pg_is none nothing intervals nobody unasked = record {
@@ -247,7 +312,8 @@ IsGroupOf-begun log pg kind members group counts there now silent is lies pg_is 
   numbered = counts;
   keeps = record {
     pg_is = pg_is;
-    intervals_are = intervals;
+    intervals_are = subst (λ (told : List Info). IsIntervalsOf enough_of is_by_place (begun (code_of kind) (epoch (incs_of log)) members) (map (λ info. info.last_epoch_clean) told) group.intervals)
+        (sym silent.infos) intervals;
     infos_are = none (group_with log pg (begun (code_of kind) (epoch (incs_of log)) members)) silent.infos;
     reports_are = nothing (group_with log pg (begun (code_of kind) (epoch (incs_of log)) members)) silent.reports;
     named_are = KeepsNames-begun (group_with log pg (begun (code_of kind) (epoch (incs_of log)) members)) group.named refl silent.infos silent.reports nobody;
@@ -263,7 +329,7 @@ IsGroupOf-same log pg old group is pg_is intervals infos' reports' named' reckon
   numbered = is.numbered;
   keeps = record {
     pg_is = pg_is ∙ is.keeps.pg_is;
-    intervals_are = subst (IsIntervalsOf enough_of is_by_place is.history) (sym intervals) is.keeps.intervals_are;
+    intervals_are = subst (IsIntervalsOf enough_of is_by_place is.history (cleans (group_with log pg is.history))) (sym intervals) is.keeps.intervals_are;
     infos_are = infos' (group_with log pg is.history) is.keeps.infos_are;
     reports_are = reports' (group_with log pg is.history) is.keeps.reports_are;
     named_are = KeepsNames-same (group_with log pg is.history) (group_with log pg is.history) old.named group.named refl refl refl named' is.keeps.named_are;
@@ -295,9 +361,13 @@ StandsLike old group = (log : List Entry) (pg : PgId) → IsGroupOf log pg old �
 abbrev pub StandsWith : Entry → Group → Group → Type 0
 StandsWith new old group = (log : List Entry) (pg : PgId) → IsGroupOf log pg old → IsGroupOf (log ++ new ∷ []) pg group
 
+-- the same of an info, which names no epoch that is still to come as one in which the group was clean
+abbrev pub TakesInfo : Info → Group → Group → Type 0
+TakesInfo info old group = (log : List Entry) (pg : PgId) → (is_same_group info.pg pg ≡ true → info.last_epoch_clean ≤ epoch (incs_of log)) → IsGroupOf log pg old → IsGroupOf (log ++ entry.Info info ∷ []) pg group
+
 -- the same, where the entry brings no map
 abbrev pub TakesReport : Entry → Group → Group → Type 0
-TakesReport new old group = (log : List Entry) (pg : PgId) → inc_of new ≡ None → IsGroupOf log pg old → IsGroupOf (log ++ new ∷ []) pg group
+TakesReport new old group = (log : List Entry) (pg : PgId) → inc_of new ≡ None → TellsNothingAhead log pg new → IsGroupOf log pg old → IsGroupOf (log ++ new ∷ []) pg group
 
 -- ---- what holds of a result
 

@@ -20,8 +20,9 @@ use Rattle.pgp_ids.specs.declared.verdict.Verdict.{Verdict}
 use Rattle.pgp_ids.specs.declared.verdict.Verdict.TheVariants as the
 use Rattle.pgp_info.proofs.SameInfos.{same_best}
 use Rattle.pgp_interval.specs.History.{History}
-use Rattle.pgp_interval.specs.Runs.{current_first, past_intervals}
-use Rattle.pgp_lists.proofs.Members.{Contains-nil, Contains-here, Contains-later, Contains-cases, contains-filter, filter-contains, find-some}
+use Rattle.pgp_interval.specs.Runs.{current_first}
+use Rattle.pgp_interval.proofs.CleanLemmas.{past_intervals-same}
+use Rattle.pgp_lists.proofs.Members.{Contains-nil, Contains-here, Contains-later, Contains-cases, contains-filter, contains-map, filter-contains, find-some, map-contains}
 use Rattle.pgp_map.specs.Devices.{is_up, up_from, up_thru}
 use Rattle.pgp_map.specs.Map.{epoch}
 use Rattle.pgp_missing.specs.Log.{is_whole}
@@ -31,10 +32,10 @@ use Rattle.pgp_prior.specs.declared.prior_set.Prior.{Prior}
 use Rattle.pgp_sets.specs.Status.{status}
 use Rattle.pgp_group.specs.Entries.{incs_of}
 use Rattle.pgp_group.specs.GroupHistory.{group_history}
-use Rattle.pgp_group.specs.GroupLog.{group_with, infos, reports}
+use Rattle.pgp_group.specs.GroupLog.{cleans, group_with, infos, reports}
 use Rattle.pgp_group.specs.Heard.{counted_infos, has_member, heard, last_of_each_member, les, reported}
 use Rattle.pgp_group.specs.Interleaving.{TellTheSame, with_count}
-use Rattle.pgp_group.specs.Peering.{prior, leader, best, whole_best, peer_states, present_members, info_of}
+use Rattle.pgp_group.specs.Peering.{past, prior, leader, best, whole_best, peer_states, present_members, info_of}
 use Rattle.pgp_group.specs.Prefers.{prefers}
 use Rattle.pgp_group.specs.Verdict.{holds, in_order}
 use Rattle.pgp_group.specs.View.{view_of, scratch}
@@ -202,11 +203,35 @@ has_member-same : (log other : List Entry) (pg : PgId) (h : History AnyCode) →
 has_member-same log other pg h same member =
     any-found (is_of member) (heard (group_with log pg h)) ∙ ap is_some (heard-same log other pg h same member) ∙ sym (any-found (is_of member) (heard (group_with other pg h)))
 
+-- ---- in which epochs it was clean
+
+told_back : (log other : List Entry) (pg : PgId) → TellTheSame log other pg → TellTheSame other log pg
+told_back log other pg same = record {
+  incs = sym same.incs;
+  infos = λ member. sym (same.infos member);
+  reports = λ member. sym (same.reports member);
+}
+
+clean-among : (log other : List Entry) (pg : PgId) (h : History AnyCode) → TellTheSame log other pg → (epoch : ℕ) → Contains (cleans (group_with log pg h)) epoch → Contains (cleans (group_with other pg h)) epoch
+clean-among log other pg h same epoch there =
+    let clean : Info → ℕ = λ info. info.last_epoch_clean in
+    let told = map-contains clean (infos (group_with log pg h)) epoch there in
+    let told' = alike-among (infos (group_with log pg h)) (infos (group_with other pg h)) same.infos told.0 told.1.0 in
+    subst (Contains (cleans (group_with other pg h))) told.1.1 (contains-map clean (infos (group_with other pg h)) told.0 told')
+
+past-same : (log other : List Entry) (pg : PgId) (h : History AnyCode) → TellTheSame log other pg → past (group_with log pg h) ≡ past (group_with other pg h)
+past-same log other pg h same =
+    past_intervals-same enough_of is_by_place (cleans (group_with log pg h)) (cleans (group_with other pg h)) h
+    (clean-among log other pg h same) (clean-among other log pg h (told_back log other pg same))
+
 -- ---- what it finds out
 
 prior-same : (log other : List Entry) (pg : PgId) (h : History AnyCode) → TellTheSame log other pg → prior (group_with log pg h) ≡ prior (group_with other pg h)
 prior-same log other pg h same =
-    ap₂ (λ (incs : List Incremental) (les : ℕ). prior_set (enough_of h.code) (is_by_place h.code) (status incs) les (past_intervals enough_of is_by_place h) h.current) same.incs (les-same log other pg h same)
+    let incs = same.incs in
+    let started = les-same log other pg h same in
+    let intervals = past-same log other pg h same in
+    λ i. prior_set (enough_of h.code) (is_by_place h.code) (status (incs i)) (started i) (intervals i) h.current
 
 best-same : (log other : List Entry) (pg : PgId) (h : History AnyCode) → TellTheSame log other pg → best (group_with log pg h) ≡ best (group_with other pg h)
 best-same log other pg h same =
@@ -253,6 +278,7 @@ view-same : (log other : List Entry) (pg : PgId) (h : History AnyCode) → TellT
 view-same log other pg h same =
     let incs = same.incs in
     let started = les-same log other pg h same in
+    let intervals = past-same log other pg h same in
     let needs = prior-same log other pg h same in
     let by = best-same log other pg h same in
     let others = states-same log other pg h same in
@@ -265,7 +291,7 @@ view-same log other pg h same =
       acting = h.current.acting;
       acting_primary = h.current.acting_primary;
       first = current_first h;
-      intervals = past_intervals enough_of is_by_place h;
+      intervals = intervals i;
       les = started i;
       probe = (needs i).probe;
       blocked_by = (needs i).blocked_by;

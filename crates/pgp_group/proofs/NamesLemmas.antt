@@ -1,5 +1,5 @@
 -- Of which devices a group speaks, as its log grows.
-use Rattle.std.proofs.Common.{◌≡◌, ℕ, List, [], ◌∷◌, ◌++◌, Bool, ◌||◌, nat_eq, ap, sym, ◌∙◌, arith}
+use Rattle.std.proofs.Common.{◌≡◌, ℕ, List, [], ◌∷◌, ◌++◌, Bool, ◌||◌, nat_eq, refl, ap, sym, ◌∙◌, arith}
 use Rattle.std.specs.List.{list_any}
 use Rattle.std.proofs.Math.Bool.{or-false, or_comm}
 use Rattle.std.proofs.lemmas.Bool.Decides.{nat_tests}
@@ -54,11 +54,12 @@ KeepsNames-begun g kept stands told sent none osd = ap (list_any (nat_eq osd)) n
 pub KeepsNames-same : (g after : GroupLog) (old new : Named) → past after ≡ past g → infos after ≡ infos g → reports after ≡ reports g → new.osds.items ≡ old.osds.items → KeepsNames g old → KeepsNames after new
 KeepsNames-same g after old new stands told sent same is osd = ap (list_any (nat_eq osd)) same ∙ is osd ∙ sym (names-by osd after (past g) (infos g) (reports g) stands told sent)
 
-pub KeepsNames-info : (g after : GroupLog) (old new : Named) (info : Info) → past after ≡ past g → infos after ≡ infos g ++ info ∷ [] → reports after ≡ reports g → new.osds.items ≡ with_item before info.member.osd old.osds.items → KeepsNames g old → KeepsNames after new
+pub KeepsNames-info : (g after : GroupLog) (old new : Named) (info : Info) → ((osd : ℕ) → list_any (was_member osd) (past after) ≡ list_any (was_member osd) (past g)) → infos after ≡ infos g ++ info ∷ [] → reports after ≡ reports g → new.osds.items ≡ with_item before info.member.osd old.osds.items → KeepsNames g old → KeepsNames after new
 KeepsNames-info g after old new info stands told sent put is osd =
     let sender : Bool = nat_eq info.member.osd osd in
     let there : names osd after ≡ (sender || names osd g) =
-    names-by osd after (past g) (infos g ++ info ∷ []) (reports g) stands told sent
+    names-by osd after (past after) (infos g ++ info ∷ []) (reports g) refl told sent
+    ∙ ap (λ b. b || sent_info osd (infos g ++ info ∷ []) || sent_report osd (reports g)) (stands osd)
     ∙ ap (λ b. stood osd (past g) || b || sent_report osd (reports g)) (more (λ (i : Info). nat_eq i.member.osd osd) (infos g) info)
     ∙ second_out sender (stood osd (past g)) (sent_info osd (infos g)) (sent_report osd (reports g)) in
     ap (list_any (nat_eq osd)) put ∙ with_item-has osd info.member.osd old.osds.items

@@ -37,9 +37,9 @@ use Rattle.pgp_group.proofs.HistoryLemmas.{history-current}
 use Rattle.pgp_group.proofs.PeerLemmas.{filter_map-contains}
 use Rattle.pgp_group.proofs.ViewLemmas.{history_there}
 
--- the past intervals by the code of the pool
-abbrev pub past_of : History AnyCode → List Past
-past_of h = past_intervals enough_of is_by_place h
+-- the past intervals by the code of the pool, where the group was clean in these epochs
+abbrev pub past_of : List ℕ → History AnyCode → List Past
+past_of cleans h = past_intervals enough_of is_by_place cleans h
 
 -- ---- one incremental more
 
@@ -60,12 +60,12 @@ grows incs inc pg h after checked is then' =
 pub record GoesOn (h after : History AnyCode) : Type 0 where
   pub current : after.current ≡ h.current
   pub first : current_first after ≡ current_first h
-  pub past : past_of after ≡ past_of h
+  pub past : (cleans : List ℕ) → past_of cleans after ≡ past_of cleans h
 
 -- or it ends with these facts, and the next one opens with this epoch
 pub record Ends (epoch : ℕ) (facts : PrimaryFacts) (h after : History AnyCode) : Type 0 where
   pub first : current_first after ≡ epoch
-  pub past : past_of after ≡ past_of h ++ current_ending enough_of is_by_place h facts ∷ []
+  pub past : (cleans : List ℕ) → past_of cleans after ≡ past_of cleans h ++ current_ending enough_of is_by_place cleans h facts ∷ []
 
 pub data Moves (incs : List Incremental) (inc : Incremental) (h after : History AnyCode) : Type 0 where
   on : after.code ≡ h.code → GoesOn h after → Moves incs inc h after
@@ -84,7 +84,7 @@ moves incs inc pg h after checked is then' =
           on code (record {
             current = ap (λ (t : History AnyCode). t.current) continued;
             first = ap current_first continued ∙ current_first-continues h facts;
-            past = ap past_of continued ∙ past_intervals-continues enough_of is_by_place h facts;
+            past = λ cleans. ap (past_of cleans) continued ∙ past_intervals-continues enough_of is_by_place cleans h facts;
           })
       | inr differ ↦
           let moved : g.members ≢ h.current = λ same. true≢false (sym (eq-is_same g.members h.current same) ∙ differ) in
@@ -93,7 +93,7 @@ moves incs inc pg h after checked is then' =
           let opened : current_first after ≡ h.first + last_place h + 1 = ap current_first (sym g.is) ∙ current_first-ends h g.members facts moved in
           ends code (record {
             first = omega (arith, opened, history-last incs pg h counts is, next_epoch incs inc fine);
-            past = ap past_of (sym g.is) ∙ past_intervals-ends enough_of is_by_place h g.members facts moved;
+            past = λ cleans. ap (past_of cleans) (sym g.is) ∙ past_intervals-ends enough_of is_by_place cleans h g.members facts moved;
           })
     ]
 
@@ -103,7 +103,7 @@ moves incs inc pg h after checked is then' =
 -- and not after the last epoch
 pub record IsOpened (incs : List Incremental) (h : History AnyCode) : Type 0 where
   pub since : (osd : ℕ) → h.current.acting_primary ≡ Some osd → up_from incs osd ≤ current_first h
-  pub later : (interval : Past) → Contains (past_of h) interval → interval.first < current_first h
+  pub later : (cleans : List ℕ) (interval : Past) → Contains (past_of cleans h) interval → interval.first < current_first h
   pub within : current_first h ≤ epoch incs
 
 -- ---- who serves is up
@@ -155,7 +155,7 @@ opened-begun incs inc pg after checked absent is =
     let made = map_some (λ (pool : PoolSpec). begun (code_of pool.kind) inc.epoch (pool_membership (then_with incs inc) pg pool)) (pool (then_with incs inc) pg.pool) after (sym begins ∙ is) in
     subst (IsOpened (then_with incs inc)) made.2 (record {
       since = λ osd leads. omega (arith, up_from-within osd (then_with incs inc) checked, epoch-snoc incs inc);
-      later = λ interval in'. absurd (Contains-nil interval in');
+      later = λ cleans interval in'. absurd (Contains-nil interval in');
       within = omega (arith, epoch-snoc incs inc);
     })
 
@@ -170,15 +170,15 @@ opened-next incs inc pg h after checked is then' opened =
         since = λ osd leads.
             let led : h.current.acting_primary ≡ Some osd = ap (λ (m : Membership). m.acting_primary) (sym goes.current) ∙ leads in
             omega (arith, up_from-stays incs inc osd fine (primary-up incs pg h osd is led), opened.since osd led, goes.first);
-        later = λ interval in'.
-            omega (arith, opened.later interval (subst (λ (l : List Past). Contains l interval) goes.past in'), goes.first);
+        later = λ cleans interval in'.
+            omega (arith, opened.later cleans interval (subst (λ (l : List Past). Contains l interval) (goes.past cleans) in'), goes.first);
         within = omega (arith, goes.first, within, next);
       }
       | ends code over ↦ record {
         since = λ osd leads. omega (arith, up_from-within osd (then_with incs inc) checked, epoch-snoc incs inc, over.first);
-        later = λ interval in'.
-            elim (append-contains (past_of h) _ interval (subst (λ (l : List Past). Contains l interval) over.past in')) [
-              | inl before ↦ omega (arith, opened.later interval before, within, over.first, next_epoch incs inc fine)
+        later = λ cleans interval in'.
+            elim (append-contains (past_of cleans h) _ interval (subst (λ (l : List Past). Contains l interval) (over.past cleans) in')) [
+              | inl before ↦ omega (arith, opened.later cleans interval before, within, over.first, next_epoch incs inc fine)
               | inr last ↦ elim (Contains-cases _ [] interval last) [
                 | inl here ↦
                     let first : current_first h ≡ interval.first = ap (λ (p : Past). p.first) here in

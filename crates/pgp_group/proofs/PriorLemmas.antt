@@ -1,14 +1,15 @@
 -- What is kept of the prior set of a group, at a look and while the log grows.
-use Rattle.std.proofs.Common.{◌≡◌, ℕ, ◌+◌, ◌≤◌, List, [], ◌∷◌, ◌++◌, Some, true, length, length-append, refl, ap, sym, ◌∙◌, subst, inl, inr, arith, take, slice_get}
+use Rattle.std.proofs.Common.{◌≡◌, ℕ, zero, suc, ◌+◌, ◌≤◌, List, [], ◌∷◌, ◌++◌, Some, true, length, length-append, refl, ap, sym, ◌∙◌, subst, inl, inr, arith, take, slice_get}
 use Rattle.std.specs.List.{Contains}
 use Rattle.std.proofs.lemmas.List.{take_all, take_more, take-append-le}
 use Rattle.std.proofs.lemmas.Option.{get_or_from_slice_get, slice_get_within}
 use Rattle.pgp_code.specs.AnyCode.{enough_of, is_by_place}
 use Rattle.pgp_code.specs.declared.any.AnyCode.{AnyCode}
+use Rattle.pgp_ids.specs.Past.{raised_at}
 use Rattle.pgp_ids.specs.declared.member.Member.{Member}
 use Rattle.pgp_ids.specs.declared.membership.Membership.{Membership}
 use Rattle.pgp_ids.specs.declared.past.Past.{Past}
-use Rattle.pgp_lists.proofs.Members.{append-contains, map-contains, Contains-cases, Contains-nil}
+use Rattle.pgp_lists.proofs.Members.{append-contains, map-contains, Contains-cases, Contains-here, Contains-later, Contains-nil}
 use Rattle.pgp_map.specs.MapOf.{IsMapOf}
 use Rattle.pgp_map.specs.declared.map.OsdMap.{OsdMap}
 use Rattle.pgp_prior.specs.IndexOf.{Basis, IsIndexOf}
@@ -154,4 +155,64 @@ KeepsPrior-grown g after kept later code grown rises is =
       index_is = is.index_is;
       has_each = is.has_each;
       gives_each = is.gives_each;
+    }
+
+-- ---- a flag rises
+
+take-raised : (n place : ℕ) (past : List Past) → take n (raised_at place past) ≡ raised_at place (take n past)
+take-raised zero place past = refl
+take-raised (suc n) place [] = refl
+take-raised (suc n) zero (p ∷ past) = refl
+take-raised (suc n) (suc place) (p ∷ past) = ap (λ (l : List Past). p ∷ l) (take-raised n place past)
+
+length-raised : (place : ℕ) (past : List Past) → length (raised_at place past) ≡ length past
+length-raised place [] = refl
+length-raised zero (p ∷ past) = refl
+length-raised (suc place) (p ∷ past) = ap suc (length-raised place past)
+
+-- the interval was there before, perhaps without the flag
+record WasThere (past : List Past) (interval : Past) : Type 0 where
+  was : Past
+  there : Contains past was
+  members : was.members ≡ interval.members
+  first : was.first ≡ interval.first
+
+was_there : (place : ℕ) (past : List Past) (interval : Past) → Contains (raised_at place past) interval → WasThere past interval
+was_there place [] interval there = absurd (Contains-nil interval there)
+was_there zero (p ∷ past) interval there = elim (Contains-cases (record p { rw = true }) past interval there) [
+  | inl here ↦ record { was = p; there = Contains-here p past; members = ap (λ (q : Past). q.members) here; first = ap (λ (q : Past). q.first) here }
+  | inr later ↦ record { was = interval; there = Contains-later p past interval later; members = refl; first = refl }
+]
+was_there (suc place) (p ∷ past) interval there = elim (Contains-cases p (raised_at place past) interval there) [
+  | inl here ↦ record { was = p; there = Contains-here p past; members = ap (λ (q : Past). q.members) here; first = ap (λ (q : Past). q.first) here }
+  | inr later ↦
+      let before = was_there place past interval later in
+      record { was = before.was; there = Contains-later p past before.was before.there; members = before.members; first = before.first }
+]
+
+-- the group may have gone read-write in one of its past intervals after all, and the index has taken that
+pub KeepsPrior-raised : (g after : GroupLog) (kept : Reckoned) (index : PriorIndex AnyCode) (place : ℕ) → after.history.code ≡ g.history.code → past after ≡ raised_at place (past g) → les g ≤ les after
+    → ((b : Basis AnyCode) → IsIndexOf enough_of is_by_place b kept.index → IsIndexOf enough_of is_by_place (record b { past = raised_at place b.past }) index)
+    → KeepsPrior g kept → KeepsPrior after (record kept { index = index })
+KeepsPrior-raised g after kept index place code raised rises takes is =
+    let b = is.basis in
+    let within = is.within in
+    let since = is.since in
+    let long : length (past after) ≡ length (past g) = ap length raised ∙ length-raised place (past g) in
+    record {
+      basis = record b { past = raised_at place b.past };
+      code_is = is.code_is ∙ sym code;
+      within = omega arith;
+      past_are = ap (raised_at place) is.past_are ∙ sym (ap (take kept.added) raised ∙ take-raised kept.added place (past g));
+      since = omega arith;
+      index_is = takes b is.index_is;
+      has_each = λ interval m there acts.
+          let before = was_there place b.past interval there in
+          is.has_each before.was m before.there
+          (subst (λ (members : Membership). Contains (members_of (is_by_place b.code) members.acting) m) (sym before.members) acts);
+      gives_each = λ interval m entry there acts noted same.
+          let before = was_there place b.past interval there in
+          subst (λ first. b.status m.osd first ≡ status_noted entry first) before.first
+          (is.gives_each before.was m entry before.there
+          (subst (λ (members : Membership). Contains (members_of (is_by_place b.code) members.acting) m) (sym before.members) acts) noted same);
     }

@@ -28,7 +28,7 @@ use Rattle.pgp_sets.specs.Status.{status, status_by}
 use Rattle.pgp_sets.specs.declared.status.Status.TheVariants.{Up}
 use Rattle.pgp_group.specs.Entries.{inc_of, incs_of}
 use Rattle.pgp_group.specs.GroupHistory.{group_history, primary_facts}
-use Rattle.pgp_group.specs.GroupLog.{GroupLog, incs}
+use Rattle.pgp_group.specs.GroupLog.{GroupLog, cleans, incs}
 use Rattle.pgp_group.specs.Heard.{les}
 use Rattle.pgp_group.specs.Later.{IsAfter}
 use Rattle.pgp_group.specs.Peering.{past, prior}
@@ -37,7 +37,7 @@ use Rattle.pgp_group.proofs.DeviceLemmas.{checked-last, lost_at-rises, not_boote
 use Rattle.pgp_group.proofs.LaterLemmas.{histories, same-infos}
 use Rattle.pgp_group.proofs.Lists.{last_where-none, last_where-passes, nothing_new}
 use Rattle.pgp_group.proofs.NotedLemmas.{to_up}
-use Rattle.pgp_group.proofs.OpeningLemmas.{moves, acting-up}
+use Rattle.pgp_group.proofs.OpeningLemmas.{moves, acting-up, past_of}
 use Rattle.pgp_group.proofs.OpeningLemmas.Moves.{on, ends}
 use Rattle.pgp_group.proofs.RiseLemmas.{les-rises}
 
@@ -125,18 +125,20 @@ relief g after inc is nothing up =
     let hs = histories g (entry.Inc inc ∷ []) after is in
     let fine = checked-last (incs g) inc hs.checked in
     let since : les after ≡ les g = ap (λ (told : List Info). fold max 0 (map (λ info. info.history_les) told)) (same-infos g after inc is) in
+    let clean : past after ≡ past_of (cleans g) after.history =
+    ap (λ (told : List Info). past_of (map (λ info. info.last_epoch_clean) told) after.history) (same-infos g after inc is) in
     let still = relieved g inc nothing up in
     let all : (code : AnyCode) → code ≡ g.history.code → (intervals : List Past) → down_by g.history.code (then_with (incs g) inc) (les g) intervals ≡ false → down_by code (incs after) (les after) intervals ≡ false =
     λ code same intervals none. (λ i. down_by (same i) (hs.incs_are i) (since i) intervals) ∙ none in
     elim (moves (incs g) inc g.pg g.history after.history hs.checked hs.before hs.then_is) [
-      | on code goes ↦ all after.history.code code (past after) (ap (down_by g.history.code (then_with (incs g) inc) (les g)) goes.past ∙ still)
+      | on code goes ↦ all after.history.code code (past after) (ap (down_by g.history.code (then_with (incs g) inc) (les g)) (clean ∙ goes.past (cleans g)) ∙ still)
       | ends code over ↦
-          let ending : Past = current_ending enough_of is_by_place g.history (primary_facts (incs g) g.history.current.acting_primary) in
+          let ending : Past = current_ending enough_of is_by_place (cleans g) g.history (primary_facts (incs g) g.history.current.acting_primary) in
           let test : Past → Bool = blocks (enough_of g.history.code) (is_by_place g.history.code) (status (then_with (incs g) inc)) (les g) in
           let free : test ending ≡ false = free-ending _ _ _ (ending-up g inc ending fine hs.before nothing refl) in
           let last : list_any test (ending ∷ []) ≡ false = rw free refl in
           all after.history.code code (past after)
-          (ap (list_any test) over.past ∙ list_any-append test (past g) (ending ∷ []) ∙ rw (still, last) refl)
+          (ap (list_any test) (clean ∙ over.past (cleans g)) ∙ list_any-append test (past g) (ending ∷ []) ∙ rw (still, last) refl)
     ]
 
 -- an interval that blocks a group which last began to serve later blocked it before

@@ -21,7 +21,7 @@ use Rattle.pgp_ids.specs.declared.verdict.Verdict.{Verdict}
 use Rattle.pgp_ids.specs.declared.verdict.Verdict.TheVariants as the
 use Rattle.pgp_info.specs.Best.{best_info}
 use Rattle.pgp_interval.specs.History.{History}
-use Rattle.pgp_interval.specs.Runs.{current_first, past_intervals}
+use Rattle.pgp_interval.specs.Runs.{current_first}
 use Rattle.pgp_lists.proofs.Members.{contains-any, filter-contains}
 use Rattle.pgp_lists.proofs.Options.{map_some}
 use Rattle.pgp_map.specs.Devices.{device, up_thru}
@@ -95,7 +95,7 @@ member-there by_place places member there =
 -- speaks are as they were.
 pub record IsSame (log after : List Entry) (pg : PgId) (h : History AnyCode) (lived : List EpochState) : Type 0 where
   pub first : current_first (record h { lived = lived }) ≡ current_first h
-  pub past : past_intervals enough_of is_by_place (record h { lived = lived }) ≡ past_intervals enough_of is_by_place h
+  pub past : past (group_with after pg (record h { lived = lived })) ≡ past (group_with log pg h)
   pub infos : infos (group_with after pg (record h { lived = lived })) ≡ infos (group_with log pg h)
   pub reports : reports (group_with after pg (record h { lived = lived })) ≡ reports (group_with log pg h)
   pub named : (osd : ℕ) → names osd (group_with log pg h) ≡ true → device (incs_of after) osd ≡ device (incs_of log) osd
@@ -203,7 +203,7 @@ pub view-same : (log after : List Entry) (pg : PgId) (h : History AnyCode) (live
     → view_of (lives after pg h lived) ≡ told_at (length after) (epoch (incs_of after)) (view_of (group_with log pg h))
 view-same log after pg h lived same =
     let first : current_first (record h { lived = lived }) ≡ current_first h = same.first in
-    let intervals : past_intervals enough_of is_by_place (record h { lived = lived }) ≡ past_intervals enough_of is_by_place h = same.past in
+    let intervals : past (lives after pg h lived) ≡ past (group_with log pg h) = same.past in
     let started = ap (λ (told : List Info). fold max 0 (map (λ info. info.history_les) told)) same.infos in
     let needs = prior_set-same log after pg h lived same in
     let by = best-same log after pg h lived same in

@@ -28,7 +28,7 @@ use Rattle.pgp_map.specs.Map.{epoch}
 use Rattle.pgp_map.specs.MapFault.{map_fault, then_with}
 use Rattle.pgp_group.specs.Entries.{inc_of, incs_of}
 use Rattle.pgp_group.specs.GroupHistory.{group_history, primary_facts}
-use Rattle.pgp_group.specs.GroupLog.{GroupLog, group_in, incs}
+use Rattle.pgp_group.specs.GroupLog.{GroupLog, cleans, group_in, incs}
 use Rattle.pgp_group.specs.Later.{IsAfter}
 use Rattle.pgp_group.specs.Peering.{past}
 use Rattle.pgp_group.specs.Reckoning.{WentReadWrite, IsRemembered}
@@ -92,38 +92,38 @@ record Runs (first osd : ℕ) (incs : List Incremental) (h : History AnyCode) : 
   thru : first ≤ up_thru incs osd
   since : up_from incs osd ≤ first
 
--- it is past, and may have gone read-write
-record IsOver (first : ℕ) (h : History AnyCode) : Type 0 where
-  went : WentReadWrite first (past_of h)
-  each : (interval : Past) → Contains (past_of h) interval → interval.first ≡ first → interval.rw ≡ true
+-- it is past, and may have gone read-write, whatever the epochs are in which the group was clean
+record IsOver (cleans : List ℕ) (first : ℕ) (h : History AnyCode) : Type 0 where
+  went : WentReadWrite first (past_of cleans h)
+  each : (interval : Past) → Contains (past_of cleans h) interval → interval.first ≡ first → interval.rw ≡ true
   later : first < current_first h
 
-abbrev Stands : ℕ → ℕ → List Incremental → History AnyCode → Type 0
-Stands first osd incs h = Runs first osd incs h ⊎ IsOver first h
+abbrev Stands : List ℕ → ℕ → ℕ → List Incremental → History AnyCode → Type 0
+Stands cleans first osd incs h = Runs first osd incs h ⊎ IsOver cleans first h
 
-went_rw : (code : AnyCode) (members : Membership) (osd first : ℕ) (incs : List Incremental) → IsFit code members osd → first ≤ up_thru incs osd → up_from incs osd ≤ first
-    → may_have_gone_rw (enough_of code) (is_by_place code) (record { members = members; facts = primary_facts incs members.acting_primary }) first ≡ true
-went_rw code members osd first incs fit thru since =
+went_rw : (code : AnyCode) (cleans : List ℕ) (members : Membership) (osd first last : ℕ) (incs : List Incremental) → IsFit code members osd → first ≤ up_thru incs osd → up_from incs osd ≤ first
+    → may_have_gone_rw (enough_of code) (is_by_place code) cleans (record { members = members; facts = primary_facts incs members.acting_primary }) first last ≡ true
+went_rw code cleans members osd first last incs fit thru since =
     let recorded : nat_le first (up_thru incs osd) ≡ true = grind (arith, nat_tests) in
     let up : nat_le (up_from incs osd) first ≡ true = grind (arith, nat_tests) in
     rw (fit.many, fit.leads, fit.slots, recorded, up) refl
 
-stands-ended : (first osd : ℕ) (incs : List Incremental) (inc : Incremental) (h after : History AnyCode) → inc.epoch ≡ epoch incs + 1 → IsOpened incs h
-    → Ends inc.epoch (primary_facts incs h.current.acting_primary) h after → Runs first osd incs h → IsOver first after
-stands-ended first osd incs inc h after next opened over runs =
-    let ending : Past = current_ending enough_of is_by_place h (primary_facts incs h.current.acting_primary) in
+stands-ended : (cleans : List ℕ) (first osd : ℕ) (incs : List Incremental) (inc : Incremental) (h after : History AnyCode) → inc.epoch ≡ epoch incs + 1 → IsOpened incs h
+    → Ends inc.epoch (primary_facts incs h.current.acting_primary) h after → Runs first osd incs h → IsOver cleans first after
+stands-ended cleans first osd incs inc h after next opened over runs =
+    let ending : Past = current_ending enough_of is_by_place cleans h (primary_facts incs h.current.acting_primary) in
     let is : current_first h ≡ first = runs.first_is in
     let rw' : ending.rw ≡ true =
-    went_rw h.code h.current osd (current_first h) incs runs.fit (omega (arith, runs.thru, is)) (omega (arith, runs.since, is)) in
+    went_rw h.code cleans h.current osd (current_first h) ending.last incs runs.fit (omega (arith, runs.thru, is)) (omega (arith, runs.since, is)) in
     record {
       went = record {
         interval = ending;
-        there = subst (λ (l : List Past). Contains l ending) (sym over.past) (contains-append (past_of h) (ending ∷ []) ending (inr (Contains-here ending [])));
+        there = subst (λ (l : List Past). Contains l ending) (sym (over.past cleans)) (contains-append (past_of cleans h) (ending ∷ []) ending (inr (Contains-here ending [])));
         opened = is;
         rw = rw';
       };
-      each = λ interval in' same. elim (append-contains (past_of h) (ending ∷ []) interval (subst (λ (l : List Past). Contains l interval) over.past in')) [
-        | inl before ↦ absurd (omega (arith, opened.later interval before, is, same))
+      each = λ interval in' same. elim (append-contains (past_of cleans h) (ending ∷ []) interval (subst (λ (l : List Past). Contains l interval) (over.past cleans) in')) [
+        | inl before ↦ absurd (omega (arith, opened.later cleans interval before, is, same))
         | inr last ↦ elim (Contains-cases ending [] interval last) [
           | inl here ↦ ap (λ (p : Past). p.rw) (sym here) ∙ rw'
           | inr none ↦ absurd (Contains-nil interval none)
@@ -132,18 +132,18 @@ stands-ended first osd incs inc h after next opened over runs =
       later = omega (arith, opened.within, is, over.first, next);
     }
 
-over-ended : (first : ℕ) (incs : List Incremental) (inc : Incremental) (h after : History AnyCode) → inc.epoch ≡ epoch incs + 1 → IsOpened incs h
-    → Ends inc.epoch (primary_facts incs h.current.acting_primary) h after → IsOver first h → IsOver first after
-over-ended first incs inc h after next opened ended over =
-    let ending : Past = current_ending enough_of is_by_place h (primary_facts incs h.current.acting_primary) in
+over-ended : (cleans : List ℕ) (first : ℕ) (incs : List Incremental) (inc : Incremental) (h after : History AnyCode) → inc.epoch ≡ epoch incs + 1 → IsOpened incs h
+    → Ends inc.epoch (primary_facts incs h.current.acting_primary) h after → IsOver cleans first h → IsOver cleans first after
+over-ended cleans first incs inc h after next opened ended over =
+    let ending : Past = current_ending enough_of is_by_place cleans h (primary_facts incs h.current.acting_primary) in
     record {
       went = record {
         interval = over.went.interval;
-        there = subst (λ (l : List Past). Contains l over.went.interval) (sym ended.past) (contains-append (past_of h) (ending ∷ []) over.went.interval (inl over.went.there));
+        there = subst (λ (l : List Past). Contains l over.went.interval) (sym (ended.past cleans)) (contains-append (past_of cleans h) (ending ∷ []) over.went.interval (inl over.went.there));
         opened = over.went.opened;
         rw = over.went.rw;
       };
-      each = λ interval in' same. elim (append-contains (past_of h) (ending ∷ []) interval (subst (λ (l : List Past). Contains l interval) ended.past in')) [
+      each = λ interval in' same. elim (append-contains (past_of cleans h) (ending ∷ []) interval (subst (λ (l : List Past). Contains l interval) (ended.past cleans) in')) [
         | inl before ↦ over.each interval before same
         | inr last ↦ elim (Contains-cases ending [] interval last) [
           | inl here ↦
@@ -155,15 +155,15 @@ over-ended first incs inc h after next opened ended over =
       later = omega (arith, over.later, opened.within, ended.first, next);
     }
 
-stands-step : (first osd : ℕ) (pg : PgId) (incs : List Incremental) (inc : Incremental) (h after : History AnyCode) → are_checked (then_with incs inc) ≡ true
-    → group_history incs pg ≡ Some h → group_history (then_with incs inc) pg ≡ Some after → Stands first osd incs h → Stands first osd (then_with incs inc) after
-stands-step first osd pg incs inc h after checked is then' stands =
+stands-step : (cleans : List ℕ) (first osd : ℕ) (pg : PgId) (incs : List Incremental) (inc : Incremental) (h after : History AnyCode) → are_checked (then_with incs inc) ≡ true
+    → group_history incs pg ≡ Some h → group_history (then_with incs inc) pg ≡ Some after → Stands cleans first osd incs h → Stands cleans first osd (then_with incs inc) after
+stands-step cleans first osd pg incs inc h after checked is then' stands =
     let fine = checked-last incs inc checked in
     let next : inc.epoch ≡ epoch incs + 1 = next_epoch incs inc fine in
     let open' : IsOpened incs h = opened pg incs (checked-front incs (inc ∷ []) checked) h is in
     by (moves incs inc pg h after checked is then') fine next open' stands
   where
-    by : Moves incs inc h after → map_fault incs inc ≡ None → inc.epoch ≡ epoch incs + 1 → IsOpened incs h → Stands first osd incs h → Stands first osd (then_with incs inc) after
+    by : Moves incs inc h after → map_fault incs inc ≡ None → inc.epoch ≡ epoch incs + 1 → IsOpened incs h → Stands cleans first osd incs h → Stands cleans first osd (then_with incs inc) after
     by (on code goes) fine next open' (inl runs) = inl (record {
       fit = subst (λ (m : Membership). IsFit after.code m osd) (sym goes.current) (subst (λ (c : AnyCode). IsFit c h.current osd) (sym code) runs.fit);
       first_is = goes.first ∙ runs.first_is;
@@ -171,18 +171,18 @@ stands-step first osd pg incs inc h after checked is then' stands =
       since = omega (arith, up_from-stays incs inc osd fine (primary-up incs pg h osd is runs.fit.leads), runs.since);
     })
     by (on code goes) fine next open' (inr over) = inr (record {
-      went = subst (WentReadWrite first) (sym goes.past) over.went;
-      each = subst (λ (l : List Past). (interval : Past) → Contains l interval → interval.first ≡ first → interval.rw ≡ true) (sym goes.past) over.each;
+      went = subst (WentReadWrite first) (sym (goes.past cleans)) over.went;
+      each = subst (λ (l : List Past). (interval : Past) → Contains l interval → interval.first ≡ first → interval.rw ≡ true) (sym (goes.past cleans)) over.each;
       later = omega (arith, over.later, goes.first);
     })
-    by (ends code ended) fine next open' (inl runs) = inr (stands-ended first osd incs inc h after next open' ended runs)
-    by (ends code ended) fine next open' (inr over) = inr (over-ended first incs inc h after next open' ended over)
+    by (ends code ended) fine next open' (inl runs) = inr (stands-ended cleans first osd incs inc h after next open' ended runs)
+    by (ends code ended) fine next open' (inr over) = inr (over-ended cleans first incs inc h after next open' ended over)
 
 -- ---- the laws
 
 record IsStanding (g after : GroupLog) : Type 0 where
   osd : ℕ
-  stands : Stands (current_first g.history) osd (incs after) after.history
+  stands : Stands (cleans after) (current_first g.history) osd (incs after) after.history
 
 standing : (g after : GroupLog) (later : List Entry) → IsAfter g later after → verdict g ≡ Serve → IsStanding g after
 standing g after later is serves =
@@ -191,13 +191,13 @@ standing g after later is serves =
     let first : ℕ = current_first g.history in
     let hs = histories g later after is in
     let open' : IsOpened (incs g) g.history = opened g.pg (incs g) (checked-front (incs g) (incs_of later) hs.checked) g.history hs.before in
-    let runs : Stands first osd (incs g) g.history =
+    let runs : Stands (cleans after) first osd (incs g) g.history =
     inl (record { fit = s.1.fit; first_is = refl; thru = s.1.thru; since = open'.since osd s.1.fit.leads }) in
     record {
       osd = osd;
-      stands = subst (λ (l : List Incremental). Stands first osd l after.history) (sym hs.incs_are)
-          (along checked-front checked-last g.pg (Stands first osd)
-          (λ is' inc h next checked before then' kept. stands-step first osd g.pg is' inc h next checked before then' kept)
+      stands = subst (λ (l : List Incremental). Stands (cleans after) first osd l after.history) (sym hs.incs_are)
+          (along checked-front checked-last g.pg (Stands (cleans after) first osd)
+          (λ is' inc h next checked before then' kept. stands-step (cleans after) first osd g.pg is' inc h next checked before then' kept)
           (incs_of later) (incs g) g.history after.history hs.checked hs.before hs.then_is runs);
     }
 
@@ -215,7 +215,7 @@ opened-after g after later is =
 
 pub remembered-each : (g after : GroupLog) (later : List Entry) (interval : Past) → IsAfter g later after → verdict g ≡ Serve → Contains (past after) interval → interval.first ≡ current_first g.history → interval.rw ≡ true
 remembered-each g after later interval is serves in' same = elim ((standing g after later is serves).stands) [
-  | inl runs ↦ absurd (omega (arith, (opened-after g after later is).later interval in', runs.first_is, same))
+  | inl runs ↦ absurd (omega (arith, (opened-after g after later is).later (cleans after) interval in', runs.first_is, same))
   | inr over ↦ over.each interval in' same
 ]
 

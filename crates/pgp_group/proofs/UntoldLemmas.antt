@@ -5,6 +5,7 @@ use Rattle.std.specs.Option.{option_eq, option_map, option_map_or}
 use Rattle.std.proofs.lemmas.Bool.{or_parts, eqb-true}
 use Rattle.std.proofs.lemmas.Bool.Decides.{nat_tests}
 use Rattle.std.proofs.lemmas.Option.{same_Some}
+use Rattle.pgp_ids.specs.Pool.{is_by_place}
 use Rattle.pgp_ids.specs.Osds.{first_osd}
 use Rattle.pgp_ids.specs.declared.incremental.DeviceEpoch.{DeviceEpoch}
 use Rattle.pgp_ids.specs.declared.incremental.Incremental.{Incremental}
@@ -16,7 +17,7 @@ use Rattle.pgp_ids.specs.declared.pool.PoolSpec.{PoolSpec}
 use Rattle.pgp_lists.proofs.Members.{Contains-first, Contains-later, contains-any, filter-contains, map-contains}
 use Rattle.pgp_lists.proofs.Options.{if_some}
 use Rattle.pgp_map.specs.Devices.{boots, takes_down, destroys, device, greatest_epoch, is_up}
-use Rattle.pgp_map.specs.MapFault.{map_fault, then_with, is_erasure}
+use Rattle.pgp_map.specs.MapFault.{map_fault, then_with}
 use Rattle.pgp_map.specs.Pools.{pool, temp, is_same_group, with_sizes}
 use Rattle.pgp_sets.specs.Sets.{moves, raw_set, raw_set_of, members_with, pool_membership}
 use Rattle.pgp_group.specs.Touched.{has_osd, changed_devices, moves_all, changes_pool, changes_temp}
@@ -105,11 +106,11 @@ first_osd-there (None ∷ places) osd is = Contains-later None places (Some osd)
 
 -- the list without devices that aren't up
 without : (ℕ → Bool) → Bool → List (Option ℕ) → List (Option ℕ)
-without up erasure places =
-    if erasure then map (λ place. if option_map_or up place false then place else None) places else filter (λ place. option_map_or up place false) places
+without up by_place places =
+    if by_place then map (λ place. if option_map_or up place false then place else None) places else filter (λ place. option_map_or up place false) places
 
 -- it is the same by another test that agrees on the devices of the list
-without-same : (up now : ℕ → Bool) (erasure : Bool) (places : List (Option ℕ)) → ((osd : ℕ) → Contains places (Some osd) → now osd ≡ up osd) → without now erasure places ≡ without up erasure places
+without-same : (up now : ℕ → Bool) (by_place : Bool) (places : List (Option ℕ)) → ((osd : ℕ) → Contains places (Some osd) → now osd ≡ up osd) → without now by_place places ≡ without up by_place places
 unfolding without
 without-same up now true places same =
     map-agree (λ (place : Option ℕ). if option_map_or now place false then place else None) (λ (place : Option ℕ). if option_map_or up place false then place else None) places
@@ -125,7 +126,7 @@ without-same up now false places same = filter-agree (λ (place : Option ℕ). o
     tests (Some osd) there = same osd there
 
 -- its devices are those of the list
-without-there : (up : ℕ → Bool) (erasure : Bool) (places : List (Option ℕ)) (osd : ℕ) → Contains (without up erasure places) (Some osd) → Contains places (Some osd)
+without-there : (up : ℕ → Bool) (by_place : Bool) (places : List (Option ℕ)) (osd : ℕ) → Contains (without up by_place places) (Some osd) → Contains places (Some osd)
 unfolding without
 without-there up true places osd there =
     let m = map-contains (λ (place : Option ℕ). if option_map_or up place false then place else None) places (Some osd) there in
@@ -135,8 +136,8 @@ without-there up false places osd there = (filter-contains (λ (place : Option �
 -- the membership of a pool where the tree gives the first list and pg_temp the second
 lies : (ℕ → Bool) → PoolSpec → List (Option ℕ) → List (Option ℕ) → Membership
 lies up made raw given =
-    let rest = without up (is_erasure made.kind) given in
-    let placed = without up (is_erasure made.kind) raw in
+    let rest = without up (is_by_place made.kind) given in
+    let placed = without up (is_by_place made.kind) raw in
     members_with made placed (if nat_eq (length rest) 0 then placed else rest)
 
 membership-lies : (incs : List Incremental) (made : PoolSpec) (pg : PgId) → pool_membership incs pg made ≡ lies (is_up incs) made (raw_set incs made pg) (temp incs pg)
@@ -148,16 +149,16 @@ lies-same : (up now : ℕ → Bool) (made : PoolSpec) (raw given : List (Option 
 unfolding lies
 lies-same up now made raw given placed chosen =
     ap₂ (λ (p r : List (Option ℕ)). members_with made p (if nat_eq (length r) 0 then p else r))
-    (without-same up now (is_erasure made.kind) raw placed) (without-same up now (is_erasure made.kind) given chosen)
+    (without-same up now (is_by_place made.kind) raw placed) (without-same up now (is_by_place made.kind) given chosen)
 
 -- the devices of acting stand in one of the two lists
 lies-there : (up : ℕ → Bool) (made : PoolSpec) (raw given : List (Option ℕ)) (osd : ℕ) → (lies up made raw given).acting_primary ≡ Some osd → (Contains raw (Some osd)) ⊎ (Contains given (Some osd))
 unfolding lies
-lies-there up made raw given osd is = by_rest (nat_eq (length (without up (is_erasure made.kind) given)) 0) is
+lies-there up made raw given osd is = by_rest (nat_eq (length (without up (is_by_place made.kind) given)) 0) is
   where
-    by_rest : (b : Bool) → first_osd (if b then without up (is_erasure made.kind) raw else without up (is_erasure made.kind) given) ≡ Some osd → (Contains raw (Some osd)) ⊎ (Contains given (Some osd))
-    by_rest true first = inl (without-there up (is_erasure made.kind) raw osd (first_osd-there (without up (is_erasure made.kind) raw) osd first))
-    by_rest false first = inr (without-there up (is_erasure made.kind) given osd (first_osd-there (without up (is_erasure made.kind) given) osd first))
+    by_rest : (b : Bool) → first_osd (if b then without up (is_by_place made.kind) raw else without up (is_by_place made.kind) given) ≡ Some osd → (Contains raw (Some osd)) ⊎ (Contains given (Some osd))
+    by_rest true first = inl (without-there up (is_by_place made.kind) raw osd (first_osd-there (without up (is_by_place made.kind) raw) osd first))
+    by_rest false first = inr (without-there up (is_by_place made.kind) given osd (first_osd-there (without up (is_by_place made.kind) given) osd first))
 
 -- ---- a group of which the incremental tells nothing
 

@@ -1,5 +1,5 @@
 -- An entry that doesn't touch a group leaves its view as it was, but for count and epoch.
-use Rattle.std.proofs.Common.{◌≡◌, ℕ, List, [], ◌∷◌, ◌++◌, Option, Some, None, is_some, Bool, true, false, ◌||◌, nat_lt, length, refl, ap, sym, ◌∙◌}
+use Rattle.std.proofs.Common.{◌≡◌, ℕ, List, [], ◌∷◌, ◌++◌, Option, Some, None, is_some, Bool, true, false, ◌||◌, nat_lt, length, map, refl, ap, sym, ◌∙◌}
 use Rattle.std.specs.List.{filter, list_any}
 use Rattle.std.specs.Option.{option_map, option_map_or}
 use Rattle.std.proofs.Math.Bool.{or-true}
@@ -25,7 +25,7 @@ use Rattle.pgp_map.specs.Pools.{pool, temp, has_group, is_same_group}
 use Rattle.pgp_sets.specs.Sets.{membership, pool_membership, raw_set}
 use Rattle.pgp_group.specs.Entries.{inc_of, incs_of, infos_of, reports_of}
 use Rattle.pgp_group.specs.GroupHistory.{primary_facts, group_history}
-use Rattle.pgp_group.specs.GroupLog.{group_in, group_with}
+use Rattle.pgp_group.specs.GroupLog.{cleans, group_in, group_with}
 use Rattle.pgp_group.specs.Touched.{has_osd, is_placed, names, has_to_do_with, changed_devices, moves_all, changes_pool, changes_temp, is_touched, told_at}
 use Rattle.pgp_group.specs.View.{view_of, scratch}
 use Rattle.pgp_group.proofs.GroupLemmas.{infos-other, infos-same, reports-other, reports-same}
@@ -55,7 +55,7 @@ quiet log new pg no_map told reported =
     by_history None = refl
     by_history (Some h) = ap Some (view-same log (log ++ new ∷ []) pg h h.lived (record {
       first = refl;
-      past = refl;
+      past = ap (λ (l : List Info). past_intervals enough_of is_by_place (map (λ info. info.last_epoch_clean) l) h) told;
       infos = told;
       reports = reported;
       named = λ osd named. ap (λ (l : List Incremental). device l osd) incs_are;
@@ -66,7 +66,7 @@ quiet log new pg no_map told reported =
 
 -- what a step to the same membership does to the intervals
 pub record GoesOn : Type 0 where
-  pub past : (h : History AnyCode) (facts : PrimaryFacts) → past_intervals enough_of is_by_place (stepped h h.current facts) ≡ past_intervals enough_of is_by_place h
+  pub past : (cleans : List ℕ) (h : History AnyCode) (facts : PrimaryFacts) → past_intervals enough_of is_by_place cleans (stepped h h.current facts) ≡ past_intervals enough_of is_by_place cleans h
   pub first : (h : History AnyCode) (facts : PrimaryFacts) → current_first (stepped h h.current facts) ≡ current_first h
 
 -- no device that the incremental changes has to do with the group
@@ -140,7 +140,8 @@ view-stays shorten fine raws on log inc pg h checked is there =
     ap (λ (o : Option (History AnyCode)). option_map view_of (option_map (group_with (log ++ entry.Inc inc ∷ []) pg) o)) after
     ∙ ap Some (view-same log (log ++ entry.Inc inc ∷ []) pg h lived (record {
       first = on.first h facts;
-      past = on.past h facts;
+      past = ap (λ (l : List Info). past_intervals enough_of is_by_place (map (λ info. info.last_epoch_clean) l) (stepped h h.current facts)) (infos-same log (entry.Inc inc) pg refl)
+          ∙ on.past (cleans (group_with log pg h)) h facts;
       infos = infos-same log (entry.Inc inc) pg refl;
       reports = reports-same log (entry.Inc inc) pg refl;
       named = λ osd named. ap (λ (l : List Incremental). device l osd) grown ∙ named-stay log inc pg h osd is there named;

@@ -1,13 +1,13 @@
 -- What is known of any view.
 use Rattle.std.proofs.Common.{◌≡◌, List, Option, Some, None, Bool, true, false, is_some, nat_lt, refl, ◌∙◌, if◌then◌else◌}
 use Rattle.std.specs.Option.{option_map, option_map_or}
+use Rattle.pgp_code.specs.AnyCode.{is_by_place}
 use Rattle.pgp_code.specs.declared.any.AnyCode.{AnyCode}
-use Rattle.pgp_code.specs.declared.any.AnyCode.TheVariants as code
 use Rattle.pgp_ids.specs.declared.entry.Entry.{Entry}
 use Rattle.pgp_ids.specs.declared.member.Member.{Member}
 use Rattle.pgp_ids.specs.declared.incremental.Incremental.{Incremental}
 use Rattle.pgp_ids.specs.declared.pg_id.PgId.{PgId}
-use Rattle.pgp_info.specs.Preference.{IsPreference}
+use Rattle.pgp_info.specs.Preference.{IsPreference, newest_first, oldest_first}
 use Rattle.pgp_info.specs.PreferenceLaws.{newest_is_preference, oldest_is_preference}
 use Rattle.pgp_lists.proofs.Options.{some_mapped}
 use Rattle.pgp_map.specs.Pools.{pool, has_group}
@@ -18,8 +18,10 @@ use Rattle.pgp_group.specs.Prefers.{prefers}
 use Rattle.pgp_group.specs.View.{view_of, scratch}
 
 pub prefers_is_preference : (c : AnyCode) (leader : Option Member) → IsPreference (prefers c leader)
-prefers_is_preference (code.Replicated c) leader = newest_is_preference leader
-prefers_is_preference (code.Erasure c) leader = oldest_is_preference leader
+prefers_is_preference c leader = elim (is_by_place c) as (λ b. IsPreference (if b then oldest_first leader else newest_first leader)) [
+  | true ↦ oldest_is_preference leader
+  | false ↦ newest_is_preference leader
+]
 
 -- ---- a view is there exactly where its group is
 

@@ -1,4 +1,4 @@
--- Small logs of a group of three copies and of a group of three shards.
+-- Small logs of a group of three copies and of a group of three shards, of a code of data shards or of one of parts.
 use Rattle.std.specs.Prelude.{ℕ, List, [], ◌∷◌, ◌++◌, Some, None, Bool, true, map, codes}
 use Rattle.pgp_ids.specs.declared.entry.Entry.{Entry}
 use Rattle.pgp_ids.specs.declared.entry.Entry.TheVariants as entry
@@ -14,7 +14,7 @@ use Rattle.pgp_ids.specs.declared.peer.PeerMissing.{PeerMissing}
 use Rattle.pgp_ids.specs.declared.peer.PeerState.{PeerState}
 use Rattle.pgp_ids.specs.declared.report.Info.{Info}
 use Rattle.pgp_ids.specs.declared.version.Version.{Version}
-use Rattle.pgp_map.specs.Examples.{empty_step}
+use Rattle.pgp_map.specs.Examples.{empty_step, grouped, part_of}
 use Rattle.pgp_sets.specs.Examples.{of_device, copies_group, shards_group, stands_on, copies_on_three, shards_on_three, take_down, lies_on}
 
 abbrev pub in_slot : ℕ → ℕ → Member
@@ -59,6 +59,24 @@ two_shards_down =
     ∷ record (take_down 3 (1 ∷ 2 ∷ [])) { temp = stands_on shards_group (Some 0 ∷ Some 3 ∷ Some 4 ∷ []) }
     ∷ []
 
+-- the group of two parts, of which one has the slots 0 and 1 and the other slot 2, on the devices 0, 1 and 2
+abbrev pub two_parts_on_three : Incremental
+two_parts_on_three =
+    record shards_on_three { pools = grouped 2 (part_of (0 ∷ 1 ∷ []) 1 ∷ part_of (2 ∷ []) 1 ∷ []) ∷ [] }
+
+-- It served there, where it may have gone read-write. Then 1 and 2 went down, and pg_temp put it on 0, 3 and 4.
+abbrev pub second_part_down : List Incremental
+second_part_down =
+    two_parts_on_three
+    ∷ known_up 2 0 1
+    ∷ record (take_down 3 (1 ∷ 2 ∷ [])) { temp = stands_on shards_group (Some 0 ∷ Some 3 ∷ Some 4 ∷ []) }
+    ∷ []
+
+-- The group of three copies served on the devices 0, 1 and 2, and no map told that its primary was known to be up. Then 1 went
+-- down.
+abbrev pub unrecorded : List Incremental
+unrecorded = copies_on_three ∷ empty_step 2 ∷ take_down 3 (1 ∷ []) ∷ []
+
 -- ---- reports
 
 -- the info of a complete copy with no write, of a device in slot 0 of the group of three copies, sent at this epoch
@@ -70,6 +88,7 @@ copy osd stamp =
       stamp = stamp;
       les = 0;
       history_les = 0;
+      last_epoch_clean = 0;
       last_update = at 0 0;
       log_tail = at 0 0;
       complete = true;

@@ -1,5 +1,5 @@
 -- A placement group with the log that tells of it.
-use Rattle.std.specs.Prelude.{List, Option, option_map, filter}
+use Rattle.std.specs.Prelude.{ℕ, List, Option, option_map, filter, map}
 use Rattle.pgp_code.specs.declared.any.AnyCode.{AnyCode}
 use Rattle.pgp_ids.specs.declared.entry.Entry.{Entry}
 use Rattle.pgp_ids.specs.declared.incremental.Incremental.{Incremental}
@@ -31,6 +31,10 @@ incs g = incs_of g.log
 -- the infos of the group, whether they are counted or not
 abbrev pub infos : GroupLog → List Info
 infos g = filter (λ info. is_same_group info.pg g.pg) (infos_of g.log)
+
+-- the epochs in which the group was clean, by what its infos say, whether they are counted or not; 0 stands for none
+abbrev pub cleans : GroupLog → List ℕ
+cleans g = map (λ info. info.last_epoch_clean) (infos g)
 
 -- the reports of the group's log entries, whether they are counted or not
 abbrev pub reports : GroupLog → List Report

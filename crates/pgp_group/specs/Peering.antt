@@ -17,13 +17,13 @@ use Rattle.pgp_prior.specs.Members.{members_of}
 use Rattle.pgp_prior.specs.Prior.{prior_set}
 use Rattle.pgp_prior.specs.declared.prior_set.Prior.{Prior}
 use Rattle.pgp_sets.specs.Status.{status}
-use Rattle.pgp_group.specs.GroupLog.{GroupLog, incs}
+use Rattle.pgp_group.specs.GroupLog.{GroupLog, cleans, incs}
 use Rattle.pgp_group.specs.Heard.{les, heard, reported}
 use Rattle.pgp_group.specs.Prefers.{prefers}
 
 -- the past intervals of the group, in ascending order
 abbrev pub past : GroupLog → List Past
-past g = past_intervals enough_of is_by_place g.history
+past g = past_intervals enough_of is_by_place (cleans g) g.history
 
 -- whom the group has to hear, and for whom it has to wait
 abbrev pub prior : GroupLog → Prior

@@ -1,10 +1,11 @@
 //! A placement group, as the log so far tells of it.
 
-ghost use Rattle.std.specs.Prelude.{◌≡◌, ◌++◌, [], ◌∷◌, List, Some, None, true, false, length, option_map, IfOk, OnOk, OnErr};
+ghost use Rattle.std.specs.Prelude.{◌≡◌, ◌≤◌, ◌++◌, ℕ, [], ◌∷◌, List, Some, None, true, false, length, option_map, IfOk, OnOk, OnErr};
 ghost use Rattle.pgp_code.specs.AnyCode.{enough_of, is_by_place};
 ghost use Rattle.pgp_code.specs.Pool.{code_of};
+ghost use Rattle.pgp_code.specs.declared.any.AnyCode.{AnyCode as Code};
 ghost use Rattle.pgp_ids.specs.Member.{is_before};
-ghost use Rattle.pgp_interval.specs.History.{begun};
+ghost use Rattle.pgp_interval.specs.History.{History, begun};
 ghost use Rattle.pgp_interval.specs.IntervalsOf.{IsIntervalsOf};
 ghost use Rattle.pgp_interval.specs.Runs.{current_first};
 ghost use Rattle.pgp_lists.specs.Ordered.{ascending};
@@ -20,17 +21,17 @@ ghost use Rattle.pgp_map.specs.Held.{HasGroup};
 ghost use Rattle.pgp_map.specs.Map.{epoch as epoch_of};
 ghost use Rattle.pgp_map.specs.MapFault.{map_fault, then_with};
 ghost use Rattle.pgp_map.specs.MapOf.{IsMapOf};
-ghost use Rattle.pgp_map.specs.Pools.{pool, has_group};
+ghost use Rattle.pgp_map.specs.Pools.{pool, has_group, is_same_group};
 ghost use Rattle.pgp_missing.specs.Kept.{IsLogOf};
 ghost use Rattle.pgp_missing.specs.Log.{is_whole};
 ghost use Rattle.pgp_group.specs.Entries.{inc_of, incs_of};
 ghost use Rattle.pgp_group.specs.GroupHistory.{AreNumbered, made_at};
 ghost use Rattle.pgp_group.specs.Causes.{AreCauses};
 ghost use Rattle.pgp_group.specs.Found.{AreHeard, AreLogsHeard, IsFound, AreNeeds};
-ghost use Rattle.pgp_group.specs.GroupLog.{GroupLog, incs};
-ghost use Rattle.pgp_group.specs.GroupOf.{Keeps, IsGroupOf, IsSilent, Follows};
-ghost use Rattle.pgp_group.specs.Heard.{reported};
-ghost use Rattle.pgp_group.specs.KeptPrior.{IsReckoned};
+ghost use Rattle.pgp_group.specs.GroupLog.{GroupLog, cleans, incs};
+ghost use Rattle.pgp_group.specs.GroupOf.{Keeps, IsGroupOf, IsSilent, Follows, TellsNothingAhead};
+ghost use Rattle.pgp_group.specs.Heard.{les, reported};
+ghost use Rattle.pgp_group.specs.KeptPrior.{IsReckoned, KeepsPrior};
 ghost use Rattle.pgp_group.specs.Peering.{best as best_of, peer_states};
 ghost use Rattle.pgp_group.specs.Present.{IsPresent};
 ghost use Rattle.pgp_group.specs.Verdict.{verdict as verdict_of};
@@ -132,7 +133,7 @@ impl Group {
     /// Takes a report, or another entry that brings no map: of those that aren't reports of this group nothing is kept.
     /// After an error the group stands for the same log.
     pub fn absorb_report(&mut self, entry: &Entry) -> Result<(), AllocError>
-        ensures ok { OnOk result ((log : List Told) (pg : Id) → inc_of entry.now ≡ None
+        ensures ok { OnOk result ((log : List Told) (pg : Id) → inc_of entry.now ≡ None → TellsNothingAhead log pg entry.now
             → IsGroupOf log pg self.old → IsGroupOf (log ++ entry.now ∷ []) pg self.new) }
         ensures err { OnErr result ((log : List Told) (pg : Id) → IsGroupOf log pg self.old → IsGroupOf log pg self.new) }
     {
@@ -146,6 +147,7 @@ impl Group {
 
     fn keep_info(&mut self, info: &Info) -> Result<(), AllocError>
         ensures ok { OnOk result ((log : List Told) (pg : Id)
+            → (is_same_group info.now.pg pg ≡ true → info.now.last_epoch_clean ≤ epoch_of (incs_of log))
             → IsGroupOf log pg self.old → IsGroupOf (log ++ entry.Info info.now ∷ []) pg self.new) }
         ensures err { OnErr result ((log : List Told) (pg : Id) → IsGroupOf log pg self.old → IsGroupOf log pg self.new) }
     {
@@ -153,8 +155,31 @@ impl Group {
             self.named.make_room_for(info.member.osd)?;
             self.infos.push(info, self.intervals.last())?;
             self.named.add(info.member.osd);
+            self.take_clean(info.last_epoch_clean);
         }
         Ok(())
+    }
+
+    /// Takes an epoch in which the group was clean: it marks the interval of that epoch, current or past, as one in which the
+    /// group may have gone read-write. It takes no memory. An epoch that is still to come, which no log takes, is left out.
+    fn take_clean(&mut self, epoch: Epoch)
+        ensures intervals { (h : History Code) (told : List ℕ) → epoch ≤ self.old.intervals.last
+            → IsIntervalsOf enough_of is_by_place h told self.old.intervals
+            → IsIntervalsOf enough_of is_by_place h (told ++ epoch ∷ []) self.new.intervals }
+        ensures prior { (g after : GroupLog) → epoch ≤ self.old.intervals.last
+            → IsIntervalsOf enough_of is_by_place g.history (cleans g) self.old.intervals
+            → after.history ≡ g.history → cleans after ≡ cleans g ++ epoch ∷ [] → les g ≤ les after
+            → KeepsPrior g self.old.reckoned → KeepsPrior after self.new.reckoned }
+        ensures pg { self.new.pg ≡ self.old.pg }
+        ensures infos { self.new.infos ≡ self.old.infos }
+        ensures reports { self.new.reports ≡ self.old.reports }
+        ensures named { self.new.named ≡ self.old.named }
+    {
+        if epoch <= self.intervals.last() {
+            if let Some(place) = self.intervals.clean(epoch) {
+                self.reckoned.raise(place);
+            }
+        }
     }
 
     fn keep_report(&mut self, report: &Report) -> Result<(), AllocError>
@@ -349,7 +374,7 @@ impl Group {
 
 /// The intervals of a group of a pool of this kind at its first epoch.
 fn opening(alloc: Global, kind: PoolKind, first: Epoch, members: Membership) -> Intervals<AnyCode>
-    ensures { IsIntervalsOf enough_of is_by_place (begun (code_of kind) first members) result }
+    ensures { IsIntervalsOf enough_of is_by_place (begun (code_of kind) first members) [] result }
 {
     Intervals::begin(alloc, AnyCode::of_pool(kind), first, members)
 }

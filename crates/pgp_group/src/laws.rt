@@ -88,25 +88,25 @@ pub fn view_is_there_where_the_group_is()
 /// The map of an interval's last epoch says whether its primary was known to be up.
 pub fn known_up_by_the_last_map()
     ensures by_then { let incs = copies_on_three ∷ known_up 2 0 1 ∷ take_down 3 (1 ∷ []) ∷ [] in
-        option_map (past_intervals enough_of is_by_place) (group_history incs copies_group)
+        option_map (past_intervals enough_of is_by_place []) (group_history incs copies_group)
         ≡ Some (was 1 2 (on_three 2) true ∷ []) }
     ensures too_late { let down = record (take_down 3 (1 ∷ [])) { up_thru = of_device 0 1 ∷ [] } in
         let incs = copies_on_three ∷ empty_step 2 ∷ down ∷ [] in
-        option_map (past_intervals enough_of is_by_place) (group_history incs copies_group)
+        option_map (past_intervals enough_of is_by_place []) (group_history incs copies_group)
         ≡ Some (was 1 2 (on_three 2) false ∷ []) }
 {}
 
 /// New sizes open an interval, though the devices stay, and up_thru has to reach its first epoch.
 pub fn new_sizes_open_an_interval()
-    ensures past { option_map (past_intervals enough_of is_by_place)
+    ensures past { option_map (past_intervals enough_of is_by_place [])
         (group_history (copies_on_three ∷ resize 2 3 1 ∷ []) copies_group) ≡ Some (was 1 1 (on_three 2) false ∷ []) }
     ensures first { option_map current_first
         (group_history (copies_on_three ∷ resize 2 3 1 ∷ []) copies_group) ≡ Some 2 }
     ensures not_known_up { let incs = copies_on_three ∷ resize 2 3 1 ∷ known_up 3 0 1 ∷ take_down 4 (1 ∷ []) ∷ [] in
-        option_map (past_intervals enough_of is_by_place) (group_history incs copies_group)
+        option_map (past_intervals enough_of is_by_place []) (group_history incs copies_group)
         ≡ Some (was 1 1 (on_three 2) false ∷ was 2 3 (on_three 1) false ∷ []) }
     ensures known_up { let incs = copies_on_three ∷ resize 2 3 1 ∷ known_up 3 0 2 ∷ take_down 4 (1 ∷ []) ∷ [] in
-        option_map (past_intervals enough_of is_by_place) (group_history incs copies_group)
+        option_map (past_intervals enough_of is_by_place []) (group_history incs copies_group)
         ≡ Some (was 1 1 (on_three 2) false ∷ was 2 3 (on_three 1) true ∷ []) }
 {}
 
@@ -115,7 +115,7 @@ pub fn pg_temp_that_changes_nothing()
     ensures past { let others = record (take_down 2 (1 ∷ 2 ∷ [])) {
       temp = stands_on copies_group (Some 1 ∷ Some 2 ∷ []);
     } in
-        option_map (past_intervals enough_of is_by_place) (group_history (copies_placed ∷ others ∷ []) copies_group)
+        option_map (past_intervals enough_of is_by_place []) (group_history (copies_placed ∷ others ∷ []) copies_group)
         ≡ Some [] }
     ensures first { let others = record (take_down 2 (1 ∷ 2 ∷ [])) {
       temp = stands_on copies_group (Some 1 ∷ Some 2 ∷ []);

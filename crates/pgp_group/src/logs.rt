@@ -180,6 +180,7 @@ fn unknown(report: &Report) -> Info
         stamp: report.stamp,
         les: Epoch::new(0),
         history_les: Epoch::new(0),
+        last_epoch_clean: Epoch::new(0),
         last_update: no_write(),
         log_tail: no_write(),
         complete: false,

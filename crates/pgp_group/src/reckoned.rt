@@ -1,10 +1,11 @@
 //! The prior set of a group, in running form.
 
-ghost use Rattle.std.specs.Prelude.{◌≡◌, ◌+◌, ℕ, Some, length, slice_get, IfOk, OnOk, OnErr};
+ghost use Rattle.std.specs.Prelude.{◌≡◌, ◌+◌, ◌≤◌, ℕ, Some, length, slice_get, IfOk, OnOk, OnErr};
 ghost use Rattle.pgp_code.specs.AnyCode.{enough_of, is_by_place};
 ghost use Rattle.pgp_interval.specs.IntervalsOf.{IsIntervalsOf};
+ghost use Rattle.pgp_ids.specs.Past.{raised_at};
 ghost use Rattle.pgp_map.specs.MapOf.{IsMapOf};
-ghost use Rattle.pgp_group.specs.GroupLog.{GroupLog, incs};
+ghost use Rattle.pgp_group.specs.GroupLog.{GroupLog, cleans, incs};
 ghost use Rattle.pgp_group.specs.Heard.{les as les_of};
 ghost use Rattle.pgp_group.specs.KeptPrior.{KeepsPrior, IsAbreast, IsReckoned};
 ghost use Rattle.pgp_group.specs.Peering.{past as past_of, prior as prior_of};
@@ -51,14 +52,23 @@ impl Reckoned {
         les: Epoch,
     ) -> Result<(), AllocError>
         ensures ok { OnOk result ((g : GroupLog) → IsMapOf (incs g) map.now
-            → IsIntervalsOf enough_of is_by_place g.history intervals.now → les ≡ les_of g
+            → IsIntervalsOf enough_of is_by_place g.history (cleans g) intervals.now → les ≡ les_of g
             → KeepsPrior g self.old → IsReckoned g self.new.index) }
-        ensures kept { (g : GroupLog) → IsIntervalsOf enough_of is_by_place g.history intervals.now
+        ensures kept { (g : GroupLog) → IsIntervalsOf enough_of is_by_place g.history (cleans g) intervals.now
             → les ≡ les_of g → KeepsPrior g self.old → KeepsPrior g self.new }
     {
         let (_, current) = intervals.current();
         self.renew(map, current, les);
         self.add_more(map, intervals)
+    }
+
+    /// Marks the past interval at this place as one in which the group may have gone read-write. One that isn't added yet
+    /// will have its mark when it is. It takes no memory.
+    pub(crate) fn raise(&mut self, place: usize)
+        ensures { (g after : GroupLog) → after.history.code ≡ g.history.code → past_of after ≡ raised_at place (past_of g)
+            → les_of g ≤ les_of after → KeepsPrior g self.old → KeepsPrior after self.new }
+    {
+        self.index.raise(place);
     }
 
     /// The prior set, as of the last look.
@@ -81,10 +91,10 @@ impl Reckoned {
 
     /// Adds the past intervals that came since.
     fn add_more(&mut self, map: &OsdMap, intervals: &Intervals<AnyCode>) -> Result<(), AllocError>
-        ensures all { OnOk result ((g : GroupLog) → IsIntervalsOf enough_of is_by_place g.history intervals.now
+        ensures all { OnOk result ((g : GroupLog) → IsIntervalsOf enough_of is_by_place g.history (cleans g) intervals.now
             → IsAbreast g map.now self.old.added self.old.index self.old.noted.items
             → IsAbreast g map.now (length (past_of g)) self.new.index self.new.noted.items) }
-        ensures kept { (g : GroupLog) → IsIntervalsOf enough_of is_by_place g.history intervals.now
+        ensures kept { (g : GroupLog) → IsIntervalsOf enough_of is_by_place g.history (cleans g) intervals.now
             → IsAbreast g map.now self.old.added self.old.index self.old.noted.items
             → IsAbreast g map.now self.new.added self.new.index self.new.noted.items }
     {

@@ -1,1 +1,2 @@
 mod SlotLemmas
+mod PartLemmas

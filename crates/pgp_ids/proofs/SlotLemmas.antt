@@ -1,18 +1,19 @@
 -- What the set of a word's slots has, how many they are, and what one bit more does to it.
-use Rattle.std.proofs.Common.{◌≡◌, ◌≢◌, ℕ, zero, suc, ◌+◌, ◌-◌, ◌/◌, ◌<◌, ◌≤◌, ◌^◌, List, ◌∷◌, Bool, true, false, ◌||◌, ◌&&◌, not, nat_eq, nat_lt, length, refl, ap, ap₂, sym, ◌∙◌, arith, add-one, inl, inr, bit_and, filter}
+use Rattle.std.proofs.Common.{◌≡◌, ◌≢◌, ℕ, zero, suc, ◌+◌, ◌-◌, ◌/◌, ◌%◌, ◌<◌, ◌≤◌, ◌^◌, List, ◌∷◌, Bool, true, false, ◌||◌, ◌&&◌, not, nat_eq, nat_lt, length, refl, ap, ap₂, sym, ◌∙◌, arith, add-one, inl, inr, bit_and, filter}
 use Rattle.std.specs.List.{list_all, range_with_len}
 use Rattle.std.specs.Int.{bit_at}
 use Rattle.std.specs.Int.RustNames.{count_ones}
 use Rattle.std.specs.Int.Count.{ones_step}
 use Rattle.std.proofs.lemmas.Nat.{ones-le, and_le_l, pow_pos}
-use Rattle.std.proofs.Math.Nat.{eq-or-lt_of_le, pow-suc, mod-one, mod-eq_of_lt}
-use Rattle.std.proofs.lemmas.Bool.{cases_Bool, eqb-true}
+use Rattle.std.proofs.Math.Nat.{eq-or-lt_of_le, pow-suc, mod-lt, mod-one, mod-eq_of_lt}
+use Rattle.std.proofs.lemmas.Bool.{cases_Bool, cases_lt, eqb-true}
 use Rattle.std.proofs.lemmas.Bool.Decides.{nat_tests, eqb_tells}
 use Rattle.std.proofs.lemmas.List.Folds.{list_any_at, sum_by-zero}
+use Rattle.std.proofs.lemmas.List.Sums.{sum_by-cons}
 use Rattle.std.proofs.lemmas.List.FromFn.{length-range_with_len, get_or-range_with_len}
 use Rattle.std.proofs.lemmas.Map.Views.{any-filter_same}
 use Rattle.std.proofs.lemmas.Nat.Bits.{bit_at-lt, bit_at-suc, bit_at_lowest, bit_at_and}
-use Rattle.pgp_ids.specs.SlotSet.{has_slot, with_slot, is_within}
+use Rattle.pgp_ids.specs.SlotSet.{has_slot, with_slot, is_within, is_below}
 use Rattle.pgp_ids.specs.SlotBits.{is_set, bits_of, bits_of-range}
 
 -- ---- the numbers from s on that pass a test
@@ -113,3 +114,78 @@ within-range n a b off fits lacks =
     let other = bit_at-lt b i in
     let lack = lacks i below in
     grind (arith, nat_tests))
+
+-- the bits that two words share are those of the slots of the first that the second has
+pub common-range : (n a b m s : ℕ) → s + n ≤ m → filter (is_set (bit_and a b)) (range_with_len s n) ≡ filter (λ slot. has_slot slot (filter (is_set b) (range_with_len 0 m))) (filter (is_set a) (range_with_len s n))
+common-range zero a b m s ends = refl
+common-range (suc n) a b m s ends =
+    let below : s < m = omega arith in
+    let has = has-range (is_set b) m s below in
+    let shared = bit_at_and a b s in
+    let mine = bit_at-lt a s in
+    let other = bit_at-lt b s in
+    let rest = common-range n a b m (s + 1) (omega arith) in
+    elim (cases_Bool (is_set a s)) [
+      | inl in_a ↦ elim (cases_Bool (is_set b s)) [
+        | inl in_b ↦
+            let both : is_set (bit_and a b) s ≡ true = grind (arith, nat_tests) in
+            rw (both, in_a, has, in_b) (ap (λ slots. s ∷ slots) rest)
+        | inr not_b ↦
+            let not_both : is_set (bit_and a b) s ≡ false = grind (arith, nat_tests) in
+            rw (not_both, in_a, has, not_b) rest
+      ]
+      | inr not_a ↦
+          let not_both : is_set (bit_and a b) s ≡ false = grind (arith, nat_tests) in
+          rw (not_both, not_a) rest
+    ]
+
+-- the slots of a word are below its number of bits
+pub below-range : (n s limit : ℕ) (p : ℕ → Bool) → s + n ≤ limit → is_below limit (filter p (range_with_len s n)) ≡ true
+below-range zero s limit p ends = refl
+below-range (suc n) s limit p ends =
+    let less : nat_lt s limit ≡ true = grind (arith, nat_tests) in
+    let rest = below-range n (s + 1) limit p (omega arith) in
+    elim (cases_Bool (p s)) [
+      | inl passes ↦ rw (passes, less, rest) refl
+      | inr fails ↦ rw fails rest
+    ]
+
+-- of slots from a limit on none is below it
+above-range : (n s limit : ℕ) (p : ℕ → Bool) → limit ≤ s → is_below limit (filter p (range_with_len s n)) ≡ nat_eq (bits_of (filter p (range_with_len s n))) 0
+above-range zero s limit p from = refl
+above-range (suc n) s limit p from =
+    let more : nat_lt s limit ≡ false = grind (arith, nat_tests) in
+    let positive = pow_pos s in
+    let rest = above-range n (s + 1) limit p (omega arith) in
+    elim (cases_Bool (p s)) [
+      | inl passes ↦ rw (passes, more, sum_by-cons (λ slot. 2 ^ slot) s (filter p (range_with_len (s + 1) n))) (grind (arith, nat_tests))
+      | inr fails ↦ rw fails rest
+    ]
+
+skip-low : (a k s limit n : ℕ) (p : ℕ → Bool) → s + a ≡ limit → k ≡ a + n → is_below limit (filter p (range_with_len s k)) ≡ nat_eq (bits_of (filter p (range_with_len limit n))) 0
+skip-low zero k s limit n p at len =
+    let here : s ≡ limit = omega arith in
+    let same : k ≡ n = omega arith in
+    (λ i. is_below limit (filter p (range_with_len (here i) (same i)))) ∙ above-range n limit limit p (omega arith)
+skip-low (suc a) zero s limit n p at len = absurd (omega arith)
+skip-low (suc a) (suc k) s limit n p at len =
+    let less : nat_lt s limit ≡ true = grind (arith, nat_tests) in
+    let rest = skip-low a k (s + 1) limit n p (omega arith) (omega arith) in
+    elim (cases_Bool (p s)) [
+      | inl passes ↦ rw (passes, less) rest
+      | inr fails ↦ rw fails rest
+    ]
+
+no-high : (high bits power : ℕ) → 0 < power → high + bits % power ≡ bits → nat_lt bits power ≡ nat_eq high 0
+no-high high bits power some whole = elim (cases_lt bits power) [
+  | inl less ↦ let same : bits % power ≡ bits = mod-eq_of_lt less in grind (arith, nat_tests)
+  | inr more ↦ let part : bits % power < power = mod-lt bits some in grind (arith, nat_tests)
+]
+
+-- the slots of a word are below a limit where the word is below that power of 2
+pub limit-range : (n limit m bits : ℕ) → limit + n ≡ m → bits < 2 ^ m → nat_lt bits (2 ^ limit) ≡ is_below limit (filter (is_set bits) (range_with_len 0 m))
+limit-range n limit m bits len fits =
+    let word = bits_of-range n limit m bits len in
+    let whole : bits % 2 ^ m ≡ bits = mod-eq_of_lt fits in
+    no-high (bits_of (filter (is_set bits) (range_with_len limit n))) bits (2 ^ limit) (pow_pos limit) (word ∙ whole)
+    ∙ sym (skip-low limit m 0 limit n (is_set bits) (omega arith) (omega arith))

@@ -6,3 +6,6 @@ pub mod Version
 pub mod Names
 pub mod Member
 pub mod ObjectName
+pub mod Past
+pub mod Parts
+pub mod Pool

@@ -1,5 +1,5 @@
 -- A set of slots: the list of its slots in ascending order, each once.
-use Rattle.std.specs.Prelude.{ℕ, ◌<◌, List, [], ◌∷◌, Bool, nat_eq, nat_lt, if◌then◌else◌}
+use Rattle.std.specs.Prelude.{ℕ, ◌<◌, List, [], ◌∷◌, Bool, nat_eq, nat_lt, filter, if◌then◌else◌}
 use Rattle.std.specs.List.{list_any, list_all}
 
 -- the slots are in ascending order, each once
@@ -21,3 +21,11 @@ with_slot slot (s ∷ slots) =
 -- each slot of the first is in the second
 abbrev pub is_within : List ℕ → List ℕ → Bool
 is_within slots others = list_all (λ slot. has_slot slot others) slots
+
+-- the slots that are in both
+abbrev pub common : List ℕ → List ℕ → List ℕ
+common slots others = filter (λ slot. has_slot slot others) slots
+
+-- each slot is below the limit
+abbrev pub is_below : ℕ → List ℕ → Bool
+is_below limit slots = list_all (λ slot. nat_lt slot limit) slots

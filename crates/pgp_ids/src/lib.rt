@@ -2,8 +2,8 @@
 //! and past intervals, what monitor and devices tell (map incrementals, infos, log entries) and what is answered (views).
 //! Beside them it gives out why a line, a question or an entry is refused.
 //!
-//! This crate decides nothing. It fixes the names and ranges, and what a contract sees of each type: an id is its
-//! number, a list is a list, a set of slots is the ascending list of its slots.
+//! This crate decides nothing but which parts a grouped pool can have. It fixes the names and ranges, and what a contract
+//! sees of each type: an id is its number, a list is a list, a set of slots is the ascending list of its slots.
 #![tactic(auto)]
 
 mod bucket;
@@ -17,6 +17,8 @@ mod membership;
 mod object_name;
 mod osd;
 mod osds;
+mod part;
+mod parts;
 mod past;
 mod peer;
 mod pg_id;
@@ -40,6 +42,8 @@ pub use membership::Membership;
 pub use object_name::ObjectName;
 pub use osd::OsdId;
 pub use osds::{MAX_OSDS, Osds};
+pub use part::Part;
+pub use parts::{MAX_PARTS, Parts};
 pub use past::Past;
 pub use peer::{MissingObject, PeerMissing, PeerState};
 pub use pg_id::PgId;

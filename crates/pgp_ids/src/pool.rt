@@ -1,3 +1,7 @@
+ghost use Rattle.std.specs.Prelude.{◌≡◌};
+ghost use Rattle.pgp_ids.specs.Pool.{is_by_place};
+
+use super::parts::Parts;
 use super::pool_id::PoolId;
 
 /// How a pool keeps its objects.
@@ -10,6 +14,24 @@ pub enum PoolKind {
         /// 1 to the size of the pool.
         k: u8,
     },
+    /// Each member has one shard, and the object is given back where each part has its least number of slots at hand.
+    Grouped {
+        /// 1 to 16 parts, no slot in two of them.
+        groups: Parts,
+    },
+}
+
+impl PoolKind {
+    /// Whether each member of a group has a place of its own, which is its slot. Otherwise all have slot 0.
+    pub fn is_by_place(&self) -> bool
+        ensures { result ≡ is_by_place self.now }
+    {
+        match self {
+            PoolKind::Replicated => false,
+            PoolKind::Erasure { .. } => true,
+            PoolKind::Grouped { .. } => true,
+        }
+    }
 }
 
 /// A pool, as the map incremental that makes it tells of it. The ranges are those of a pool that a map takes.
@@ -31,7 +53,7 @@ pub struct PoolSpec {
 #[derive(Clone, Copy, Debug)]
 pub struct PoolSizes {
     pub pool: PoolId,
-    /// How many copies or shards it keeps, 1 to 16. That of an erasure pool can't change.
+    /// How many copies or shards it keeps, 1 to 16. That of an erasure or grouped pool can't change.
     pub size: u8,
     /// With how many members a group may serve, 1 to `size`.
     pub min_size: u8,

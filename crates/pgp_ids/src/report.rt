@@ -17,6 +17,9 @@ pub struct Info {
     pub les: Epoch,
     /// The last epoch in which the group began to serve, as far as the member knows (the history's last_epoch_started).
     pub history_les: Epoch,
+    /// The last epoch in which the group was clean, as far as the member knows (the history's last_epoch_clean); 0 where it
+    /// knows of none.
+    pub last_epoch_clean: Epoch,
     /// The last write that the copy has.
     pub last_update: Version,
     /// The version before the first entry of the member's log.

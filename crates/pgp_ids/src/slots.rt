@@ -1,5 +1,5 @@
 ghost use Rattle.std.specs.Prelude.{◌≡◌, ℕ, ◌<◌, ◌^◌, List, [], length};
-ghost use Rattle.pgp_ids.specs.SlotSet.{has_slot, with_slot, is_within};
+ghost use Rattle.pgp_ids.specs.SlotSet.{has_slot, with_slot, is_within, common, is_below};
 
 use std::marker::Model;
 
@@ -7,7 +7,7 @@ use std::marker::Model;
 pub const SLOT_LIMIT: u8 = 32;
 
 /// A set of slots, each below [`SLOT_LIMIT`]. Contracts see it as the list of its slots in ascending order.
-#[derive(Clone, Copy)]
+#[derive(Clone, Copy, Debug)]
 pub struct SlotSet {
     bits: u32,
 }
@@ -64,5 +64,21 @@ impl SlotSet {
         ensures { result ≡ is_within self other }
     {
         self.bits & !other.bits == 0
+    }
+
+    /// The slots that are in both.
+    pub fn common(self, other: SlotSet) -> Self
+        ensures { result ≡ common self other }
+    {
+        SlotSet {
+            bits: self.bits & other.bits,
+        }
+    }
+
+    /// Whether each of its slots is below `limit`.
+    pub fn is_below(self, limit: u8) -> bool
+        ensures { result ≡ is_below limit self }
+    {
+        limit >= SLOT_LIMIT || self.bits < 1 << limit
     }
 }

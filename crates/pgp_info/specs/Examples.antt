@@ -21,6 +21,7 @@ copy_up_to last member =
       stamp = 1;
       les = 0;
       history_les = 0;
+      last_epoch_clean = 0;
       last_update = last;
       log_tail = at 0 0;
       complete = true;

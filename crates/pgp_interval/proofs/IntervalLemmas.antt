@@ -76,30 +76,30 @@ members_at-last_place h place here =
     let at : state_at h place ≡ current_state h = get_or-eq_default h.lived (current_state h) (omega arith) in
     ap (λ (s : EpochState). s.members) at
 
-module _ {C : Type 0} (enough : C → List ℕ → Bool) (by_place : C → Bool) (h : History C) where
+module _ {C : Type 0} (enough : C → List ℕ → Bool) (by_place : C → Bool) (cleans : List ℕ) (h : History C) where
   abbrev ending : ℕ → Past
-  ending = past_ending enough by_place h
+  ending = past_ending enough by_place cleans h
 
-  TellsOf-past_ending : (last : ℕ) → last < last_place h → ends_at h last ≡ true → TellsOf enough by_place h (ending last) (opening_of h last) last
+  TellsOf-past_ending : (last : ℕ) → last < last_place h → ends_at h last ≡ true → TellsOf enough by_place cleans h (ending last) (opening_of h last) last
   TellsOf-past_ending last over ends =
       let interval = IsInterval-opening_of h last (omega arith) (λ _. ends) in
       search
 
-  pub EachIsOver-past_intervals : EachIsOver enough by_place h (past_intervals enough by_place h)
+  pub EachIsOver-past_intervals : EachIsOver enough by_place cleans h (past_intervals enough by_place cleans h)
   EachIsOver-past_intervals =
-      All-members (λ p. (first : ℕ) × ((last : ℕ) × TellsOf enough by_place h p first last)) (past_intervals enough by_place h) (λ p in'.
+      All-members (λ p. (first : ℕ) × ((last : ℕ) × TellsOf enough by_place cleans h p first last)) (past_intervals enough by_place cleans h) (λ p in'.
       let made = map-contains ending (past_ends h) p in' in
       let kept = filter-contains (ends_at h) (range_with_len 0 (last_place h)) made.0 made.1.0 in
       let tells = TellsOf-past_ending made.0 (range-below (last_place h) made.0 kept.0) kept.1 in
-      (opening_of h made.0, (made.0, subst (λ q. TellsOf enough by_place h q (opening_of h made.0) made.0) made.1.1 tells)))
+      (opening_of h made.0, (made.0, subst (λ q. TellsOf enough by_place cleans h q (opening_of h made.0) made.0) made.1.1 tells)))
 
-  pub HasEachOver-past_intervals : HasEachOver enough by_place h (past_intervals enough by_place h)
+  pub HasEachOver-past_intervals : HasEachOver enough by_place cleans h (past_intervals enough by_place cleans h)
   HasEachOver-past_intervals first last run over =
       let ends : ends_at h last ≡ true = differ-ends h last (λ same. run.after over (sym same)) in
       let there = contains-filter (ends_at h) (range_with_len 0 (last_place h)) last (below-range (last_place h) last over) ends in (
         ending last,
         contains-map ending (past_ends h) last there,
-        subst (λ a. TellsOf enough by_place h (ending last) a last) (opening_of-interval h first last run) (TellsOf-past_ending last over ends),
+        subst (λ a. TellsOf enough by_place cleans h (ending last) a last) (opening_of-interval h first last run) (TellsOf-past_ending last over ends),
       )
 
   -- ---- the intervals lie end to end
@@ -133,9 +133,9 @@ module _ {C : Type 0} (enough : C → List ℕ → Bool) (by_place : C → Bool)
             rw stays (subst (λ k. LieEndToEnd h (h.first + k) (past_from (place + 1) n)) from rest)
       ]
 
-  pub lie_end_to_end : LieEndToEnd h h.first (past_intervals enough by_place h)
+  pub lie_end_to_end : LieEndToEnd h h.first (past_intervals enough by_place cleans h)
   lie_end_to_end =
       let from : h.first + opening_of h 0 ≡ h.first = omega arith in
-      subst (λ k. LieEndToEnd h k (past_intervals enough by_place h)) from (LieEndToEnd-range 0 (last_place h) (omega arith))
+      subst (λ k. LieEndToEnd h k (past_intervals enough by_place cleans h)) from (LieEndToEnd-range 0 (last_place h) (omega arith))
 
 pub ruleset past_laws = (EachIsOver-past_intervals, HasEachOver-past_intervals)

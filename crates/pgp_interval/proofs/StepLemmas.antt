@@ -53,13 +53,13 @@ module _ {C : Type 0} (h : History C) (members : Membership) (facts : PrimaryFac
 
   -- ---- the past intervals
 
-  module _ (enough : C → List ℕ → Bool) (by_place : C → Bool) where
-    past-stepped : map (past_ending enough by_place after) (filter (ends_at after) (range_with_len 0 (last_place h))) ≡ past_intervals enough by_place h
+  module _ (enough : C → List ℕ → Bool) (by_place : C → Bool) (cleans : List ℕ) where
+    past-stepped : map (past_ending enough by_place cleans after) (filter (ends_at after) (range_with_len 0 (last_place h))) ≡ past_intervals enough by_place cleans h
     past-stepped =
         let below = range-below (last_place h) in
-        ap (map (past_ending enough by_place after))
+        ap (map (past_ending enough by_place cleans after))
         (filter-agree (ends_at after) (ends_at h) (range_with_len 0 (last_place h)) (λ k in'. ends_at-stepped k (below k in')))
-        ∙ map-agree (past_ending enough by_place after) (past_ending enough by_place h) (past_ends h) (λ k in'.
+        ∙ map-agree (past_ending enough by_place cleans after) (past_ending enough by_place cleans h) (past_ends h) (λ k in'.
         let before : k < last_place h = below k ((filter-contains (ends_at h) (range_with_len 0 (last_place h)) k in').0) in
         grind (arith, before, opening_of-stepped k, state_at-stepped k))
 
@@ -75,12 +75,12 @@ goes_on h facts =
     let after : History _ = stepped h h.current facts in
     grind (arith, same-stays after (last_place h), members_at-stepped h h.current facts (last_place h), members_at-last_place h (last_place h), members_at-next h h.current facts)
 
-pub past_intervals-continues : {C : Type 0} (enough : C → List ℕ → Bool) (by_place : C → Bool) (h : History C) (facts : PrimaryFacts) → past_intervals enough by_place (stepped h h.current facts) ≡ past_intervals enough by_place h
-past_intervals-continues enough by_place h facts =
+pub past_intervals-continues : {C : Type 0} (enough : C → List ℕ → Bool) (by_place : C → Bool) (cleans : List ℕ) (h : History C) (facts : PrimaryFacts) → past_intervals enough by_place cleans (stepped h h.current facts) ≡ past_intervals enough by_place cleans h
+past_intervals-continues enough by_place cleans h facts =
     let after : History _ = stepped h h.current facts in
     let places = length_push h.lived (ended_state h facts) in
-    let stays = map_filter_range-fails (past_ending enough by_place after) (ends_at after) (last_place h) (goes_on h facts) in
-    grind (arith, places, stays, past-stepped h h.current facts enough by_place)
+    let stays = map_filter_range-fails (past_ending enough by_place cleans after) (ends_at after) (last_place h) (goes_on h facts) in
+    grind (arith, places, stays, past-stepped h h.current facts enough by_place cleans)
 
 pub current_first-continues : {C : Type 0} (h : History C) (facts : PrimaryFacts) → current_first (stepped h h.current facts) ≡ current_first h
 current_first-continues h facts =
@@ -91,12 +91,12 @@ current_first-continues h facts =
 
 -- ---- a step to another membership
 
-pub past_intervals-ends : {C : Type 0} (enough : C → List ℕ → Bool) (by_place : C → Bool) (h : History C) (members : Membership) (facts : PrimaryFacts) → members ≢ h.current → past_intervals enough by_place (stepped h members facts) ≡ past_intervals enough by_place h ++ current_ending enough by_place h facts ∷ []
-past_intervals-ends enough by_place h members facts differ =
+pub past_intervals-ends : {C : Type 0} (enough : C → List ℕ → Bool) (by_place : C → Bool) (cleans : List ℕ) (h : History C) (members : Membership) (facts : PrimaryFacts) → members ≢ h.current → past_intervals enough by_place cleans (stepped h members facts) ≡ past_intervals enough by_place cleans h ++ current_ending enough by_place cleans h facts ∷ []
+past_intervals-ends enough by_place cleans h members facts differ =
     let after : History _ = stepped h members facts in
     let places = length_push h.lived (ended_state h facts) in
-    let more = map_filter_range-passes (past_ending enough by_place after) (ends_at after) (last_place h) (ends h members facts differ) in
-    let past = past-stepped h members facts enough by_place in
+    let more = map_filter_range-passes (past_ending enough by_place cleans after) (ends_at after) (last_place h) (ends h members facts differ) in
+    let past = past-stepped h members facts enough by_place cleans in
     grind (arith, places, more, past, opening_of-stepped h members facts (last_place h), state_at-ended h members facts)
 
 pub current_first-ends : {C : Type 0} (h : History C) (members : Membership) (facts : PrimaryFacts) → members ≢ h.current → current_first (stepped h members facts) ≡ h.first + last_place h + 1

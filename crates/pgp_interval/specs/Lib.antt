@@ -2,6 +2,8 @@ pub mod SameMembers
 pub mod History
 pub mod ReadWrite
 pub mod Runs
+pub mod Raised
+pub mod InOrder
 pub mod Interval
 pub mod IntervalsOf
 pub mod Examples

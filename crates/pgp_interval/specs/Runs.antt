@@ -26,35 +26,36 @@ greatest_below test limit = fold max 0 (filter test (range_with_len 0 limit))
 abbrev pub opening_of : {C : Type 0} → History C → ℕ → ℕ
 opening_of h place = greatest_below (opens_at h) (place + 1)
 
--- the past interval from the epoch `first` to the epoch `last`, which ended in this state
-abbrev pub past_of : (List ℕ → Bool) → Bool → ℕ → ℕ → EpochState → Past
-past_of enough by_place first last ended =
+-- the past interval from the epoch `first` to the epoch `last`, which ended in this state, of a group that was clean in these
+-- epochs
+abbrev pub past_of : (List ℕ → Bool) → Bool → List ℕ → ℕ → ℕ → EpochState → Past
+past_of enough by_place cleans first last ended =
     record {
       first = first;
       last = last;
       members = ended.members;
-      rw = may_have_gone_rw enough by_place ended first;
+      rw = may_have_gone_rw enough by_place cleans ended first last;
     }
 
 -- the past interval that ends at this place
-abbrev pub past_ending : {C : Type 0} → (C → List ℕ → Bool) → (C → Bool) → History C → ℕ → Past
-past_ending enough by_place h last =
-    past_of (enough h.code) (by_place h.code) (h.first + opening_of h last) (h.first + last) (state_at h last)
+abbrev pub past_ending : {C : Type 0} → (C → List ℕ → Bool) → (C → Bool) → List ℕ → History C → ℕ → Past
+past_ending enough by_place cleans h last =
+    past_of (enough h.code) (by_place h.code) cleans (h.first + opening_of h last) (h.first + last) (state_at h last)
 
 -- the last places of the past intervals, in ascending order
 abbrev pub past_ends : {C : Type 0} → History C → List ℕ
 past_ends h = filter (ends_at h) (range_with_len 0 (last_place h))
 
 -- the past intervals, in ascending order
-abbrev pub past_intervals : {C : Type 0} → (C → List ℕ → Bool) → (C → Bool) → History C → List Past
-past_intervals enough by_place h = map (past_ending enough by_place h) (past_ends h)
+abbrev pub past_intervals : {C : Type 0} → (C → List ℕ → Bool) → (C → Bool) → List ℕ → History C → List Past
+past_intervals enough by_place cleans h = map (past_ending enough by_place cleans h) (past_ends h)
 
 -- the first epoch of the current interval
 abbrev pub current_first : {C : Type 0} → History C → ℕ
 current_first h = h.first + opening_of h (last_place h)
 
 -- the current interval as a past one, where it ends with these facts
-abbrev pub current_ending : {C : Type 0} → (C → List ℕ → Bool) → (C → Bool) → History C → PrimaryFacts → Past
-current_ending enough by_place h facts =
+abbrev pub current_ending : {C : Type 0} → (C → List ℕ → Bool) → (C → Bool) → List ℕ → History C → PrimaryFacts → Past
+current_ending enough by_place cleans h facts =
     let ended : EpochState = record { members = h.current; facts = facts } in
-    past_of (enough h.code) (by_place h.code) (current_first h) (h.first + last_place h) ended
+    past_of (enough h.code) (by_place h.code) cleans (current_first h) (h.first + last_place h) ended

@@ -1,11 +1,13 @@
-ghost use Rattle.std.specs.Prelude.{◌≡◌, ◌+◌, ◌<◌, ◌≤◌, List, length, slice_get, Some, IfOk, OnOk, OnErr};
+ghost use Rattle.std.specs.Prelude.{◌≡◌, ℕ, ◌+◌, ◌<◌, ◌≤◌, List, [], ◌∷◌, ◌++◌, length, slice_get, Some, IfOk, IfNone, IfSome, IsSomeAnd, OnOk, OnErr, false};
 ghost use Rattle.pgp_ids.specs.declared.history.PrimaryFacts.{PrimaryFacts as Facts};
 ghost use Rattle.pgp_interval.specs.History.{History, begun, stepped, stayed};
 ghost use Rattle.pgp_interval.specs.IntervalsOf.{IsIntervalsOf};
+ghost use Rattle.pgp_ids.specs.Past.{raised_at};
 ghost use Rattle.pgp_interval.specs.Runs.{past_intervals, current_first};
 
 use super::members::is_same;
 use super::past::past_of;
+use super::raise::place_to_raise;
 use pgp_code::Recoverable;
 use pgp_ids::{Epoch, EpochState, Membership, Past, PrimaryFacts};
 use std::alloc::{AllocError, Global};
@@ -14,7 +16,8 @@ use std::mem;
 
 /// The intervals of a placement group, of a pool with the code `R`, as its history grows by an epoch after another.
 ///
-/// It keeps the past intervals and the current one, and nothing of single epochs.
+/// It keeps the past intervals and the current one, and nothing of single epochs. At any time an info can name an epoch
+/// in which the group was clean (`clean`).
 pub struct Intervals<R> {
     code: R,
     /// The past intervals, in ascending order.
@@ -25,6 +28,8 @@ pub struct Intervals<R> {
     last: Epoch,
     /// The membership of the current interval.
     current: Membership,
+    /// Whether the group was clean in an epoch of the current interval.
+    clean: bool,
 }
 
 // Written out, so that a crate which lets one go has nothing to prove of what lies within.
@@ -36,6 +41,7 @@ impl<R: Drop> Drop for Intervals<R> {
             first: _,
             last: _,
             current: _,
+            clean: _,
         } = self;
     }
 }
@@ -51,13 +57,14 @@ impl<R> Model for Intervals<R> {
       first = i.first;
       last = i.last;
       current = i.current;
+      clean = i.clean;
     } };
 }
 
 impl<R: Recoverable> Intervals<R> {
     /// The intervals of a history of one epoch, the first of the group's life, which is not over yet.
     pub fn begin(alloc: Global, code: R, first: Epoch, members: Membership) -> Self
-        ensures { IsIntervalsOf R.enough R.by_place (begun code first members) result }
+        ensures { IsIntervalsOf R.enough R.by_place (begun code first members) [] result }
     {
         Intervals {
             code,
@@ -65,6 +72,7 @@ impl<R: Recoverable> Intervals<R> {
             first,
             last: first,
             current: members,
+            clean: false,
         }
     }
 
@@ -79,8 +87,9 @@ impl<R: Recoverable> Intervals<R> {
         facts: PrimaryFacts,
     ) -> Result<(), AllocError>
         requires { epoch ≡ self.old.last + 1 }
-        ensures ok { OnOk result ((h : History R) → IsIntervalsOf R.enough R.by_place h self.old
-            → IsIntervalsOf R.enough R.by_place (stepped h members facts) self.new) }
+        ensures ok { OnOk result ((h : History R) (cleans : List ℕ)
+            → IsIntervalsOf R.enough R.by_place h cleans self.old
+            → IsIntervalsOf R.enough R.by_place (stepped h members facts) cleans self.new) }
         ensures err { OnErr result (self.new ≡ self.old) }
     {
         if !is_same(&self.current, &members) {
@@ -89,9 +98,10 @@ impl<R: Recoverable> Intervals<R> {
                 members: mem::replace(&mut self.current, members),
                 facts,
             };
-            let past = past_of(&self.code, self.first, self.last, ended);
+            let past = past_of(&self.code, self.first, self.last, ended, self.clean);
             self.past.push_reserved(past);
             self.first = epoch;
+            self.clean = false;
         }
         self.last = epoch;
         Ok(())
@@ -102,10 +112,36 @@ impl<R: Recoverable> Intervals<R> {
     /// What the maps of these epochs say of the primary plays no part as long as the membership stays.
     pub fn stay(&mut self, to: Epoch)
         requires { self.old.last ≤ to }
-        ensures { (h : History R) (told : List Facts) → IsIntervalsOf R.enough R.by_place h self.old
-            → to ≡ self.old.last + length told → IsIntervalsOf R.enough R.by_place (stayed h told) self.new }
+        ensures { (h : History R) (cleans : List ℕ) (told : List Facts)
+            → IsIntervalsOf R.enough R.by_place h cleans self.old → to ≡ self.old.last + length told
+            → IsIntervalsOf R.enough R.by_place (stayed h told) cleans self.new }
     {
         self.last = to;
+    }
+
+    /// An info of the group names this epoch as its `last_epoch_clean`: all of the group's copies were complete and in
+    /// place then. It takes no memory.
+    ///
+    /// Answers the place of the past interval that turns out to have gone read-write, where there is one. For the
+    /// current interval the epoch is remembered until it ends. An epoch before the group's first has no effect.
+    pub fn clean(&mut self, epoch: Epoch) -> Option<usize>
+        requires { epoch ≤ self.old.last }
+        ensures history { (h : History R) (cleans : List ℕ)
+            → IsIntervalsOf R.enough R.by_place h cleans self.old
+            → IsIntervalsOf R.enough R.by_place h (cleans ++ epoch ∷ []) self.new }
+        ensures none { IfNone result (self.new.past ≡ self.old.past) }
+        ensures was { IfSome result
+            (λ place. IsSomeAnd (slice_get self.old.past place) (λ p. p.rw ≡ false)) }
+        ensures raised { IfSome result (λ place. self.new.past ≡ raised_at place self.old.past) }
+        ensures rest { self.new ≡ record self.old { past = self.new.past; clean = self.new.clean } }
+    {
+        if self.first <= epoch {
+            self.clean = true;
+            return None;
+        }
+        let place = place_to_raise(&self.code, self.past.as_slice(), epoch)?;
+        self.past[place].rw = true;
+        Some(place)
     }
 
     pub fn code(&self) -> &R
@@ -123,8 +159,9 @@ impl<R: Recoverable> Intervals<R> {
 
     /// The past intervals, in ascending order.
     pub fn past(&self, alloc: Global) -> Result<Vec<Past>, AllocError>
-        ensures { IfOk result (λ past. (h : History R) → IsIntervalsOf R.enough R.by_place h self.now
-            → past.items ≡ past_intervals R.enough R.by_place h) }
+        ensures { IfOk result (λ past. (h : History R) (cleans : List ℕ)
+            → IsIntervalsOf R.enough R.by_place h cleans self.now
+            → past.items ≡ past_intervals R.enough R.by_place cleans h) }
     {
         let mut past = Vec::with_capacity(alloc, self.past.len())?;
         for interval in self.past.as_slice() {
@@ -136,8 +173,9 @@ impl<R: Recoverable> Intervals<R> {
     /// How many past intervals there are.
     pub fn past_len(&self) -> usize
         ensures kept { result ≡ length self.now.past }
-        ensures past { (h : History R) → IsIntervalsOf R.enough R.by_place h self.now
-            → result ≡ length (past_intervals R.enough R.by_place h) }
+        ensures past { (h : History R) (cleans : List ℕ)
+            → IsIntervalsOf R.enough R.by_place h cleans self.now
+            → result ≡ length (past_intervals R.enough R.by_place cleans h) }
     {
         self.past.len()
     }
@@ -145,18 +183,18 @@ impl<R: Recoverable> Intervals<R> {
     /// The past interval at this place, in ascending order. It takes no memory.
     pub fn past_at(&self, place: usize) -> Past
         requires { place < length self.now.past }
-        ensures { (h : History R) → IsIntervalsOf R.enough R.by_place h self.now
-            → slice_get (past_intervals R.enough R.by_place h) place ≡ Some result }
+        ensures { (h : History R) (cleans : List ℕ) → IsIntervalsOf R.enough R.by_place h cleans self.now
+            → slice_get (past_intervals R.enough R.by_place cleans h) place ≡ Some result }
     {
         self.past[place].copy()
     }
 
     /// The interval that reaches the current epoch: its first epoch and its membership.
     pub fn current(&self) -> (Epoch, Membership)
-        ensures first { (h : History R) → IsIntervalsOf R.enough R.by_place h self.now
-            → result.0 ≡ current_first h }
-        ensures members { (h : History R) → IsIntervalsOf R.enough R.by_place h self.now
-            → result.1 ≡ h.current }
+        ensures first { (h : History R) (cleans : List ℕ)
+            → IsIntervalsOf R.enough R.by_place h cleans self.now → result.0 ≡ current_first h }
+        ensures members { (h : History R) (cleans : List ℕ)
+            → IsIntervalsOf R.enough R.by_place h cleans self.now → result.1 ≡ h.current }
     {
         (self.first, self.current.copy())
     }

@@ -2,7 +2,8 @@
 //!
 //! From a group's history, an epoch after another, this crate decides which intervals are past, in which of them the
 //! group may have gone read-write, and where the current one opens. The rules are those of Ceph's developer
-//! documentation on peering (past intervals, up_thru).
+//! documentation on peering (past intervals, up_thru), and one of this project's own: a group that was clean in an epoch
+//! of an interval (Ceph's `last_epoch_clean`) may have gone read-write in it.
 #![tactic(auto)]
 
 mod acting;
@@ -10,6 +11,7 @@ mod intervals;
 pub mod laws;
 mod members;
 mod past;
+mod raise;
 mod read_write;
 
 pub use acting::acting_slots;

@@ -1,23 +1,38 @@
-ghost use Rattle.std.specs.Prelude.{◌≡◌};
-ghost use Rattle.pgp_interval.specs.ReadWrite.{may_have_gone_rw};
+ghost use Rattle.std.specs.Prelude.{◌≡◌, ◌&&◌, ◌||◌};
+ghost use Rattle.pgp_interval.specs.ReadWrite.{can_write, is_recorded};
 
 use super::acting::acting_slots;
 use pgp_code::Recoverable;
-use pgp_ids::{Epoch, EpochState};
+use pgp_ids::{Epoch, EpochState, Membership};
 
-/// Whether a group of this code may have gone read-write in an interval that opened at the epoch `first`, and whose
-/// last epoch was `state`.
+/// Whether a group of this code could serve writes with these members.
 ///
-/// It takes `min_size` acting members and an acting primary, and members whose slots are enough for the code. And the
-/// primary must have been recorded as up within the interval (`up_thru`) since a boot no later than its opening
-/// (`up_from`): a primary that was not is one that acknowledged no write.
-pub fn may_have_gone_rw<R: Recoverable>(code: &R, state: &EpochState, first: Epoch) -> bool
-    ensures { result ≡ may_have_gone_rw (R.enough code.now) (R.by_place code.now) state.now first }
+/// It takes `min_size` acting members and an acting primary, and members whose slots are enough for the code.
+pub fn can_write<R: Recoverable>(code: &R, members: &Membership) -> bool
+    ensures { result ≡ can_write (R.enough code.now) (R.by_place code.now) members.now }
 {
-    let members = &state.members;
     members.acting.osd_count() >= usize::from(members.min_size)
         && members.acting_primary.is_some()
         && code.enough(acting_slots(code.by_place(), &members.acting))
-        && state.facts.up_thru >= first
-        && state.facts.up_from <= first
+}
+
+/// Whether a group of this code may have gone read-write in an interval that opened at the epoch `first`, and whose
+/// last epoch was `state`. `clean` says whether the group was clean in one of the interval's epochs.
+///
+/// It takes members that could serve writes. And the primary must have been recorded as up within the interval
+/// (`up_thru`) since a boot no later than its opening (`up_from`): a primary that was not is one that acknowledged no
+/// write. What the maps record can lag behind, so a group that was clean within the interval (Ceph's
+/// `pg_history_t::last_epoch_clean`: the last epoch in which all of its copies were complete and in place) may have gone
+/// read-write too. Ceph judges by both (`PastIntervals::check_new_interval`).
+pub fn may_have_gone_rw<R: Recoverable>(
+    code: &R,
+    state: &EpochState,
+    first: Epoch,
+    clean: bool,
+) -> bool
+    ensures { result ≡ (can_write (R.enough code.now) (R.by_place code.now) state.now.members
+        && (is_recorded state.now.facts first || clean)) }
+{
+    let recorded = state.facts.up_thru >= first && state.facts.up_from <= first;
+    can_write(code, &state.members) && (recorded || clean)
 }

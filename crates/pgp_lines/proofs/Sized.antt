@@ -7,20 +7,26 @@ use Rattle.std.proofs.lemmas.Bool.Decides.{leb_tells}
 use Rattle.std.proofs.lemmas.Option.{IfSome_then}
 use Rattle.serde_json.specs.Data.{Data}
 use Rattle.serde_json.specs.Find.{get, as_bool, as_number, as_u64, as_str}
+use Rattle.pgp_ids.specs.Parts.{are_parts}
+use Rattle.pgp_ids.specs.Pool.{is_by_place}
 use Rattle.pgp_ids.specs.declared.entry.Entry.TheVariants.{Entries}
+use Rattle.pgp_ids.specs.declared.part.Part.{Part}
 use Rattle.pgp_ids.specs.declared.report.Info.{Info}
 use Rattle.pgp_ids.specs.declared.report.Report.{Report}
-use Rattle.pgp_ids.specs.declared.pool.PoolKind.TheVariants.{Replicated, Erasure}
+use Rattle.pgp_ids.specs.declared.pool.PoolKind.TheVariants.{Replicated, Erasure, Grouped}
 use Rattle.pgp_lines.specs.LineFault.{LineFault, no_op, bad_field, ◌>>=◌}
 use Rattle.pgp_lines.specs.Shapes.{is_between, number_in, items_in, pair_in, each, list_in, has_only, field, required, unknown_key_in}
-use Rattle.pgp_lines.specs.Trace.{replicated_in, erasure_in, code_of_kind, code_in, has_empty_places, epochs_in}
+use Rattle.pgp_lines.specs.Trace.{replicated_in, erasure_in, grouped_in, code_of_kind, kind_in, code_in, epochs_in}
+use Rattle.pgp_lines.specs.Format.{format_of, read_in, judged, has_kind}
+use Rattle.pgp_lines.specs.Groups.{groups_in, code_groups_in}
 use Rattle.pgp_lines.specs.Ids.{osd_in, pool_id_in, word_in}
 use Rattle.pgp_lines.specs.Incremental.{inc_of}
 use Rattle.pgp_lines.specs.ReportParts.{pg_in, member_in, name_in, log_entry_in}
-use Rattle.pgp_lines.specs.Reports.{reach_of, info_of, entries_of, locate_of}
-use Rattle.pgp_lines.specs.Command.{op_in, op_keys, trace_of, command_with, known, command_in, IsTraceCode, IsGroup, IsMember, IsEntry, IsInRange}
+use Rattle.pgp_lines.specs.Reports.{history_of, reach_of, info_of, entries_of, locate_of}
+use Rattle.pgp_lines.specs.Command.{op_in, op_keys, trace_of, values_of, command_with, known, command_in, IsTraceCode, IsGroup, IsMember, IsEntry, IsInRange}
 use Rattle.pgp_lines.specs.declared.command.Command.{Command}
 use Rattle.pgp_lines.specs.declared.command.Command.TheVariants.{Locate}
+use Rattle.pgp_lines.specs.declared.command.format.Format.{Format}
 use Rattle.pgp_lines.specs.declared.command.Op.{Op}
 use Rattle.pgp_lines.specs.declared.command.Op.TheVariants as op
 
@@ -104,13 +110,30 @@ erasure_ok d =
     let k = from_any (IsWithin 1 16) (get (codes "k") d) (number_in 1 16) (number_within 1 16) in
     tested IsTraceCode (has_only (codes "k" ∷ codes "kind" ∷ []) d) _ (λ is. mapped IsTraceCode (IsWithin 1 16) (field (codes "k") (number_in 1 16) d) Erasure k (λ n ok. ok))
 
-either_kind : (a b : Bool) (d : Data) → IfSome (cond a (replicated_in d) (cond b (erasure_in d) None)) IsTraceCode
-either_kind true b d = replicated_ok d
-either_kind false b d = tested IsTraceCode b (erasure_in d) (λ is. erasure_ok d)
+abbrev AreParts : List (Option Part) → Type 0
+AreParts groups = are_parts 16 groups ≡ true
 
-code_ok : (d : Data) → IfSome (code_in d) IsTraceCode
-code_ok d =
-    from_any IsTraceCode (field (codes "kind") as_str d) (code_of_kind d) (λ kind. either_kind (bytes_eq kind (codes "replicated")) (bytes_eq kind (codes "erasure")) d)
+code_groups_ok : (d : Data) → IfSome (code_groups_in d) AreParts
+code_groups_ok d = from_any AreParts (groups_in d) _ (λ groups. tested AreParts (are_parts 16 groups) (Some groups) (λ is. is))
+
+grouped_ok : (d : Data) → IfSome (grouped_in d) IsTraceCode
+grouped_ok d =
+    let groups = from_any AreParts (get (codes "groups") d) code_groups_in code_groups_ok in
+    tested IsTraceCode (has_only (codes "groups" ∷ codes "kind" ∷ []) d) _
+    (λ is. mapped IsTraceCode AreParts (field (codes "groups") code_groups_in d) Grouped groups (λ found ok. ok))
+
+any_kind : (a b c : Bool) (d : Data) → IfSome (cond a (replicated_in d) (cond b (erasure_in d) (cond c (grouped_in d) None))) IsTraceCode
+any_kind true b c d = replicated_ok d
+any_kind false true c d = erasure_ok d
+any_kind false false c d = tested IsTraceCode c (grouped_in d) (λ is. grouped_ok d)
+
+kind_ok : (d : Data) → IfSome (kind_in d) IsTraceCode
+kind_ok d =
+    from_any IsTraceCode (field (codes "kind") as_str d) (code_of_kind d)
+    (λ kind. any_kind (bytes_eq kind (codes "replicated")) (bytes_eq kind (codes "erasure")) (bytes_eq kind (codes "grouped")) d)
+
+code_ok : (format : Format) (d : Data) → IfSome (code_in format d) IsTraceCode
+code_ok format d = from_some IsTraceCode IsTraceCode (kind_in d) _ (kind_ok d) (λ kind ok. tested IsTraceCode (has_kind format kind) (Some kind) (λ is. ok))
 
 group_ok : (d : Data) → IfSome (pg_in d) IsGroup
 group_ok d =
@@ -133,10 +156,10 @@ name_ok d =
 
 -- ---- the lines
 
-trace_ok : (d : Data) → IfOk (trace_of d) IsInRange
-trace_ok d =
-    required_then IsInRange IsTraceCode (codes "code") code_in d _ code_ok
-    (λ code of_code. required_then IsInRange (λ epochs. IsWithin 1 4096 (length epochs)) (codes "epochs") (epochs_in (has_empty_places code)) d _ (list_sized 1 4096 _)
+trace_ok : (format : Format) (d : Data) → IfOk (trace_of format d) IsInRange
+trace_ok format d =
+    required_then IsInRange IsTraceCode (codes "code") (code_in format) d _ (code_ok format)
+    (λ code of_code. required_then IsInRange (λ epochs. IsWithin 1 4096 (length epochs)) (codes "epochs") (epochs_in (is_by_place code)) d _ (list_sized 1 4096 _)
     (λ epochs sized. (of_code, sized.0, sized.1)))
 
 abbrev IsInfo : Info → Type 0
@@ -146,9 +169,10 @@ info_ok : (d : Data) → IfOk (info_of d) IsInfo
 info_ok d =
     past IsInfo (required (codes "complete") as_bool d) _
     (λ complete. required_then IsInfo IsMember (codes "from") member_in d _ member_ok
-    (λ member of_member. past IsInfo (reach_of d) _
+    (λ member of_member. past IsInfo (history_of d) _
+    (λ history. past IsInfo (reach_of d) _
     (λ reach. required_then IsInfo IsGroup (codes "pg") pg_in d _ group_ok
-    (λ pg of_pg. past IsInfo (required (codes "stamp") word_in d) _ (λ stamp. (of_pg, of_member))))))
+    (λ pg of_pg. past IsInfo (required (codes "stamp") word_in d) _ (λ stamp. (of_pg, of_member)))))))
 
 abbrev IsReport : Report → Type 0
 IsReport report = IsEntry (Entries report)
@@ -169,14 +193,19 @@ locate_ok d =
     (λ name sized. required_then IsPlace (IsWithin 1 255) (codes "pool") pool_id_in d _ (number_within 1 255)
     (λ pool ranged. (ranged.0, ranged.1, sized.0, sized.1)))
 
+values_ok : (named : Op) (format : Option Format) (d : Data) → IfOk (values_of named format d) IsInRange
+values_ok op.Ask format d = required_then IsInRange IsGroup (codes "pg") pg_in d _ group_ok (λ pg ok. ok)
+values_ok op.Close format d = tt
+values_ok op.Entries format d = from_ok IsInRange IsReport (entries_of d) _ (entries_ok d) (λ report ok. ok)
+values_ok op.Inc format d = past IsInRange (inc_of format d) _ (λ inc. tt)
+values_ok op.Info format d = from_ok IsInRange IsInfo (info_of d) _ (info_ok d) (λ info ok. ok)
+values_ok op.Locate format d = from_ok IsInRange IsPlace (locate_of d) _ (locate_ok d) (λ object ok. ok)
+values_ok op.Trace format d = trace_ok (read_in format) d
+
 with_ok : (named : Op) (d : Data) → IfOk (command_with named d) IsInRange
-with_ok op.Ask d = required_then IsInRange IsGroup (codes "pg") pg_in d _ group_ok (λ pg ok. ok)
-with_ok op.Close d = tt
-with_ok op.Entries d = from_ok IsInRange IsReport (entries_of d) _ (entries_ok d) (λ report ok. ok)
-with_ok op.Inc d = past IsInRange (inc_of d) _ (λ inc. tt)
-with_ok op.Info d = from_ok IsInRange IsInfo (info_of d) _ (info_ok d) (λ info ok. ok)
-with_ok op.Locate d = from_ok IsInRange IsPlace (locate_of d) _ (locate_ok d) (λ object ok. ok)
-with_ok op.Trace d = trace_ok d
+with_ok named d =
+    from_ok IsInRange IsInRange (values_of named (format_of d) d) _ (values_ok named (format_of d) d)
+    (λ command ok. past IsInRange (judged (format_of d)) _ (λ known. ok))
 
 known_ok : (key : Option (List ℕ)) (read : Result Command LineFault) → IfOk read IsInRange → IfOk (known key read) IsInRange
 known_ok (Some key) read ok = tt

@@ -1,23 +1,27 @@
 -- The command that a line is, in this project's own format over JSON (RFC 8259).
-use Rattle.std.specs.Prelude.{◌≤◌, ℕ, List, [], ◌∷◌, length, codes, if◌then◌else◌, Option, Some, None, Result, Ok, Err, option_and_then}
+use Rattle.std.specs.Prelude.{◌≡◌, ◌≤◌, ℕ, true, List, [], ◌∷◌, length, codes, if◌then◌else◌, Option, Some, None, Result, Ok, Err, option_and_then}
 use Rattle.std.specs.Option.{ok_or}
 use Rattle.std.specs.Str.{bytes_eq, is_utf8}
 use Rattle.serde_json.specs.Data.{Data}
 use Rattle.serde_json.specs.Find.{as_str}
 use Rattle.serde_json.specs.Read.{read}
+use Rattle.pgp_ids.specs.Parts.{are_parts}
+use Rattle.pgp_ids.specs.Pool.{is_by_place}
 use Rattle.pgp_ids.specs.declared.entry.Entry.{Entry}
 use Rattle.pgp_ids.specs.declared.entry.Entry.TheVariants.{Inc, Info, Entries, Close}
 use Rattle.pgp_ids.specs.declared.member.Member.{Member}
 use Rattle.pgp_ids.specs.declared.pg_id.PgId.{PgId}
 use Rattle.pgp_ids.specs.declared.pool.PoolKind.{PoolKind}
-use Rattle.pgp_ids.specs.declared.pool.PoolKind.TheVariants.{Replicated, Erasure}
+use Rattle.pgp_ids.specs.declared.pool.PoolKind.TheVariants.{Replicated, Erasure, Grouped}
 use Rattle.pgp_lines.specs.LineFault.{LineFault, not_json, no_op, unknown_key, ◌>>=◌}
 use Rattle.pgp_lines.specs.Shapes.{unknown_key_in, field, required}
+use Rattle.pgp_lines.specs.Format.{format_of, read_in, judged}
 use Rattle.pgp_lines.specs.Incremental.{inc_keys, inc_of}
 use Rattle.pgp_lines.specs.Reports.{info_keys, info_of, entries_keys, entries_of, ask_keys, ask_of, locate_keys, locate_of}
-use Rattle.pgp_lines.specs.Trace.{trace_keys, code_in, epochs_in, has_empty_places}
+use Rattle.pgp_lines.specs.Trace.{trace_keys, code_in, epochs_in}
 use Rattle.pgp_lines.specs.declared.command.Command.{Command}
 use Rattle.pgp_lines.specs.declared.command.Command.TheVariants.{Submit, Ask, Locate, Trace}
+use Rattle.pgp_lines.specs.declared.command.format.Format.{Format}
 use Rattle.pgp_lines.specs.declared.command.Op.{Op}
 use Rattle.pgp_lines.specs.declared.command.Op.TheVariants as op
 
@@ -39,39 +43,47 @@ op_in d = option_and_then op_named (field (codes "op") as_str d)
 -- the keys that its line may have
 abbrev pub op_keys : Op → List (List ℕ)
 op_keys op.Ask = ask_keys
-op_keys op.Close = codes "op" ∷ []
+op_keys op.Close = codes "op" ∷ codes "v" ∷ []
 op_keys op.Entries = entries_keys
 op_keys op.Inc = inc_keys
 op_keys op.Info = info_keys
 op_keys op.Locate = locate_keys
 op_keys op.Trace = trace_keys
 
--- the line of a trace: its keys are judged in ascending byte order, so the least bad one is named
-abbrev pub trace_of : Data → Result Command LineFault
-trace_of d = do
-  code ← required (codes "code") code_in d
-  epochs ← required (codes "epochs") (epochs_in (has_empty_places code)) d
+-- the line of a trace in this version: its keys are judged in ascending byte order, so the least bad one is named
+abbrev pub trace_of : Format → Data → Result Command LineFault
+trace_of format d = do
+  code ← required (codes "code") (code_in format) d
+  epochs ← required (codes "epochs") (epochs_in (is_by_place code)) d
   Ok (Trace code epochs)
 
--- the line of this operation, past the judgement of its keys
-abbrev pub command_with : Op → Data → Result Command LineFault
-command_with op.Ask d = do
+-- the values of a line of this operation; `format` is the version that it names, None where its `v` is bad. Only an
+-- incremental has `v` judged with them: its `weight` comes after `v` in byte order.
+abbrev pub values_of : Op → Option Format → Data → Result Command LineFault
+values_of op.Ask format d = do
   pg ← ask_of d
   Ok (Ask pg)
-command_with op.Close d = Ok (Submit Close)
-command_with op.Entries d = do
+values_of op.Close format d = Ok (Submit Close)
+values_of op.Entries format d = do
   report ← entries_of d
   Ok (Submit (Entries report))
-command_with op.Inc d = do
-  inc ← inc_of d
+values_of op.Inc format d = do
+  inc ← inc_of format d
   Ok (Submit (Inc inc))
-command_with op.Info d = do
+values_of op.Info format d = do
   info ← info_of d
   Ok (Submit (Info info))
-command_with op.Locate d = do
+values_of op.Locate format d = do
   object ← locate_of d
   Ok (Locate object.0 object.1)
-command_with op.Trace d = trace_of d
+values_of op.Trace format d = trace_of (read_in format) d
+
+-- the line of this operation, past the judgement of its keys: its values, and the version that it names
+abbrev pub command_with : Op → Data → Result Command LineFault
+command_with named d = do
+  command ← values_of named (format_of d) d
+  known ← judged (format_of d)
+  Ok command
 
 -- an unknown key is told before a bad value
 abbrev pub known : {A : Type 0} → Option (List ℕ) → Result A LineFault → Result A LineFault
@@ -98,6 +110,7 @@ command_of bytes = do
 abbrev pub IsTraceCode : PoolKind → Type 0
 IsTraceCode Replicated = Unit {0}
 IsTraceCode (Erasure k) = (1 ≤ k) × (k ≤ 16)
+IsTraceCode (Grouped groups) = are_parts 16 groups ≡ true
 
 -- a group as a line can name it
 abbrev pub IsGroup : PgId → Type 0
@@ -114,8 +127,8 @@ IsEntry (Info info) = IsGroup info.pg × IsMember info.member
 IsEntry (Entries report) = IsGroup report.pg × IsMember report.member × (1 ≤ length report.log) × (length report.log ≤ 256)
 IsEntry Close = Unit {0}
 
--- Of each command what its line has to meet: a trace has 1 to 4,096 epochs, and an erasure code 1 to 16 data shards; the name of an object
--- has 1 to 255 bytes.
+-- Of each command what its line has to meet: a trace has 1 to 4,096 epochs, an erasure code 1 to 16 data shards, and a grouped code parts that a
+-- pool of size 16 can have; the name of an object has 1 to 255 bytes.
 abbrev pub IsInRange : Command → Type 0
 IsInRange (Submit entry) = IsEntry entry
 IsInRange (Ask pg) = IsGroup pg

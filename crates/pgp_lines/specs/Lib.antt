@@ -2,6 +2,8 @@ pub mod LineFault
 pub mod Shapes
 pub mod Value
 pub mod Ids
+pub mod Format
+pub mod Groups
 pub mod Devices
 pub mod Pools
 pub mod MadeBucket

@@ -1,15 +1,19 @@
 -- What a map incremental says of pools and groups: pool objects, [pool, size, min_size] and [pool, pg, list].
 use Rattle.std.specs.Prelude.{ℕ, true, List, [], ◌∷◌, codes, Option, Some, None, option_map, option_and_then, if◌then◌else◌}
+use Rattle.std.specs.List.{list_all}
 use Rattle.std.specs.Str.{bytes_eq}
 use Rattle.serde_json.specs.Data.{Data}
 use Rattle.serde_json.specs.Find.{as_str}
 use Rattle.pgp_ids.specs.declared.incremental.TempList.{TempList}
 use Rattle.pgp_ids.specs.declared.pool.PoolKind.{PoolKind}
-use Rattle.pgp_ids.specs.declared.pool.PoolKind.TheVariants.{Replicated, Erasure}
+use Rattle.pgp_ids.specs.declared.pool.PoolKind.TheVariants.{Replicated, Erasure, Grouped}
 use Rattle.pgp_ids.specs.declared.pool.PoolSizes.{PoolSizes}
 use Rattle.pgp_ids.specs.declared.pool.PoolSpec.{PoolSpec}
 use Rattle.pgp_lines.specs.Shapes.{number_in, triple_in, list_of, has_only, field, ◌>>=◌}
+use Rattle.pgp_lines.specs.declared.command.format.Format.{Format}
 use Rattle.pgp_lines.specs.declared.command.pools.Spread.{Spread}
+use Rattle.pgp_lines.specs.Format.{has_kind}
+use Rattle.pgp_lines.specs.Groups.{groups_in}
 use Rattle.pgp_lines.specs.Ids.{place_in, pool_id_in, byte_in, group_in}
 
 -- the keys of a pool's object
@@ -18,12 +22,15 @@ pool_keys Replicated =
     codes "id" ∷ codes "kind" ∷ codes "leaf" ∷ codes "min_size" ∷ codes "pg_num" ∷ codes "size" ∷ []
 pool_keys (Erasure k) =
     codes "id" ∷ codes "k" ∷ codes "kind" ∷ codes "leaf" ∷ codes "min_size" ∷ codes "pg_num" ∷ codes "size" ∷ []
+pool_keys (Grouped groups) =
+    codes "groups" ∷ codes "id" ∷ codes "kind" ∷ codes "leaf" ∷ codes "min_size" ∷ codes "pg_num" ∷ codes "size" ∷ []
 
--- the kind of this name, with its number of data shards
+-- the kind of this name, with its number of data shards or its parts
 abbrev pub kind_named : Data → List ℕ → Option PoolKind
 kind_named d name =
     if bytes_eq name (codes "replicated") then Some Replicated
-    else (if bytes_eq name (codes "erasure") then option_map Erasure (field (codes "k") byte_in d) else None)
+    else (if bytes_eq name (codes "erasure") then option_map Erasure (field (codes "k") byte_in d)
+    else (if bytes_eq name (codes "grouped") then option_map Grouped (field (codes "groups") groups_in d) else None))
 
 -- the kind of a pool
 abbrev pub pool_kind_in : Data → Option PoolKind
@@ -51,6 +58,11 @@ pool_of_kind d kind = if has_only (pool_keys kind) d then pool_fields_in kind d 
 -- a pool's object: the fields of its kind, and no other
 abbrev pub pool_in : Data → Option PoolSpec
 pool_in d = option_and_then (pool_of_kind d) (pool_kind_in d)
+
+-- a list of pools, each of a kind that a line of this version can have
+abbrev pub pools_in : Format → Data → Option (List PoolSpec)
+pools_in format d =
+    option_and_then (λ pools. if list_all (λ pool. has_kind format pool.kind) pools then Some pools else None) (list_of pool_in d)
 
 -- [pool, size, min_size]
 abbrev pub pool_sizes_in : Data → Option PoolSizes

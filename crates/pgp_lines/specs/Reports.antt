@@ -5,40 +5,50 @@ use Rattle.serde_json.specs.Find.{as_bool}
 use Rattle.pgp_ids.specs.declared.pg_id.PgId.{PgId}
 use Rattle.pgp_ids.specs.declared.report.Info.{Info}
 use Rattle.pgp_ids.specs.declared.report.Report.{Report}
+use Rattle.pgp_lines.specs.declared.command.info.History.{History}
 use Rattle.pgp_lines.specs.declared.command.info.Reach.{Reach}
 use Rattle.pgp_lines.specs.LineFault.{LineFault, ◌>>=◌}
-use Rattle.pgp_lines.specs.Shapes.{list_in, required}
+use Rattle.pgp_lines.specs.Shapes.{list_in, required, optional}
 use Rattle.pgp_lines.specs.Ids.{pool_id_in, word_in}
 use Rattle.pgp_lines.specs.ReportParts.{pg_in, member_in, version_in, name_in, log_entry_in}
 
--- the keys that the line of an info must have
+-- the keys that the line of an info may have
 abbrev pub info_keys : List (List ℕ)
 info_keys =
     codes "complete"
     ∷ codes "from"
     ∷ codes "history_les"
+    ∷ codes "last_epoch_clean"
     ∷ codes "last_update"
     ∷ codes "les"
     ∷ codes "log_tail"
     ∷ codes "op"
     ∷ codes "pg"
     ∷ codes "stamp"
+    ∷ codes "v"
     ∷ []
+
+-- what a member knows of its group's history; a line without `last_epoch_clean` has epoch 0 for it
+abbrev pub history_of : Data → Result History LineFault
+history_of d = do
+  les ← required (codes "history_les") word_in d
+  last_epoch_clean ← optional (codes "last_epoch_clean") word_in 0 d
+  Ok (record { les = les; last_epoch_clean = last_epoch_clean })
 
 -- how far a member's copy has come, and from where on its log tells it
 abbrev pub reach_of : Data → Result Reach LineFault
 reach_of d = do
-  history_les ← required (codes "history_les") word_in d
   last_update ← required (codes "last_update") version_in d
   les ← required (codes "les") word_in d
   log_tail ← required (codes "log_tail") version_in d
-  Ok (record { history_les = history_les; last_update = last_update; les = les; log_tail = log_tail })
+  Ok (record { last_update = last_update; les = les; log_tail = log_tail })
 
 -- the line of an info: its keys are judged in ascending byte order, so the least bad one is named
 abbrev pub info_of : Data → Result Info LineFault
 info_of d = do
   complete ← required (codes "complete") as_bool d
   member ← required (codes "from") member_in d
+  history ← history_of d
   reach ← reach_of d
   pg ← required (codes "pg") pg_in d
   stamp ← required (codes "stamp") word_in d
@@ -47,15 +57,16 @@ info_of d = do
     member = member;
     stamp = stamp;
     les = reach.les;
-    history_les = reach.history_les;
+    history_les = history.les;
+    last_epoch_clean = history.last_epoch_clean;
     last_update = reach.last_update;
     log_tail = reach.log_tail;
     complete = complete;
   })
 
--- the keys that the line of log entries must have
+-- the keys that the line of log entries may have
 abbrev pub entries_keys : List (List ℕ)
-entries_keys = codes "from" ∷ codes "log" ∷ codes "op" ∷ codes "pg" ∷ codes "stamp" ∷ []
+entries_keys = codes "from" ∷ codes "log" ∷ codes "op" ∷ codes "pg" ∷ codes "stamp" ∷ codes "v" ∷ []
 
 -- the line of 1 to 256 log entries
 abbrev pub entries_of : Data → Result Report LineFault
@@ -66,17 +77,17 @@ entries_of d = do
   stamp ← required (codes "stamp") word_in d
   Ok (record { pg = pg; member = member; stamp = stamp; log = log })
 
--- the keys that the line of a question must have
+-- the keys that the line of a question may have
 abbrev pub ask_keys : List (List ℕ)
-ask_keys = codes "op" ∷ codes "pg" ∷ []
+ask_keys = codes "op" ∷ codes "pg" ∷ codes "v" ∷ []
 
 -- the group that a line asks about
 abbrev pub ask_of : Data → Result PgId LineFault
 ask_of d = required (codes "pg") pg_in d
 
--- the keys that a line must have which asks where an object lies
+-- the keys that a line may have which asks where an object lies
 abbrev pub locate_keys : List (List ℕ)
-locate_keys = codes "name" ∷ codes "op" ∷ codes "pool" ∷ []
+locate_keys = codes "name" ∷ codes "op" ∷ codes "pool" ∷ codes "v" ∷ []
 
 -- the pool and the name of the object that a line asks for
 abbrev pub locate_of : Data → Result (ℕ × List ℕ) LineFault

@@ -1,16 +1,19 @@
 -- The values of a trace line, in this project's own format: a code, and a group's epochs from epoch 1 on.
-use Rattle.std.specs.Prelude.{ℕ, List, [], ◌∷◌, Bool, true, false, codes, if◌then◌else◌, Option, Some, None, option_map, option_and_then}
+use Rattle.std.specs.Prelude.{ℕ, List, [], ◌∷◌, Bool, codes, if◌then◌else◌, Option, Some, None, option_map, option_and_then}
 use Rattle.std.specs.Str.{bytes_eq}
 use Rattle.pgp_ids.specs.declared.pool.PoolKind.{PoolKind}
-use Rattle.pgp_ids.specs.declared.pool.PoolKind.TheVariants.{Replicated, Erasure}
+use Rattle.pgp_ids.specs.declared.pool.PoolKind.TheVariants.{Replicated, Erasure, Grouped}
 use Rattle.serde_json.specs.Data.{Data}
 use Rattle.serde_json.specs.Find.{as_str}
 use Rattle.pgp_ids.specs.Osds.{first_osd}
 use Rattle.pgp_ids.specs.declared.history.EpochState.{EpochState}
 use Rattle.pgp_ids.specs.declared.history.PrimaryFacts.{PrimaryFacts}
 use Rattle.pgp_ids.specs.declared.membership.Membership.{Membership}
+use Rattle.pgp_lines.specs.Format.{has_kind}
+use Rattle.pgp_lines.specs.Groups.{code_groups_in}
 use Rattle.pgp_lines.specs.Ids.{place_in, word_in}
 use Rattle.pgp_lines.specs.Shapes.{number_in, list_in, has_only, field, ◌>>=◌}
+use Rattle.pgp_lines.specs.declared.command.format.Format.{Format}
 
 -- {"kind":"replicated"}
 abbrev pub replicated_in : Data → Option PoolKind
@@ -20,19 +23,25 @@ replicated_in d = if has_only (codes "kind" ∷ []) d then Some Replicated else 
 abbrev pub erasure_in : Data → Option PoolKind
 erasure_in d = if has_only (codes "k" ∷ codes "kind" ∷ []) d then option_map Erasure (field (codes "k") (number_in 1 16) d) else None
 
+-- {"groups":[[list of slots, least]],"kind":"grouped"}
+abbrev pub grouped_in : Data → Option PoolKind
+grouped_in d =
+    if has_only (codes "groups" ∷ codes "kind" ∷ []) d then option_map Grouped (field (codes "groups") code_groups_in d) else None
+
 -- the code of this kind
 abbrev pub code_of_kind : Data → List ℕ → Option PoolKind
 code_of_kind d kind =
-    if bytes_eq kind (codes "replicated") then replicated_in d else (if bytes_eq kind (codes "erasure") then erasure_in d else None)
+    if bytes_eq kind (codes "replicated") then replicated_in d
+    else (if bytes_eq kind (codes "erasure") then erasure_in d
+    else (if bytes_eq kind (codes "grouped") then grouped_in d else None))
 
 -- how the group's pool keeps its objects
-abbrev pub code_in : Data → Option PoolKind
-code_in d = option_and_then (code_of_kind d) (field (codes "kind") as_str d)
+abbrev pub kind_in : Data → Option PoolKind
+kind_in d = option_and_then (code_of_kind d) (field (codes "kind") as_str d)
 
--- a list of devices may have empty places
-abbrev pub has_empty_places : PoolKind → Bool
-has_empty_places Replicated = false
-has_empty_places (Erasure k) = true
+-- the same in a line of this version
+abbrev pub code_in : Format → Data → Option PoolKind
+code_in format d = option_and_then (λ kind. if has_kind format kind then Some kind else None) (kind_in d)
 
 -- the places of a list of devices, at most 16
 abbrev pub osds_in : Bool → Data → Option (List (Option ℕ))
@@ -95,6 +104,6 @@ epoch_state_in nulls d = if has_only epoch_keys d then epoch_fields_in nulls d e
 abbrev pub epochs_in : Bool → Data → Option (List EpochState)
 epochs_in nulls d = list_in 1 4096 (epoch_state_in nulls) d
 
--- the keys that the line of a trace must have
+-- the keys that the line of a trace may have
 abbrev pub trace_keys : List (List ℕ)
-trace_keys = codes "code" ∷ codes "epochs" ∷ codes "op" ∷ []
+trace_keys = codes "code" ∷ codes "epochs" ∷ codes "op" ∷ codes "v" ∷ []

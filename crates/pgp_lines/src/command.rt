@@ -4,13 +4,15 @@ ghost use Rattle.std.specs.Str.{is_utf8};
 ghost use Rattle.pgp_lines.specs.Value.{view};
 ghost use Rattle.serde_json.specs.Read.{read};
 ghost use Rattle.pgp_lines.specs.LineFault.{told, not_json};
-ghost use Rattle.pgp_lines.specs.Command.{op_in, op_keys, trace_of, command_with, command_in, data_of, command_of, IsInRange};
+ghost use Rattle.pgp_lines.specs.Command.{op_in, op_keys, trace_of, values_of, command_with, command_in, data_of, command_of, IsInRange};
 
 mod buckets;
 mod devices;
 mod entries;
 mod faults;
 mod fields;
+mod format;
+mod groups;
 mod incremental;
 mod info;
 mod lists;
@@ -27,6 +29,7 @@ use bumpalo::Bump;
 use entries::read_entries;
 use faults::{bad_field_fault, unknown_key_fault};
 use fields::read_required;
+use format::{Format, judge_format, read_format, read_in};
 use incremental::read_inc;
 use info::read_info;
 use json::{Error, Scratch, Tape};
@@ -36,7 +39,7 @@ use pgp_ids::{Entry, EpochState, ObjectName, PgId, PoolId, PoolKind, Seq, TextFa
 use simdutf8::compat::from_utf8;
 use std::alloc::Global;
 pub use trace::MAX_EPOCHS;
-use trace::{has_empty_places, read_code, read_epochs};
+use trace::{read_code, read_epochs};
 use value::{Tokens, Value, is_readable};
 
 /// What a line asks for.
@@ -53,7 +56,8 @@ pub enum Command {
     },
     /// The intervals of one group, whose epochs are given from epoch 1 on.
     Trace {
-        /// How the group's pool keeps its objects: in an erasure code 1 to 16 shards give an object back.
+        /// How the group's pool keeps its objects: in an erasure code 1 to 16 shards give an object back, and a grouped
+        /// code has parts that a pool of size 16 can have.
         code: PoolKind,
         /// 1 to 4,096 epochs, the first of which is epoch 1.
         epochs: Seq<EpochState>,
@@ -203,6 +207,24 @@ fn read_values(alloc: Global, op: Op, value: &Value<'_, '_>) -> Result<Command, 
     ensures err { IfErr result
         (λ fault. IfSome (told fault) (λ f. command_with op (view value.now) ≡ Err f)) }
 {
+    let format = read_format(value);
+    let command = read_op_values(alloc, op, value, format)?;
+    judge_format(alloc, format)?;
+    Ok(command)
+}
+
+/// The values of a line of this operation, which names this version. Only those of an incremental have `v` judged with
+/// them: its `weight` comes after `v` in byte order.
+fn read_op_values(
+    alloc: Global,
+    op: Op,
+    value: &Value<'_, '_>,
+    format: Option<Format>,
+) -> Result<Command, TextFault>
+    ensures ok { IfOk result (λ command. values_of op format (view value.now) ≡ Ok command) }
+    ensures err { IfErr result
+        (λ fault. IfSome (told fault) (λ f. values_of op format (view value.now) ≡ Err f)) }
+{
     match op {
         Op::Ask => {
             let pg = read_required(alloc, value, "pg")?;
@@ -214,7 +236,7 @@ fn read_values(alloc: Global, op: Op, value: &Value<'_, '_>) -> Result<Command, 
             Ok(Command::Submit(Entry::Entries(report)))
         }
         Op::Inc => {
-            let inc = read_inc(alloc, value)?;
+            let inc = read_inc(alloc, value, format)?;
             Ok(Command::Submit(Entry::Inc(inc)))
         }
         Op::Info => {
@@ -225,7 +247,7 @@ fn read_values(alloc: Global, op: Op, value: &Value<'_, '_>) -> Result<Command, 
             let (pool, name) = read_locate(alloc, value)?;
             Ok(Command::Locate { pool, name })
         }
-        Op::Trace => read_trace(alloc, value),
+        Op::Trace => read_trace(alloc, value, read_in(format)),
     }
 }
 
@@ -251,41 +273,43 @@ impl Op {
         ensures { map (λ k. k.now) result.now ≡ op_keys self }
     {
         match self {
-            Op::Ask => &["op", "pg"],
-            Op::Close => &["op"],
-            Op::Entries => &["from", "log", "op", "pg", "stamp"],
+            Op::Ask => &["op", "pg", "v"],
+            Op::Close => &["op", "v"],
+            Op::Entries => &["from", "log", "op", "pg", "stamp", "v"],
             Op::Inc => &[
                 "crush", "down", "epoch", "gone", "lost", "op", "pools", "sizes", "temp", "up",
-                "up_thru", "weight",
+                "up_thru", "v", "weight",
             ],
             Op::Info => &[
                 "complete",
                 "from",
                 "history_les",
+                "last_epoch_clean",
                 "last_update",
                 "les",
                 "log_tail",
                 "op",
                 "pg",
                 "stamp",
+                "v",
             ],
-            Op::Locate => &["name", "op", "pool"],
-            Op::Trace => &["code", "epochs", "op"],
+            Op::Locate => &["name", "op", "pool", "v"],
+            Op::Trace => &["code", "epochs", "op", "v"],
         }
     }
 }
 
-/// The values of a trace, `code` first: whether a place may be empty depends on it.
-fn read_trace(alloc: Global, value: &Value<'_, '_>) -> Result<Command, TextFault>
-    ensures ok { IfOk result (λ command. trace_of (view value.now) ≡ Ok command) }
+/// The values of a trace in this version, `code` first: whether a place may be empty depends on it.
+fn read_trace(alloc: Global, value: &Value<'_, '_>, format: Format) -> Result<Command, TextFault>
+    ensures ok { IfOk result (λ command. trace_of format (view value.now) ≡ Ok command) }
     ensures err { IfErr result
-        (λ fault. IfSome (told fault) (λ f. trace_of (view value.now) ≡ Err f)) }
+        (λ fault. IfSome (told fault) (λ f. trace_of format (view value.now) ≡ Err f)) }
 {
-    let Some(code) = read_code(value) else {
+    let Some(code) = read_code(value, format) else {
         return Err(bad_field_fault(alloc, "code"));
     };
     let found = match value.get("epochs") {
-        Some(epochs) => read_epochs(alloc, &epochs, has_empty_places(code))?,
+        Some(epochs) => read_epochs(alloc, &epochs, code.is_by_place())?,
         None => None,
     };
     match found {

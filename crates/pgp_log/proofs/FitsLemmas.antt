@@ -1,11 +1,18 @@
 -- In which order an entry is refused.
-use Rattle.std.proofs.Common.{◌≡◌, ◌<◌, ◌≤◌, List, Some, None, Bool, true, false, length, nat_le, refl, arith, if◌then◌else◌}
+use Rattle.std.proofs.Common.{◌≡◌, ◌<◌, ◌≤◌, List, Option, Some, None, Bool, true, false, length, nat_le, nat_lt, refl, subst, arith, if◌then◌else◌}
+use Rattle.std.specs.Option.{option_or}
 use Rattle.std.proofs.lemmas.Bool.Decides.{nat_tests}
 use Rattle.pgp_ids.specs.declared.entry.Entry.{Entry}
 use Rattle.pgp_ids.specs.declared.entry.Entry.TheVariants as entry
+use Rattle.pgp_ids.specs.declared.pg_id.PgId.{PgId}
+use Rattle.pgp_ids.specs.declared.report.Info.{Info}
+use Rattle.pgp_map.specs.Map.{epoch}
+use Rattle.pgp_group.specs.Entries.{incs_of}
+use Rattle.pgp_group.specs.GroupOf.{TellsNothingAhead}
 use Rattle.pgp_refusals.specs.declared.refusal.Refusal.{Refusal}
 use Rattle.pgp_refusals.specs.declared.refusal.Refusal.TheVariants as refusal
-use Rattle.pgp_log.specs.Fits.{fits, entry_fault, is_close, is_closed}
+use Rattle.pgp_log.specs.Fits.{fits, entry_fault, full_fault, is_close, is_closed}
+use Rattle.pgp_log.specs.ReportFault.{has_bad_info, has_future_stamp, has_unknown_group, has_unknown_member, info_fault}
 
 pub fits-closed : (log : List Entry) (new : Entry) → is_closed log ≡ true → fits log new ≡ Some refusal.Closed
 fits-closed log new closed = rw closed refl
@@ -29,3 +36,33 @@ fits-room log new open' own room = rw (open', own) (room_for (is_close new) log 
 
 pub fits-close : (log : List Entry) → is_closed log ≡ false → fits log entry.Close ≡ None
 fits-close log open' = rw open' refl
+
+-- ---- an info that the log takes
+
+-- a report that isn't refused has neither a stamp that is still to come nor a bad version
+unrefused : (group member future bad : Bool) → (if group then Some refusal.UnknownGroup else (if member then Some refusal.UnknownMember else (if future then Some refusal.FutureStamp else (if bad then Some refusal.BadVersion else None)))) ≡ None
+    → (future ≡ false) × (bad ≡ false)
+unrefused false false false false fine = (refl, refl)
+unrefused false false false true fine = cc
+unrefused false false true bad fine = cc
+unrefused false true future bad fine = cc
+unrefused true member future bad fine = cc
+
+own-fine : (closed : Bool) (own full : Option Refusal) → (if closed then Some refusal.Closed else option_or own full) ≡ None → own ≡ None
+own-fine true own full fine = cc
+own-fine false None full fine = refl
+own-fine false (Some why) full fine = cc
+
+-- it says nothing of an epoch that is still to come
+pub nothing_ahead : (log : List Entry) (pg : PgId) (new : Entry) → fits log new ≡ None → TellsNothingAhead log pg new
+nothing_ahead log pg (entry.Info sent) fine info is here =
+    let own : info_fault (incs_of log) sent ≡ None = own-fine (is_closed log) (info_fault (incs_of log) sent) (full_fault log (entry.Info sent)) fine in
+    let parts = unrefused (has_unknown_group (incs_of log) sent.pg) (has_unknown_member (incs_of log) sent.pg sent.member) (has_future_stamp (incs_of log) sent.stamp) (has_bad_info sent) own in
+    let come : nat_lt (epoch (incs_of log)) sent.stamp ≡ false = parts.0 in
+    let good : has_bad_info sent ≡ false = parts.1 in
+    let known : nat_lt sent.stamp sent.last_epoch_clean ≡ false = grind arith in
+    let same : sent ≡ info = cc in
+    subst (λ (i : Info). i.last_epoch_clean ≤ epoch (incs_of log)) same (grind (arith, nat_tests))
+nothing_ahead log pg (entry.Inc inc) fine info is here = cc
+nothing_ahead log pg (entry.Entries report) fine info is here = cc
+nothing_ahead log pg entry.Close fine info is here = cc

@@ -24,7 +24,7 @@ use Rattle.pgp_map.specs.Pools.{has_group, is_same_group, pool}
 use Rattle.pgp_map.specs.declared.map.OsdMap.{OsdMap}
 use Rattle.pgp_sets.proofs.RawSetLemmas.{raw_set-stays}
 use Rattle.pgp_sets.specs.Sets.{members_from_up, membership, moves, raw_set_of, without_down}
-use Rattle.pgp_group.proofs.GroupLemmas.{infos-kept, infos-other, infos-same, names-kept, reports-kept, reports-other, reports-same, IsGroupOf-other}
+use Rattle.pgp_group.proofs.GroupLemmas.{infos-kept, infos-other, infos-same, names-kept, past-same, reports-kept, reports-other, reports-same, IsGroupOf-other}
 use Rattle.pgp_group.proofs.GrowthLemmas.{has_group-grows}
 use Rattle.pgp_group.proofs.SameViewLemmas.{view-same}
 use Rattle.pgp_group.proofs.UntouchedLemmas.{Stays, untouched-stays}
@@ -127,7 +127,7 @@ view-stays log new pg (Some view) stays is = stays ∙ ap (option_map (told_at (
 -- an incremental that doesn't touch the group does so
 pub untouched-inc : (log : List Entry) (inc : Incremental) (before after : OsdMap) (pg : PgId) → IsStep log inc before after → is_touched log (entry.Inc inc) pg ≡ false → Stays log (entry.Inc inc) pg
 untouched-inc log inc before after pg step untouched =
-    untouched-stays front-checked last-checked raw_set-stays (record { past = λ h facts. search past_intervals-continues; first = current_first-continues })
+    untouched-stays front-checked last-checked raw_set-stays (record { past = λ cleans h facts. search past_intervals-continues; first = current_first-continues })
     log (entry.Inc inc) pg (ap are_checked (grown log inc) ∙ step-checked log inc before after step) untouched
 
 mapped-same : {X Y Z : Type 0} (f : Y → Z) (k : Z → Z) (g g' : X → Y) (found : Option X) → ((x : X) → f (g x) ≡ k (f (g' x))) → option_map f (option_map g found) ≡ option_map k (option_map f (option_map g' found))
@@ -175,7 +175,7 @@ of-others log entry.Close pg none untouched = record { infos = infos-same log en
 
 group-untold : (log : List Entry) (new : Entry) (pg : PgId) (group : Group) → inc_of new ≡ None → IsOfOthers log new pg → IsGroupOf log pg group → IsGroupOf (log ++ new ∷ []) pg group
 group-untold log new pg group none others is =
-    IsGroupOf-other log new pg group group is none refl refl
+    IsGroupOf-other log new pg group group is none others.infos refl refl
     (infos-kept log new pg is.history group.infos none others.infos is.keeps.infos_are) (reports-kept log new pg is.history group.reports none others.reports is.keeps.reports_are)
     (names-kept log new pg is.history group.named others.infos others.reports is.keeps.named_are)
 
@@ -187,7 +187,7 @@ view-untold log new pg none others =
     ∙ mapped-same view_of (told_at (length later) (epoch (incs_of later))) (group_with later pg) (group_with log pg) (group_history (incs_of log) pg)
     (λ h. view-same log later pg h h.lived (record {
       first = refl;
-      past = refl;
+      past = past-same (group_with log pg h) (group_with later pg h) refl others.infos;
       infos = others.infos;
       reports = others.reports;
       named = λ osd named. ap (λ (l : List Incremental). device l osd) same;

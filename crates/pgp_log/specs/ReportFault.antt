@@ -3,6 +3,7 @@
 use Rattle.std.specs.Prelude.{ℕ, List, Bool, true, not, ◌&&◌, ◌||◌, nat_eq, nat_lt, Option, Some, None, if◌then◌else◌}
 use Rattle.std.specs.List.{list_any}
 use Rattle.std.specs.Option.{option_map_or}
+use Rattle.pgp_ids.specs.Pool.{is_by_place}
 use Rattle.pgp_ids.specs.Version.{is_older, is_same_version}
 use Rattle.pgp_ids.specs.declared.member.Member.{Member}
 use Rattle.pgp_ids.specs.declared.incremental.Incremental.{Incremental}
@@ -15,16 +16,15 @@ use Rattle.pgp_ids.specs.declared.report.Report.{Report}
 use Rattle.pgp_ids.specs.declared.version.Version.{Version}
 use Rattle.pgp_map.specs.Devices.{exists}
 use Rattle.pgp_map.specs.Map.{epoch}
-use Rattle.pgp_map.specs.MapFault.{is_erasure}
 use Rattle.pgp_map.specs.Pools.{pool, has_group}
 
 -- the map has no such group
 abbrev pub has_unknown_group : List Incremental → PgId → Bool
 has_unknown_group incs pg = not (has_group incs pg)
 
--- a group of the pool can have a member in this slot: one below the size in an erasure pool, else slot 0
+-- a group of the pool can have a member in this slot: one below the size in an erasure or grouped pool, else slot 0
 abbrev pub is_slot_of : ℕ → PoolSpec → Bool
-is_slot_of slot pool = if is_erasure pool.kind then nat_lt slot pool.size else nat_eq slot 0
+is_slot_of slot pool = if is_by_place pool.kind then nat_lt slot pool.size else nat_eq slot 0
 
 -- the device is absent in the map, or the group can't have the slot
 abbrev pub has_unknown_member : List Incremental → PgId → Member → Bool
@@ -56,6 +56,7 @@ has_bad_info info =
     || is_bad_version info.stamp info.log_tail
     || nat_lt info.stamp info.les
     || nat_lt info.stamp info.history_les
+    || nat_lt info.stamp info.last_epoch_clean
     || are_bad_ends info.log_tail info.last_update
 
 -- both parts of the version are 0

@@ -209,5 +209,8 @@ impl Derived {
 fn has_group(map: &OsdMap, pg: &PgId) -> bool
     ensures { (incs : List AnyIncremental) → IsMapOf incs map.now → result ≡ has_group incs pg.now }
 {
-    map.pool(pg.pool).is_some_and(|pool| pg.pg < pool.pg_num)
+    match map.pool(pg.pool) {
+        Some(pool) => pg.pg < pool.pg_num,
+        None => false,
+    }
 }

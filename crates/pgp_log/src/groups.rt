@@ -12,6 +12,7 @@ ghost use Rattle.pgp_map.specs.MapFault.{then_with};
 ghost use Rattle.pgp_map.specs.MapOf.{IsMapOf};
 ghost use Rattle.pgp_map.specs.declared.map.OsdMap.{OsdMap as AnyMap};
 ghost use Rattle.pgp_group.specs.Entries.{inc_of, incs_of};
+ghost use Rattle.pgp_group.specs.GroupOf.{TellsNothingAhead};
 ghost use Rattle.pgp_group.specs.Touched.{is_touched};
 ghost use Rattle.pgp_log.specs.Kept.{AreKeptOf, AreAtPlaces, AreGroupsOf, IsStep, IsViewOf, CanStepAll, ids_of, marks_in, marks_of, AreAllMarked, keeps, MarksTouched};
 ghost use Rattle.pgp_log.specs.Shard.{is_among, without};
@@ -95,6 +96,7 @@ impl Groups {
     pub(crate) fn absorb_report(&mut self, entry: &Entry, pg: &PgId) -> Result<(), AllocError>
         requires { AreAtPlaces self.old }
         ensures ok { OnOk result ((log : List AnyEntry) → inc_of entry.now ≡ None
+            → ((pg : Id) → TellsNothingAhead log pg entry.now)
             → ((other : Id) → is_same_group pg.now other ≡ false → is_touched log entry.now other ≡ false)
             → AreGroupsOf log self.old → AreGroupsOf (log ++ entry.now ∷ []) self.new) }
         ensures marks { OnOk result ((other : Id) → is_same_group pg.now other ≡ false

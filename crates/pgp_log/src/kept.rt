@@ -11,6 +11,7 @@ ghost use Rattle.pgp_map.specs.MapOf.{IsMapOf};
 ghost use Rattle.pgp_map.specs.Pools.{has_group, temp as temp_of};
 ghost use Rattle.pgp_map.specs.declared.map.OsdMap.{OsdMap as AnyMap};
 ghost use Rattle.pgp_group.specs.Entries.{inc_of, incs_of};
+ghost use Rattle.pgp_group.specs.GroupOf.{TellsNothingAhead};
 ghost use Rattle.pgp_group.specs.Touched.{is_touched, has_to_do_with};
 ghost use Rattle.pgp_log.specs.Kept.{IsKeptOf, IsStep, CanStep, StepsOn, IsTouchedBy, KeepsView, is_marked};
 ghost use Rattle.pgp_log.specs.RawSets.{IsRawSet};
@@ -195,8 +196,8 @@ impl Kept {
 
     /// Takes a report of the group, or another entry that brings no map. After an `Err` it is of no further use.
     pub(crate) fn absorb_report(&mut self, entry: &Entry) -> Result<(), AllocError>
-        ensures ok { OnOk result ((log : List AnyEntry) → inc_of entry.now ≡ None → IsKeptOf log self.old
-            → IsKeptOf (log ++ entry.now ∷ []) self.new) }
+        ensures ok { OnOk result ((log : List AnyEntry) → inc_of entry.now ≡ None → TellsNothingAhead log self.old.pg entry.now
+            → IsKeptOf log self.old → IsKeptOf (log ++ entry.now ∷ []) self.new) }
         ensures marked { is_marked self.new ≡ true }
         ensures pg { self.new.pg ≡ self.old.pg }
     {

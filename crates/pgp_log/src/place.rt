@@ -46,7 +46,9 @@ pub(crate) fn group_of_object(map: &OsdMap, id: PoolId, name: &ObjectName) -> Op
     ensures group { Says map.now (λ incs. result ≡ group_of_object incs id name.now) }
     ensures there { IfSome result (λ pg. HasGroup map.now pg) }
 {
-    let pool = map.pool(id)?;
+    let Some(pool) = map.pool(id) else {
+        return None;
+    };
     Some(PgId {
         pool: id,
         pg: group_of(name, &pool),

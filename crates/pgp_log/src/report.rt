@@ -6,7 +6,7 @@ ghost use Rattle.pgp_map.specs.MapOf.{IsMapOf};
 ghost use Rattle.pgp_map.specs.Pools.{has_group};
 ghost use Rattle.pgp_log.specs.ReportFault.{is_slot_of, has_unknown_member, is_half, is_bad_version, are_bad_ends, is_zero, has_bad_info, has_bad_entries, report_fault, info_fault, entries_fault};
 
-use pgp_ids::{Epoch, Info, LogEntry, Member, PgId, PoolKind, PoolSpec, Refusal, Report, Version};
+use pgp_ids::{Epoch, Info, LogEntry, Member, PgId, PoolSpec, Refusal, Report, Version};
 use pgp_map::OsdMap;
 
 /// Why the log refuses an info, if it does.
@@ -70,13 +70,14 @@ fn has_unknown_member(map: &OsdMap, pg: &PgId, member: &Member) -> bool
     !map.exists(member.osd) || !has_slot
 }
 
-/// A slot of an erasure pool is below its size, that of a replicated pool is 0.
+/// A slot of a pool that goes by places is below its size, that of any other pool is 0.
 fn is_slot_of(slot: u8, pool: PoolSpec) -> bool
     ensures { result ≡ is_slot_of slot pool }
 {
-    match pool.kind {
-        PoolKind::Replicated => slot == 0,
-        PoolKind::Erasure { .. } => slot < pool.size,
+    if pool.kind.is_by_place() {
+        slot < pool.size
+    } else {
+        slot == 0
     }
 }
 
@@ -87,6 +88,7 @@ fn has_bad_info(info: &Info) -> bool
         || is_bad_version(info.stamp, info.log_tail)
         || info.stamp < info.les
         || info.stamp < info.history_les
+        || info.stamp < info.last_epoch_clean
         || are_bad_ends(info.log_tail, info.last_update)
 }
 

@@ -8,6 +8,7 @@ use Rattle.std.proofs.lemmas.List.{take_all}
 use Rattle.std.proofs.lemmas.List.Elements.{filter_map-append}
 use Rattle.std.proofs.lemmas.List.Sums.{sum_by-append}
 use Rattle.pgp_crush.specs.Bucket.{bucket_of}
+use Rattle.pgp_ids.specs.Pool.{is_by_place}
 use Rattle.pgp_ids.specs.declared.incremental.DeviceWeight.{DeviceWeight}
 use Rattle.pgp_ids.specs.declared.incremental.Incremental.{Incremental}
 use Rattle.pgp_ids.specs.declared.incremental.TempList.{TempList}
@@ -17,7 +18,7 @@ use Rattle.pgp_ids.specs.declared.pool.PoolSpec.{PoolSpec}
 use Rattle.pgp_map.specs.Devices.{weight}
 use Rattle.pgp_lists.specs.Last.{last_where}
 use Rattle.pgp_map.specs.Map.{epoch, tree}
-use Rattle.pgp_map.specs.MapFault.{then_with, has_pool_known, is_bad_list, is_bad_temp, are_bad_sizes, are_sizes, is_pool, is_erasure}
+use Rattle.pgp_map.specs.MapFault.{then_with, has_pool_known, is_bad_list, is_bad_temp, are_bad_sizes, are_sizes, is_pool}
 use Rattle.pgp_map.specs.Pools.{pool, temp, with_sizes, group_count, is_same_group}
 use Rattle.pgp_tables.specs.PoolTable.{or_made}
 use Rattle.pgp_tables.specs.TempTable.{with_temp}
@@ -74,12 +75,12 @@ pool-push incs inc id known unsized =
 pub record HoldsOfNew (P : Option PoolSpec → Type 0) (given : Option PoolSizes) (old : Option PoolSpec) : Type 0 where
   pub made : (made : PoolSpec) → old ≡ None → is_pool made ≡ true → P (Some made)
   pub sized : (before : PoolSpec) (sizes : PoolSizes) → old ≡ Some before → given ≡ Some sizes → are_sizes sizes.size sizes.min_size ≡ true
-      → (is_erasure before.kind && not (nat_eq before.size sizes.size)) ≡ false → P (Some (with_sizes (Some sizes) before))
+      → (is_by_place before.kind && not (nat_eq before.size sizes.size)) ≡ false → P (Some (with_sizes (Some sizes) before))
   pub stays : given ≡ None → P old
 
 -- what isn't fine of sizes for the pool that is there
 abbrev are_bad_for : PoolSizes → Option PoolSpec → Bool
-are_bad_for sizes old = not (are_sizes sizes.size sizes.min_size) || option_map_or (λ made. is_erasure made.kind && not (nat_eq made.size sizes.size)) old true
+are_bad_for sizes old = not (are_sizes sizes.size sizes.min_size) || option_map_or (λ made. is_by_place made.kind && not (nat_eq made.size sizes.size)) old true
 
 -- what holds in each of these ways holds of the new pool
 by_entries : (P : Option PoolSpec → Type 0) (z : Option PoolSizes) (m old : Option PoolSpec)
@@ -89,7 +90,7 @@ by_entries P None None None fits new fine holds = holds.stays refl
 by_entries P None None (Some p) fits new fine holds = holds.stays refl
 by_entries P None (Some m) None fits new fine holds = holds.made m refl (fits m refl)
 by_entries P (Some s) None (Some p) fits new fine holds =
-    let both = or_parts (not (are_sizes s.size s.min_size)) (is_erasure p.kind && not (nat_eq p.size s.size)) (fine s refl) in
+    let both = or_parts (not (are_sizes s.size s.min_size)) (is_by_place p.kind && not (nat_eq p.size s.size)) (fine s refl) in
     holds.sized p s refl refl (not-false (are_sizes s.size s.min_size) both.0) both.1
 by_entries P (Some s) m None fits new fine holds = let both = or_parts (not (are_sizes s.size s.min_size)) true (fine s refl) in absurd (cc both.1)
 by_entries P z (Some m) (Some p) fits new fine holds = let no : true ≡ false = new m refl in absurd (cc)

@@ -1,11 +1,13 @@
 -- Small map incrementals.
-use Rattle.std.specs.Prelude.{ℕ, List, [], ◌∷◌, Option, None, map}
+use Rattle.std.specs.Prelude.{ℕ, ◌-◌, List, [], ◌∷◌, ◌++◌, Option, Some, None, map, length, replicate}
 use Rattle.std.specs.List.{range_with_len}
+use Rattle.pgp_ids.specs.Parts.{set_of, has_twice}
 use Rattle.pgp_ids.specs.declared.incremental.DeviceEpoch.{DeviceEpoch}
 use Rattle.pgp_ids.specs.declared.incremental.DeviceWeight.{DeviceWeight}
 use Rattle.pgp_ids.specs.declared.incremental.Incremental.{Incremental}
 use Rattle.pgp_ids.specs.declared.incremental.TempList.{TempList}
-use Rattle.pgp_ids.specs.declared.pool.PoolKind.TheVariants.{Replicated, Erasure}
+use Rattle.pgp_ids.specs.declared.part.Part.{Part}
+use Rattle.pgp_ids.specs.declared.pool.PoolKind.TheVariants.{Replicated, Erasure, Grouped}
 use Rattle.pgp_ids.specs.declared.pool.PoolSizes.{PoolSizes}
 use Rattle.pgp_ids.specs.declared.pool.PoolSpec.{PoolSpec}
 
@@ -56,6 +58,19 @@ shards id = record { id = id; pg_num = 1; kind = Erasure 2; size = 3; min_size =
 -- an erasure pool of one group and size 3, of which this many shards give an object back
 abbrev pub shards_of : ℕ → PoolSpec
 shards_of k = record { id = 1; pg_num = 1; kind = Erasure k; size = 3; min_size = 3; leaf = 0 }
+
+-- the part whose slots are written as this list, of which `least` have to be at hand
+abbrev pub part_of : List ℕ → ℕ → Option Part
+part_of slots least = Some (record { slots = set_of slots; least = least; twice = has_twice slots })
+
+-- a grouped pool of one group and size 3 with these parts, in the first of its 16 places for them
+abbrev pub grouped : ℕ → List (Option Part) → PoolSpec
+grouped id parts =
+    record { id = id; pg_num = 1; kind = Grouped (parts ++ replicate (16 - length parts) None); size = 3; min_size = 2; leaf = 0 }
+
+-- the first incremental, which makes this pool and nothing else
+abbrev pub makes : PoolSpec → Incremental
+makes pool = record (empty_step 1) { pools = pool ∷ [] }
 
 -- so many pools of 1,024 groups and one copy
 abbrev pub large_pools : ℕ → List PoolSpec

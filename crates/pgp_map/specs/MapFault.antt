@@ -5,11 +5,13 @@ use Rattle.std.specs.List.{list_any}
 use Rattle.std.specs.Option.{option_map_or}
 use Rattle.pgp_crush.specs.Bucket.{bucket_of}
 use Rattle.pgp_crush.specs.TreeFault.{tree_fault}
+use Rattle.pgp_ids.specs.Parts.{are_parts}
+use Rattle.pgp_ids.specs.Pool.{is_by_place}
 use Rattle.pgp_ids.specs.declared.bucket.BucketSpec.{BucketSpec}
 use Rattle.pgp_ids.specs.declared.incremental.Incremental.{Incremental}
 use Rattle.pgp_ids.specs.declared.incremental.TempList.{TempList}
 use Rattle.pgp_ids.specs.declared.pool.PoolKind.{PoolKind}
-use Rattle.pgp_ids.specs.declared.pool.PoolKind.TheVariants.{Replicated, Erasure}
+use Rattle.pgp_ids.specs.declared.pool.PoolKind.TheVariants.{Replicated, Erasure, Grouped}
 use Rattle.pgp_ids.specs.declared.pool.PoolSizes.{PoolSizes}
 use Rattle.pgp_ids.specs.declared.pool.PoolSpec.{PoolSpec}
 use Rattle.pgp_map.specs.declared.fault.MapFault.{MapFault}
@@ -82,25 +84,22 @@ is_within last number = nat_le 1 number && nat_le number last
 abbrev pub are_sizes : ℕ → ℕ → Bool
 are_sizes size min_size = is_within 16 size && is_within size min_size
 
--- in an erasure pool k is 1 to the size
+-- in an erasure pool k is 1 to the size, and in a grouped pool the size allows the parts
 abbrev pub is_kind : PoolKind → ℕ → Bool
 is_kind Replicated size = true
 is_kind (Erasure k) size = is_within size k
+is_kind (Grouped groups) size = are_parts size groups
 
 -- a pool's numbers are in range
 abbrev pub is_pool : PoolSpec → Bool
 is_pool made = is_within 1024 made.pg_num && are_sizes made.size made.min_size && is_kind made.kind made.size
 
-abbrev pub is_erasure : PoolKind → Bool
-is_erasure Replicated = false
-is_erasure (Erasure k) = true
-
--- a pool's sizes can't change to these: it isn't in the old map, or it is an erasure pool of another size, or they are out
--- of range
+-- a pool's sizes can't change to these: it isn't in the old map, or it is an erasure or grouped pool of another size, or they
+-- are out of range
 abbrev pub are_bad_sizes : List Incremental → PoolSizes → Bool
 are_bad_sizes incs sizes =
     not (are_sizes sizes.size sizes.min_size)
-    || option_map_or (λ made. is_erasure made.kind && not (nat_eq made.size sizes.size)) (pool incs sizes.pool) true
+    || option_map_or (λ made. is_by_place made.kind && not (nat_eq made.size sizes.size)) (pool incs sizes.pool) true
 
 -- a pool is made of numbers out of range, or has sizes that it can't change to; or the old pools and the ones made have
 -- more than 16384 groups
@@ -114,11 +113,11 @@ has_bad_pool incs inc =
 abbrev pub has_pool_known : List Incremental → Incremental → Bool
 has_pool_known incs inc = list_any (λ made. is_some (pool incs made.id)) inc.pools
 
--- the pool can't have this pg_temp list: a replicated pool none with an empty place, an erasure pool none of another length
--- than its size, but for the empty list
+-- the pool can't have this pg_temp list: a replicated pool none with an empty place, an erasure or grouped pool none of
+-- another length than its size, except the empty list
 abbrev pub has_bad_places : PoolSpec → List (Option ℕ) → Bool
 has_bad_places made osds =
-    if is_erasure made.kind then not (nat_eq (length osds) 0) && not (nat_eq (length osds) made.size) else list_any is_none osds
+    if is_by_place made.kind then not (nat_eq (length osds) 0) && not (nat_eq (length osds) made.size) else list_any is_none osds
 
 -- the pool isn't there or hasn't the group, or the group's list has more than 16 places, or a device twice, or is none that
 -- the pool can have

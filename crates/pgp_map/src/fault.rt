@@ -28,7 +28,7 @@ pub enum MapFault {
     UpThruBack,
     /// An epoch lies ahead of the incremental's.
     Ahead,
-    /// A pool's numbers are out of range, or the pool isn't one whose sizes can change so.
+    /// A pool's numbers or parts are none that it can have, or it isn't one whose sizes can change so.
     BadPool,
     /// A pool is made that exists.
     PoolKnown,

@@ -1,6 +1,6 @@
 //! What the definitions say of small lists of incrementals.
 
-ghost use Rattle.std.specs.Prelude.{◌≡◌, ◌≤◌, ℕ, List, [], ◌∷◌, ◌++◌, Some, None, true, false, map, option_map};
+ghost use Rattle.std.specs.Prelude.{◌≡◌, ◌≤◌, ℕ, List, [], ◌∷◌, ◌++◌, Option, Some, None, true, false, map, option_map};
 ghost use Rattle.pgp_crush.specs.Bucket.{bucket_of};
 ghost use Rattle.pgp_crush.specs.TreeFault.{tree_fault};
 ghost use Rattle.pgp_crush.specs.declared.fault.TreeFault.{TreeFault as Fault};
@@ -8,9 +8,12 @@ ghost use Rattle.pgp_ids.specs.declared.bucket.BucketSpec.{BucketSpec as Spec};
 ghost use Rattle.pgp_map.specs.declared.fault.MapFault.TheVariants.{EpochGap, Twice, UnknownDevice, AlreadyUp, AlreadyDown, StillUp, UpThruBack, Ahead, BadPool, PoolKnown, BadTemp, TreeFault};
 ghost use Rattle.pgp_map.specs.Devices.{exists, is_up, up_from, down_at, up_thru, lost_at, weight};
 ghost use Rattle.pgp_map.specs.Map.{epoch, up_to, tree};
+ghost use Rattle.pgp_ids.specs.Parts.{are_parts};
+ghost use Rattle.pgp_ids.specs.Pool.{is_by_place};
 ghost use Rattle.pgp_ids.specs.declared.incremental.Incremental.{Incremental};
 ghost use Rattle.pgp_ids.specs.declared.pg_id.PgId.{PgId};
-ghost use Rattle.pgp_ids.specs.declared.pool.PoolKind.TheVariants.{Erasure};
+ghost use Rattle.pgp_ids.specs.declared.part.Part.{Part};
+ghost use Rattle.pgp_ids.specs.declared.pool.PoolKind.TheVariants.{Erasure, Grouped};
 ghost use Rattle.pgp_ids.specs.declared.pool.PoolSpec.{PoolSpec};
 ghost use Rattle.pgp_map.specs.declared.map.OsdMap.{OsdMap};
 ghost use Rattle.pgp_map.specs.Checked.{are_checked};
@@ -18,8 +21,9 @@ ghost use Rattle.pgp_map.specs.Held.{held_exists, held_up, held_lost_at, held_po
 ghost use Rattle.pgp_map.specs.MapFault.{map_fault, then_with, is_pool};
 ghost use Rattle.pgp_map.specs.MapOf.{IsMapOf};
 ghost use Rattle.pgp_map.specs.Pools.{pool, temp, has_group};
-ghost use Rattle.pgp_map.specs.Examples.{empty_step, boot, weighs, told, one_up, one_up_one_down, copies, shards, shards_of, large_pools, sized, placed, two_pools, made_again};
+ghost use Rattle.pgp_map.specs.Examples.{empty_step, boot, weighs, told, one_up, one_up_one_down, copies, shards, shards_of, part_of, grouped, makes, large_pools, sized, placed, two_pools, made_again};
 ghost use Rattle.std.specs.List.{range_with_len};
+ghost use Rattle.std.specs.Option.{option_map_or};
 
 /// The first incremental leads to epoch 1.
 #[tactic(auto, unfolding(crate::specs::MapFault::map_fault))]
@@ -107,6 +111,33 @@ pub fn pools_in_range()
     ensures known_before_temp { map_fault two_pools (record (empty_step 2) { pools = copies 1 3 ∷ []; temp = placed 9 [] }) ≡ Some PoolKnown }
 {}
 
+/// A grouped pool has a part, and each part a slot and a least number of 1 to its number of slots. Its slots are below the
+/// size, each once in all of the parts, and a slot may be in no part.
+#[tactic(auto, unfolding(crate::specs::MapFault::map_fault))]
+pub fn parts_in_range()
+    ensures two { map_fault [] (makes (grouped 1 (part_of (1 ∷ 0 ∷ []) 1 ∷ part_of (2 ∷ []) 1 ∷ []))) ≡ None }
+    ensures slots_in_no_part { map_fault [] (makes (grouped 1 (None ∷ part_of (1 ∷ []) 1 ∷ []))) ≡ None }
+    ensures all_slots { map_fault [] (makes (grouped 1 (part_of (0 ∷ 1 ∷ 2 ∷ []) 3 ∷ []))) ≡ None }
+    ensures no_part { map_fault [] (makes (grouped 1 [])) ≡ Some BadPool }
+    ensures no_slot { map_fault [] (makes (grouped 1 (part_of (0 ∷ []) 1 ∷ part_of [] 0 ∷ []))) ≡ Some BadPool }
+    ensures slot_at_the_size { map_fault [] (makes (grouped 1 (part_of (2 ∷ 3 ∷ []) 1 ∷ []))) ≡ Some BadPool }
+    ensures slot_twice_in_a_part { map_fault [] (makes (grouped 1 (part_of (0 ∷ 0 ∷ []) 1 ∷ []))) ≡ Some BadPool }
+    ensures slot_in_two_parts { map_fault [] (makes (grouped 1 (part_of (0 ∷ 1 ∷ []) 1 ∷ part_of (1 ∷ []) 1 ∷ []))) ≡ Some BadPool }
+    ensures least_of_0 { map_fault [] (makes (grouped 1 (part_of (0 ∷ 1 ∷ []) 0 ∷ []))) ≡ Some BadPool }
+    ensures least_above_the_slots { map_fault [] (makes (grouped 1 (part_of (0 ∷ 1 ∷ []) 3 ∷ []))) ≡ Some BadPool }
+{}
+
+/// A grouped pool keeps its size, and its pg_temp lists have as many places.
+#[tactic(auto, unfolding(crate::specs::MapFault::map_fault))]
+pub fn grouped_pools_keep_their_size()
+    ensures larger { map_fault (makes (grouped 1 (part_of (0 ∷ []) 1 ∷ [])) ∷ []) (record (empty_step 2) { sizes = sized 1 4 2 }) ≡ Some BadPool }
+    ensures smaller { map_fault (makes (grouped 1 (part_of (0 ∷ []) 1 ∷ [])) ∷ []) (record (empty_step 2) { sizes = sized 1 2 2 }) ≡ Some BadPool }
+    ensures min_size { map_fault (makes (grouped 1 (part_of (0 ∷ []) 1 ∷ [])) ∷ []) (record (empty_step 2) { sizes = sized 1 3 3 }) ≡ None }
+    ensures empty_places { map_fault (makes (grouped 1 (part_of (0 ∷ []) 1 ∷ [])) ∷ []) (record (empty_step 2) { temp = placed 1 (None ∷ Some 1 ∷ None ∷ []) }) ≡ None }
+    ensures too_few_places { map_fault (makes (grouped 1 (part_of (0 ∷ []) 1 ∷ [])) ∷ []) (record (empty_step 2) { temp = placed 1 (Some 0 ∷ Some 1 ∷ []) }) ≡ Some BadTemp }
+    ensures taken_away { map_fault (makes (grouped 1 (part_of (0 ∷ []) 1 ∷ [])) ∷ []) (record (empty_step 2) { temp = placed 1 [] }) ≡ None }
+{}
+
 /// A pg_temp list is judged by the pools of the new map.
 #[tactic(auto, unfolding(crate::specs::MapFault::map_fault))]
 pub fn temp_lists_fit()
@@ -181,13 +212,19 @@ pub fn pools_of_checked_lists()
         → has_group incs pg ≡ true → HasGroup map pg }
 {}
 
-/// Along a checked list the up_thru of a device never falls, and an erasure pool keeps its size.
+/// Along a checked list the up_thru of a device never falls, a pool in which each member has a place of its own keeps its
+/// size, and the size of a grouped pool allows its parts for ever.
 #[tactic(auto, using(crate::proofs::CheckedLemmas::checked_laws))]
 pub fn what_later_incrementals_keep()
     ensures up_thru { (incs later : List Incremental) (osd : ℕ) → are_checked (incs ++ later) ≡ true
         → up_thru incs osd ≤ up_thru (incs ++ later) osd }
     ensures size { (incs later : List Incremental) (id k : ℕ) (made : PoolSpec) → are_checked (incs ++ later) ≡ true
         → pool incs id ≡ Some made → made.kind ≡ Erasure k → option_map (λ now. now.size) (pool (incs ++ later) id) ≡ Some made.size }
+    ensures places { (incs later : List Incremental) (id : ℕ) (made : PoolSpec) → are_checked (incs ++ later) ≡ true
+        → pool incs id ≡ Some made → is_by_place made.kind ≡ true → option_map (λ now. now.size) (pool (incs ++ later) id) ≡ Some made.size }
+    ensures parts { (incs later : List Incremental) (id : ℕ) (groups : List (Option Part)) (made : PoolSpec) → are_checked (incs ++ later) ≡ true
+        → pool incs id ≡ Some made → made.kind ≡ Grouped groups
+        → option_map_or (λ now. are_parts now.size groups) (pool (incs ++ later) id) false ≡ true }
 {}
 
 /// What a map itself says of a device or a pool is what its incrementals say.

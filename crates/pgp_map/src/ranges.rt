@@ -4,7 +4,8 @@ ghost use Rattle.std.specs.Prelude.{◌≡◌, not, ◌||◌, ◌&&◌, true, na
 ghost use Rattle.std.specs.List.{list_any};
 ghost use Rattle.std.specs.Option.{option_map_or};
 ghost use Rattle.std.specs.HashMap as hash;
-ghost use Rattle.pgp_map.specs.MapFault.{is_within, are_sizes, is_kind, is_pool, is_erasure};
+ghost use Rattle.pgp_ids.specs.Pool.{is_by_place};
+ghost use Rattle.pgp_map.specs.MapFault.{is_within, are_sizes, is_kind, is_pool};
 
 use pgp_ids::{PoolId, PoolKind, PoolSizes, PoolSpec};
 use std::collections::HashMap;
@@ -22,13 +23,14 @@ fn are_sizes(size: u8, min_size: u8) -> bool
     size >= 1 && size <= MAX_SIZE && (min_size >= 1 && min_size <= size)
 }
 
-/// In an erasure pool k is 1 to the size.
-fn is_kind(kind: PoolKind, size: u8) -> bool
-    ensures { result ≡ is_kind kind size }
+/// In an erasure pool k is 1 to the size, and in a grouped pool the size allows the parts.
+fn is_kind(kind: &PoolKind, size: u8) -> bool
+    ensures { result ≡ is_kind kind.now size }
 {
     match kind {
         PoolKind::Replicated => true,
-        PoolKind::Erasure { k } => k >= 1 && k <= size,
+        PoolKind::Erasure { k } => *k >= 1 && *k <= size,
+        PoolKind::Grouped { groups } => groups.are_of_size(size),
     }
 }
 
@@ -39,28 +41,18 @@ fn is_pool(made: &PoolSpec) -> bool
     made.pg_num >= 1
         && made.pg_num <= MAX_POOL_GROUPS
         && are_sizes(made.size, made.min_size)
-        && is_kind(made.kind, made.size)
-}
-
-/// The pool is an erasure pool.
-pub(crate) fn is_erasure(kind: PoolKind) -> bool
-    ensures { result ≡ is_erasure kind }
-{
-    match kind {
-        PoolKind::Replicated => false,
-        PoolKind::Erasure { .. } => true,
-    }
+        && is_kind(&made.kind, made.size)
 }
 
 /// The sizes aren't ones to which the pool can change.
 fn are_bad_sizes(table: &HashMap<PoolId, PoolSpec>, given: &PoolSizes) -> bool
-    ensures { result ≡ (not (are_sizes given.now.size given.now.min_size) || option_map_or (λ made. is_erasure made.kind && not (nat_eq made.size given.now.size)) (hash.get nat_eq table.now given.now.pool) true) }
+    ensures { result ≡ (not (are_sizes given.now.size given.now.min_size) || option_map_or (λ made. is_by_place made.kind && not (nat_eq made.size given.now.size)) (hash.get nat_eq table.now given.now.pool) true) }
 {
     if !are_sizes(given.size, given.min_size) {
         return true;
     }
     match table.get(&given.pool) {
-        Some(made) => is_erasure(made.kind) && made.size != given.size,
+        Some(made) => made.kind.is_by_place() && made.size != given.size,
         None => true,
     }
 }
@@ -74,7 +66,7 @@ pub(crate) fn has_bad_spec(made: &[PoolSpec]) -> bool
 
 /// A pool is given sizes to which it can't change.
 pub(crate) fn has_bad_sizes(table: &HashMap<PoolId, PoolSpec>, sizes: &[PoolSizes]) -> bool
-    ensures { result ≡ list_any (λ given. not (are_sizes given.size given.min_size) || option_map_or (λ made. is_erasure made.kind && not (nat_eq made.size given.size)) (hash.get nat_eq table.now given.pool) true) sizes.now }
+    ensures { result ≡ list_any (λ given. not (are_sizes given.size given.min_size) || option_map_or (λ made. is_by_place made.kind && not (nat_eq made.size given.size)) (hash.get nat_eq table.now given.pool) true) sizes.now }
 {
     sizes.iter().any(|given| are_bad_sizes(table, given))
 }

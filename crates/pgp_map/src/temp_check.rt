@@ -7,7 +7,6 @@ ghost use Rattle.pgp_map.specs.MapFault.{is_bad_list, has_bad_places};
 ghost use Rattle.pgp_tables.specs.PoolTable.{new_pool};
 
 use super::new_pools::NewPools;
-use super::ranges::is_erasure;
 use pgp_ids::{MAX_OSDS, OsdId, PoolId, PoolSpec, TempList};
 use std::collections::HashMap;
 
@@ -46,7 +45,7 @@ fn has_empty_place(places: &[Option<OsdId>]) -> bool
 fn has_bad_places(made: &PoolSpec, places: &[Option<OsdId>]) -> bool
     ensures { result ≡ has_bad_places made.now places.now }
 {
-    if is_erasure(made.kind) {
+    if made.kind.is_by_place() {
         !places.is_empty() && places.len() != usize::from(made.size)
     } else {
         has_empty_place(places)

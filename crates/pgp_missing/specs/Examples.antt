@@ -28,6 +28,7 @@ copy tail last =
       stamp = 2;
       les = 0;
       history_les = 0;
+      last_epoch_clean = 0;
       last_update = last;
       log_tail = tail;
       complete = true;

@@ -19,11 +19,13 @@ use Rattle.pgp_prior.specs.Changes.{allows, IsChangeIn, IsChange}
 use Rattle.pgp_prior.specs.Kept.{IsKept, past_of, later_les, EachKept, IsUnderWay}
 use Rattle.pgp_prior.specs.KeptLists.{kept_matters, kept_blocks, up_of, down_of}
 use Rattle.pgp_prior.specs.Places.{places_of}
+use Rattle.pgp_ids.specs.Past.{raised_at}
 use Rattle.pgp_prior.specs.IndexOf.{Basis, IsIndexOf, prior_by, HasEachPlace}
 use Rattle.pgp_prior.proofs.BetterLemmas.{blocks-same}
 use Rattle.pgp_prior.proofs.PriorLemmas.{prior-by_lists}
 use Rattle.pgp_prior.proofs.IndexLemmas.{each-later, each-more, pasts-later, places-more, ups-same, downs-same}
 use Rattle.pgp_prior.proofs.KeptLemmas.{Law}
+use Rattle.pgp_prior.proofs.RaisedLemmas.{places-raised}
 use Rattle.pgp_prior.proofs.WayLemmas.{at-contains}
 
 -- an interval in which the device doesn't stand
@@ -63,6 +65,17 @@ module _ {C : Type 0} (enough : C → List ℕ → Bool) (by_place : C → Bool)
   renewed status past same each =
       let each' : EachKept (enough b.code) (by_place b.code) status b.les past.items = rw (← is.code_is, ← is.les_is) each in
       assumption (each', same ∙ is.past_are)
+
+  -- one interval may have gone read-write after all
+  pub raised : (place : ℕ) (past : Vec Kept Global) → map past_of past.items ≡ raised_at place (map past_of index.past.items)
+      → ((status : ℕ → ℕ → Status) → EachKept (enough index.code) (by_place index.code) status index.les index.past.items → EachKept (enough index.code) (by_place index.code) status index.les past.items)
+      → IsIndexOf enough by_place (record b { past = raised_at place b.past }) (record index { past = past })
+  raised place past now keeps =
+      let was : EachKept (enough index.code) (by_place index.code) b.status index.les index.past.items = rw (is.code_is, is.les_is) is.each_kept in
+      let each : EachKept (enough b.code) (by_place b.code) b.status b.les past.items = rw (← is.code_is, ← is.les_is) (keeps b.status was) in
+      let same : map past_of past.items ≡ raised_at place b.past = now ∙ ap (raised_at place) is.past_are in
+      let there = places-raised (by_place b.code) place b.past (places_of index.places) is.places_are in
+      assumption (each, same, there)
 
   -- the group began to serve later
   pub later : (les : ℕ) (past : Vec Kept Global) → b.les ≤ les → past.items ≡ map (later_les les) index.past.items

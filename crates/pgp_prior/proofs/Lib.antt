@@ -6,5 +6,6 @@ pub mod MemberLemmas
 pub mod ToldLemmas
 pub mod KeptLemmas
 pub mod WayLemmas
+pub mod RaisedLemmas
 pub mod IndexLemmas
 pub mod BasisLemmas

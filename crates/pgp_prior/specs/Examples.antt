@@ -1,6 +1,6 @@
 -- A group of an erasure pool with two data shards: in the epochs 1 and 2, in which it may have gone read-write, it lay on
 -- the devices 0, 1 and 2, and now it lies on 0, 3 and 4.
-use Rattle.std.specs.Prelude.{ℕ, zero, suc, List, [], ◌∷◌, Option, Some, true, nat_lt, if◌then◌else◌}
+use Rattle.std.specs.Prelude.{ℕ, zero, suc, List, [], ◌∷◌, Option, Some, true, false, nat_lt, if◌then◌else◌}
 use Rattle.pgp_ids.specs.Osds.{first_osd}
 use Rattle.pgp_ids.specs.declared.member.Member.{Member}
 use Rattle.pgp_ids.specs.declared.membership.Membership.{Membership}
@@ -35,6 +35,14 @@ with_statuses one two zero first = Up
 with_statuses one two (suc zero) first = one
 with_statuses one two (suc (suc zero)) first = two
 with_statuses one two _ first = Up
+
+-- the same interval, if it was not read-write
+abbrev pub lay_unwritten : Past
+lay_unwritten = record lay_on { rw = false }
+
+-- the prior set of the group after these past intervals, where 1 and 2 have these statuses and it never served
+abbrev pub prior_after : List Past → Status → Status → Prior
+prior_after past one two = prior_set (enough_shards 2) true (with_statuses one two) 0 past lies_on
 
 -- the prior set of the group, where 1 and 2 have these statuses and the group last began to serve in epoch `les`
 abbrev pub prior_with : Status → Status → ℕ → Prior

@@ -4,13 +4,14 @@ ghost use Rattle.pgp_prior.specs.Better.{is_no_worse};
 ghost use Rattle.pgp_prior.specs.Changes.{is_no_better, is_same_or_gone, allows, IsChange};
 ghost use Rattle.pgp_prior.specs.Kept.{AgreeOn};
 ghost use Rattle.pgp_prior.specs.IndexOf.{Basis, IsIndexOf, prior_by, is_down_by};
+ghost use Rattle.pgp_ids.specs.Past.{raised_at};
 
 use super::change::Change;
 use super::index_lists::{blocked_by, probe};
 use super::kept::Kept;
 use super::places::add_interval;
 use super::prior_set::Prior;
-use super::renewal::{renew_at, set_les_of};
+use super::renewal::{raise_at, renew_at, set_les_of};
 use pgp_code::Recoverable;
 use pgp_ids::{Epoch, Membership, OsdId, Past, Seq};
 use pgp_sets::StatusOf;
@@ -22,7 +23,8 @@ use std::collections::HashMap;
 /// It keeps for each device the past intervals that it stands in, by their places, and for each interval the statuses of
 /// its acting members and whether it blocks. The caller tells it which way the statuses of a device changed, by one of three
 /// calls, and so which of the device's intervals may have begun or ceased to block: the code is asked about these, once
-/// each, and about no other. None of the three takes memory.
+/// each, and about no other. None of the three takes memory. Nor does [`raise`](PriorIndex::raise), by which the caller tells
+/// it that one interval may have gone read-write after all.
 pub struct PriorIndex<R> {
     alloc: Global,
     code: R,
@@ -98,6 +100,17 @@ impl<R: Recoverable> PriorIndex<R> {
     {
         self.les = les;
         set_les_of(self.past.as_mut_slice(), les);
+    }
+
+    /// Marks the past interval at this place as one that may have gone read-write. It judges that interval anew, and no
+    /// other: the code is asked once at most. An interval that is marked already stays as it is, and where there is none at
+    /// this place, nothing changes. It takes no memory.
+    pub fn raise(&mut self, place: usize)
+        ensures { (b : Basis R) → IsIndexOf R.enough R.by_place b self.old
+            → IsIndexOf R.enough R.by_place (record b { past = raised_at place b.past }) self.new }
+    {
+        let past = self.past.as_mut_slice();
+        raise_at(past, place, &self.code, self.les);
     }
 
     /// The prior set. It judges no interval anew, and takes memory for the two lists of the answer alone. The error is that

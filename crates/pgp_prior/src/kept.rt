@@ -2,6 +2,7 @@ ghost use Rattle.std.specs.Prelude.{◌≡◌, ℕ, List, IfOk};
 ghost use Rattle.pgp_sets.specs.declared.status.Status.{Status};
 ghost use Rattle.pgp_prior.specs.Changes.{allows, IsChangeIn};
 ghost use Rattle.pgp_prior.specs.Kept.{IsKept, AgreeOn, later_les};
+ghost use Rattle.pgp_ids.specs.Past.{with_rw};
 
 use super::blocks::{blocks, matters};
 use super::change::Change;
@@ -61,6 +62,20 @@ impl Kept {
         self.statuses
             .set(osd, statuses.status(osd, self.past.first));
         if change.rechecks(self.blocks) {
+            self.blocks = blocks(code, &self.statuses, les, &self.past);
+        }
+    }
+
+    /// Marks the interval as one that may have gone read-write, and judges anew whether it blocks. One that is marked
+    /// already stays as it is.
+    pub(crate) fn raise<R: Recoverable>(&mut self, code: &R, les: Epoch)
+        ensures past { self.new.past ≡ with_rw self.old.past }
+        ensures kept { (status : ℕ → ℕ → Status)
+            → IsKept (R.enough code.now) (R.by_place code.now) status les self.old
+            → IsKept (R.enough code.now) (R.by_place code.now) status les self.new }
+    {
+        if !self.past.rw {
+            self.past.rw = true;
             self.blocks = blocks(code, &self.statuses, les, &self.past);
         }
     }

@@ -10,7 +10,8 @@ ghost use Rattle.pgp_lists.specs.Ordered.{IsAscending};
 ghost use Rattle.pgp_prior.specs.Prior.{probe, blocked_by, is_group_down, IsBlocking, IsProbed};
 ghost use Rattle.pgp_prior.specs.Better.{is_no_worse, IsNoWorse};
 ghost use Rattle.pgp_prior.specs.Changes.{is_no_better, is_same_or_gone, IsNoBetter};
-ghost use Rattle.pgp_prior.specs.Examples.{prior_with, lost_at, in_slot};
+ghost use Rattle.pgp_ids.specs.Past.{raised_at};
+ghost use Rattle.pgp_prior.specs.Examples.{prior_with, prior_after, lay_unwritten, lay_on, lost_at, in_slot};
 
 use pgp_code::Recoverable;
 
@@ -64,6 +65,13 @@ pub fn worse_statuses_never_relieve<R: Recoverable>()
     ensures { (code : R) (old new : ℕ → ℕ → Status) (les : ℕ) (past : List Past) → IsNoBetter old new
         → is_group_down (R.enough code) (R.by_place code) old les past ≡ true
         → is_group_down (R.enough code) (R.by_place code) new les past ≡ true }
+{}
+
+/// A group that is down stays so where one of its past intervals may have gone read-write after all, whatever its code.
+pub fn raised_intervals_never_relieve()
+    ensures { (enough : List ℕ → Bool) (by_place : Bool) (status : ℕ → ℕ → Status) (les : ℕ) (past : List Past) (place : ℕ)
+        → is_group_down enough by_place status les past ≡ true
+        → is_group_down enough by_place status les (raised_at place past) ≡ true }
 {}
 
 /// One shard of three is at hand, the two others may come back: the group waits for both.
@@ -122,4 +130,14 @@ pub fn destroyed_shards()
     ensures both_gone { (prior_with Gone Gone 0).down ≡ false }
     ensures down_gone { is_no_worse Down Gone ≡ false }
     ensures allowed { is_same_or_gone Down Gone ≡ true }
+{}
+
+/// An interval that was not read-write holds nobody up. Once it may have gone read-write after all, the group waits for its
+/// devices that are down. Where there is no such interval, or it may have done so already, nothing changes.
+pub fn interval_that_was_written_after_all()
+    ensures before { (prior_after (lay_unwritten ∷ []) Down Down).down ≡ false }
+    ensures after { (prior_after (raised_at 0 (lay_unwritten ∷ [])) Down Down).down ≡ true }
+    ensures blocked_by { (prior_after (raised_at 0 (lay_unwritten ∷ [])) Down Down).blocked_by ≡ 1 ∷ 2 ∷ [] }
+    ensures beyond { raised_at 1 (lay_unwritten ∷ []) ≡ lay_unwritten ∷ [] }
+    ensures already { raised_at 0 (lay_on ∷ []) ≡ lay_on ∷ [] }
 {}

@@ -1,9 +1,10 @@
-//! Past intervals, as the statuses of their devices change.
+//! Past intervals, as the statuses of their devices and what is known of the intervals change.
 
 ghost use Rattle.std.specs.Prelude.{◌≡◌, ℕ, List, Contains, map};
 ghost use Rattle.pgp_sets.specs.declared.status.Status.{Status};
 ghost use Rattle.pgp_prior.specs.Changes.{allows, IsChange};
 ghost use Rattle.pgp_prior.specs.Kept.{past_of, later_les, EachKept, IsUnderWay};
+ghost use Rattle.pgp_ids.specs.Past.{raised_at};
 
 use super::change::Change;
 use super::kept::Kept;
@@ -31,6 +32,18 @@ pub(crate) fn renew_at<R: Recoverable, S: StatusOf>(
         if *place < past.len() {
             past[*place].renew(code, les, change, osd, statuses);
         }
+    }
+}
+
+/// Marks the interval at this place, if there is one, as one that may have gone read-write.
+pub(crate) fn raise_at<R: Recoverable>(past: &mut [Kept], place: usize, code: &R, les: Epoch)
+    ensures raised { map past_of past.new ≡ raised_at place (map past_of past.old) }
+    ensures kept { (status : ℕ → ℕ → Status)
+        → EachKept (R.enough code.now) (R.by_place code.now) status les past.old
+        → EachKept (R.enough code.now) (R.by_place code.now) status les past.new }
+{
+    if place < past.len() {
+        past[place].raise(code, les);
     }
 }
 

@@ -6,6 +6,7 @@ use Rattle.std.specs.List.{filter}
 use Rattle.std.specs.Prelude.{map}
 use Rattle.std.specs.Option.{option_map, option_map_or}
 use Rattle.std.proofs.lemmas.Option.{same_Some}
+use Rattle.pgp_ids.specs.Pool.{is_by_place}
 use Rattle.pgp_ids.specs.declared.incremental.Incremental.{Incremental}
 use Rattle.pgp_ids.specs.declared.membership.Membership.{Membership}
 use Rattle.pgp_ids.specs.declared.pg_id.PgId.{PgId}
@@ -13,7 +14,6 @@ use Rattle.pgp_ids.specs.declared.pool.PoolSpec.{PoolSpec}
 use Rattle.pgp_crush.proofs.PlacementLemmas.{placement-at_most, placement-size}
 use Rattle.pgp_map.specs.Devices.{is_up, weights}
 use Rattle.pgp_map.specs.Map.{tree}
-use Rattle.pgp_map.specs.MapFault.{is_erasure}
 use Rattle.pgp_map.specs.Pools.{pool, temp}
 use Rattle.pgp_sets.specs.Sets.{rule_of, placement_input, if_up, without_down, raw_set, up_set, acting_set, pool_membership, membership, are_up}
 
@@ -55,8 +55,8 @@ without_down-at_most incs pool places =
     let up = λ (place : Option ℕ). option_map_or (is_up incs) place false in
     grind (arith, length-map places (if_up incs), length-filter up places, count_by-le-length up places)
 
-without_down-size : (incs : List Incremental) (pool : PoolSpec) (places : List (Option ℕ)) → is_erasure pool.kind ≡ true → length (without_down incs pool places) ≡ length places
-without_down-size incs pool places erasure = grind (arith, length-map places (if_up incs))
+without_down-size : (incs : List Incremental) (pool : PoolSpec) (places : List (Option ℕ)) → is_by_place pool.kind ≡ true → length (without_down incs pool places) ≡ length places
+without_down-size incs pool places by_place = grind (arith, length-map places (if_up incs))
 
 pub up-at_most : (incs : List Incremental) (pg : PgId) (members : Membership) → membership incs pg ≡ Some members → length members.up ≤ members.size
 up-at_most incs pg = of_pool (λ members. length members.up ≤ members.size) incs pg (λ made.
@@ -64,9 +64,9 @@ up-at_most incs pg = of_pool (λ members. length members.up ≤ members.size) in
     let kept = without_down-at_most incs made (raw_set incs made pg) in
     omega (arith, placed, kept))
 
-pub up-size : (incs : List Incremental) (pg : PgId) (made : PoolSpec) (members : Membership) → pool incs pg.pool ≡ Some made → is_erasure made.kind ≡ true
+pub up-size : (incs : List Incremental) (pg : PgId) (made : PoolSpec) (members : Membership) → pool incs pg.pool ≡ Some made → is_by_place made.kind ≡ true
     → membership incs pg ≡ Some members → length members.up ≡ members.size
-up-size incs pg made members there erasure is =
+up-size incs pg made members there by_place is =
     let same : pool_membership incs pg made ≡ members = same_Some _ _ (ap (option_map (pool_membership incs pg)) (sym there) ∙ is) in
     subst (λ (m : Membership). length m.up ≡ m.size) same
-    (without_down-size incs made (raw_set incs made pg) erasure ∙ placement-size (tree incs) (rule_of made) (weights incs) (placement_input made pg) made.size erasure)
+    (without_down-size incs made (raw_set incs made pg) by_place ∙ placement-size (tree incs) (rule_of made) (weights incs) (placement_input made pg) made.size by_place)

@@ -13,7 +13,7 @@ use Rattle.pgp_ids.specs.Osds.{first_osd}
 use Rattle.pgp_ids.specs.declared.membership.Membership.{Membership}
 use Rattle.pgp_ids.specs.declared.pg_id.PgId.{PgId}
 use Rattle.pgp_ids.specs.declared.pool.PoolKind.TheVariants.{Replicated, Erasure}
-use Rattle.pgp_map.specs.Examples.{empty_step}
+use Rattle.pgp_map.specs.Examples.{empty_step, part_of, grouped}
 
 -- a uniform root over the devices 0 to n - 1
 abbrev pub root_over : ℕ → BucketSpec
@@ -76,6 +76,10 @@ shards_on_three =
       pools = record { id = 2; pg_num = 1; kind = Erasure 2; size = 3; min_size = 2; leaf = 0 } ∷ [];
       temp = stands_on shards_group (Some 0 ∷ Some 1 ∷ Some 2 ∷ []);
     }
+
+-- the same of a grouped pool, whose slots 0 and 2 are each a part
+abbrev pub parts_on_three : Incremental
+parts_on_three = record shards_on_three { pools = grouped 2 (part_of (0 ∷ []) 1 ∷ part_of (2 ∷ []) 1 ∷ []) ∷ [] }
 
 -- an incremental that takes these devices down
 abbrev pub take_down : ℕ → List ℕ → Incremental

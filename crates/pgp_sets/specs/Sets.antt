@@ -8,18 +8,18 @@ use Rattle.pgp_hash.specs.StableMod.{stable_mod}
 use Rattle.pgp_crush.specs.declared.rule.Rule.{Rule}
 use Rattle.pgp_crush.specs.Placement.{placement}
 use Rattle.pgp_ids.specs.Osds.{first_osd}
+use Rattle.pgp_ids.specs.Pool.{is_by_place}
 use Rattle.pgp_ids.specs.declared.incremental.Incremental.{Incremental}
 use Rattle.pgp_ids.specs.declared.membership.Membership.{Membership}
 use Rattle.pgp_ids.specs.declared.pg_id.PgId.{PgId}
 use Rattle.pgp_ids.specs.declared.pool.PoolSpec.{PoolSpec}
 use Rattle.pgp_map.specs.Devices.{is_up, weights}
 use Rattle.pgp_map.specs.Map.{tree, up_to}
-use Rattle.pgp_map.specs.MapFault.{is_erasure}
 use Rattle.pgp_map.specs.Pools.{pool, temp}
 
--- how a pool places its groups: in an erasure pool each position keeps its place
+-- how a pool places its groups: in an erasure or grouped pool each position keeps its place
 abbrev pub rule_of : PoolSpec → Rule
-rule_of pool = record { indep = is_erasure pool.kind; leaf = pool.leaf }
+rule_of pool = record { indep = is_by_place pool.kind; leaf = pool.leaf }
 
 -- what a group's placement hashes: its number among those of the pool, and the pool
 abbrev pub placement_input : PoolSpec → PgId → ℕ
@@ -41,10 +41,11 @@ moves inc id = is_some inc.crush || nat_lt 0 (length inc.weight) || list_any (λ
 abbrev pub if_up : List Incremental → Option ℕ → Option ℕ
 if_up incs place = if option_map_or (is_up incs) place false then place else None
 
--- the list without devices that aren't up: their places are empty in an erasure pool, and left out in a replicated one
+-- the list without devices that aren't up: their places are empty in an erasure or grouped pool, and left out in a replicated
+-- one
 abbrev pub without_down : List Incremental → PoolSpec → List (Option ℕ) → List (Option ℕ)
 without_down incs pool places =
-    if is_erasure pool.kind then map (if_up incs) places else filter (λ place. option_map_or (is_up incs) place false) places
+    if is_by_place pool.kind then map (if_up incs) places else filter (λ place. option_map_or (is_up incs) place false) places
 
 -- the group's placement, without devices that aren't up
 abbrev pub up_set : List Incremental → PoolSpec → PgId → List (Option ℕ)

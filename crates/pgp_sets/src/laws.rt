@@ -3,18 +3,19 @@
 
 ghost use Rattle.std.specs.Prelude.{◌≡◌, ◌≤◌, ℕ, List, Option, true, false, [], ◌∷◌, Some, None, length};
 ghost use Rattle.pgp_sets.specs.declared.status.Status.TheVariants.{Up, Gone, Lost, Down};
+ghost use Rattle.pgp_ids.specs.Pool.{is_by_place};
 ghost use Rattle.pgp_ids.specs.declared.incremental.Incremental.{Incremental};
 ghost use Rattle.pgp_ids.specs.declared.membership.Membership.{Membership};
 ghost use Rattle.pgp_ids.specs.declared.pg_id.PgId.{PgId};
 ghost use Rattle.pgp_ids.specs.declared.pool.PoolSpec.{PoolSpec};
 ghost use Rattle.pgp_map.specs.declared.map.OsdMap.{OsdMap};
 ghost use Rattle.pgp_map.specs.Examples.{boot, empty_step};
-ghost use Rattle.pgp_map.specs.MapFault.{map_fault, then_with, is_erasure};
+ghost use Rattle.pgp_map.specs.MapFault.{map_fault, then_with};
 ghost use Rattle.pgp_map.specs.Pools.{pool};
 ghost use Rattle.pgp_map.specs.MapOf.{IsMapOf};
 ghost use Rattle.pgp_sets.specs.Status.{status, held_status};
 ghost use Rattle.pgp_sets.specs.Sets.{membership, membership_at, raw_set_of, moves, are_up};
-ghost use Rattle.pgp_sets.specs.Examples.{of_device, of_weight, copies_group, shards_group, stands_on, lies_on, copies_placed, copies_on_three, shards_on_three, take_down, resize};
+ghost use Rattle.pgp_sets.specs.Examples.{of_device, of_weight, copies_group, shards_group, stands_on, lies_on, copies_placed, copies_on_three, shards_on_three, parts_on_three, take_down, resize};
 
 /// Each device of up and of acting is up.
 pub fn who_lies_there_is_up()
@@ -24,12 +25,12 @@ pub fn who_lies_there_is_up()
         → membership incs pg ≡ Some members → are_up incs members.acting ≡ true }
 {}
 
-/// An up set has at most as many places as the size of the pool, and in an erasure pool exactly so many.
+/// An up set has at most as many places as the size of the pool, and in an erasure or grouped pool exactly as many.
 pub fn up_sets_have_their_size()
     ensures at_most { (incs : List Incremental) (pg : PgId) (members : Membership)
         → membership incs pg ≡ Some members → length members.up ≤ members.size }
-    ensures erasure { (incs : List Incremental) (pg : PgId) (made : PoolSpec) (members : Membership) → pool incs pg.pool ≡ Some made
-        → is_erasure made.kind ≡ true → membership incs pg ≡ Some members → length members.up ≡ members.size }
+    ensures by_place { (incs : List Incremental) (pg : PgId) (made : PoolSpec) (members : Membership) → pool incs pg.pool ≡ Some made
+        → is_by_place made.kind ≡ true → membership incs pg ≡ Some members → length members.up ≡ members.size }
 {}
 
 /// Where the tree puts a group stays, unless an incremental gives a tree, weights, or sizes of the group's pool.
@@ -102,6 +103,14 @@ pub fn shards()
         ≡ Some (lies_on 3 2 (None ∷ None ∷ None ∷ []) (Some 0 ∷ None ∷ Some 2 ∷ [])) }
     ensures all_down { membership (shards_on_three ∷ take_down 2 (0 ∷ 1 ∷ 2 ∷ []) ∷ []) shards_group
         ≡ Some (lies_on 3 2 (None ∷ None ∷ None ∷ []) (None ∷ None ∷ None ∷ [])) }
+{}
+
+/// So does a grouped pool, also of a slot that is in none of its parts.
+pub fn parts()
+    ensures on_three { membership (parts_on_three ∷ []) shards_group
+        ≡ Some (lies_on 3 2 (None ∷ None ∷ None ∷ []) (Some 0 ∷ Some 1 ∷ Some 2 ∷ [])) }
+    ensures one_down { membership (parts_on_three ∷ take_down 2 (1 ∷ []) ∷ []) shards_group
+        ≡ Some (lies_on 3 2 (None ∷ None ∷ None ∷ []) (Some 0 ∷ None ∷ Some 2 ∷ [])) }
 {}
 
 /// Without a tree no device is placed, and without its pool a group has no membership.

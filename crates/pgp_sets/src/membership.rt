@@ -10,7 +10,7 @@ ghost use Rattle.pgp_sets.specs.Sets.{membership, raw_set, without_down, acting_
 use super::places::without_down;
 use pgp_crush::{Rule, place};
 use pgp_hash::{hash2, mask_of, stable_mod};
-use pgp_ids::{MAX_OSDS, Membership, Osds, PgId, PoolKind, PoolSpec};
+use pgp_ids::{MAX_OSDS, Membership, Osds, PgId, PoolSpec};
 use pgp_map::OsdMap;
 
 /// Where the group lies by this map: its up set, its acting set and their primaries, with the sizes of its pool.
@@ -70,15 +70,19 @@ fn pool_of(map: &OsdMap, pg: &PgId) -> PoolSpec
     ensures told { (incs : List Incremental) → IsMapOf incs map.now → pool incs pg.now.pool ≡ Some result }
     ensures size { result.size ≤ MAX_OSDS }
 {
-    map.pool(pg.pool).unwrap()
+    // Not `unwrap`, of which the toolchain has no proof at a type that holds the parts of a grouped pool.
+    match map.pool(pg.pool) {
+        Some(pool) => pool,
+        None => unreachable!(),
+    }
 }
 
-/// How the pool places its groups: in an erasure pool each position keeps its place.
+/// How the pool places its groups: in an erasure or grouped pool each position keeps its place.
 fn rule_of(pool: &PoolSpec) -> Rule
     ensures { result ≡ rule_of pool.now }
 {
     Rule {
-        indep: matches!(pool.kind, PoolKind::Erasure { .. }),
+        indep: pool.kind.is_by_place(),
         leaf: pool.leaf,
     }
 }

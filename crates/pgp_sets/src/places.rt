@@ -7,19 +7,20 @@ ghost use Rattle.pgp_map.specs.Held.{held_up};
 ghost use Rattle.pgp_map.specs.MapOf.{IsMapOf};
 ghost use Rattle.pgp_sets.specs.Sets.{without_down};
 
-use pgp_ids::{MAX_OSDS, OsdId, Osds, PoolKind, PoolSpec};
+use pgp_ids::{MAX_OSDS, OsdId, Osds, PoolSpec};
 use pgp_map::OsdMap;
 
-/// The list without devices that aren't up. In an erasure pool their places are empty, in a replicated one they are left
-/// out.
+/// The list without devices that aren't up. In an erasure or grouped pool their places are empty, in a replicated one they
+/// are left out.
 pub(crate) fn without_down(map: &OsdMap, pool: &PoolSpec, places: &[Option<OsdId>]) -> Osds
     requires { length places.now ≤ MAX_OSDS }
     ensures { (incs : List Incremental) → IsMapOf incs map.now
         → result ≡ without_down incs pool.now places.now }
 {
-    match pool.kind {
-        PoolKind::Replicated => left_out(map, places),
-        PoolKind::Erasure { .. } => emptied(map, places),
+    if pool.kind.is_by_place() {
+        emptied(map, places)
+    } else {
+        left_out(map, places)
     }
 }
 

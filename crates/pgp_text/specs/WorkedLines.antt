@@ -1,6 +1,5 @@
 -- The lines of the worked laws, and what they say.
-use Rattle.std.specs.Prelude.{ℕ, pos, negsuc, List, [], ◌∷◌, ◌++◌, codes, true, false, Some, None, ⊤, refl}
-use Rattle.std.proofs.Math.ListN.{replicate}
+use Rattle.std.specs.Prelude.{ℕ, pos, negsuc, List, [], ◌∷◌, ◌++◌, replicate, codes, true, false, Option, Some, None, ⊤, refl}
 use Rattle.std.specs.Fmt.{digits}
 use Rattle.std.specs.Str.{is_utf8, chars}
 use Rattle.serde_json.proofs.OnLiterals.{serde_json_on_literals}
@@ -11,8 +10,9 @@ use Rattle.pgp_ids.specs.declared.incremental.DeviceWeight.{DeviceWeight}
 use Rattle.pgp_ids.specs.declared.incremental.Incremental.{Incremental}
 use Rattle.pgp_ids.specs.declared.incremental.TempList.{TempList}
 use Rattle.pgp_ids.specs.declared.log_entry.Change.TheVariants.{Modify, Delete}
+use Rattle.pgp_ids.specs.declared.part.Part.{Part}
 use Rattle.pgp_ids.specs.declared.pool.PoolKind.{PoolKind}
-use Rattle.pgp_ids.specs.declared.pool.PoolKind.TheVariants.{Replicated, Erasure}
+use Rattle.pgp_ids.specs.declared.pool.PoolKind.TheVariants.{Replicated, Erasure, Grouped}
 use Rattle.pgp_ids.specs.declared.report.Info.{Info}
 use Rattle.pgp_ids.specs.declared.report.Report.{Report}
 use Rattle.pgp_lines.specs.MadeBucket.{sound_bucket}
@@ -52,6 +52,29 @@ erasure_line =
 -- what that line says
 abbrev pub erasure_command : Command
 erasure_command = Trace (Erasure 16) (epoch_state (None ∷ Some 3 ∷ []) (None ∷ []) 16 16 0 4294967295 ∷ [])
+
+-- a part with these slots, none of which was twice in its list
+abbrev pub part_of : List ℕ → ℕ → Option Part
+part_of slots least = Some (record { slots = slots; least = least; twice = false })
+
+-- the 16 places of a code that wants one of the slots 0 and 1, and slot 2
+abbrev pub pair_and_one : List (Option Part)
+pair_and_one = part_of (0 ∷ 1 ∷ []) 1 ∷ part_of (2 ∷ []) 1 ∷ replicate 14 None
+
+-- a trace of one epoch by this code, with more keys; one of its places is empty
+abbrev pub trace_with : List ℕ → List ℕ → List ℕ
+trace_with keys code =
+    codes "{\"op\":\"trace\"," ++ keys ++ codes "\"code\":" ++ code ++ codes ",\"epochs\":[{\"up\":[null,3],\"acting\":[1],\"size\":"
+    ++ codes "2,\"min_size\":1,\"up_from\":7,\"up_thru\":0}]}"
+
+-- that trace in version 2, by a grouped code with these parts
+abbrev pub grouped_trace_line : List ℕ → List ℕ
+grouped_trace_line groups =
+    trace_with (codes "\"v\":2,") (codes "{\"kind\":\"grouped\",\"groups\":" ++ groups ++ codes "}")
+
+-- what that line says where its code has these places
+abbrev pub grouped_trace : List (Option Part) → Command
+grouped_trace groups = Trace (Grouped groups) (epoch_state (None ∷ Some 3 ∷ []) (Some 1 ∷ []) 2 1 7 0 ∷ [])
 
 -- an incremental of epoch 1, with more keys
 abbrev pub inc_with : List ℕ → List ℕ
@@ -124,6 +147,38 @@ abbrev pub erasure_pool_command : Command
 erasure_pool_command =
     opening (0 ∷ 1 ∷ 2 ∷ 3 ∷ 4 ∷ 5 ∷ []) (0 ∷ 1 ∷ 2 ∷ 3 ∷ 4 ∷ 5 ∷ []) (sound_bucket (negsuc 0) 1 Uniform (pos 0 ∷ pos 1 ∷ pos 2 ∷ pos 3 ∷ pos 4 ∷ pos 5 ∷ []) [] refl) 2 (Erasure 2) (first_three 2 ∷ [])
 
+-- that incremental in version 2, with a grouped pool in the place of the erasure pool
+abbrev pub grouped_pool_line : List ℕ
+grouped_pool_line =
+    codes "{\"op\":\"inc\",\"v\":2,\"epoch\":1,\"up\":[0,1,2,3,4,5],\"weight\":[[0,0],[1,0],[2,0],[3,0],[4,0],[5,0]"
+    ++ codes "],\"crush\":[{\"id\":-1,\"type\":1,\"alg\":\"uniform\",\"items\":[0,1,2,3,4,5]}],\"pools\":[{\"id\":2,"
+    ++ codes "\"pg_num\":1,\"kind\":\"grouped\",\"groups\":[[[0,1],1],[[2],1]],\"size\":3,\"min_size\":2,\"leaf\":0}],"
+    ++ codes "\"temp\":[[2,0,[0,1,2]]]}"
+
+-- what that line says
+abbrev pub grouped_pool_command : Command
+grouped_pool_command =
+    opening (0 ∷ 1 ∷ 2 ∷ 3 ∷ 4 ∷ 5 ∷ []) (0 ∷ 1 ∷ 2 ∷ 3 ∷ 4 ∷ 5 ∷ []) (sound_bucket (negsuc 0) 1 Uniform (pos 0 ∷ pos 1 ∷ pos 2 ∷ pos 3 ∷ pos 4 ∷ pos 5 ∷ []) [] refl) 2 (Grouped pair_and_one) (first_three 2 ∷ [])
+
+-- an incremental that makes one pool, whose kind and data are these keys, with more keys of its own
+abbrev pub pool_line : List ℕ → List ℕ → List ℕ
+pool_line keys kind =
+    inc_with (keys ++ codes "\"pools\":[{\"id\":2,\"pg_num\":1," ++ kind ++ codes ",\"size\":3,\"min_size\":2,\"leaf\":0}]")
+
+-- the kind of a grouped pool, and its parts
+abbrev pub grouped_with : List ℕ → List ℕ
+grouped_with groups = codes "\"kind\":\"grouped\",\"groups\":" ++ groups
+
+-- an incremental of version 2 that makes one grouped pool with these parts
+abbrev pub parts_line : List ℕ → List ℕ
+parts_line groups = pool_line (codes "\"v\":2,") (grouped_with groups)
+
+-- what that line says where its pool has these places
+abbrev pub made_of_parts : List (Option Part) → Command
+made_of_parts groups = Submit (Inc (record (empty_inc 1) {
+  pools = record { id = 2; pg_num = 1; kind = Grouped groups; size = 3; min_size = 2; leaf = 0 } ∷ [];
+}))
+
 -- an incremental with each of the other keys, and numbers at the ends of their ranges
 abbrev pub edges_line : List ℕ
 edges_line =
@@ -146,11 +201,15 @@ edges_command = Submit (Inc (record (empty_inc 4294967295) {
   crush = Some (sound_bucket (negsuc 65535) 0 Weighed (negsuc 65535 ∷ pos 65535 ∷ []) (0 ∷ 4294967295 ∷ []) refl ∷ []);
 }))
 
--- the info of device 2 with nothing written yet
-abbrev pub info_line : List ℕ
-info_line =
+-- the info of device 2 with nothing written yet, with more keys
+abbrev pub info_with : List ℕ → List ℕ
+info_with keys =
     codes "{\"op\":\"info\",\"pg\":[1,0],\"from\":[2,0],\"stamp\":1,\"les\":0,\"history_les\":0,\"last_update\":["
-    ++ codes "0,0],\"log_tail\":[0,0],\"complete\":true}"
+    ++ codes "0,0],\"log_tail\":[0,0],\"complete\":true" ++ keys ++ codes "}"
+
+-- that info alone
+abbrev pub info_line : List ℕ
+info_line = info_with []
 
 -- what that line says
 abbrev pub first_info : Info
@@ -160,6 +219,7 @@ first_info = record {
   stamp = 1;
   les = 0;
   history_les = 0;
+  last_epoch_clean = 0;
   last_update = record { epoch = 0; v = 0 };
   log_tail = record { epoch = 0; v = 0 };
   complete = true;
@@ -170,7 +230,7 @@ abbrev pub edges_of_info_line : List ℕ
 edges_of_info_line =
     codes "{\"op\":\"info\",\"pg\":[255,1023],\"from\":[4095,15],\"stamp\":4294967295,\"les\":4294967294,\"his"
     ++ codes "tory_les\":4294967293,\"last_update\":[4294967292,4294967295],\"log_tail\":[0,1],\"complete\":"
-    ++ codes "false}"
+    ++ codes "false,\"last_epoch_clean\":4294967291}"
 
 -- what that line says
 abbrev pub edges_of_info : Info
@@ -180,6 +240,7 @@ edges_of_info = record {
   stamp = 4294967295;
   les = 4294967294;
   history_les = 4294967293;
+  last_epoch_clean = 4294967291;
   last_update = record { epoch = 4294967292; v = 4294967295 };
   log_tail = record { epoch = 0; v = 1 };
   complete = false;

@@ -10,12 +10,14 @@ ghost use Rattle.pgp_ids.specs.declared.pool.PoolKind.TheVariants.{Replicated};
 ghost use Rattle.pgp_ids.specs.declared.verdict.Verdict.TheVariants as the;
 ghost use Rattle.pgp_interval.specs.History.{begun, stepped};
 ghost use Rattle.pgp_interval.specs.Runs.{past_intervals};
+ghost use Rattle.pgp_map.specs.Examples.{empty_step};
 ghost use Rattle.pgp_sets.specs.Examples.{copies_group, shards_group, stands_on, copies_placed, copies_on_three, shards_on_three, take_down, resize, lies_on};
 ghost use Rattle.pgp_group.specs.GroupHistory.{group_history};
 ghost use Rattle.pgp_group.specs.GroupLog.{group_in};
 ghost use Rattle.pgp_group.specs.Heard.{les, heard};
+ghost use Rattle.pgp_group.specs.Peering.{past};
 ghost use Rattle.pgp_group.specs.View.{scratch};
-ghost use Rattle.pgp_group.specs.Examples.{in_slot, at, on_three, known_up, was, maps, two_shards_down, copy, copy_up_to, shard, infos_sent, entries_of, entries_of_first, three_writes, peer};
+ghost use Rattle.pgp_group.specs.Examples.{in_slot, at, on_three, known_up, give_up, was, maps, unrecorded, two_shards_down, two_parts_on_three, second_part_down, copy, copy_up_to, shard, infos_sent, entries_of, entries_of_first, three_writes, peer};
 
 /// A group is short of members where acting has fewer than min_size, or where their slots aren't enough for the code.
 pub fn short_groups()
@@ -115,20 +117,65 @@ pub fn membership_that_comes_back()
         option_map heard (group_in log copies_group) ≡ Some [] }
 {}
 
+/// A group of two parts is down where the devices of one went down, though the other part has its slot. It waits for each of
+/// them that is down; one that is given up for lost counts as if it were at hand, and so a part that has only that one is
+/// enough.
+pub fn part_that_went_down()
+    ensures down { let log = maps second_part_down ++ infos_sent (shard 0 0 3 ∷ []) in
+        option_map (λ view. view.verdict) (scratch log shards_group) ≡ Some the.Down }
+    ensures blocked_by { let log = maps second_part_down ++ infos_sent (shard 0 0 3 ∷ []) in
+        option_map (λ view. view.blocked_by) (scratch log shards_group) ≡ Some (1 ∷ 2 ∷ []) }
+    ensures other_part_lost { let log = maps (second_part_down ++ give_up 4 1 4 ∷ []) ++ infos_sent (shard 0 0 4 ∷ []) in
+        option_map (λ view. view.blocked_by) (scratch log shards_group) ≡ Some (2 ∷ []) }
+    ensures part_lost { let log = maps (second_part_down ++ give_up 4 2 4 ∷ []) ++ infos_sent (shard 0 0 4 ∷ []) in
+        option_map (λ view. view.blocked_by) (scratch log shards_group) ≡ Some [] }
+    ensures waits { let log = maps (second_part_down ++ give_up 4 2 4 ∷ []) ++ infos_sent (shard 0 0 4 ∷ []) in
+        option_map (λ view. view.verdict) (scratch log shards_group) ≡ Some the.Waiting }
+{}
+
+/// A group of two parts serves where each has its slots.
+pub fn parts_that_serve()
+    ensures { let log = maps (two_parts_on_three ∷ []) ++ infos_sent (shard 0 0 1 ∷ shard 1 1 1 ∷ shard 2 2 1 ∷ [])
+        ++ entry.Inc (known_up 2 0 1) ∷ [] in
+        option_map (λ view. view.verdict) (scratch log shards_group) ≡ Some the.Serve }
+{}
+
 /// An interval in which acting had fewer than min_size members was none of writes, though its primary was known to be up.
 pub fn too_few_to_go_read_write()
-    ensures { option_map (past_intervals enough_of is_by_place)
+    ensures { option_map (past_intervals enough_of is_by_place [])
         (group_history (copies_placed ∷ known_up 2 0 1 ∷ resize 3 3 1 ∷ []) copies_group)
         ≡ Some (was 1 2 (lies_on 3 2 (Some 0 ∷ []) (Some 0 ∷ [])) false ∷ []) }
+{}
+
+/// A report raises the flag of a past interval in which it says that the group was clean, whether the report counts or not,
+/// and whenever it came. An epoch of another interval, and 0, say nothing of it.
+pub fn report_of_an_interval_that_was_clean()
+    ensures past { let log = maps unrecorded ++ infos_sent (record (copy 0 3) { last_epoch_clean = 2 } ∷ []) in
+        option_map past (group_in log copies_group) ≡ Some (was 1 2 (on_three 2) true ∷ []) }
+    ensures not_counted { let log = maps unrecorded ++ infos_sent (record (copy 1 2) { last_epoch_clean = 1 } ∷ []) in
+        option_map past (group_in log copies_group) ≡ Some (was 1 2 (on_three 2) true ∷ []) }
+    ensures before_it_ended { let log = maps (copies_on_three ∷ empty_step 2 ∷ [])
+        ++ infos_sent (record (copy 0 2) { last_epoch_clean = 2 } ∷ []) ++ entry.Inc (take_down 3 (1 ∷ [])) ∷ [] in
+        option_map past (group_in log copies_group) ≡ Some (was 1 2 (on_three 2) true ∷ []) }
+    ensures current { let log = maps unrecorded ++ infos_sent (record (copy 0 3) { last_epoch_clean = 3 } ∷ []) in
+        option_map past (group_in log copies_group) ≡ Some (was 1 2 (on_three 2) false ∷ []) }
+    ensures none { let log = maps unrecorded ++ infos_sent (copy 0 3 ∷ []) in
+        option_map past (group_in log copies_group) ≡ Some (was 1 2 (on_three 2) false ∷ []) }
+{}
+
+/// An interval in which acting had fewer than min_size members no report makes one of writes.
+pub fn report_that_too_few_were_clean()
+    ensures { let log = maps (copies_placed ∷ resize 2 3 1 ∷ []) ++ infos_sent (record (copy 0 2) { last_epoch_clean = 1 } ∷ []) in
+        option_map past (group_in log copies_group) ≡ Some (was 1 1 (lies_on 3 2 (Some 0 ∷ []) (Some 0 ∷ [])) false ∷ []) }
 {}
 
 /// A primary that booted after the interval opened wasn't up all through it. In a log it would open an interval; a trace may
 /// tell so.
 pub fn primary_that_booted_later()
     ensures later { let opening = begun (code_of Replicated) 1 (on_three 2) in
-        past_intervals enough_of is_by_place (stepped opening (on_three 1) (record { up_from = 2; up_thru = 2 }))
+        past_intervals enough_of is_by_place [] (stepped opening (on_three 1) (record { up_from = 2; up_thru = 2 }))
         ≡ was 1 1 (on_three 2) false ∷ [] }
     ensures before { let opening = begun (code_of Replicated) 1 (on_three 2) in
-        past_intervals enough_of is_by_place (stepped opening (on_three 1) (record { up_from = 1; up_thru = 2 }))
+        past_intervals enough_of is_by_place [] (stepped opening (on_three 1) (record { up_from = 1; up_thru = 2 }))
         ≡ was 1 1 (on_three 2) true ∷ [] }
 {}

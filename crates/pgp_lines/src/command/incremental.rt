@@ -8,7 +8,9 @@ ghost use Rattle.pgp_lines.specs.Incremental.{list_at, going_of, pools_of, comin
 
 use super::faults::bad_field_fault;
 use super::fields::read_required;
+use super::format::{Format, judge_format, read_in};
 use super::lists::{Shape, read_list};
+use super::pools::pools_at;
 use super::value::Value;
 use pgp_ids::{
     BucketSpec, DeviceEpoch, DeviceWeight, Epoch, Incremental, OsdId, PoolSizes, PoolSpec, Seq,
@@ -16,31 +18,36 @@ use pgp_ids::{
 };
 use std::alloc::Global;
 
-/// The incremental of a line whose keys are known. They are read in ascending byte order, so that the least bad one is
-/// told.
-pub(super) fn read_inc(alloc: Global, value: &Value<'_, '_>) -> Result<Incremental, TextFault>
-    ensures ok { IfOk result (λ inc. inc_of (view value.now) ≡ Ok inc) }
+/// The incremental of a line whose keys are known, and which names this version. They are read in ascending byte order,
+/// so that the least bad one is told.
+pub(super) fn read_inc(
+    alloc: Global,
+    value: &Value<'_, '_>,
+    format: Option<Format>,
+) -> Result<Incremental, TextFault>
+    ensures ok { IfOk result (λ inc. inc_of format (view value.now) ≡ Ok inc) }
     ensures err { IfErr result
-        (λ fault. IfSome (told fault) (λ f. inc_of (view value.now) ≡ Err f)) }
+        (λ fault. IfSome (told fault) (λ f. inc_of format (view value.now) ≡ Err f)) }
 {
     let crush = tree_at(alloc, value)?;
     let going = read_going(alloc, value)?;
-    read_rest(alloc, value, crush, going)
+    read_rest(alloc, value, format, crush, going)
 }
 
 /// The incremental of a line whose tree and going devices were read.
 fn read_rest(
     alloc: Global,
     value: &Value<'_, '_>,
+    format: Option<Format>,
     crush: Option<Seq<BucketSpec>>,
     going: Going,
 ) -> Result<Incremental, TextFault>
-    ensures ok { IfOk result (λ inc. rest_of crush going (view value.now) ≡ Ok inc) }
+    ensures ok { IfOk result (λ inc. rest_of format crush going (view value.now) ≡ Ok inc) }
     ensures err { IfErr result
-        (λ fault. IfSome (told fault) (λ f. rest_of crush going (view value.now) ≡ Err f)) }
+        (λ fault. IfSome (told fault) (λ f. rest_of format crush going (view value.now) ≡ Err f)) }
 {
-    let pools = read_pools(alloc, value)?;
-    let coming = read_coming(alloc, value)?;
+    let pools = read_pools(alloc, value, read_in(format))?;
+    let coming = read_coming(alloc, value, format)?;
     Ok(Incremental {
         epoch: going.epoch,
         up: coming.up,
@@ -90,18 +97,18 @@ struct Pools {
     temp: Seq<TempList>,
 }
 
-fn read_pools(alloc: Global, value: &Value<'_, '_>) -> Result<Pools, TextFault>
-    ensures ok { IfOk result (λ pools. pools_of (view value.now) ≡ Ok pools) }
+fn read_pools(alloc: Global, value: &Value<'_, '_>, format: Format) -> Result<Pools, TextFault>
+    ensures ok { IfOk result (λ pools. pools_of format (view value.now) ≡ Ok pools) }
     ensures err { IfErr result
-        (λ fault. IfSome (told fault) (λ f. pools_of (view value.now) ≡ Err f)) }
+        (λ fault. IfSome (told fault) (λ f. pools_of format (view value.now) ≡ Err f)) }
 {
-    let pools = list_at(alloc, value, "pools")?;
+    let pools = pools_at(alloc, value, format)?;
     let sizes = list_at(alloc, value, "sizes")?;
     let temp = list_at(alloc, value, "temp")?;
     Ok(Pools { pools, sizes, temp })
 }
 
-/// The devices that come, or go on.
+/// The devices that come, or go on. `v` stands among their keys.
 #[derive(Drop)]
 struct Coming {
     up: Seq<OsdId>,
@@ -109,13 +116,18 @@ struct Coming {
     weight: Seq<DeviceWeight>,
 }
 
-fn read_coming(alloc: Global, value: &Value<'_, '_>) -> Result<Coming, TextFault>
-    ensures ok { IfOk result (λ coming. coming_of (view value.now) ≡ Ok coming) }
+fn read_coming(
+    alloc: Global,
+    value: &Value<'_, '_>,
+    format: Option<Format>,
+) -> Result<Coming, TextFault>
+    ensures ok { IfOk result (λ coming. coming_of format (view value.now) ≡ Ok coming) }
     ensures err { IfErr result
-        (λ fault. IfSome (told fault) (λ f. coming_of (view value.now) ≡ Err f)) }
+        (λ fault. IfSome (told fault) (λ f. coming_of format (view value.now) ≡ Err f)) }
 {
     let up = list_at(alloc, value, "up")?;
     let up_thru = list_at(alloc, value, "up_thru")?;
+    judge_format(alloc, format)?;
     let weight = list_at(alloc, value, "weight")?;
     Ok(Coming {
         up,

@@ -1,15 +1,21 @@
 //! What a map incremental says of pools and of groups.
-ghost use Rattle.std.specs.Prelude.{◌≡◌, map, IfOk};
+ghost use Rattle.std.specs.Prelude.{◌≡◌, [], map, Ok, Err, IfOk, IfErr, IfSome, codes};
 ghost use Rattle.pgp_lines.specs.Value.{view};
-ghost use Rattle.pgp_lines.specs.Shapes.{field};
+ghost use Rattle.std.specs.List.{list_all};
+ghost use Rattle.pgp_lines.specs.LineFault.{told};
+ghost use Rattle.pgp_lines.specs.Format.{has_kind};
+ghost use Rattle.pgp_lines.specs.Shapes.{field, optional};
 ghost use Rattle.pgp_lines.specs.Ids.{byte_in};
-ghost use Rattle.pgp_lines.specs.Pools.{pool_keys, pool_kind_in, spread_in, pool_in, pool_sizes_in, temp_in};
+ghost use Rattle.pgp_lines.specs.Pools.{pool_keys, pool_kind_in, spread_in, pool_in, pools_in, pool_sizes_in, temp_in};
 
+use super::faults::bad_field_fault;
+use super::format::Format;
+use super::groups::read_groups;
 use super::lists::{Shape, read_list, read_triple};
 use super::numbers::{read_byte, read_group, read_number, read_pool_id};
 use super::objects::has_only;
 use super::value::Value;
-use pgp_ids::{PoolKind, PoolSizes, PoolSpec, TempList};
+use pgp_ids::{PoolKind, PoolSizes, PoolSpec, Seq, TempList, TextFault};
 use std::alloc::{AllocError, Global};
 
 impl Shape for PoolSpec {
@@ -46,12 +52,55 @@ impl Shape for TempList {
     }
 }
 
+/// The pools of a line of this version, none where it has no such key.
+pub(super) fn pools_at(
+    alloc: Global,
+    value: &Value<'_, '_>,
+    format: Format,
+) -> Result<Seq<PoolSpec>, TextFault>
+    ensures ok { IfOk result
+        (λ pools. optional (codes "pools") (pools_in format) [] (view value.now) ≡ Ok pools) }
+    ensures err { IfErr result (λ fault. IfSome (told fault)
+        (λ f. optional (codes "pools") (pools_in format) [] (view value.now) ≡ Err f)) }
+{
+    let Some(list) = value.get("pools") else {
+        return Ok(Seq::new(alloc));
+    };
+    match read_pools_in(alloc, &list, format)? {
+        Some(pools) => Ok(pools),
+        None => Err(bad_field_fault(alloc, "pools")),
+    }
+}
+
+/// A list of pools, each of a kind that a line of this version can have.
+fn read_pools_in(
+    alloc: Global,
+    value: &Value<'_, '_>,
+    format: Format,
+) -> Result<Option<Seq<PoolSpec>>, AllocError>
+    ensures { IfOk result (λ found. found ≡ pools_in format (view value.now)) }
+{
+    let Some(pools) = read_list(alloc, value)? else {
+        return Ok(None);
+    };
+    if !has_kinds(format, pools.as_slice()) {
+        return Ok(None);
+    }
+    Ok(Some(pools))
+}
+
+fn has_kinds(format: Format, pools: &[PoolSpec]) -> bool
+    ensures { result ≡ list_all (λ pool. has_kind format pool.kind) pools.now }
+{
+    pools.iter().all(|pool| format.has_kind(&pool.kind))
+}
+
 /// A pool: an object with all keys of its kind and no other.
 fn read_pool(value: &Value<'_, '_>) -> Option<PoolSpec>
     ensures { result ≡ pool_in (view value.now) }
 {
     let kind = read_kind(value)?;
-    if !has_only(value, pool_keys(kind)) {
+    if !has_only(value, pool_keys(&kind)) {
         return None;
     }
     let id = read_pool_id(&value.get("id")?)?;
@@ -98,7 +147,7 @@ fn byte_at(value: &Value<'_, '_>, key: &str) -> Option<u8>
     read_byte(&value.get(key)?)
 }
 
-/// The kind of a pool; an erasure pool has a number of data shards.
+/// The kind of a pool; an erasure pool has a number of data shards, a grouped one its parts.
 fn read_kind(value: &Value<'_, '_>) -> Option<PoolKind>
     ensures { result ≡ pool_kind_in (view value.now) }
 {
@@ -108,17 +157,24 @@ fn read_kind(value: &Value<'_, '_>) -> Option<PoolKind>
             let k = byte_at(value, "k")?;
             Some(PoolKind::Erasure { k })
         }
+        "grouped" => {
+            let groups = read_groups(&value.get("groups")?)?;
+            Some(PoolKind::Grouped { groups })
+        }
         _ => None,
     }
 }
 
 /// The keys of a pool's object, in ascending byte order.
-fn pool_keys(kind: PoolKind) -> &'static [&'static str]
-    ensures { map (λ k. k.now) result.now ≡ pool_keys kind }
+fn pool_keys(kind: &PoolKind) -> &'static [&'static str]
+    ensures { map (λ k. k.now) result.now ≡ pool_keys kind.now }
 {
     match kind {
         PoolKind::Replicated => &["id", "kind", "leaf", "min_size", "pg_num", "size"],
         PoolKind::Erasure { .. } => &["id", "k", "kind", "leaf", "min_size", "pg_num", "size"],
+        PoolKind::Grouped { .. } => {
+            &["groups", "id", "kind", "leaf", "min_size", "pg_num", "size"]
+        }
     }
 }
 

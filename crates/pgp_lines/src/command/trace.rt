@@ -2,8 +2,10 @@
 ghost use Rattle.std.specs.Prelude.{◌≡◌, codes, IfOk};
 ghost use Rattle.pgp_lines.specs.Value.{view};
 ghost use Rattle.pgp_lines.specs.Shapes.{field};
-ghost use Rattle.pgp_lines.specs.Trace.{code_in, erasure_in, has_empty_places, osds_in, sizes_in, facts_in, members_in, epoch_state_in, epochs_in};
+ghost use Rattle.pgp_lines.specs.Trace.{kind_in, code_in, replicated_in, erasure_in, grouped_in, osds_in, sizes_in, facts_in, members_in, epoch_state_in, epochs_in};
 
+use super::format::Format;
+use super::groups::read_code_groups;
 use super::numbers::{read_epoch, read_number, read_place};
 use super::objects::has_only;
 use super::value::Value;
@@ -19,16 +21,37 @@ const MAX_SHARDS: u64 = 16;
 
 const MAX_SIZE: u64 = 16;
 
-/// The code of a trace: `{"kind":"replicated"}`, or `{"k":1,"kind":"erasure"}` with 1 to 16 data shards.
-pub(super) fn read_code(value: &Value<'_, '_>) -> Option<PoolKind>
-    ensures { result ≡ field (codes "code") code_in (view value.now) }
+/// The code of a trace in this version.
+pub(super) fn read_code(value: &Value<'_, '_>, format: Format) -> Option<PoolKind>
+    ensures { result ≡ field (codes "code") (code_in format) (view value.now) }
 {
-    let code = value.get("code")?;
+    let kind = read_kind(&value.get("code")?)?;
+    if !format.has_kind(&kind) {
+        return None;
+    }
+    Some(kind)
+}
+
+/// The code of a trace: `{"kind":"replicated"}`, `{"k":1,"kind":"erasure"}` with 1 to 16 data shards, or
+/// `{"groups":[[[0],1]],"kind":"grouped"}`.
+fn read_kind(code: &Value<'_, '_>) -> Option<PoolKind>
+    ensures { result ≡ kind_in (view code.now) }
+{
     match code.get("kind")?.as_str()? {
-        "replicated" => has_only(&code, &["kind"]).then_some(PoolKind::Replicated),
-        "erasure" => read_erasure(&code),
+        "replicated" => read_replicated(code),
+        "erasure" => read_erasure(code),
+        "grouped" => read_grouped(code),
         _ => None,
     }
+}
+
+fn read_replicated(value: &Value<'_, '_>) -> Option<PoolKind>
+    ensures { result ≡ replicated_in (view value.now) }
+{
+    if !has_only(value, &["kind"]) {
+        return None;
+    }
+    Some(PoolKind::Replicated)
 }
 
 /// An erasure code with 1 to 16 data shards.
@@ -42,11 +65,15 @@ fn read_erasure(value: &Value<'_, '_>) -> Option<PoolKind>
     Some(PoolKind::Erasure { k: k as u8 })
 }
 
-/// Whether the places of a list count, so that some may be empty.
-pub(super) fn has_empty_places(code: PoolKind) -> bool
-    ensures { result ≡ has_empty_places code }
+/// A grouped code, with parts that a pool of size 16 can have.
+fn read_grouped(value: &Value<'_, '_>) -> Option<PoolKind>
+    ensures { result ≡ grouped_in (view value.now) }
 {
-    matches!(code, PoolKind::Erasure { .. })
+    if !has_only(value, &["groups", "kind"]) {
+        return None;
+    }
+    let groups = read_code_groups(&value.get("groups")?)?;
+    Some(PoolKind::Grouped { groups })
 }
 
 /// At most 16 places. The bound is judged as the list is walked: a longer one is refused after its first 16 were read.

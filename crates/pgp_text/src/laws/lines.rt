@@ -1,12 +1,11 @@
 //! Worked lines: faults, and traces.
 #![tactic(auto, unfolding(crate::specs::WorkedLines::text_computed))]
 
-ghost use Rattle.std.specs.Prelude.{◌≡◌, ℕ, List, codes, Ok, Err};
-ghost use Rattle.std.proofs.Math.ListN.{replicate};
+ghost use Rattle.std.specs.Prelude.{◌≡◌, ℕ, List, replicate, codes, Ok, Err};
 ghost use Rattle.pgp_lines.specs.LineFault.{not_json, no_op, unknown_key, bad_field};
 ghost use Rattle.pgp_ids.specs.declared.entry.Entry.TheVariants.{Info, Entries};
 ghost use Rattle.pgp_lines.specs.Command.{command_of};
-ghost use Rattle.pgp_text.specs.WorkedLines.{nested, close_with, trace_line, trace_command, erasure_line, erasure_command, info_line, first_info, edges_of_info_line, edges_of_info, entries_line, two_entries};
+ghost use Rattle.pgp_text.specs.WorkedLines.{nested, close_with, trace_line, trace_command, erasure_line, erasure_command, info_with, info_line, first_info, edges_of_info_line, edges_of_info, entries_line, two_entries};
 ghost use Rattle.pgp_lines.specs.declared.command.Command.TheVariants.{Submit, Ask, Locate};
 
 /// What is no JSON text: one that is cut short, one with bytes behind it, a number that overflows, and no text at all.
@@ -57,11 +56,22 @@ pub fn traces()
     ensures erasure { command_of erasure_line ≡ Ok erasure_command }
 {}
 
-/// The lines of reports.
+/// The lines of reports. An info that names no last_epoch_clean has 0 for it.
 pub fn reports()
     ensures info { command_of info_line ≡ Ok (Submit (Info first_info)) }
+    ensures clean { command_of (info_with (codes ",\"last_epoch_clean\":1")) ≡ Ok (Submit (Info (record first_info { last_epoch_clean = 1 }))) }
     ensures last_info { command_of edges_of_info_line ≡ Ok (Submit (Info edges_of_info)) }
     ensures entries { command_of entries_line ≡ Ok (Submit (Entries two_entries)) }
+{}
+
+/// What is no last_epoch_clean. It comes before last_update in byte order, and after history_les; and only an info has it.
+pub fn no_clean_epoch()
+    ensures too_large { command_of (info_with (codes ",\"last_epoch_clean\":4294967296")) ≡ Err (bad_field (codes "last_epoch_clean")) }
+    ensures fraction { command_of (info_with (codes ",\"last_epoch_clean\":1.0")) ≡ Err (bad_field (codes "last_epoch_clean")) }
+    ensures null { command_of (info_with (codes ",\"last_epoch_clean\":null")) ≡ Err (bad_field (codes "last_epoch_clean")) }
+    ensures before_last_update { command_of (info_with (codes ",\"last_epoch_clean\":null,\"last_update\":0")) ≡ Err (bad_field (codes "last_epoch_clean")) }
+    ensures after_history_les { command_of (info_with (codes ",\"last_epoch_clean\":null,\"history_les\":null")) ≡ Err (bad_field (codes "history_les")) }
+    ensures of_entries { command_of (codes "{\"op\":\"entries\",\"last_epoch_clean\":0}") ≡ Err (unknown_key (codes "last_epoch_clean")) }
 {}
 
 /// Where an object lies.

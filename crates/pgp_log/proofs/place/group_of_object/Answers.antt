@@ -4,9 +4,9 @@ use Rattle.pgp_log.proofs.place.group_of_object.Goals as goal
 
 pub group_of-requires : goal.group_of-requires
 group_of-requires c =
-    some-group c.requires.incs c.args.id c.in_ok-pool.pool c.requires.checked (sym (c.pool.ensures.value c.requires.incs c.requires.is) ∙ c.in_ok-pool.was)
+    some-group c.requires.incs c.args.id c.in-Some.pool c.requires.checked (sym (c.pool.ensures.value c.requires.incs c.requires.is) ∙ c.in-Some.is)
 
 pub returns-clause-there : goal.returns-clause-there
 returns-clause-there c =
-    group-there c.requires.incs c.args.map.now (record { pool = c.args.id; pg = c.group_of.result }) c.in_ok-pool.pool c.requires.is c.requires.checked
-    (sym (c.pool.ensures.value c.requires.incs c.requires.is) ∙ c.in_ok-pool.was) c.group_of.ensures.within
+    group-there c.requires.incs c.args.map.now (record { pool = c.args.id; pg = c.group_of.result }) c.in-Some.pool c.requires.is c.requires.checked
+    (sym (c.pool.ensures.value c.requires.incs c.requires.is) ∙ c.in-Some.is) c.group_of.ensures.within

@@ -1,4 +1,4 @@
-use Rattle.std.proofs.Common.{◌≡◌, ◌≢◌, ◌||◌, List, [], ◌∷◌, Some, false, nat_eq, ap, refl, subst, sym, ◌∙◌}
+use Rattle.std.proofs.Common.{◌≡◌, ◌≢◌, ◌||◌, ℕ, List, [], ◌∷◌, Some, false, nat_eq, ap, refl, subst, sym, ◌∙◌}
 use Rattle.std.specs.List.{list_any}
 use Rattle.std.proofs.lemmas.Bool.{true≢false}
 use Rattle.pgp_code.specs.AnyCode.{enough_of, is_by_place}
@@ -14,6 +14,7 @@ use Rattle.pgp_interval.proofs.Same.{is_same-eq, eq-is_same}
 use Rattle.pgp_sets.specs.Sets.{membership}
 use Rattle.pgp_group.specs.Entries.{incs_of}
 use Rattle.pgp_group.specs.GroupHistory.{primary_facts}
+use Rattle.pgp_group.specs.GroupLog.{cleans, group_with}
 use Rattle.pgp_group.specs.GroupOf.{IsGroupOf}
 use Rattle.pgp_group.specs.Touched.{has_osd}
 use Rattle.pgp_group.specs.declared.group.Group.{Group}
@@ -29,32 +30,32 @@ abbrev LiesElsewhere : Group → Membership → Type 0
 LiesElsewhere group members = (log : List Entry) (pg : PgId) → IsGroupOf log pg group → membership (incs_of log) pg ≢ Some members
 
 elsewhere : (group : Group) (members current : Membership) → is_same members current ≡ false
-    → ((h : History AnyCode) → IsIntervalsOf enough_of is_by_place h group.intervals → current ≡ h.current) → LiesElsewhere group members
+    → ((h : History AnyCode) (epochs : List ℕ) → IsIntervalsOf enough_of is_by_place h epochs group.intervals → current ≡ h.current) → LiesElsewhere group members
 elsewhere group members current moved was log pg is there =
     let here : Some members ≡ Some is.history.current = sym there ∙ history-current (incs_of log) pg is.history is.history_is in
     let same : members ≡ is.history.current = cc in
-    differ members current moved (same ∙ sym (was is.history is.keeps.intervals_are))
+    differ members current moved (same ∙ sym (was is.history (cleans (group_with log pg is.history)) is.keeps.intervals_are))
 
 pub returns-then-is_same-clause-ok : goal.returns-then-is_same-clause-ok
 returns-then-is_same-clause-ok c = λ log pg inc is fine before after lies.
     let h = is.history in
     let facts : PrimaryFacts = primary_facts (incs_of log) h.current.acting_primary in
     let stays : c.args.members ≡ h.current =
-    is_same-eq c.args.members c.current-current.result.1 (sym c.is_same.ensures ∙ c.if-is_same.true) ∙ c.current-current.ensures.members h is.keeps.intervals_are in
+    is_same-eq c.args.members c.current-current.result.1 (sym c.is_same.ensures ∙ c.if-is_same.true) ∙ c.current-current.ensures.members h (cleans (group_with log pg h)) is.keeps.intervals_are in
     IsGroupOf-inc log inc pg c.args.self.now _ h.current is fine (lies ∙ ap Some stays) refl refl refl refl
-    (c.stay.ensures h (facts ∷ []) is.keeps.intervals_are (c.epoch.ensures c.requires.incs c.requires.is ∙ c.requires.next))
+    (c.stay.ensures h (cleans (group_with log pg h)) (facts ∷ []) is.keeps.intervals_are (c.epoch.ensures c.requires.incs c.requires.is ∙ c.requires.next))
     (names-stay log inc pg h facts c.args.self.now.named is.keeps.named_are)
 
 pub returns-clause-ok : goal.returns-clause-ok
 returns-clause-ok c = λ log pg inc is fine before after lies.
     let h = is.history in
     let members = c.args.members in
-    let current : c.current-current.result.1 ≡ h.current = c.current-current.ensures.members h is.keeps.intervals_are in
+    let current : c.current-current.result.1 ≡ h.current = c.current-current.ensures.members h (cleans (group_with log pg h)) is.keeps.intervals_are in
     let moved : members ≢ h.current = λ same. differ members c.current-current.result.1 (sym c.is_same.ensures ∙ c.if-is_same.false) (same ∙ sym current) in
     let facts : c.primary_facts-facts.result ≡ primary_facts (incs_of log) h.current.acting_primary =
     c.primary_facts-facts.ensures (incs_of log) before ∙ ap (λ (m : Membership). primary_facts (incs_of log) m.acting_primary) current in
     IsGroupOf-inc log inc pg c.args.self.now _ members is fine lies refl refl refl refl
-    (subst (λ (f : PrimaryFacts). IsIntervalsOf enough_of is_by_place (stepped h members f) c.step.new.self) facts (c.in_ok-step.ensures.ok h is.keeps.intervals_are))
+    (subst (λ (f : PrimaryFacts). IsIntervalsOf enough_of is_by_place (stepped h members f) (cleans (group_with log pg h)) c.step.new.self) facts (c.in_ok-step.ensures.ok h (cleans (group_with log pg h)) is.keeps.intervals_are))
     (names-end log inc pg h members (primary_facts (incs_of log) h.current.acting_primary) c.args.self.now.named c.add_places.new.self c.add_places-2.new.self moved
     (λ osd. c.add_places.ensures.osds osd ∙ (λ i. has_osd osd (current i).up || list_any (nat_eq osd) (c.make_room.ensures.same i)))
     (λ osd. c.add_places-2.ensures.osds osd ∙ (λ i. has_osd osd (current i).acting || list_any (nat_eq osd) c.add_places.new.self.osds.items))

@@ -6,7 +6,7 @@ use Rattle.pgp_map.specs.Pools.{is_same_group}
 use Rattle.pgp_group.specs.Entries.{incs_of}
 use Rattle.pgp_group.specs.GroupLog.{group_with}
 use Rattle.pgp_group.specs.declared.group.Group.{Group}
-use Rattle.pgp_group.proofs.GroupLemmas.{on_err, StandsLike, IsGroupOf-other, IsGroupOf-same, infos-kept, infos-same, names-kept, reports-kept, reports-new, reports-other, reports-told}
+use Rattle.pgp_group.proofs.GroupLemmas.{on_err, StandsLike, IsGroupOf-other, IsGroupOf-same, infos-kept, infos-same, names-kept, past-same, reports-kept, reports-new, reports-other, reports-told}
 use Rattle.pgp_group.proofs.GrowthLemmas.{history-last}
 use Rattle.pgp_group.proofs.NamedLemmas.{before}
 use Rattle.pgp_group.proofs.NamesLemmas.{KeepsNames-report}
@@ -30,19 +30,20 @@ pub returns-in_ok-push-clause-ok : goal.returns-in_ok-push-clause-ok
 returns-in_ok-push-clause-ok c = λ log pg is.
     let report = c.args.report.now in
     let same : is_same_group report.pg pg ≡ true = subst (λ (q : PgId). is_same_group report.pg q ≡ true) is.keeps.pg_is (sym c.eq.ensures ∙ c.if-eq.true) in
-    IsGroupOf-other log (entry.Entries report) pg c.args.self.now _ is refl refl refl
+    IsGroupOf-other log (entry.Entries report) pg c.args.self.now _ is refl (infos-same log (entry.Entries report) pg refl) refl refl
     (infos-kept log (entry.Entries report) pg is.history c.args.self.now.infos refl (infos-same log (entry.Entries report) pg refl) is.keeps.infos_are)
     (c.in_ok-push.ensures.ok (group_with log pg is.history) (group_with (log ++ entry.Entries report ∷ []) pg is.history)
     (omega (arith, c.last.ensures, is.keeps.intervals_are.last_is, history-last (incs_of log) pg is.history is.numbered is.history_is))
     (reports-told log report pg is.history same) is.keeps.reports_are)
-    (KeepsNames-report (group_with log pg is.history) (group_with (log ++ entry.Entries report ∷ []) pg is.history) c.args.self.now.named c.add.new.self report refl
+    (KeepsNames-report (group_with log pg is.history) (group_with (log ++ entry.Entries report ∷ []) pg is.history) c.args.self.now.named c.add.new.self report
+    (past-same (group_with log pg is.history) (group_with (log ++ entry.Entries report ∷ []) pg is.history) refl (infos-same log (entry.Entries report) pg refl))
     (infos-same log (entry.Entries report) pg refl) (reports-new log report pg same) (c.add.ensures.osds ∙ ap (with_item before report.member.osd) c.make_room_for.ensures.same) is.keeps.named_are)
 
 pub returns-else-eq-clause-ok : goal.returns-else-eq-clause-ok
 returns-else-eq-clause-ok c = λ log pg is.
     let report = c.args.report.now in
     let differ : is_same_group report.pg pg ≡ false = subst (λ (q : PgId). is_same_group report.pg q ≡ false) is.keeps.pg_is (sym c.eq.ensures ∙ c.if-eq.false) in
-    IsGroupOf-other log (entry.Entries report) pg c.args.self.now _ is refl refl refl
+    IsGroupOf-other log (entry.Entries report) pg c.args.self.now _ is refl (infos-same log (entry.Entries report) pg refl) refl refl
     (infos-kept log (entry.Entries report) pg is.history c.args.self.now.infos refl (infos-same log (entry.Entries report) pg refl) is.keeps.infos_are)
     (reports-kept log (entry.Entries report) pg is.history c.args.self.now.reports refl (reports-other log report pg differ) is.keeps.reports_are)
     (names-kept log (entry.Entries report) pg is.history c.args.self.now.named (infos-same log (entry.Entries report) pg refl) (reports-other log report pg differ) is.keeps.named_are)

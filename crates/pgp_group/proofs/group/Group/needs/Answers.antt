@@ -2,13 +2,14 @@ use Rattle.std.proofs.Common.{◌≡◌, ap, not, ◌∙◌}
 use Rattle.std.specs.List.{list_any}
 use Rattle.pgp_ids.specs.declared.member.Member.{Member}
 use Rattle.pgp_group.specs.Heard.{has_member}
+use Rattle.pgp_group.specs.GroupLog.{cleans}
 use Rattle.pgp_group.specs.Peering.{past, prior}
 use Rattle.pgp_group.proofs.FoundLemmas.{waiting-is}
 use Rattle.pgp_group.proofs.group.Group.needs.Goals as goal
 
 pub returns : goal.returns
 returns c = λ g keeps reckoned heard.
-    let past_is : c.in_ok-intervals.intervals.items ≡ past g = c.in_ok-intervals.ensures g.history keeps.intervals_are in
+    let past_is : c.in_ok-intervals.intervals.items ≡ past g = c.in_ok-intervals.ensures g.history (cleans g) keeps.intervals_are in
     let prior_is : c.in_ok-prior.prior ≡ prior g = c.in_ok-prior.ensures g reckoned in
     record {
       intervals = c.from_vec.ensures ∙ past_is;

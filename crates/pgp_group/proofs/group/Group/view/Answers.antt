@@ -1,12 +1,12 @@
 use Rattle.std.proofs.Common.{◌∙◌}
-use Rattle.pgp_group.specs.GroupLog.{GroupLog, group_with}
+use Rattle.pgp_group.specs.GroupLog.{GroupLog, cleans, group_with}
 use Rattle.pgp_group.proofs.GroupLemmas.{IsGroupOf-reckoned}
 use Rattle.pgp_group.proofs.group.Group.view.Goals as goal
 
 pub returns-clause-same : goal.returns-clause-same
 returns-clause-same c = λ log pg kept map_is.
     let g : GroupLog = group_with log pg kept.history in
-    let heard = c.hear_more.ensures.kept g kept.keeps (record { map_is = map_is; first_is = c.current-first.ensures.first kept.history kept.keeps.intervals_are }) in
+    let heard = c.hear_more.ensures.kept g kept.keeps (record { map_is = map_is; first_is = c.current-first.ensures.first kept.history (cleans g) kept.keeps.intervals_are }) in
     IsGroupOf-reckoned log pg c.args.self.now c.hear_more.new.self c.look.new.self kept heard
     (c.look.ensures.kept g heard.intervals_are (c.les.ensures ∙ heard.infos_are.les_is))
 
@@ -17,12 +17,12 @@ returns-in_err-hear_more-clause-same c = λ log pg kept map_is.
       history = kept.history;
       history_is = kept.history_is;
       numbered = kept.numbered;
-      keeps = c.hear_more.ensures.kept g kept.keeps (record { map_is = map_is; first_is = c.current-first.ensures.first kept.history kept.keeps.intervals_are });
+      keeps = c.hear_more.ensures.kept g kept.keeps (record { map_is = map_is; first_is = c.current-first.ensures.first kept.history (cleans g) kept.keeps.intervals_are });
     }
 
 pub returns-in_err-look-clause-same : goal.returns-in_err-look-clause-same
 returns-in_err-look-clause-same c = λ log pg kept map_is.
     let g : GroupLog = group_with log pg kept.history in
-    let heard = c.hear_more.ensures.kept g kept.keeps (record { map_is = map_is; first_is = c.current-first.ensures.first kept.history kept.keeps.intervals_are }) in
+    let heard = c.hear_more.ensures.kept g kept.keeps (record { map_is = map_is; first_is = c.current-first.ensures.first kept.history (cleans g) kept.keeps.intervals_are }) in
     IsGroupOf-reckoned log pg c.args.self.now c.hear_more.new.self c.look.new.self kept heard
     (c.look.ensures.kept g heard.intervals_are (c.les.ensures ∙ heard.infos_are.les_is))

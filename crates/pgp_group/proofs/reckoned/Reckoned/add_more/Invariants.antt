@@ -1,7 +1,7 @@
 use Rattle.std.proofs.Common.{◌≡◌}
 use Rattle.pgp_code.specs.AnyCode.{enough_of, is_by_place}
 use Rattle.pgp_interval.specs.IntervalsOf.{IsIntervalsOf}
-use Rattle.pgp_group.specs.GroupLog.{GroupLog}
+use Rattle.pgp_group.specs.GroupLog.{GroupLog, cleans}
 use Rattle.pgp_group.specs.KeptPrior.{IsAbreast}
 use Rattle.pgp_group.proofs.reckoned.Reckoned.add_more.Given as goal
 
@@ -9,7 +9,7 @@ use Rattle.pgp_group.proofs.reckoned.Reckoned.add_more.Given as goal
 abbrev pub invariant-loop-place : goal.invariant-loop-place
 invariant-loop-place l = record {
   added : l.self.added ≡ l.place;
-  abreast : (g : GroupLog) → IsIntervalsOf enough_of is_by_place g.history l.intervals
+  abreast : (g : GroupLog) → IsIntervalsOf enough_of is_by_place g.history (cleans g) l.intervals
       → IsAbreast g l.map l.initial.self.added l.initial.self.index l.initial.self.noted.items
       → IsAbreast g l.map l.self.added l.self.index l.self.noted.items;
 }

@@ -1,0 +1,49 @@
+use Rattle.std.proofs.Common.{◌≡◌, ◌<◌, ◌≤◌, ◌+◌, ℕ, List, [], ◌∷◌, ◌++◌, length, take, set, Some, option_map, refl, sym, ap, ◌∙◌, arith, append_assoc, length-append}
+use Rattle.std.proofs.Math.Seq.{set-append_seam, take-append_seam}
+use Rattle.std.proofs.lemmas.List.Elements.{All-append}
+use Rattle.pgp_ids.specs.Parts.{set_of, has_twice}
+use Rattle.pgp_ids.specs.declared.part.Part.{Part}
+use Rattle.pgp_lines.specs.Groups.{slot_in, slots_in, part_of}
+use Rattle.pgp_lines.specs.Value.{view, items_left}
+use Rattle.pgp_lines.proofs.Walks.{list_after, list_after-next, list_after-end}
+use Rattle.pgp_lines.proofs.command.groups.part_of.Goals as goal
+
+-- one slot more is put behind those that were found
+next_slot : (found rest slots : List ℕ) (count slot : ℕ) → length found ≡ count → count + length rest ≡ 16 → count < 16 → slots ≡ found ++ rest
+    → (more : List ℕ) × (count + 1 + length more ≡ 16) × (set slots count slot ≡ (found ++ slot ∷ []) ++ more)
+next_slot found [] slots count slot ends room below is = absurd (omega (arith, room, below))
+next_slot found (y ∷ ys) slots count slot ends room below is =
+    let here = ap (λ list. set list count slot) is ∙ ap (λ n. set (found ++ y ∷ ys) n slot) (sym ends) in
+    (ys, omega (arith, room), here ∙ set-append_seam found y ys slot ∙ sym (append_assoc found (slot ∷ []) ys))
+
+-- a part by its fields
+made : (part : Part) (least : ℕ) (slots : List ℕ) → part.slots ≡ set_of slots → part.least ≡ least → part.twice ≡ has_twice slots → part ≡ part_of least slots
+made part least slots is_set is_least is_twice = rw (sym is_set, sym is_least, sym is_twice) refl
+
+-- the slots that were found, in the array
+taken : (found rest slots : List ℕ) (count : ℕ) → length found ≡ count → slots ≡ found ++ rest → take count slots ≡ found
+taken found rest slots count ends is = ap (take count) is ∙ ap (λ n. take n (found ++ rest)) (sym ends) ∙ take-append_seam found rest
+
+pub loop-item-init : goal.loop-item-init
+loop-item-init c =
+    let walk : slots_in (view c.args.list.now) ≡ list_after 0 16 slot_in [] (items_left c.in_ok-items.items) = grind arith in
+    ([], _, refl, refl, refl, λ k d below. absurd (omega (arith, below)), walk)
+
+pub loop-item-preserved : goal.loop-item-preserved
+loop-item-preserved c =
+    let now = c.loop-item.invariant in
+    let slot = c.in_ok-slots.field-0 in
+    let more = next_slot now.0 now.1 c.loop-item.slots c.loop-item.count slot now.2 now.3 (grind arith) now.4 in
+    let longer : length (now.0 ++ slot ∷ []) ≡ c.loop-item.count + 1 = omega (arith, now.2, length-append now.0 (slot ∷ [])) in
+    let has : slot_in (view c.in-Some.item) ≡ Some slot = grind arith in
+    let walk = now.6 ∙ list_after-next slot_in 0 16 now.0 slot (view c.in-Some.item) (items_left c.next.new.self) (items_left c.loop-item.items) c.in-Some.ensures.more has in
+    (now.0 ++ slot ∷ [], more.0, longer, more.1, more.2, All-append (λ s. s < 16) now.0 (slot ∷ []) now.5 (grind arith), walk)
+
+pub returns : goal.returns
+returns c =
+    let now = c.loop-item.invariant in
+    let all = taken now.0 now.1 c.loop-item.slots c.loop-item.count now.2 now.4 in
+    let within : length now.0 ≤ 16 = omega (arith, now.2, now.3) in
+    let walk = now.6 ∙ ap (list_after 0 16 slot_in now.0) c.in_default.ensures.end ∙ list_after-end slot_in 16 now.0 within in
+    let part = made c.new.result c.args.least now.0 (c.new.ensures.slots ∙ ap set_of all) c.new.ensures.least (c.new.ensures.twice ∙ ap has_twice all) in
+    ap Some part ∙ sym (ap (option_map (part_of c.args.least)) walk)

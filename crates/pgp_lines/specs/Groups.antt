@@ -1,0 +1,39 @@
+-- The parts of a grouped pool in a line: [list of slots, least number of them] for each.
+use Rattle.std.specs.Prelude.{ℕ, ◌-◌, List, ◌++◌, length, map, replicate, Option, Some, None, option_map, option_and_then, if◌then◌else◌}
+use Rattle.serde_json.specs.Data.{Data}
+use Rattle.pgp_ids.specs.Parts.{set_of, has_twice, are_parts}
+use Rattle.pgp_ids.specs.declared.part.Part.{Part}
+use Rattle.pgp_lines.specs.Shapes.{number_in, pair_in, list_in, ◌>>=◌}
+use Rattle.pgp_lines.specs.Ids.{byte_in}
+
+-- a slot
+abbrev pub slot_in : Data → Option ℕ
+slot_in d = number_in 0 15 d
+
+-- a list of at most 16 slots; it may be empty, and have a slot twice
+abbrev pub slots_in : Data → Option (List ℕ)
+slots_in d = list_in 0 16 slot_in d
+
+-- the part of the slots in this list
+abbrev pub part_of : ℕ → List ℕ → Part
+part_of least slots = record { slots = set_of slots; least = least; twice = has_twice slots }
+
+-- [list of slots, least]
+abbrev pub part_in : Data → Option Part
+part_in d = do
+  pair ← pair_in d
+  slots ← slots_in pair.0
+  least ← byte_in pair.1
+  Some (part_of least slots)
+
+-- 16 places, the first of which hold these parts; the others are empty
+abbrev pub places_of : List Part → List (Option Part)
+places_of parts = map (λ part. Some part) parts ++ replicate (16 - length parts) None
+
+-- a list of at most 16 parts; it may be empty
+abbrev pub groups_in : Data → Option (List (Option Part))
+groups_in d = option_map places_of (list_in 0 16 part_in d)
+
+-- the parts of a trace's code: those that a pool of size 16 can have
+abbrev pub code_groups_in : Data → Option (List (Option Part))
+code_groups_in d = option_and_then (λ groups. if are_parts 16 groups then Some groups else None) (groups_in d)

@@ -1,0 +1,78 @@
+//! The parts of a grouped pool.
+ghost use Rattle.std.specs.Prelude.{◌≡◌, ◌<◌, option_map, IfSome};
+ghost use Rattle.pgp_lines.specs.Value.{view};
+ghost use Rattle.pgp_lines.specs.Groups.{slot_in, slots_in, part_of, part_in, groups_in, code_groups_in};
+
+use super::lists::read_pair;
+use super::numbers::{read_byte, read_number};
+use super::value::Value;
+use pgp_ids::{MAX_PARTS, Part, Parts};
+
+/// The greatest slot of a member in its group.
+const MAX_SLOT: u64 = 15;
+
+/// How many slots the list of a part has at most.
+const MAX_SLOTS: usize = 16;
+
+/// The size of a pool whose groups have the most members.
+const MAX_SIZE: u8 = 16;
+
+/// At most 16 parts, in the first of 16 places. The bound is judged as the list is walked: a longer one is refused after
+/// its first 16 were read.
+pub(super) fn read_groups(value: &Value<'_, '_>) -> Option<Parts>
+    ensures { result ≡ groups_in (view value.now) }
+{
+    let mut items = value.items()?;
+    let mut groups = [None; MAX_PARTS];
+    let mut count = 0;
+    while let Some(item) = items.next() {
+        if count >= MAX_PARTS {
+            return None;
+        }
+        groups[count] = Some(read_part(&item)?);
+        count += 1;
+    }
+    Some(Parts::new(groups))
+}
+
+/// The parts of a trace's code: those that a pool of size 16 can have.
+pub(super) fn read_code_groups(value: &Value<'_, '_>) -> Option<Parts>
+    ensures { result ≡ code_groups_in (view value.now) }
+{
+    let groups = read_groups(value)?;
+    groups.are_of_size(MAX_SIZE).then_some(groups)
+}
+
+/// `[list of slots, least]`.
+fn read_part(value: &Value<'_, '_>) -> Option<Part>
+    ensures { result ≡ part_in (view value.now) }
+{
+    let (slots, least) = read_pair(value)?;
+    part_of(&slots, read_byte(&least)?)
+}
+
+/// The part of a list of at most 16 slots.
+fn part_of(list: &Value<'_, '_>, least: u8) -> Option<Part>
+    ensures { result ≡ option_map (part_of least) (slots_in (view list.now)) }
+{
+    let mut items = list.items()?;
+    let mut slots = [0; MAX_SLOTS];
+    let mut count = 0;
+    while let Some(item) = items.next() {
+        if count >= MAX_SLOTS {
+            return None;
+        }
+        slots[count] = read_slot(&item)?;
+        count += 1;
+    }
+    Some(Part::new(&slots[..count], least))
+}
+
+/// A slot, 0 to 15.
+fn read_slot(value: &Value<'_, '_>) -> Option<u8>
+    ensures value { result ≡ slot_in (view value.now) }
+    ensures within { IfSome result (λ slot. slot < 16) }
+{
+    let slot = read_number(value, 0, MAX_SLOT)?;
+    Some(slot as u8)
+}
