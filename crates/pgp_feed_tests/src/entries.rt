@@ -52,6 +52,7 @@ fn info(number: u32) -> Option<Entry> {
         stamp: Epoch::new(1),
         les: Epoch::new(0),
         history_les: Epoch::new(0),
+        last_epoch_clean: Epoch::new(0),
         last_update: version(number),
         log_tail: version(0),
         complete: true,

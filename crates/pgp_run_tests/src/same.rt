@@ -2,7 +2,7 @@
 ghost use Rattle.std.specs.Prelude.{◌≤◌};
 
 use crate::runs::{ALL, Ended, LARGE, MIDDLE, SMALL, Size, Trial, alone, over_engine};
-use crate::script::{closed_script, open_script};
+use crate::script::{LATER_ANSWER, LATER_LINES, closed_script, open_script, script_of};
 use std::process::Abort;
 use std::sync::Wait;
 use std::test::Fail;
@@ -44,5 +44,19 @@ fn an_open_log_is_closed_without_an_answer(rt: HostRuntime) -> Result<(), Fail> 
 #[test]
 fn lines_after_a_close_are_answered(rt: HostRuntime) -> Result<(), Fail> {
     of_each_size(&rt, closed_script(rt.alloc())?.as_slice());
+    Ok(())
+}
+
+#[test]
+fn lines_of_version_2_and_clean_epochs_are_answered(rt: HostRuntime) -> Result<(), Fail> {
+    let script = script_of(rt.alloc(), &LATER_LINES)?;
+    let trial = Trial {
+        script: script.as_slice(),
+        good_reads: ALL,
+        good_writes: ALL,
+    };
+    let ended = alone(rt.alloc(), &trial);
+    assert!(rt; ended.bytes.as_slice().ends_with(LATER_ANSWER.as_bytes()));
+    of_each_size(&rt, script.as_slice());
     Ok(())
 }

@@ -123,6 +123,7 @@ fn any_info(dice: &mut Dice) -> Result<Info, Fail> {
         stamp: Epoch::new(dice.below(3) as u32),
         les: Epoch::new(dice.below(4) as u32),
         history_les: Epoch::new(told as u32),
+        last_epoch_clean: Epoch::new(0),
         last_update: version(u32::from(last > 0), last),
         log_tail: version(u32::from(tail > 0), tail),
         complete: dice.below(4) > 0,

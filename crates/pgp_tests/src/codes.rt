@@ -1,7 +1,10 @@
 //! Which slots are enough, by the code of each kind of pool.
 
-use pgp_code::{AnyCode, Erasure, Recoverable};
-use pgp_ids::{PoolKind, SLOT_LIMIT, SlotSet};
+use pgp_code::{AnyCode, Erasure, Grouped, Recoverable};
+use pgp_ids::{MAX_PARTS, Parts, PoolKind, SLOT_LIMIT, SlotSet};
+use pgp_text::{Command, read_line};
+use std::alloc::Global;
+use std::test::Fail;
 
 /// The set of these slots.
 fn slots(list: &[u8]) -> SlotSet {
@@ -20,6 +23,8 @@ fn sets_hold_their_slots(rt: HostRuntime) {
     assert!(rt; set.count() == 3);
     assert!(rt; set.has(0) && set.has(7) && set.has(31) && !set.has(1));
     assert!(rt; slots(&[7, 31]).within(set) && !slots(&[7, 1]).within(set));
+    assert!(rt; set.common(slots(&[31, 1, 0])).count() == 2);
+    assert!(rt; set.is_below(32) && !set.is_below(31));
 }
 
 /// Slots, and whether they are enough of copies, of two data shards, and of three.
@@ -43,4 +48,122 @@ fn codes_count_slots(rt: HostRuntime) {
         let found = [copies.enough(have), two.enough(have), three.enough(have)];
         assert!(rt; found == *enough, "of {list:?}");
     }
+}
+
+/// The kind of pool that a trace of this code asks about.
+fn kind_of(alloc: Global, line: &str) -> Result<PoolKind, Fail> {
+    let command = read_line(alloc, line.as_bytes());
+    match &command {
+        Ok(Command::Trace { code, epochs: _ }) => Ok(*code),
+        _ => Err(Fail::new("no trace")),
+    }
+}
+
+/// Of the slots 0 and 1 one has to be there, and both 2 and 3; slot 4 is in no part.
+const PARTS: &str =
+    r#"{"op":"trace","v":2,"code":{"kind":"grouped","groups":[[[1,0],1],[[2,3],2]]},"epochs":[{"up":[],"acting":[],"size":1,"min_size":1,"up_from":0,"up_thru":0}]}"#;
+
+/// All sets of the slots 0 to 4 that are enough of these parts.
+static ENOUGH_OF_PARTS: [&[u8]; 6] = [
+    &[0, 2, 3],
+    &[1, 2, 3],
+    &[0, 1, 2, 3],
+    &[0, 2, 3, 4],
+    &[1, 2, 3, 4],
+    &[0, 1, 2, 3, 4],
+];
+
+/// How many sets of the slots 0 to 4 there are.
+const SETS: u8 = 32;
+
+/// The set whose slots are the ones among the five lowest bits.
+fn set_of(bits: u8) -> SlotSet {
+    let mut set = SlotSet::empty();
+    for slot in 0..5u8 {
+        if bits >> slot & 1 == 1 {
+            set = set.with(slot);
+        }
+    }
+    set
+}
+
+/// How many of the sets are enough.
+fn count_enough(code: &AnyCode) -> usize {
+    let mut count = 0usize;
+    for bits in 0..SETS {
+        if code.enough(set_of(bits)) {
+            count = count.saturating_add(1);
+        }
+    }
+    count
+}
+
+#[test]
+fn each_part_has_to_have_its_least_number(rt: HostRuntime) -> Result<(), Fail> {
+    let code = AnyCode::of_pool(kind_of(rt.alloc(), PARTS)?);
+    assert!(rt; code.by_place());
+    for list in &ENOUGH_OF_PARTS {
+        assert!(rt; code.enough(slots(list)), "{list:?}");
+    }
+    assert!(rt; count_enough(&code) == ENOUGH_OF_PARTS.len());
+    Ok(())
+}
+
+/// Whether no set within this one is enough, unless this one is.
+fn holds_enough_if_any_within(code: &AnyCode, bits: u8) -> bool {
+    let set = set_of(bits);
+    for fewer in 0..SETS {
+        let part = set_of(fewer);
+        if part.within(set) && code.enough(part) && !code.enough(set) {
+            return false;
+        }
+    }
+    true
+}
+
+/// Traces of grouped codes over the slots 0 to 4.
+static CODES: [&str; 4] = [
+    PARTS,
+    r#"{"op":"trace","v":2,"code":{"kind":"grouped","groups":[[[0],1],[[1],1],[[2],1],[[3],1],[[4],1]]},"epochs":[{"up":[],"acting":[],"size":1,"min_size":1,"up_from":0,"up_thru":0}]}"#,
+    r#"{"op":"trace","v":2,"code":{"kind":"grouped","groups":[[[4,3,2,1,0],3]]},"epochs":[{"up":[],"acting":[],"size":1,"min_size":1,"up_from":0,"up_thru":0}]}"#,
+    r#"{"op":"trace","v":2,"code":{"kind":"grouped","groups":[[[4],1]]},"epochs":[{"up":[],"acting":[],"size":1,"min_size":1,"up_from":0,"up_thru":0}]}"#,
+];
+
+/// How many of the sets are enough of each of these codes.
+static COUNTS: [usize; 4] = [6, 1, 16, 16];
+
+#[test]
+fn more_slots_are_never_less(rt: HostRuntime) -> Result<(), Fail> {
+    for (line, count) in CODES.iter().zip(COUNTS.iter()) {
+        let code = AnyCode::of_pool(kind_of(rt.alloc(), line)?);
+        assert!(rt;
+            !code.enough(SlotSet::empty()) && count_enough(&code) == *count,
+            "{line}"
+        );
+        for bits in 0..SETS {
+            assert!(rt; holds_enough_if_any_within(&code, bits), "{bits} of {line}");
+        }
+    }
+    Ok(())
+}
+
+/// Whether the code of a pool of this kind places members as the pool does, by place or not.
+fn places_so(kind: PoolKind, by_place: bool) -> bool {
+    kind.is_by_place() == by_place && AnyCode::of_pool(kind).by_place() == by_place
+}
+
+#[test]
+fn codes_place_members_as_their_pools(rt: HostRuntime) -> Result<(), Fail> {
+    assert!(rt; places_so(PoolKind::Replicated, false));
+    assert!(rt; places_so(PoolKind::Erasure { k: 2 }, true));
+    assert!(rt; places_so(kind_of(rt.alloc(), PARTS)?, true));
+    Ok(())
+}
+
+#[test]
+fn no_parts_are_no_code(rt: HostRuntime) {
+    let none = Parts::new([None; MAX_PARTS]);
+    assert!(rt; Grouped::new(none).is_none());
+    let code = AnyCode::of_pool(PoolKind::Grouped { groups: none });
+    assert!(rt; code.by_place() && code.enough(slots(&[5])) && !code.enough(slots(&[])));
 }

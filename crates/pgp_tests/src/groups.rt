@@ -1,5 +1,6 @@
 //! Placement groups by scripts: map incrementals and what members told, and what is then answered of the group.
 
+mod grouped;
 mod told;
 
 use super::fixtures::{COPIES, SHARDS};

@@ -31,6 +31,7 @@ fn info(told: Told) -> Result<Info, Fail> {
         stamp: Epoch::new(1),
         les: Epoch::new(les),
         history_les: Epoch::new(history_les),
+        last_epoch_clean: Epoch::new(0),
         last_update: version(u32::from(v > 0), v),
         log_tail: version(0, 0),
         complete,

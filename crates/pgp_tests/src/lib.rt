@@ -7,6 +7,8 @@
 #[cfg(test)]
 mod best_stream;
 #[cfg(test)]
+mod cleans;
+#[cfg(test)]
 mod codes;
 #[cfg(test)]
 mod fixtures;
@@ -32,6 +34,8 @@ mod missing;
 mod peering;
 #[cfg(test)]
 mod plain_group;
+#[cfg(test)]
+mod plain_history;
 #[cfg(test)]
 mod prior_index;
 #[cfg(test)]

@@ -32,6 +32,7 @@ pub fn info(told: Held) -> Result<Info, Fail> {
         stamp: Epoch::new(2),
         les: Epoch::new(1),
         history_les: Epoch::new(0),
+        last_epoch_clean: Epoch::new(0),
         last_update: last.version(),
         log_tail: tail.version(),
         complete,

@@ -30,8 +30,11 @@ fn take(map: &mut OsdMap, inc: &Incremental) -> Result<(), Fail> {
 }
 
 /// Where the group lies.
-fn members_of(map: &OsdMap, pg: PgId) -> Option<Membership> {
-    let pool = map.pool(pg.pool)?;
+pub fn members_of(map: &OsdMap, pg: PgId) -> Option<Membership> {
+    // Not `?`, of which the toolchain has no proof at a type that holds the parts of a grouped pool.
+    let Some(pool) = map.pool(pg.pool) else {
+        return None;
+    };
     if pg.pg < pool.pg_num && pool.size <= 16 {
         Some(up_acting(map, pg))
     } else {
@@ -40,7 +43,7 @@ fn members_of(map: &OsdMap, pg: PgId) -> Option<Membership> {
 }
 
 /// What the map says of the primary, if there is one.
-fn facts_of(map: &OsdMap, primary: Option<OsdId>) -> PrimaryFacts {
+pub fn facts_of(map: &OsdMap, primary: Option<OsdId>) -> PrimaryFacts {
     match primary {
         Some(osd) => PrimaryFacts {
             up_from: map.up_from(osd),

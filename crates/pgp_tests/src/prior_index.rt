@@ -92,6 +92,31 @@ fn end_interval(
     Ok(())
 }
 
+/// How often the code is asked where the interval at this place may have gone read-write after all.
+fn questions_by_raise(
+    index: &mut PriorIndex<Counting<'_>>,
+    asked: &AtomicU64,
+    place: usize,
+) -> u64 {
+    let before = asked.load(Ordering::SeqCst);
+    index.raise(place);
+    asked.load(Ordering::SeqCst).wrapping_sub(before)
+}
+
+/// An interval may have gone read-write after all, or one that isn't there. Whether the code was asked at most once.
+fn raise(
+    index: &mut PriorIndex<Counting<'_>>,
+    group: &mut Group,
+    asked: &AtomicU64,
+    dice: &mut Dice,
+) -> bool {
+    let place = dice.below(8) as usize;
+    if let Some(ended) = group.ended.get_mut(place) {
+        ended.rw = true;
+    }
+    questions_by_raise(index, asked, place) <= 1
+}
+
 /// One step of a stream.
 fn step(
     alloc: Global,
@@ -100,7 +125,7 @@ fn step(
     asked: &AtomicU64,
     dice: &mut Dice,
 ) -> Result<bool, Fail> {
-    match dice.below(8) {
+    match dice.below(9) {
         0 => end_interval(index, group, dice)?,
         1 => {
             group.current = three(dice);
@@ -111,6 +136,7 @@ fn step(
             group.les = group.les.saturating_add(more);
             index.set_les(Epoch::new(group.les));
         }
+        3 => return Ok(raise(index, group, asked, dice)),
         _ => return change(alloc, index, group, asked, dice),
     }
     Ok(true)
@@ -219,5 +245,62 @@ fn shard_that_counts_as_lost_no_more_is_waited_for(rt: HostRuntime) -> Result<()
     let (before, after) = waits_for_two(rt.alloc())?;
     assert!(rt; before, "it waits for a shard that counts as lost");
     assert!(rt; after, "it doesn't wait for both");
+    Ok(())
+}
+
+/// The statuses where the devices 1 and 2 are down.
+fn two_down(alloc: Global) -> Result<Table, Fail> {
+    let mut table = Table::all_up(alloc)?;
+    for number in [1, 2] {
+        table.set(OsdId::new(number).ok_or("a device")?, Status::Down);
+    }
+    Ok(table)
+}
+
+/// An index of a group with one past interval, on the devices 0, 1 and 2, which was not read-write.
+fn unwritten<'a>(alloc: Global, asked: &'a AtomicU64) -> Result<PriorIndex<Counting<'a>>, Fail> {
+    let ended = Ended {
+        first: 1,
+        acting: [0, 1, 2],
+        rw: false,
+    };
+    let table = two_down(alloc)?;
+    let mut index = begun(alloc, asked, &[0, 3, 4]);
+    index.add_past(ended.past(), &table)?;
+    Ok(index)
+}
+
+/// The interval at this place may have gone read-write after all; how often the code may be asked then, and what the index
+/// says.
+struct RaisedPlace(usize, u64, &'static str);
+
+static RAISED: [RaisedPlace; 3] = [
+    // There is no such interval.
+    RaisedPlace(1, 0, "asks 0:0 3:1 4:2, not down"),
+    RaisedPlace(0, 1, "asks 0:0 3:1 4:2, down 1 2"),
+    // It may have gone read-write already.
+    RaisedPlace(0, 0, "asks 0:0 3:1 4:2, down 1 2"),
+];
+
+/// Whether the index says what it should before and after each of these, and whether the code was asked no more often.
+fn follow_raises(alloc: Global) -> Result<(bool, bool), Fail> {
+    let asked = AtomicU64::new(0);
+    let mut index = unwritten(alloc, &asked)?;
+    let mut right = says(alloc, &index, "asks 0:0 3:1 4:2, not down")?;
+    let mut few = true;
+    for RaisedPlace(place, most, expected) in &RAISED {
+        few = questions_by_raise(&mut index, &asked, *place) <= *most && few;
+        right = says(alloc, &index, expected)? && right;
+    }
+    Ok((right, few))
+}
+
+#[test]
+fn interval_that_may_have_been_written_after_all_is_judged_once(
+    rt: HostRuntime,
+) -> Result<(), Fail> {
+    let (right, few) = follow_raises(rt.alloc())?;
+    assert!(rt; right, "another prior set");
+    assert!(rt; few, "the code was asked too often");
     Ok(())
 }

@@ -6,12 +6,12 @@ use pgp_ids::{
     AskRefusal, Epoch, Member, MissingObject, ObjectName, OsdId, Osds, PeerMissing, PeerState,
     Refusal, Seq, Verdict, Version, View,
 };
-use pgp_text::{Refused, Reply, read_line};
+use pgp_text::{LineReader, Refused, Reply, read_line};
 use std::alloc::{AllocError, Global};
 use std::test::Fail;
 
 /// Lines, and the commands that they are, as `Debug` writes them.
-static LINES: [(&str, &str); 6] = [
+static LINES: [(&str, &str); 10] = [
     (
         r#" {"op":"inc","epoch":1,"up":[0,1,2],"weight":[[1,0],[2,7]],"crush":[{"id":-1,"type":1,"alg":"list","items":[0,1,-2],"weights":[1,2,3]},{"id":-2,"type":1,"alg":"uniform","items":[]}],"pools":[{"id":2,"pg_num":1,"kind":"erasure","k":2,"size":3,"min_size":2,"leaf":0}],"temp":[[1,0,[0,null,2]]]}
 "#,
@@ -19,7 +19,7 @@ static LINES: [(&str, &str); 6] = [
     ),
     (
         r#"{"op":"info","pg":[3,4],"from":[5,6],"stamp":7,"les":8,"history_les":9,"last_update":[10,11],"log_tail":[12,13],"complete":true}"#,
-        r#"Submit(Info(Info { pg: PgId { pool: PoolId { number: 3 }, pg: 4 }, member: Member { osd: OsdId { number: 5 }, slot: 6 }, stamp: Epoch { number: 7 }, les: Epoch { number: 8 }, history_les: Epoch { number: 9 }, last_update: Version { epoch: Epoch { number: 10 }, v: 11 }, log_tail: Version { epoch: Epoch { number: 12 }, v: 13 }, complete: true }))"#,
+        r#"Submit(Info(Info { pg: PgId { pool: PoolId { number: 3 }, pg: 4 }, member: Member { osd: OsdId { number: 5 }, slot: 6 }, stamp: Epoch { number: 7 }, les: Epoch { number: 8 }, history_les: Epoch { number: 9 }, last_epoch_clean: Epoch { number: 0 }, last_update: Version { epoch: Epoch { number: 10 }, v: 11 }, log_tail: Version { epoch: Epoch { number: 12 }, v: 13 }, complete: true }))"#,
     ),
     (
         r#"{"op":"entries","pg":[3,4],"from":[5,6],"stamp":7,"log":[[8,9,"delete","b"],[10,11,"modify","a"]]}"#,
@@ -34,6 +34,22 @@ static LINES: [(&str, &str); 6] = [
         r#"{"op":"trace","code":{"kind":"erasure","k":3},"epochs":[{"up":[null],"acting":[null,4],"size":2,"min_size":1,"up_from":3,"up_thru":9}]}"#,
         r#"Trace { code: Erasure { k: 3 }, epochs: Seq { items: [EpochState { members: Membership { up: Osds { places: [None] }, up_primary: None, acting: Osds { places: [None, Some(OsdId { number: 4 })] }, acting_primary: Some(OsdId { number: 4 }), size: 2, min_size: 1 }, facts: PrimaryFacts { up_from: Epoch { number: 3 }, up_thru: Epoch { number: 9 } } }] } }"#,
     ),
+    (
+        r#"{"op":"info","v":2,"pg":[3,4],"from":[5,6],"stamp":7,"les":8,"history_les":9,"last_epoch_clean":4294967295,"last_update":[10,11],"log_tail":[12,13],"complete":false}"#,
+        r#"Submit(Info(Info { pg: PgId { pool: PoolId { number: 3 }, pg: 4 }, member: Member { osd: OsdId { number: 5 }, slot: 6 }, stamp: Epoch { number: 7 }, les: Epoch { number: 8 }, history_les: Epoch { number: 9 }, last_epoch_clean: Epoch { number: 4294967295 }, last_update: Version { epoch: Epoch { number: 10 }, v: 11 }, log_tail: Version { epoch: Epoch { number: 12 }, v: 13 }, complete: false }))"#,
+    ),
+    (
+        r#"{"op":"inc","epoch":1,"v":2,"pools":[{"id":2,"pg_num":1,"kind":"grouped","groups":[[[1,0],1],[[2],1]],"size":3,"min_size":2,"leaf":0}]}"#,
+        r#"Submit(Inc(Incremental { epoch: Epoch { number: 1 }, up: Seq { items: [] }, down: Seq { items: [] }, gone: Seq { items: [] }, weight: Seq { items: [] }, up_thru: Seq { items: [] }, lost: Seq { items: [] }, pools: Seq { items: [PoolSpec { id: PoolId { number: 2 }, pg_num: 1, kind: Grouped { groups: Parts { places: [Some(Part { slots: SlotSet { bits: 3 }, least: 1, twice: false }), Some(Part { slots: SlotSet { bits: 4 }, least: 1, twice: false }), None, None, None, None, None, None, None, None, None, None, None, None, None, None] } }, size: 3, min_size: 2, leaf: 0 }] }, sizes: Seq { items: [] }, temp: Seq { items: [] }, crush: None }))"#,
+    ),
+    (
+        r#"{"op":"trace","v":2,"code":{"kind":"grouped","groups":[[[0,1],1],[[2],1]]},"epochs":[{"up":[],"acting":[null,4],"size":2,"min_size":1,"up_from":3,"up_thru":9}]}"#,
+        r#"Trace { code: Grouped { groups: Parts { places: [Some(Part { slots: SlotSet { bits: 3 }, least: 1, twice: false }), Some(Part { slots: SlotSet { bits: 4 }, least: 1, twice: false }), None, None, None, None, None, None, None, None, None, None, None, None, None, None] } }, epochs: Seq { items: [EpochState { members: Membership { up: Osds { places: [] }, up_primary: None, acting: Osds { places: [None, Some(OsdId { number: 4 })] }, acting_primary: Some(OsdId { number: 4 }), size: 2, min_size: 1 }, facts: PrimaryFacts { up_from: Epoch { number: 3 }, up_thru: Epoch { number: 9 } } }] } }"#,
+    ),
+    (
+        r#"{"v":1,"op":"ask","pg":[1,0]}"#,
+        "Ask(PgId { pool: PoolId { number: 1 }, pg: 0 })",
+    ),
 ];
 
 /// The command that the line is, as `Debug` writes it.
@@ -47,6 +63,149 @@ fn reads_lines(rt: HostRuntime) -> Result<(), Fail> {
     for (line, words) in &LINES {
         let told = words_of(rt.alloc(), line)?;
         assert!(rt; told.as_str() == *words, "{told}");
+    }
+    Ok(())
+}
+
+/// Lines that a reader reads in room that it has, with the keys of version 2 and without.
+static IN_ROOM: [&str; 4] = [
+    r#"{"op":"ask","pg":[1,0]}"#,
+    r#"{"op":"ask","v":2,"pg":[1,0]}"#,
+    r#"{"op":"info","pg":[1,0],"from":[0,0],"stamp":1,"les":0,"history_les":0,"last_update":[0,0],"log_tail":[0,0],"complete":true}"#,
+    r#"{"op":"info","v":2,"pg":[1,0],"from":[0,0],"stamp":1,"les":0,"history_les":0,"last_epoch_clean":1,"last_update":[0,0],"log_tail":[0,0],"complete":true}"#,
+];
+
+/// A longer line, for which a reader gets more room.
+const LONG: &str =
+    r#"{"op":"inc","v":2,"epoch":1,"up":[0,1,2,3,4,5],"pools":[{"id":1,"pg_num":1,"kind":"grouped","groups":[[[0,1],1],[[2],1]],"size":3,"min_size":2,"leaf":0}],"temp":[[1,0,[0,1,2]]]}"#;
+
+/// Whether the line is read. One allocation may be refused, and then it is read once more.
+fn is_read_surely(alloc: Global, reader: &mut LineReader, line: &str) -> bool {
+    reader.read(alloc, line.as_bytes()).is_ok() || reader.read(alloc, line.as_bytes()).is_ok()
+}
+
+/// None of these lines takes memory: under `rt try --test --fail-alloc N`, where the Nth allocation is refused, each is read
+/// too.
+#[test]
+fn reads_lines_in_room_that_is_there(rt: HostRuntime) {
+    let mut reader = LineReader::new(rt.alloc());
+    assert!(rt; is_read_surely(rt.alloc(), &mut reader, LONG));
+    for line in &IN_ROOM {
+        assert!(rt; reader.read(rt.alloc(), line.as_bytes()).is_ok(), "{line}");
+    }
+}
+
+/// Lines with one bad key or several, and the key that is named: the least in byte order.
+static BAD_KEYS: [(&str, &str); 21] = [
+    (r#"{"op":"ask","pg":[1,0],"v":3}"#, "v"),
+    (r#"{"op":"ask","pg":[1,0],"v":"2"}"#, "v"),
+    (r#"{"op":"close","v":0}"#, "v"),
+    (r#"{"op":"ask","pg":[0,0],"v":3}"#, "pg"),
+    (r#"{"op":"inc","epoch":1,"v":3,"weight":[1]}"#, "v"),
+    (r#"{"op":"inc","epoch":1,"v":3,"up":[4096]}"#, "up"),
+    // The pools of a line whose version is bad are read as in version 2.
+    (
+        r#"{"op":"inc","epoch":1,"v":3,"pools":[{"id":2,"pg_num":1,"kind":"grouped","groups":[[[0],1]],"size":3,"min_size":2,"leaf":0}]}"#,
+        "v",
+    ),
+    (
+        r#"{"op":"inc","epoch":1,"v":3,"pools":[{"id":2,"pg_num":1,"kind":"grouped","groups":[[[16],1]],"size":3,"min_size":2,"leaf":0}]}"#,
+        "pools",
+    ),
+    (
+        r#"{"op":"inc","epoch":1,"v":1,"pools":[{"id":2,"pg_num":1,"kind":"grouped","groups":[[[0],1]],"size":3,"min_size":2,"leaf":0}]}"#,
+        "pools",
+    ),
+    (
+        r#"{"op":"inc","epoch":1,"v":2,"temp":[1],"pools":[{"id":2,"pg_num":1,"kind":"grouped","k":1,"groups":[[[0],1]],"size":3,"min_size":2,"leaf":0}]}"#,
+        "pools",
+    ),
+    (
+        r#"{"op":"inc","epoch":1,"v":2,"pools":[{"id":2,"pg_num":1,"kind":"grouped","groups":[[[0],256]],"size":3,"min_size":2,"leaf":0}]}"#,
+        "pools",
+    ),
+    // Seventeen slots.
+    (
+        r#"{"op":"inc","epoch":1,"v":2,"pools":[{"id":2,"pg_num":1,"kind":"grouped","groups":[[[0,1,2,3,4,5,6,7,8,9,10,11,12,13,14,15,0],1]],"size":16,"min_size":2,"leaf":0}]}"#,
+        "pools",
+    ),
+    // Seventeen parts.
+    (
+        r#"{"op":"inc","epoch":1,"v":2,"pools":[{"id":2,"pg_num":1,"kind":"grouped","groups":[[[],0],[[],0],[[],0],[[],0],[[],0],[[],0],[[],0],[[],0],[[],0],[[],0],[[],0],[[],0],[[],0],[[],0],[[],0],[[],0],[[],0]],"size":3,"min_size":2,"leaf":0}]}"#,
+        "pools",
+    ),
+    (
+        r#"{"op":"trace","code":{"kind":"grouped","groups":[[[0],1]]},"epochs":[]}"#,
+        "code",
+    ),
+    (
+        r#"{"op":"trace","v":2,"code":{"kind":"grouped","groups":[[[0],1]]},"epochs":[]}"#,
+        "epochs",
+    ),
+    // Parts that no pool can have.
+    (
+        r#"{"op":"trace","v":2,"code":{"kind":"grouped","groups":[[[0],1],[[15,0],1]]},"epochs":[]}"#,
+        "code",
+    ),
+    (
+        r#"{"op":"trace","v":3,"code":{"kind":"grouped","groups":[]},"epochs":[]}"#,
+        "code",
+    ),
+    (
+        r#"{"op":"info","pg":[1,0],"from":[0,0],"stamp":1,"les":0,"history_les":0,"last_epoch_clean":4294967296,"last_update":[0,0],"log_tail":[0,0],"complete":true}"#,
+        "last_epoch_clean",
+    ),
+    (
+        r#"{"op":"info","pg":[1,0],"from":[0,0],"last_epoch_clean":null,"v":3}"#,
+        "complete",
+    ),
+    (
+        r#"{"op":"info","pg":[1,0],"from":[0,0],"stamp":1,"history_les":0,"last_epoch_clean":-1,"last_update":[0],"log_tail":[0,0],"complete":true,"v":3}"#,
+        "last_epoch_clean",
+    ),
+    (
+        r#"{"op":"info","pg":[1,0],"from":[0,0],"stamp":1,"history_les":0,"last_epoch_clean":1,"last_update":[0],"log_tail":[0,0],"complete":true,"v":3}"#,
+        "last_update",
+    ),
+];
+
+/// What is answered to the line, which is no command.
+fn answer_to(alloc: Global, line: &str) -> Result<Vec<u8>, Fail> {
+    let fault = read_line(alloc, line.as_bytes()).err().ok_or("a command")?;
+    Ok(text_of(alloc, Reply::Refused(Refused::Line(fault)))?)
+}
+
+#[test]
+fn names_the_least_bad_key(rt: HostRuntime) -> Result<(), Fail> {
+    for (line, key) in &BAD_KEYS {
+        let expected = format!(in rt.alloc();
+            r#"{{"code":34,"key":"{key}","refused":"BadField"}}"#
+        )?;
+        let answer = answer_to(rt.alloc(), line)?;
+        assert!(rt; answer.as_slice() == expected.as_bytes(), "{key} of {line}");
+    }
+    Ok(())
+}
+
+/// Lines with keys that their operation doesn't have, and the key that is named.
+static UNKNOWN_KEYS: [(&str, &str); 4] = [
+    (r#"{"op":"ask","pg":[1,0],"v":3,"w":1}"#, "w"),
+    (r#"{"op":"ask","pg":[1,0],"v":2,"groups":[]}"#, "groups"),
+    (r#"{"op":"close","last_epoch_clean":1}"#, "last_epoch_clean"),
+    (
+        r#"{"op":"entries","pg":[1,0],"from":[0,0],"stamp":1,"last_epoch_clean":1,"log":[]}"#,
+        "last_epoch_clean",
+    ),
+];
+
+#[test]
+fn names_the_least_unknown_key(rt: HostRuntime) -> Result<(), Fail> {
+    for (line, key) in &UNKNOWN_KEYS {
+        let expected = format!(in rt.alloc();
+            r#"{{"code":33,"key":"{key}","refused":"UnknownKey"}}"#
+        )?;
+        let answer = answer_to(rt.alloc(), line)?;
+        assert!(rt; answer.as_slice() == expected.as_bytes(), "{key} of {line}");
     }
     Ok(())
 }

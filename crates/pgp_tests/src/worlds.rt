@@ -1,12 +1,14 @@
-//! Worlds with ample memory: they answer, and by the front that the group's shard has read.
+//! Worlds with ample memory: they answer, and by the front that the group's shard has read; and which entries of later kinds
+//! they refuse.
 
 ghost use Rattle.std.specs.Prelude.{◌≡◌, ◌<◌, length};
 
-use super::fixtures::text_of;
+use super::fixtures::{COPIES, entry, text_of};
 use pgp_ids::PgId;
 use pgp_log::World;
 use pgp_text::{Command, Reply, read_line};
-use std::alloc::Global;
+use std::alloc::{AllocError, Global};
+use std::process::Abort;
 use std::test::Fail;
 
 /// A pool of three copies, whose only group comes to serve once its primary is known to have been up.
@@ -90,4 +92,128 @@ fn worlds_come_to_serve(rt: HostRuntime) -> Result<(), Fail> {
         assert!(rt; last.as_slice() == SERVING, "{shards} shards");
     }
     Ok(())
+}
+
+/// The number of the refusal with which the entry is answered that the line is, or 0 where the world takes it.
+fn refusal_of(alloc: Global, world: &mut World, line: &str) -> Result<u8, Fail> {
+    let told = entry(alloc, line).ok_or("no entry")?;
+    match world.submit(told) {
+        Ok(_) => Ok(0),
+        Err(refusal) => Ok(refusal.number()),
+    }
+}
+
+/// Parts of a pool of three shards, each with the number of the refusal of an incremental that makes such a pool.
+static PARTS: [(&str, u8); 14] = [
+    // A slot in two parts, and twice in one.
+    ("[[[0,1],1],[[1,2],1]]", 18),
+    ("[[[0,1],1],[[2,2],1]]", 18),
+    // A slot at the size.
+    ("[[[0,1],1],[[3],1]]", 18),
+    // Least numbers of 0, and above the number of slots.
+    ("[[[0,1],0],[[2],1]]", 18),
+    ("[[[0,1],3],[[2],1]]", 18),
+    ("[[[0,1],1],[[2],255]]", 18),
+    // No part, and parts without slots.
+    ("[]", 18),
+    ("[[[],1]]", 18),
+    ("[[[0,1],1],[[],0]]", 18),
+    // The last of sixteen parts.
+    (
+        "[[[0],1],[[1],1],[[],1],[[],1],[[],1],[[],1],[[],1],[[],1],[[],1],[[],1],[[],1],[[],1],[[],1],[[],1],[[],1],[[2],1]]",
+        18,
+    ),
+    ("[[[2,1,0],3]]", 0),
+    ("[[[0,1],2],[[2],1]]", 0),
+    ("[[[2],1],[[0],1]]", 0),
+    ("[[[2],1]]", 0),
+];
+
+/// The incremental of this epoch that makes a pool of these parts, with the number of the epoch.
+fn pool_of_parts(alloc: Global, epoch: u32, parts: &str) -> Result<String, AllocError> {
+    format!(in alloc;
+        r#"{{"op":"inc","v":2,"epoch":{epoch},"pools":[{{"id":{epoch},"pg_num":1,"kind":"grouped","groups":{parts},"size":3,"min_size":2,"leaf":0}}]}}"#
+    )
+}
+
+#[test]
+fn parts_that_no_pool_can_have_are_refused(rt: HostRuntime) -> Result<(), Fail> {
+    let mut world = World::start(rt.alloc(), 1)?;
+    let mut epoch = 1u32;
+    for (parts, number) in &PARTS {
+        let line = pool_of_parts(rt.alloc(), epoch, parts)?;
+        let found = refusal_of(rt.alloc(), &mut world, line.as_str())?;
+        assert!(rt; found == *number, "{found} to {parts}");
+        epoch = epoch.saturating_add(u32::from(found == 0));
+    }
+    Ok(())
+}
+
+/// Each of these lines is refused with its number, or is taken where that is 0, by one world.
+fn are_refused_so<R: Abort + AllocGlobal>(rt: &R, lines: &[(&str, u8)]) -> Result<(), Fail> {
+    let mut world = World::start(rt.alloc(), 1)?;
+    for (line, number) in lines {
+        let found = refusal_of(rt.alloc(), &mut world, line)?;
+        assert!(rt; found == *number, "{found} to {line}");
+    }
+    Ok(())
+}
+
+/// A grouped pool, whose size stays, and whose lists of pg_temp have a place for each of its shards.
+static SIZES: [(&str, u8); 10] = [
+    (
+        r#"{"op":"inc","v":2,"epoch":1,"up":[0,1,2],"pools":[{"id":1,"pg_num":1,"kind":"grouped","groups":[[[0,1],1],[[2],1]],"size":3,"min_size":2,"leaf":0}]}"#,
+        0,
+    ),
+    (r#"{"op":"inc","epoch":2,"sizes":[[1,4,2]]}"#, 18),
+    (r#"{"op":"inc","epoch":2,"sizes":[[1,2,2]]}"#, 18),
+    (r#"{"op":"inc","epoch":2,"sizes":[[1,3,4]]}"#, 18),
+    (r#"{"op":"inc","epoch":2,"sizes":[[1,3,1]]}"#, 0),
+    (r#"{"op":"inc","epoch":3,"temp":[[1,0,[0,1]]]}"#, 20),
+    (r#"{"op":"inc","epoch":3,"temp":[[1,0,[0,1,2,null]]]}"#, 20),
+    (r#"{"op":"inc","epoch":3,"temp":[[1,0,[2,1,2]]]}"#, 20),
+    (r#"{"op":"inc","epoch":3,"temp":[[1,0,[null,0,null]]]}"#, 0),
+    (r#"{"op":"inc","epoch":4,"temp":[[1,0,[]]]}"#, 0),
+];
+
+#[test]
+fn grouped_pools_keep_their_size(rt: HostRuntime) -> Result<(), Fail> {
+    are_refused_so(&rt, &SIZES)
+}
+
+/// Infos that tell when a group was clean, which may be no later than when they were sent.
+static CLEANS: [(&str, u8); 8] = [
+    (COPIES, 0),
+    (
+        r#"{"op":"info","pg":[1,0],"from":[0,0],"stamp":1,"les":0,"history_les":0,"last_epoch_clean":2,"last_update":[0,0],"log_tail":[0,0],"complete":true}"#,
+        63,
+    ),
+    (
+        r#"{"op":"info","pg":[1,0],"from":[0,0],"stamp":1,"les":0,"history_les":0,"last_epoch_clean":1,"last_update":[0,0],"log_tail":[0,0],"complete":true}"#,
+        0,
+    ),
+    (
+        r#"{"op":"info","pg":[1,0],"from":[0,0],"stamp":0,"les":0,"history_les":0,"last_epoch_clean":0,"last_update":[0,0],"log_tail":[0,0],"complete":true}"#,
+        0,
+    ),
+    (r#"{"op":"inc","epoch":2}"#, 0),
+    // The epoch has been, but the sender didn't know of it.
+    (
+        r#"{"op":"info","pg":[1,0],"from":[0,0],"stamp":1,"les":0,"history_les":0,"last_epoch_clean":2,"last_update":[0,0],"log_tail":[0,0],"complete":true}"#,
+        63,
+    ),
+    (
+        r#"{"op":"info","pg":[1,0],"from":[0,0],"stamp":2,"les":0,"history_les":0,"last_epoch_clean":2,"last_update":[0,0],"log_tail":[0,0],"complete":true}"#,
+        0,
+    ),
+    // A stamp to come is told before it.
+    (
+        r#"{"op":"info","pg":[1,0],"from":[0,0],"stamp":3,"les":0,"history_les":0,"last_epoch_clean":4,"last_update":[0,0],"log_tail":[0,0],"complete":true}"#,
+        62,
+    ),
+];
+
+#[test]
+fn clean_epochs_are_no_later_than_their_stamps(rt: HostRuntime) -> Result<(), Fail> {
+    are_refused_so(&rt, &CLEANS)
 }

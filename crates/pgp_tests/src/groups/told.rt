@@ -8,14 +8,14 @@ ghost use Rattle.pgp_map.specs.MapOf.{IsMapOf, Says};
 ghost use Rattle.pgp_map.specs.Pools.{has_group};
 ghost use Rattle.pgp_group.specs.Entries.{inc_of};
 ghost use Rattle.pgp_group.specs.GroupHistory.{makes};
-ghost use Rattle.pgp_tests.specs.Told.{AreTold, IsNext, TakesMap, TakesReport};
+ghost use Rattle.pgp_tests.specs.Told.{AreTold, IsNext, TakesMap, TakesReport, tells_ahead};
 
 use crate::fixtures::{entry_surely, group, text_of};
 use pgp_group::Group;
 use pgp_group::laws::growth::{
     checked_incrementals_are_numbered, history_begins_with_its_pool, the_next_map_follows,
 };
-use pgp_ids::{Entry, Incremental, PgId, View};
+use pgp_ids::{Entry, Epoch, Incremental, PgId, View};
 use pgp_map::laws::{checked_lists_grow_by_incrementals_without_fault, pools_of_checked_lists};
 use pgp_map::{MapFault, OsdMap};
 use pgp_text::Reply;
@@ -121,6 +121,9 @@ impl Told {
         requires report { inc_of entry.now ≡ None }
         ensures { OnOk result (AreTold self.new.before self.new.after self.new.group) }
     {
+        if tells_ahead(entry, self.after.epoch()) {
+            return Err(Fail::new("an info of an epoch to come"));
+        }
         absorb_report(&mut self.group, entry)?;
         Ok(())
     }
@@ -218,6 +221,16 @@ fn absorb_report(group: &mut Group, entry: &Entry) -> Result<(), AllocError>
     }
 }
 
+/// The entry is an info that tells of an epoch to come that the group was clean in it.
+fn tells_ahead(entry: &Entry, epoch: Epoch) -> bool
+    ensures { result ≡ tells_ahead epoch entry.now }
+{
+    match entry {
+        Entry::Info(info) => epoch < info.last_epoch_clean,
+        _ => false,
+    }
+}
+
 /// The incremental makes the group's pool.
 fn makes(inc: &Incremental, pg: &PgId) -> bool
     ensures { result ≡ makes pg.now.pool inc.now }
@@ -229,5 +242,8 @@ fn makes(inc: &Incremental, pg: &PgId) -> bool
 fn has_group(map: &OsdMap, pg: &PgId) -> bool
     ensures { (incs : List AnyIncremental) → IsMapOf incs map.now → result ≡ has_group incs pg.now }
 {
-    map.pool(pg.pool).is_some_and(|pool| pg.pg < pool.pg_num)
+    match map.pool(pg.pool) {
+        Some(pool) => pg.pg < pool.pg_num,
+        None => false,
+    }
 }
