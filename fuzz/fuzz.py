@@ -112,11 +112,12 @@ def noise(rng: random.Random, others: List[bytes]) -> Script:
 def traces(rng: random.Random, others: List[bytes]) -> Script:
     """Traces, up to the longest."""
     writer = Writer(rng)
+    has_versions = rng.random() < 0.65
     for _ in range(200):
-        line = grammar.trace(rng, rng.choice((3, 3, 12, 40)))
+        line = grammar.trace(rng, rng.choice((3, 3, 12, 40)), has_versions)
         writer.put(hostile.hostile(rng, line, others) if rng.random() < 0.3 else grammar.compact(line))
-    writer.put(grammar.compact(grammar.trace(rng, rng.choice((400, 4096)))))
-    longest = grammar.trace(rng, 1)
+    writer.put(grammar.compact(grammar.trace(rng, rng.choice((400, 4096)), has_versions)))
+    longest = grammar.trace(rng, 1, has_versions)
     writer.put(grammar.compact({**longest, "epochs": longest["epochs"] * rng.choice((4095, 4096, 4097))}))
     return writer.script()
 
@@ -142,9 +143,13 @@ def wide(rng: random.Random, others: List[bytes]) -> Script:
     weights = [rng.choice((2**28, 2**28 - 1))] * 16
     root = {"id": -1, "type": 3, "alg": "list", "items": [it["id"] for it in racks], "weights": weights}
     pools = [{"id": at, "pg_num": 64, "kind": "replicated", "size": 3, "min_size": 2, "leaf": 1} for at in range(1, 255)]
-    last = {"id": 255, "pg_num": rng.choice((128, 128, 129)), "kind": "erasure", "k": 4, "size": 6, "min_size": 5, "leaf": 2}
+    code: Dict[str, Any] = {"kind": "erasure", "k": 4}
+    version: Dict[str, Any] = {}
+    if not writer.story.is_first_form:
+        code, version = {"kind": "grouped", "groups": [[[0, 1], 1], [[2, 3], 1], [[4, 5], 1]]}, {"v": 2}
+    last = {"id": 255, "pg_num": rng.choice((128, 128, 129)), **code, "size": 6, "min_size": 5, "leaf": 2}
     writer.put(grammar.compact({"op": "inc", "epoch": 1, "up": list(range(4096)), "crush": [root, *racks, *hosts]}))
-    writer.put(grammar.compact({"op": "inc", "epoch": writer.log.maps.epoch + 1, "pools": [*pools, last]}))
+    writer.put(grammar.compact({"op": "inc", **version, "epoch": writer.log.maps.epoch + 1, "pools": [*pools, last]}))
     for _ in range(150):
         writer.put(grammar.compact(writer.story.line()))
     return writer.script()
@@ -235,9 +240,11 @@ class Figures:
         self.outcomes: Counter[str] = collections.Counter()
         self.kinds: Counter[str] = collections.Counter()
         self.sums: Counter[str] = collections.Counter()
+        self.about: Counter[str] = collections.Counter()
 
     def count(self, kind: str, script: Script, run: Run, wrong: Optional[str]) -> None:
         self.outcomes.update(outcome(answer) for answer in script.answers)
+        self.about.update(it for answer in script.answers if answer is not None for it in answer.about)
         self.kinds[kind] += 1
         bad = {"hangs": run.status is None, "other statuses": run.status not in (0, None)}
         self.sums.update(scripts=1, lines=len(script.lines), bytes=len(script.text()))
@@ -245,11 +252,11 @@ class Figures:
         self.sums["wrong answers"] += int(wrong is not None and not any(bad.values()))
 
     def value(self) -> Dict[str, Any]:
-        return {"sums": self.sums, "kinds": self.kinds, "outcomes": self.outcomes}
+        return {"sums": self.sums, "kinds": self.kinds, "outcomes": self.outcomes, "about": self.about}
 
     def add(self, value: Dict[str, Any]) -> None:
-        for mine, theirs in ((self.sums, "sums"), (self.kinds, "kinds"), (self.outcomes, "outcomes")):
-            mine.update(value[theirs])
+        for name, mine in self.value().items():
+            mine.update(value.get(name, {}))
 
     def text(self) -> str:
         """The figures in Markdown."""
@@ -263,7 +270,9 @@ class Figures:
         for op, found in sorted(by_op.items()):
             cells = ", ".join(f"{name} {count:,}" for name, count in sorted(found.items()))
             rows.append(f"| {op} | {sum(found.values()):,} | {cells} |")
-        return "\n".join([", ".join(head) + ".", "Scripts: " + ", ".join(kinds) + ".", "", *rows])
+        about = [f"{count:,} {name}" for name, count in sorted(self.about.items())]
+        taken = ["Of the lines that weren't refused: " + ", ".join(about) + "."] if about else []
+        return "\n".join([", ".join(head) + ".", "Scripts: " + ", ".join(kinds) + ".", *taken, "", *rows])
 
 
 def keep(folder: pathlib.Path, name: str, script: Script, run: Run, wrong: str) -> None:

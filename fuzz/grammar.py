@@ -8,6 +8,7 @@ import json
 import random
 from typing import Any, Dict, List, Optional, Tuple
 
+import grouped
 import model
 from maps import Group
 from placement import FULL, WORD
@@ -70,15 +71,30 @@ def deep_tree(rng: random.Random, levels: int) -> List[Dict[str, Any]]:
 # Traces
 
 
-def trace(rng: random.Random, most: int) -> Dict[str, Any]:
-    k = rng.choice((None, None, 1, 2, 4, 16))
-    code = {"kind": "replicated"} if k is None else {"kind": "erasure", "k": k}
+def trace(rng: random.Random, most: int, has_versions: bool = True) -> Dict[str, Any]:
+    """A trace; of a grouped code at times, where lines may have versions."""
+    code = trace_code(rng, has_versions)
     epochs, now, count = [], None, rng.randint(1, most)
     for epoch in range(1, count + 1):
         if now is None or rng.random() < 0.4:
-            now = trace_epoch(rng, now, k is not None, epoch)
+            now = trace_epoch(rng, now, code["kind"] != "replicated", epoch)
         epochs.append(now)
-    return {"op": "trace", "code": code, "epochs": epochs}
+    line = {"op": "trace", "code": code, "epochs": epochs}
+    return versioned(rng, line) if has_versions else line
+
+
+def trace_code(rng: random.Random, has_versions: bool) -> Dict[str, Any]:
+    if has_versions and rng.random() < 0.35:
+        return {"kind": "grouped", "groups": grouped.sound(rng, rng.choice((2, 3, 4, 4, 6, 16)))}
+    k = rng.choice((None, None, 1, 2, 4, 16))
+    return {"kind": "replicated"} if k is None else {"kind": "erasure", "k": k}
+
+
+def versioned(rng: random.Random, line: Dict[str, Any]) -> Dict[str, Any]:
+    """The line with its version, where it needs one; another line has one at times."""
+    needs_two = any(it.get("kind") == "grouped" for it in (line.get("code", {}), *line.get("pools", ())))
+    version = 2 if needs_two else rng.choice((None, None, None, None, None, 1, 2, 2))
+    return line if version is None else {"op": line["op"], "v": version, **line}
 
 
 def trace_epoch(rng: random.Random, before: Optional[Dict[str, Any]], has_empty: bool, epoch: int) -> Dict[str, Any]:
@@ -124,13 +140,16 @@ class Story:
         self.first_write = rng.choice((1, 1, 1, WORD - 20))  # its number
         self.plan: List[Dict[str, Any]] = []
         self.asks = rng.choice((0.1, 0.3, 0.6))
+        self.is_first_form = rng.random() < 0.35  # no versions, no grouped pools and no clean epochs
         self.is_done = False
 
     def line(self) -> Dict[str, Any]:
         """The next line, as it was meant to be."""
+        line = self.plan.pop(0) if self.plan else self.unplanned()
+        return line if self.is_first_form else versioned(self.rng, line)
+
+    def unplanned(self) -> Dict[str, Any]:
         rng = self.rng
-        if self.plan:
-            return self.plan.pop(0)
         if not self.maps.made or rng.random() < 0.02:
             return self.inc(has_pools=True)
         if self.log.count > self.most_entries and not self.is_done:
@@ -142,7 +161,7 @@ class Story:
         if roll < self.asks + 0.1:
             return self.locate()
         if roll < self.asks + 0.12:
-            return trace(rng, 12)
+            return trace(rng, 12, not self.is_first_form)
         if roll < self.asks + 0.22:
             return self.inc()
         return self.report()
@@ -211,14 +230,16 @@ class Story:
             pool = {"id": name, "pg_num": rng.choice((1, 1, 2, 3, 8, 12, 64, 1024)), "kind": "replicated", "size": size}
             pool["min_size"] = rng.randint(1, size) if rng.random() < 0.4 else min(size, 2)
             pool["leaf"] = rng.choice((0, 0, 0, 1, 1, 2)) if rng.random() < 0.9 else rng.choice((2, 3, 5, 255))
-            if rng.random() < 0.5:
+            if not self.is_first_form and rng.random() < 0.4:
+                pool.update(kind="grouped", groups=grouped.sound(rng, size))
+            elif rng.random() < 0.5:
                 pool.update(kind="erasure", k=rng.randint(1, size) if rng.random() < 0.4 else max(1, size - 1))
             made.append(pool)
         return made
 
     def new_size(self, pool: int) -> List[int]:
         old = self.maps.made[pool]
-        size = old["size"] if old["kind"] == "erasure" else self.rng.choice((1, 2, 3, 4, 16))
+        size = old["size"] if old["kind"] != "replicated" else self.rng.choice((1, 2, 3, 4, 16))
         return [pool, size, self.rng.randint(1, size)]
 
     def temps(self, pools: List[Dict[str, Any]]) -> List[List[Any]]:
@@ -251,6 +272,8 @@ class Story:
         rng, view = self.rng, self.log.view(group)
         again = [{"op": "ask", "pg": list(group)}]
         verdict = view["verdict"]
+        if not self.is_first_form and rng.random() < 0.1:
+            return [self.clean_info(group, view)] + again
         if verdict == "Waiting" or verdict == "Incomplete" or (verdict == "Short" and rng.random() < 0.5):
             rng.shuffle(again)
             heard = view["probe"] if rng.random() < 0.9 else view["probe"][1:]
@@ -303,8 +326,17 @@ class Story:
         now = self.maps.epoch
         return now if self.rng.random() < 0.93 else self.rng.randint(0, now)
 
-    def info(self, group: Group, member: Any) -> Dict[str, Any]:
-        rng, log, stamp = self.rng, self.log_to(group), self.stamp()
+    def clean_info(self, group: Group, view: Dict[str, Any]) -> Dict[str, Any]:
+        """An info that tells of a clean epoch in an interval without flag, or in the current one, or beside it."""
+        rng, now = self.rng, self.maps.epoch
+        spans = [(it["first"], it["last"]) for it in view["intervals"] if not it["rw"]] + [(view["first"], now)]
+        first, last = rng.choice(spans)
+        epoch = min(now, rng.choice((first - 1, first, last, last + 1, rng.randint(first, last))))
+        stamp = rng.choice((epoch, now, now, rng.randint(epoch, now)))
+        return {**self.info(group, self.member(group), stamp), "last_epoch_clean": epoch}
+
+    def info(self, group: Group, member: Any, stamp: Optional[int] = None) -> Dict[str, Any]:
+        rng, log, stamp = self.rng, self.log_to(group), self.stamp() if stamp is None else stamp
         versions = [(0, 0)] + [(epoch, v) for epoch, v, _, _ in log if epoch <= stamp]
         last = len(versions) - 1 if rng.random() < 0.6 else rng.randrange(len(versions))
         tail = rng.choice((0, 0, 0, max(0, last - 2), last, rng.randint(0, last)))
@@ -316,10 +348,12 @@ class Story:
         if versions[tail][1] == update[1]:
             update = versions[tail]
         les = rng.choice((0, 0, 0, stamp, rng.randint(0, stamp)))
+        has_clean = not self.is_first_form and rng.random() < 0.25
+        clean = {"last_epoch_clean": rng.choice((0, 0, stamp, rng.randint(0, stamp)))} if has_clean else {}
         return {
             "op": "info", "pg": list(group), "from": list(member), "stamp": stamp, "les": les,
             "history_les": rng.choice((0, 0, 0, les, rng.randint(0, stamp))), "last_update": list(update),
-            "log_tail": list(versions[tail]), "complete": rng.random() < 0.9,
+            "log_tail": list(versions[tail]), "complete": rng.random() < 0.9, **clean,
         }  # fmt: skip
 
     def entries(self, group: Group, member: Any, whole: bool = False) -> Dict[str, Any]:

@@ -4,6 +4,7 @@ import copy
 import random
 from typing import Any, Dict, List, Tuple
 
+import grouped
 from grammar import compact
 
 TEXTS = (
@@ -15,7 +16,7 @@ ODD_NUMBERS = (
     2**64 - 1, 2**64, -65536, -65537, -(2**63), -(2**63) - 1,
 )  # fmt: skip
 ODD_VALUES: Tuple[Any, ...] = (
-    None, True, False, 0.5, 1.0, "", "x", [], {}, [[]], [0], {"a": 1}, "modify", "erasure", "replicated", "x" * 256,
+    None, True, False, 0.5, 1.0, "", "x", [], {}, [[]], [0], {"a": 1}, "modify", "erasure", "replicated", "grouped", "x" * 256,
 )  # fmt: skip
 RAW_NUMBERS = (
     b"-0", b"1.0", b"1e0", b"0.0", b"1E2", b"1e400", b"-1e400", b"0e999", b"1e-999", b"01", b"1.", b".5", b"+1", b"0x10",
@@ -25,8 +26,10 @@ KEYS = (
     "op", "epoch", "up", "down", "gone", "weight", "up_thru", "lost", "pools", "sizes", "temp", "crush", "pg", "from", "stamp",
     "les", "history_les", "last_update", "log_tail", "complete", "log", "pool", "name", "code", "epochs", "id", "kind", "k", "v",
     "size", "min_size", "leaf", "alg", "items", "weights", "", "Op", "zz", "é", '"', "\\", "\n", "\x7f", "last_epoch_clean",
+    "groups",
 )
-WORDS = ("modify", "delete", "uniform", "list", "replicated", "erasure", "x" * 255, "x" * 256, "é" * 127, "é" * 128)
+WORDS = ("modify", "delete", "uniform", "list", "replicated", "erasure", "grouped", "x" * 255, "x" * 256, "é" * 127, "é" * 128)
+VERSIONS: Tuple[Any, ...] = (0, 3, 3, -1, 4, 1.0, 2.0, "1", "2", None, True, [2], {}, 2**32 + 1, 2**64 + 2, 1, 2)
 OPS = ("inc", "info", "entries", "close", "ask", "locate", "trace", "peer", "", "Inc")
 
 
@@ -92,6 +95,20 @@ def by_key(rng: random.Random, line: Dict[str, Any]) -> bytes:
         extra = compact({key: there.get(key) if rng.random() < 0.5 else rng.choice(ODD_NUMBERS)})
         return text[:-1] + b"," + extra[1:] if rng.random() < 0.5 else extra[:-1] + b"," + text[1:]
     return compact(line)
+
+
+def by_version(rng: random.Random, line: Dict[str, Any]) -> bytes:
+    """The line with another version, or none, or with faulty parts of a grouped code or pool of it; and perhaps more."""
+    line = copy.deepcopy(line)
+    codes = [it for it in (line.get("code"), *line.get("pools", ())) if it and "groups" in it]
+    if codes and rng.random() < 0.6:
+        code = rng.choice(codes)
+        code["groups"] = grouped.faulty(rng, code["groups"], code.get("size", grouped.MOST))
+    if not codes or rng.random() < 0.5:
+        line["v"] = rng.choice(VERSIONS)
+    if rng.random() < 0.15:
+        line.pop("v", None)
+    return by_value(rng, line) if rng.random() < 0.2 else compact(line)
 
 
 def by_look(rng: random.Random, line: Dict[str, Any]) -> bytes:
@@ -177,7 +194,9 @@ def of_length(rng: random.Random, text: bytes) -> bytes:
 def hostile(rng: random.Random, line: Dict[str, Any], others: List[bytes]) -> bytes:
     """A changed form of the line; `others` are texts to splice it with."""
     roll = rng.random()
-    if roll < 0.4:
+    if "v" in line and rng.random() < 0.3:
+        text = by_version(rng, line)
+    elif roll < 0.4:
         text = by_value(rng, line)
     elif roll < 0.6:
         text = by_key(rng, line)

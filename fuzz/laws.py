@@ -7,12 +7,13 @@ served: where a group served, the interval that was current then is current late
 reckoned: whoever serves later has heard enough of that interval's acting members, or they were given up for lost, or none of
 them is down, unless the group is known to have begun to serve after the interval ended.
 relief: a group that isn't down doesn't become so by an incremental that takes no device down, destroys none, and gives none up
-for lost at an earlier epoch than before; nor by a report.
+for lost at an earlier epoch than before; nor by a report that raises the flag of no past interval.
 
-Each front of a log at which a group served is held against each later front. Prints how often the premise of each law held, and
-in how many of these the case was the one that the law is about. --wrong puts a wrong definition into the model, under which a
-law doesn't hold: then a log that breaks it is found, or the status is 1. Otherwise a broken law is printed with its log, and
-the status is 1.
+Each front of a log at which a group served is held against each later front. Prints how often the premise of each law held, in
+how many of these the case was the one that the law is about, and in how many the pool was grouped, or a past interval had its
+flag by a clean epoch alone; and how many reports raised a flag, and made a group down by it. --wrong puts a wrong definition
+into the model, under which a law doesn't hold: then a log that breaks it is found, or the status is 1. Otherwise a broken law is
+printed with its log, and the status is 1.
 """
 
 import argparse
@@ -22,6 +23,7 @@ import sys
 import time
 from typing import Any, Callable, Counter, Dict, Iterator, List, NamedTuple, Optional, Set, Tuple
 
+import codes
 import grammar
 import maps
 import model
@@ -56,18 +58,23 @@ def is_remembered(view: View, first: int) -> bool:
 def is_reckoned_with(log: model.Model, group: Group, view: View, past: Dict[str, Any]) -> bool:
     code, now = log.maps.code(group[0]), log.maps
     heard = peering.heard_of(now, view["first"], log.reports.get(group, []))
-    acting = [(it, now.status(it[0], past["first"])) for it in maps.members(code, past["acting"])]
+    acting = [(it, now.status(it[0], past["first"])) for it in codes.members(code, past["acting"])]
     settled = [slot for (osd, slot), status in acting if (osd, slot) in heard or status == "Lost"]
-    return maps.are_enough(code, settled) or all(status != "Down" for _, status in acting)
+    return codes.are_enough(code, settled) or all(status != "Down" for _, status in acting)
 
 
 def takes_nothing_away(log: model.Model, entry: Line) -> bool:
-    """Tells whether the entry, which comes next, is a report, a Close, or an incremental of which relief speaks."""
+    """Tells whether the entry, which comes next, is a report, or an incremental of which relief speaks."""
     if entry["op"] != "inc":
         return True
     old = log.maps.losts
     falls = any(epoch < old.last(osd, log.maps.epoch, 0) for osd, epoch in entry.get("lost", ()))
     return not entry.get("down") and not entry.get("gone") and not falls
+
+
+def raises_a_flag(before: View, view: View) -> bool:
+    """Tells whether a report, which came between, raised the flag of a past interval."""
+    return [it["rw"] for it in before["intervals"]] != [it["rw"] for it in view["intervals"]]
 
 
 # Logs
@@ -85,8 +92,11 @@ class Watch:
         self.served: Dict[Group, Set[int]] = collections.defaultdict(set)  # the first epochs of the intervals of service
 
     def next_line(self) -> Line:
-        """Often boots and losses alone, which relief speaks of."""
+        """Often boots and losses alone, which relief speaks of, and infos that tell of clean epochs."""
         now = self.log.maps
+        if now.made and not self.story.plan and not self.story.is_first_form and self.rng.random() < 0.03:
+            group = self.rng.choice(self.groups())
+            return self.story.clean_info(group, self.log.view(group))
         if now.epoch and not self.story.plan and self.rng.random() < 0.05:
             down = [osd for osd in self.story.devices if now.exists(osd, now.epoch) and not now.is_up(osd, now.epoch)]
             self.rng.shuffle(down)
@@ -106,7 +116,7 @@ class Watch:
             return
         for group in self.groups():
             view = self.log.view(group)
-            for law in self.broken(group, view, relieves):
+            for law in self.broken(group, view, relieves, line["op"] == "inc"):
                 yield Broken(law, group, self.lines)
             if view["verdict"] == "Serve":
                 self.served[group].add(view["first"])
@@ -117,23 +127,36 @@ class Watch:
         made = self.log.maps.made
         return [(pool, pg) for pool in made for pg in range(min(made[pool]["pg_num"], 2))]
 
-    def broken(self, group: Group, view: View, relieves: bool) -> Iterator[str]:
+    def count(self, law: str, group: Group, **more: bool) -> None:
+        """Counts a case of a law, and what else holds of it."""
+        more["grouped"] = codes.is_grouped(self.log.maps.code(group[0]))
+        more["flag raised"] = bool(self.log.raised(group))
+        self.counted.update({law: 1, **{f"{law} ({name.replace('_', ' ')})": int(holds) for name, holds in more.items()}})
+
+    def broken(self, group: Group, view: View, relieves: bool, is_inc: bool) -> Iterator[str]:
         for first in self.served[group]:
             past = past_interval(view, first)
-            self.counted.update({"served": 1, "served, past": past is not None})
+            self.count("served", group, past=past is not None)
             if not is_remembered(view, first):
                 yield "served"
             if past is None or view["verdict"] != "Serve":
                 continue
             since = view["les"] > past["last"]
-            self.counted.update({"reckoned": 1, "reckoned, not served since": not since})
+            self.count("reckoned", group, not_served_since=not since)
             if not since and not is_reckoned_with(self.log, group, view, past):
                 yield "reckoned"
         before = self.views.get(group)
-        if relieves and before is not None and not before["blocked_by"]:
-            self.counted.update({"relief": 1, "relief, an interval closed": before["first"] != view["first"]})
-            if view["blocked_by"]:
-                yield "relief"
+        if not relieves or before is None or before["blocked_by"]:
+            return
+        if not is_inc and raises_a_flag(before, view):
+            raised = "report raised a flag"
+            self.counted.update({raised: 1, f"{raised} (and made a group down)": bool(view["blocked_by"])})
+            return
+        is_closed = before["first"] != view["first"]
+        is_clean = is_closed and before["first"] in self.log.raised(group)
+        self.count("relief", group, an_interval_closed=is_closed, a_clean_interval_closed=is_clean, by_a_report=not is_inc)
+        if view["blocked_by"]:
+            yield "relief"
 
 
 # Wrong definitions
@@ -143,9 +166,9 @@ def flag_by_first_epoch() -> None:
     """An interval's flag goes by the map of its first epoch."""
     plain = peering.intervals
 
-    def wrong(code: Optional[int], begin: int, states: List[peering.State]) -> List[peering.Interval]:
+    def wrong(code: codes.Code, begin: int, states: List[peering.State], cleans: Any = ()) -> List[peering.Interval]:
         found = plain(code, begin, states)
-        return [it._replace(rw=peering.may_write(code, it.first, states[it.first - begin])) for it in found]
+        return [it._replace(rw=peering.may_write(code, it.first, states[it.first - begin], False)) for it in found]
 
     peering.intervals = wrong
 
@@ -167,7 +190,48 @@ def lost_in_its_epoch() -> None:
     maps.Maps.status = wrong  # type: ignore[method-assign]
 
 
-WRONG: Dict[str, Callable[[], None]] = {it.__name__: it for it in (flag_by_first_epoch, probe_without_members, lost_in_its_epoch)}
+def flag_by_clean_epochs() -> None:
+    """Where a report tells of a clean epoch, up_thru doesn't count."""
+    plain = peering.intervals
+
+    def wrong(code: codes.Code, begin: int, states: List[peering.State], cleans: Any = ()) -> List[peering.Interval]:
+        found = plain(code, begin, states, cleans)
+        told = [epoch for epoch in cleans if epoch > 0]
+        return [it._replace(rw=it.rw and any(it.first <= epoch <= it.last for epoch in told)) for it in found] if told else found
+
+    peering.intervals = wrong
+
+
+def parts_just_enough() -> None:
+    """Of a past interval exactly the least number of each part has to be left."""
+    plain, enough = peering.prior, peering.are_enough
+
+    def just_enough(code: codes.Code, slots: Any) -> bool:
+        have = set(slots)
+        return all(len(have & part) == least for part, least in code) if isinstance(code, tuple) else enough(code, have)
+
+    def wrong(*args: Any) -> Any:
+        peering.are_enough = just_enough
+        found = plain(*args)
+        peering.are_enough = enough
+        return found
+
+    peering.prior = wrong
+
+
+def relief_of_all_reports() -> None:
+    """Relief speaks of reports that raise a flag too."""
+    global raises_a_flag
+    raises_a_flag = lambda before, view: False  # noqa: E731
+
+
+WRONG: Dict[str, Callable[[], None]] = {
+    it.__name__: it
+    for it in (
+        flag_by_first_epoch, flag_by_clean_epochs, probe_without_members, lost_in_its_epoch, parts_just_enough,
+        relief_of_all_reports,
+    )  # fmt: skip
+}
 
 
 # Runs

@@ -8,10 +8,12 @@ import json
 import re
 from typing import Any, Callable, Dict, List, NamedTuple, Optional, Union
 
+import codes
+
 LONGEST = 1_048_576  # bytes of a line
 DEEPEST = 127
 WORD = 0xFFFFFFFF
-MOST_PLACES, MOST_EPOCHS, MOST_ENTRIES, LONGEST_NAME = 16, 4096, 256, 255
+MOST_PLACES, MOST_PARTS, MOST_EPOCHS, MOST_ENTRIES, LONGEST_NAME = 16, 16, 4096, 256, 255
 
 Shape = Callable[[Any], bool]
 
@@ -145,11 +147,10 @@ def is_null(value: Any) -> bool:
     return value is None
 
 
-sizes = {"size": byte, "min_size": byte, "leaf": byte}
-pool = either(
-    keys(id=pool_id, pg_num=number(0, 65535), kind=one_of("replicated"), **sizes),
-    keys(id=pool_id, pg_num=number(0, 65535), kind=one_of("erasure"), k=byte, **sizes),
-)
+groups = list_of(parts(list_of(number(0, 15), most=codes.MOST_SLOTS), byte), most=MOST_PARTS)
+pool_parts = {"id": pool_id, "pg_num": number(0, 65535), "size": byte, "min_size": byte, "leaf": byte}
+pool = either(keys(kind=one_of("replicated"), **pool_parts), keys(kind=one_of("erasure"), k=byte, **pool_parts))
+pool_of_two = either(pool, keys(kind=one_of("grouped"), groups=groups, **pool_parts))
 bucket_parts = {"id": number(-65536, -1), "type": byte, "items": list_of(number(-65536, 65535))}
 uniform_bucket = keys(alg=one_of("uniform"), **bucket_parts)
 list_bucket = keys(alg=one_of("list"), weights=list_of(word), **bucket_parts)
@@ -167,10 +168,17 @@ def epoch_of(place: Shape) -> Shape:
     return lambda value: plain(value) and value["min_size"] <= value["size"]
 
 
-replicated_code = keys(kind=one_of("replicated"))
-erasure_code = keys(kind=one_of("erasure"), k=number(1, 16))
+code = either(keys(kind=one_of("replicated")), keys(kind=one_of("erasure"), k=number(1, 16)))
+grouped_code = keys(kind=one_of("grouped"), groups=groups)
+
+
+def is_code_of_two(value: Any) -> bool:
+    """Tells whether a trace of version 2 may have the code."""
+    return code(value) or (grouped_code(value) and not codes.are_faulty(value["groups"], codes.MOST_SLOTS))
+
+
 replicated_epochs = list_of(epoch_of(device), 1, MOST_EPOCHS)
-erasure_epochs = list_of(epoch_of(either(device, is_null)), 1, MOST_EPOCHS)
+placed_epochs = list_of(epoch_of(either(device, is_null)), 1, MOST_EPOCHS)
 
 REPORT = {"pg": group, "from": parts(device, number(0, 15)), "stamp": word}
 REQUIRED: Dict[str, Dict[str, Shape]] = {
@@ -187,7 +195,7 @@ REQUIRED: Dict[str, Dict[str, Shape]] = {
     "close": {},
     "ask": {"pg": group},
     "locate": {"pool": pool_id, "name": is_name},
-    "trace": {"code": either(replicated_code, erasure_code), "epochs": is_null},
+    "trace": {"code": code, "epochs": is_null},
 }
 OPTIONAL: Dict[str, Dict[str, Shape]] = {
     "inc": {
@@ -198,21 +206,31 @@ OPTIONAL: Dict[str, Dict[str, Shape]] = {
         "sizes": list_of(parts(pool_id, byte, byte)),
         "temp": list_of(parts(pool_id, group_number, list_of(either(device, is_null)))),
         "crush": list_of(is_bucket),
-    }
+    },
+    "info": {"last_epoch_clean": word},
 }
+OF_TWO: Dict[str, Shape] = {"pools": list_of(pool_of_two), "code": is_code_of_two}  # shapes that version 2 has otherwise
 OPS = tuple(REQUIRED)
-KEYS = {op: {"op", *REQUIRED[op], *OPTIONAL.get(op, {})} for op in OPS}
+KEYS = {op: {"op", "v", *REQUIRED[op], *OPTIONAL.get(op, {})} for op in OPS}
+
+
+def is_one(value: Any) -> bool:
+    return type(value) is int and value == 1
 
 
 def least_bad(op: str, value: Dict[str, Any]) -> Optional[str]:
-    """The least key of an object that is absent though required, or has a value of another shape."""
-    required, optional = REQUIRED[op], OPTIONAL.get(op, {})
+    """The least key of an object that is absent though required, or has a value of another shape.
+
+    Where the object says no version it is 1; where it says another than 1 and 2 the other keys are read as in version 2.
+    """
+    shapes = {**REQUIRED[op], **OPTIONAL.get(op, {}), "v": number(1, 2)}
     if op == "trace":
         is_replicated = isinstance(value.get("code"), dict) and value["code"].get("kind") == "replicated"
-        required = {**required, "epochs": replicated_epochs if is_replicated else erasure_epochs}
-    bad = [key for key, shape in required.items() if key not in value or not shape(value[key])]
-    bad += [key for key, shape in optional.items() if key in value and not shape(value[key])]
-    return min(bad, default=None)
+        shapes["epochs"] = replicated_epochs if is_replicated else placed_epochs
+    if not is_one(value.get("v", 1)):
+        shapes.update((key, shape) for key, shape in OF_TWO.items() if key in shapes)
+    bad = [key for key, shape in shapes.items() if key in value and not shape(value[key])]
+    return min(bad + [key for key in REQUIRED[op] if key not in value], default=None)
 
 
 def is_blank(line: bytes) -> bool:

@@ -8,6 +8,7 @@ import itertools
 from typing import Any, Dict, List, NamedTuple, Optional, Tuple
 
 import placement
+from codes import Code, are_faulty, code_of
 
 Place = Optional[int]
 Group = Tuple[int, int]
@@ -33,16 +34,6 @@ class Membership(NamedTuple):
 
 def primary_of(places: Any) -> Place:
     return next((it for it in places if it is not None), None)
-
-
-def members(code: Optional[int], places: Any) -> List[Tuple[int, int]]:
-    """The members of a list, by the k of its code, which is None in a replicated pool: each a device with its slot."""
-    return [(osd, 0 if code is None else slot) for slot, osd in enumerate(places) if osd is not None]
-
-
-def are_enough(code: Optional[int], slots: Any) -> bool:
-    """Tells whether these slots are enough: one of a replicated pool, k of an erasure code."""
-    return len(set(slots)) >= (1 if code is None else code)
 
 
 def repeats(items: List[Any]) -> bool:
@@ -78,6 +69,7 @@ class Maps:
         self.epoch = 0
         self.made: Dict[int, Dict[str, Any]] = {}  # pools by number
         self.made_at: Dict[int, int] = {}
+        self.codes: Dict[int, Code] = {}
         self.states, self.boots = Said(), Said()  # of a device; a state is "up", "down" or "gone"
         self.weights, self.up_thrus, self.losts = Said(), Said(), Said()
         self.sizes, self.temps, self.trees, self.weighings = Said(), Said(), Said(), Said()
@@ -101,9 +93,8 @@ class Maps:
     def has(self, group: Group) -> bool:
         return group[0] in self.made and group[1] < self.made[group[0]]["pg_num"]
 
-    def code(self, pool: int) -> Optional[int]:
-        """The k of an erasure pool."""
-        return self.made[pool].get("k")
+    def code(self, pool: int) -> Code:
+        return self.codes[pool]
 
     def status(self, osd: int, first: int) -> str:
         """What became of a device of an interval that began in the epoch `first`."""
@@ -125,7 +116,7 @@ class Maps:
         return self.placements[key]
 
     def filtered(self, pool: int, places: List[Place], epoch: int) -> Tuple[Place, ...]:
-        """The list without the devices that aren't up; in an erasure pool their places are emptied."""
+        """The list without the devices that aren't up; where a place is a slot their places are emptied."""
         up = tuple(osd if osd is not None and self.is_up(osd, epoch) else None for osd in places)
         return tuple(osd for osd in up if osd is not None) if self.code(pool) is None else up
 
@@ -180,6 +171,8 @@ class Maps:
                 return True
             if not (1 <= pool.get("k", 1) <= size and 1 <= pool["min_size"] <= size):
                 return True
+            if pool["kind"] == "grouped" and are_faulty(pool["groups"], size):
+                return True
         if sum(pool["pg_num"] for pool in [*self.made.values(), *pools]) > MOST_GROUPS:
             return True
         for pool, size, min_size in sizes:
@@ -212,6 +205,7 @@ class Maps:
                 said.say(osd, epoch, value)
         for pool in inc.get("pools", []):
             self.made[pool["id"]], self.made_at[pool["id"]] = pool, epoch
+            self.codes[pool["id"]] = code_of(pool)
             self.sizes.say(pool["id"], epoch, (pool["size"], pool["min_size"]))
         for pool_id, size, min_size in inc.get("sizes", []):
             self.sizes.say(pool_id, epoch, (size, min_size))

@@ -8,8 +8,9 @@ It works by whole lists and shares no code with the program. Want of memory it d
 
 import json
 import sys
-from typing import Any, Dict, List, NamedTuple, Optional, Tuple
+from typing import Any, Dict, Iterator, List, NamedTuple, Optional, Tuple
 
+import codes
 import lines
 import maps
 import peering
@@ -21,12 +22,14 @@ REPORT_NAMES = {60: "UnknownGroup", 61: "UnknownMember", 62: "FutureStamp", 63: 
 
 
 class Answer(NamedTuple):
-    """An answer with what is counted of it: the operation, where the line has one, and the code of a refusal or 0."""
+    """An answer with what is counted of it: the operation, where the line has one, the code of a refusal or 0, and what else
+    the line is, where it isn't refused."""
 
     text: str
     op: str
     code: int
     detail: str = ""
+    about: Tuple[str, ...] = ()
 
 
 compact = json.JSONEncoder(separators=(",", ":"), ensure_ascii=False, sort_keys=True).encode
@@ -45,7 +48,7 @@ def is_bad_report(report: Dict[str, Any]) -> bool:
         return True
     if report["op"] == "entries":
         return (0, 0) in versions
-    if max(report["les"], report["history_les"]) > stamp:
+    if max(report["les"], report["history_les"], report.get("last_epoch_clean", 0)) > stamp:
         return True
     last, tail = versions
     return tail > last or tail[1] > last[1] or (tail[1] == last[1] and tail != last)
@@ -71,7 +74,34 @@ class Model:
             key = {} if command.key is None else {"key": command.key}
             return Answer(compact({"code": command.code, **key, "refused": command.name}), command.op, command.code)
         handlers = {"ask": self.ask, "locate": self.locate, "trace": self.trace}
-        return handlers.get(command.op, self.submit)(command.value)
+        found = handlers.get(command.op, self.submit)(command.value)
+        return found if found.code else found._replace(about=tuple(self.about(command.value)))
+
+    def about(self, value: Dict[str, Any]) -> Iterator[str]:
+        """What is counted of a line that isn't refused, beside its answer."""
+        if "v" in value:
+            yield f"lines of version {value['v']}"
+        if value.get("last_epoch_clean", 0) > 0:
+            yield "infos of a clean epoch"
+        if any(pool["kind"] == "grouped" for pool in value.get("pools", ())):
+            yield "incrementals with grouped pools"
+        if value["op"] == "trace" and codes.is_grouped(codes.code_of(value["code"])):
+            yield "traces of grouped codes"
+        if value["op"] == "ask":
+            group = tuple(value["pg"])
+            if codes.is_grouped(self.maps.code(group[0])):
+                yield "questions about grouped pools"
+            if self.raised(group):
+                yield "questions with a flag that a clean epoch raised"
+
+    def raised(self, group: Group) -> List[int]:
+        """The first epochs of the group's past intervals that have their flags by a clean epoch alone."""
+        infos = [report for report in self.reports.get(group, []) if report["op"] == "info"]
+        if peering.cleans_of(infos) <= {0}:
+            return []
+        found, begin = self.view(group)["intervals"], self.maps.made_at[group[0]]
+        plain = peering.intervals(self.maps.code(group[0]), begin, self.histories[group])
+        return [past["first"] for past, it in zip(found, plain) if past["rw"] and not it.rw]
 
     def refused(self, op: str, code: int, name: str, tree: Optional[int] = None) -> Answer:
         more = {} if tree is None else {"tree": tree}
@@ -110,8 +140,7 @@ class Model:
     def reasons(self, report: Dict[str, Any]) -> Any:
         group, (osd, slot) = tuple(report["pg"]), report["from"]
         yield 60, not self.maps.has(group)
-        is_erasure = self.maps.code(group[0]) is not None
-        slots = self.maps.made[group[0]]["size"] if is_erasure else 1
+        slots = 1 if self.maps.code(group[0]) is None else self.maps.made[group[0]]["size"]
         yield 61, not self.maps.exists(osd, self.maps.epoch) or slot >= slots
         yield 62, report["stamp"] > self.maps.epoch
         yield 63, is_bad_report(report)
@@ -150,7 +179,7 @@ class Model:
             up, acting = tuple(it["up"]), tuple(it["acting"])
             lists = up, maps.primary_of(up), acting, maps.primary_of(acting)
             states.append(peering.State(maps.Membership(*lists, it["size"], it["min_size"]), it["up_from"], it["up_thru"]))
-        *past, now = peering.intervals(question["code"].get("k"), 1, states)
+        *past, now = peering.intervals(codes.code_of(question["code"]), 1, states)
         return Answer(compact({"first": now.first, "intervals": peering.past_shown(past), "ok": "trace"}), "trace", 0)
 
 

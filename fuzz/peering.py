@@ -1,9 +1,10 @@
 """What a log says of a group, by docs/RULES.md ("Intervals" to "What a log says of a group")."""
 
 import itertools
-from typing import Any, Dict, List, NamedTuple, Optional, Tuple
+from typing import Any, Collection, Dict, List, NamedTuple, Optional, Set, Tuple
 
-from maps import Group, Maps, Membership, are_enough, members
+from codes import Code, are_enough, members
+from maps import Group, Maps, Membership
 
 Member = Tuple[int, int]
 Version = Tuple[int, int]
@@ -30,26 +31,33 @@ class Interval(NamedTuple):
     rw: bool
 
 
-def intervals(code: Optional[int], begin: int, states: List[State]) -> List[Interval]:
-    """The intervals of a group whose first state is that of the epoch `begin`."""
+def intervals(code: Code, begin: int, states: List[State], cleans: Collection[int] = ()) -> List[Interval]:
+    """The intervals of a group whose first state is that of the epoch `begin`, and whose infos tell of these clean epochs."""
     found, first = [], begin
     for _, run in itertools.groupby(states, key=lambda state: state.members):
         run_states = list(run)
         last = first + len(run_states) - 1
-        found.append(Interval(first, last, run_states[0].members, may_write(code, first, run_states[-1])))
+        is_clean = any(first <= epoch <= last for epoch in cleans)
+        found.append(Interval(first, last, run_states[0].members, may_write(code, first, run_states[-1], is_clean)))
         first = last + 1
     return found
 
 
-def may_write(code: Optional[int], first: int, end: State) -> bool:
-    """Tells whether a group may have gone read-write in an interval, by the state of its last epoch."""
+def may_write(code: Code, first: int, end: State, is_clean: bool) -> bool:
+    """Tells whether a group may have gone read-write in an interval, by the state of its last epoch, and by whether an info
+    tells that the group was clean in one of its epochs."""
     acting = members(code, end.members.acting)
     return (
         len(acting) >= end.members.min_size
         and end.members.acting_primary is not None
         and are_enough(code, (slot for _, slot in acting))
-        and end.up_thru >= first >= end.up_from
+        and (is_clean or end.up_thru >= first >= end.up_from)
     )
+
+
+def cleans_of(infos: List[Report]) -> Set[int]:
+    """The epochs in which a group was clean, by its infos, whether they count or not; 0 is before all epochs of a group."""
+    return {info.get("last_epoch_clean", 0) for info in infos}
 
 
 def state(maps: Maps, group: Group, epoch: int) -> State:
@@ -62,7 +70,7 @@ def state(maps: Maps, group: Group, epoch: int) -> State:
 # The prior set
 
 
-def prior(maps: Maps, code: Optional[int], past: List[Interval], les: int) -> Tuple[List[Member], List[int]]:
+def prior(maps: Maps, code: Code, past: List[Interval], les: int) -> Tuple[List[Member], List[int]]:
     """The past intervals' part of whom the group has to hear, and the devices that block it."""
     probe, blocked_by = set(), set()
     for interval in past:
@@ -89,7 +97,7 @@ def heard_of(maps: Maps, first: int, reports: List[Report]) -> Dict[Member, Repo
     return {tuple(it["from"]): it for it in reports if it["op"] == "info" and counts(maps, first, it)}
 
 
-def best_of(code: Optional[int], heard: Dict[Member, Report], leader: Optional[Member]) -> Optional[Member]:
+def best_of(code: Code, heard: Dict[Member, Report], leader: Optional[Member]) -> Optional[Member]:
     """The member whose info is the best of those heard."""
     starts = [info["history_les"] for info in heard.values()] + [info["les"] for info in heard.values() if info["complete"]]
     candidates = [member for member, info in heard.items() if info["complete"] and info["les"] >= max(starts)]
@@ -138,9 +146,9 @@ def view(maps: Maps, group: Group, history: List[State], reports: List[Report]) 
     """All that a log says of a group that is there, by the states that it had from the epoch that made its pool, and by its
     reports. Gives the keys of the answer but count, ok and pg."""
     code = maps.code(group[0])
-    *past, now = intervals(code, maps.made_at[group[0]], history)
-    current, first = now.members, now.first
     infos = [report for report in reports if report["op"] == "info"]
+    *past, now = intervals(code, maps.made_at[group[0]], history, cleans_of(infos))
+    current, first = now.members, now.first
     les = max((info["history_les"] for info in infos), default=0)
     acting = members(code, current.acting)
     present = sorted({*members(code, current.up), *acting})

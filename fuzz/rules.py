@@ -5,6 +5,7 @@ import random
 from typing import Any, Callable, Dict, List
 
 import grammar
+import grouped
 from maps import Maps
 from placement import FULL, WORD
 
@@ -18,6 +19,8 @@ def broken(rng: random.Random, line: Line, maps: Maps, devices: List[int]) -> Li
     changes = {"inc": list(OF_INCREMENTALS.values()), "info": OF_INFOS, "entries": OF_ENTRIES}.get(line["op"])
     if changes is None:
         return question(rng, line)
+    if line["op"] == "inc" and "v" in line:
+        changes = [*changes, *[bad_parts] * 8]  # only scripts that may have grouped pools have such lines
     for change in rng.sample(changes, rng.choice((1, 1, 2))):
         change(rng, line, maps, devices)
     return line
@@ -28,6 +31,8 @@ def question(rng: random.Random, line: Line) -> Line:
         line["pg"] = rng.choice(([line["pg"][0], 1023], [rng.randint(1, 255), 0], [line["pg"][0], line["pg"][1] + 1]))
     if "pool" in line:
         line["pool"] = rng.randint(1, 255)
+    if line.get("code", {}).get("kind") == "grouped":
+        line["code"]["groups"] = grouped.faulty(rng, line["code"]["groups"], grouped.MOST)
     return line
 
 
@@ -128,6 +133,20 @@ def bad_pool(rng: random.Random, inc: Line, maps: Maps, devices: List[int]) -> N
         inc["sizes"] = [[name, size, rng.choice((0, 1, size, size + 1))]]
 
 
+def bad_parts(rng: random.Random, inc: Line, maps: Maps, devices: List[int]) -> None:
+    """A grouped pool with faulty parts, or another size for one, mostly in a line of version 2."""
+    inc["v"] = rng.choice((2, 2, 2, 2, 2, 1))
+    made = [name for name, pool in maps.made.items() if pool["kind"] == "grouped"]
+    if made and rng.random() < 0.3:
+        name = rng.choice(made)
+        size = max(1, maps.made[name]["size"] + rng.choice((-1, 0, 1, 1)))
+        inc["sizes"] = [[name, size, 1]]
+    else:
+        size = rng.choice((1, 2, 3, 6, 16))
+        pool = {**a_pool(rng), "kind": "grouped", "size": size, "min_size": 1, "groups": grouped.sound(rng, size)}
+        inc["pools"] = [*inc.get("pools", []), {**pool, "groups": grouped.faulty(rng, pool["groups"], size)}]
+
+
 def pool_known(rng: random.Random, inc: Line, maps: Maps, devices: List[int]) -> None:
     for name in list(maps.made)[:1]:
         inc["pools"] = [{**a_pool(rng), "id": name}]
@@ -223,9 +242,9 @@ def future_stamp(rng: random.Random, report: Line, maps: Maps, devices: List[int
 
 
 def bad_version(rng: random.Random, info: Line, maps: Maps, devices: List[int]) -> None:
-    key = rng.choice(("last_update", "log_tail", "les", "history_les"))
+    key = rng.choice(("last_update", "log_tail", "les", "history_les", *("last_epoch_clean",) * ("last_epoch_clean" in info)))
     epoch, v = info["last_update"]
-    if key in ("les", "history_les"):
+    if key in ("les", "history_les", "last_epoch_clean"):
         info[key] = rng.choice((info["stamp"] + 1, info["stamp"], WORD))
     else:
         near = [epoch, v + 1], [epoch + 1, v], [epoch, max(0, v - 1)], [max(0, epoch - 1), v]

@@ -9,7 +9,7 @@ from typing import Any, Counter, Dict, Iterator, List, NamedTuple, Optional, Set
 
 from ceph_folder import Dumps, version_of
 from ceph_json import Node, Notes, compact
-from ceph_map import Group, group_text
+from ceph_map import ERASURE, Code, Group, code_of, group_text
 from ceph_outages import Record, StepRecord
 from ceph_query import MOST_ENTRIES, Line, Member, Query, read_query
 from ceph_script import Selection, history
@@ -87,21 +87,25 @@ def devices_of(osdmap: Dict[str, Any]) -> Devices:
 
 
 class PoolCode(NamedTuple):
-    """What of a pool plays a part: k is None where it is replicated."""
+    """What of a pool plays a part: its code, as the script has it; None where it is replicated."""
 
-    k: Optional[int]
+    code: Optional[Code]
 
     def members(self, places: Any) -> Tuple[Member, ...]:
-        return tuple(sorted((osd, 0 if self.k is None else at) for at, osd in enumerate(places) if osd is not None))
+        return tuple(sorted((osd, 0 if self.code is None else at) for at, osd in enumerate(places) if osd is not None))
 
     def are_enough(self, members: Any) -> bool:
-        return len({slot for _, slot in members}) >= (self.k or 1)
+        slots = {slot for _, slot in members}
+        return bool(slots) if self.code is None else self.code.are_enough(slots)
 
 
 def rules_of(osdmap: Dict[str, Any]) -> Dict[int, PoolCode]:
-    profiles = osdmap["erasure_code_profiles"]
-    return {pool["pool"]: PoolCode(int(profiles[pool["erasure_code_profile"]]["k"]) if pool["type"] == 3 else None)
-            for pool in osdmap["pools"]}
+    return {pool["pool"]: PoolCode(pool_code(osdmap, pool) if pool["type"] == ERASURE else None) for pool in osdmap["pools"]}
+
+
+def pool_code(osdmap: Dict[str, Any], pool: Dict[str, Any]) -> Code:
+    name = pool["erasure_code_profile"]
+    return code_of(Node(osdmap["erasure_code_profiles"][name], name), pool["size"])
 
 
 # What Ceph would say by our intervals

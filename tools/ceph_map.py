@@ -1,7 +1,7 @@
 """Reads devices, pools and pg_temp lists of a Ceph cluster's map, and tells what a script has no key for."""
 
 import re
-from typing import List, NamedTuple, Optional, Set, Tuple
+from typing import Iterable, List, NamedTuple, Optional, Set, Tuple
 
 from ceph_json import Node, Notes, Unusable
 
@@ -15,11 +15,15 @@ IN = 0x10000  # the weight of a device that takes its whole share
 NONE = 2147483647  # an empty place, as Ceph prints it
 REPLICATED, ERASURE = 1, 3  # the types of Ceph's pools
 PLAIN_PLUGINS = ("jerasure", "isa")  # their codes read from any k shards
+LOCAL_GROUPS = ("lrc codes, carried as local groups of which each wants all chunks but one, where Ceph may recover, and may have "
+                "gone read-write, with fewer")
+OTHER_CODES = "erasure codes that don't read from any k shards, carried as if they did"
 HALTS = ("pauserd", "pausewr", "noup", "nodown", "noin", "noout", "full")
 
 
 Group = Tuple[int, int]  # a pool and a group's number
 Places = List[Optional[int]]  # devices; an empty place is None
+Parts = Tuple[Tuple[Tuple[int, ...], int], ...]  # of each part its slots, and how many of them are enough
 
 
 class Device(NamedTuple):
@@ -38,6 +42,17 @@ class Device(NamedTuple):
         return self.up and self.up_thru > 0 and self.up_thru >= self.up_from
 
 
+class Code(NamedTuple):
+    """When shards of an erasure code are enough: any k; or, where there are parts, of each part its number."""
+
+    k: int
+    parts: Parts = ()
+
+    def are_enough(self, slots: Iterable[int]) -> bool:
+        have = set(slots)
+        return all(len(have & set(part)) >= least for part, least in self.parts) if self.parts else len(have) >= self.k
+
+
 class Pool(NamedTuple):
     id: int
     name: str
@@ -45,7 +60,11 @@ class Pool(NamedTuple):
     size: int
     min_size: int
     rule: int
-    k: Optional[int]  # None where the pool is replicated
+    k: Optional[int]  # data shards; None where the pool is replicated
+    parts: Parts = ()  # where the code is one of parts
+
+    def are_enough(self, slots: Iterable[int]) -> bool:
+        return bool(set(slots)) if self.k is None else Code(self.k, self.parts).are_enough(slots)
 
     def label(self) -> str:
         return f"pool {self.id} '{self.name}'"
@@ -87,21 +106,55 @@ def read_device(osd: Node) -> Device:
     return Device(osd.key("osd").whole(), osd.key("up").whole() != 0, round(share * IN), *epochs)
 
 
-def data_shards(osdmap: Node, pool: Node, label: str, size: int, notes: Notes) -> int:
-    """How many shards the erasure pool reads from, by its profile."""
+def number_of(profile: Node, key: str) -> int:
+    """A number of a profile, which Ceph keeps as text."""
+    try:
+        return int(profile.key(key).text())
+    except ValueError as fault:
+        raise Unusable(f"{profile.where}.{key} is no whole number") from fault
+
+
+def plugin_of(profile: Node) -> str:
+    return profile.key("plugin").text() if profile.has("plugin") else "jerasure"
+
+
+def code_of(profile: Node, size: int) -> Code:
+    """The code of a profile, for pools of this size. One that isn't told by its numbers alone reads from any k shards here,
+    as lrc with layers that are given by hand, of which `mapping` marks the data with D."""
+    if plugin_of(profile) == "lrc":
+        by_hand = profile.has("mapping") or profile.has("layers")
+        has_k = profile.has("k") and profile.key("k").value != "-1"  # Ceph fills in -1 where none was given
+        if profile.has("mapping") and not has_k:
+            return Code(profile.key("mapping").text().count("D"))
+        if not by_hand and profile.has("m") and profile.has("l"):
+            k, m, length = (number_of(profile, key) for key in ("k", "m", "l"))
+            return Code(k, local_groups(k, m, length, size))
+    return Code(number_of(profile, "k"))
+
+
+def local_groups(k: int, m: int, length: int, size: int) -> Parts:
+    """The local groups of Ceph's lrc code of k, m and l: runs of l + 1 chunks, any l of which give back the other. None
+    where Ceph has no such code."""
+    if min(k, m, length) < 1 or (k + m) % length or size > MOST_PLACES:
+        return ()
+    count = (k + m) // length
+    if k % count or m % count or k + m + count != size:
+        return ()
+    return tuple((tuple(range(at, at + length + 1)), length) for at in range(0, size, length + 1))
+
+
+def read_code(osdmap: Node, pool: Node, label: str, size: int, notes: Notes) -> Code:
+    """The code of an erasure pool, by its profile. Tells where it isn't Ceph's own."""
     name = pool.key("erasure_code_profile").text()
     profile = osdmap.key("erasure_code_profiles").key(name)
-    try:
-        k = int(profile.key("k").text())
-    except ValueError as fault:
-        raise Unusable(f"{profile.where}.k is no whole number") from fault
-    plugin = profile.key("plugin").text() if profile.has("plugin") else "jerasure"
-    if plugin not in PLAIN_PLUGINS:
-        notes.tell("erasure codes that don't read from any k shards, carried as if they did",
-                   f"{plugin} of profile '{name}' in {label}")
-    if not 1 <= k <= size:
-        raise Unusable(f"{profile.where}.k is {k}, and the size of {label} is {size}")
-    return k
+    code, told = code_of(profile, size), f"{plugin_of(profile)} of profile '{name}' in {label}"
+    if code.parts and number_of(profile, "m") > 1:
+        notes.tell(LOCAL_GROUPS, told)
+    elif not code.parts and plugin_of(profile) not in PLAIN_PLUGINS:
+        notes.tell(OTHER_CODES, told)
+    if not 1 <= code.k <= size:
+        raise Unusable(f"{profile.where}.k is {code.k}, and the size of {label} is {size}")
+    return code
 
 
 def read_pool(osdmap: Node, pool: Node, notes: Notes) -> Optional[Pool]:
@@ -114,7 +167,7 @@ def read_pool(osdmap: Node, pool: Node, notes: Notes) -> Optional[Pool]:
     min_size, pg_num = pool.key("min_size").whole(), pool.key("pg_num").whole()
     if pg_num < 1:
         raise Unusable(f"{pool.where}.pg_num is {pg_num}")
-    k = data_shards(osdmap, pool, label, size, notes) if kind == ERASURE else None
+    k, parts = read_code(osdmap, pool, label, size, notes) if kind == ERASURE else (None, ())
     if not 1 <= number <= MOST_POOLS:
         notes.tell(f"pools above {MOST_POOLS}, left out", label)
         return None
@@ -128,7 +181,8 @@ def read_pool(osdmap: Node, pool: Node, notes: Notes) -> Optional[Pool]:
         notes.tell(f"pg_num above {MOST_GROUPS}, of which the first {MOST_GROUPS} are carried, so objects fall into others",
                    f"{label} has {pg_num}")
     tell_pool(pool, label, notes)
-    return Pool(number, name, min(pg_num, MOST_GROUPS), size, min_size, pool.key("crush_rule").whole(), k)
+    rule = pool.key("crush_rule").whole()
+    return Pool(number, name, min(pg_num, MOST_GROUPS), size, min_size, rule, k, parts)
 
 
 def tell_pool(pool: Node, label: str, notes: Notes) -> None:

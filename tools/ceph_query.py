@@ -15,9 +15,6 @@ from ceph_map import NONE, Group, Places, Pool, group_text, places_of, read_grou
 MOST_ENTRIES = 256  # of one line
 MOST_NAME = 255  # bytes
 
-# The key of an info line for last_epoch_clean, once docs/FORMAT.md has one. `info_line` writes it where it is named here.
-LAST_CLEAN_KEY: Optional[str] = None
-
 Version = Tuple[int, int]
 Member = Tuple[int, int]  # a device and its slot
 Line = Dict[str, Any]
@@ -181,12 +178,11 @@ def version_in(epochs: Epochs, version: Version) -> List[int]:
 
 
 def info_line(info: Info, epochs: Epochs) -> Line:
-    more = {LAST_CLEAN_KEY: epochs.in_script(info.last_epoch_clean)} if LAST_CLEAN_KEY else {}
     return {
         "op": "info", "pg": list(info.group), "from": list(info.member), "stamp": epochs.in_script(info.stamp),
         "les": epochs.in_script(info.les), "history_les": epochs.in_script(info.history_les),
         "last_update": version_in(epochs, info.last_update), "log_tail": version_in(epochs, info.log_tail),
-        "complete": info.complete, **more,
+        "complete": info.complete, "last_epoch_clean": epochs.in_script(info.last_epoch_clean),
     }
 
 
@@ -196,6 +192,11 @@ def entries_lines(info: Info, log: List[Tuple[Version, str, str]], epochs: Epoch
     for at in range(0, len(wanted), MOST_ENTRIES):
         part = [[*version_in(epochs, version), change, name] for version, change, name in wanted[at : at + MOST_ENTRIES]]
         yield {"op": "entries", "pg": list(info.group), "from": list(info.member), "stamp": epochs.in_script(info.stamp), "log": part}
+
+
+def latest_of(info: Info) -> int:
+    """The latest epoch that the info names."""
+    return max(info.les, info.history_les, info.last_epoch_clean, info.last_update[0])
 
 
 def tell_faults(info: Info, pools: Dict[int, Pool], devices: List[int], last: int, notes: Notes) -> bool:
@@ -209,7 +210,7 @@ def tell_faults(info: Info, pools: Dict[int, Pool], devices: List[int], last: in
         notes.tell("reports of shards that the pool doesn't have, left out", text)
     elif info.stamp > last:
         notes.tell("reports of later epochs than the last map, left out (ceph osd dump EPOCH --format json)", text)
-    elif info.log_tail > info.last_update or max(info.les, info.history_les, info.last_update[0]) > info.stamp:
+    elif info.log_tail > info.last_update or latest_of(info) > info.stamp:
         notes.tell("reports whose versions or epochs can't be, left out", text)
     else:
         return True

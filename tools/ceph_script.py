@@ -12,6 +12,8 @@ from ceph_sets import Where, carried, dumped_sets, stats_of, up_alone
 from ceph_tree import Bucket, Crush, carried_tree, choice_of, pools_of_one_root, read_crush, tell_classes, within_all_groups
 
 LONGEST_LINE = 1048576  # bytes, without the line feed
+FEWER = ("intervals of lrc pools in which Ceph may have gone read-write on fewer chunks than the script wants, which it takes for "
+         "intervals without writes")
 
 Log = List[Tuple[Version, str, str]]
 
@@ -40,6 +42,8 @@ def bucket_object(bucket: Bucket) -> Line:
 
 def pool_object(pool: Pool, leaf: int) -> Line:
     kind: Line = {"kind": "replicated"} if pool.k is None else {"kind": "erasure", "k": pool.k}
+    if pool.parts:
+        kind = {"kind": "grouped", "groups": [[list(slots), least] for slots, least in pool.parts]}
     return {"id": pool.id, "pg_num": pool.pg_num, **kind, "size": pool.size, "min_size": pool.min_size, "leaf": leaf}
 
 
@@ -58,7 +62,8 @@ def pool_parts(pools: List[Pool], temps: List[Temp], leaves: Dict[int, int]) -> 
 
 
 def incremental(epoch: int, part: Line) -> Line:
-    return {"op": "inc", "epoch": epoch, **{key: value for key, value in part.items() if value}}
+    version = {"v": 2} if any(pool["kind"] == "grouped" for pool in part.get("pools", ())) else {}
+    return {"op": "inc", **version, "epoch": epoch, **{key: value for key, value in part.items() if value}}
 
 
 # What the dumps say
@@ -77,6 +82,7 @@ class Story:
         self.snapshots = [self.snapshot(epoch, node) for epoch, node in maps.items()]
         self.pools = {pool.id: pool for snapshot in self.snapshots for pool in snapshot.pools.values()}
         self.queries = [query for query in map(read_query, dumps.queries) if query.group[0] in self.pools]
+        self.tell_fewer()
         self.sets = self.read_sets() if wanted.own_sets else {}
         self.first = self.first_epoch()
 
@@ -94,6 +100,14 @@ class Story:
         changed = {it.key("pool").whole(): it.count_of("last_change") for it in node.key("pools").items()}
         tell_map(node, {pool.id for pool in pools}, self.notes)
         return Snapshot(epoch, devices, {pool.id: pool for pool in pools}, changed, temps, version_of(node))
+
+    def tell_fewer(self) -> None:
+        """Tells of intervals that queries list, whose acting sets aren't enough for the parts of a code."""
+        for query in self.queries:
+            pool = self.pools[query.group[0]]
+            for past in query.past if pool.parts else ():
+                if not pool.are_enough(slot for _, slot in past.acting):
+                    self.notes.tell(FEWER, f"{group_text(query.group)} in epochs {past.first} to {past.last}")
 
     def read_sets(self) -> Dict[int, Dict[Group, Where]]:
         """Where groups lie, by the epochs in which they came to lie there, as far as dumps tell."""

@@ -10,10 +10,10 @@ entry that is refused is told on standard error and not drawn. Where the script 
 
 The picture has one column for each entry, from left to right, under the epoch of its map. At the top each device that was
 ever in up or acting has a row, with a bar where it stood in acting: its colour says whether the interval may have gone
-read-write, and the current interval stands apart. Below stand the verdicts, and for whom the group waits: devices that are
-down and block it, and devices that have yet to be heard. Beyond 200 columns runs of entries that change nothing for the group
-are folded, and then the oldest, but never the intervals that block the group, the last that may have gone read-write, or
-(as many as have room) others whose members have to be heard.
+read-write, a line in it that only a report says so, and the current interval stands apart. Below stand the verdicts, and for
+whom the group waits: devices that are down and block it, and devices that have yet to be heard. Beyond 200 columns runs of
+entries that change nothing for the group are folded, and then the oldest, but never the intervals that block the group, the
+last that may have gone read-write, or (as many as have room) others whose members have to be heard.
 
 Status 0: the picture was written. Status 2: the command line or the script is wrong, the group isn't in its map, or a write
 failed; with --output there is no picture then.
@@ -86,10 +86,14 @@ class Picture:
     def titles(self) -> Iterator[str]:
         last = self.group.steps[-1]
         yield text(16, 25, f"Group {self.group.name}", "title")
-        yield text(16 + room_for(f"Group {self.group.name}", 17) + 12, 25, self.group.pool.text(), "soft")
-        words = f"At the end, {reason(last, self.group.pool)}"
-        most = int((self.width - 32) / 7.44)
-        yield text(16, 45, words if len(words) <= most else words[: most - 1] + "\u2026")
+        right = 16 + room_for(f"Group {self.group.name}", 17) + 12
+        yield text(right, 25, self.cut(self.group.pool.text(), right), "soft")
+        yield text(16, 45, self.cut(f"At the end, {reason(last, self.group.pool)}", 16))
+
+    def cut(self, words: str, x: float) -> str:
+        """The words, as far as there is room to the right of x."""
+        most = int((self.width - 16 - x) / 7.44)
+        return words if len(words) <= most else words[: most - 1] + "\u2026"
 
     def band(self) -> Iterator[str]:
         """The ground of the current interval."""
@@ -133,15 +137,19 @@ class Picture:
     def bars_of(self, span: Span, x: float, wide: float) -> Iterator[str]:
         kind = "now" if span.rw is None else "wrote" if span.rw else "idle"
         told = {"now": "current interval", "wrote": "may have gone read-write", "idle": "did not go read-write"}[kind]
+        if span.by_report:
+            told += ", as a report says that the group was clean in it"
         for at, osd in enumerate(self.rows):
             y = TOP + ROW * at + 12
             tip = f"osd.{osd}, epochs {self.named.text(span.first)} to {self.named.text(span.last)}: {told}"
             if osd in span.acting:
                 yield rect(x + 0.5, y, wide - 1, BAR, kind, tip, 2)
+                if span.by_report:
+                    yield rect(x + 3, y + BAR - 3, wide - 6, 1.5, f"on-{kind}")
                 if osd == span.primary:
                     yield f'<circle cx="{x + 6:.1f}" cy="{y + BAR / 2:.1f}" r="2.6" class="on-{kind}"/>'
                 shard = f"{span.acting.index(osd)}"
-                if self.group.pool.k and wide >= 22:
+                if self.group.pool.is_by_place() and wide >= 22:
                     yield text(x + wide / 2 + 3, y + 11, shard, f"small mid on-{kind}")
             elif osd in span.up:
                 yield rect(x + 1, y + 1, wide - 2, BAR - 2, "alone", f"{tip}, in up alone", 2)
@@ -250,6 +258,8 @@ class Picture:
         for rw, kind, words in samples:
             if rw in kinds:
                 yield box(kind), words
+        if any(span.by_report for span in self.spans):
+            yield lambda x, y: box("wrote")(x, y) + rect(x + 4, y + 8, 9, 1.5, "on-wrote"), "so by a report alone"
         if any(set(span.up) - set(span.acting) - {None} for span in self.spans) or self.has_empty:
             yield box("alone"), "in up alone, or an empty place" if self.has_empty else "in up alone"
         yield lambda x, y: f'<circle cx="{x + 9:.1f}" cy="{y + 6:.1f}" r="3" class="soft"/>', "primary"

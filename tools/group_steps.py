@@ -1,13 +1,14 @@
 """What a script says of one group, entry by entry, as the program answers it."""
 
+import bisect
 import json
 import pathlib
 import re
 import subprocess
 import tempfile
-from typing import Any, Dict, Generator, Iterable, Iterator, List, NamedTuple, Optional, Set, Tuple, cast
+from typing import Any, Dict, FrozenSet, Generator, Iterable, Iterator, List, NamedTuple, Optional, Set, Tuple, cast
 
-from ceph_json import Unusable, text_of
+from ceph_json import Unusable, ranges, text_of
 
 PROGRAM = pathlib.Path(__file__).resolve().parent.parent / "crates/pgpeer/out/pgpeer"
 ENTRIES = ("inc", "info", "entries", "close")
@@ -39,7 +40,7 @@ class Step(NamedTuple):
 
 
 class Span(NamedTuple):
-    """An interval; rw is None in the current one."""
+    """An interval; rw is None in the current one. It is one by report where no map says that it may have gone read-write."""
 
     first: int
     last: int
@@ -47,6 +48,7 @@ class Span(NamedTuple):
     acting: List[Optional[int]]
     primary: Optional[int]
     rw: Optional[bool]
+    by_report: bool = False
 
     def devices(self) -> Iterator[int]:
         return (osd for osd in self.up + self.acting if osd is not None)
@@ -54,13 +56,37 @@ class Span(NamedTuple):
 
 class Pool(NamedTuple):
     kind: str
-    k: Optional[int]
+    k: Optional[int]  # in an erasure pool
     size: int
     min_size: int
+    groups: Any = ()  # in a grouped pool: of each part its slots, and how many of them are enough
 
     def text(self) -> str:
         code = f", any {self.k} shards are enough" if self.k else ""
+        if self.groups:
+            code = ", enough with " + " and ".join(part_text(slots, least) for slots, least in self.groups)
         return f"{self.kind} pool, size {self.size}, min_size {self.min_size}{code}"
+
+    def is_by_place(self) -> bool:
+        """Tells whether a member's slot is its place in the list."""
+        return self.kind != "replicated"
+
+    def are_enough(self, slots: Iterable[int]) -> bool:
+        have = set(slots)
+        if self.groups:
+            return all(len(have & set(part)) >= least for part, least in self.groups)
+        return len(have) >= (self.k or 1)
+
+
+def part_text(slots: List[int], least: int) -> str:
+    """A part of a code, as `2 of shards 0-2`, or as `shard 3` where it is one."""
+    name = f"shard{'s' if len(slots) > 1 else ''} {ranges(slots)}"
+    return name if least == len(slots) == 1 else f"{least} of {name}"
+
+
+def pool_of(entry: Dict[str, Any]) -> Pool:
+    """The pool that an entry makes, which the program takes."""
+    return Pool(entry["kind"], entry.get("k"), entry["size"], entry["min_size"], entry.get("groups", ()))
 
 
 class Group(NamedTuple):
@@ -69,11 +95,23 @@ class Group(NamedTuple):
     name: str
     pool: Pool
     steps: List[Step]
+    by_report: FrozenSet[int] = frozenset()  # the first epochs of intervals that reports alone say may have gone read-write
 
     def spans(self) -> List[Span]:
         view = self.steps[-1].view
-        past = [Span(it["first"], it["last"], it["up"], it["acting"], it["acting_primary"], it["rw"]) for it in view["intervals"]]
+        past = [Span(it["first"], it["last"], it["up"], it["acting"], it["acting_primary"], it["rw"], it["first"] in self.by_report)
+                for it in view["intervals"]]
         return past + [Span(view["first"], view["epoch"], view["up"], view["acting"], view["acting_primary"], None)]
+
+
+Facts = Dict[int, List[Tuple[int, int]]]  # by device the epochs in which a fact was given, and what it was then
+
+
+def fact_at(facts: Facts, osd: int, epoch: int) -> int:
+    """What was given last of a device, up to an epoch; 0 where nothing was."""
+    given = facts.get(osd, [])
+    at = bisect.bisect_right(given, (epoch, MOST_EPOCH + 1))
+    return given[at - 1][1] if at else 0
 
 
 class History:
@@ -83,6 +121,10 @@ class History:
         self.pool, self.pg = pool, pg
         self.booted: Dict[int, int] = {}  # the epochs since which devices are up
         self.stamps: Dict[Member, int] = {}  # the greatest of each member
+        self.gone: Set[int] = set()  # devices that were destroyed
+        self.boots: Facts = {}
+        self.thrus: Facts = {}
+        self.losts: Facts = {}
         self.made: Optional[Pool] = None
 
     def take(self, entry: Dict[str, Any]) -> List[Event]:
@@ -94,17 +136,41 @@ class History:
             return []
         for pool in entry.get("pools", []):
             if pool["id"] == self.pool:
-                self.made = Pool(pool["kind"], pool.get("k"), pool["size"], pool["min_size"])
+                self.made = pool_of(pool)
         for number, size, min_size in entry.get("sizes", []):
             if number == self.pool and self.made:
                 self.made = self.made._replace(size=size, min_size=min_size)
+        self.take_facts(entry)
         events = [Event(osd, kind) for kind in ("up", "down", "gone") for osd in entry.get(kind, [])]
         for osd, kind in events:
+            self.booted.pop(osd, None)
+            self.gone.discard(osd)
             if kind == "up":
                 self.booted[osd] = entry["epoch"]
-            else:
-                self.booted.pop(osd, None)
+            elif kind == "gone":
+                self.gone.add(osd)
         return events
+
+    def take_facts(self, inc: Dict[str, Any]) -> None:
+        boots = [(osd, inc["epoch"]) for osd in inc.get("up", [])]
+        for facts, given in ((self.boots, boots), (self.thrus, inc.get("up_thru", [])), (self.losts, inc.get("lost", []))):
+            for osd, value in given:
+                facts.setdefault(osd, []).append((inc["epoch"], value))
+
+    def is_lost(self, osd: int, first: int) -> bool:
+        """Tells whether a device is taken for lost in a past interval that began in the epoch `first`."""
+        is_up_or_gone = osd in self.booted or osd in self.gone
+        return not is_up_or_gone and fact_at(self.losts, osd, MOST_EPOCH) > first
+
+    def by_report(self, view: View) -> FrozenSet[int]:
+        """The first epochs of past intervals that may have gone read-write and whose last maps don't say so: then a report
+        says that the group was clean in them."""
+        return frozenset(it["first"] for it in view["intervals"] if it["rw"] and not self.is_recorded(it))
+
+    def is_recorded(self, interval: Dict[str, Any]) -> bool:
+        """Tells whether the map of an interval's last epoch says that its primary was up in it."""
+        primary, first, last = interval["acting_primary"], interval["first"], interval["last"]
+        return fact_at(self.thrus, primary, last) >= first >= fact_at(self.boots, primary, last)
 
     def unheard(self, view: View) -> List[Member]:
         """The members that have to be heard and have no info that counts."""
@@ -279,7 +345,7 @@ def steps_of(program: str, path: str, asked: AskedScript, group: List[int], sinc
     if not steps or history.made is None:
         raise Unusable(f"{path} has no entry of the group {group[0]}.{group[1]:x} in these epochs")
     steps[-1] = steps[-1]._replace(view=last)
-    return Group(f"{group[0]}.{group[1]:x}", history.made, steps), refused
+    return Group(f"{group[0]}.{group[1]:x}", history.made, steps, history.by_report(last)), refused
 
 
 # Groups

@@ -11,7 +11,7 @@ def osds_text(osds: Iterable[int]) -> str:
 
 
 def member_text(member: Sequence[int], pool: Pool) -> str:
-    return f"osd.{member[0]}" + (f" (shard {member[1]})" if pool.k else "")
+    return f"osd.{member[0]}" + (f" (shard {member[1]})" if pool.is_by_place() else "")
 
 
 def reason(step: Step, pool: Pool) -> str:
@@ -23,12 +23,19 @@ def reason(step: Step, pool: Pool) -> str:
         "Down": f"writes may be on {osds_text(view['blocked_by'])} alone, which may come back",
         "Waiting": f"not heard yet: {', '.join(member_text(it, pool) for it in step.unheard)}",
         "Incomplete": "no copy that was heard is complete and new enough",
-        "Short": "the acting set has too few members",
+        "Short": short(view, pool),
         "NeedLog": f"the log of {member_text(view['best'] or (0, 0), pool)}, the best copy, has gaps",
         "NeedUpThru": f"the map doesn't say yet that osd.{primary} was up in this interval",
         "Serve": behind(view, pool),
     }
     return f"{verdict}: {why[verdict]}"
+
+
+def short(view: Dict[str, Any], pool: Pool) -> str:
+    """What the acting set lacks. A grouped pool may have members enough, and too few of a part."""
+    slots = [slot for slot, osd in enumerate(view["acting"]) if osd is not None]
+    lacks_parts = pool.groups and not pool.are_enough(slots)
+    return "the shards of the acting set aren't enough" if lacks_parts else "the acting set has too few members"
 
 
 def behind(view: Dict[str, Any], pool: Pool) -> str:

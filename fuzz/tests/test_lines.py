@@ -1,5 +1,6 @@
 """Tests of lines.py."""
 
+import json
 import pathlib
 import sys
 import unittest
@@ -63,6 +64,65 @@ class Order(unittest.TestCase):
     def test_blank_lines(self):
         self.assertTrue(lines.is_blank(b" \t\r") and lines.is_blank(b""))
         self.assertFalse(lines.is_blank(b"\x0b") or lines.is_blank(b"\x00"))
+
+
+class Versions(unittest.TestCase):
+    POOL = '{"id":1,"pg_num":1,"size":3,"min_size":1,"leaf":0,"kind":"grouped","groups":%s}'
+    INC = '{"op":"inc","epoch":1,%s"pools":[' + POOL + "]}"
+    TRACE = '{"op":"trace",%s"code":{"kind":"grouped","groups":%s},"epochs":[%s]}'
+    EPOCH = '{"up":[null],"acting":[0],"size":1,"min_size":1,"up_from":0,"up_thru":0}'
+
+    def test_numbers(self):
+        for op in (b'"close"', b'"ask","pg":[1,0]', b'"locate","pool":1,"name":"a"', b'"inc","epoch":1'):
+            for number in (b"1", b"2"):
+                self.assertIsNone(fault(b'{"op":' + op + b',"v":' + number + b"}"))
+            for number in (b"0", b"3", b"-1", b'"1"', b"1.0", b"-0", b"2e0", b"true", b"null", b"[2]"):
+                self.assertEqual(fault(b'{"op":' + op + b',"v":' + number + b"}"), (34, "v"), number)
+
+    def test_grouped_pools_are_of_version_two(self):
+        for version, wanted in (('"v":2,', None), ("", "pools"), ('"v":1,', "pools"), ('"v":3,', "v"), ('"v":2.0,', "v")):
+            found = fault((self.INC % (version, "[[[0],1]]")).encode())
+            self.assertEqual(found, wanted and (34, wanted), version)
+
+    def test_the_least_bad_key_is_named_and_a_bad_version_is_read_as_two(self):
+        self.assertEqual(fault((self.INC % ('"v":3,"weight":0,', "[[[0],1]]")).encode()), (34, "v"))
+        self.assertEqual(fault((self.INC % ('"v":3,"temp":0,', "[[[0],1]]")).encode()), (34, "temp"))
+        self.assertEqual(fault((self.INC % ('"v":3,', "0")).encode()), (34, "pools"))
+        self.assertEqual(fault(b'{"op":"close","v":3,"x":1}'), (33, "x"))
+        self.assertEqual(fault((self.TRACE % ('"v":3,', "[[[0],1]]", "")).encode()), (34, "epochs"))
+        self.assertEqual(fault((self.TRACE % ('"v":3,', "[[[0],1]]", self.EPOCH)).encode()), (34, "v"))
+
+    def test_shapes_of_parts(self):
+        for groups in ("[]", "[[[],0]]", "[[[0,0],255]]", json.dumps([[[0] * 16, 1]] * 16)):
+            self.assertIsNone(fault((self.INC % ('"v":2,', groups)).encode()), groups)
+        for groups in ("0", "[0]", "[[[0]]]", "[[[0],1,1]]", "[[[16],1]]", "[[[null],1]]", "[[[0],256]]", "[[[0],1.0]]"):
+            self.assertEqual(fault((self.INC % ('"v":2,', groups)).encode()), (34, "pools"), groups)
+        for groups in ([[[0] * 17, 1]], [[[0], 1]] * 17):
+            self.assertEqual(fault((self.INC % ('"v":2,', json.dumps(groups))).encode()), (34, "pools"), groups)
+
+    def test_keys_of_pools_go_by_their_kind(self):
+        line = self.INC % ('"v":2,', "[[[0],1]]")
+        changes = ('"grouped"', '"replicated"'), ('"grouped"', '"erasure"'), ('"groups"', '"k"'), ('"leaf":0', '"leaf":0,"k":1')
+        for old, new in changes:
+            self.assertEqual(fault(line.replace(old, new).encode()), (34, "pools"), (old, new))
+
+    def test_parts_of_a_trace(self):
+        for groups in ([[[0], 1]], [[[15, 3], 2]], [[[slot], 1] for slot in range(16)], [[list(range(16)), 16]]):
+            self.assertIsNone(fault((self.TRACE % ('"v":2,', json.dumps(groups), self.EPOCH)).encode()), groups)
+            self.assertEqual(fault((self.TRACE % ("", json.dumps(groups), self.EPOCH)).encode()), (34, "code"), groups)
+        for groups in ([], [[[], 0]], [[[], 1]], [[[0], 0]], [[[0], 2]], [[[0, 0], 1]], [[[0], 1], [[1, 0], 1]], [[[16], 1]]):
+            self.assertEqual(fault((self.TRACE % ('"v":2,', json.dumps(groups), self.EPOCH)).encode()), (34, "code"), groups)
+
+    def test_clean_epochs(self):
+        info = (
+            '{"op":"info","pg":[1,0],"from":[0,0],"stamp":1,"les":0,"history_les":0,"last_update":[0,0],"log_tail":[0,0],'
+            '"complete":true,"last_epoch_clean":%s}'
+        )
+        for epoch in ("0", "4294967295"):
+            self.assertIsNone(fault((info % epoch).encode()))
+        for epoch in ("-1", "4294967296", "1.0", "null", '"1"'):
+            self.assertEqual(fault((info % epoch).encode()), (34, "last_epoch_clean"), epoch)
+        self.assertEqual(fault(b'{"op":"entries","last_epoch_clean":0}'), (33, "last_epoch_clean"))
 
 
 class Shapes(unittest.TestCase):

@@ -3,6 +3,7 @@
 import json
 import pathlib
 import random
+import re
 import sys
 import unittest
 
@@ -11,6 +12,7 @@ ROOT = HERE.parent.parent
 sys.path.insert(0, str(HERE.parent))
 sys.path.insert(0, str(ROOT / "tools"))
 
+import codes as rule  # noqa: E402
 import grammar  # noqa: E402
 import model  # noqa: E402
 import peering  # noqa: E402
@@ -38,6 +40,14 @@ class Examples(unittest.TestCase):
     def test_scripts(self):
         for script, wanted in run_examples.examples():
             self.assertEqual(answers(script.read_bytes()), wanted.read_bytes().splitlines(), script.name)
+
+    def test_stored_scripts(self):
+        stored = ROOT / "crates" / "pgp_scripts"
+        found = []
+        for script in re.split(rb"(?m)^(?=# )", (stored / "stdin").read_bytes())[1:]:
+            name, _, lines = script.partition(b"\n")
+            found += [name, *answers(lines)]
+        self.assertEqual(found, (stored / "stdout").read_bytes().splitlines())
 
     def test_document(self):
         before = (ROOT / "examples" / "first.jsonl").read_bytes()
@@ -139,6 +149,85 @@ class Kept(unittest.TestCase):
                 self.assertEqual(log.answer(question), new.answer(question), (seed, group))
 
 
+class Cleans(unittest.TestCase):
+    POOL = {"id": 1, "pg_num": 1, "kind": "replicated", "size": 2, "min_size": 2, "leaf": 0}
+    ROOT = {"id": -1, "type": 1, "alg": "uniform", "items": [0, 1]}
+    MAPS = (inc(1, up=[0, 1], crush=[ROOT]), inc(2, pools=[POOL]), inc(3), inc(4, down=[1]), inc(5, up=[1]))
+
+    def info(self, clean, stamp=5, **more):
+        versions = {"last_update": [0, 0], "log_tail": [0, 0]}
+        parts = {"pg": [1, 0], "from": [0, 0], "stamp": stamp, "les": 0, "history_les": 0, **versions, "complete": True}
+        return json.dumps({"op": "info", **parts, "last_epoch_clean": clean, **more}).encode()
+
+    def flags(self, *infos):
+        """The flags of the intervals 2 to 3, of two devices, and 4 to 4, of one, by these infos."""
+        found = json.loads(answers(b"\n".join((*self.MAPS, *infos, b'{"op":"ask","pg":[1,0]}')))[-1])
+        return [it["rw"] for it in found["intervals"]]
+
+    def test_the_flag_of_its_interval_is_raised(self):
+        for clean, first in ((0, False), (1, False), (2, True), (3, True), (4, False), (5, False)):
+            self.assertEqual(self.flags(self.info(clean)), [first, False], clean)
+
+    def test_infos_that_do_not_count_raise_it_too(self):
+        self.assertEqual(self.flags(self.info(2, 2)), [True, False])
+        self.assertEqual(self.flags(self.info(2, **{"from": [1, 0]})), [True, False])
+        self.assertEqual(self.flags(self.info(2), self.info(0)), [True, False])
+
+    def test_it_is_remembered_until_the_interval_closes(self):
+        lines = (*self.MAPS[:3], self.info(3, 3), *self.MAPS[3:], b'{"op":"ask","pg":[1,0]}')
+        self.assertEqual([it["rw"] for it in json.loads(answers(b"\n".join(lines))[-1])["intervals"]], [True, False])
+
+    def test_one_above_the_stamp_is_refused(self):
+        found = codes(*self.MAPS, self.info(5), self.info(6), self.info(3, 2), self.info(2, 2))
+        self.assertEqual(found, [0] * 5 + [0, 63, 63, 0])
+        self.assertEqual(self.flags(self.info(3, 2)), [False, False])
+
+    def test_flags_that_only_an_info_raised_are_counted(self):
+        up_thru = inc(3, up_thru=[[0, 2]]), inc(3, up_thru=[[1, 2]])  # one of them is the primary
+        found = []
+        for maps in ((*self.MAPS[:2], it, *self.MAPS[3:]) for it in (inc(3), *up_thru)):
+            log = model.Model()
+            for line in (*maps, self.info(2)):
+                self.assertEqual(log.answer(line).code, 0)
+            found.append(log.raised((1, 0)))
+        self.assertEqual((found[0], sorted(found[1:])), ([2], [[], [2]]))
+
+
+class Grouped(unittest.TestCase):
+    CODE = ((frozenset({0, 1}), 1), (frozenset({2, 3, 4}), 2))
+
+    def test_each_part_has_to_have_its_least_number(self):
+        for slots in ((0, 2, 3), (1, 3, 4), (0, 1, 2, 3, 4), (0, 2, 4, 9)):
+            self.assertTrue(rule.are_enough(self.CODE, slots), slots)
+        for slots in ((), (0, 1), (2, 3, 4), (0, 2), (0, 2, 2, 9)):
+            self.assertFalse(rule.are_enough(self.CODE, slots), slots)
+
+    def test_more_slots_are_never_less(self):
+        sets = [frozenset(slot for slot in range(6) if bits >> slot & 1) for bits in range(64)]
+        for some in sets:
+            for more in sets:
+                if some <= more and rule.are_enough(self.CODE, some):
+                    self.assertTrue(rule.are_enough(self.CODE, more))
+
+    def pool(self, groups, size=3, v=2, **more):
+        it = {"id": 1, "pg_num": 1, "kind": "grouped", "groups": groups, "size": size, "min_size": 1, "leaf": 0}
+        return inc(1, v=v, pools=[{**it, **more}])
+
+    def test_what_no_pool_can_have(self):
+        for groups in ([], [[[], 1]], [[[0], 0]], [[[0], 2]], [[[0, 0], 1]], [[[0], 1], [[0], 1]], [[[3], 1]]):
+            self.assertEqual(codes(self.pool(groups)), [18], groups)
+        for groups in ([[[2], 1]], [[[2, 0], 2]], [[[0], 1], [[1], 1], [[2], 1]]):
+            self.assertEqual(codes(self.pool(groups)), [0], groups)
+        self.assertEqual(codes(self.pool([[[0], 1]], min_size=4)), [18])
+
+    def test_a_grouped_pool_goes_by_place(self):
+        made = self.pool([[[0], 1]])
+        self.assertEqual(codes(made, inc(2, sizes=[[1, 2, 1]]), inc(2, sizes=[[1, 3, 3]])), [0, 18, 0])
+        self.assertEqual(codes(made, inc(2, temp=[[1, 0, [0, 1]]]), inc(2, temp=[[1, 0, [0, None, 1]]])), [0, 20, 0])
+        view = json.loads(answers(made + b'\n{"op":"ask","pg":[1,0]}')[-1])
+        self.assertEqual((view["up"], view["acting"]), ([None] * 3, [None] * 3))
+
+
 class Peering(unittest.TestCase):
     def info(self, last, tail=(0, 0), complete=True):
         return {"last_update": list(last), "log_tail": list(tail), "complete": complete, "les": 0, "history_les": 0}
@@ -147,6 +236,7 @@ class Peering(unittest.TestCase):
         heard = {(0, 0): self.info((1, 1)), (1, 1): self.info((1, 2))}
         self.assertEqual(peering.best_of(None, heard, None), (1, 1))
         self.assertEqual(peering.best_of(2, heard, None), (0, 0))
+        self.assertEqual(peering.best_of(Grouped.CODE, heard, None), (0, 0))
 
     def test_among_equals_the_leader(self):
         heard = {(0, 0): self.info((1, 1)), (1, 0): self.info((1, 1))}

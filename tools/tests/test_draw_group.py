@@ -83,6 +83,12 @@ class Heard(unittest.TestCase):
         history.take({"op": "inc", "epoch": 5, "down": [0]})
         self.assertFalse(history.heard((0, 0), 3))
 
+    def test_a_pool_has_the_size_that_was_given_last(self):
+        history = draw_group.History(2, 0)
+        history.take({"op": "inc", "epoch": 1, "pools": [{"id": 2, "kind": "replicated", "size": 3, "min_size": 2}]})
+        history.take({"op": "inc", "epoch": 2, "sizes": [[1, 5, 5], [2, 4, 1]]})
+        self.assertEqual(history.made.text(), "replicated pool, size 4, min_size 1")
+
     def test_a_report_of_another_group_does_not_count(self):
         history = self.history()
         history.take({"op": "info", "pg": [1, 1], "from": [0, 0], "stamp": 4})
@@ -184,6 +190,35 @@ class Bars(unittest.TestCase):
         words = [node.text for node in drawn([step(1, acting=[4, None, 5])], erasure).iter(f"{SVG}text")]
         for text in ("0", "2", "no device", "erasure pool, size 3, min_size 2, any 2 shards are enough"):
             self.assertIn(text, words)
+
+    def test_an_interval_by_a_report_alone_has_a_line_in_its_bars(self):
+        group = draw_group.Group("1.0", POOL, self.STEPS, frozenset({1}))
+        root = xml.fromstring(draw_group.Picture(group).svg())
+        lines = [node for node in root.iter(f"{SVG}rect") if node.get("class") == "on-wrote"]
+        self.assertEqual(len(lines), 3 + 1)  # one is the legend's
+        self.assertTrue(all(node.find(f"{SVG}title").text.endswith("may have gone read-write, as a report says that the group was clean in it")
+                            for node in marks(root, "wrote")))
+        self.assertIn("so by a report alone", [node.text for node in root.iter(f"{SVG}text")])
+        self.assertFalse([node for node in drawn(self.STEPS).iter(f"{SVG}rect") if node.get("class") == "on-wrote"])
+
+    def test_a_grouped_pool_is_drawn_by_place_and_its_parts_are_told(self):
+        grouped = draw_group.Pool("grouped", None, 3, 2, [[[0, 1], 1], [[2], 1]])
+        words = [node.text for node in drawn([step(1, acting=[4, None, 5])], grouped).iter(f"{SVG}text")]
+        for text in ("0", "2", "no device", "grouped pool, size 3, min_size 2, enough with 1 of shards 0-1 and shard 2"):
+            self.assertIn(text, words)
+        self.assertEqual([grouped.are_enough(slots) for slots in ([0], [1, 2], [0, 1], [])], [False, True, False, False])
+
+    def test_a_grouped_pool_is_short_of_members_or_of_a_part(self):
+        grouped = draw_group.Pool("grouped", None, 4, 2, [[[0, 1], 1], [[2, 3], 1]])
+        for acting, why in (([4, 5, None, None], "the shards of the acting set aren't enough"), ([4, None, 5, None], "too few members")):
+            tips = [node.text for node in drawn([step(1, acting=acting, verdict="Short")], grouped).iter(f"{SVG}title")]
+            self.assertEqual(sum(tip.startswith("epoch 1, Short: ") and tip.endswith(why) for tip in tips), 1, tips)
+
+    def test_a_pool_of_many_parts_is_told_as_far_as_there_is_room(self):
+        grouped = draw_group.Pool("grouped", None, 16, 16, [[[slot], 1] for slot in range(16)])
+        told = next(node.text for node in drawn([step(1)], grouped).iter(f"{SVG}text") if node.text.startswith("grouped pool"))
+        self.assertTrue(told.endswith("\u2026"))
+        self.assertLess(draw_group.room_for(told), draw_group.LEAST_WIDTH - 100)
 
     def test_the_oldest_columns_are_veiled_where_they_are_one(self):
         past = [interval(e, e, [0, 1, 2], False) for e in range(1, 300)]
@@ -302,10 +337,16 @@ class Examples(unittest.TestCase):
         return draw_group.followed(PROGRAM, str(ROOT / f"examples/{name}.jsonl"), pool, pg)[0]
 
     def test_a_group_waits_just_while_someone_is_unheard(self):
-        for name, pool, pg in (("outage", 1, 0), ("blocked", 1, 0), ("lost_shard", 2, 3), ("reports", 1, 0), ("map", 1, 5)):
+        for name, pool, pg in (("outage", 1, 0), ("blocked", 1, 0), ("lost_shard", 2, 3), ("reports", 1, 0), ("map", 1, 5),
+                               ("clean", 1, 0), ("grouped", 1, 3)):
             for it in self.group(name, pool, pg).steps:
                 if it.view["verdict"] not in ("NoPrimary", "Down"):
                     self.assertEqual(it.view["verdict"] == "Waiting", bool(it.unheard), (name, it))
+
+    def test_intervals_by_report_are_those_that_only_reports_tell(self):
+        for name, pool, pg in (("outage", 1, 0), ("blocked", 1, 0), ("lost_shard", 2, 3), ("ceph_outage", 1, 0), ("grouped", 1, 3)):
+            self.assertEqual(self.group(name, pool, pg).by_report, set(), name)
+        self.assertEqual(self.group("clean", 1, 0).by_report, {2})
 
     def test_a_refused_entry_is_told_and_not_drawn(self):
         status, out, err = written(["--program", PROGRAM, str(ROOT / "examples/map.jsonl"), "1.5"])
@@ -315,13 +356,13 @@ class Examples(unittest.TestCase):
         self.assertEqual(len(self.group("map", 1, 5).steps), 4)
 
     def test_the_pictures_of_the_documents_are_those_of_the_examples(self):
-        for name, group in (("blocked", "1.0"), ("lost_shard", "2.3")):
+        for name, group in (("blocked", "1.0"), ("lost_shard", "2.3"), ("ceph_outage", "1.0")):
             status, out, _ = written(["--program", PROGRAM, str(ROOT / f"examples/{name}.jsonl"), group])
             self.assertEqual(status, 0)
             self.assertEqual(out, (ROOT / f"docs/{name}.svg").read_text())
 
     def test_the_answers_beside_the_examples_are_the_programs(self):
-        for name in ("blocked", "lost_shard"):
+        for name in ("blocked", "lost_shard", "ceph_outage", "clean", "grouped"):
             lines = (ROOT / f"examples/{name}.jsonl").read_text().splitlines()
             said = draw_group.answers(PROGRAM, lines)
             kept = (ROOT / f"examples/{name}.answers.jsonl").read_text().splitlines()

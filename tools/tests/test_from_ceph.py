@@ -15,6 +15,7 @@ import unittest
 HERE = pathlib.Path(__file__).resolve().parent
 sys.path[:0] = [str(HERE.parent), str(HERE)]
 
+import ceph_map  # noqa: E402
 import check_against_ceph  # noqa: E402
 import from_ceph  # noqa: E402
 from changes import change  # noqa: E402
@@ -146,6 +147,89 @@ class Lines(Case):
         text = "marking all OSDs up and in\n" + json.dumps(self.osdmap)
         status, out, _ = written([self.file("osdmap.json", text), self.file("crush.json", self.crush)])
         self.assertEqual((status, out), self.run_tool()[:2])
+
+
+def recovers(m, length, size, have):
+    """Tells whether no chunk is lacking once each local code of lrc was tried, and then the global one."""
+    lacking = set(range(size)) - have
+    local = [set(range(at, at + length + 1)) for at in range(0, size, length + 1)]
+    for chunks, most in [*((it, 1) for it in local), ({slot for slot in range(size) if slot % (length + 1) != length}, m)]:
+        if len(lacking & chunks) <= most:
+            lacking -= chunks
+    return not lacking
+
+
+class LocalGroups(Case):
+    """Pools of the plugin lrc."""
+
+    def profile(self, **keys):
+        self.osdmap["erasure_code_profiles"]["ec-2-2"] = {"plugin": "lrc", **keys}
+
+    def test_one_local_group_is_carried_whole(self):
+        self.profile(k="2", m="1", l="3")
+        self.assertEqual(self.told(), "")
+        last = self.lines()[-1]
+        keys = [(pool["kind"], pool.get("groups"), "k" in pool) for pool in last["pools"]]
+        self.assertEqual(keys, [("replicated", None, False), ("grouped", [[[0, 1, 2, 3], 3]], False)])
+        self.assertEqual([line.get("v") for line in self.lines()], [None, None, 2])
+        self.assertEqual(list(last)[:3], ["op", "v", "epoch"])
+
+    def test_several_local_groups_are_told(self):
+        self.profile(k="4", m="2", l="3")
+        self.osdmap["pools"][1]["size"] = 8
+        self.osdmap["pg_temp"] = []
+        told = self.told()
+        self.assertIn("lrc codes, carried as local groups of which each wants all chunks but one, where Ceph may recover, and may "
+                      "have gone read-write, with fewer: lrc of profile 'ec-2-2' in pool", told)
+        self.assertEqual(self.lines()[-1]["pools"][1]["groups"], [[[0, 1, 2, 3], 3], [[4, 5, 6, 7], 3]])
+
+    def test_layers_by_hand_and_numbers_that_are_no_code_are_carried_as_any_k_shards(self):
+        kept = {"k": "-1", "l": "-1", "layers": '[ [ "DDDc", "" ] ]', "m": "-1", "mapping": "DDD_"}  # by Ceph 16.2.15
+        for profile, k in (({"mapping": "DD__", "layers": "[]"}, 2), (kept, 3),
+                           ({"mapping": "_DDD", "layers": "[]", "k": "2"}, 2),
+                           ({"k": "2", "m": "1", "l": "2"}, 2), ({"k": "2", "m": "2", "l": "2"}, 2), ({"k": "3"}, 3)):
+            self.profile(**profile)
+            self.assertIn("erasure codes that don't read from any k shards, carried as if they did: lrc of", self.told())
+            pool = self.lines()[-1]["pools"][1]
+            self.assertEqual((pool["kind"], pool["k"]), ("erasure", k), profile)
+
+    def test_numbers_that_no_profile_can_have(self):
+        where = "osdmap.json.erasure_code_profiles.ec-2-2"
+        for profile, text in (({"k": "two"}, f"{where}.k is no whole number"), ({"k": "2", "m": "1", "l": ""}, f"{where}.l is no whole number"),
+                              ({"k": "0"}, f"{where}.k is 0, and the size of"), ({"k": "5", "m": "1", "l": "3"}, f"{where}.k is 5, and the size of"),
+                              ({"mapping": "____", "layers": "[]"}, f"{where}.k is 0, and the size of"), ({}, f"{where} has no key 'k'")):
+            self.profile(**profile)
+            self.assert_error(text, self.run_tool())
+
+    def compared(self, k, m, length):
+        """How many sets of chunks are enough for both, for the parts alone and for Ceph alone."""
+        size = k + m + (k + m) // length
+        code = ceph_map.Code(k, ceph_map.local_groups(k, m, length, size))
+        self.assertEqual([slot for slots, _ in code.parts for slot in slots], list(range(size)))
+        counts = {(True, True): 0, (True, False): 0, (False, True): 0, (False, False): 0}
+        for bits in range(1 << size):
+            have = {slot for slot in range(size) if bits >> slot & 1}
+            counts[code.are_enough(have), recovers(m, length, size, have)] += 1
+        return counts[True, True], counts[True, False], counts[False, True]
+
+    def test_what_is_enough_for_the_parts_is_enough_for_ceph(self):
+        for profile in ((1, 1, 2), (2, 1, 3), (3, 1, 4), (2, 2, 2), (4, 2, 3), (2, 2, 4), (4, 4, 4), (6, 3, 3), (6, 2, 4), (8, 2, 5),
+                        (8, 4, 6), (10, 2, 6)):
+            _, ours_alone, cephs_alone = self.compared(*profile)
+            self.assertEqual((ours_alone, cephs_alone == 0), (0, profile[1] == 1), profile)
+        self.assertEqual(self.compared(4, 2, 3), (25, 0, 30))
+
+    def test_numbers_of_no_local_groups(self):
+        self.assertEqual(ceph_map.local_groups(4, 2, 3, 9), ())
+        self.assertEqual(ceph_map.local_groups(4, 2, 4, 8), ())
+        self.assertEqual(ceph_map.local_groups(2**30, 2**30, 2**30, 2**31 + 2), ())
+
+    @unittest.skipUnless(HAS_PROGRAM, f"no program {PROGRAM}")
+    def test_the_program_takes_the_lines(self):
+        self.profile(k="2", m="1", l="3")
+        _, out, _ = self.run_tool("--alone")
+        run = subprocess.run([PROGRAM, "run"], input=out, capture_output=True, text=True)
+        self.assertEqual([json.loads(line).get("ok") for line in run.stdout.splitlines()], ["inc"] * len(out.splitlines()))
 
 
 class Removed(Case):

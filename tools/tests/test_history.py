@@ -23,6 +23,7 @@ import ceph_query  # noqa: E402
 import ceph_sets  # noqa: E402
 import draw_group  # noqa: E402
 import from_ceph  # noqa: E402
+import group_steps  # noqa: E402
 import tell_groups  # noqa: E402
 from changes import broken  # noqa: E402
 from ceph_map import Device, Pool  # noqa: E402
@@ -98,8 +99,21 @@ class Outage(Case):
     def test_reports_have_the_stamp_of_their_query(self):
         infos = [line for line in self.history(OUTAGE)[0] if line["op"] == "info"]
         self.assertEqual([(it["from"][0], it["stamp"] + 15) for it in infos], [(0, 17), (1, 17), (2, 17), (0, 19), (1, 19), (0, 21), (1, 26)])
-        last = {"op": "info", "pg": [1, 0], "from": [1, 0], "stamp": 11, "les": 4, "history_les": 4, "last_update": [0, 0], "log_tail": [0, 0], "complete": True}
+        last = {"op": "info", "pg": [1, 0], "from": [1, 0], "stamp": 11, "les": 4, "history_les": 4, "last_update": [0, 0], "log_tail": [0, 0], "complete": True, "last_epoch_clean": 17 - 15}
         self.assertEqual(infos[-1], last)
+
+    def test_the_last_clean_epoch_is_that_of_the_query(self):
+        infos = [line for line in self.history(OUTAGE)[0] if line["op"] == "info"]
+        self.assertEqual([it["last_epoch_clean"] + 15 for it in infos], [17] * 7)
+        self.assertTrue(all(it["last_epoch_clean"] <= it["stamp"] for it in infos))
+
+    def test_a_last_clean_epoch_before_the_first_map_comes_before_the_pools(self):
+        for path in OUTAGE.glob("d-blocked.*"):
+            shutil.copy(path, self.folder)
+        lines = self.history("--from", 26, self.folder)[0]
+        made = next(line["epoch"] for line in lines if "pools" in line)
+        clean = next(line["last_epoch_clean"] for line in lines if line["op"] == "info")
+        self.assertTrue(0 < clean < made, (clean, made))
 
     def test_a_part_of_the_epochs(self):
         lines = self.history("--from", 19, "--to", 21, OUTAGE)[0]
@@ -206,7 +220,15 @@ class Reports(Case):
         stat = {"pgid": "3.1", "state": "active+clean", "version": "50'7", "log_start": "40'2", "last_epoch_clean": 45, "reported_epoch": 52, "acting": [2, 0]}
         infos = ceph_query.infos_of_stats(ceph_json.Node(stat, ""), pools)
         self.assertEqual([(it.member, it.les, it.last_update, it.log_tail, it.stamp) for it in infos], [((2, 0), 45, (50, 7), (40, 2), 52), ((0, 0), 45, (50, 7), (40, 2), 52)])
+        self.assertEqual([it.last_epoch_clean for it in infos], [45, 45])
         self.assertEqual(ceph_query.infos_of_stats(ceph_json.Node({**stat, "state": "active+undersized"}, ""), pools), [])
+
+    def test_an_info_that_was_clean_after_its_stamp_is_left_out(self):
+        info = ceph_query.Info((3, 0), (0, 0), 9, 4, 4, 9, (4, 1), (0, 0), True)
+        pools, notes = {3: Pool(3, "", 4, 3, 1, 0, None)}, ceph_json.Notes()
+        self.assertTrue(ceph_query.tell_faults(info, pools, [0], 9, notes))
+        self.assertFalse(ceph_query.tell_faults(info._replace(last_epoch_clean=10), pools, [0], 9, notes))
+        self.assertEqual(list(notes.lines()), ["reports whose versions or epochs can't be, left out: 3.0 of osd.0"])
 
     def test_names_of_objects(self):
         for text, name in (("1:104778fc:::obj2:head", "obj2"), ("1:0:::a%3ab%25:head", "a:b%"), ("1:0:n::a:head", "1:0:n::a:head"), ("1:0:::a:4", "1:0:::a:4")):
@@ -215,6 +237,101 @@ class Reports(Case):
     def test_a_report_later_than_the_last_map_is_told(self):
         err = self.history(OUTAGE / "a-healthy.osd.json", OUTAGE / "a-healthy.crush.json", OUTAGE / "b-osd2-down.query.json")[1]
         self.assertIn("reports of later epochs than the last map, left out (ceph osd dump EPOCH --format json): 1.0 of osd.0, 1.0 of osd.1", err)
+
+
+class LocalGroups(Case):
+    """A cluster whose erasure pool is told to be of lrc, with four chunks."""
+
+    def test_intervals_on_fewer_chunks_than_the_script_wants_are_told(self):
+        for path in STRAW2.iterdir():
+            text = path.read_text()
+            if path.name.endswith(".osd.json"):
+                osdmap = json.loads(text)
+                osdmap["erasure_code_profiles"]["coded-2-1"] = {"plugin": "lrc", "k": "2", "m": "1", "l": "3"}
+                for pool in osdmap["pools"]:
+                    pool["size"] = 4 if pool["type"] == 3 else pool["size"]
+                text = json.dumps(osdmap)
+            (self.folder / path.name).write_text(text)
+        lines, err = self.history(self.folder)
+        pools = [(line["v"], pool["groups"]) for line in lines for pool in line.get("pools", []) if pool["kind"] == "grouped"]
+        self.assertEqual(pools, [(2, [[[0, 1, 2, 3], 3]])])
+        self.assertIn("which it takes for intervals without writes: 4.0 in epochs 51 to 55, 4.0 in epochs 58 to 59, 4.1 in epochs 51 to 53", err)
+
+
+class Told(Case):
+    """What tell_groups says of past intervals: by a report alone, of a grouped pool, with lost devices."""
+
+    MAP = {"op": "inc", "epoch": 1, "up": [0, 1, 2], "weight": [[1, 0], [2, 0]], "crush": [{"id": -1, "type": 1, "alg": "uniform", "items": [0, 1, 2]}]}
+    POOL = {"id": 1, "pg_num": 1, "kind": "replicated", "size": 3, "min_size": 2, "leaf": 0}
+    INFO = {"op": "info", "pg": [1, 0], "from": [0, 0], "stamp": 3, "les": 0, "history_les": 0, "last_update": [0, 0], "log_tail": [0, 0], "complete": True}
+    LATER = [{"op": "inc", "epoch": 2}, {"op": "inc", "epoch": 3, "down": [1], "up_thru": [[0, 1]]}]
+
+    def lines(self, epoch):
+        made = {**self.MAP, "pools": [self.POOL], "temp": [[1, 0, [0, 1, 2]]]}
+        return [made, *self.LATER, {**self.INFO, "last_epoch_clean": epoch}]
+
+    def test_the_map_of_the_last_epoch_and_reports_are_told_apart(self):
+        history = group_steps.History(1, 0)
+        for line in self.lines(2):
+            history.take(line)
+        past = {"first": 1, "last": 2, "acting_primary": 0, "rw": True}
+        self.assertEqual(history.by_report({"intervals": [past]}), {1})
+        self.assertEqual(history.by_report({"intervals": [{**past, "rw": False}]}), set())
+        self.assertEqual(history.by_report({"intervals": [{**past, "last": 3}]}), set())
+        self.assertEqual(history.by_report({"intervals": [{**past, "first": 2, "last": 3}]}), {2})
+
+    def test_a_boot_within_the_interval_is_no_record_of_it(self):
+        history = group_steps.History(1, 0)
+        for line in ({"epoch": 2, "up": [0]}, {"epoch": 4, "down": [0]}, {"epoch": 5, "up": [0], "up_thru": [[0, 5]]}):
+            history.take({"op": "inc", **line})
+        past = {"first": 3, "last": 4, "acting_primary": 0, "rw": True}
+        self.assertEqual(history.by_report({"intervals": [past, {**past, "first": 4, "last": 5}, {**past, "first": 5, "last": 5}]}), {3, 4})
+
+    @unittest.skipUnless(HAS_PROGRAM, f"no program {PROGRAM}")
+    def test_it_says_that_only_a_report_says_so(self):
+        script = self.folder / "script.jsonl"
+        words = "    epochs 1 to 2 on osd.0 osd.1 osd.2"
+        for epoch, wanted in ((2, f"{words}; only a report says so: the group was clean in it\n"), (3, "and matter: none\n")):
+            script.write_text("".join(f"{json.dumps(line)}\n" for line in self.lines(epoch)))
+            status, out, err = written(tell_groups.main, "--program", PROGRAM, script, "1.0")
+            self.assertEqual((status, err), (0, ""))
+            self.assertIn(wanted, out)
+
+    @unittest.skipUnless(HAS_PROGRAM, f"no program {PROGRAM}")
+    def test_members_of_a_grouped_pool_have_their_shards(self):
+        pool = {"id": 2, "pg_num": 1, "kind": "grouped", "groups": [[[0, 1], 1], [[2], 1]], "size": 3, "min_size": 2, "leaf": 0}
+        made = {**self.MAP, "v": 2, "up": [0, 1, 2, 3, 4], "pools": [pool], "temp": [[2, 0, [0, 1, 2]]]}
+        later = [{"op": "inc", "epoch": 2, "up_thru": [[0, 1]]}, {"op": "inc", "epoch": 3, "down": [1, 2], "temp": [[2, 0, [0, 3, 4]]]}]
+        script = self.folder / "script.jsonl"
+        script.write_text("".join(f"{json.dumps(line)}\n" for line in (made, *later)))
+        status, out, err = written(tell_groups.main, "--program", PROGRAM, script, "2.0")
+        self.assertEqual((status, err), (0, ""))
+        self.assertIn("2.0 in epoch 3: Down, blocked by osd.1 and osd.2\n", out)
+        self.assertIn("    epochs 1 to 2 on osd.0 (shard 0) osd.1 (shard 1) osd.2 (shard 2); down: osd.1 and osd.2\n", out)
+
+
+    def test_a_device_is_lost_in_earlier_intervals_until_it_boots_or_is_destroyed(self):
+        history = group_steps.History(1, 0)
+        for line, found in (({"up": [0]}, False), ({"down": [0]}, False), ({"lost": [[0, 3]]}, True), ({"up": [0]}, False),
+                            ({"down": [0]}, True), ({"lost": [[0, 2]]}, False), ({"lost": [[0, 3]]}, True), ({"gone": [0]}, False)):
+            history.take({"op": "inc", "epoch": len(history.boots) + 1, **line})
+            self.assertEqual((history.is_lost(0, 2), history.is_lost(0, 3)), (found, False), line)
+
+    @unittest.skipUnless(HAS_PROGRAM, f"no program {PROGRAM}")
+    def test_an_interval_with_enough_lost_members_blocks_nothing(self):
+        pool = {"id": 2, "pg_num": 1, "kind": "erasure", "k": 2, "size": 3, "min_size": 2, "leaf": 0}
+        lines = [{**self.MAP, "up": [0, 1, 2, 3, 4, 5], "pools": [pool], "temp": [[2, 0, [0, 1, 2]]]},
+                 {"op": "inc", "epoch": 2, "up_thru": [[0, 1]]},
+                 {"op": "inc", "epoch": 3, "down": [1], "temp": [[2, 0, [0, 3, 2]]]},
+                 {"op": "inc", "epoch": 4, "up_thru": [[0, 3]]},
+                 {"op": "inc", "epoch": 5, "down": [2, 3], "temp": [[2, 0, [0, 4, 5]]]}]
+        script, wanted = self.folder / "script.jsonl", "    epochs 1 to 2 on osd.0 (shard 0) osd.1 (shard 1) osd.2 (shard 2)"
+        for lost, more in (([], "; down: osd.1 and osd.2"), ([[1, 2]], ""), ([[1, 1]], "; down: osd.1 and osd.2")):
+            script.write_text("".join(f"{json.dumps(line)}\n" for line in (*lines, {"op": "inc", "epoch": 6, "lost": lost})))
+            status, out, err = written(tell_groups.main, "--program", PROGRAM, script, "2.0")
+            self.assertEqual((status, err), (0, ""))
+            self.assertIn(f"{wanted}{more}\n", out)
+            self.assertIn("    epochs 3 to 4 on osd.0 (shard 0) osd.2 (shard 2) osd.3 (shard 1); down: osd.2 and osd.3\n", out)
 
 
 class FromMapToMap(unittest.TestCase):

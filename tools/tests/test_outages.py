@@ -16,11 +16,12 @@ import ceph_check_outages  # noqa: E402
 import ceph_compare  # noqa: E402
 import ceph_outages  # noqa: E402
 import tell_groups  # noqa: E402
+from ceph_map import Code  # noqa: E402
 
 KEPT = HERE / "maps/outages"
 PROGRAM = os.environ.get("PGPEER", str(tell_groups.PROGRAM))
 HAS_PROGRAM = os.access(PROGRAM, os.X_OK)
-WHOLE, CODED = ceph_compare.PoolCode(None), ceph_compare.PoolCode(2)
+WHOLE, CODED = ceph_compare.PoolCode(None), ceph_compare.PoolCode(Code(2))
 
 
 def devices(up, down=(), lost=None, down_at=None):
@@ -48,6 +49,18 @@ class Rules(unittest.TestCase):
         coded = [(5, 9, ((0, 0), (1, 1), (2, 2)))]
         self.assertEqual(ceph_compare.blocked(coded, 0, devices([0], [1]), CODED), {1})
         self.assertEqual(ceph_compare.blocked(coded, 0, devices([0, 2], [1]), CODED), set())
+
+    def test_codes_are_those_of_the_script(self):
+        profiles = {"plain": {"k": "2", "m": "1"}, "local": {"plugin": "lrc", "k": "4", "m": "2", "l": "3"}}
+        pools = [{"pool": 1, "type": 1, "size": 3}, *({"pool": at, "type": 3, "size": size, "erasure_code_profile": name}
+                                                      for at, size, name in ((2, 3, "plain"), (3, 8, "local")))]
+        rules = ceph_compare.rules_of({"pools": pools, "erasure_code_profiles": profiles})
+        places = [4, None, 5, 6, 7, 8, None, 9]
+        self.assertEqual([len(rules[at].members(places)) for at in (1, 2, 3)], [6, 6, 6])
+        self.assertEqual([rules[at].are_enough(rules[at].members(places)) for at in (1, 2, 3)], [True, True, True])
+        few = [4, None, 5, 6, 7, 8, None, None]
+        self.assertEqual([rules[at].are_enough(rules[at].members(few)) for at in (1, 2, 3)], [True, True, False])
+        self.assertEqual([rules[at].are_enough(()) for at in (1, 2, 3)], [False, False, False])
 
     def test_devices_as_they_were_when_the_interval_began(self):
         now = devices([0], [1, 2], down_at={1: 8, 2: 4})
