@@ -72,7 +72,7 @@ def main(words: Optional[List[str]] = None) -> int:
     text, begun = script(), time.monotonic()
     wanted = ended(options.program, text, 1, 0, options.seconds)
     if wanted is None or wanted.status != 0:
-        print(f"without workers: {wanted}")
+        print(f"without workers: {wanted or f'no end in {options.seconds} seconds'}")
         return 1
     for number in range(1, options.times + 1):
         found = ended(options.program, text, options.shards, options.workers, options.seconds)

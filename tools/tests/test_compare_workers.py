@@ -10,6 +10,7 @@ import subprocess
 import sys
 import tempfile
 import unittest
+from unittest import mock
 
 HERE = pathlib.Path(__file__).resolve().parent
 sys.path.insert(0, str(HERE.parent))
@@ -140,9 +141,19 @@ class RepeatRun(WithFakes):
             self.assertTrue(out.startswith("run 1: "))
 
     def test_a_run_without_end_is_told(self):
-        status, out = written(repeat_run, [self.fake("slow"), "--seconds", "1"])
-        self.assertEqual(status, 1)
-        self.assertIn("didn't end in time", out)
+        def ended(program, script, shards, workers, seconds):  # a busy machine may take a second to start a program
+            return compare_workers.ended(program, script, shards, workers, seconds if workers > 1 else 60)
+
+        with mock.patch.object(repeat_run, "ended", ended):
+            status, out = written(repeat_run, [self.fake("slow"), "--seconds", "1"])
+        self.assertEqual((status, out), (1, "run 1: one of the two runs didn't end in time\n"))
+
+    def test_a_run_without_workers_that_has_no_end_or_fails_is_told(self):
+        for end, told in ((None, "no end in 1.0 seconds"), (compare_workers.End(b"", b"", 3), "status=3")):
+            with mock.patch.object(repeat_run, "ended", lambda *words: end):
+                status, out = written(repeat_run, [self.fake("same"), "--seconds", "1"])
+            self.assertEqual(status, 1)
+            self.assertTrue(out.startswith("without workers: ") and told in out, out)
 
     @unittest.skipUnless(HAS_WORKERS, f"{PROGRAM} isn't there, or has no workers")
     def test_the_built_program_writes_the_same_bytes(self):

@@ -136,12 +136,12 @@ class Runs(WithTree):
         self.assertEqual((status, lines[-1]), (1, "114 passed, 6 failed"))
 
     def test_a_part_without_end_is_stopped(self):
-        self.stub("tools/check_statuses.py", "", before="time.sleep(60)")
+        self.stub("tools/check_statuses.py", "", before="time.sleep(600)")
         start = time.monotonic()
         with mock.patch.object(run_tests, "MOST_SECONDS", 8):
             status, lines = self.run_all("--after-gate")
         self.assertEqual(status, 1)
-        self.assertLess(time.monotonic() - start, 30)
+        self.assertLess(time.monotonic() - start, 300)
 
     def test_without_a_compiler_the_sweep_is_skipped(self):
         with mock.patch.object(run_tests.shutil, "which", lambda name: None):
