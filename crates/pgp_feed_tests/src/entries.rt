@@ -6,36 +6,38 @@ use pgp_ids::{
 use std::alloc::Global;
 use std::sync::Arc;
 
-/// The map with one device, and one pool of one group.
-fn first_map(alloc: Global) -> Option<Entry> {
-    let mut up = Seq::new(alloc);
-    up.push(OsdId::new(0)?).ok()?;
-    let mut pools = Seq::new(alloc);
-    pools.push(pool()?).ok()?;
-    Some(Entry::Inc(Incremental {
+/// The incremental that leads to epoch 1 and changes nothing.
+fn first_step(alloc: Global) -> Incremental {
+    Incremental {
         epoch: Epoch::new(1),
-        up,
+        up: Seq::new(alloc),
         down: Seq::new(alloc),
         gone: Seq::new(alloc),
         weight: Seq::new(alloc),
         up_thru: Seq::new(alloc),
         lost: Seq::new(alloc),
-        pools,
+        pools: Seq::new(alloc),
         sizes: Seq::new(alloc),
         temp: Seq::new(alloc),
         crush: None,
-    }))
+    }
 }
 
-fn pool() -> Option<PoolSpec> {
-    Some(PoolSpec {
-        id: PoolId::new(1)?,
-        pg_num: 1,
-        kind: PoolKind::Replicated,
-        size: 1,
-        min_size: 1,
-        leaf: 0,
-    })
+/// The map with one device, and one pool of one group.
+fn first_map(alloc: Global) -> Option<Entry> {
+    let mut inc = first_step(alloc);
+    inc.up.push(OsdId::new(0)?).ok()?;
+    inc.pools
+        .push(PoolSpec {
+            id: PoolId::new(1)?,
+            pg_num: 1,
+            kind: PoolKind::Replicated,
+            size: 1,
+            min_size: 1,
+            leaf: 0,
+        })
+        .ok()?;
+    Some(Entry::Inc(inc))
 }
 
 /// An info of the group, whose last write has this number.
