@@ -10,12 +10,11 @@ use Rattle.pgp_lists.proofs.Last.{last_found, last_where-append, last_where-some
 use Rattle.pgp_lists.proofs.Lists.{flat_map-push}
 use Rattle.pgp_lists.proofs.Options.{if_none, none_is, some_is}
 use Rattle.pgp_lists.proofs.Taken.{taken-front, taken-induction, taken-last}
-use Rattle.pgp_map.proofs.FaultLemmas.{no_fault}
 use Rattle.pgp_map.specs.Checked.{are_checked, is_faultless}
-use Rattle.pgp_map.specs.Devices.{boots, is_up, up_from, up_thru, lost_at, told_epoch, greatest_epoch}
+use Rattle.pgp_map.specs.Devices.{boots, is_up, up_from, lost_at, told_epoch, greatest_epoch}
 use Rattle.pgp_map.specs.Last.{last_where}
 use Rattle.pgp_map.specs.Map.{epoch}
-use Rattle.pgp_map.specs.MapFault.{map_fault, then_with, has_already_up, has_up_thru_back}
+use Rattle.pgp_map.specs.MapFault.{map_fault, then_with, has_already_up}
 use Rattle.pgp_group.proofs.GrowthLemmas.{Shortens, EndsWell, epoch-snoc, next_epoch}
 use Rattle.pgp_group.proofs.LaterLemmas.{up_from-snoc}
 use Rattle.pgp_group.proofs.Lists.{last_where-none, left_new, none-narrower}
@@ -90,13 +89,6 @@ told_epoch-rises old new osd none =
           ap (λ (o : Option DeviceEpoch). option_map_or (λ told. told.epoch) o 0) (last_where-none test old new silent) in
           omega (arith, is)
     ]
-
-pub up_thru-rises : (incs : List Incremental) (inc : Incremental) (osd : ℕ) → map_fault incs inc ≡ None → up_thru incs osd ≤ up_thru (then_with incs inc) osd
-up_thru-rises incs inc osd fine =
-    let before : List DeviceEpoch = flat_map (λ (i : Incremental). i.up_thru) incs in
-    let none : has_up_thru_back incs inc ≡ false = (no_fault incs inc fine).up_thru in
-    subst (λ (told : List DeviceEpoch). up_thru incs osd ≤ told_epoch told osd) (sym (flat_map-push (λ (i : Incremental). i.up_thru) incs inc))
-    (told_epoch-rises before inc.up_thru osd none)
 
 pub lost_at-rises : (incs : List Incremental) (inc : Incremental) (osd : ℕ) → list_any (λ told. nat_lt told.epoch (lost_at incs told.osd)) inc.lost ≡ false → lost_at incs osd ≤ lost_at (then_with incs inc) osd
 lost_at-rises incs inc osd none =

@@ -14,6 +14,7 @@ use Rattle.pgp_map.specs.MapOf.{IsMapOf}
 use Rattle.pgp_map.specs.declared.map.OsdMap.{OsdMap}
 use Rattle.pgp_prior.specs.IndexOf.{Basis, IsIndexOf}
 use Rattle.pgp_prior.specs.Members.{members_of}
+use Rattle.pgp_prior.proofs.RaisedLemmas.{length-raised_at}
 use Rattle.pgp_prior.specs.declared.index.PriorIndex.{PriorIndex}
 use Rattle.pgp_sets.specs.Status.{held_status}
 use Rattle.pgp_sets.specs.StatusLaws.{held_status-is}
@@ -165,11 +166,6 @@ take-raised (suc n) place [] = refl
 take-raised (suc n) zero (p ∷ past) = refl
 take-raised (suc n) (suc place) (p ∷ past) = ap (λ (l : List Past). p ∷ l) (take-raised n place past)
 
-length-raised : (place : ℕ) (past : List Past) → length (raised_at place past) ≡ length past
-length-raised place [] = refl
-length-raised zero (p ∷ past) = refl
-length-raised (suc place) (p ∷ past) = ap suc (length-raised place past)
-
 -- the interval was there before, perhaps without the flag
 record WasThere (past : List Past) (interval : Past) : Type 0 where
   was : Past
@@ -198,7 +194,7 @@ KeepsPrior-raised g after kept index place code raised rises takes is =
     let b = is.basis in
     let within = is.within in
     let since = is.since in
-    let long : length (past after) ≡ length (past g) = ap length raised ∙ length-raised place (past g) in
+    let long : length (past after) ≡ length (past g) = ap length raised ∙ length-raised_at place (past g) in
     record {
       basis = record b { past = raised_at place b.past };
       code_is = is.code_is ∙ sym code;

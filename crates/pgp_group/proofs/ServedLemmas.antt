@@ -26,6 +26,7 @@ use Rattle.pgp_map.specs.Checked.{are_checked, is_faultless}
 use Rattle.pgp_map.specs.Devices.{up_from, up_thru}
 use Rattle.pgp_map.specs.Map.{epoch}
 use Rattle.pgp_map.specs.MapFault.{map_fault, then_with}
+use Rattle.pgp_map.proofs.CheckedLemmas.{up_thru-more}
 use Rattle.pgp_group.specs.Entries.{inc_of, incs_of}
 use Rattle.pgp_group.specs.GroupHistory.{group_history, primary_facts}
 use Rattle.pgp_group.specs.GroupLog.{GroupLog, cleans, group_in, incs}
@@ -33,7 +34,7 @@ use Rattle.pgp_group.specs.Later.{IsAfter}
 use Rattle.pgp_group.specs.Peering.{past}
 use Rattle.pgp_group.specs.Reckoning.{WentReadWrite, IsRemembered}
 use Rattle.pgp_group.specs.Verdict.{holds, place_of, verdict}
-use Rattle.pgp_group.proofs.DeviceLemmas.{checked-front, checked-last, up_from-stays, up_thru-rises}
+use Rattle.pgp_group.proofs.DeviceLemmas.{checked-front, checked-last, up_from-stays}
 use Rattle.pgp_group.proofs.FirstLemmas.{along}
 use Rattle.pgp_group.proofs.GrowthLemmas.{has_group-grows, next_epoch}
 use Rattle.pgp_group.proofs.LaterLemmas.{histories}
@@ -167,7 +168,7 @@ stands-step cleans first osd pg incs inc h after checked is then' stands =
     by (on code goes) fine next open' (inl runs) = inl (record {
       fit = subst (λ (m : Membership). IsFit after.code m osd) (sym goes.current) (subst (λ (c : AnyCode). IsFit c h.current osd) (sym code) runs.fit);
       first_is = goes.first ∙ runs.first_is;
-      thru = omega (arith, up_thru-rises incs inc osd fine, runs.thru);
+      thru = omega (arith, up_thru-more incs inc osd fine, runs.thru);
       since = omega (arith, up_from-stays incs inc osd fine (primary-up incs pg h osd is runs.fit.leads), runs.since);
     })
     by (on code goes) fine next open' (inr over) = inr (record {

@@ -13,7 +13,7 @@ use pgp_map::OsdMap;
 
 /// Whether a report of this member and stamp counts: it is of the interval that began at the epoch `first`, and its device
 /// has been up since.
-pub(crate) fn is_counted(map: &OsdMap, first: Epoch, member: Member, stamp: Epoch) -> bool
+pub fn is_counted(map: &OsdMap, first: Epoch, member: Member, stamp: Epoch) -> bool
     ensures { (g : GroupLog) → IsPresent g map.now first → result ≡ is_counted g member stamp }
 {
     first <= stamp && map.is_up(member.osd) && map.up_from(member.osd) <= stamp

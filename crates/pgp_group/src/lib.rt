@@ -21,4 +21,5 @@ mod reckoned;
 mod reports;
 mod standing;
 
+pub use counted::is_counted;
 pub use group::Group;

@@ -92,7 +92,7 @@ told_higher : (old : ℕ) (found : Option DeviceEpoch) → ((told : DeviceEpoch)
 told_higher old None higher = omega arith
 told_higher old (Some told) higher = ltb-false told.epoch old (higher told refl)
 
-up_thru-more : (incs : List Incremental) (inc : Incremental) (osd : ℕ) → map_fault incs inc ≡ None → up_thru incs osd ≤ up_thru (then_with incs inc) osd
+pub up_thru-more : (incs : List Incremental) (inc : Incremental) (osd : ℕ) → map_fault incs inc ≡ None → up_thru incs osd ≤ up_thru (then_with incs inc) osd
 up_thru-more incs inc osd none =
     subst (λ new. up_thru incs osd ≤ new) (sym (told-push (λ entry. entry.epoch) (λ entry. nat_eq entry.osd osd) (λ inc. inc.up_thru) incs inc 0))
     (told_higher (up_thru incs osd) (last_where (λ entry. nat_eq entry.osd osd) inc.up_thru)

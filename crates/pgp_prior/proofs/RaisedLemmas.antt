@@ -12,7 +12,7 @@ use Rattle.pgp_prior.specs.IndexOf.{HasEachPlace}
 use Rattle.pgp_prior.specs.Prior.{is_group_down}
 use Rattle.pgp_ids.specs.Past.{with_rw, raised_at}
 
-length-raised_at : (place : ℕ) (past : List Past) → length (raised_at place past) ≡ length past
+pub length-raised_at : (place : ℕ) (past : List Past) → length (raised_at place past) ≡ length past
 length-raised_at place [] = refl
 length-raised_at zero (p ∷ past) = refl
 length-raised_at (suc place) (p ∷ past) = grind (arith, length-raised_at place past)

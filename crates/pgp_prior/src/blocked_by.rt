@@ -3,7 +3,7 @@ ghost use Rattle.pgp_lists.specs.Ordered.{IsAscending, with_items};
 ghost use Rattle.pgp_prior.specs.Blocks.{down_osds};
 ghost use Rattle.pgp_prior.specs.Prior.{blocked_by};
 
-use super::blocks::{blocks, is_down};
+use super::blocking::{blocks, is_down};
 use super::members::members_of;
 use pgp_code::Recoverable;
 use pgp_ids::{Epoch, OsdId, Past, Seq};

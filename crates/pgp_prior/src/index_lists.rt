@@ -7,7 +7,7 @@ ghost use Rattle.pgp_prior.specs.Members.{members_of};
 ghost use Rattle.pgp_prior.specs.KeptLists.{kept_matters, kept_blocks, up_of, down_of};
 
 use super::blocked_by::add_down;
-use super::blocks::matters;
+use super::blocking::matters;
 use super::kept::Kept;
 use super::probe::{add_members, add_up};
 use pgp_ids::{Epoch, Member, Membership, OsdId, Seq};

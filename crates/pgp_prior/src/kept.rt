@@ -4,7 +4,7 @@ ghost use Rattle.pgp_prior.specs.Changes.{allows, IsChangeIn};
 ghost use Rattle.pgp_prior.specs.Kept.{IsKept, AgreeOn, later_les};
 ghost use Rattle.pgp_ids.specs.Past.{with_rw};
 
-use super::blocks::{blocks, matters};
+use super::blocking::{blocks, matters};
 use super::change::Change;
 use super::statuses::Statuses;
 use pgp_code::Recoverable;

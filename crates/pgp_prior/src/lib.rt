@@ -10,7 +10,7 @@
 #![tactic(auto)]
 
 mod blocked_by;
-mod blocks;
+mod blocking;
 mod change;
 mod index;
 mod index_lists;
@@ -24,6 +24,7 @@ mod renewal;
 mod statuses;
 mod walk;
 
+pub use blocking::blocks;
 pub use index::PriorIndex;
 pub use members::{Members, members_of};
 pub use prior_set::Prior;

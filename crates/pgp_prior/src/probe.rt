@@ -5,7 +5,7 @@ ghost use Rattle.pgp_prior.specs.Members.{members_of};
 ghost use Rattle.pgp_prior.specs.Blocks.{is_up, acting_where};
 ghost use Rattle.pgp_prior.specs.Prior.{probe};
 
-use super::blocks::matters;
+use super::blocking::matters;
 use super::members::members_of;
 use pgp_ids::{Epoch, Member, Membership, Osds, Past, Seq};
 use pgp_lists::insert_in_order;

@@ -2,7 +2,7 @@ use Rattle.std.proofs.Common.{rules, tests}
 use Rattle.std.proofs.lemmas.Iterator.Consumers.{YieldsList-from_first}
 use Rattle.std.proofs.lemmas.Iterator.Search.{any_from_yields_List}
 use Rattle.pgp_prior.specs.Blocks.{is_down}
-use Rattle.pgp_prior.proofs.blocks.has_down.Goals as goal
+use Rattle.pgp_prior.proofs.blocking.has_down.Goals as goal
 
 pub returns : goal.returns
 returns g c =

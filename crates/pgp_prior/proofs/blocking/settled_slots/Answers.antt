@@ -4,7 +4,7 @@ use Rattle.pgp_ids.specs.declared.member.Member.{Member}
 use Rattle.pgp_prior.specs.Blocks.{is_settled, acting_where}
 use Rattle.pgp_prior.proofs.Lists.{numbers-in_order}
 use Rattle.pgp_prior.proofs.SlotLemmas.{with_slot-is}
-use Rattle.pgp_prior.proofs.blocks.settled_slots.Goals as goal
+use Rattle.pgp_prior.proofs.blocking.settled_slots.Goals as goal
 
 pub loop-member-init : goal.loop-member-init
 loop-member-init g c =

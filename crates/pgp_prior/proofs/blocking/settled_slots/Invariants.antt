@@ -3,7 +3,7 @@ use Rattle.std.specs.List.{All, filter}
 use Rattle.pgp_ids.specs.declared.member.Member.{Member}
 use Rattle.pgp_lists.specs.Ordered.{with_items}
 use Rattle.pgp_prior.specs.Blocks.{is_settled, settled_slots}
-use Rattle.pgp_prior.proofs.blocks.settled_slots.Given as goal
+use Rattle.pgp_prior.proofs.blocking.settled_slots.Given as goal
 
 -- the slots so far, with those of the members that are left, are all settled ones
 abbrev pub invariant-loop-member : goal.invariant-loop-member
