@@ -67,7 +67,7 @@ last_or-later test o (y ∷ ys) some = elim (cases_Bool (test y)) [
   | inr fails ↦ rw fails (last_or-later test o ys (rw fails at some))
 ]
 
-last_where-later : {X : Type 0} (test : X → Bool) (xs ys : List X) → list_any test ys ≡ true → last_where test (xs ++ ys) ≡ last_where test ys
+pub last_where-later : {X : Type 0} (test : X → Bool) (xs ys : List X) → list_any test ys ≡ true → last_where test (xs ++ ys) ≡ last_where test ys
 last_where-later test xs ys some = last_where-append test xs ys ∙ last_or-later test (last_where test xs) ys some
 
 -- an epoch that is told of a device doesn't fall, where none that is told is below the one before

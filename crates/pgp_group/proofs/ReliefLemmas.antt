@@ -47,17 +47,17 @@ use Rattle.pgp_group.proofs.RiseLemmas.{les-rises}
 silent-of : (incs : List Incremental) (inc : Incremental) (osd : ℕ) → TakesNothingAway incs inc → boots osd inc ≡ false → boots osd inc || takes_down osd inc || destroys osd inc ≡ false
 silent-of incs inc osd nothing still = rw (still, ap (list_any (nat_eq osd)) nothing.down, ap (list_any (nat_eq osd)) nothing.gone) refl
 
-up-still : (incs : List Incremental) (inc : Incremental) (osd : ℕ) → TakesNothingAway incs inc → boots osd inc ≡ false → is_up (then_with incs inc) osd ≡ is_up incs osd
+pub up-still : (incs : List Incremental) (inc : Incremental) (osd : ℕ) → TakesNothingAway incs inc → boots osd inc ≡ false → is_up (then_with incs inc) osd ≡ is_up incs osd
 up-still incs inc osd nothing still =
     let none : list_any (λ (i : Incremental). boots osd i || takes_down osd i || destroys osd i) (inc ∷ []) ≡ false = rw (silent-of incs inc osd nothing still) refl in
     ap (λ (o : Option Incremental). option_map_or (boots osd) o false) (last_where-none (λ (i : Incremental). boots osd i || takes_down osd i || destroys osd i) incs (inc ∷ []) none)
 
-exists-still : (incs : List Incremental) (inc : Incremental) (osd : ℕ) → TakesNothingAway incs inc → boots osd inc ≡ false → exists (then_with incs inc) osd ≡ exists incs osd
+pub exists-still : (incs : List Incremental) (inc : Incremental) (osd : ℕ) → TakesNothingAway incs inc → boots osd inc ≡ false → exists (then_with incs inc) osd ≡ exists incs osd
 exists-still incs inc osd nothing still =
     let none : list_any (λ (i : Incremental). boots osd i || destroys osd i) (inc ∷ []) ≡ false = rw (still, ap (list_any (nat_eq osd)) nothing.gone) refl in
     ap (λ (o : Option Incremental). option_map_or (boots osd) o false) (last_where-none (λ (i : Incremental). boots osd i || destroys osd i) incs (inc ∷ []) none)
 
-up-booted : (incs : List Incremental) (inc : Incremental) (osd : ℕ) → boots osd inc ≡ true → is_up (then_with incs inc) osd ≡ true
+pub up-booted : (incs : List Incremental) (inc : Incremental) (osd : ℕ) → boots osd inc ≡ true → is_up (then_with incs inc) osd ≡ true
 up-booted incs inc osd booting =
     let told : (boots osd inc || takes_down osd inc || destroys osd inc) ≡ true = rw booting refl in
     ap (λ (o : Option Incremental). option_map_or (boots osd) o false) (last_where-passes (λ (i : Incremental). boots osd i || takes_down osd i || destroys osd i) incs inc told) ∙ booting
@@ -112,7 +112,7 @@ free-ending late suffices down none = grind arith
 -- ---- the laws
 
 -- whether a group is down, by what is known of it
-abbrev down_by : AnyCode → List Incremental → ℕ → List Past → Bool
+abbrev pub down_by : AnyCode → List Incremental → ℕ → List Past → Bool
 down_by code incs les past = is_group_down (enough_of code) (is_by_place code) (status incs) les past
 
 relieved : (g : GroupLog) (inc : Incremental) → TakesNothingAway (incs g) inc → (prior g).down ≡ false → down_by g.history.code (then_with (incs g) inc) (les g) (past g) ≡ false
@@ -120,26 +120,38 @@ relieved g inc nothing up =
     not_down-relieved (is_by_place g.history.code) (enough_of g.history.code) (enough_of-mono g.history.code) (les g) (status (incs g)) (status (then_with (incs g) inc)) (past g)
     (λ p in' m acts. no_worse-relieves _ _ (no_worse (incs g) inc m.osd p.first nothing)) up
 
-pub relief : (g after : GroupLog) (inc : Incremental) → IsAfter g (entry.Inc inc ∷ []) after → TakesNothingAway (incs g) inc → (prior g).down ≡ false → (prior after).down ≡ false
-relief g after inc is nothing up =
+-- one more that doesn't block changes nothing
+none-more : (some last : Bool) → last ≡ false → (some || last) ≡ some
+none-more some last none = grind arith
+
+-- After such an incremental a group is down just where the past intervals of before block it, by what has become of their devices.
+pub down-after : (g after : GroupLog) (inc : Incremental) → IsAfter g (entry.Inc inc ∷ []) after → TakesNothingAway (incs g) inc → (prior after).down ≡ down_by g.history.code (incs after) (les g) (past g)
+down-after g after inc is nothing =
     let hs = histories g (entry.Inc inc ∷ []) after is in
     let fine = checked-last (incs g) inc hs.checked in
     let since : les after ≡ les g = ap (λ (told : List Info). fold max 0 (map (λ info. info.history_les) told)) (same-infos g after inc is) in
     let clean : past after ≡ past_of (cleans g) after.history =
     ap (λ (told : List Info). past_of (map (λ info. info.last_epoch_clean) told) after.history) (same-infos g after inc is) in
-    let still = relieved g inc nothing up in
-    let all : (code : AnyCode) → code ≡ g.history.code → (intervals : List Past) → down_by g.history.code (then_with (incs g) inc) (les g) intervals ≡ false → down_by code (incs after) (les after) intervals ≡ false =
-    λ code same intervals none. (λ i. down_by (same i) (hs.incs_are i) (since i) intervals) ∙ none in
+    let all : (code : AnyCode) → code ≡ g.history.code → (intervals : List Past) → down_by code (incs after) (les after) intervals ≡ down_by g.history.code (incs after) (les g) intervals =
+    λ code same intervals. λ i. down_by (same i) (incs after) (since i) intervals in
     elim (moves (incs g) inc g.pg g.history after.history hs.checked hs.before hs.then_is) [
-      | on code goes ↦ all after.history.code code (past after) (ap (down_by g.history.code (then_with (incs g) inc) (les g)) (clean ∙ goes.past (cleans g)) ∙ still)
+      | on code goes ↦ all after.history.code code (past after) ∙ ap (down_by g.history.code (incs after) (les g)) (clean ∙ goes.past (cleans g))
       | ends code over ↦
           let ending : Past = current_ending enough_of is_by_place (cleans g) g.history (primary_facts (incs g) g.history.current.acting_primary) in
-          let test : Past → Bool = blocks (enough_of g.history.code) (is_by_place g.history.code) (status (then_with (incs g) inc)) (les g) in
-          let free : test ending ≡ false = free-ending _ _ _ (ending-up g inc ending fine hs.before nothing refl) in
+          let test : Past → Bool = blocks (enough_of g.history.code) (is_by_place g.history.code) (status (incs after)) (les g) in
+          let up : has_down (is_by_place g.history.code) (status (incs after)) ending ≡ false =
+          ap (λ (l : List Incremental). has_down (is_by_place g.history.code) (status l) ending) hs.incs_are ∙ ending-up g inc ending fine hs.before nothing refl in
+          let free : test ending ≡ false = free-ending _ _ _ up in
           let last : list_any test (ending ∷ []) ≡ false = rw free refl in
           all after.history.code code (past after)
-          (ap (list_any test) (clean ∙ over.past (cleans g)) ∙ list_any-append test (past g) (ending ∷ []) ∙ rw (still, last) refl)
+          ∙ ap (list_any test) (clean ∙ over.past (cleans g)) ∙ list_any-append test (past g) (ending ∷ []) ∙ none-more (list_any test (past g)) (list_any test (ending ∷ [])) last
     ]
+
+pub relief : (g after : GroupLog) (inc : Incremental) → IsAfter g (entry.Inc inc ∷ []) after → TakesNothingAway (incs g) inc → (prior g).down ≡ false → (prior after).down ≡ false
+relief g after inc is nothing up =
+    let hs = histories g (entry.Inc inc ∷ []) after is in
+    down-after g after inc is nothing
+    ∙ ap (λ (l : List Incremental). down_by g.history.code l (les g) (past g)) hs.incs_are ∙ relieved g inc nothing up
 
 -- an interval that blocks a group which last began to serve later blocked it before
 blocks-before : (suffices down rw' : Bool) (since later last : ℕ) → since ≤ later → (rw' && nat_le later last) && not suffices && down ≡ true → (rw' && nat_le since last) && not suffices && down ≡ true

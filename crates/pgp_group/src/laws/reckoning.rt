@@ -1,6 +1,7 @@
 //! Who served is reckoned with: the safety argument of peering, over all logs that go on from one in which a group served.
 
 ghost use Rattle.std.specs.Prelude.{◌≡◌, ◌≤◌, ◌⊎◌, ◌∷◌, ◌++◌, [], List, None, false, true, is_some, Contains};
+ghost use Rattle.pgp_code.specs.AnyCode.{enough_of, is_by_place};
 ghost use Rattle.pgp_ids.specs.declared.entry.Entry.{Entry};
 ghost use Rattle.pgp_ids.specs.declared.entry.Entry.TheVariants as entry;
 ghost use Rattle.pgp_ids.specs.declared.incremental.Incremental.{Incremental};
@@ -9,6 +10,8 @@ ghost use Rattle.pgp_ids.specs.declared.pg_id.PgId.{PgId};
 ghost use Rattle.pgp_ids.specs.declared.verdict.Verdict.TheVariants.{Serve};
 ghost use Rattle.pgp_interval.specs.Runs.{current_first};
 ghost use Rattle.pgp_map.specs.Checked.{are_checked};
+ghost use Rattle.pgp_prior.specs.Prior.{is_group_down};
+ghost use Rattle.pgp_sets.specs.Status.{status};
 ghost use Rattle.pgp_group.specs.Entries.{inc_of, incs_of};
 ghost use Rattle.pgp_group.specs.GroupLog.{GroupLog, group_in, incs};
 ghost use Rattle.pgp_group.specs.Heard.{les};
@@ -45,6 +48,11 @@ pub fn reckoned()
 pub fn relief()
     ensures map { (g after : GroupLog) (inc : Incremental) → IsAfter g (entry.Inc inc ∷ []) after
         → TakesNothingAway (incs g) inc → (prior g).down ≡ false → (prior after).down ≡ false }
+    // Whether it is down then goes by the past intervals of before alone.
+    ensures by_past { (g after : GroupLog) (inc : Incremental) → IsAfter g (entry.Inc inc ∷ []) after
+        → TakesNothingAway (incs g) inc
+        → (prior after).down
+        ≡ is_group_down (enough_of g.history.code) (is_by_place g.history.code) (status (incs after)) (les g) (past g) }
     ensures report { (g after : GroupLog) (new : Entry) → IsAfter g (new ∷ []) after → inc_of new ≡ None
         → past after ≡ past g → (prior g).down ≡ false → (prior after).down ≡ false }
 {}
