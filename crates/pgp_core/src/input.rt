@@ -17,6 +17,12 @@ pub struct Bounds {
     pub bytes: u64,
 }
 
+/// How large a script is at most: a million lines, and 4 GiB.
+pub const SCRIPT_BOUNDS: Bounds = Bounds {
+    lines: 1_000_000,
+    bytes: 4_294_967_296,
+};
+
 /// The line of a script that is being read, and how much more may come.
 #[derive(Drop)]
 pub struct Input {

@@ -22,7 +22,9 @@ mod want;
 
 pub use answerer::{Answerer, NoReply};
 pub use fault::{AnswerFault, ScriptFault};
-pub use input::Bounds;
+pub use input::{Bounds, SCRIPT_BOUNDS, split_line};
+pub use line::{LONGEST_LINE, all_blank};
+pub use log::Log;
 pub use output::{WriteFault, write_out};
 pub use replies::{asked, traced};
 pub use script::{answer_script, run_script, run_script_within};

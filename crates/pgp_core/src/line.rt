@@ -222,7 +222,7 @@ fn put_line<A: Answerer>(
 }
 
 /// Whether all bytes are spaces, tabs or carriage returns.
-fn all_blank(bytes: &[u8]) -> bool
+pub fn all_blank(bytes: &[u8]) -> bool
     ensures { result ≡ is_blank bytes.now }
 {
     bytes

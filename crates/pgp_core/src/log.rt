@@ -3,6 +3,7 @@ ghost use Rattle.std.specs.Prelude.{◌≡◌, ◌≢◌, ◌≤◌, ◌+◌, Li
 ghost use Rattle.std.specs.Arc.{arc_value};
 ghost use Rattle.pgp_ids.specs.declared.entry.Entry.{Entry as AnyEntry};
 ghost use Rattle.pgp_refusals.specs.declared.refusal.Refusal.TheVariants.{Memory};
+ghost use Rattle.pgp_map.specs.MapOf.{IsMapOf};
 ghost use Rattle.pgp_map.specs.Pools.{pool};
 ghost use Rattle.pgp_group.specs.Entries.{inc_of, incs_of};
 ghost use Rattle.pgp_group.specs.View.{scratch};
@@ -18,13 +19,14 @@ ghost use Rattle.pgp_core.specs.Answer.{asked_reply, located_reply};
 use super::answer::put_told;
 use pgp_ids::{AskRefusal, Entry, Epoch, LocateRefusal, ObjectName, PgId, PoolId, Refusal, View};
 use pgp_log::{Judge, RawSets, ShardState};
+use pgp_map::OsdMap;
 use pgp_text::{Refused, Reply, ReplyWriter};
 use std::alloc::{AllocError, Global};
 use std::marker::Model;
 use std::sync::Arc;
 
-/// The entries that were taken, which contracts see as a list, with a judge of the next one and a shard that reads them when
-/// a group is asked for.
+/// The log that the lines of a script make, which contracts see as the list of the entries that were taken, with a judge of the
+/// next one and a shard that reads them when a group is asked for.
 #[derive(Drop)]
 pub struct Log {
     alloc: Global,
@@ -66,6 +68,20 @@ impl Log {
         ensures few { result ≤ longest_log + 1 }
     {
         self.judge.count()
+    }
+
+    /// The map that the entries make.
+    pub fn map(&self) -> &OsdMap
+        ensures { IsMapOf (incs_of self.now) result.now }
+    {
+        self.judge.map()
+    }
+
+    /// The entries, in the order in which they were taken.
+    pub fn entries(&self) -> &[Arc<Entry>]
+        ensures { map arc_value result.now ≡ self.now }
+    {
+        self.entries.as_slice()
     }
 
     /// Where the object of this name lies by the map that the entries make: the reply to a question that changes nothing.

@@ -12,7 +12,7 @@ ghost use Rattle.pgp_core.specs.Telling.{Began, Puts, StopsAt, IsAfter, IsDone, 
 use super::answerer::Answerer;
 use super::codec::Codec;
 use super::fault::{AnswerFault, ScriptFault};
-use super::input::{Bounds, Input, split_line};
+use super::input::{Bounds, Input, SCRIPT_BOUNDS, split_line};
 use super::line::Unanswered;
 use super::log::Log;
 use super::output::Output;
@@ -321,7 +321,13 @@ pub fn run_script<R: Source, W: Sink>(
     ensures kept_at_read { result ≡ Err ScriptFault.Read → W.failed writer.new ≡ W.failed writer.old }
     ensures kept_at_write { result ≡ Err ScriptFault.Write → R.failed reader.new ≡ R.failed reader.old }
 {
-    run_script_within(alloc, reader, writer, 1_000_000, 4_294_967_296)
+    run_script_within(
+        alloc,
+        reader,
+        writer,
+        SCRIPT_BOUNDS.lines,
+        SCRIPT_BOUNDS.bytes,
+    )
 }
 
 /// Answers the script that the reader gives, of at most so many lines and so many bytes.

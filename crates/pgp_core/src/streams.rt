@@ -20,6 +20,10 @@ pub trait Source {
         ensures bytes { ReadConsumes (remaining self.old) (remaining self.new) result buf.new }
         ensures told { OnErr result (failed self.new ≡ true) }
         ensures kept { OnOk result (failed self.new ≡ failed self.old) };
+
+    /// Whether a read of it failed.
+    fn has_failed(&self) -> bool
+        ensures { result ≡ failed self.now };
 }
 
 /// A writer that tells whether a call of it failed.

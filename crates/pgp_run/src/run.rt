@@ -10,7 +10,7 @@ ghost use Rattle.pgp_run.specs.declared.fault.RunFault.TheVariants.{NoEngine};
 use crate::answerer::EngineAnswerer;
 use crate::fault::RunFault;
 use crate::workers::{all_started, close};
-use pgp_core::{Bounds, Sink, Source, answer_script};
+use pgp_core::{SCRIPT_BOUNDS, Sink, Source, answer_script};
 use pgp_engine::{Client, Engine, Naming};
 use pgp_feed::{Feed, Tap};
 use std::alloc::Global;
@@ -18,12 +18,6 @@ use std::marker::Brand;
 use std::sync::Wait;
 use std::thread;
 use std::thread::Threads;
-
-/// As much as a script may be: a million lines, and 4 GiB.
-const BOUNDS: Bounds = Bounds {
-    lines: 1_000_000,
-    bytes: 4_294_967_296,
-};
 
 /// Answers the script that the reader gives over an engine of so many shards and workers: at most a million lines, and 4 GiB.
 ///
@@ -172,6 +166,6 @@ fn answer_by<J: Naming, R: Source, W: Sink, T: Wait>(
         (account (R.remaining reader.new) (W.contents writer.new) (R.failed reader.new) (W.failed writer.new))) }
 {
     let mut answerer = EngineAnswerer::new(rt, engine, client);
-    answer_script(alloc, &mut answerer, reader, writer, BOUNDS)?;
+    answer_script(alloc, &mut answerer, reader, writer, SCRIPT_BOUNDS)?;
     Ok(())
 }

@@ -25,6 +25,10 @@ impl Source for Given<'_> {
         self.left = left;
         Ok(count)
     }
+
+    fn has_failed(&self) -> bool {
+        false
+    }
 }
 
 /// What was written so far, and whether there was no memory for some of it.

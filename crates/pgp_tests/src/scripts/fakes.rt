@@ -50,6 +50,10 @@ impl Source for Giver<'_> {
         self.left = left;
         Ok(count)
     }
+
+    fn has_failed(&self) -> bool {
+        self.failed
+    }
 }
 
 /// Gives one byte for ever.
@@ -66,6 +70,10 @@ impl Source for Endless {
     fn read(&mut self, buf: &mut [u8]) -> io::Result<usize> {
         buf.fill(self.0);
         Ok(buf.len())
+    }
+
+    fn has_failed(&self) -> bool {
+        false
     }
 }
 
