@@ -40,6 +40,10 @@ impl<R: Read + Drop> Source for Watched<R> {
         self.failed = self.failed || result.is_err();
         result
     }
+
+    fn has_failed(&self) -> bool {
+        self.failed
+    }
 }
 
 impl<W: Write + Drop> Sink for Watched<W> {

@@ -45,6 +45,10 @@ impl Source for Given<'_> {
         self.left = left;
         Ok(count)
     }
+
+    fn has_failed(&self) -> bool {
+        self.failed
+    }
 }
 
 /// What was written so far.

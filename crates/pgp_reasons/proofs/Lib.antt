@@ -1,0 +1,10 @@
+pub mod ListLemmas
+pub mod GapLemmas
+pub mod LackingLemmas
+pub mod ToldLemmas
+pub mod BlockingLemmas
+pub mod ReasonsLemmas
+pub mod GapLawLemmas
+pub mod SetLemmas
+pub mod WalkLemmas
+pub mod WayLemmas

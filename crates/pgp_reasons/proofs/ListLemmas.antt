@@ -1,0 +1,32 @@
+-- Lists that are read up to one more element.
+use Rattle.std.proofs.Common.{◌≡◌, ℕ, ◌+◌, ◌<◌, List, [], ◌∷◌, ◌++◌, Option, Some, None, Bool, true, false, get_or, length, map, take, ap, sym, ◌∙◌}
+use Rattle.std.specs.List.{filter, filter_map, flat_map}
+use Rattle.std.proofs.lemmas.List.{map_push, take_more}
+use Rattle.pgp_lists.proofs.Lists.{flat_map-push}
+use Rattle.pgp_group.proofs.Lists.{kept_new, left_new, nothing_new, one_new}
+
+pub take-next : {X : Type 0} (xs : List X) (i : ℕ) (x : X) → i < length xs → x ≡ get_or xs i x → take (i + 1) xs ≡ take i xs ++ x ∷ []
+take-next {X = X} xs i x within item = take_more xs i x within ∙ ap (λ (y : X). take i xs ++ y ∷ []) (sym item)
+
+pub map-next : {X Y : Type 0} (f : X → Y) (xs : List X) (i : ℕ) (x : X) → i < length xs → x ≡ get_or xs i x → map f (take (i + 1) xs) ≡ map f (take i xs) ++ f x ∷ []
+map-next f xs i x within item = ap (map f) (take-next xs i x within item) ∙ map_push f (take i xs) x
+
+pub found-next : {X Y Z : Type 0} (found : Y → Option Z) (f : X → Y) (xs : List X) (i : ℕ) (x : X) (z : Z) → i < length xs → x ≡ get_or xs i x → found (f x) ≡ Some z
+    → filter_map found (map f (take (i + 1) xs)) ≡ filter_map found (map f (take i xs)) ++ z ∷ []
+found-next found f xs i x z within item is = ap (filter_map found) (map-next f xs i x within item) ∙ one_new found (map f (take i xs)) (f x) z is
+
+pub missed-next : {X Y Z : Type 0} (found : Y → Option Z) (f : X → Y) (xs : List X) (i : ℕ) (x : X) → i < length xs → x ≡ get_or xs i x → found (f x) ≡ None
+    → filter_map found (map f (take (i + 1) xs)) ≡ filter_map found (map f (take i xs))
+missed-next found f xs i x within item none = ap (filter_map found) (map-next f xs i x within item) ∙ nothing_new found (map f (take i xs)) (f x) none
+
+pub read-next : {X Y Z : Type 0} (read : Y → List Z) (f : X → Y) (xs : List X) (i : ℕ) (x : X) → i < length xs → x ≡ get_or xs i x
+    → flat_map read (map f (take (i + 1) xs)) ≡ flat_map read (map f (take i xs)) ++ read (f x)
+read-next read f xs i x within item = ap (flat_map read) (map-next f xs i x within item) ∙ flat_map-push read (map f (take i xs)) (f x)
+
+pub passes-next : {X Y : Type 0} (test : Y → Bool) (f : X → Y) (xs : List X) (i : ℕ) (x : X) → i < length xs → x ≡ get_or xs i x → test (f x) ≡ true
+    → filter test (map f (take (i + 1) xs)) ≡ filter test (map f (take i xs)) ++ f x ∷ []
+passes-next test f xs i x within item passes = ap (filter test) (map-next f xs i x within item) ∙ kept_new test (map f (take i xs)) (f x) passes
+
+pub fails-next : {X Y : Type 0} (test : Y → Bool) (f : X → Y) (xs : List X) (i : ℕ) (x : X) → i < length xs → x ≡ get_or xs i x → test (f x) ≡ false
+    → filter test (map f (take (i + 1) xs)) ≡ filter test (map f (take i xs))
+fails-next test f xs i x within item fails = ap (filter test) (map-next f xs i x within item) ∙ left_new test (map f (take i xs)) (f x) fails

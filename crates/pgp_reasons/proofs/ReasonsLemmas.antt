@@ -1,0 +1,162 @@
+-- What is reckoned from a view and the log is what the group's log says.
+use Rattle.std.proofs.Common.{◌≡◌, ◌≢◌, ℕ, List, [], ◌∷◌, Option, Some, None, Bool, true, false, not, length, ◌==◌, if◌then◌else◌, map as mapped, option_map, option_and_then, refl, ap, sym, ◌∙◌, subst, inl, inr, arith}
+use Rattle.std.specs.List.{Contains, All}
+use Rattle.std.specs.Option.{option_map_or}
+use Rattle.std.proofs.lemmas.Bool.{cases_Bool, true≢false}
+use Rattle.std.proofs.lemmas.Bool.Decides.{nat_tests}
+use Rattle.std.proofs.lemmas.List.Elements.{All-contains}
+use Rattle.pgp_ids.specs.Member.{is_same_member}
+use Rattle.pgp_ids.specs.declared.entry.Entry.{Entry}
+use Rattle.pgp_ids.specs.declared.member.Member.{Member}
+use Rattle.pgp_ids.specs.declared.pg_id.PgId.{PgId}
+use Rattle.pgp_ids.specs.declared.pool.PoolSpec.{PoolSpec}
+use Rattle.pgp_ids.specs.declared.report.Info.{Info}
+use Rattle.pgp_ids.specs.declared.view.View.{View}
+use Rattle.pgp_code.specs.AnyCode.{enough_of, is_by_place}
+use Rattle.pgp_code.specs.Pool.{code_of}
+use Rattle.pgp_code.specs.declared.any.AnyCode.{AnyCode}
+use Rattle.pgp_lists.proofs.Members.{Contains-nil, Contains-cases, filter-contains, find-some}
+use Rattle.pgp_lists.proofs.Pairs.{AllPairs-first, AllPairs-rest}
+use Rattle.pgp_map.specs.MapOf.{IsMapOf}
+use Rattle.pgp_map.specs.Pools.{pool, has_group}
+use Rattle.pgp_map.specs.declared.map.OsdMap.{OsdMap}
+use Rattle.pgp_prior.specs.declared.prior_set.Prior.{Prior}
+use Rattle.pgp_prior.proofs.PriorLemmas.{prior-by_lists}
+use Rattle.pgp_sets.specs.Status.{held_status, status}
+use Rattle.pgp_sets.specs.StatusLaws.{held_status-is}
+use Rattle.pgp_info.specs.Best.{HasDistinctMembers, candidates, is_unbeaten}
+use Rattle.pgp_group.specs.Entries.{incs_of}
+use Rattle.pgp_group.specs.GroupHistory.{history_of}
+use Rattle.pgp_group.specs.GroupLog.{GroupLog, group_in, group_with, incs, infos}
+use Rattle.pgp_group.specs.Heard.{counted_infos, heard, les, reported}
+use Rattle.pgp_group.specs.Peering.{best, info_of, leader, past, prior}
+use Rattle.pgp_group.specs.Prefers.{prefers}
+use Rattle.pgp_group.specs.Present.{IsPresent}
+use Rattle.pgp_group.specs.View.{view_of}
+use Rattle.pgp_group.proofs.HeardLemmas.{HasDistinctMembers-last_of}
+use Rattle.pgp_group.proofs.PeerLemmas.{same_member}
+use Rattle.pgp_reasons.specs.Blocking.{blocking_of}
+use Rattle.pgp_reasons.specs.Gaps.{gaps_in}
+use Rattle.pgp_reasons.specs.GroupWays.{brings_back, ways}
+use Rattle.pgp_reasons.specs.Smallest.{AreSome, smallest}
+use Rattle.pgp_reasons.specs.Ways.{is_relieved}
+use Rattle.pgp_reasons.specs.declared.ways.Way.{Way}
+use Rattle.pgp_reasons.specs.Reasons.{blocking, gaps, IsViewed, IsAskedOf}
+use Rattle.pgp_reasons.specs.Told.{infos_in}
+
+-- ---- the group of a view
+
+some_is : {X : Type 0} (a b : X) → Some a ≡ Some b → a ≡ b
+some_is a b same = cc
+
+group-with : (log : List Entry) (pg : PgId) (g : GroupLog) (spec : PoolSpec) → pool (incs_of log) pg.pool ≡ Some spec → group_in log pg ≡ Some g
+    → group_with log pg (history_of (incs_of log) pg spec) ≡ g
+group-with log pg g spec found is = elim (cases_Bool (has_group (incs_of log) pg)) [
+  | inl there ↦ some_is (group_with log pg (history_of (incs_of log) pg spec)) g (rw (there, found) at is)
+  | inr absent ↦ let none : None ≡ Some g = rw absent at is in cc
+]
+
+pub viewed-asked : (log : List Entry) (map : OsdMap) (pg : PgId) (view : View) (g : GroupLog) (spec : PoolSpec) → pool (incs_of log) pg.pool ≡ Some spec
+    → IsViewed log map pg view g → IsAskedOf log (code_of spec.kind) map pg view g
+viewed-asked log map pg view g spec found is =
+    let with' : group_with log pg (history_of (incs_of log) pg spec) ≡ g = group-with log pg g spec found is.group_is in
+    let seen : view_of g ≡ view = some_is (view_of g) view (sym (ap (option_map view_of) is.group_is) ∙ is.view_is) in
+    record {
+      log_is = ap (λ (h : GroupLog). h.log) (sym with');
+      pg_is = ap (λ (h : GroupLog). h.pg) (sym with');
+      code_is = ap (λ (h : GroupLog). h.history.code) (sym with');
+      map_is = subst (λ (h : GroupLog). IsMapOf (incs h) map) with' is.map_is;
+      view_is = sym seen;
+    }
+
+pub unviewed : (log : List Entry) (map : OsdMap) (pg : PgId) (view : View) (g : GroupLog) → pool (incs_of log) pg.pool ≡ None → IsViewed log map pg view g → ⊥
+unviewed log map pg view g none is = elim (cases_Bool (has_group (incs_of log) pg)) [
+  | inl there ↦ let no : None ≡ Some g = rw (there, none) at is.group_is in cc
+  | inr absent ↦ let no : None ≡ Some g = rw absent at is.group_is in cc
+]
+
+-- ---- what is asked of it
+
+module _ {log : List Entry} {code : AnyCode} {map : OsdMap} {pg : PgId} {view : View} {g : GroupLog} (is : IsAskedOf log code map pg view g) where
+  pub asked-present : IsPresent g map view.first
+  asked-present = record { map_is = is.map_is; first_is = ap (λ (v : View). v.first) is.view_is }
+
+  pub asked-infos : infos_in pg log ≡ infos g
+  asked-infos = λ i. infos_in (sym is.pg_is i) (sym is.log_is i)
+
+pub blocking-asked : (g : GroupLog) (code : AnyCode) (map : OsdMap) (view : View) (list : List Info) → g.history.code ≡ code → IsMapOf (incs g) map → view ≡ view_of g → list ≡ infos g
+    → blocking_of code (held_status map) (mapped (λ (info : Info). info.last_epoch_clean) list) view.les view.intervals ≡ blocking g
+blocking-asked g code map view list of_code of_map of_view told = λ i.
+    blocking_of (sym of_code i) (λ osd first. held_status-is (incs g) map of_map osd first i)
+    (mapped (λ (info : Info). info.last_epoch_clean) (told i)) (of_view i).les (of_view i).intervals
+
+-- ---- the best info
+
+same_member_itself : (a : Member) → is_same_member a a ≡ true
+same_member_itself a = grind (arith, nat_tests)
+
+found-of : (list : List Info) → HasDistinctMembers list → (info : Info) → Contains list info → info_of list info.member ≡ Some info
+found-of [] distinct info in' = absurd (Contains-nil info in')
+found-of (x ∷ list) distinct info in' =
+    let differ : All (λ (y : Info). x.member ≢ y.member) list = AllPairs-first (λ (y z : Info). y.member ≢ z.member) x list distinct in
+    let rest : HasDistinctMembers list = AllPairs-rest (λ (y z : Info). y.member ≢ z.member) x list distinct in
+    elim (cases_Bool (is_same_member x.member info.member)) [
+      | inl same ↦ elim (Contains-cases x list info in') [
+        | inl here ↦ rw same (ap Some here)
+        | inr later ↦ absurd (All-contains (λ (y : Info). x.member ≢ y.member) list info differ later (same_member x.member info.member same))
+      ]
+      | inr other ↦ elim (Contains-cases x list info in') [
+        | inl here ↦ absurd (true≢false (sym (same_member_itself info.member) ∙ ap (λ (y : Info). is_same_member y.member info.member) (sym here) ∙ other))
+        | inr later ↦ rw other (found-of list rest info later)
+      ]
+    ]
+
+best-heard : (g : GroupLog) (info : Info) → best g ≡ Some info → Contains (heard g) info
+best-heard g info is =
+    let better : Info → Info → Bool = prefers g.history.code (leader g) in
+    let found = find-some (is_unbeaten better (candidates (heard g))) (candidates (heard g)) info is in
+    (filter-contains _ (heard g) info found.0).0
+
+best-of : (g : GroupLog) (found : Option Info) → best g ≡ found → option_and_then (info_of (heard g)) (option_map (λ info. info.member) found) ≡ found
+best-of g None is = refl
+best-of g (Some info) is = found-of (heard g) (HasDistinctMembers-last_of (counted_infos g)) info (best-heard g info is)
+
+-- the best info is found by its member
+best-by_member : (g : GroupLog) → option_and_then (info_of (heard g)) (option_map (λ info. info.member) (best g)) ≡ best g
+best-by_member g = best-of g (best g) refl
+
+-- the gaps of the info that was found
+pub gaps-found : (g : GroupLog) (list : List Info) (member : Option Member) (found : Option Info) → member ≡ option_map (λ info. info.member) (best g) → list ≡ heard g
+    → found ≡ option_and_then (info_of list) member → option_map_or (λ info. gaps_in info (reported g info.member)) found [] ≡ gaps g
+gaps-found g list member found of_best of_heard is =
+    let same : found ≡ best g = is ∙ (λ i. option_and_then (info_of (of_heard i)) (of_best i)) ∙ best-by_member g in
+    ap (λ (one : Option Info). option_map_or (λ (info : Info). gaps_in info (reported g info.member)) one []) same
+
+-- ---- what brings the group back
+
+down-is : (g : GroupLog) → not (length (prior g).blocked_by == 0) ≡ (prior g).down
+down-is g =
+    ap (λ (found : Prior). found.down)
+    (prior-by_lists (enough_of g.history.code) (is_by_place g.history.code) (status (incs g)) (les g) (past g) g.history.current
+    (prior g).probe (prior g).blocked_by (length (prior g).blocked_by == 0) refl refl refl)
+
+ways-some : (way : Way) (g : GroupLog) (sets : List (List ℕ)) (more : Bool) → (length (prior g).blocked_by == 0) ≡ false
+    → AreSome (smallest (brings_back way g) (prior g).blocked_by) sets more → AreSome (ways way g) sets more
+ways-some way g sets more some are =
+    let down : (prior g).down ≡ true = sym (down-is g) ∙ ap not some in
+    let all : ways way g ≡ smallest (brings_back way g) (prior g).blocked_by =
+    ap (λ (b : Bool). if b then smallest (brings_back way g) (prior g).blocked_by else []) down in
+    subst (λ (l : List (List ℕ)). AreSome l sets more) (sym all) are
+
+-- the same, of what the code was asked
+pub ways-asked : (way : Way) (g : GroupLog) (code : AnyCode) (map : OsdMap) (view : View) (sets : List (List ℕ)) (more : Bool)
+    → g.history.code ≡ code → IsMapOf (incs g) map → view ≡ view_of g → (length view.blocked_by == 0) ≡ false
+    → AreSome (smallest (is_relieved (enough_of code) (is_by_place code) (held_status map) view.les view.intervals way) view.blocked_by) sets more
+    → AreSome (ways way g) sets more
+ways-asked way g code map view sets more of_code of_map of_view some are =
+    ways-some way g sets more (ap (λ (v : View). length v.blocked_by == 0) (sym of_view) ∙ some)
+    (subst (λ (l : List (List ℕ)). AreSome l sets more)
+    (λ i.
+    smallest (is_relieved (enough_of (sym of_code i)) (is_by_place (sym of_code i)) (λ osd first. held_status-is (incs g) map of_map osd first i)
+    (of_view i).les (of_view i).intervals way) (of_view i).blocked_by)
+    are)

@@ -1,0 +1,21 @@
+use Rattle.std.proofs.Common.{◌≡◌, ℕ, Bool, nat_eq, map, nat_lt, ap, ◌∙◌}
+use Rattle.std.specs.List.{list_any}
+use Rattle.std.proofs.lemmas.Result.{IfOk-weaker}
+use Rattle.pgp_lists.specs.Ordered.{ascending}
+use Rattle.pgp_missing.specs.Log.{has_number, number_of}
+use Rattle.pgp_group.specs.Heard.{reported}
+use Rattle.pgp_reasons.specs.Gaps.{runs_lacked}
+use Rattle.pgp_reasons.proofs.GapLemmas.{any-number}
+use Rattle.pgp_reasons.proofs.gaps.gaps.Goals as goal
+
+pub returns : goal.returns
+returns c =
+    IfOk-weaker c.runs_beside.result _ _
+    (λ list is g log pg here.
+    let info = c.args.info.now in
+    let told = reported g info.member in
+    let numbers : c.as_slice.result.now ≡ ascending nat_lt (map number_of told) = c.as_slice.ensures ∙ c.in_ok-numbers.ensures.numbers g log pg here in
+    let tests : (λ (v : ℕ). list_any (nat_eq v) c.as_slice.result.now) ≡ (λ (v : ℕ). has_number v told) =
+    λ i v. (ap (list_any (nat_eq v)) numbers ∙ any-number told v) i in
+    is ∙ ap (λ (present : ℕ → Bool). runs_lacked present info.log_tail.v info.last_update.v) tests)
+    c.runs_beside.ensures

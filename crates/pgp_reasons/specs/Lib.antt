@@ -1,0 +1,9 @@
+pub mod Lacking
+pub mod Blocking
+pub mod Gaps
+pub mod Told
+pub mod Smallest
+pub mod Ways
+pub mod WayLaws
+pub mod GroupWays
+pub mod Reasons

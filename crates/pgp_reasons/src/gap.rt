@@ -1,0 +1,7 @@
+/// Numbers of writes that a log lacks.
+#[derive(Clone, Copy, Debug, PartialEq, Eq)]
+pub struct Gap {
+    pub first: u32,
+    /// The last, which it lacks too.
+    pub last: u32,
+}

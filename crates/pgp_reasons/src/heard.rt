@@ -1,0 +1,95 @@
+//! What the log tells of a group, and whom the group has heard.
+
+ghost use Rattle.std.specs.Prelude.{◌≡◌, map as mapped, IfOk, OnOk};
+ghost use Rattle.std.specs.Arc.{arc_value};
+ghost use Rattle.pgp_info.specs.Heard.{with_info};
+ghost use Rattle.pgp_group.specs.GroupLog.{GroupLog, infos as told};
+ghost use Rattle.pgp_group.specs.Heard.{heard};
+ghost use Rattle.pgp_group.specs.Present.{IsPresent};
+ghost use Rattle.pgp_reasons.specs.Told.{infos_in, told_info, told_entries};
+
+use pgp_group::is_counted;
+use pgp_ids::{Entry, Epoch, Info, LogEntry, Member, PgId, Seq};
+use pgp_map::OsdMap;
+use std::alloc::{AllocError, Global};
+use std::sync::Arc;
+
+/// The infos of the group, counted or not, in the order in which they came.
+pub(crate) fn infos_in(
+    alloc: Global,
+    entries: &[Arc<Entry>],
+    pg: &PgId,
+) -> Result<Seq<Info>, AllocError>
+    ensures { IfOk result (λ infos. infos ≡ infos_in pg.now (mapped arc_value entries.now)) }
+{
+    let mut infos = Vec::new(alloc);
+    for entry in entries {
+        if let Some(info) = told_info(entry, pg) {
+            infos.push(info)?;
+        }
+    }
+    Ok(Seq::from_vec(infos))
+}
+
+/// The group's info that the entry is, if it is one.
+fn told_info(entry: &Entry, pg: &PgId) -> Option<Info>
+    ensures { result ≡ told_info pg.now entry.now }
+{
+    match entry {
+        Entry::Info(info) => { if info.pg == *pg { Some(*info) } else { None } }
+        _ => None,
+    }
+}
+
+/// The last info of each member that has one which counts, by the last map and the first epoch of the current interval.
+pub(crate) fn heard(
+    alloc: Global,
+    map: &OsdMap,
+    infos: &[Info],
+    first: Epoch,
+) -> Result<Seq<Info>, AllocError>
+    ensures { IfOk result (λ last. (g : GroupLog) → IsPresent g map.now first → infos.now ≡ told g → last ≡ heard g) }
+{
+    let mut last = Vec::new(alloc);
+    for info in infos {
+        if is_counted(map, first, info.member, info.stamp) {
+            put(&mut last, info)?;
+        }
+    }
+    Ok(Seq::from_vec(last))
+}
+
+/// Puts an info in place of the one that its member had sent before.
+fn put(infos: &mut Vec<Info>, info: &Info) -> Result<(), AllocError>
+    ensures { OnOk result (infos.new.items ≡ with_info info.now infos.old.items) }
+{
+    infos.reserve(1)?;
+    infos.retain(|other| other.member != info.member);
+    infos.push_reserved(*info);
+    Ok(())
+}
+
+/// The log entries of the group's member that the entry reports, where it is a report that counts.
+pub(crate) fn told_entries<'a>(
+    entry: &'a Entry,
+    map: &OsdMap,
+    pg: &PgId,
+    first: Epoch,
+    member: &Member,
+) -> &'a [LogEntry]
+    ensures { (g : GroupLog) → IsPresent g map.now first → g.pg ≡ pg.now → result.now ≡ told_entries g member.now entry.now }
+{
+    match entry {
+        Entry::Entries(report) => {
+            if report.pg == *pg
+                && report.member == *member
+                && is_counted(map, first, report.member, report.stamp)
+            {
+                report.log.as_slice()
+            } else {
+                &[]
+            }
+        }
+        _ => &[],
+    }
+}

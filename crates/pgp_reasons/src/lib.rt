@@ -1,0 +1,29 @@
+//! Why a placement group doesn't serve, and what would bring it back.
+//!
+//! The layers below say that a group is down, waits, or lacks log entries. This one says which past intervals block it and
+//! what each lacks, which devices have to boot or be given up for lost so that it is down no more, whom it has heard, and
+//! which writes the log of its best copy lacks (Ceph's developer documentation on peering: what `ceph pg query` shows of a
+//! group that is down; the smallest sets of devices are this project's own).
+#![tactic(auto)]
+
+mod blocking;
+mod changed;
+mod enough;
+mod found;
+mod gap;
+pub mod gap_laws;
+mod gaps;
+mod heard;
+mod lacking;
+pub mod laws;
+mod reasons;
+mod relief;
+mod search;
+mod waits;
+mod ways;
+
+pub use blocking::Blocking;
+pub use gap::Gap;
+pub use reasons::{Reasons, reasons_of};
+pub use relief::{is_relieved, smallest};
+pub use ways::{Way, Ways};

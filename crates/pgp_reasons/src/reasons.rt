@@ -1,0 +1,149 @@
+ghost use Rattle.std.specs.Prelude.{◌≡◌, map as mapped, option_and_then, option_map, IfOk};
+ghost use Rattle.std.specs.Arc.{arc_value};
+ghost use Rattle.std.specs.Option.{option_copied};
+ghost use Rattle.pgp_group.specs.GroupLog.{GroupLog};
+ghost use Rattle.pgp_group.specs.Heard.{heard as heard_by};
+ghost use Rattle.pgp_group.specs.Peering.{best as best_copy, info_of};
+ghost use Rattle.pgp_group.specs.Present.{IsPresent};
+ghost use Rattle.pgp_reasons.specs.Reasons.{gaps, AreReasons, AreWaits, IsViewed, IsAskedOf};
+
+use super::blocking::Blocking;
+use super::gap::Gap;
+use super::gaps::gaps;
+use super::heard::{heard, infos_in};
+use super::waits::{Waits, no_ways, waits_of};
+use super::ways::Ways;
+use pgp_code::AnyCode;
+use pgp_ids::{Entry, Epoch, Info, Member, PgId, Seq, View};
+use pgp_map::OsdMap;
+use std::alloc::{AllocError, Global};
+use std::sync::Arc;
+
+/// Why a group doesn't serve, and what would bring it back, beside what its view says.
+#[derive(Debug, Drop)]
+pub struct Reasons {
+    /// The last info of each member that has one which counts.
+    pub heard: Seq<Info>,
+    /// The past intervals that block the group, in ascending order.
+    pub blocking: Seq<Blocking>,
+    /// The smallest sets of devices that are down which, once they boot, leave the group not down. None where it isn't.
+    pub starts: Ways,
+    /// The same of devices that are declared lost.
+    pub losses: Ways,
+    /// The numbers of writes that the log of the best copy lacks. None where there is no best copy.
+    pub gaps: Seq<Gap>,
+}
+
+/// Why the group of this view doesn't serve, and what would bring it back, where the view is by the log of these entries and
+/// the map is the last one of that log. Nothing where the map has no such pool.
+///
+/// It reads each entry twice at most, and takes memory for the answer and for the group's infos.
+pub fn reasons_of(
+    alloc: Global,
+    map: &OsdMap,
+    entries: &[Arc<Entry>],
+    pg: PgId,
+    view: &View,
+) -> Result<Reasons, AllocError>
+    ensures { IfOk result (λ reasons. (g : GroupLog) → IsViewed (mapped arc_value entries.now) map.now pg view.now g → AreReasons g reasons) }
+{
+    match map.pool(pg.pool) {
+        Some(pool) => {
+            let code = AnyCode::of_pool(pool.kind);
+            reasons_by(alloc, &code, map, entries, &pg, view)
+        }
+        None => Ok(nothing(alloc)),
+    }
+}
+
+/// The same of a group of a pool with this code.
+fn reasons_by(
+    alloc: Global,
+    code: &AnyCode,
+    map: &OsdMap,
+    entries: &[Arc<Entry>],
+    pg: &PgId,
+    view: &View,
+) -> Result<Reasons, AllocError>
+    ensures { IfOk result (λ reasons. (g : GroupLog) → IsAskedOf (mapped arc_value entries.now) code.now map.now pg.now view.now g → AreReasons g reasons) }
+{
+    let infos = infos_in(alloc, entries, pg)?;
+    let infos = infos.as_slice();
+    let heard = heard(alloc, map, infos, view.first)?;
+    let gaps = best_gaps(
+        alloc,
+        map,
+        entries,
+        pg,
+        view.first,
+        view.best,
+        heard.as_slice(),
+    )?;
+    let waits = waits_of(alloc, code, map, infos, view)?;
+    Ok(joined(heard, waits, gaps))
+}
+
+/// The reasons of these parts.
+fn joined(heard: Seq<Info>, waits: Waits, lacked: Seq<Gap>) -> Reasons
+    ensures { (g : GroupLog) → heard ≡ heard_by g → AreWaits g waits → lacked ≡ gaps g → AreReasons g result }
+{
+    Reasons {
+        heard,
+        blocking: waits.blocking,
+        starts: waits.starts,
+        losses: waits.losses,
+        gaps: lacked,
+    }
+}
+
+/// The numbers of writes that the log of the best copy lacks, which is this member's.
+fn best_gaps(
+    alloc: Global,
+    map: &OsdMap,
+    entries: &[Arc<Entry>],
+    pg: &PgId,
+    first: Epoch,
+    best: Option<Member>,
+    heard: &[Info],
+) -> Result<Seq<Gap>, AllocError>
+    ensures { IfOk result (λ list. (g : GroupLog) → g.log ≡ mapped arc_value entries.now → g.pg ≡ pg.now → IsPresent g map.now first
+        → best ≡ option_map (λ info. info.member) (best_copy g) → heard.now ≡ heard_by g → list ≡ gaps g) }
+{
+    match info_of_best(heard, best) {
+        Some(info) => gaps(alloc, map, entries, pg, first, info),
+        None => Ok(Seq::new(alloc)),
+    }
+}
+
+/// The member's info, where there is a member and it has one.
+fn info_of_best(infos: &[Info], member: Option<Member>) -> Option<&Info>
+    ensures { option_copied result ≡ option_and_then (info_of infos.now) member }
+{
+    match member {
+        Some(member) => info_of(infos, &member),
+        None => None,
+    }
+}
+
+/// The member's info, where it has one.
+fn info_of<'a>(infos: &'a [Info], member: &Member) -> Option<&'a Info>
+    ensures { option_copied result ≡ info_of infos.now member.now }
+{
+    for info in infos {
+        if info.member == *member {
+            return Some(info);
+        }
+    }
+    None
+}
+
+/// No reasons.
+fn nothing(alloc: Global) -> Reasons {
+    Reasons {
+        heard: Seq::new(alloc),
+        blocking: Seq::new(alloc),
+        starts: no_ways(alloc),
+        losses: no_ways(alloc),
+        gaps: Seq::new(alloc),
+    }
+}

@@ -1,0 +1,19 @@
+use pgp_ids::{OsdId, Seq};
+
+/// How a device that is down stops being waited for.
+#[derive(Clone, Copy, Debug, PartialEq, Eq)]
+pub enum Way {
+    /// It boots.
+    Start,
+    /// It is declared lost, and what it held with it.
+    GiveUp,
+}
+
+/// Sets of devices each of which would be enough.
+#[derive(Debug, Drop)]
+pub struct Ways {
+    /// The smaller sets first; each in ascending order.
+    pub sets: Seq<Seq<OsdId>>,
+    /// Whether there may be others.
+    pub more: bool,
+}
