@@ -1,0 +1,46 @@
+use super::names::Naming;
+use super::offset::EpochOffset;
+use pgp_ids::{Info, Member, PgId, View};
+use pgp_reasons::Reasons;
+use std::alloc::{AllocError, Global};
+
+/// What there is to say of a group.
+#[derive(Debug, Drop)]
+pub struct Explained {
+    pub pg: PgId,
+    /// Whether each member has a place of its own, so that it is told with its slot.
+    pub by_place: bool,
+    /// How many copies or shards its pool keeps.
+    pub size: u8,
+    /// With how many members it may serve.
+    pub min_size: u8,
+    pub view: View,
+    pub reasons: Reasons,
+}
+
+impl Explained {
+    /// How its members and epochs are told.
+    pub(crate) fn naming(&self, offset: EpochOffset) -> Naming {
+        Naming {
+            by_place: self.by_place,
+            offset,
+        }
+    }
+
+    /// The members that have to be heard and haven't been, in ascending order.
+    pub(crate) fn unheard(&self, alloc: Global) -> Result<Vec<Member>, AllocError> {
+        let heard = self.reasons.heard.as_slice();
+        self.view
+            .probe
+            .as_slice()
+            .iter()
+            .copied()
+            .filter(|member| !is_heard(heard, *member))
+            .collect(alloc)
+    }
+}
+
+/// Whether one of the infos is of this member.
+fn is_heard(infos: &[Info], member: Member) -> bool {
+    infos.iter().any(|info| info.member == member)
+}

@@ -1,0 +1,39 @@
+//! What a script says of its groups, in words for an operator: why a group doesn't serve, and what brings it back.
+//!
+//! [`explain`] reads a script as a run reads it, and asks at its end. What it tells of a group it tells from an [`Explained`]
+//! alone: the view from scratch by the entries that were taken, and the reasons of pgp_reasons.
+#![tactic(auto)]
+
+mod answers;
+mod explain_fault;
+mod explained;
+mod fault;
+mod group_json;
+mod group_words;
+mod groups;
+mod json_page;
+mod json_parts;
+mod names;
+mod offset;
+mod pools;
+mod read;
+mod recorded;
+mod sentence;
+mod spans;
+mod subcommand;
+mod summary;
+mod summary_json;
+mod summary_words;
+mod tally;
+mod ways_words;
+mod witness;
+
+pub use explain_fault::ExplainFault;
+pub use explained::Explained;
+pub use group_json::put_json;
+pub use group_words::put_words;
+pub use offset::EpochOffset;
+pub use subcommand::explain;
+pub use summary::Summary;
+pub use summary_json::put_summary_json;
+pub use summary_words::put_summary_words;

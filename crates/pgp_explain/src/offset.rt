@@ -1,0 +1,19 @@
+ghost use Rattle.std.specs.Prelude.{◌≡◌, ◌+◌, ◌==◌, if◌then◌else◌};
+
+use pgp_ids::Epoch;
+
+/// By how much the epochs of a cluster are ahead of those of the script that was made of its maps.
+#[derive(Clone, Copy, Debug, PartialEq, Eq)]
+pub struct EpochOffset(pub u32);
+
+impl EpochOffset {
+    /// The number by which the epoch is told. Epoch 0, before the first map, is told as 0.
+    pub fn told(self, epoch: Epoch) -> u64
+        ensures { result ≡ (if epoch == 0 then 0 else epoch + self.0) }
+    {
+        match epoch.number() {
+            0 => 0,
+            number => u64::from(number) + u64::from(self.0),
+        }
+    }
+}
