@@ -1,7 +1,8 @@
 //! The numbers of the exit statuses, and worked command lines and what they ask for, computed by the definitions.
-ghost use Rattle.std.specs.Prelude.{◌≡◌, [], ◌∷◌, codes, Some, None};
-ghost use Rattle.clap.specs.declared.error.kind.ErrorKind.TheVariants.{DisplayHelp, DisplayVersion, InvalidValue, MissingSubcommand, UnknownArgument, ValueValidation};
-ghost use Rattle.pgp_cli.specs.Options.{counts, counts_asked, faults_in};
+ghost use Rattle.std.specs.Prelude.{◌≡◌, [], ◌∷◌, ℕ, List, codes, Some, None, true, false};
+ghost use Rattle.clap.specs.declared.error.kind.ErrorKind.TheVariants.{DisplayHelp, DisplayVersion, InvalidValue, MissingSubcommand, TooManyValues, UnknownArgument, ValueValidation};
+ghost use Rattle.pgp_cli.specs.declared.explain_options.ExplainOptions.{ExplainOptions};
+ghost use Rattle.pgp_cli.specs.Options.{Counts, counts, counts_asked, faults_in, explanation, explanation_asked, explain_faults_in, group_in, request_faults, AsksForRun, AsksForExplain, AsksForHelp};
 
 use super::status::{DONE, FAULT, USAGE};
 
@@ -12,7 +13,7 @@ pub fn statuses()
     ensures fault { FAULT ≡ 3 }
 {}
 
-/// The words of a command line: `run` alone is asked for, and help is a request of its own.
+/// The words of a command line: help is a request of its own, and no word stands behind `run`.
 pub fn command_lines()
     ensures run { faults_in (codes "pgpeer" ∷ codes "run" ∷ []) ≡ [] }
     ensures help { faults_in (codes "pgpeer" ∷ codes "--help" ∷ []) ≡ DisplayHelp ∷ [] }
@@ -44,4 +45,60 @@ pub fn wrong_counts()
     ensures many_workers { faults_in (codes "pgpeer" ∷ codes "run" ∷ codes "--workers" ∷ codes "65" ∷ []) ≡ ValueValidation ∷ [] }
     ensures no_number { faults_in (codes "pgpeer" ∷ codes "run" ∷ codes "--workers" ∷ codes "two" ∷ []) ≡ ValueValidation ∷ [] }
     ensures no_value { faults_in (codes "pgpeer" ∷ codes "run" ∷ codes "--workers" ∷ []) ≡ InvalidValue ∷ [] }
+{}
+
+/// The words ask for a run or for an explanation, and for help only where they ask for neither.
+pub fn one_request()
+    ensures run_or_explain { (words : List (List ℕ)) (counts : Counts) (options : ExplainOptions)
+        → AsksForRun words counts → AsksForExplain words options → ⊥ }
+    ensures run_or_help { (words : List (List ℕ)) (counts : Counts) → AsksForRun words counts → AsksForHelp words → ⊥ }
+    ensures explain_or_help { (words : List (List ℕ)) (options : ExplainOptions)
+        → AsksForExplain words options → AsksForHelp words → ⊥ }
+{}
+
+/// The words of a command line that names `explain`.
+pub fn explain_lines()
+    ensures all { request_faults (codes "pgpeer" ∷ codes "explain" ∷ []) ≡ [] }
+    ensures group { request_faults (codes "pgpeer" ∷ codes "explain" ∷ codes "1.a" ∷ []) ≡ [] }
+    ensures help { request_faults (codes "pgpeer" ∷ codes "explain" ∷ codes "--help" ∷ []) ≡ DisplayHelp ∷ [] }
+    ensures more { request_faults (codes "pgpeer" ∷ codes "explain" ∷ codes "1.a" ∷ codes "script" ∷ []) ≡ UnknownArgument ∷ [] }
+    ensures flag { request_faults (codes "pgpeer" ∷ codes "explain" ∷ codes "--workers" ∷ codes "1" ∷ []) ≡ UnknownArgument ∷ [] }
+    ensures run { request_faults (codes "pgpeer" ∷ codes "run" ∷ []) ≡ [] }
+{}
+
+/// The groups that a word may name.
+pub fn names_of_groups()
+    ensures lower { group_in (codes "1.a") ≡ Some (record { pool = 1; pg = 10 }) }
+    ensures upper { group_in (codes "1.3FF") ≡ Some (record { pool = 1; pg = 1023 }) }
+    ensures greatest { group_in (codes "255.3ff") ≡ Some (record { pool = 255; pg = 1023 }) }
+    ensures zeros { group_in (codes "01.00") ≡ Some (record { pool = 1; pg = 0 }) }
+    ensures no_pool { group_in (codes "0.1") ≡ None }
+    ensures high_pool { group_in (codes "256.1") ≡ None }
+    ensures high_seed { group_in (codes "1.400") ≡ None }
+    ensures no_dot { group_in (codes "1") ≡ None }
+    ensures no_seed { group_in (codes "1.") ≡ None }
+    ensures nothing { group_in (codes ".") ≡ None }
+    ensures signed_pool { group_in (codes "+1.a") ≡ None }
+    ensures signed_seed { group_in (codes "1.+a") ≡ None }
+    ensures no_digit { group_in (codes "1.g") ≡ None }
+    ensures two_dots { group_in (codes "1.a.1") ≡ None }
+    ensures hexadecimal_pool { group_in (codes "a.1") ≡ None }
+{}
+
+/// What is asked to be explained.
+pub fn explanations()
+    ensures unsaid { explanation_asked (codes "pgpeer" ∷ codes "explain" ∷ []) ≡ Some (explanation None false 0) }
+    ensures group { explanation_asked (codes "pgpeer" ∷ codes "explain" ∷ codes "1.a" ∷ []) ≡ Some (explanation (Some (record { pool = 1; pg = 10 })) false 0) }
+    ensures json { explanation_asked (codes "pgpeer" ∷ codes "explain" ∷ codes "--json" ∷ []) ≡ Some (explanation None true 0) }
+    ensures all { explanation_asked (codes "pgpeer" ∷ codes "explain" ∷ codes "--epoch-offset" ∷ codes "4294967295" ∷ codes "255.0" ∷ codes "--json" ∷ []) ≡ Some (explanation (Some (record { pool = 255; pg = 0 })) true 4294967295) }
+    ensures equals { explanation_asked (codes "pgpeer" ∷ codes "explain" ∷ codes "--epoch-offset=7" ∷ []) ≡ Some (explanation None false 7) }
+{}
+
+/// Words behind `explain` that are refused.
+pub fn wrong_explanations()
+    ensures group { explain_faults_in (codes "pgpeer" ∷ codes "explain" ∷ codes "1" ∷ []) ≡ ValueValidation ∷ [] }
+    ensures offset { explain_faults_in (codes "pgpeer" ∷ codes "explain" ∷ codes "--epoch-offset" ∷ codes "4294967296" ∷ []) ≡ ValueValidation ∷ [] }
+    ensures no_number { explain_faults_in (codes "pgpeer" ∷ codes "explain" ∷ codes "--epoch-offset" ∷ codes "two" ∷ []) ≡ ValueValidation ∷ [] }
+    ensures no_value { explain_faults_in (codes "pgpeer" ∷ codes "explain" ∷ codes "--epoch-offset" ∷ []) ≡ InvalidValue ∷ [] }
+    ensures value { explain_faults_in (codes "pgpeer" ∷ codes "explain" ∷ codes "--json=1" ∷ []) ≡ TooManyValues ∷ [] }
 {}

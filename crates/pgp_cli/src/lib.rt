@@ -1,18 +1,32 @@
 //! The command line: what its words ask for, and the status that the program ends with.
 //!
 //! [`status_of`] does what the words ask for, over any reader and writers: `pgp_core` answers a script on one thread, and
-//! `pgp_run` one with workers. [`Watched`] is a stream with an account of whether a call of it failed, which the contract of
-//! a run goes by.
+//! `pgp_run` one with workers; `pgp_explain` explains one. [`Watched`] is a stream with an account of whether a call of it
+//! failed, which the contract of a run goes by.
 #![tactic(auto)]
 
+mod commands;
+mod explain_options;
+mod explain_words;
+mod fault;
 mod laws;
+mod named;
+mod request;
 mod run_options;
 mod status;
 mod streams;
+mod tell;
 mod words;
 
-pub use laws::{command_lines, counts_of_runs, right_counts, statuses, wrong_counts};
+pub use explain_options::ExplainOptions;
+pub use explain_words::explanation;
+pub use laws::{
+    command_lines, counts_of_runs, explain_lines, explanations, names_of_groups, one_request,
+    right_counts, statuses, wrong_counts, wrong_explanations,
+};
+pub use request::{Request, read_request};
 pub use run_options::RunOptions;
-pub use status::{DONE, FAULT, USAGE, status_of, without_words};
+pub use status::{DONE, FAULT, USAGE, status_of};
 pub use streams::Watched;
+pub use tell::without_words;
 pub use words::options;

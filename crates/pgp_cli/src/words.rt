@@ -1,41 +1,24 @@
-//! What the words of the command line ask for.
-ghost use Rattle.std.specs.Prelude.{◌≡◌, ◌≤◌, ◌∷◌, [], Some, codes, false, map, option_map, option_and_then, string_bytes, IfOk};
+//! What the words of `pgpeer run` ask for.
+ghost use Rattle.std.specs.Prelude.{◌≡◌, Some, codes, map, option_map, option_and_then, string_bytes, IfOk};
 ghost use Rattle.clap.specs.Kinds.{FailsBy};
 ghost use Rattle.clap.specs.Matches.{found_of};
-ghost use Rattle.clap.specs.Simple.{app_of, subcommand_rows_of};
-ghost use Rattle.clap.specs.Walk.{first_of, rows_of, rule_of};
-ghost use Rattle.pgp_cli.specs.Options.{pgpeer_app, count_option, count_in, count_or, counts_in, counts_asked, counts_of, faults_in};
+ghost use Rattle.clap.specs.Walk.{rows_of};
+ghost use Rattle.pgp_cli.specs.Options.{count_in, count_or, counts_in, counts_asked, counts_of, faults_in, rows_named};
 
+use super::commands::{pgpeer, run_error};
+use super::named::named;
 use super::run_options::RunOptions;
 use clap::error::ErrorKind;
-use clap::{Arg, ArgMatches, Command, Error};
-use std::alloc::{AllocError, Global};
+use clap::{ArgMatches, Error};
+use std::alloc::Global;
 
 /// How many shards or workers there are at most.
 const MOST: u8 = 64;
 
-/// What `pgpeer run --help` tells beyond its usage.
-const RUN_HELP: &str = "\
-A line is one JSON object, and its key op says what it is: inc, info, entries and
-close add to the log; ask, locate and trace ask. Each line is answered by one line
-of JSON, a blank line by none. docs/FORMAT.md tells the keys of each and the answers.
-They are the same, byte for byte, whatever the numbers of shards and workers are.
-
-Exit status:
-  0  the script was answered to its end
-  2  the command line is wrong, or there was no memory to read it
-  3  a read or a write failed, the script has more than 1000000 lines or
-     4294967296 bytes, or there was no engine to answer it";
-
-const SHARDS_HELP: &str = "How many shards share the groups, 1 to 64 [default: 1]";
-
-const WORKERS_HELP: &str =
-    "How many threads read the log for the shards, 0 to 64; 0 answers on one thread [default: 0]";
-
 /// Why the number of an option is refused.
 const WRONG_COUNT: &str = "--shards takes a number from 1 to 64, and --workers one from 0 to 64";
 
-/// Reads the words of the command line, the program's name first: the one thing to ask for is `run`.
+/// Reads the words of a command line that asks for a run, the program's name first.
 ///
 /// A request for help is an error too, one whose text belongs on the standard output. A number out of its bounds, or a text
 /// that is none, is [`ErrorKind::ValueValidation`].
@@ -47,15 +30,22 @@ pub fn options(alloc: Global, words: &[String]) -> Result<RunOptions, Error>
     let matches = pgpeer.try_get_matches_from_mut(words)?;
     match asked(&matches) {
         Some(options) => Ok(options),
-        None => Err(pgpeer.error(ErrorKind::ValueValidation, WRONG_COUNT)?),
+        None => Err(run_error(alloc, ErrorKind::ValueValidation, WRONG_COUNT)?),
     }
 }
 
-/// What the subcommand's options ask for, if they do.
+/// What the options of `run` ask for, if it is asked for and they do.
 fn asked(matches: &ArgMatches) -> Option<RunOptions>
-    ensures { option_map counts_of result ≡ option_and_then (λ run. counts_in run.1) (subcommand_rows_of matches.now) }
+    ensures { option_map counts_of result ≡ option_and_then counts_in (rows_named (codes "run") matches.now) }
 {
-    let (_, run) = matches.subcommand()?;
+    let run = named(matches, "run")?;
+    options_in(run)
+}
+
+/// What the options of `run` ask for, if they do.
+fn options_in(run: &ArgMatches) -> Option<RunOptions>
+    ensures { option_map counts_of result ≡ counts_in (rows_of (found_of run.now)) }
+{
     let shards = count_or(1, 1, run.get_str("shards"))?;
     let workers = count_or(0, 0, run.get_str("workers"))?;
     Some(RunOptions { shards, workers })
@@ -83,28 +73,4 @@ fn count_in(low: u8, text: &str) -> Option<u8>
     } else {
         None
     }
-}
-
-/// The program's command line.
-fn pgpeer<'a>(alloc: Global) -> Result<Command<'a>, AllocError>
-    ensures { IfOk result (λ command. app_of command ≡ pgpeer_app) }
-{
-    let run = Command::new(alloc, "run")
-        .about("Reads a script from standard input and answers it line by line")
-        .after_help(RUN_HELP)
-        .arg(count(alloc, "shards", SHARDS_HELP))?
-        .arg(count(alloc, "workers", WORKERS_HELP))?;
-    Command::new(alloc, "pgpeer")
-        .version("0.1.0")
-        .about("Placement-group peering: JSON lines in, one answer line for each")
-        .subcommand_required(true)
-        .subcommand(run)
-}
-
-/// An option that takes a number.
-fn count<'a>(alloc: Global, name: &'a str, help: &'a str) -> Arg<'a>
-    ensures rule { rule_of result ≡ count_option name.entry.now }
-    ensures local { result.global ≡ false }
-{
-    Arg::new(alloc, name).long(name).value_name("N").help(help)
 }

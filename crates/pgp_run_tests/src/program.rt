@@ -21,6 +21,11 @@ const SCRIPT: &[u8] = b"{\"op\":\"close\"}\n";
 const WRONG_COUNT: &[u8] =
     b"error: --shards takes a number from 1 to 64, and --workers one from 0 to 64\n";
 
+/// How the texts begin that refuse a group's name and an offset.
+const WRONG_GROUP: &[u8] = b"error: PG is POOL.SEED, pool 1 to 255 in decimal, ";
+
+const WRONG_OFFSET: &[u8] = b"error: --epoch-offset takes a number from 0 to 4294967295\n";
+
 /// How the text begins that asks for one.
 const NO_COUNT: &[u8] = b"error: a value is required for '--";
 
@@ -118,6 +123,8 @@ fn reads_the_command_line(rt: HostRuntime) -> Result<(), Fail> {
         (["pgpeer", "peer"].as_slice(), USAGE, false, false),
         (["pgpeer"].as_slice(), USAGE, false, false),
         (["pgpeer", "run", "now"].as_slice(), USAGE, false, false),
+        (["pgpeer", "explain"].as_slice(), DONE, true, true),
+        (["pgpeer", "explain", "--help"].as_slice(), DONE, true, true),
         (
             ["pgpeer", "run", "--workers", "0"].as_slice(),
             DONE,
@@ -174,6 +181,70 @@ fn refuses_wrong_counts(rt: HostRuntime) -> Result<(), Fail> {
         assert!(rt; out.is_empty());
         assert!(rt; errors.starts_with(told));
     }
+    Ok(())
+}
+
+/// A word that is no group's name, or no offset.
+#[test]
+fn refuses_wrong_explanations(rt: HostRuntime) -> Result<(), Fail> {
+    let alloc = rt.alloc();
+    for (word, more, told) in [
+        ("1", "--json", WRONG_GROUP),
+        ("1.400", "--json", WRONG_GROUP),
+        ("+1.a", "--json", WRONG_GROUP),
+        ("1.a", "--epoch-offset=-1", WRONG_OFFSET),
+        ("1.a", "--epoch-offset=4294967296", WRONG_OFFSET),
+    ] {
+        let words = ["pgpeer", "explain", word, more];
+        let (status, out, errors) = run_with(
+            &rt,
+            alloc,
+            words.as_slice(),
+            SCRIPT,
+            Vec::new(alloc),
+        )?;
+        assert_eq!(rt; status, USAGE);
+        assert!(rt; out.is_empty());
+        assert!(rt; errors.starts_with(told));
+    }
+    Ok(())
+}
+
+/// A file is named where none can be.
+#[test]
+fn tells_where_a_script_comes_from(rt: HostRuntime) -> Result<(), Fail> {
+    let alloc = rt.alloc();
+    for (words, told) in [
+        (
+            ["pgpeer", "run", "script"].as_slice(),
+            b"\npgpeer run reads standard input: pgpeer run < FILE\n".as_slice(),
+        ),
+        (
+            ["pgpeer", "explain", "1.a", "script"].as_slice(),
+            b"\npgpeer explain reads standard input: pgpeer explain < FILE\n".as_slice(),
+        ),
+    ] {
+        let (status, _, errors) = run_with(&rt, alloc, words, SCRIPT, Vec::new(alloc))?;
+        assert_eq!(rt; status, USAGE);
+        assert!(rt; errors.ends_with(told));
+    }
+    Ok(())
+}
+
+#[test]
+fn tells_why_nothing_is_explained(rt: HostRuntime) -> Result<(), Fail> {
+    let alloc = rt.alloc();
+    let words = ["pgpeer", "explain", "1.A"];
+    let (status, out, errors) = run_with(&rt, alloc, words.as_slice(), SCRIPT, Vec::new(alloc))?;
+    assert_eq!(rt; status, FAULT);
+    assert!(rt; out.is_empty());
+    assert_eq!(rt;
+        errors.as_slice(),
+        b"pgpeer: the map has no group 1.a\n".as_slice()
+    );
+    let (status, _, errors) = run_with(&rt, alloc, words.as_slice(), Broken, Vec::new(alloc))?;
+    assert_eq!(rt; status, FAULT);
+    assert_eq!(rt; errors.as_slice(), b"pgpeer: read fault\n".as_slice());
     Ok(())
 }
 

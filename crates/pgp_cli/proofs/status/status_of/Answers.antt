@@ -1,17 +1,15 @@
-use Rattle.std.proofs.Common.{inl, inr}
-use Rattle.pgp_cli.specs.Options.{counts_of}
+use Rattle.std.proofs.Common.{rules, inl, inr, map, string_bytes}
+use Rattle.pgp_cli.proofs.Requests.{help_asked}
 use Rattle.pgp_cli.proofs.status.status_of.Goals as goal
 
-pub returns-in-Ok-clause-done : goal.returns-in-Ok-clause-done
-returns-in-Ok-clause-done g c done =
-    inl (counts_of c.in-Ok.options, ((c.in-Ok.ensures.fails, c.in-Ok.ensures.asked), c.run.ensures.done done))
+pub returns-in-Err-clause-done : goal.returns-in-Err-clause-done
+returns-in-Err-clause-done g c done =
+    let shown = c.help_or_usage.ensures.done done in
+    inr (inl (help_asked c.in-Err.error (map string_bytes c.args.words.now) shown.0 c.in-Err.ensures.fails, search rules, shown.1))
 
-pub returns-in-Ok-clause-fault : goal.returns-in-Ok-clause-fault
-returns-in-Ok-clause-fault g c not_done not_usage =
-    let stopped = c.run.ensures.fault not_done in (
-      stopped.0,
-      elim stopped.1 [
-        | inl is ↦ inl (counts_of c.in-Ok.options, ((c.in-Ok.ensures.fails, c.in-Ok.ensures.asked), is))
-        | inr none ↦ inr (inl ((counts_of c.in-Ok.options, ((c.in-Ok.ensures.fails, c.in-Ok.ensures.asked), none.0)), none.1, none.2))
-      ],
+pub returns-in-Err-clause-fault : goal.returns-in-Err-clause-fault
+returns-in-Err-clause-fault g c not_done not_usage =
+    let failed = c.help_or_usage.ensures.fault not_done not_usage in (
+      failed.0,
+      inr (inr (inl (help_asked c.in-Err.error (map string_bytes c.args.words.now) failed.1 c.in-Err.ensures.fails, search rules, failed.2))),
     )

@@ -4,7 +4,7 @@ use Rattle.clap.specs.Faults.{fault_of, is_simple_and_free}
 use Rattle.clap.specs.Kinds.{HasKind}
 use Rattle.clap.proofs.OnLiterals.{clap_on_literals}
 use Rattle.pgp_cli.specs.Options.{pgpeer_app}
-use Rattle.pgp_cli.proofs.Counts.{all_asked, some_fault}
+use Rattle.pgp_cli.proofs.Counts.{all_asked, some_fault, wrong_counts}
 use Rattle.pgp_cli.proofs.words.options.Goals as goal
 
 is_simple : is_simple_and_free pgpeer_app ≡ true
@@ -23,3 +23,9 @@ returns-in-Some-clause-fails c =
     let words = map string_bytes c.args.words.now in
     let app = c.in_ok-pgpeer.ensures in
     all_asked words (subst (λ (a : App). fault_of a words ≡ []) app (c.in_ok-matches.ensures.kinds (ap is_simple_and_free app ∙ is_simple))) c.in-Some.options (search rules)
+
+pub returns-clause-fails : goal.returns-clause-fails
+returns-clause-fails c =
+    let words = map string_bytes c.args.words.now in
+    let app = c.in_ok-pgpeer.ensures in
+    wrong_counts words c.in_ok-run_error-in-None.field-0 (subst (λ (a : App). fault_of a words ≡ []) app (c.in_ok-matches.ensures.kinds (ap is_simple_and_free app ∙ is_simple))) (search rules) (search rules)

@@ -1,0 +1,18 @@
+use Rattle.std.proofs.Common.{rules, ◌≡◌, ◌∙◌, ap, ap₂, Bool}
+use Rattle.std.proofs.lemmas.Result.{IfOk-weaker}
+use Rattle.clap.proofs.SimpleLemmas.{plain_fields}
+use Rattle.clap.specs.Simple.{App, app_of, with_subcommand}
+use Rattle.pgp_cli.specs.Options.{bare_app}
+use Rattle.pgp_cli.proofs.commands.pgpeer.Goals as goal
+
+abbrev with_app : App → App → App
+with_app above below = with_subcommand above below.top
+
+abbrev is_plain : App → Bool
+is_plain app = app.top.is_plain
+
+pub returns : goal.returns
+returns c =
+    let bare : app_of c.subcommand_required.result ≡ bare_app = search rules in
+    let run = c.in_ok-subcommand.ensures.shape (plain_fields _ (ap is_plain c.in_ok-run.ensures)).globals ∙ ap₂ with_app bare c.in_ok-run.ensures in
+    IfOk-weaker c.subcommand-2.result _ _ (λ r h. h.shape (plain_fields _ (ap is_plain c.in_ok-explain.ensures)).globals ∙ ap₂ with_app run c.in_ok-explain.ensures) c.subcommand-2.ensures

@@ -1,0 +1,151 @@
+//! The program's command line and its help.
+ghost use Rattle.std.specs.Prelude.{◌≡◌, false, IfOk};
+ghost use Rattle.clap.specs.Simple.{app_of};
+ghost use Rattle.clap.specs.Walk.{rule_of};
+ghost use Rattle.clap.specs.Values.{kind_of};
+ghost use Rattle.pgp_cli.specs.Options.{pgpeer_app, run_app, explain_app, group_word, json_flag, count_option};
+
+use clap::error::ErrorKind;
+use clap::{Arg, ArgAction, Command, Error};
+use std::alloc::{AllocError, Global};
+
+/// What `pgpeer --help` tells beyond its usage.
+const HELP: &str = "\
+Both read a script from standard input: lines of JSON, of which docs/FORMAT.md
+tells the keys.
+
+Example:
+  pgpeer run < script.jsonl
+  pgpeer explain 1.a < script.jsonl
+
+'pgpeer run --help' and 'pgpeer explain --help' tell more.";
+
+/// What `pgpeer run --help` tells beyond its usage.
+const RUN_HELP: &str = "\
+A line is one JSON object, and its key op says what it is: inc, info, entries and
+close add to the log; ask, locate and trace ask. Each line is answered by one line
+of JSON, a blank line by none. docs/FORMAT.md tells the keys of each and the answers.
+They are the same, byte for byte, whatever the numbers of shards and workers are.
+
+Exit status:
+  0  the script was answered to its end
+  2  the command line is wrong, or there was no memory to read it
+  3  a read or a write failed, the script has more than 1000000 lines or
+     4294967296 bytes, or there was no engine to answer it";
+
+/// What `pgpeer explain --help` tells beyond its usage.
+const EXPLAIN_HELP: &str = "\
+The script is read as 'pgpeer run' reads it: each line is judged by the lines
+before it. Lines that are refused are told on standard error, with their numbers;
+ask, locate and trace lines are read and not answered. At the end of the script
+comes the explanation: of one group its verdict, what it waits for, and what would
+bring it back; without a group, how many groups have each verdict, and which
+devices they wait for.
+
+Example:
+  pgpeer explain 1.a < script.jsonl
+  pgpeer explain --json < script.jsonl
+
+Exit status:
+  0  the script was read to its end, and the explanation was written
+  2  the command line is wrong, or there was no memory to read it
+  3  a read or a write failed, the script has more than 1000000 lines or
+     4294967296 bytes, the map has no such group, or memory ran out";
+
+const SHARDS_HELP: &str = "How many shards share the groups, 1 to 64 [default: 1]";
+
+const WORKERS_HELP: &str =
+    "How many threads read the log for the shards, 0 to 64; 0 answers on one thread [default: 0]";
+
+const GROUP_HELP: &str =
+    "The group, POOL.SEED: pool 1 to 255 in decimal, seed 0 to 3ff in hexadecimal [default: all groups]";
+
+const JSON_HELP: &str = "Writes one line of JSON in place of words";
+
+const OFFSET_HELP: &str =
+    "Adds N, 0 to 4294967295, to each epoch that is told, but to 0 [default: 0]";
+
+/// The program's command line.
+pub fn pgpeer<'a>(alloc: Global) -> Result<Command<'a>, AllocError>
+    ensures { IfOk result (λ command. app_of command ≡ pgpeer_app) }
+{
+    let run = run(alloc)?;
+    let explain = explain(alloc)?;
+    Command::new(alloc, "pgpeer")
+        .version("0.1.0")
+        .about(
+            "Placement-group peering: JSON lines in, one answer line for each, or why a group doesn't serve",
+        )
+        .after_help(HELP)
+        .subcommand_required(true)
+        .subcommand(run)?
+        .subcommand(explain)
+}
+
+/// `run [--shards N] [--workers N]`
+fn run<'a>(alloc: Global) -> Result<Command<'a>, AllocError>
+    ensures { IfOk result (λ command. app_of command ≡ run_app) }
+{
+    Command::new(alloc, "run")
+        .about("Reads a script from standard input and answers it line by line")
+        .after_help(RUN_HELP)
+        .arg(count(alloc, "shards", SHARDS_HELP))?
+        .arg(count(alloc, "workers", WORKERS_HELP))
+}
+
+/// `explain [PG] [--json] [--epoch-offset N]`
+fn explain<'a>(alloc: Global) -> Result<Command<'a>, AllocError>
+    ensures { IfOk result (λ command. app_of command ≡ explain_app) }
+{
+    Command::new(alloc, "explain")
+        .about(
+            "Reads a script from standard input and says why a group doesn't serve, and what brings it back",
+        )
+        .after_help(EXPLAIN_HELP)
+        .arg(group(alloc))?
+        .arg(json(alloc))?
+        .arg(count(alloc, "epoch-offset", OFFSET_HELP))
+}
+
+/// The word that names a group.
+fn group<'a>(alloc: Global) -> Arg<'a>
+    ensures rule { rule_of result ≡ group_word }
+    ensures local { result.global ≡ false }
+{
+    Arg::new(alloc, "pg").value_name("PG").help(GROUP_HELP)
+}
+
+/// The flag that asks for JSON.
+fn json<'a>(alloc: Global) -> Arg<'a>
+    ensures rule { rule_of result ≡ json_flag }
+    ensures local { result.global ≡ false }
+{
+    Arg::new(alloc, "json")
+        .long("json")
+        .action(ArgAction::SetTrue)
+        .help(JSON_HELP)
+}
+
+/// An option that takes a number.
+fn count<'a>(alloc: Global, name: &'a str, help: &'a str) -> Arg<'a>
+    ensures rule { rule_of result ≡ count_option name.entry.now }
+    ensures local { result.global ≡ false }
+{
+    Arg::new(alloc, name).long(name).value_name("N").help(help)
+}
+
+/// An error of `pgpeer run`, with its usage.
+pub fn run_error(alloc: Global, kind: ErrorKind, message: &str) -> Result<Error, AllocError>
+    ensures { IfOk result (λ error. kind_of error ≡ kind) }
+{
+    run(alloc)?.bin_name("pgpeer run")?.error(kind, message)
+}
+
+/// An error of `pgpeer explain`, with its usage.
+pub fn explain_error(alloc: Global, kind: ErrorKind, message: &str) -> Result<Error, AllocError>
+    ensures { IfOk result (λ error. kind_of error ≡ kind) }
+{
+    explain(alloc)?
+        .bin_name("pgpeer explain")?
+        .error(kind, message)
+}

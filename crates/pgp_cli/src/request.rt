@@ -1,0 +1,50 @@
+//! Which of its subcommands the program is asked for.
+ghost use Rattle.std.specs.Prelude.{◌≡◌, map, string_bytes, IfOk};
+ghost use Rattle.clap.specs.Kinds.{FailsBy};
+ghost use Rattle.pgp_cli.specs.Options.{names_explain, request_faults, IsAsked};
+
+use super::explain_options::ExplainOptions;
+use super::explain_words::explanation;
+use super::run_options::RunOptions;
+use super::words::options;
+use clap::Error;
+use std::alloc::Global;
+
+/// What the words of a command line ask for.
+#[derive(Clone, Copy, Debug)]
+pub enum Request {
+    /// To answer a script.
+    Run(RunOptions),
+    /// To explain what a script says of its groups.
+    Explain(ExplainOptions),
+}
+
+/// Reads the words of the command line, the program's name first.
+///
+/// A request for help is an error too, one whose text belongs on the standard output.
+pub fn read_request(alloc: Global, words: &[String]) -> Result<Request, Error>
+    ensures fails { FailsBy (request_faults (map string_bytes words.now)) result }
+    ensures asked { IfOk result (IsAsked (map string_bytes words.now)) }
+{
+    if names_explain(words) {
+        match explanation(alloc, words) {
+            Ok(options) => Ok(Request::Explain(options)),
+            Err(error) => Err(error),
+        }
+    } else {
+        match options(alloc, words) {
+            Ok(options) => Ok(Request::Run(options)),
+            Err(error) => Err(error),
+        }
+    }
+}
+
+/// Whether the word behind the program's name is `explain`.
+fn names_explain(words: &[String]) -> bool
+    ensures { result ≡ names_explain (map string_bytes words.now) }
+{
+    match words.get(1) {
+        Some(word) => word.as_str() == "explain",
+        None => false,
+    }
+}
