@@ -20,6 +20,7 @@ import fuzz
 
 MOST_LINES, MOST_BYTES = 1_000_000, 4_294_967_296
 READ_FAULT, WRITE_FAULT = b"pgpeer: read fault\n", b"pgpeer: write fault\n"
+TOO_LARGE = b"pgpeer: the script has more than 1000000 lines or 4294967296 bytes\n"
 CLOSE, CLOSED = b'{"op":"close"}\n', b'{"count":1,"epoch":0,"ok":"close"}\n'
 TOO_LONG = b'{"code":30,"refused":"LineTooLong"}\n'
 
@@ -85,7 +86,7 @@ def most_lines(program: str) -> bool:
     text = CLOSE + b"\n" * (MOST_LINES - 1)
     more = [b"\n", b"x", b" ", CLOSE]
     whole = ended(program, text) == End(CLOSED, b"", 0)
-    return whole and all(ended(program, text + it) == End(CLOSED, READ_FAULT, 3) for it in more)
+    return whole and all(ended(program, text + it) == End(CLOSED, TOO_LARGE, 3) for it in more)
 
 
 def streamed(program: str, head: bytes, count: int) -> End:
@@ -114,7 +115,7 @@ def streamed(program: str, head: bytes, count: int) -> End:
 def most_bytes(program: str) -> bool:
     left = MOST_BYTES - len(CLOSE)
     whole = streamed(program, CLOSE, left) == End(CLOSED + TOO_LONG, b"", 0)
-    return whole and streamed(program, CLOSE, left + 1) == End(CLOSED, READ_FAULT, 3)
+    return whole and streamed(program, CLOSE, left + 1) == End(CLOSED, TOO_LARGE, 3)
 
 
 def by_turns(program: str) -> bool:

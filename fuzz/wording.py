@@ -1,0 +1,194 @@
+"""What `pgpeer explain` says in words, by the object that it gives with --json and by the group's pool."""
+
+from typing import Any, Dict, Iterable, Iterator, List, Optional, Sequence
+
+import reasons
+from codes import Code
+
+Shown = Dict[str, Any]
+MOST_RUNS = 5  # that a sentence names
+
+
+def listed(names: Iterable[str]) -> str:
+    found = list(names)
+    return " and ".join([", ".join(found[:-1]), found[-1]] if len(found) > 1 else found)
+
+
+def devices(osds: Iterable[int]) -> str:
+    return listed(f"osd.{osd}" for osd in osds)
+
+
+def counted(count: int, noun: str) -> str:
+    return f"{count} {noun}{'' if count == 1 else 's'}"
+
+
+def are(count: int) -> str:
+    return "is" if count == 1 else "are"
+
+
+def runs(noun: str, spans: List[Sequence[int]]) -> str:
+    """Runs of numbers, as `epoch 7` or `epochs 1 to 3 and 5`; of many the first are named."""
+    names = [str(first) if first == last else f"{first} to {last}" for first, last in spans]
+    is_one = len(names) == 1 and spans[0][0] == spans[0][1]
+    named = listed(names) if len(names) <= MOST_RUNS else ", ".join([*names[:MOST_RUNS], "and later ones"])
+    return f"{noun}{'' if is_one else 's'} {named}"
+
+
+def epochs(blocking: List[Shown]) -> str:
+    """The epochs of intervals; those that follow on each other are one run."""
+    spans: List[List[int]] = []
+    for it in blocking:
+        if spans and spans[-1][1] + 1 == it["first"]:
+            spans[-1][1] = it["last"]
+        else:
+            spans.append([it["first"], it["last"]])
+    return runs("epoch", spans)
+
+
+def places(osds: List[Optional[int]]) -> str:
+    return f"[{', '.join('NONE' if osd is None else str(osd) for osd in osds)}]"
+
+
+def shifted(found: Any, offset: int, key: str = "") -> Any:
+    """The object with each epoch but 0 so much later."""
+    if isinstance(found, dict):
+        return {name: shifted(value, offset, name) for name, value in found.items()}
+    if key in ("last_update", "log_tail"):
+        return [shifted(found[0], offset, "epoch"), found[1]]
+    if isinstance(found, list):
+        return [shifted(it, offset, key if key in ("blocking", "heard") else "") for it in found]
+    is_epoch = key in ("epoch", "first", "last", "les", "stamp", "history_les", "last_epoch_clean", "clean")
+    return found + offset if is_epoch and found else found
+
+
+class Words:
+    """The words of a group."""
+
+    def __init__(self, found: Shown, code: Code, size: int, min_size: int, best: Any):
+        self.found, self.code, self.size, self.min_size, self.best = found, code, size, min_size, best
+
+    def member(self, member: Sequence[int]) -> str:
+        return f"osd.{member[0]}" + ("" if self.code is None else f"({member[1]})")
+
+    def leader(self) -> str:
+        primary = self.found["acting_primary"]
+        return "nobody" if primary is None else f"osd.{primary}"
+
+    # The sentence
+
+    def says(self) -> str:
+        says: str = getattr(self, "on_" + self.found["verdict"].lower())()
+        return says
+
+    def on_noprimary(self) -> str:
+        return "No device of its acting set is up, so nobody leads it."
+
+    def on_down(self) -> str:
+        down = sorted({osd for it in self.found["blocking"] for osd in it["down"]})
+        when = epochs(self.found["blocking"])
+        head = f"It waits for {devices(down)}, which {are(len(down))} down"
+        return f"{head}: writes may have been taken in {when}, and too few of the devices that took them are up."
+
+    def on_waiting(self) -> str:
+        return f"It waits to hear from {listed(self.member(it) for it in self.found['unheard'])}."
+
+    def on_incomplete(self) -> str:
+        heard = self.found["heard"]
+        if not any(info["complete"] for info in heard):
+            return "No complete copy was heard of."
+        last = max(info["history_les"] for info in heard)
+        who = [info for info in heard if info["history_les"] == last][-1]
+        knows = f"{self.member(who['from'])} knows that the group served in epoch {last}"
+        return f"No copy that was heard of is complete and recent enough: {knows}, and no complete copy has served since."
+
+    def on_short(self) -> str:
+        acting = [slot for slot, osd in enumerate(self.found["acting"]) if osd is not None]
+        if len(acting) < self.min_size:
+            return f"Its acting set has {counted(len(acting), 'member')}, and needs at least {self.min_size}."
+        return "The members of its acting set hold too few shards to give objects back."
+
+    def on_needlog(self) -> str:
+        lacks = f"lacks the {runs('write', self.found['gaps'])}" if self.found["gaps"] else "is not in order"
+        return f"The log of {self.member(self.best)}, which has the best copy, {lacks}."
+
+    def on_needupthru(self) -> str:
+        wanted = f"up_thru {self.found['first']} or later"
+        return f"The map has yet to record that {self.leader()}, which leads it, is up in this interval: {wanted}."
+
+    def on_serve(self) -> str:
+        return f"It serves, led by {self.leader()}."
+
+    # The lines
+
+    def lines(self) -> Iterator[str]:
+        found = self.found
+        pool, pg = found["pg"]
+        yield f"group {pool}.{pg:x} at epoch {found['epoch']}: {found['verdict']}"
+        yield found["says"]
+        yield ""
+        sizes = f"(of size {self.size}, at least {self.min_size})"
+        yield f"acting {places(found['acting'])}, led by {self.leader()}, since epoch {found['first']} {sizes}"
+        yield f"up     {places(found['up'])}"
+        served = f"It is known to have last begun to serve in epoch {found['les']}."
+        yield served if found["les"] else "It is not known to have served."
+        yield ""
+        yield "Heard:"
+        yield from [self.info(info) for info in found["heard"]] or ["  nobody"]
+        if found["unheard"]:
+            yield "Not heard:"
+        yield from (f"  {self.member(it)}" for it in found["unheard"])
+        for it in found["blocking"]:
+            yield from self.interval(it)
+        yield from self.ways()
+
+    def info(self, info: Shown) -> str:
+        epoch, v = info["last_update"]
+        parts = [
+            f"  {self.member(info['from'])}  sent in epoch {info['stamp']}",
+            "complete" if info["complete"] else "not complete",
+            f"last write {epoch}'{v}",
+            f"began to serve in epoch {info['les']}" if info["les"] else "has not served",
+        ]
+        return ", ".join(parts + ([f"knows of epoch {info['history_les']}"] if info["history_les"] else []))
+
+    def interval(self, it: Shown) -> Iterator[str]:
+        where = f"{epochs([it])} on {places(it['acting'])}"
+        yield ""
+        yield f"It waits for the interval of {where}, which needs {it['lacks']} more {'member' if it['lacks'] == 1 else 'members'}:"
+        yield f"  {devices(it['down'])} {are(len(it['down']))} down"
+        leader = next(osd for osd in it["acting"] if osd is not None)
+        why = f"the map recorded that its primary, osd.{leader}, was up in it"
+        if it["clean"] is not None:
+            why = f"a report says that the group was clean in epoch {it['clean']}"
+        yield f"  it may have gone read-write: {why}"
+
+    def ways(self) -> Iterator[str]:
+        starts, losses = self.found["starts"], self.found["losses"]
+        more = starts["more"] or losses["more"]
+        if not starts["sets"] and not losses["sets"] and not more:
+            return
+        yield ""
+        yield "What brings it back:" if self.found["verdict"] == "Down" else "It would be down, too. What ends that:"
+        price = f"giving up what was written in {epochs(self.found['blocking'])}"
+        begin = ""
+        for osds in starts["sets"]:
+            yield f"  {begin}start {devices(osds)}"
+            begin = "or "
+        begin = "or, " if starts["sets"] else ""
+        for osds in losses["sets"]:
+            yield f"  {begin}{price}, declare {devices(osds)} lost"
+            begin = "or, "
+        if more:
+            yield "  (there may be others)"
+
+
+def summary_lines(found: Shown) -> Iterator[str]:
+    """The words of all groups together."""
+    yield f"{counted(found['groups'], 'group')} at epoch {found['epoch']}"
+    yield from (f"  {it} {found['verdicts'][it]}" for it in reasons.VERDICTS if it in found["verdicts"])
+    if found["devices"]:
+        yield ""
+    for it in found["devices"]:
+        does = [("blocks", it["blocks"]), ("is waited for by", it["awaited"])]
+        told = ", and ".join(f"{verb} {counted(count, 'group')}" for verb, count in does if count)
+        yield f"osd.{it['osd']} {told}"
