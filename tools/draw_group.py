@@ -11,9 +11,11 @@ entry that is refused is told on standard error and not drawn. Where the script 
 The picture has one column for each entry, from left to right, under the epoch of its map. At the top each device that was
 ever in up or acting has a row, with a bar where it stood in acting: its colour says whether the interval may have gone
 read-write, a line in it that only a report says so, and the current interval stands apart. Below stand the verdicts, and for
-whom the group waits: devices that are down and block it, and devices that have yet to be heard. Beyond 200 columns runs of
-entries that change nothing for the group are folded, and then the oldest, but never the intervals that block the group, the
-last that may have gone read-write, or (as many as have room) others whose members have to be heard.
+whom the group waits: devices that are down and block it, and devices that have yet to be heard. At the head and at the foot
+stands what `pgpeer explain` says of the group after the last entry: why it doesn't serve, and what brings it back. The last
+column's marks go by that too. Beyond 200 columns runs of entries that change nothing for the group are folded, and then the
+oldest, but never the intervals that block the group, the last that may have gone read-write, or (as many as have room) others
+whose members have to be heard.
 
 Status 0: the picture was written. Status 2: the command line or the script is wrong, the group isn't in its map, or a write
 failed; with --output there is no picture then.
@@ -23,6 +25,7 @@ import argparse
 import bisect
 import itertools
 import sys
+import textwrap
 from html import escape
 from typing import Any, Dict, Iterator, List, Optional, Tuple
 
@@ -31,14 +34,15 @@ from ceph_json import Unusable, ended, write
 from group_columns import Column, folded
 from group_steps import (MOST_EPOCH, PROGRAM, Event, Group, History, Pool, Span, Step, answers, followed, group_of, missing_group,
                          read_script)
-from group_words import osds_text, reason
+from group_words import at_end, osds_text, reason
 from svg_marks import DARK, LETTERS, LIGHT, line, rect, room_for, style, text, triangle
 
 __all__ = ["Column", "DARK", "Event", "Group", "History", "LIGHT", "PROGRAM", "Picture", "Pool", "Span", "Step", "answers",
            "folded", "followed", "main", "missing_group", "osds_text", "read_script", "room_for"]
 
-LEFT, RIGHT, TOP = 84, 24, 66
-ROW, BAR = 26, 14  # heights
+LEFT, RIGHT, TOP = 84, 24, 66  # TOP with one line of words at the head
+ROW, BAR, WORDS = 26, 14, 18  # heights
+MOST_LINES = 5  # of words at the head, and at the foot
 STRIP, WAIT = 24, 16
 LEAST_WIDTH = 760
 MARKS = {"inc": "m", "info": "i", "entries": "e", "close": "c"}
@@ -55,13 +59,17 @@ class Picture:
         self.spans = [span for span in group.spans() if span.last >= first]
         self.places = {span.first: self.columns_of(span) for span in self.spans}
         self.wide = max(12.0, min(84.0, 700 / len(self.columns)))
+        self.width = max(LEAST_WIDTH, self.x(len(self.columns)) + RIGHT)
+        self.head = self.wrapped(f"At the end: {at_end(group.steps[-1], group.pool, group.why)}")
+        self.foot = self.wrapped(group.why.back() if group.why else "")
         self.rows = sorted({osd for span in self.spans if self.places[span.first] for osd in span.devices()})
         self.has_empty = any(None in span.acting for span in self.spans if self.places[span.first])
-        self.waited = sorted({osd for column in self.columns for osd in waited_by(column.step())})
-        self.strip_y = TOP + ROW * (len(self.rows) + self.has_empty) + 28
+        self.waited = sorted({osd for at in range(len(self.columns)) for osd in self.waits_at(at)})
+        self.top = TOP + WORDS * (len(self.head) - 1)
+        self.strip_y = self.top + ROW * (len(self.rows) + self.has_empty) + 28
         self.waits_y = self.strip_y + STRIP + (40 if self.waited else 22)
-        self.legend_y = self.waits_y + WAIT * len(self.waited) + 16
-        self.width = max(LEAST_WIDTH, self.x(len(self.columns)) + RIGHT)
+        self.foot_y = self.waits_y + WAIT * len(self.waited) + 16
+        self.legend_y = self.foot_y + WORDS * len(self.foot) + (4 if self.foot else 0)
 
     def x(self, column: float) -> float:
         return LEFT + self.wide * column
@@ -80,15 +88,24 @@ class Picture:
         size = f'viewBox="0 0 {self.width:.0f} {height:.0f}" width="{self.width:.0f}" height="{height:.0f}"'
         head = [f'<svg xmlns="http://www.w3.org/2000/svg" {size} role="img">', f"<title>{escape(about)}</title>", style()]
         ground = [rect(0, 0, self.width, height, "page"), *self.titles(), *self.band(), *self.grid(), *self.epochs()]
-        body = [*self.bars(), *self.events(), *self.verdicts(), *self.waits(), *self.folds()]
+        body = [*self.bars(), *self.events(), *self.verdicts(), *self.waits(), *self.folds(), *self.feet()]
         return "\n".join([*head, *ground, *body, *legend, "</svg>"]) + "\n"
 
     def titles(self) -> Iterator[str]:
-        last = self.group.steps[-1]
         yield text(16, 25, f"Group {self.group.name}", "title")
         right = 16 + room_for(f"Group {self.group.name}", 17) + 12
         yield text(right, 25, self.cut(self.group.pool.text(), right), "soft")
-        yield text(16, 45, self.cut(f"At the end, {reason(last, self.group.pool)}", 16))
+        for at, words in enumerate(self.head):
+            yield text(16, 45 + WORDS * at, words)
+
+    def feet(self) -> Iterator[str]:
+        """What brings the group back."""
+        for at, words in enumerate(self.foot):
+            yield text(16, self.foot_y + 10 + WORDS * at, words)
+
+    def wrapped(self, words: str) -> List[str]:
+        """The words in as many lines as they need; what has no room in the last that there may be is left out."""
+        return textwrap.wrap(words, int((self.width - 32) / 7.44), max_lines=MOST_LINES, placeholder="\u2026")
 
     def cut(self, words: str, x: float) -> str:
         """The words, as far as there is room to the right of x."""
@@ -99,31 +116,31 @@ class Picture:
         """The ground of the current interval."""
         place = self.places[self.spans[-1].first]
         if place:
-            top, bottom = TOP + 2, self.strip_y + STRIP
+            top, bottom = self.top + 2, self.strip_y + STRIP
             yield rect(self.x(place[0]), top, self.x(place[1]) - self.x(place[0]), bottom - top, "band")
             yield line(self.x(place[0]), top, self.x(place[0]), bottom, "edge")
 
     def grid(self) -> Iterator[str]:
         end = self.x(len(self.columns))
         for at, osd in enumerate(self.rows):
-            y = TOP + ROW * at + 4
+            y = self.top + ROW * at + 4
             yield text(LEFT - 10, y + ROW - 10, f"osd.{osd}", "end")
             yield line(LEFT, y + ROW - 1, end, y + ROW - 1, "line")
         if self.has_empty:
-            yield text(LEFT - 10, TOP + ROW * len(self.rows) + ROW - 6, "no device", "end soft")
+            yield text(LEFT - 10, self.top + ROW * len(self.rows) + ROW - 6, "no device", "end soft")
 
     def epochs(self) -> Iterator[str]:
         """A tick where each epoch begins, and as many numbers as have room."""
         free, after = 0.0, None
-        yield text(LEFT - 10, TOP - 2, "epoch", "end soft")
+        yield text(LEFT - 10, self.top - 2, "epoch", "end soft")
         for at, column in enumerate(self.columns):
             first, last = column.epochs()
             if first == after and last == after:
                 continue
             x, words = self.x(at), self.named.text(first if first != after else last)
-            yield line(x, TOP, x, TOP + 5, "axis")
+            yield line(x, self.top, x, self.top + 5, "axis")
             if x >= free:
-                yield text(x + 1, TOP - 2, words, "small soft")
+                yield text(x + 1, self.top - 2, words, "small soft")
                 free = x + room_for(words, 10) + 6
             after = last
 
@@ -140,7 +157,7 @@ class Picture:
         if span.by_report:
             told += ", as a report says that the group was clean in it"
         for at, osd in enumerate(self.rows):
-            y = TOP + ROW * at + 12
+            y = self.top + ROW * at + 12
             tip = f"osd.{osd}, epochs {self.named.text(span.first)} to {self.named.text(span.last)}: {told}"
             if osd in span.acting:
                 yield rect(x + 0.5, y, wide - 1, BAR, kind, tip, 2)
@@ -158,7 +175,7 @@ class Picture:
 
     def empty_places(self, span: Span, x: float, wide: float) -> Iterator[str]:
         slots = [str(slot) for slot, osd in enumerate(span.acting) if osd is None]
-        y = TOP + ROW * len(self.rows) + 12
+        y = self.top + ROW * len(self.rows) + 12
         yield rect(x + 1, y + 1, wide - 2, BAR - 2, "alone", f"no device for shard {', '.join(slots)}", 2)
         words = next((it for it in (" ".join(slots), f"\u00d7{len(slots)}", "") if room_for(it, 10) < wide - 4), "")
         if words:
@@ -171,7 +188,7 @@ class Picture:
                 continue
             for event in (event for step in column.steps for event in step.events):
                 if event.osd in self.rows:
-                    y = TOP + ROW * self.rows.index(event.osd) + 5
+                    y = self.top + ROW * self.rows.index(event.osd) + 5
                     yield triangle(self.x(at) + 1, y, event.kind == "up")
 
     def verdicts(self) -> Iterator[str]:
@@ -186,7 +203,7 @@ class Picture:
         for at, column in enumerate(self.columns):
             if column.is_mixed():
                 continue
-            tip = f"epoch {self.named.text(column.epochs()[1])}, {reason(column.step(), self.group.pool)}"
+            tip = f"epoch {self.named.text(column.epochs()[1])}, {self.reason_at(at)}"
             yield rect(self.x(at), self.strip_y, self.wide, STRIP, "clear", tip)
             mark = MARKS[column.step().op] if len(column.steps) == 1 else "\u2026"
             yield text(self.x(at + 0.5), self.strip_y + STRIP + 12, mark, "small mid soft")
@@ -221,15 +238,27 @@ class Picture:
             yield text(LEFT - 10, self.waits_y - 5, "waits for", "end soft")
 
     def wait_of(self, place: int, osd: int) -> str:
-        column = self.columns[place]
-        return "" if column.is_mixed() else waited_by(column.step()).get(osd, "")
+        return "" if self.columns[place].is_mixed() else self.waits_at(place).get(osd, "")
+
+    def is_explained(self, place: int) -> bool:
+        """Tells whether what is said of the group is said of this column, which is the last."""
+        return self.group.why is not None and place == len(self.columns) - 1
+
+    def waits_at(self, place: int) -> Dict[int, str]:
+        """For which devices the group waits in a column, and how."""
+        return self.group.why.waits() if self.group.why and self.is_explained(place) else waited_by(self.columns[place].step())
+
+    def reason_at(self, place: int) -> str:
+        """The verdict of a column, and why."""
+        step = self.columns[place].step()
+        return at_end(step, self.group.pool, self.group.why) if self.is_explained(place) else reason(step, self.group.pool)
 
     def folds(self) -> Iterator[str]:
         """A veil over the columns that stand for many steps of different states."""
         for at, column in enumerate(self.columns):
             if column.is_mixed():
                 first, last = column.epochs()
-                top, bottom = TOP + 6, self.legend_y - 14
+                top, bottom = self.top + 6, self.foot_y - 14
                 x = self.x(at)
                 words = f"{len(column.steps)} entries"
                 yield rect(x + 1, top, self.wide - 2, bottom - top, "fold", f"epochs {self.named.text(first)} to {self.named.text(last)}: {words}")
@@ -267,7 +296,7 @@ class Picture:
         for upward, words in ((True, "boots"), (False, "goes down, or is destroyed")):
             if upward in events:
                 yield lambda x, y, upward=upward: triangle(x + 5, y + 3, upward), words
-        waits = {kind for column in self.columns for kind in waited_by(column.step()).values()}
+        waits = {kind for at in range(len(self.columns)) for kind in self.waits_at(at).values()}
         if "unheard" in waits:
             yield lambda x, y: rect(x + 1, y + 3, 15, 6, "unheard", "", 3), "has yet to be heard"
         if "blocks" in waits:
@@ -313,7 +342,9 @@ def script_epoch(epochs: Epochs, epoch: Optional[int], otherwise: int) -> int:
 def drawn(options: argparse.Namespace) -> str:
     epochs = epochs_of(options.script, options.epochs)
     since, until = script_epoch(epochs, options.since, 0), script_epoch(epochs, options.until, MOST_EPOCH)
-    group, refused = followed(options.program, options.script, *group_of(options.group), since, until)
+    group, refused = followed(options.program, options.script, *group_of(options.group), since, until, epochs.offset)
+    if epochs.offset < 0:
+        refused.append("the epochs in the sentences are the script's")
     for told in refused:
         print(f"draw_group: {told}", file=sys.stderr)
     return Picture(group, epochs).svg()

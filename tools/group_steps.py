@@ -9,6 +9,7 @@ import tempfile
 from typing import Any, Dict, FrozenSet, Generator, Iterable, Iterator, List, NamedTuple, Optional, Set, Tuple, cast
 
 from ceph_json import Unusable, ranges, text_of
+from group_reasons import Reasons, explained
 
 PROGRAM = pathlib.Path(__file__).resolve().parent.parent / "crates/pgpeer/out/pgpeer"
 ENTRIES = ("inc", "info", "entries", "close")
@@ -96,6 +97,7 @@ class Group(NamedTuple):
     pool: Pool
     steps: List[Step]
     by_report: FrozenSet[int] = frozenset()  # the first epochs of intervals that reports alone say may have gone read-write
+    why: Optional[Reasons] = None  # what is said of it after the last step
 
     def spans(self) -> List[Span]:
         view = self.steps[-1].view
@@ -299,16 +301,20 @@ def may_touch(entry: Dict[str, Any], group: List[int], devices: Set[int]) -> boo
     return any((it[0] if isinstance(it, list) and it else it) in devices for it in items if not isinstance(it, dict))
 
 
-def followed(program: str, path: str, pool: int, pg: int, since: int = 0, until: int = MOST_EPOCH) -> Tuple[Group, List[str]]:
-    """The group after each entry from the epoch `since` on, up to the epoch `until`; and what was refused."""
+def followed(program: str, path: str, pool: int, pg: int, since: int = 0, until: int = MOST_EPOCH,
+             offset: int = 0) -> Tuple[Group, List[str]]:
+    """The group after each entry from the epoch `since` on, up to the epoch `until`; and what was refused. Why it doesn't
+    serve is said in epochs that are `offset` later."""
     entries, group = up_to(read_script(path), until), [pool, pg]
+    lines = [line for _, line, _ in entries]
     question = json.dumps({"op": "ask", "pg": group})
-    last = answers(program, [*(line for _, line, _ in entries), question])[-1]
+    last = answers(program, [*lines, question])[-1]
     if "ok" not in last:
         raise missing_group(path, f"{pool}.{pg:x}", pools_of(entry for _, _, entry in entries))
     devices = devices_of(last, entries, group)
     asked = AskedScript(entries, [may_touch(entry, group, devices) for _, _, entry in entries])
-    return steps_of(program, path, asked, group, since, last)
+    found, refused = steps_of(program, path, asked, group, since, last)
+    return found._replace(why=explained(program, lines, found.name, offset)), refused
 
 
 def lines_of(asked: AskedScript, question: str) -> Iterator[str]:

@@ -1,13 +1,13 @@
 """What is said of a group: devices, verdicts and why."""
 
-from typing import Any, Dict, Iterable, Sequence
+from typing import Any, Dict, Iterable, Optional, Sequence
 
+from group_reasons import Reasons, together
 from group_steps import Pool, Step
 
 
 def osds_text(osds: Iterable[int]) -> str:
-    names = [f"osd.{osd}" for osd in sorted(set(osds))]
-    return " and ".join([", ".join(names[:-1]), names[-1]] if len(names) > 1 else names)
+    return together(f"osd.{osd}" for osd in sorted(set(osds)))
 
 
 def member_text(member: Sequence[int], pool: Pool) -> str:
@@ -29,6 +29,14 @@ def reason(step: Step, pool: Pool) -> str:
         "Serve": behind(view, pool),
     }
     return f"{verdict}: {why[verdict]}"
+
+
+def at_end(step: Step, pool: Pool, why: Optional[Reasons]) -> str:
+    """The verdict after the last step and why, as the program explains it; and who lacks something, where the group serves."""
+    if why is None:
+        return reason(step, pool)
+    lacks = f" {behind(step.view, pool)}." if why.verdict == "Serve" and step.view["missing"] else ""
+    return f"{why.verdict}. {why.says}{lacks}"
 
 
 def short(view: Dict[str, Any], pool: Pool) -> str:

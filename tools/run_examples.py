@@ -4,9 +4,11 @@
     tools/run_examples.py [PROGRAM]
 
 PROGRAM is crates/pgpeer/out/pgpeer where none is given. Each script examples/NAME.jsonl is run and its answers compared
-with examples/NAME.answers.jsonl. Of docs/FORMAT.md each line of JSON that stands indented by four is run as the line after
-examples/first.jsonl, whose map it speaks of: it may be answered neither as no command nor by a fault of its line, but where
-the next indented line is its answer, and then that has to be it. Exits with 1 where an answer differs.
+with examples/NAME.answers.jsonl. Where examples/NAME.txt is there, `explain 1.0` has to print just that of the script, and
+`explain 1.0 --json` what stands in examples/NAME.explain.json. Of docs/FORMAT.md each line of JSON that stands indented by
+four is run as the line after examples/first.jsonl, whose map it speaks of: it may be answered neither as no command nor by a
+fault of its line, but where the next indented line is its answer, and then that has to be it. Exits with 1 where an answer
+differs.
 """
 
 import argparse
@@ -19,9 +21,9 @@ ROOT = pathlib.Path(__file__).resolve().parent.parent
 FAULTS_OF_A_LINE = range(30, 35)
 
 
-def answers(program, script):
-    """Gives the answers to a script, line by line; its run has to end with status 0."""
-    run = subprocess.run([program, "run"], input=script, capture_output=True, timeout=60, check=True)
+def answers(program, script, *words):
+    """Gives what a script is answered, or what other words print for it, line by line; it has to end with status 0."""
+    run = subprocess.run([program, *(words or ["run"])], input=script, capture_output=True, timeout=60, check=True)
     return run.stdout.splitlines()
 
 
@@ -30,6 +32,13 @@ def examples():
     for script in sorted((ROOT / "examples").glob("*.jsonl")):
         if not script.name.endswith(".answers.jsonl"):
             yield script, script.with_suffix("").with_suffix(".answers.jsonl")
+
+
+def explanations():
+    """Gives each explanation beside a script with that script, and with the words that print it."""
+    for suffix, words in ((".txt", ["explain", "1.0"]), (".explain.json", ["explain", "1.0", "--json"])):
+        for wanted in sorted((ROOT / "examples").glob(f"*{suffix}")):
+            yield wanted, wanted.with_name(wanted.name[: -len(suffix)] + ".jsonl"), words
 
 
 def is_answer(line):
@@ -46,15 +55,19 @@ def documented():
             yield line, following if is_answer(following) else None
 
 
-def wrong_example(program, script, wanted):
-    """Says what is wrong with the answers to a script, if anything."""
-    found, wanted = answers(program, script.read_bytes()), wanted.read_bytes().splitlines()
+def wrong_example(program, script, wanted, *words):
+    """Says what is wrong with the answers to a script, or with what other words print for it, if anything."""
+    try:
+        found, wanted = answers(program, script.read_bytes(), *words), wanted.read_bytes().splitlines()
+    except subprocess.CalledProcessError as end:
+        return f"ended with status {end.returncode}: {end.stderr.decode(errors='replace')[-500:].strip()}"
     if found == wanted:
         return None
+    what = "line" if words else "answer"
     for place, pair in enumerate(zip(found, wanted)):
         if pair[0] != pair[1]:
-            return f"answer {place + 1} is {pair[0].decode()} and not {pair[1].decode()}"
-    return f"{len(found)} answers and not {len(wanted)}"
+            return f"{what} {place + 1} is {pair[0].decode()} and not {pair[1].decode()}"
+    return f"{len(found)} {what}s and not {len(wanted)}"
 
 
 def wrong_line(program, before, line, wanted):
@@ -70,6 +83,9 @@ def main(program):
     for script, wanted in examples():
         tried += 1
         wrong.append((script.name, wrong_example(program, script, wanted)))
+    for wanted, script, words in explanations():
+        tried += 1
+        wrong.append((wanted.name, wrong_example(program, script, wanted, *words)))
     before = (ROOT / "examples" / "first.jsonl").read_bytes()
     for line, wanted in documented():
         tried += 1

@@ -12,6 +12,8 @@ In this order, each part with its count and its seconds:
   statuses                          the program ends in each of its statuses (check_statuses.py)
   workers                           examples and stored scripts have the same bytes with workers (compare_workers.py)
   fuzz                              generated scripts have the answers of the model, for a minute at most (fuzz/fuzz.py)
+  explanations                      what brings a group back is what each subset of devices does, for half a minute at most
+                                    (fuzz/explain.py)
   allocations refused               each allocation of a short script refused in turn, with and without workers
                                     (refuse_allocations.py)
 
@@ -42,6 +44,7 @@ PROGRAM = ROOT / "crates/pgpeer/out/pgpeer"
 NO_PROGRAM = ROOT / "no program yet"
 SHORT_SCRIPTS = (("first", 1, 0), ("first", 2, 2))  # an example, shards and workers
 FUZZED_LINES = 300_000  # fewer where a minute goes by before
+EXPLAINED_LOGS = 300  # fewer where half a minute goes by before
 MOST_SECONDS = 480  # for all parts but the gate
 MOST_SHOWN = 4000  # characters of what a failed part said
 
@@ -95,6 +98,14 @@ def scripts(said: str) -> Optional[Counts]:
     return int(found[1].replace(",", "")) - failed, failed
 
 
+def explanations(said: str) -> Optional[Counts]:
+    found = re.search(r"^([\d,]+) groups, [\d,]+ subsets, ([\d,]+) wrong\s*\Z", said, re.M)
+    if not found:
+        return None
+    groups, failed = (int(it.replace(",", "")) for it in found.groups())
+    return max(groups - failed, 0), failed
+
+
 def allocations(said: str) -> Optional[Counts]:
     found = re.search(r"^(\d+) allocations, \d+ answers$", said, re.M)
     wrong = re.findall(r"\d+", "".join(re.findall(r"^wrong where these were refused: \[(.*)\]$", said, re.M)))
@@ -121,6 +132,7 @@ def before_gate() -> List[Part]:
 
 def after_gate(seed: str) -> List[Part]:
     fuzz = python("fuzz/fuzz.py", "--lines", FUZZED_LINES, "--minutes", 1, "--seconds", 60, "--seed", seed)
+    explain = python("fuzz/explain.py", "--logs", EXPLAINED_LOGS, "--minutes", 0.5, "--seed", seed)
     sweep = python("tools/refuse_allocations.py", PROGRAM)
     return [
         Part("tests of tools/, with the program", tests_in("tools"), 240, unit_tests, program=PROGRAM),
@@ -128,6 +140,7 @@ def after_gate(seed: str) -> List[Part]:
         Part("statuses", python("tools/check_statuses.py"), 60, tried_and_wrong),
         Part("workers", python("tools/compare_workers.py", "--stored", "--seconds", 30), 90, compared_runs),
         Part(f"fuzz, seed {seed}", fuzz, 130, scripts),
+        Part(f"explanations, seed {seed}", explain, 60, explanations),
     ] + [
         Part(
             f"allocations refused, {script}.jsonl, {shards} shards, {workers} workers",

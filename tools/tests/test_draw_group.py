@@ -325,7 +325,7 @@ class BadInput(unittest.TestCase):
         words = [sys.executable, HERE.parent / "draw_group.py", "--program", PROGRAM, "--from", "4", "--to", "7", "-", "1.0"]
         run = subprocess.run(words, input=script, capture_output=True, text=True)
         self.assertEqual((run.returncode, run.stderr), (0, ""))
-        self.assertIn("At the end, Down: writes may be on osd.0 and osd.1 alone", run.stdout)
+        self.assertIn("At the end: Down. It waits for osd.0 and osd.1", run.stdout)
         tips = [node.text for node in xml.fromstring(run.stdout).iter(f"{SVG}title")]
         epochs = {int(found[1]) for found in (re.match(r"epoch (\d+), ", tip) for tip in tips) if found}
         self.assertEqual(epochs, {4, 5, 6, 7})

@@ -22,6 +22,7 @@ SAYS = {
     "tools/compare_workers.py": "8 scripts, 3 runs of each with workers, 0 wrong",
     "tools/refuse_allocations.py": "153 allocations, 8 answers",
     "fuzz/fuzz.py": "1,060 scripts, 55,530 lines, 9 bytes, 0 wrong answers, 0 other statuses, 0 hangs.",
+    "fuzz/explain.py": "60 logs, 125 ends\n1,352 groups, 800 subsets, 0 wrong",
 }
 STUB = "import sys, time\n{before}\nprint({said!r})\nsys.exit({status})\n"
 UNIT_TEST = """import os, unittest
@@ -40,7 +41,7 @@ echo "{last}"
 exit {status}
 """
 BUILD = "mkdir -p crates/pgpeer/out && cp /bin/true crates/pgpeer/out/pgpeer"
-ALL = 2 + 110 + 2 + 47 + 14 + 24 + 1060 + 2 * 153
+ALL = 2 + 110 + 2 + 47 + 14 + 24 + 1060 + 1352 + 2 * 153
 
 
 class WithTree(unittest.TestCase):
@@ -91,6 +92,7 @@ class Runs(WithTree):
         self.assertRegex(lines[0], r"^tests of tools/: 1 passed, 0 failed, 1 skipped without the program \(\d+ s\)$")
         self.assertIn("rt: proved", lines)
         self.assertRegex("\n".join(lines), r"\nfuzz, seed 7: 1060 passed, 0 failed \(\d+ s\)\n")
+        self.assertRegex("\n".join(lines), r"\nexplanations, seed 7: 1352 passed, 0 failed \(\d+ s\)\n")
         self.assertRegex("\n".join(lines), r"\ntests of tools/, with the program: 2 passed, 0 failed \(\d+ s\)\n")
 
     def test_no_file_is_left_but_in_out(self):
@@ -133,7 +135,7 @@ class Runs(WithTree):
         for name in SAYS:
             self.stub(name, "Traceback", 1)
         status, lines = self.run_all()
-        self.assertEqual((status, lines[-1]), (1, "114 passed, 6 failed"))
+        self.assertEqual((status, lines[-1]), (1, "114 passed, 7 failed"))
 
     def test_a_part_without_end_is_stopped(self):
         self.stub("tools/check_statuses.py", "", before="time.sleep(600)")
@@ -168,6 +170,7 @@ class Counts(unittest.TestCase):
             (run_tests.tried_and_wrong, "a: wrong\n14 runs, 3 wrong\n", (11, 3)),
             (run_tests.compared_runs, "8 scripts, 3 runs of each with workers, 5 wrong\n", (19, 5)),
             (run_tests.scripts, "1,060 scripts, 5 lines, 2 wrong answers, 1 other statuses, 3 hangs.\nScripts: 1 full.\n", (1054, 6)),
+            (run_tests.explanations, "1,352 groups, 8,001 subsets, 3 wrong\n", (1349, 3)),
             (run_tests.allocations, "153 allocations, 8 answers\n   151 all answers\nwrong where these were refused: [3, 17]\n", (151, 2)),
         ]:
             self.assertEqual(read(said), wanted)

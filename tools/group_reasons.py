@@ -1,0 +1,81 @@
+"""What `pgpeer explain` says of a group at the end of a script: why it doesn't serve, and what brings it back."""
+
+import json
+import subprocess
+from typing import Any, Dict, Iterable, List, NamedTuple
+
+from ceph_json import Unusable
+
+Set = List[int]  # devices that are enough together
+MOST_SPANS = 5  # runs of epochs that are named
+KEYS = ("says", "verdict", "blocking", "starts", "losses", "unheard")
+
+
+class Reasons(NamedTuple):
+    """The keys of the explanation that a picture shows."""
+
+    says: str
+    verdict: str
+    blocking: List[Dict[str, Any]]
+    starts: Dict[str, Any]
+    losses: Dict[str, Any]
+    unheard: List[List[int]]
+
+    def waits(self) -> Dict[int, str]:
+        """For which devices the group waits, and how."""
+        unheard = self.unheard if self.verdict == "Waiting" else []
+        return {**{osd: "unheard" for osd, _ in unheard}, **{osd: "blocks" for it in self.blocking for osd in it["down"]}}
+
+    def back(self) -> str:
+        """What brings the group back, in one sentence; empty where no interval blocks it. One that blocks a group of another
+        verdict than Down is still to come."""
+        head = "What brings it back" if self.verdict == "Down" else "It would be down, too; what ends that"
+        ways = []
+        if self.starts["sets"]:
+            ways.append(f"start {sets_text(self.starts)}")
+        if self.losses["sets"]:
+            ways.append(f"giving up what was written in {epochs_text(self.blocking)}, declare lost {sets_text(self.losses)}")
+        return f"{head}: {'; or, '.join(ways)}." if ways else ""
+
+
+def together(names: Iterable[str]) -> str:
+    """Names as a list in words."""
+    found = list(names)
+    return " and ".join([", ".join(found[:-1]), found[-1]] if len(found) > 1 else found)
+
+
+def sets_text(ways: Dict[str, Any]) -> str:
+    """Sets of devices, each of which is enough, as `osd.0, or osd.3 and osd.5`."""
+    found = ", or ".join(together(f"osd.{osd}" for osd in osds) for osds in ways["sets"])
+    return found + (" (there may be others)" if ways["more"] else "")
+
+
+def epochs_text(blocking: List[Dict[str, Any]]) -> str:
+    """The epochs of intervals, as `epoch 3` or `epochs 3 to 4 and 7`; those that follow on each other are told as one."""
+    runs: List[List[int]] = []
+    for it in blocking:
+        if runs and runs[-1][1] + 1 == it["first"]:
+            runs[-1][1] = it["last"]
+        else:
+            runs.append([it["first"], it["last"]])
+    spans = [str(first) if first == last else f"{first} to {last}" for first, last in runs]
+    named = together(spans) if len(spans) <= MOST_SPANS else ", ".join([*spans[:MOST_SPANS], "and later ones"])
+    return f"epoch{'' if len(spans) == 1 and ' ' not in spans[0] else 's'} {named}"
+
+
+def explained(program: str, lines: Iterable[str], group: str, offset: int = 0) -> Reasons:
+    """What the program says of a group that the lines make, with its epochs so much later."""
+    words = [program, "explain", group, "--json", *(["--epoch-offset", str(offset)] if offset > 0 else [])]
+    script = "".join(f"{line}\n" for line in lines)
+    try:
+        run = subprocess.run(words, input=script.encode(), capture_output=True)
+    except OSError as fault:
+        raise Unusable(f"{program}: {fault.strerror}") from fault
+    if run.returncode != 0:
+        told = run.stderr.decode(errors="replace").strip().splitlines()[-1:]
+        raise Unusable(f"{program} explain ended with status {run.returncode}: {''.join(told)}")
+    try:
+        found = json.loads(run.stdout)
+        return Reasons(*(found[key] for key in KEYS))
+    except (ValueError, RecursionError, KeyError, TypeError) as fault:
+        raise Unusable(f"{program} explain gave no explanation") from fault

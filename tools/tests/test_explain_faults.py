@@ -1,0 +1,288 @@
+"""Tests of what `pgpeer explain` says of lines that are refused."""
+
+import json
+import os
+import pathlib
+import subprocess
+import sys
+import unittest
+
+HERE = pathlib.Path(__file__).resolve().parent
+sys.path.insert(0, str(HERE.parent))
+
+import tell_groups  # noqa: E402
+
+PROGRAM = os.environ.get("PGPEER", str(tell_groups.PROGRAM))
+HAS_PROGRAM = os.access(PROGRAM, os.X_OK)
+ABSENT = object()
+
+
+def changed(line, keys):
+    """The object with these keys set, or taken away where they are ABSENT."""
+    found = {**line, **keys}
+    return {key: value for key, value in found.items() if value is not ABSENT}
+
+
+def inc(**keys):
+    return changed({"op": "inc", "epoch": 1}, keys)
+
+
+def info(**keys):
+    line = {"op": "info", "pg": [1, 0], "from": [2, 0], "stamp": 1, "les": 0, "history_les": 0}
+    return changed({**line, "last_update": [0, 0], "log_tail": [0, 0], "complete": True}, keys)
+
+
+def entries(**keys):
+    return changed({"op": "entries", "pg": [1, 0], "from": [0, 0], "stamp": 1, "log": [[1, 1, "modify", "a"]]}, keys)
+
+
+def pool(**keys):
+    return changed({"id": 1, "pg_num": 1, "kind": "replicated", "size": 3, "min_size": 2, "leaf": 0}, keys)
+
+
+def grouped(groups, **keys):
+    return pool(kind="grouped", groups=groups, **keys)
+
+
+def bucket(**keys):
+    return changed({"id": -1, "type": 1, "alg": "uniform", "items": [0]}, keys)
+
+
+def trace(code=ABSENT, epochs=ABSENT, **keys):
+    return changed({"op": "trace"}, {"code": code, "epochs": epochs, **keys})
+
+
+def epoch(**keys):
+    return changed({"up": [0], "acting": [0], "size": 3, "min_size": 2, "up_from": 1, "up_thru": 1}, keys)
+
+
+REPLICATED = {"kind": "replicated"}
+ERASURE = {"kind": "erasure", "k": 2}
+WORD = "(0 to 4294967295)"
+KINDS = '"replicated", "erasure" or "grouped"'
+
+
+def parts(*groups):
+    return trace({"kind": "grouped", "groups": list(groups)}, v=2)
+
+
+# A line, as text or as an object, and what is told of it.
+LINES = [
+    # No command at all.
+    ("{", "NotJson: it is no JSON text"),
+    ("nonsense", "NotJson: it is no JSON text"),
+    ("[" * 128 + "]" * 128, "NotJson: it is no JSON text"),
+    ("1e999", "NotJson: it is no JSON text"),
+    ("[]", "NoOp: it has no op, or one that is not known"),
+    ("{}", "NoOp: it has no op, or one that is not known"),
+    ({"op": "outage"}, "NoOp: it has no op, or one that is not known"),
+    ({"op": 1}, "NoOp: it has no op, or one that is not known"),
+    ('{"op":"close"' + " " * 1048576 + "}", "LineTooLong: it has more than 1048576 bytes"),
+    # Keys that the operation doesn't have.
+    (inc(colour=1), "UnknownKey: colour is no key of inc"),
+    (info(Epoch=1, zone=2), "UnknownKey: Epoch is no key of info"),
+    ({"op": "close", "epoch": 1}, "UnknownKey: epoch is no key of close"),
+    ({"op": "ask", "pool": 1}, "UnknownKey: pool is no key of ask"),
+    (entries(name="a"), "UnknownKey: name is no key of entries"),
+    ({"op": "locate", "pg": [1, 0]}, "UnknownKey: pg is no key of locate"),
+    (trace(k=1), "UnknownKey: k is no key of trace"),
+    (inc(**{"a b": 1}), 'UnknownKey: "a b" is no key of inc'),
+    (inc(**{"a\nb": 1}), 'UnknownKey: "a\\nb" is no key of inc'),
+    (inc(**{"": 1}), 'UnknownKey: "" is no key of inc'),
+    (inc(**{"a" * 65: 1}), "UnknownKey: a key of 65 bytes is no key of inc"),
+    # The version, and versions of writes.
+    ({"op": "close", "v": 3}, "BadField: v: 3 is not a version of the format (1 to 2)"),
+    ({"op": "close", "v": "2"}, 'BadField: v: "2" is not a version of the format (1 to 2)'),
+    (inc(v=0), "BadField: v: 0 is not a version of the format (1 to 2)"),
+    (info(last_update=[1]), "BadField: last_update: the list has 1 item in place of 2"),
+    (info(last_update=[1, 2, 3]), "BadField: last_update: the list has 3 items in place of 2"),
+    (info(last_update=7), "BadField: last_update: 7 is not a list"),
+    (info(log_tail=[1, -1]), f"BadField: log_tail[1]: -1 is not the number of a write {WORD}"),
+    (info(log_tail=[4294967296, 1]), f"BadField: log_tail[0]: 4294967296 is not an epoch {WORD}"),
+    # Groups and members.
+    ({"op": "ask"}, "BadField: pg is absent"),
+    ({"op": "ask", "pg": [0, 0]}, "BadField: pg[0]: 0 is not a pool (1 to 255)"),
+    ({"op": "ask", "pg": [1, 1024]}, "BadField: pg[1]: 1024 is not a group (0 to 1023)"),
+    ({"op": "ask", "pg": "1.0"}, 'BadField: pg: "1.0" is not a list'),
+    ({"op": "ask", "pg": {"pool": 1}}, "BadField: pg: an object is not a list"),
+    (info(**{"from": [0, 16]}), "BadField: from[1]: 16 is not a slot (0 to 15)"),
+    (entries(**{"from": [4096, 0]}), "BadField: from[0]: 4096 is not a device (0 to 4095)"),
+    # The other keys of an info.
+    (info(les=ABSENT), "BadField: les is absent"),
+    (info(stamp=None), f"BadField: stamp: null is not an epoch {WORD}"),
+    (info(history_les="a" * 65), f"BadField: history_les: a text of 65 bytes is not an epoch {WORD}"),
+    (info(last_epoch_clean=[1]), f"BadField: last_epoch_clean: a list is not an epoch {WORD}"),
+    (info(complete=1), "BadField: complete: 1 is not true or false"),
+    (info(complete=ABSENT, stamp=-1), "BadField: complete is absent"),
+    # Log entries.
+    (entries(log=[]), "BadField: log: the list has 0 items, and has to have 1 at least"),
+    (entries(log=[[1, 1, "modify", "a"]] * 257), "BadField: log: the list has 257 items, and may have 256 at most"),
+    (entries(log={}), "BadField: log: an object is not a list"),
+    (entries(log=[[1, 1, "modify", "a"], 5]), "BadField: log[1]: 5 is not a list"),
+    (entries(log=[[1, 1, "modify"]]), "BadField: log[0]: the list has 3 items in place of 4"),
+    (entries(log=[[1, 1.5, "modify", "a"]]), f"BadField: log[0][1]: 1.5 is not the number of a write {WORD}"),
+    (entries(log=[[1, 1, "create", "a"]]), 'BadField: log[0][2]: "create" is not "modify" or "delete"'),
+    (entries(log=[[1, 1, True, "a"]]), 'BadField: log[0][2]: true is not "modify" or "delete"'),
+    (entries(log=[[1, 1, "delete", ""]]), "BadField: log[0][3]: the name is empty"),
+    (entries(log=[[1, 1, "delete", 5]]), "BadField: log[0][3]: 5 is not a name"),
+    # Where an object lies.
+    ({"op": "locate", "pool": 1}, "BadField: name is absent"),
+    ({"op": "locate", "name": "a"}, "BadField: pool is absent"),
+    ({"op": "locate", "name": "ä" * 128, "pool": 1}, "BadField: name: the name has 256 bytes, and may have 255 at most"),
+    ({"op": "locate", "name": "a", "pool": 256}, "BadField: pool: 256 is not a pool (1 to 255)"),
+    # Devices of an incremental.
+    (inc(epoch=ABSENT), "BadField: epoch is absent"),
+    (inc(epoch=-1), f"BadField: epoch: -1 is not an epoch {WORD}"),
+    ('{"op":"inc","epoch":1.0}', f"BadField: epoch: 1.0 is not an epoch {WORD}"),
+    (inc(up=[0, 1, 2, 4096]), "BadField: up[3]: 4096 is not a device (0 to 4095)"),
+    (inc(up=0), "BadField: up: 0 is not a list"),
+    (inc(down=[None]), "BadField: down[0]: null is not a device (0 to 4095)"),
+    (inc(gone=[[1]]), "BadField: gone[0]: a list is not a device (0 to 4095)"),
+    (inc(gone=[-1], up=[-1]), "BadField: gone[0]: -1 is not a device (0 to 4095)"),
+    (inc(weight=[[0, 65536], [1, -1]]), f"BadField: weight[1][1]: -1 is not a weight {WORD}"),
+    (inc(weight=[[0]]), "BadField: weight[0]: the list has 1 item in place of 2"),
+    (inc(up_thru=[[0, "1"]]), f'BadField: up_thru[0][1]: "1" is not an epoch {WORD}'),
+    (inc(lost=[[5000, 1]]), "BadField: lost[0][0]: 5000 is not a device (0 to 4095)"),
+    # Pools.
+    (inc(pools=pool()), "BadField: pools: an object is not a list"),
+    (inc(pools=[1]), "BadField: pools[0]: 1 is not an object"),
+    (inc(pools=[pool(min_size=ABSENT)]), "BadField: pools[0]: min_size is absent"),
+    (inc(pools=[pool(), pool(kind=ABSENT)]), "BadField: pools[1]: kind is absent"),
+    (inc(pools=[pool(kind="mirrored")]), f'BadField: pools[0].kind: "mirrored" is not {KINDS}'),
+    (inc(pools=[pool(kind=3)]), f"BadField: pools[0].kind: 3 is not {KINDS}"),
+    (inc(pools=[pool(k=2)]), "BadField: pools[0]: k is no key of a replicated pool"),
+    (inc(pools=[pool(minsize=2, min_size=ABSENT)]), "BadField: pools[0]: minsize is no key of a replicated pool"),
+    (inc(pools=[pool(kind="erasure")]), "BadField: pools[0]: k is absent"),
+    (inc(pools=[pool(kind="erasure", k=256)]), "BadField: pools[0].k: 256 is not a number of data shards (0 to 255)"),
+    (inc(pools=[pool(kind="erasure", k=2, groups=[])]), "BadField: pools[0]: groups is no key of an erasure pool"),
+    (inc(pools=[pool(id=0)]), "BadField: pools[0].id: 0 is not a pool (1 to 255)"),
+    (inc(pools=[pool(pg_num=65536)]), "BadField: pools[0].pg_num: 65536 is not a number of groups (0 to 65535)"),
+    (inc(pools=[pool(size=256)]), "BadField: pools[0].size: 256 is not a size (0 to 255)"),
+    (inc(pools=[pool(leaf="host")]), 'BadField: pools[0].leaf: "host" is not a type of bucket (0 to 255)'),
+    (inc(sizes=[[1, 3]]), "BadField: sizes[0]: the list has 2 items in place of 3"),
+    (inc(sizes=[[1, 3, 256]]), "BadField: sizes[0][2]: 256 is not a size (0 to 255)"),
+    # Grouped pools.
+    (inc(pools=[grouped([[[0], 1]])]), 'BadField: pools[0].kind: "grouped" needs version 2 of the format'),
+    (inc(v=2, pools=[pool(kind="grouped")]), "BadField: pools[0]: groups is absent"),
+    (inc(v=2, pools=[grouped([[[0], 1]], k=1)]), "BadField: pools[0]: k is no key of a grouped pool"),
+    (inc(v=2, pools=[grouped(3)]), "BadField: pools[0].groups: 3 is not a list"),
+    (inc(v=2, pools=[grouped([[[0], 1]] * 17)]), "BadField: pools[0].groups: the list has 17 items, and may have 16 at most"),
+    (inc(v=2, pools=[grouped([[[0], 1], [1]])]), "BadField: pools[0].groups[1]: the list has 1 item in place of 2"),
+    (inc(v=2, pools=[grouped([[[0, 16], 1]])]), "BadField: pools[0].groups[0][0][1]: 16 is not a slot (0 to 15)"),
+    (inc(v=2, pools=[grouped([[[0] * 17, 1]])]), "BadField: pools[0].groups[0][0]: the list has 17 items, and may have 16 at most"),
+    (inc(v=2, pools=[grouped([[[0], 256]])]), "BadField: pools[0].groups[0][1]: 256 is not a least number of slots (0 to 255)"),
+    (inc(v=3, pools=[grouped([[[0], False]])]), "BadField: pools[0].groups[0][1]: false is not a least number of slots (0 to 255)"),
+    # Lists of pg_temp.
+    (inc(temp=[[1, 0]]), "BadField: temp[0]: the list has 2 items in place of 3"),
+    (inc(temp=[[1, 1024, []]]), "BadField: temp[0][1]: 1024 is not a group (0 to 1023)"),
+    (inc(temp=[[1, 0, 3]]), "BadField: temp[0][2]: 3 is not a list"),
+    (inc(temp=[[1, 0, [0, None, 4096]]]), "BadField: temp[0][2][2]: 4096 is not a device (0 to 4095) or null"),
+    # Buckets.
+    (inc(crush={}), "BadField: crush: an object is not a list"),
+    (inc(crush=[bucket(), "root"]), 'BadField: crush[1]: "root" is not an object'),
+    (inc(crush=[bucket(alg=ABSENT)]), "BadField: crush[0]: alg is absent"),
+    (inc(crush=[bucket(alg="straw2")]), 'BadField: crush[0].alg: "straw2" is not "uniform" or "list"'),
+    (inc(crush=[bucket(weights=[1])]), "BadField: crush[0]: weights is no key of a uniform bucket"),
+    (inc(crush=[bucket(id=0)]), "BadField: crush[0].id: 0 is not the id of a bucket (-65536 to -1)"),
+    (inc(crush=[bucket(type=256)]), "BadField: crush[0].type: 256 is not a type of bucket (0 to 255)"),
+    (inc(crush=[bucket(items=[0, 65536])]), "BadField: crush[0].items[1]: 65536 is not an item of a bucket (-65536 to 65535)"),
+    (inc(crush=[bucket(alg="list")]), "BadField: crush[0]: weights is absent"),
+    (inc(crush=[bucket(alg="list", weights=[-1])]), f"BadField: crush[0].weights[0]: -1 is not a weight {WORD}"),
+    (
+        inc(crush=[bucket(alg="list", items=[0, 1], weights=[1])]),
+        "BadField: crush[0].weights: the list has 1 item in place of 2, one for each of items",
+    ),
+    # The code of a trace.
+    (trace(), "BadField: code is absent"),
+    (trace("replicated"), 'BadField: code: "replicated" is not an object'),
+    (trace({}), "BadField: code: kind is absent"),
+    (trace({"kind": "raid"}), f'BadField: code.kind: "raid" is not {KINDS}'),
+    (trace({"kind": "replicated", "k": 1}), "BadField: code: k is no key of a replicated code"),
+    (trace({"kind": "erasure"}), "BadField: code: k is absent"),
+    (trace({"kind": "erasure", "k": 0}), "BadField: code.k: 0 is not a number of data shards (1 to 16)"),
+    (trace({"kind": "grouped", "groups": [[[0], 1]]}), 'BadField: code.kind: "grouped" needs version 2 of the format'),
+    (parts(), "BadField: code.groups: there is no part"),
+    (parts([[0], 1], [[], 1]), "BadField: code.groups[1][0]: the part has no slot"),
+    (parts([[0, 1, 0], 1]), "BadField: code.groups[0][0][2]: slot 0 stands twice"),
+    (parts([[0, 1], 1], [[2, 1], 1]), "BadField: code.groups[1][0][1]: slot 1 stands twice"),
+    (parts([[0, 1], 0]), "BadField: code.groups[0][1]: 0 is not a least number of slots (1 to 2)"),
+    (parts([[0, 1], 3]), "BadField: code.groups[0][1]: 3 is not a least number of slots (1 to 2)"),
+    # The epochs of a trace.
+    (trace(REPLICATED), "BadField: epochs is absent"),
+    (trace(REPLICATED, []), "BadField: epochs: the list has 0 items, and has to have 1 at least"),
+    (trace(REPLICATED, [epoch()] * 4097), "BadField: epochs: the list has 4097 items, and may have 4096 at most"),
+    (trace(REPLICATED, [epoch(), 2]), "BadField: epochs[1]: 2 is not an object"),
+    (trace(REPLICATED, [epoch(up_thru=ABSENT)]), "BadField: epochs[0]: up_thru is absent"),
+    (trace(REPLICATED, [epoch(epoch=1)]), "BadField: epochs[0]: epoch is no key of an epoch"),
+    (trace(REPLICATED, [epoch(up=[0, None])]), "BadField: epochs[0].up[1]: null is not a device (0 to 4095)"),
+    (trace(ERASURE, [epoch(up=[0, None], acting=["a"])]), 'BadField: epochs[0].acting[0]: "a" is not a device (0 to 4095) or null'),
+    (trace(REPLICATED, [epoch(acting=[0] * 17)]), "BadField: epochs[0].acting: the list has 17 items, and may have 16 at most"),
+    (trace(REPLICATED, [epoch(size=17)]), "BadField: epochs[0].size: 17 is not a size (1 to 16)"),
+    (trace(REPLICATED, [epoch(min_size=0)]), "BadField: epochs[0].min_size: 0 is not a least size (1 to 16)"),
+    (trace(REPLICATED, [epoch(min_size=4)]), "BadField: epochs[0].min_size: 4 is not a least size (1 to 3)"),
+    (trace(REPLICATED, [epoch(up_from=True)]), f"BadField: epochs[0].up_from: true is not an epoch {WORD}"),
+    # What the log refuses, and what has no answer.
+    (inc(epoch=3), "EpochGap (10): the epoch does not follow that of the map"),
+    (inc(up=[0, 0]), "Twice (11): a device, pool or group is named twice"),
+    (inc(down=[5]), "UnknownDevice (12): unknown device"),
+    (inc(pools=[pool(size=0)]), "BadPool (18): bad pool"),
+    (inc(crush=[]), "TreeFault (21): the placement tree has a fault: it has no root, or more than one"),
+    (
+        inc(crush=[bucket(type=0)]),
+        "TreeFault (21): the placement tree has a fault: a type is 0, or not above that of a bucket within",
+    ),
+    (info(), "UnknownGroup (60): unknown placement group"),
+    ({"op": "ask", "pg": [1, 0]}, "UnknownGroup (40): unknown placement group"),
+    ({"op": "locate", "pool": 1, "name": "a"}, "UnknownPool (42): unknown pool"),
+]
+
+# Lines that are judged by those before them, and what is told of all.
+SCRIPT = [
+    (inc(up=[0, 1, 2]), None),
+    ("", None),
+    (inc(epoch=2, up=[0]), "AlreadyUp (13): the device is already up"),
+    (" \t", None),
+    (inc(epoch=2, gone=[1]), "StillUp (15): the device is still up"),
+    (inc(epoch=2, down=[1], weight=[[0, 65536]]), None),
+    (inc(epoch=3, down=[1]), "AlreadyDown (14): the device is already down"),
+    ("}", "NotJson: it is no JSON text"),
+    ({"op": "close"}, None),
+    ({"op": "close"}, "Closed (64): the log is closed"),
+]
+
+
+def text_of(line):
+    return line if isinstance(line, str) else json.dumps(line)
+
+
+def told_of(lines):
+    """The status of `pgpeer explain` on a script, and what it wrote to standard error."""
+    script = "".join(f"{text_of(line)}\n" for line in lines).encode()
+    done = subprocess.run([PROGRAM, "explain"], input=script, stdout=subprocess.DEVNULL, stderr=subprocess.PIPE, check=False)
+    return done.returncode, done.stderr.decode()
+
+
+@unittest.skipUnless(HAS_PROGRAM, "needs the built program")
+class Told(unittest.TestCase):
+    def test_each_line_says_what_is_wrong_and_where(self):
+        for line, told in LINES:
+            with self.subTest(told=told):
+                self.assertEqual(told_of([line]), (0, f"line 1: {told}\n"))
+
+    def test_lines_are_numbered_as_they_stand(self):
+        told = "".join(f"line {number}: {what}\n" for number, (_, what) in enumerate(SCRIPT, 1) if what)
+        self.assertEqual(told_of(line for line, _ in SCRIPT), (0, told))
+
+    def test_a_line_that_is_no_text_is_told(self):
+        self.assertEqual(self.raw(b'{"op":"\xff"}\n'), (0, b"line 1: NotJson: it is no JSON text\n"))
+
+    def test_a_good_line_is_not_told_of(self):
+        self.assertEqual(told_of([inc(up=[0, 1, 2])]), (0, ""))
+
+    def raw(self, script):
+        done = subprocess.run([PROGRAM, "explain"], input=script, stdout=subprocess.DEVNULL, stderr=subprocess.PIPE, check=False)
+        return done.returncode, done.stderr
+
+
+if __name__ == "__main__":
+    unittest.main()

@@ -1,0 +1,183 @@
+"""Tests of what draw_group.py shows of `pgpeer explain`."""
+
+import os
+import pathlib
+import sys
+import tempfile
+import unittest
+import xml.etree.ElementTree as xml
+
+HERE = pathlib.Path(__file__).resolve().parent
+ROOT = HERE.parent.parent
+sys.path.insert(0, str(HERE.parent))
+
+import draw_group  # noqa: E402
+import group_reasons  # noqa: E402
+from ceph_epochs import Epochs  # noqa: E402
+from ceph_json import Unusable  # noqa: E402
+from test_draw_group import HAS_PROGRAM, POOL, PROGRAM, SVG, marks, step, written  # noqa: E402
+
+BLOCKING = [{"first": 3, "last": 4, "down": [0, 1], "lacks": 1, "acting": [0, 1], "clean": None}]
+DOWN = "It waits for osd.0 and osd.1, which are down: writes may have been taken in epochs 3 to 4, and too few of those who took them are at hand."
+
+
+def ways(*sets, more=False):
+    return {"sets": [list(osds) for osds in sets], "more": more}
+
+
+def reasons(**more):
+    told = {"says": DOWN, "verdict": "Down", "blocking": BLOCKING, "starts": ways((0,), (1,)), "losses": ways((0,), (1,)), "unheard": []}
+    return group_reasons.Reasons(**{**told, **more})
+
+
+def picture(steps, why, epochs=Epochs()):
+    return draw_group.Picture(draw_group.Group("1.0", POOL, steps, why=why), epochs)
+
+
+def words_of(root):
+    return [node.text for node in root.iter(f"{SVG}text") if node.get("x") == "16.0"]
+
+
+class Words(unittest.TestCase):
+    def test_sets_of_devices(self):
+        for sets, wanted in (
+            (ways((0,)), "osd.0"), (ways((0,), (3, 5)), "osd.0, or osd.3 and osd.5"),
+            (ways((1, 2, 3), more=True), "osd.1, osd.2 and osd.3 (there may be others)"),
+        ):  # fmt: skip
+            self.assertEqual(group_reasons.sets_text(sets), wanted)
+
+    def test_epochs_of_intervals(self):
+        def of(*spans):
+            return group_reasons.epochs_text([{"first": first, "last": last} for first, last in spans])
+
+        self.assertEqual(of((7, 7)), "epoch 7")
+        self.assertEqual(of((3, 4)), "epochs 3 to 4")
+        self.assertEqual(of((3, 4), (7, 7), (9, 12)), "epochs 3 to 4, 7 and 9 to 12")
+
+    def test_intervals_that_follow_on_each_other_are_told_as_one(self):
+        self.assertEqual(group_reasons.epochs_text([{"first": 3, "last": 4}, {"first": 5, "last": 5}, {"first": 7, "last": 7}]), "epochs 3 to 5 and 7")
+
+    def test_many_intervals(self):
+        spans = [{"first": 2 * at, "last": 2 * at} for at in range(1, 9)]
+        self.assertEqual(group_reasons.epochs_text(spans), "epochs 2, 4, 6, 8, 10, and later ones")
+
+    def test_what_brings_a_group_back(self):
+        wanted = "What brings it back: start osd.0, or osd.1; or, giving up what was written in epochs 3 to 4, declare lost osd.0, or osd.1."
+        self.assertEqual(reasons().back(), wanted)
+        self.assertEqual(reasons(losses=ways()).back(), "What brings it back: start osd.0, or osd.1.")
+        self.assertEqual(reasons(verdict="Waiting", blocking=[], starts=ways(), losses=ways()).back(), "")
+        wanted = "It would be down, too; what ends that: start osd.0, or osd.1."
+        self.assertEqual(reasons(verdict="NoPrimary", losses=ways()).back(), wanted)
+
+    def test_for_whom_a_group_waits(self):
+        self.assertEqual(reasons().waits(), {0: "blocks", 1: "blocks"})
+        self.assertEqual(reasons(verdict="Waiting", blocking=[], unheard=[[2, 0], [3, 1]]).waits(), {2: "unheard", 3: "unheard"})
+        self.assertEqual(reasons(unheard=[[2, 0]]).waits(), {0: "blocks", 1: "blocks"})
+
+
+class Pictures(unittest.TestCase):
+    STEPS = [step(1), step(3, 3, [0, 1]), step(5, 5, [2], "Down", blocked=[0, 1])]
+
+    def test_the_sentence_and_what_brings_it_back_are_whole(self):
+        root = xml.fromstring(picture(self.STEPS, reasons()).svg())
+        words = " ".join(words_of(root))
+        self.assertIn(f"At the end: Down. {DOWN}", words)
+        self.assertIn(reasons().back(), words)
+        self.assertGreater(len(words_of(root)), 4)
+
+    def test_what_is_written_has_room(self):
+        drawing = picture(self.STEPS, reasons())
+        for words in drawing.head + drawing.foot:
+            self.assertLess(16 + draw_group.room_for(words), drawing.width)
+        self.assertLess(drawing.waits_y + draw_group.WAIT * len(drawing.waited), drawing.foot_y)
+        self.assertLess(drawing.foot_y + draw_group.WORDS * (len(drawing.foot) - 1) + 10, drawing.legend_y)
+        self.assertEqual(drawing.top, draw_group.TOP + draw_group.WORDS * (len(drawing.head) - 1))
+
+    def test_what_has_no_room_is_left_out(self):
+        drawing = picture(self.STEPS, reasons(starts=ways(*((osd, osd + 1) for osd in range(100)))))
+        self.assertEqual(len(drawing.foot), draw_group.MOST_LINES)
+        self.assertTrue(drawing.foot[-1].endswith("\u2026"))
+
+    def test_nothing_stands_at_the_foot_of_a_group_that_serves(self):
+        why = reasons(verdict="Serve", says="It serves, led by osd.0.", blocking=[], starts=ways(), losses=ways())
+        drawing = picture([step(1)], why)
+        self.assertEqual((drawing.head, drawing.foot), (["At the end: Serve. It serves, led by osd.0."], []))
+        self.assertEqual(drawing.foot_y, drawing.legend_y)
+
+    def test_who_lacks_something_where_it_serves_is_told_too(self):
+        last = step(1)
+        last.view["missing"] = [{"member": [2, 0], "state": "missing", "objects": {"a": [1, 1]}}]
+        why = reasons(verdict="Serve", says="It serves, led by osd.0.", blocking=[], starts=ways(), losses=ways())
+        self.assertEqual(picture([last], why).head, ["At the end: Serve. It serves, led by osd.0. osd.2 lacks 1 object."])
+
+    def test_the_last_columns_marks_are_by_it_and_earlier_ones_by_the_answers(self):
+        steps = [step(4, 4, [2], "Waiting", unheard=[(7, 0)]), step(5, 5, [2], "Down", blocked=[0])]
+        drawing = picture(steps, reasons())
+        self.assertEqual([drawing.waits_at(at) for at in (0, 1)], [{7: "unheard"}, {0: "blocks", 1: "blocks"}])
+        self.assertEqual(drawing.waited, [0, 1, 7])
+        tips = [node.text for node in xml.fromstring(drawing.svg()).iter(f"{SVG}title")]
+        self.assertIn(f"epoch 5, Down. {DOWN}", tips)
+        self.assertIn("epoch 4, Waiting: not heard yet: osd.7", tips)
+        self.assertEqual(len(marks(xml.fromstring(drawing.svg()), "blocks")), 2)
+
+
+STUB = """#!{python}
+import json, sys
+script = sys.stdin.read()
+told = {{"says": " ".join(sys.argv[1:]) + ": " + script, "verdict": "Serve", "blocking": [], "starts": {{}}, "losses": {{}}, "unheard": []}}
+{then}
+"""
+
+
+class Program(unittest.TestCase):
+    def stub(self, then):
+        folder = tempfile.TemporaryDirectory()
+        self.addCleanup(folder.cleanup)
+        path = pathlib.Path(folder.name) / "stub"
+        path.write_text(STUB.format(python=sys.executable, then=then))
+        os.chmod(path, 0o755)
+        return str(path)
+
+    def test_how_it_is_asked(self):
+        stub = self.stub("print(json.dumps(told))")
+        self.assertEqual(group_reasons.explained(stub, ["a", "b"], "1.a").says, "explain 1.a --json: a\nb\n")
+        self.assertEqual(group_reasons.explained(stub, [], "1.a", 15).says, "explain 1.a --json --epoch-offset 15: ")
+        self.assertEqual(group_reasons.explained(stub, [], "1.a", -2).says, "explain 1.a --json: ")
+
+    def test_what_is_no_explanation(self):
+        for then, told in (
+            ("sys.exit('no such group')", "explain ended with status 1: no such group"), ("print('{')", "explain gave no explanation"),
+            ("print('[]')", "explain gave no explanation"), ("del told['says']; print(json.dumps(told))", "explain gave no explanation"),
+        ):  # fmt: skip
+            with self.assertRaisesRegex(Unusable, told):
+                group_reasons.explained(self.stub(then), ["{}"], "1.0")
+        with self.assertRaisesRegex(Unusable, "none: No such file"):
+            group_reasons.explained("/none", [], "1.0")
+
+
+@unittest.skipUnless(HAS_PROGRAM, f"no program {PROGRAM}")
+class Examples(unittest.TestCase):
+    def test_the_pictures_say_what_the_program_says(self):
+        for script in sorted((ROOT / "examples").glob("explain_*.jsonl")):
+            if script.name.endswith(".answers.jsonl"):
+                continue
+            status, out, err = written(["--program", PROGRAM, str(script), "1.0"])
+            self.assertEqual((status, err), (0, ""), script.name)
+            self.assertEqual(out, (ROOT / f"docs/{script.stem}.svg").read_text(), script.name)
+            why = group_reasons.explained(PROGRAM, script.read_text().splitlines(), "1.0")
+            self.assertIn(f"At the end: {why.verdict}. {why.says}", " ".join(words_of(xml.fromstring(out))))
+
+    def test_epochs_are_those_of_the_cluster(self):
+        script = str(ROOT / "examples/ceph_outage.jsonl")
+        group, _ = draw_group.followed(PROGRAM, script, 1, 0, offset=15)
+        self.assertEqual([(it["first"], it["last"]) for it in group.why.blocking], [(20, 21)])
+        status, out, _ = written(["--program", PROGRAM, script, "1.0"])
+        self.assertIn("in epochs 20 to 21", " ".join(words_of(xml.fromstring(out))))
+
+    def test_the_group_is_explained_at_the_last_epoch_that_is_drawn(self):
+        script = str(ROOT / "examples/explain_down.jsonl")
+        self.assertEqual(draw_group.followed(PROGRAM, script, 1, 0, until=4)[0].why.verdict, "Serve")
+
+
+if __name__ == "__main__":
+    unittest.main()

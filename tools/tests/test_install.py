@@ -1,0 +1,203 @@
+"""Tests of install.sh and build_deb.sh, of the completions, and of the man page against what the program's help names."""
+
+import os
+import pathlib
+import re
+import shutil
+import stat
+import subprocess
+import tempfile
+import unittest
+
+ROOT = pathlib.Path(__file__).resolve().parent.parent.parent
+INSTALL = ROOT / "tools" / "install.sh"
+BUILD_DEB = ROOT / "tools" / "build_deb.sh"
+PAGE = ROOT / "share" / "man" / "pgpeer.1"
+COMPLETIONS = ROOT / "share" / "completions"
+PROGRAM = os.environ.get("PGPEER", str(ROOT / "crates" / "pgpeer" / "out" / "pgpeer"))
+
+FAKE = '#!/bin/sh\necho "pgpeer 9.8.7"\n'
+FILES = {
+    "bin/pgpeer": 0o755,
+    "share/man/man1/pgpeer.1": 0o644,
+    "share/bash-completion/completions/pgpeer": 0o644,
+    "share/zsh/site-functions/_pgpeer": 0o644,
+    "share/fish/vendor_completions.d/pgpeer.fish": 0o644,
+    "share/doc/pgpeer/FORMAT.md": 0o644,
+    "share/doc/pgpeer/examples/outage.jsonl": 0o644,
+}
+OPTIONS = {"run": {"--shards", "--workers"}, "explain": {"--json", "--epoch-offset"}}
+SUBCOMMANDS = {"run", "explain", "help"}
+OPTION = re.compile(r"(?<![\w-])--[a-z][a-z-]*")
+
+
+def files_in(folder):
+    """The files under a folder, by their names from there, each with its mode."""
+    return {str(it.relative_to(folder)): stat.S_IMODE(it.stat().st_mode) for it in folder.rglob("*") if it.is_file()}
+
+
+def page():
+    """The text of the man page, without the marks that hyphens have there."""
+    return PAGE.read_text().replace("\\-", "-")
+
+
+class Room(unittest.TestCase):
+    def setUp(self):
+        room = tempfile.TemporaryDirectory(prefix="room with blanks ")
+        self.addCleanup(room.cleanup)
+        self.room = pathlib.Path(room.name)
+        self.fake = self.room / "a program"
+        self.fake.write_text(FAKE)
+        self.fake.chmod(0o755)
+
+    def install(self, *words, **env):
+        ran = subprocess.run([INSTALL, *map(str, words)], cwd=self.room, env={**os.environ, **env}, capture_output=True, text=True)
+        return ran.returncode, ran.stdout, ran.stderr
+
+
+class Install(Room):
+    def test_puts_each_file_in_its_place(self):
+        prefix = self.room / "prefix"
+        status, said, errors = self.install("--program", self.fake, prefix)
+        self.assertEqual((status, errors), (0, ""))
+        self.assertEqual(files_in(prefix), FILES)
+        self.assertEqual(said.splitlines(), [f"{prefix}/{it}" for it in FILES])
+        self.assertEqual((prefix / "bin/pgpeer").read_text(), FAKE)
+        self.assertEqual((prefix / "share/man/man1/pgpeer.1").read_bytes(), PAGE.read_bytes())
+
+    def test_does_the_same_again(self):
+        prefix = self.room / "prefix"
+        self.install("--program", self.fake, prefix)
+        (prefix / "bin/pgpeer").write_text("an older one")
+        (prefix / "bin/pgpeer").chmod(0o700)
+        status, _, errors = self.install("--program", self.fake, f"{prefix}/")
+        self.assertEqual((status, errors, files_in(prefix)), (0, "", FILES))
+        self.assertEqual((prefix / "bin/pgpeer").read_text(), FAKE)
+
+    def test_takes_away_just_what_it_put_there(self):
+        prefix = self.room / "prefix"
+        self.install("--program", self.fake, prefix)
+        (prefix / "bin/another").write_text("")
+        status, said, errors = self.install("--uninstall", prefix)
+        self.assertEqual((status, errors, list(files_in(prefix))), (0, "", ["bin/another"]))
+        self.assertEqual(said.splitlines(), [f"removed {prefix}/{it}" for it in FILES])
+        self.assertEqual(self.install("--uninstall", prefix), (0, "", ""))
+
+    def test_stands_under_destdir(self):
+        status, said, errors = self.install("--program", self.fake, "/usr", DESTDIR=str(self.room / "stage"))
+        self.assertEqual((status, errors, files_in(self.room / "stage/usr")), (0, "", FILES))
+        self.assertIn(f"{self.room}/stage/usr/bin/pgpeer\n", said)
+        self.install("--uninstall", "/usr", DESTDIR=str(self.room / "stage"))
+        self.assertEqual(files_in(self.room / "stage"), {})
+
+    def test_takes_a_folder_from_where_it_is_called(self):
+        self.assertEqual(self.install("--program", self.fake, "here")[0], 0)
+        self.assertEqual(files_in(self.room / "here"), FILES)
+
+    def test_refuses_other_words(self):
+        for words in ((), ("",), ("a", "b"), ("--force", "a"), ("--program",)):
+            status, said, errors = self.install(*words)
+            self.assertEqual((status, said), (2, ""), words)
+            self.assertIn("usage: tools/install.sh", errors)
+        self.assertEqual(self.install("--program", self.fake, "here", DESTDIR="/stage")[0], 2)
+
+    def test_refuses_what_is_no_program(self):
+        status, said, errors = self.install("--program", self.room / "absent", self.room / "prefix")
+        self.assertEqual((status, said), (1, ""))
+        self.assertIn("is no program", errors)
+        self.assertFalse((self.room / "prefix").exists())
+
+
+@unittest.skipUnless(shutil.which("dpkg-deb"), "dpkg-deb isn't there")
+class Package(Room):
+    def test_holds_the_same_files(self):
+        ran = subprocess.run([BUILD_DEB, "--program", self.fake, self.room], capture_output=True, text=True)
+        self.assertEqual((ran.returncode, ran.stderr), (0, ""))
+        package = pathlib.Path(ran.stdout.splitlines()[-1])
+        self.assertTrue(package.name.startswith("pgpeer_9.8.7_"))
+        subprocess.run(["dpkg-deb", "--extract", package, self.room / "out"], check=True)
+        there = files_in(self.room / "out/usr")
+        self.assertEqual({it for it in FILES if not it.startswith("share/man")} - set(there), set())
+        self.assertIn("share/man/man1/pgpeer.1.gz", there)
+
+
+@unittest.skipUnless(shutil.which("bash"), "bash isn't there")
+class BashCompletion(unittest.TestCase):
+    def completed(self, *words):
+        """What is offered for the last word of a command line."""
+        script = '. "$1"; shift; COMP_WORDS=("$@"); COMP_CWORD=$(($# - 1)); _pgpeer; printf "%s\\n" "${COMPREPLY[@]}"'
+        ran = subprocess.run(
+            ["bash", "-euc", script, "bash", COMPLETIONS / "pgpeer.bash", "pgpeer", *words],
+            capture_output=True,
+            text=True,
+            check=True,
+        )
+        return set(ran.stdout.split())
+
+    def test_offers_subcommands(self):
+        self.assertEqual(self.completed(""), SUBCOMMANDS | {"--help", "--version"})
+        self.assertEqual(self.completed("ex"), {"explain"})
+        self.assertEqual(self.completed("run"), {"run"})
+        self.assertEqual(self.completed("help", ""), {"run", "explain"})
+        self.assertEqual(self.completed("help", "run", ""), set())
+
+    def test_offers_the_options_of_the_subcommand(self):
+        for name, options in OPTIONS.items():
+            self.assertEqual(self.completed(name, ""), options | {"--help"})
+        self.assertEqual(self.completed("explain", "1.a", "--ep"), {"--epoch-offset"})
+
+    def test_offers_nothing_for_a_number(self):
+        for words in (("run", "--shards", ""), ("run", "--workers", ""), ("explain", "--epoch-offset", "")):
+            self.assertEqual(self.completed(*words), set())
+
+
+class Completions(unittest.TestCase):
+    def test_name_the_same_words(self):
+        options = set().union(*OPTIONS.values())
+        for name, spelled in (("pgpeer.bash", "--{}"), ("_pgpeer", "--{}"), ("pgpeer.fish", "-l {}")):
+            text = (COMPLETIONS / name).read_text()
+            for option in options | {"--help", "--version"}:
+                self.assertIn(spelled.format(option[2:]), text, name)
+            for subcommand in SUBCOMMANDS:
+                self.assertIn(subcommand, text, name)
+
+    def test_are_read_by_their_shells(self):
+        for shell, name in (("bash", "pgpeer.bash"), ("zsh", "_pgpeer"), ("fish", "pgpeer.fish")):
+            if shutil.which(shell):
+                subprocess.run([shell, "-n", COMPLETIONS / name], check=True)
+
+
+class Page(unittest.TestCase):
+    def test_names_each_subcommand_and_option(self):
+        for name, options in OPTIONS.items():
+            self.assertIn(f".SS pgpeer {name}\n", page())
+            for option in options | {"--help", "--version"}:
+                self.assertRegex(page(), re.escape(option))
+
+    @unittest.skipUnless(shutil.which("groff"), "groff isn't there")
+    def test_is_laid_out_without_a_warning(self):
+        ran = subprocess.run(["groff", "-man", "-Tutf8", "-ww", "-z", PAGE], capture_output=True, text=True)
+        self.assertEqual((ran.returncode, ran.stderr), (0, ""))
+
+    @unittest.skipUnless(shutil.which("mandoc"), "mandoc isn't there")
+    def test_passes_mandoc(self):
+        ran = subprocess.run(["mandoc", "-T", "lint", "-W", "warning", PAGE], capture_output=True, text=True)
+        self.assertEqual(ran.stdout + ran.stderr, "")
+
+    @unittest.skipUnless(os.access(PROGRAM, os.X_OK), "no program")
+    def test_names_what_help_names(self):
+        for words in ([], ["run"], ["explain"]):
+            told = subprocess.run([PROGRAM, *words, "--help"], capture_output=True, text=True, check=True).stdout
+            named = set(OPTION.findall(told))
+            self.assertEqual(named - set(OPTION.findall(page())), set(), words)
+            if words:
+                self.assertEqual(named, OPTIONS[words[0]] | {"--help"})
+
+    @unittest.skipUnless(os.access(PROGRAM, os.X_OK), "no program")
+    def test_is_of_the_version_of_the_program(self):
+        told = subprocess.run([PROGRAM, "--version"], capture_output=True, text=True, check=True).stdout
+        self.assertIn(f'"{told.strip()}"', page().splitlines()[0])
+
+
+if __name__ == "__main__":
+    unittest.main()
