@@ -21,11 +21,13 @@ ROOT = pathlib.Path(__file__).resolve().parent.parent
 MAX_LINES = 1_000_000
 CLOSE = b'{"op":"close"}\n'
 CLOSED = b'{"count":1,"epoch":0,"ok":"close"}\n'
+OUTAGE = (ROOT / "examples" / "outage.jsonl").read_bytes()
+TOO_LARGE = b"pgpeer: the script has more than 1000000 lines or 4294967296 bytes\n"
 
 
 @dataclass
 class Case:
-    """A run, and what it has to end with; None stands for any text that isn't empty."""
+    """A run, and what it has to end with; None stands for any text that isn't empty, which for errors has `tells` in it."""
 
     name: str
     words: list
@@ -35,22 +37,35 @@ class Case:
     errors: Optional[bytes] = b""
     reads: Optional[str] = None
     writes: Optional[str] = None
+    tells: bytes = b""
 
 
 CASES = [
     Case("an empty script", ["run"], 0),
     Case("a script", ["run"], 0, script=CLOSE, output=CLOSED),
     Case("as many lines as may be", ["run"], 0, script=CLOSE + b"\n" * (MAX_LINES - 1), output=CLOSED),
-    Case("one line too many", ["run"], 3, script=CLOSE + b"\n" * MAX_LINES, output=CLOSED, errors=b"pgpeer: read fault\n"),
+    Case("one line too many", ["run"], 3, script=CLOSE + b"\n" * MAX_LINES, output=CLOSED, errors=TOO_LARGE),
     Case("an input that can't be read", ["run"], 3, reads="/", errors=b"pgpeer: read fault\n"),
     Case("an output that can't be written", ["run"], 3, script=CLOSE, writes="/dev/full", errors=b"pgpeer: write fault\n"),
+    Case("an explanation of a group", ["explain", "1.0"], 0, script=OUTAGE, output=None),
+    Case("one in JSON", ["explain", "--json", "1.0", "--epoch-offset", "100"], 0, script=OUTAGE, output=None),
+    Case("a summary", ["explain"], 0, script=OUTAGE, output=None),
+    Case("a group that isn't there", ["explain", "1.3FF"], 3, script=OUTAGE, errors=b"pgpeer: the map has no group 1.3ff\n"),
+    Case("one line too many to explain", ["explain"], 3, script=CLOSE + b"\n" * MAX_LINES, errors=TOO_LARGE),
+    Case("an input that can't be read to explain it", ["explain"], 3, reads="/", errors=b"pgpeer: read fault\n"),
+    Case("an explanation that can't be written", ["explain"], 3, script=OUTAGE, writes="/dev/full", errors=b"pgpeer: write fault\n"),
     Case("help", ["--help"], 0, output=None),
     Case("help on a run", ["run", "--help"], 0, output=None),
+    Case("help on an explanation", ["explain", "--help"], 0, output=None),
     Case("help that can't be written", ["--help"], 3, writes="/dev/full", errors=b"pgpeer: write fault\n"),
     Case("the version", ["--version"], 0, output=b"pgpeer 0.1.0\n"),
     Case("no command", [], 2, script=CLOSE, errors=None),
     Case("another command", ["peer"], 2, script=CLOSE, errors=None),
-    Case("a word too many", ["run", "now"], 2, script=CLOSE, errors=None),
+    Case("a word too many", ["run", "now"], 2, errors=None, tells=b"reads standard input: pgpeer run < FILE"),
+    Case("too many shards", ["run", "--shards", "65"], 2, errors=None, tells=b"Usage: pgpeer run"),
+    Case("no group's name", ["explain", "1"], 2, errors=None, tells=b"Usage: pgpeer explain"),
+    Case("no offset", ["explain", "--epoch-offset", "-1"], 2, errors=None, tells=b"pgpeer explain"),
+    Case("a word too many to explain", ["explain", "1.a", "now"], 2, errors=None, tells=b"pgpeer explain < FILE"),
     Case("an argument that isn't UTF-8", [b"\xff"], 2, errors=b"error: an argument is not UTF-8\n"),
 ]
 
@@ -78,7 +93,7 @@ def wrong(program, case):
         return f"status {status} and not {case.status}"
     if not is_text(output, case.output):
         return f"output {output[:200]!r}"
-    if not is_text(errors, case.errors):
+    if not is_text(errors, case.errors) or case.tells not in errors:
         return f"errors {errors[:200]!r}"
     return None
 

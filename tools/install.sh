@@ -1,0 +1,79 @@
+#!/usr/bin/env bash
+# Installs the program, its man page, its completions for bash, zsh and fish, and the document of its lines with an example.
+#
+#     tools/install.sh [--program FILE] PREFIX
+#     tools/install.sh --uninstall PREFIX
+#
+# PREFIX is a folder, such as /usr/local or ~/.local. FILE is the built program: crates/pgpeer/out/pgpeer where nothing is
+# said, which is proved and built first by `rt run` if it isn't there. Where DESTDIR is set, it stands before PREFIX in the
+# name of each file, as makers of packages want it. A second call writes the same files again. --uninstall removes just these
+# files, and leaves the folders.
+set -eu
+
+root=$(cd -- "$(dirname -- "${BASH_SOURCE[0]}")/.." && pwd)
+
+fail() {
+    echo "install.sh: $2" >&2
+    exit "$1"
+}
+
+usage() {
+    fail 2 "usage: tools/install.sh [--program FILE | --uninstall] PREFIX"
+}
+
+# Calls $1 with the mode of each file, where it comes from, and where it goes.
+each_file() {
+    "$1" 755 "$program" bin/pgpeer
+    "$1" 644 "$root/share/man/pgpeer.1" share/man/man1/pgpeer.1
+    "$1" 644 "$root/share/completions/pgpeer.bash" share/bash-completion/completions/pgpeer
+    "$1" 644 "$root/share/completions/_pgpeer" share/zsh/site-functions/_pgpeer
+    "$1" 644 "$root/share/completions/pgpeer.fish" share/fish/vendor_completions.d/pgpeer.fish
+    "$1" 644 "$root/docs/FORMAT.md" share/doc/pgpeer/FORMAT.md
+    "$1" 644 "$root/examples/outage.jsonl" share/doc/pgpeer/examples/outage.jsonl
+}
+
+put() {
+    install -d -- "$(dirname -- "$into/$3")"
+    install -m "$1" -- "$2" "$into/$3"
+    echo "$into/$3"
+}
+
+drop() {
+    if [ -e "$into/$3" ]; then
+        rm -- "$into/$3"
+        echo "removed $into/$3"
+    fi
+}
+
+# Proves and builds the program, and runs it once on an empty script.
+build() {
+    command -v rt >/dev/null || fail 1 "there is no $program, and no rt to build it"
+    (cd -- "$root/crates/pgpeer" && rt run -- run </dev/null)
+}
+
+program=
+act=put
+while [ $# -gt 0 ]; do
+    case $1 in
+        --program) [ $# -gt 1 ] || usage; program=$2; shift 2 ;;
+        --uninstall) act=drop; shift ;;
+        -*) usage ;;
+        *) break ;;
+    esac
+done
+if [ $# -ne 1 ] || [ -z "$1" ]; then
+    usage
+fi
+case $1 in
+    /*) into=${DESTDIR:-}${1%/} ;;
+    *) [ -z "${DESTDIR:-}" ] || fail 2 "with DESTDIR set, PREFIX has to begin with a slash"; into=$PWD/${1%/} ;;
+esac
+
+if [ "$act" = put ]; then
+    if [ -z "$program" ]; then
+        program=$root/crates/pgpeer/out/pgpeer
+        [ -x "$program" ] || build
+    fi
+    [ -x "$program" ] || fail 1 "$program is no program"
+fi
+each_file "$act"
