@@ -15,7 +15,7 @@ In this order, each part with its count and its seconds:
   explanations                      what brings a group back is what each subset of devices does, for half a minute at most
                                     (fuzz/explain.py)
   allocations refused               each allocation of a short script refused in turn, with and without workers
-                                    (refuse_allocations.py)
+                                    (refuse_allocations.py), and of an explanation (refuse_in_explanations.py)
 
 --quick runs what stands before the gate alone, and --after-gate what stands after it, on the program that an earlier gate or
 `rt run` left. --seed is that of the generated scripts, 1 if not said.
@@ -107,7 +107,7 @@ def explanations(said: str) -> Optional[Counts]:
 
 
 def allocations(said: str) -> Optional[Counts]:
-    found = re.search(r"^(\d+) allocations, \d+ answers$", said, re.M)
+    found = re.search(r"^(\d+) allocations(?:, \d+ answers)?$", said, re.M)
     wrong = re.findall(r"\d+", "".join(re.findall(r"^wrong where these were refused: \[(.*)\]$", said, re.M)))
     return (int(found[1]) - len(wrong), len(wrong)) if found else None
 
@@ -150,6 +150,14 @@ def after_gate(seed: str) -> List[Part]:
             ("cc",),
         )
         for script, shards, workers in SHORT_SCRIPTS
+    ] + [
+        Part(
+            "allocations refused, an explanation",
+            python("tools/refuse_in_explanations.py", PROGRAM, "examples/explain_down.jsonl", "1.0"),
+            90,
+            allocations,
+            ("cc",),
+        )
     ]
 
 

@@ -21,6 +21,7 @@ SAYS = {
     "tools/check_statuses.py": "14 runs, 0 wrong",
     "tools/compare_workers.py": "8 scripts, 3 runs of each with workers, 0 wrong",
     "tools/refuse_allocations.py": "153 allocations, 8 answers",
+    "tools/refuse_in_explanations.py": "261 allocations\n   170 a line met no memory, and is told",
     "fuzz/fuzz.py": "1,060 scripts, 55,530 lines, 9 bytes, 0 wrong answers, 0 other statuses, 0 hangs.",
     "fuzz/explain.py": "60 logs, 125 ends\n1,352 groups, 800 subsets, 0 wrong",
 }
@@ -41,7 +42,7 @@ echo "{last}"
 exit {status}
 """
 BUILD = "mkdir -p crates/pgpeer/out && cp /bin/true crates/pgpeer/out/pgpeer"
-ALL = 2 + 110 + 2 + 47 + 14 + 24 + 1060 + 1352 + 2 * 153
+ALL = 2 + 110 + 2 + 47 + 14 + 24 + 1060 + 1352 + 2 * 153 + 261
 
 
 class WithTree(unittest.TestCase):
@@ -135,7 +136,7 @@ class Runs(WithTree):
         for name in SAYS:
             self.stub(name, "Traceback", 1)
         status, lines = self.run_all()
-        self.assertEqual((status, lines[-1]), (1, "114 passed, 7 failed"))
+        self.assertEqual((status, lines[-1]), (1, "114 passed, 8 failed"))
 
     def test_a_part_without_end_is_stopped(self):
         self.stub("tools/check_statuses.py", "", before="time.sleep(600)")
@@ -148,7 +149,7 @@ class Runs(WithTree):
     def test_without_a_compiler_the_sweep_is_skipped(self):
         with mock.patch.object(run_tests.shutil, "which", lambda name: None):
             status, lines = self.run_all()
-        self.assertEqual((status, lines[-1]), (0, f"{ALL - 2 * 153} passed, 0 failed"))
+        self.assertEqual((status, lines[-1]), (0, f"{ALL - 2 * 153 - 261} passed, 0 failed"))
         self.assertIn("allocations refused, first.jsonl, 1 shards, 0 workers: skipped, since cc isn't there", lines)
 
     def test_the_parts_that_are_asked_for(self):
