@@ -3,9 +3,10 @@
 
     fuzz/explain.py [--program PATH] [--seed N] [--logs N | --minutes M] [--most N] [--keep FOLDER] [--run-alone]
 
-Of each generated log a few ends are taken at which groups are down. For each such group that is blocked by at most --most
-devices (8 if not said), each subset of these is tried: the log with one incremental more that boots just this subset, and
-the log with one that declares just this subset lost at its own epoch, are answered by `run`. The subsets after which the
+Of each generated log a few ends are taken at which groups are down. For each such group each subset of the devices that are
+down is tried, those too that don't block it; or, where more than --most are down (8 if not said), each subset of those that
+block it, where these are no more: the log with one incremental more that boots just this subset, and the log with one that
+declares just this subset lost at its own epoch, are answered by `run`. The subsets after which the
 group isn't down, and of which no part is such, have to be the sets that `explain POOL.SEED --json` lists, in its order. All
 else that it says of the first groups of each pool, and of all groups without a group named, has to be what the model works
 out; and so have its words, with and without --epoch-offset, and for which lines it tells a fault.
@@ -99,21 +100,28 @@ def subsets(osds: Devices) -> Iterator[Devices]:
     return itertools.chain.from_iterable(itertools.combinations(osds, count) for count in range(len(osds) + 1))
 
 
+def tried_devices(end: End, group: Group, most: int) -> Devices:
+    """The devices of which each subset is tried: all that are down, or, where these are too many, those that block the group."""
+    maps, blocking = end.log.maps, tuple(end.log.view(group)["blocked_by"])
+    down = [osd for osd in sorted(maps.states.epochs) if maps.exists(osd, maps.epoch) and not maps.is_up(osd, maps.epoch)]
+    devices = tuple(down) if len(down) <= most else blocking
+    return devices if blocking and len(devices) <= most else ()
+
+
 def tries(end: End, most: int) -> Dict[Try, List[Group]]:
     """What is tried, and of which groups the answer is wanted then."""
     found: Dict[Try, List[Group]] = {}
     for group in end.groups:
-        osds = tuple(end.log.view(group)["blocked_by"])
-        if 0 < len(osds) <= most:
-            for it in itertools.product(WAYS, subsets(osds)):
-                found.setdefault(it, []).append(group)
+        devices = tried_devices(end, group, most)
+        for it in itertools.product(WAYS, subsets(devices)) if devices else ():
+            found.setdefault(it, []).append(group)
     return found
 
 
 Sets = Dict[Tuple[Group, str], List[Devices]]
 
 
-def sets_by_run(pool: concurrent.futures.Executor, program: str, end: End, wanted: Dict[Try, List[Group]]) -> Sets:
+def sets_by_run(pool: concurrent.futures.Executor, program: str, end: End, wanted: Dict[Try, List[Group]], most: int) -> Sets:
     """The smallest sets of each group, and of each way, by the answers of `run`."""
     before, epoch = b"".join(line + b"\n" for line in entries_of(end.lines)), end.log.maps.epoch + 1
     answers = pool.map(lambda it: down_after(program, before, epoch, it, wanted[it]), wanted)
@@ -122,7 +130,7 @@ def sets_by_run(pool: concurrent.futures.Executor, program: str, end: End, wante
         for group, is_down in down.items():
             enough.setdefault((group, way), set()).update([] if is_down else [osds])
     return {
-        (group, way): reasons.smallest(lambda osds, found=found: osds in found, end.log.view(group)["blocked_by"])
+        (group, way): reasons.smallest(lambda osds, found=found: osds in found, tried_devices(end, group, most))
         for (group, way), found in enough.items()
     }
 
@@ -276,7 +284,7 @@ def tried_at(pool: concurrent.futures.Executor, options: argparse.Namespace, end
     """Tries what can be tried at an end; gives what is wrong, of which group."""
     wanted, sets = tries(end, options.most), {}
     try:
-        sets = sets_by_run(pool, options.program, end, wanted)
+        sets = sets_by_run(pool, options.program, end, wanted, options.most)
         check = wrong_by_model(end, sets) if options.run_alone else wrong_by_explain(pool, options.program, end, sets)
         found = list(check)
     except Failed as why:
