@@ -10,5 +10,6 @@ pub mod Wants
 pub mod Told
 pub mod Run
 pub mod Telling
+pub mod Session
 pub mod Examples
 pub mod Worked

@@ -17,6 +17,7 @@ mod log;
 mod output;
 mod replies;
 mod script;
+mod session;
 mod streams;
 mod want;
 
@@ -28,5 +29,6 @@ pub use log::Log;
 pub use output::{WriteFault, write_out};
 pub use replies::{asked, traced};
 pub use script::{answer_script, run_script, run_script_within};
+pub use session::Session;
 pub use streams::{Sink, Source};
 pub use want::Want;

@@ -53,14 +53,14 @@ pub struct LineBuffer {
 }
 
 /// The answer to a line that is too long.
-fn long_line() -> &'static [u8]
+pub fn long_line() -> &'static [u8]
     ensures { result.now ≡ long_text ++ 10 ∷ [] }
 {
     LONG_LINE
 }
 
 /// The answer to a line that met want of memory.
-fn want_line(want: Want) -> &'static [u8]
+pub fn want_line(want: Want) -> &'static [u8]
     ensures { result.now ≡ want_text want ++ 10 ∷ [] }
 {
     match want {

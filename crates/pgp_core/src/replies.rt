@@ -55,7 +55,7 @@ fn reply_to(alloc: Global, command: Command, log: &mut Log) -> Result<Reply, All
 }
 
 /// The reply to an entry. Where the log takes it, the log has it from now on.
-fn submit(entry: Entry, log: &mut Log) -> Result<Reply, AllocError>
+pub fn submit(entry: Entry, log: &mut Log) -> Result<Reply, AllocError>
     ensures reply { IfOk result (λ reply. reply ≡ submitted_reply log.old entry (fits log.old entry)) }
     ensures log { IfOk result (λ _. log.new ≡ log_with log.old entry (fits log.old entry)) }
     ensures kept { OnErr result (log.new ≡ log.old) }

@@ -1,0 +1,159 @@
+//! A log that one thread tells and asks, line by line or in values, with no reader and no writer.
+
+ghost use Rattle.std.specs.Prelude.{◌≡◌, ◌≤◌, ◌∷◌, [], ◌++◌, length, false, Some, OnOk, IfOk, OnErr, IfErr};
+ghost use Rattle.pgp_group.specs.View.{scratch};
+ghost use Rattle.pgp_lines.specs.declared.command.Command.TheVariants.{Locate, Submit};
+ghost use Rattle.pgp_core.specs.Answer.{line_text, line_log, log_after, reply_of};
+ghost use Rattle.pgp_core.specs.Lines.{is_blank};
+ghost use Rattle.pgp_core.specs.Script.{MayMeet, answer, log_past, longest_line};
+ghost use Rattle.pgp_core.specs.Session.{LogAndAnswer, last_text, met_by};
+ghost use Rattle.pgp_core.specs.Wants.{MayFindNone};
+
+use super::answer::answer_line;
+use super::codec::Codec;
+use super::line::{LONGEST_LINE, all_blank, long_line, want_line};
+use super::log::Log;
+use super::replies::submit;
+use super::want::{NoAnswer, Want};
+use pgp_ids::{Entry, ObjectName, PgId, PoolId, View};
+use pgp_text::Reply;
+use std::alloc::{AllocError, Global};
+use std::marker::Model;
+
+/// What was written for the last line of a session.
+#[derive(Clone, Copy)]
+pub enum LastAnswer {
+    /// A text of its own, or nothing.
+    Written,
+    /// The constant text for a line that is too long.
+    LineTooLong,
+    /// The constant text for a line that met this want of memory.
+    NoMemory(Want),
+}
+
+/// A log that one thread tells and asks, with the answer to its last line. It starts no thread and takes no lock.
+///
+/// Contracts see it as its log and that answer.
+#[derive(Drop)]
+pub struct Session {
+    alloc: Global,
+    log: Log,
+    codec: Codec,
+    /// The text of the last answer, where it is one of its own.
+    text: Vec<u8>,
+    last: LastAnswer,
+}
+
+impl Model for Session {
+    ghost Value = { LogAndAnswer };
+
+    ghost view = { λ session. record { log = session.log; answer = last_text session.last session.text.items } };
+}
+
+impl Session {
+    /// An empty log, before its first line. It takes no memory.
+    pub fn new(alloc: Global) -> Self
+        ensures log { result.log ≡ [] }
+        ensures answer { result.answer ≡ [] }
+    {
+        Session {
+            alloc,
+            log: Log::new(alloc),
+            codec: Codec::new(alloc),
+            text: Vec::new(alloc),
+            last: LastAnswer::Written,
+        }
+    }
+
+    /// Answers a line, given without its line feed: the same bytes as [`run_script`](super::run_script) writes for it, which
+    /// [`Session::last_answer`] gives. A line of blanks has none.
+    ///
+    /// An error says which want of memory the line met. It then has its constant text, and the log stays as it was.
+    pub fn answer(&mut self, line: &[u8]) -> Result<(), Want>
+        ensures may { MayMeet (met_by result) line.now }
+        ensures answer { self.new.answer ≡ answer self.old.log (met_by result) line.now }
+        ensures log { self.new.log ≡ log_past self.old.log (met_by result) line.now }
+    {
+        self.text.clear();
+        self.last = LastAnswer::Written;
+        if all_blank(line) {
+            return Ok(());
+        }
+        if line.len() > LONGEST_LINE {
+            self.last = LastAnswer::LineTooLong;
+            return Ok(());
+        }
+        let told = put_text(
+            self.alloc,
+            &mut self.codec,
+            line,
+            &mut self.log,
+            &mut self.text,
+        );
+        if let Err(want) = told {
+            self.last = LastAnswer::NoMemory(want);
+        }
+        told
+    }
+
+    /// What was written for the last line, with its line feed.
+    pub fn last_answer(&self) -> &[u8]
+        ensures { result.now ≡ self.now.answer }
+    {
+        match self.last {
+            LastAnswer::Written => self.text.as_slice(),
+            LastAnswer::LineTooLong => long_line(),
+            LastAnswer::NoMemory(want) => want_line(want),
+        }
+    }
+
+    /// Where the object of this name lies, by the map that the entries make. It takes no memory.
+    pub fn locate(&mut self, id: PoolId, name: &ObjectName) -> Reply
+        ensures reply { result ≡ reply_of self.old.log (Locate id name.now) }
+        ensures same { self.new ≡ self.old }
+    {
+        self.log.locate(id, name)
+    }
+
+    /// All that the log says of a group, where its map has it.
+    pub fn ask(&mut self, pg: PgId) -> Result<Option<View>, AllocError>
+        ensures view { IfOk result (λ view. view ≡ scratch self.old.log pg) }
+        ensures same { self.new ≡ self.old }
+    {
+        self.log.ask(pg)
+    }
+
+    /// Tells the log an entry, and gives the reply. Where the log takes the entry, it has it from now on.
+    pub fn submit(&mut self, entry: Entry) -> Result<Reply, AllocError>
+        ensures reply { IfOk result (λ reply. reply ≡ reply_of self.old.log (Submit entry)) }
+        ensures log { OnOk result (self.new.log ≡ log_after self.old.log (Submit entry)) }
+        ensures answer { self.new.answer ≡ self.old.answer }
+        ensures kept { OnErr result (self.new.log ≡ self.old.log) }
+        ensures memory { OnErr result (MayFindNone self.old.log (Submit entry)) }
+    {
+        submit(entry, &mut self.log)
+    }
+}
+
+/// Puts the answer to a line that is neither blank nor too long behind the text, with a line feed. Where there was no memory,
+/// text and log stay.
+fn put_text(
+    alloc: Global,
+    codec: &mut Codec,
+    line: &[u8],
+    log: &mut Log,
+    text: &mut Vec<u8>,
+) -> Result<(), Want>
+    requires some { is_blank line.now ≡ false }
+    requires short { length line.now ≤ longest_line }
+    ensures ok { OnOk result (text.new.items ≡ text.old.items ++ (line_text log.old line.now ++ 10 ∷ [])) }
+    ensures log { OnOk result (log.new ≡ line_log log.old line.now) }
+    ensures want { IfErr result (λ want. MayMeet (Some want) line.now) }
+    ensures kept { OnErr result (log.new ≡ log.old) }
+{
+    match answer_line(alloc, codec, line, log, text) {
+        Ok(()) => Ok(()),
+        Err(NoAnswer::Memory(want)) => Err(want),
+        Err(NoAnswer::TooLong | NoAnswer::Gone) => unreachable!(),
+    }
+}
