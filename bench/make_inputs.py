@@ -19,6 +19,10 @@ Writes into FOLDER (by default bench/out) these files, which are the same at eve
   peering_wide.jsonl  the same with all 4,096 groups of four pools
   churn.jsonl     2,000 incrementals as those of incs.jsonl, with a question about a group after each
   churn_twice.jsonl   the same with 4,000 incrementals
+  churn_wide.jsonl    2,000 incrementals over 1,024 groups of one pool on 64 devices, each with one device down or up and
+                  six up_thru values, and a question about a group after each
+  full_asked.jsonl    65,535 incrementals over 64 groups and 16 devices: 59 in a hundred are empty, 38 have one up_thru
+                  value, 2 take a device down or boot it, and 1 has a weight; then a question about each group
   asks.jsonl      an outage of one group in seven entries, and then 20,000 questions about it with nothing between
   untouched.jsonl     the same outage, and then by turns 2,000 incrementals that touch another group alone and 2,000
                   questions about the first
@@ -183,6 +187,46 @@ def churn(rng, count):
         yield compact({"op": "ask", "pg": [1, rng.randrange(256)]})
 
 
+def churn_wide(rng, count):
+    """Gives small incrementals over many groups, with a question about one of them after each."""
+    up, down = list(range(64)), []
+    yield compact({"op": "inc", "epoch": 1, "up": up, "pools": [copies(1, 1024)], "crush": tree(4, 4, 4)})
+    for epoch in range(2, count // 2 + 2):
+        yield compact({"op": "inc", "epoch": epoch, **fall_or_boot(rng, up, down), "up_thru": told(rng, up, 6, epoch)})
+        yield compact({"op": "ask", "pg": [1, rng.randrange(1024)]})
+
+
+def full_asked(rng, count):
+    """Gives a full log of incrementals most of which change nothing or next to nothing, and a question about each group."""
+    up, down = list(range(16)), []
+    yield compact({"op": "inc", "epoch": 1, "up": up, "pools": [copies(1, 64)], "crush": tree(2, 4, 2)})
+    for epoch in range(2, count - 64 + 1):
+        kind, step = rng.randrange(100), {}
+        if kind < 38:
+            step = {"up_thru": told(rng, up, 1, epoch)}
+        elif kind < 40:
+            step = fall_or_boot(rng, up, down)
+        elif kind < 41:
+            step = {"weight": [[rng.randrange(16), rng.choice([0, IN // 2, IN])]]}
+        yield compact({"op": "inc", "epoch": epoch, **step})
+    for pg in range(64):
+        yield compact({"op": "ask", "pg": [1, pg]})
+
+
+def fall_or_boot(rng, up, down):
+    """Takes a device down, or boots one that is down, where an eighth of them are or by chance."""
+    boots = down and (len(down) * 7 >= len(up) or rng.randrange(2) == 0)
+    source, target = (down, up) if boots else (up, down)
+    osd = source.pop(rng.randrange(len(source)))
+    target.append(osd)
+    return {"up" if boots else "down": [osd]}
+
+
+def told(rng, up, count, epoch):
+    """Gives that so many of the devices that are up are known to have been up through the epoch."""
+    return [[osd, epoch] for osd in rng.sample(up, count)]
+
+
 def asks(_rng, count):
     """Gives an outage of one group, and then questions about it."""
     yield from outage_of_one([0, 1, 2])
@@ -329,6 +373,8 @@ INPUTS = {
     "peering_wide": (peering_wide, 18_953),
     "churn": (churn, 4_000),
     "churn_twice": (churn, 8_000),
+    "churn_wide": (churn_wide, 4_000),
+    "full_asked": (full_asked, 65_535 + 64),
     "asks": (asks, 20_000),
     "untouched": (untouched, 4_008),
     "untouched_twice": (untouched, 8_008),
