@@ -118,7 +118,7 @@ pool-is : (incs : List Incremental) (id : ℕ) → pool incs id ≡ option_map (
 unfolding made_of sizes_of
 pool-is incs id = refl
 
-unmade : (incs : List Incremental) (inc : Incremental) (id : ℕ) → map_fault incs inc ≡ None → is_some (pool incs id) ≡ true → makes id inc ≡ false
+pub unmade : (incs : List Incremental) (inc : Incremental) (id : ℕ) → map_fault incs inc ≡ None → is_some (pool incs id) ≡ true → makes id inc ≡ false
 unmade incs inc id fine there =
     none-narrower (λ (made : PoolSpec). nat_eq made.id id) (λ (made : PoolSpec). is_some (pool incs made.id))
     (λ made same. ap (λ (k : ℕ). is_some (pool incs k)) (eqb-true made.id id same) ∙ there) inc.pools (no_fault incs inc fine).known

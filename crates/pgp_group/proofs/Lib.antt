@@ -13,6 +13,7 @@ pub mod LaterLemmas
 pub mod UntoldLemmas
 pub mod SameViewLemmas
 pub mod UntouchedLemmas
+pub mod ReachingLemmas
 pub mod InterleavingLemmas
 pub mod CountedLemmas
 pub mod InfosLemmas

@@ -20,7 +20,8 @@ use Rattle.pgp_map.specs.Devices.{boots, takes_down, destroys, device, greatest_
 use Rattle.pgp_map.specs.MapFault.{map_fault, then_with}
 use Rattle.pgp_map.specs.Pools.{pool, temp, is_same_group, with_sizes}
 use Rattle.pgp_sets.specs.Sets.{moves, raw_set, raw_set_of, members_with, pool_membership}
-use Rattle.pgp_group.specs.Touched.{has_osd, changed_devices, moves_all, changes_pool, changes_temp}
+use Rattle.pgp_group.specs.GroupHistory.{primary_facts}
+use Rattle.pgp_group.specs.Touched.{has_osd, changed_devices, turned_devices, moves_all, changes_pool, changes_temp}
 use Rattle.pgp_group.proofs.GrowthLemmas.{told-stays}
 use Rattle.pgp_group.proofs.Lists.{none-narrower, none-append, any-mapped, last_where-none, left_new, map-agree, filter-agree}
 
@@ -78,6 +79,14 @@ device-stays incs inc osd silent =
 pub same_device : (test : ℕ → Bool) (incs : List Incremental) (inc : Incremental) (osd : ℕ) → list_any test (changed_devices inc) ≡ false → test osd ≡ true → device (then_with incs inc) osd ≡ device incs osd
 same_device test incs inc osd none passes = device-stays incs inc osd (untold test inc osd none passes)
 
+-- what the map says of it as a primary stays, where the incremental neither boots it nor tells of its up_thru
+pub facts-stay : (incs : List Incremental) (inc : Incremental) (osd : ℕ) → boots osd inc ≡ false → list_any (λ told. nat_eq told.osd osd) inc.up_thru ≡ false
+    → primary_facts (then_with incs inc) (Some osd) ≡ primary_facts incs (Some osd)
+facts-stay incs inc osd booted untold' =
+    let from = left_new (boots osd) incs inc booted in
+    let thru = told-stays (λ (told : DeviceEpoch). nat_eq told.osd osd) (λ (i : Incremental). i.up_thru) incs inc untold' in
+    λ i. record { up_from = greatest_epoch (from i); up_thru = option_map_or (λ told. told.epoch) (thru i) 0 }
+
 -- ---- pools and pg_temp lists
 
 pub pool-same : (incs : List Incremental) (inc : Incremental) (id : ℕ) → changes_pool inc id ≡ false → pool (then_with incs inc) id ≡ pool incs id
@@ -87,7 +96,7 @@ pool-same incs inc id none =
     let sizes = told-stays (λ (sizes : PoolSizes). nat_eq sizes.pool id) (λ (i : Incremental). i.sizes) incs inc parts.1 in
     λ i. option_map (with_sizes (sizes i)) (made i)
 
-temp-same : (incs : List Incremental) (inc : Incremental) (pg : PgId) → changes_temp inc pg ≡ false → temp (then_with incs inc) pg ≡ temp incs pg
+pub temp-same : (incs : List Incremental) (inc : Incremental) (pg : PgId) → changes_temp inc pg ≡ false → temp (then_with incs inc) pg ≡ temp incs pg
 temp-same incs inc pg none = ap (λ (o : Option TempList). option_map_or (λ given. given.osds) o []) (told-stays (λ (given : TempList). is_same_group given.pg pg) (λ (i : Incremental). i.temp) incs inc none)
 
 -- ---- devices that stand in a list
@@ -186,14 +195,37 @@ pub record DevicesStay (incs : List Incremental) (inc : Incremental) (pg : PgId)
   pub placed : (osd : ℕ) → has_osd osd (raw_set incs made pg) ≡ true → device (then_with incs inc) osd ≡ device incs osd
   pub given : (osd : ℕ) → has_osd osd (temp incs pg) ≡ true → device (then_with incs inc) osd ≡ device incs osd
 
-pub members-same : RawSetsStay → (incs : List Incremental) (inc : Incremental) (pg : PgId) (made : PoolSpec) → map_fault incs inc ≡ None → IsLeft inc pg → pool incs pg.pool ≡ Some made → DevicesStay incs inc pg made
+-- those that are up stay up, and the others don't boot
+pub record UpsStay (incs : List Incremental) (inc : Incremental) (pg : PgId) (made : PoolSpec) : Type 0 where
+  pub placed : (osd : ℕ) → has_osd osd (raw_set incs made pg) ≡ true → is_up (then_with incs inc) osd ≡ is_up incs osd
+  pub given : (osd : ℕ) → has_osd osd (temp incs pg) ≡ true → is_up (then_with incs inc) osd ≡ is_up incs osd
+
+pub ups-stay : (incs : List Incremental) (inc : Incremental) (pg : PgId) (made : PoolSpec) → DevicesStay incs inc pg made → UpsStay incs inc pg made
+ups-stay incs inc pg made stay = record {
+  placed = λ osd there. let dev = stay.placed osd there in λ i. (dev i).is_up;
+  given = λ osd there. let dev = stay.given osd there in λ i. (dev i).is_up;
+}
+
+-- a device that passes the test, while none does that the incremental boots, takes down or destroys
+pub same_up : (test : ℕ → Bool) (incs : List Incremental) (inc : Incremental) (osd : ℕ) → list_any test (turned_devices inc) ≡ false → test osd ≡ true → is_up (then_with incs inc) osd ≡ is_up incs osd
+same_up test incs inc osd none passes =
+    let a = none-append test (inc.up ++ inc.down) inc.gone none in
+    let b = none-append test inc.up inc.down a.0 in
+    let is : (x : ℕ) → nat_eq osd x ≡ true → test x ≡ true = λ x same. ap test (sym (eqb-true osd x same)) ∙ passes in
+    let booted : boots osd inc ≡ false = none-narrower (nat_eq osd) test is inc.up b.0 in
+    let downed : takes_down osd inc ≡ false = none-narrower (nat_eq osd) test is inc.down b.1 in
+    let gone : destroys osd inc ≡ false = none-narrower (nat_eq osd) test is inc.gone a.1 in
+    let moves' : list_any (λ i. boots osd i || takes_down osd i || destroys osd i) (inc ∷ []) ≡ false = rw (booted, downed, gone) refl in
+    ap (λ (last : Option Incremental). option_map_or (boots osd) last false) (last_where-none (λ (i : Incremental). boots osd i || takes_down osd i || destroys osd i) incs (inc ∷ []) moves')
+
+pub members-same : RawSetsStay → (incs : List Incremental) (inc : Incremental) (pg : PgId) (made : PoolSpec) → map_fault incs inc ≡ None → IsLeft inc pg → pool incs pg.pool ≡ Some made → UpsStay incs inc pg made
     → pool_membership (then_with incs inc) pg made ≡ pool_membership incs pg made
 members-same raws incs inc pg made fine left is stay =
     membership-lies (then_with incs inc) made pg
     ∙ ap₂ (lies (is_up (then_with incs inc)) made) (raw-same raws incs inc pg made fine left is) (temp-same incs inc pg left.temp)
     ∙ lies-same (is_up incs) (is_up (then_with incs inc)) made (raw_set incs made pg) (temp incs pg)
-    (λ osd there. let dev = stay.placed osd (osd-there (raw_set incs made pg) osd there) in λ i. (dev i).is_up)
-    (λ osd there. let dev = stay.given osd (osd-there (temp incs pg) osd there) in λ i. (dev i).is_up)
+    (λ osd there. stay.placed osd (osd-there (raw_set incs made pg) osd there))
+    (λ osd there. stay.given osd (osd-there (temp incs pg) osd there))
     ∙ sym (membership-lies incs made pg)
 
 -- who leads is one of these devices

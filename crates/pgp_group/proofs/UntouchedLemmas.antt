@@ -33,7 +33,7 @@ use Rattle.pgp_group.proofs.GrowthLemmas.{Shortens, EndsWell, checked-numbered, 
 use Rattle.pgp_group.proofs.HistoryLemmas.{history_if, history-current}
 use Rattle.pgp_group.proofs.Lists.{nothing_new, one_new}
 use Rattle.pgp_group.proofs.SameViewLemmas.{view-same}
-use Rattle.pgp_group.proofs.UntoldLemmas.{DevicesStay, IsLeft, RawSetsStay, leader-same, members-same, pool-same, same_device}
+use Rattle.pgp_group.proofs.UntoldLemmas.{DevicesStay, IsLeft, RawSetsStay, leader-same, members-same, pool-same, same_device, ups-stay}
 use Rattle.pgp_group.proofs.ViewLemmas.{history_there}
 
 -- the view with the entry is that of the log before, but for count and epoch
@@ -120,7 +120,7 @@ history-goes_on shorten fine raws log inc pg h made checked is there found =
     let unrefused : map_fault incs inc ≡ None = fine incs inc checked in
     let stays : membership (then_with incs inc) pg ≡ membership incs pg =
     ap (option_map (pool_membership (then_with incs inc) pg)) (pool-same incs inc pg.pool is.left.pool ∙ found)
-    ∙ ap Some (members-same raws incs inc pg made unrefused is.left found (devices-stay log inc pg made is found))
+    ∙ ap Some (members-same raws incs inc pg made unrefused is.left found (ups-stay incs inc pg made (devices-stay log inc pg made is found)))
     ∙ ap (option_map (pool_membership incs pg)) (sym found) in
     history-grows incs inc pg h (checked-numbered shorten fine incs (shorten incs (inc ∷ []) checked)) unrefused there
     ∙ ap (option_map (λ members. stepped h members facts)) (stays ∙ history-current incs pg h there)

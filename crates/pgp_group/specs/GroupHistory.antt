@@ -15,7 +15,7 @@ use Rattle.pgp_map.specs.Devices.{up_from, up_thru}
 use Rattle.pgp_map.specs.Last.{last_where}
 use Rattle.pgp_map.specs.Map.{epoch, up_to}
 use Rattle.pgp_map.specs.Pools.{pool, has_group}
-use Rattle.pgp_sets.specs.Sets.{pool_membership, membership_at}
+use Rattle.pgp_sets.specs.Sets.{pool_membership, membership, membership_at}
 use Rattle.pgp_code.specs.Pool.{code_of}
 
 -- the epochs of the incrementals are 1, 2, and so on
@@ -34,6 +34,14 @@ made_at incs id = option_map_or (λ inc. inc.epoch) (last_where (makes id) incs)
 abbrev pub primary_facts : List Incremental → Option ℕ → PrimaryFacts
 primary_facts incs None = record { up_from = 0; up_thru = 0 }
 primary_facts incs (Some osd) = record { up_from = up_from incs osd; up_thru = up_thru incs osd }
+
+-- the acting primary of a group, or that it has none, where the map has the group's pool
+abbrev pub group_primary : List Incremental → PgId → Option (Option ℕ)
+group_primary incs pg = option_map (λ members. members.acting_primary) (membership incs pg)
+
+-- what the map says of it
+abbrev pub group_facts : List Incremental → PgId → Option PrimaryFacts
+group_facts incs pg = option_map (primary_facts incs) (group_primary incs pg)
 
 -- the membership, with the facts of its acting primary in the same map
 abbrev pub state_with : List Incremental → Membership → EpochState

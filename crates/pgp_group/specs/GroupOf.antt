@@ -54,10 +54,3 @@ pub record Follows (group : Group) (map : OsdMap) : Type 0 where
   pub is : IsMapOf incs map
   pub there : HasGroup map group.pg
   pub next : epoch incs ≡ group.intervals.last + 1
-
--- the epoch is the one after that of the group's log
-pub record IsNext (group : Group) (at : ℕ) : Type 0 where
-  pub log : List Entry
-  pub pg : PgId
-  pub is : IsGroupOf log pg group
-  pub next : at ≡ epoch (incs_of log) + 1

@@ -15,6 +15,7 @@ pub mod KeptReports
 pub mod Noted
 pub mod KeptPrior
 pub mod GroupOf
+pub mod Reaching
 pub mod Found
 pub mod Later
 pub mod Touched

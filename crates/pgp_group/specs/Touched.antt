@@ -58,6 +58,22 @@ changes_pool inc id =
 abbrev pub changes_temp : Incremental → PgId → Bool
 changes_temp inc pg = list_any (λ given. is_same_group given.pg pg) inc.temp
 
+-- the devices that the incremental boots, takes down or destroys
+abbrev pub turned_devices : Incremental → List ℕ
+turned_devices inc = inc.up ++ inc.down ++ inc.gone
+
+-- the group lies on the device where that is up, or may by pg_temp
+abbrev pub may_lie_on : List Incremental → PgId → ℕ → Bool
+may_lie_on incs pg osd = is_placed incs pg osd || has_osd osd (temp incs pg)
+
+-- the group may lie elsewhere by the incremental than by the map that these make
+abbrev pub may_move : List Incremental → Incremental → PgId → Bool
+may_move incs inc pg =
+    moves_all inc
+    || changes_pool inc pg.pool
+    || changes_temp inc pg
+    || list_any (may_lie_on incs pg) (turned_devices inc)
+
 -- the entry touches the group, where the log is what was there before
 abbrev pub is_touched : List Entry → Entry → PgId → Bool
 is_touched log (entry.Inc inc) pg =

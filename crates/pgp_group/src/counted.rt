@@ -20,7 +20,7 @@ pub fn is_counted(map: &OsdMap, first: Epoch, member: Member, stamp: Epoch) -> b
 }
 
 /// What the map says of an acting primary; where there is none, both epochs are 0.
-pub(crate) fn primary_facts(map: &OsdMap, primary: Option<OsdId>) -> PrimaryFacts
+pub fn primary_facts(map: &OsdMap, primary: Option<OsdId>) -> PrimaryFacts
     ensures { (incs : List Incremental) → IsMapOf incs map.now → result ≡ primary_facts incs primary }
 {
     match primary {

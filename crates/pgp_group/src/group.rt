@@ -41,6 +41,7 @@ mod names;
 mod next;
 
 use super::causes::Causes;
+use super::counted::primary_facts;
 use super::found::{Found, Needs};
 use super::heard::{is_waiting, leader};
 use super::infos::Infos;
@@ -127,7 +128,8 @@ impl Group {
         ensures err { OnErr result ((log : List Told) (pg : Id) → IsGroupOf log pg self.old → IsGroupOf log pg self.new) }
     {
         let members = lies_at(after, &self.pg);
-        self.absorb_members(before, after, members)
+        let facts = primary_facts(before, self.primary());
+        self.absorb_members(after, members, facts)
     }
 
     /// Takes a report, or another entry that brings no map: of those that aren't reports of this group nothing is kept.

@@ -21,5 +21,5 @@ mod reckoned;
 mod reports;
 mod standing;
 
-pub use counted::is_counted;
+pub use counted::{is_counted, primary_facts};
 pub use group::Group;

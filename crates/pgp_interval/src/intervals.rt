@@ -107,12 +107,13 @@ impl<R: Recoverable> Intervals<R> {
         Ok(())
     }
 
-    /// The epochs after the current one up to `to`, all with the membership of the current one. It takes no memory.
+    /// The epochs after the current one up to `to`, all with the membership of the current one: `to` is the current epoch then. It
+    /// takes no memory.
     ///
     /// What the maps of these epochs say of the primary plays no part as long as the membership stays.
     pub fn stay(&mut self, to: Epoch)
-        requires { self.old.last ≤ to }
-        ensures { (h : History R) (cleans : List ℕ) (told : List Facts)
+        ensures is { self.new ≡ record self.old { last = to } }
+        ensures stays { (h : History R) (cleans : List ℕ) (told : List Facts)
             → IsIntervalsOf R.enough R.by_place h cleans self.old → to ≡ self.old.last + length told
             → IsIntervalsOf R.enough R.by_place (stayed h told) cleans self.new }
     {

@@ -1,9 +1,12 @@
 -- What a shard keeps beside its entries, as the log grows.
-use Rattle.std.proofs.Common.{◌≡◌, ℕ, List, [], ◌∷◌, ◌++◌, Option, Some, None, is_some, Bool, true, false, ◌&&◌, ◌||◌, IfSome, ◌+◌, ◌<◌, length, take, get_or, nat_eq, inl, inr, arith, refl, sym, ap, ◌∙◌, subst}
+use Rattle.std.proofs.Common.{◌≡◌, ℕ, List, [], ◌∷◌, ◌++◌, Option, Some, None, is_some, Bool, true, false, ◌&&◌, ◌||◌, IfSome, ◌+◌, ◌<◌, length, take, get_or, nat_eq, nat_lt, eq-eqb, inl, inr, arith, refl, sym, ap, ◌∙◌, subst}
 use Rattle.std.specs.List.{list_any}
-use Rattle.std.proofs.lemmas.Bool.{and_from, and_parts, cases_Bool, cases_lt, eqb-true}
+use Rattle.std.specs.Option.{option_map_or}
+use Rattle.std.specs.Prelude.{slice_get}
+use Rattle.std.proofs.lemmas.Bool.{and_from, and_parts, cases_Bool, cases_lt, eqb-true, true≢false}
 use Rattle.std.proofs.lemmas.List.Folds.{list_any_more}
 use Rattle.pgp_lists.proofs.Bools.{same_tests}
+use Rattle.pgp_lists.proofs.Lists.{none-at}
 use Rattle.pgp_ids.specs.declared.entry.Entry.{Entry}
 use Rattle.pgp_ids.specs.declared.entry.Entry.TheVariants as entry
 use Rattle.pgp_ids.specs.declared.incremental.Incremental.{Incremental}
@@ -12,10 +15,11 @@ use Rattle.pgp_ids.specs.declared.pool.PoolSpec.{PoolSpec}
 use Rattle.pgp_ids.specs.declared.view.View.{View}
 use Rattle.pgp_map.proofs.CheckedLemmas.{checked-has_group}
 use Rattle.pgp_map.specs.Held.{HasGroup}
-use Rattle.pgp_map.specs.MapFault.{then_with}
+use Rattle.pgp_map.specs.MapFault.{map_fault, then_with}
 use Rattle.pgp_map.specs.MapOf.{IsMapOf}
-use Rattle.pgp_map.specs.Pools.{has_group, is_same_group}
+use Rattle.pgp_map.specs.Pools.{has_group, is_same_group, pool}
 use Rattle.pgp_map.specs.declared.map.OsdMap.{OsdMap}
+use Rattle.pgp_group.proofs.GrowthLemmas.{unmade}
 use Rattle.pgp_group.proofs.ViewLemmas.{scratch_there}
 use Rattle.pgp_group.specs.Entries.{inc_of, incs_of}
 use Rattle.pgp_group.specs.GroupHistory.{makes}
@@ -24,6 +28,8 @@ use Rattle.pgp_log.specs.Derived.{HasOwn, HasStill, IsDerivedOf, IsKeptIfOwn, Is
 use Rattle.pgp_log.specs.Fits.{fits}
 use Rattle.pgp_log.specs.Kept.{AreGroupsOf, IsStep, KeepsAll, ids_of, keeps}
 use Rattle.pgp_log.specs.Shard.{is_among}
+use Rattle.pgp_log.specs.MapBefore.{IsMapBefore}
+use Rattle.pgp_log.specs.declared.before.MapBefore.{MapBefore}
 use Rattle.pgp_log.specs.declared.derived.Derived.{Derived}
 use Rattle.pgp_log.specs.declared.groups.Groups.{Groups}
 use Rattle.pgp_log.specs.declared.owner.Owner.{Owner}
@@ -33,30 +39,31 @@ use Rattle.pgp_log.proofs.RawSetLemmas.{same_group}
 use Rattle.pgp_log.proofs.ComingLemmas.{comes-with_pool}
 use Rattle.pgp_log.proofs.TakeLemmas.{incs-other}
 
--- one of the maps has taken an incremental
-pub step-begins : (owner : Owner) (log : List Entry) (inc : Incremental) (old : Derived) (after : OsdMap) → IsDerivedOf owner log old → fits log (entry.Inc inc) ≡ None → IsMapOf (then_with (incs_of log) inc) after → IsStep log inc old.before after
-step-begins owner log inc old after is fit made = record { legal = is.legal; fits = fit; before_is = is.before_is; after_is = made }
+-- the map has taken an incremental
+pub step-begins : (owner : Owner) (log : List Entry) (inc : Incremental) (old : Derived) (before : MapBefore) (after : OsdMap) → IsDerivedOf owner log old → fits log (entry.Inc inc) ≡ None
+    → IsMapBefore (incs_of log) inc before → IsMapOf (then_with (incs_of log) inc) after → IsStep log inc before after
+step-begins owner log inc old before after is fit told made = record { legal = is.legal; fits = fit; before_is = told; after_is = made }
 
 -- and so have the groups
-pub groups-step : (owner : Owner) (log : List Entry) (inc : Incremental) (old : Derived) (after : OsdMap) (groups : Groups) → IsDerivedOf owner log old → IsStep log inc old.before after → AreGroupsOf (log ++ entry.Inc inc ∷ []) groups
-    → ids_of groups.kept.items ≡ ids_of old.groups.kept.items → IsStepping owner log inc (record old { after = after; groups = groups })
-groups-step owner log inc old after groups is step are ids = record {
+pub groups-step : (owner : Owner) (log : List Entry) (inc : Incremental) (old : Derived) (before : MapBefore) (after : OsdMap) (groups : Groups) → IsDerivedOf owner log old → IsStep log inc before after
+    → AreGroupsOf (log ++ entry.Inc inc ∷ []) groups → ids_of groups.kept.items ≡ ids_of old.groups.kept.items → IsStepping owner log inc (record old { map = after; groups = groups })
+groups-step owner log inc old before after groups is step are ids = record {
+  before = before;
   step = step;
   groups_are = are;
   own_are = λ pg own there. ap (is_among pg) ids ∙ is.own_are pg ∙ and_from (owns owner pg) (has_group (incs_of log) pg) own there;
   only_own = λ pg kept.
       let was = and_parts (owns owner pg) (has_group (incs_of log) pg) (sym (is.own_are pg) ∙ sym (ap (is_among pg) ids) ∙ kept) in
       and_from (owns owner pg) (has_group (then_with (incs_of log) inc) pg) was.0
-      (still-there (incs_of log) inc pg (step-fine log inc old.before after step) was.1);
+      (still-there (incs_of log) inc pg (step-fine log inc before after step) was.1);
 }
 
--- the other map has taken it too
-pub step-ends : (owner : Owner) (log : List Entry) (inc : Incremental) (moved : Derived) (before : OsdMap) → IsStepping owner log inc moved → HasOwn owner (then_with (incs_of log) inc) moved → IsMapOf (then_with (incs_of log) inc) before
-    → IsDerivedOf owner (log ++ entry.Inc inc ∷ []) (record moved { before = before })
-step-ends owner log inc moved before is own made = record {
+-- and the owner's groups that come with it are there
+pub step-ends : (owner : Owner) (log : List Entry) (inc : Incremental) (moved : Derived) → IsStepping owner log inc moved → HasOwn owner (then_with (incs_of log) inc) moved
+    → IsDerivedOf owner (log ++ entry.Inc inc ∷ []) moved
+step-ends owner log inc moved is own = record {
   legal = legal-snoc log (entry.Inc inc) is.step.legal is.step.fits;
-  before_is = subst (λ (l : List Incremental). IsMapOf l before) (sym (grown log inc)) made;
-  after_is = subst (λ (l : List Incremental). IsMapOf l moved.after) (sym (grown log inc)) is.step.after_is;
+  map_is = subst (λ (l : List Incremental). IsMapOf l moved.map) (sym (grown log inc)) is.step.after_is;
   groups_are = is.groups_are;
   own_are = λ pg. own pg ∙ ap (λ (l : List Incremental). owns owner pg && has_group l pg) (sym (grown log inc));
 }
@@ -67,21 +74,38 @@ pub told-on : (owner : Owner) (log : List Entry) (new : Entry) (old : Derived) (
 told-on owner log new old groups none fit is are ids =
     let same : incs_of (log ++ new ∷ []) ≡ incs_of log = incs-other log new none in record {
       legal = legal-snoc log new is.legal fit;
-      before_is = subst (λ (l : List Incremental). IsMapOf l old.before) (sym same) is.before_is;
-      after_is = subst (λ (l : List Incremental). IsMapOf l old.after) (sym same) is.after_is;
+      map_is = subst (λ (l : List Incremental). IsMapOf l old.map) (sym same) is.map_is;
       groups_are = are;
       own_are = λ pg. ap (is_among pg) ids ∙ is.own_are pg ∙ ap (λ (l : List Incremental). owns owner pg && has_group l pg) (sym same);
     }
 
 -- the next map has a group that its list has
-pub next-has_group : (owner : Owner) (log : List Entry) (inc : Incremental) (derived : Derived) (pg : PgId) → IsStepping owner log inc derived → has_group (then_with (incs_of log) inc) pg ≡ true → HasGroup derived.after pg
+pub next-has_group : (owner : Owner) (log : List Entry) (inc : Incremental) (derived : Derived) (pg : PgId) → IsStepping owner log inc derived → has_group (then_with (incs_of log) inc) pg ≡ true → HasGroup derived.map pg
 next-has_group owner log inc derived pg is there =
-    checked-has_group (then_with (incs_of log) inc) derived.after pg is.step.after_is (step-checked log inc derived.before derived.after is.step) there
+    checked-has_group (then_with (incs_of log) inc) derived.map pg is.step.after_is (step-checked log inc is.before derived.map is.step) there
 
 -- the groups have answered
 pub asked-on : (owner : Owner) (log : List Entry) (old : Derived) (groups : Groups) → IsDerivedOf owner log old → AreGroupsOf log groups → ids_of groups.kept.items ≡ ids_of old.groups.kept.items → IsDerivedOf owner log (record old { groups = groups })
 asked-on owner log old groups is are ids =
-    record { legal = is.legal; before_is = is.before_is; after_is = is.after_is; groups_are = are; own_are = λ pg. ap (is_among pg) ids ∙ is.own_are pg }
+    record { legal = is.legal; map_is = is.map_is; groups_are = are; own_are = λ pg. ap (is_among pg) ids ∙ is.own_are pg }
+
+-- a group of a pool that the incremental makes isn't there before
+pub absent-before : (log : List Entry) (inc : Incremental) (pg : PgId) → map_fault (incs_of log) inc ≡ None → makes pg.pool inc ≡ true → has_group (incs_of log) pg ≡ false
+absent-before log inc pg fine made = elim (cases_Bool (has_group (incs_of log) pg)) [
+  | inl there ↦ absurd (true≢false (sym made ∙ unmade (incs_of log) inc pg.pool fine (of_pool (pool (incs_of log) pg.pool) there)))
+  | inr absent ↦ absent
+]
+  where
+    of_pool : (found : Option PoolSpec) → option_map_or (λ made'. nat_lt pg.pg made'.pg_num) found false ≡ true → is_some found ≡ true
+    of_pool None there = there
+    of_pool (Some made') there = refl
+
+-- a pool of its list is one that the incremental makes
+pub made-here : (inc : Incremental) (i : ℕ) (made : PoolSpec) → slice_get inc.pools i ≡ Some made → makes made.id inc ≡ true
+made-here inc i made at = elim (cases_Bool (makes made.id inc)) [
+  | inl is ↦ is
+  | inr none ↦ absurd (true≢false (sym (eq-eqb made.id made.id refl) ∙ none-at (λ (p : PoolSpec). nat_eq p.id made.id) inc.pools i made none at))
+]
 
 -- a group that the last map doesn't have has no view
 pub no-view : (log : List Entry) (pg : PgId) → has_group (incs_of log) pg ≡ false → None ≡ scratch log pg

@@ -12,17 +12,22 @@ use Rattle.std.proofs.lemmas.List.Folds.{list_any-append}
 use Rattle.std.proofs.lemmas.Option.{get_or_from_slice_get, slice_get_read, same_Some, slice_get-map, slice_get_within, none-some}
 use Rattle.pgp_lists.proofs.Lists.{get-append, get-last, get-set_other, get-set_same, none-at, none-each}
 use Rattle.pgp_ids.specs.declared.entry.Entry.{Entry}
+use Rattle.pgp_ids.specs.declared.entry.Entry.TheVariants as entry
+use Rattle.pgp_ids.specs.declared.incremental.Incremental.{Incremental}
 use Rattle.pgp_ids.specs.declared.pg_id.PgId.{PgId}
 use Rattle.pgp_map.specs.Pools.{is_same_group}
+use Rattle.pgp_map.specs.declared.map.OsdMap.{OsdMap}
 use Rattle.pgp_group.specs.Entries.{inc_of}
 use Rattle.pgp_group.specs.Touched.{is_touched}
-use Rattle.pgp_log.specs.Kept.{AreAtPlaces, AreGroupsOf, AreKeptOf, IsKeptOf, ids_of, keeps}
+use Rattle.pgp_log.specs.declared.before.MapBefore.{MapBefore}
+use Rattle.pgp_log.specs.Kept.{AreAtPlaces, AreGroupsOf, AreKeptOf, IsKeptOf, IsStep, ids_of, keeps}
 use Rattle.pgp_log.specs.Shard.{is_among}
 use Rattle.pgp_log.specs.declared.groups.Groups.{Groups}
 use Rattle.pgp_log.specs.declared.kept.Kept.{Kept}
 use Rattle.pgp_log.specs.Log.{HasInc}
 use Rattle.pgp_log.proofs.KeptLemmas.{kept-inc, kept-untold}
 use Rattle.pgp_log.proofs.RawSetLemmas.{same_group}
+use Rattle.pgp_log.proofs.TouchLemmas.{kept-stays}
 
 -- ---- elements by their places
 
@@ -72,6 +77,14 @@ pub groups-untold : (log : List Entry) (new : Entry) (groups : Groups) → inc_o
     → AreGroupsOf log groups → AreGroupsOf (log ++ new ∷ []) groups
 groups-untold log new groups none untouched are = record {
   each = record { each = λ place kept at. kept-untold log new kept none (untouched place kept at) (are.each.each place kept at) };
+  places_are = are.places_are;
+}
+
+-- an incremental touches no group
+pub groups-stay : (log : List Entry) (inc : Incremental) (before : MapBefore) (after : OsdMap) (groups : Groups) → IsStep log inc before after → ((pg : PgId) → is_touched log (entry.Inc inc) pg ≡ false)
+    → AreGroupsOf log groups → AreGroupsOf (log ++ entry.Inc inc ∷ []) groups
+groups-stay log inc before after groups step untouched are = record {
+  each = record { each = λ place kept at. kept-stays log inc before after kept step (are.each.each place kept at) (untouched kept.pg) };
   places_are = are.places_are;
 }
 

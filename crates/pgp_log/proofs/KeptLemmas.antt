@@ -6,6 +6,7 @@ use Rattle.std.proofs.lemmas.Bool.{cases_Bool, true≢false}
 use Rattle.pgp_lists.proofs.Options.{some_is}
 use Rattle.pgp_ids.specs.declared.entry.Entry.{Entry}
 use Rattle.pgp_ids.specs.declared.entry.Entry.TheVariants as entry
+use Rattle.pgp_ids.specs.declared.history.PrimaryFacts.{PrimaryFacts}
 use Rattle.pgp_ids.specs.declared.incremental.Incremental.{Incremental}
 use Rattle.pgp_ids.specs.declared.membership.Membership.{Membership}
 use Rattle.pgp_ids.specs.declared.pg_id.PgId.{PgId}
@@ -26,16 +27,19 @@ use Rattle.pgp_sets.proofs.RawSetLemmas.{raw_set-stays}
 use Rattle.pgp_sets.specs.Sets.{members_from_up, membership, moves, raw_set_of, without_down}
 use Rattle.pgp_group.proofs.GroupLemmas.{infos-kept, infos-other, infos-same, names-kept, past-same, reports-kept, reports-other, reports-same, IsGroupOf-other}
 use Rattle.pgp_group.proofs.GrowthLemmas.{has_group-grows}
+use Rattle.pgp_group.proofs.ReachingLemmas.{reached-now}
 use Rattle.pgp_group.proofs.SameViewLemmas.{view-same}
 use Rattle.pgp_group.proofs.UntouchedLemmas.{Stays, untouched-stays}
 use Rattle.pgp_group.proofs.ViewLemmas.{history_there}
 use Rattle.pgp_group.specs.Entries.{inc_of, incs_of, infos_of, reports_of}
-use Rattle.pgp_group.specs.GroupHistory.{AreNumbered, group_history, made_at}
+use Rattle.pgp_group.specs.GroupHistory.{AreNumbered, group_facts, group_history, made_at}
 use Rattle.pgp_group.specs.GroupOf.{IsGroupOf, IsSilent, Follows}
 use Rattle.pgp_group.specs.GroupLog.{group_with}
+use Rattle.pgp_group.specs.Reaching.{reaching}
 use Rattle.pgp_group.specs.Touched.{is_touched, told_at}
 use Rattle.pgp_group.specs.View.{scratch, view_of}
 use Rattle.pgp_group.specs.declared.group.Group.{Group}
+use Rattle.pgp_log.specs.declared.before.MapBefore.{MapBefore}
 use Rattle.pgp_log.specs.Fits.{fits}
 use Rattle.pgp_log.specs.Kept.{IsKeptOf, IsStep, IsViewOf}
 use Rattle.pgp_log.specs.Log.{HasInc, is_legal}
@@ -48,33 +52,33 @@ use Rattle.pgp_log.proofs.TakeLemmas.{faultless-inc, fits-faultless, incs-inc, i
 
 -- ---- a step to the next map
 
-pub step-fine : (log : List Entry) (inc : Incremental) (before after : OsdMap) → IsStep log inc before after → map_fault (incs_of log) inc ≡ None
+pub step-fine : (log : List Entry) (inc : Incremental) (before : MapBefore) (after : OsdMap) → IsStep log inc before after → map_fault (incs_of log) inc ≡ None
 step-fine log inc before after step = faultless-inc log (entry.Inc inc) inc refl (fits-faultless log (entry.Inc inc) step.fits)
 
-pub step-checked : (log : List Entry) (inc : Incremental) (before after : OsdMap) → IsStep log inc before after → are_checked (then_with (incs_of log) inc) ≡ true
+pub step-checked : (log : List Entry) (inc : Incremental) (before : MapBefore) (after : OsdMap) → IsStep log inc before after → are_checked (then_with (incs_of log) inc) ≡ true
 step-checked log inc before after step = checked-more (incs_of log) inc (legal-checked log step.legal) (step-fine log inc before after step)
 
 pub grown : (log : List Entry) (inc : Incremental) → incs_of (log ++ entry.Inc inc ∷ []) ≡ then_with (incs_of log) inc
 grown log inc = incs-inc log (entry.Inc inc) inc refl
 
 -- the group takes the map that comes next
-pub kept-follows : (log : List Entry) (inc : Incremental) (before after : OsdMap) (kept : Kept) → IsKeptOf log kept → IsStep log inc before after → Follows kept.group after
+pub kept-follows : (log : List Entry) (inc : Incremental) (before : MapBefore) (after : OsdMap) (kept : Kept) → IsKeptOf log kept → IsStep log inc before after → Follows (reaching (epoch (incs_of log)) kept.group) after
 kept-follows log inc before after kept is step =
-    next-follows log kept.pg inc kept.group after is.group_is (step-fine log inc before after step) (step-checked log inc before after step) step.after_is
+    next-follows log kept.pg inc (reaching (epoch (incs_of log)) kept.group) after is.group_is (step-fine log inc before after step) (step-checked log inc before after step) step.after_is
 
-pub kept-there : (log : List Entry) (inc : Incremental) (before after : OsdMap) (kept : Kept) → IsKeptOf log kept → IsStep log inc before after → HasGroup after kept.pg
+pub kept-there : (log : List Entry) (inc : Incremental) (before : MapBefore) (after : OsdMap) (kept : Kept) → IsKeptOf log kept → IsStep log inc before after → HasGroup after kept.pg
 kept-there log inc before after kept is step =
     subst (HasGroup after) is.group_is.keeps.pg_is (kept-follows log inc before after kept is step).there
 
 -- the raw set stays, where the incremental doesn't move the group
-pub kept_raw-stays : (log : List Entry) (inc : Incremental) (before after : OsdMap) (kept : Kept) → IsKeptOf log kept → IsStep log inc before after → moves inc kept.pg.pool ≡ false
+pub kept_raw-stays : (log : List Entry) (inc : Incremental) (before : MapBefore) (after : OsdMap) (kept : Kept) → IsKeptOf log kept → IsStep log inc before after → moves inc kept.pg.pool ≡ false
     → IsRawSet (incs_of (log ++ entry.Inc inc ∷ [])) kept.pg kept.raw
 kept_raw-stays log inc before after kept is step still =
     subst (λ (l : List Incremental). IsRawSet l kept.pg kept.raw) (sym (grown log inc))
     (raw_set-stays (incs_of log) inc kept.pg kept.raw (step-fine log inc before after step) still is.raw_is)
 
 -- it is found anew
-pub raw-anew : (log : List Entry) (inc : Incremental) (before after : OsdMap) (pg : PgId) (raw : List (Option ℕ)) → IsStep log inc before after
+pub raw-anew : (log : List Entry) (inc : Incremental) (before : MapBefore) (after : OsdMap) (pg : PgId) (raw : List (Option ℕ)) → IsStep log inc before after
     → ((incs : List Incremental) → IsMapOf incs after → raw_set_of incs pg ≡ Some raw) → IsRawSet (incs_of (log ++ entry.Inc inc ∷ [])) pg raw
 raw-anew log inc before after pg raw step placed =
     placed (incs_of (log ++ entry.Inc inc ∷ [])) (subst (λ (l : List Incremental). IsMapOf l after) (sym (grown log inc)) step.after_is)
@@ -125,7 +129,7 @@ view-stays log new pg None stays is = tt
 view-stays log new pg (Some view) stays is = stays ∙ ap (option_map (told_at (length (log ++ new ∷ [])) (epoch (incs_of (log ++ new ∷ []))))) is
 
 -- an incremental that doesn't touch the group does so
-pub untouched-inc : (log : List Entry) (inc : Incremental) (before after : OsdMap) (pg : PgId) → IsStep log inc before after → is_touched log (entry.Inc inc) pg ≡ false → Stays log (entry.Inc inc) pg
+pub untouched-inc : (log : List Entry) (inc : Incremental) (before : MapBefore) (after : OsdMap) (pg : PgId) → IsStep log inc before after → is_touched log (entry.Inc inc) pg ≡ false → Stays log (entry.Inc inc) pg
 untouched-inc log inc before after pg step untouched =
     untouched-stays front-checked last-checked raw_set-stays (record { past = λ cleans h facts. search past_intervals-continues; first = current_first-continues })
     log (entry.Inc inc) pg (ap are_checked (grown log inc) ∙ step-checked log inc before after step) untouched
@@ -142,7 +146,7 @@ view-now log pg view is =
 
 -- ---- a group comes
 
-pub kept-begun : (log : List Entry) (inc : Incremental) (before after : OsdMap) (kept : Kept) → kept.view ≡ None → IsStep log inc before after → has_group (incs_of log) kept.pg ≡ false → has_group (then_with (incs_of log) inc) kept.pg ≡ true
+pub kept-begun : (log : List Entry) (inc : Incremental) (before : MapBefore) (after : OsdMap) (kept : Kept) → kept.view ≡ None → IsStep log inc before after → has_group (incs_of log) kept.pg ≡ false → has_group (then_with (incs_of log) inc) kept.pg ≡ true
     → ((l : List Entry) → AreNumbered (incs_of l) → IsMapOf (incs_of l) after → has_group (incs_of l) kept.pg ≡ true → made_at (incs_of l) kept.pg.pool ≡ epoch (incs_of l) → IsSilent l kept.pg → IsGroupOf l kept.pg kept.group)
     → ((incs : List Incremental) → IsMapOf incs after → raw_set_of incs kept.pg ≡ Some kept.raw)
     → IsKeptOf (log ++ entry.Inc inc ∷ []) kept
@@ -150,12 +154,12 @@ kept-begun log inc before after kept none step absent there begins placed =
     let later : List Entry = log ++ entry.Inc inc ∷ [] in
     let back : then_with (incs_of log) inc ≡ incs_of later = sym (grown log inc) in
     record {
-      group_is = begins later
+      group_is = reached-now later kept.pg kept.group (begins later
           (numbered (incs_of later) (ap are_checked (grown log inc) ∙ step-checked log inc before after step))
           (subst (λ (l : List Incremental). IsMapOf l after) back step.after_is)
           (ap (λ (l : List Incremental). has_group l kept.pg) (grown log inc) ∙ there)
           (subst (λ (l : List Incremental). made_at l kept.pg.pool ≡ epoch l) back (made-now (incs_of log) inc kept.pg absent there))
-          (silent-inc log inc kept.pg (legal-absent log step.legal kept.pg absent).silent);
+          (silent-inc log inc kept.pg (legal-absent log step.legal kept.pg absent).silent));
       raw_is = raw-anew log inc before after kept.pg kept.raw step placed;
       view_is = no_view later kept.pg kept.view none;
     }
@@ -199,7 +203,8 @@ pub kept-untold : (log : List Entry) (new : Entry) (kept : Kept) → inc_of new 
 kept-untold log new kept none untouched is =
     let others : IsOfOthers log new kept.pg = of-others log new kept.pg none untouched in
     record {
-      group_is = group-untold log new kept.pg kept.group none others is.group_is;
+      group_is = subst (λ (l : List Incremental). IsGroupOf (log ++ new ∷ []) kept.pg (reaching (epoch l) kept.group)) (sym (incs-other log new none))
+          (group-untold log new kept.pg (reaching (epoch (incs_of log)) kept.group) none others is.group_is);
       raw_is = subst (λ (l : List Incremental). IsRawSet l kept.pg kept.raw) (sym (incs-other log new none)) is.raw_is;
       view_is = view-stays log new kept.pg kept.view (view-untold log new kept.pg none others) is.view_is;
     }
@@ -208,19 +213,19 @@ kept-untold log new kept none untouched is =
 pub kept-told : (log : List Entry) (new : Entry) (old : Kept) (group : Group) → inc_of new ≡ None → IsKeptOf log old → IsGroupOf (log ++ new ∷ []) old.pg group
     → IsKeptOf (log ++ new ∷ []) (record old { group = group; view = None })
 kept-told log new old group none is told = record {
-  group_is = told;
+  group_is = reached-now (log ++ new ∷ []) old.pg group told;
   raw_is = subst (λ (l : List Incremental). IsRawSet l old.pg old.raw) (sym (incs-other log new none)) is.raw_is;
   view_is = tt;
 }
 
 -- a group is there by an incremental
 pub kept-inc : (log : List Entry) (kept : Kept) → IsKeptOf log kept → HasInc log
-kept-inc log kept is = inc-of-group log kept.pg kept.group is.group_is
+kept-inc log kept is = inc-of-group log kept.pg (reaching (epoch (incs_of log)) kept.group) is.group_is
 
 -- ---- an incremental that the group takes
 
 -- where the group lies by the incremental's map
-pub lies-next : (log : List Entry) (inc : Incremental) (before after : OsdMap) (old moved : Kept) (members : Membership) → IsStep log inc before after → moved.pg ≡ old.pg
+pub lies-next : (log : List Entry) (inc : Incremental) (before : MapBefore) (after : OsdMap) (old moved : Kept) (members : Membership) → IsStep log inc before after → moved.pg ≡ old.pg
     → IsRawSet (incs_of (log ++ entry.Inc inc ∷ [])) old.pg moved.raw
     → ((incs : List Incremental) → IsMapOf incs after → option_map (λ made. members_from_up incs made moved.pg (without_down incs made moved.raw)) (pool incs moved.pg.pool) ≡ Some members)
     → membership (then_with (incs_of log) inc) moved.pg ≡ Some members
@@ -229,21 +234,24 @@ lies-next log inc before after old moved members step same placed lies =
     let now : IsRawSet (then_with (incs_of log) inc) moved.pg moved.raw = subst (λ (l : List Incremental). IsRawSet l moved.pg moved.raw) (grown log inc) here in
     filtered (then_with (incs_of log) inc) moved.pg moved.raw members now (lies (then_with (incs_of log) inc) step.after_is)
 
--- the group is still that of the log
-pub group-still : (log : List Entry) (old moved : Kept) → IsKeptOf log old → moved.pg ≡ old.pg → moved.group ≡ old.group → IsGroupOf log moved.pg moved.group
-group-still log old moved is same stays =
-    subst (λ (pg : PgId). IsGroupOf log pg moved.group) (sym same) (subst (λ (g : Group). IsGroupOf log old.pg g) (sym stays) is.group_is)
+-- the group, brought to the epoch of the log, is still that of the log
+pub group-still : (log : List Entry) (old : Kept) (pg : PgId) (stood : Group) (at : ℕ) → IsKeptOf log old → pg ≡ old.pg → stood ≡ reaching at old.group → at ≡ epoch (incs_of log) → IsGroupOf log pg stood
+group-still log old pg stood at is same stands here =
+    subst (λ (id : PgId). IsGroupOf log id stood) (sym same)
+    (subst (λ (g : Group). IsGroupOf log old.pg g) (sym (stands ∙ ap (λ (e : ℕ). reaching e old.group) here)) is.group_is)
 
-pub kept-moved : (log : List Entry) (inc : Incremental) (before after : OsdMap) (old moved : Kept) (group : Group) (members : Membership) → IsStep log inc before after → IsKeptOf log old
-    → moved.pg ≡ old.pg → moved.group ≡ old.group → IsRawSet (incs_of (log ++ entry.Inc inc ∷ [])) old.pg moved.raw
+pub kept-moved : (log : List Entry) (inc : Incremental) (before : MapBefore) (after : OsdMap) (old moved : Kept) (stood group : Group) (members : Membership) (facts : PrimaryFacts) → IsStep log inc before after → IsKeptOf log old
+    → moved.pg ≡ old.pg → IsRawSet (incs_of (log ++ entry.Inc inc ∷ [])) old.pg moved.raw
     → ((incs : List Incremental) → IsMapOf incs after → option_map (λ made. members_from_up incs made moved.pg (without_down incs made moved.raw)) (pool incs moved.pg.pool) ≡ Some members)
-    → ((l : List Entry) (pg : PgId) (i : Incremental) → IsGroupOf l pg moved.group → map_fault (incs_of l) i ≡ None → IsMapOf (incs_of l) before → IsMapOf (then_with (incs_of l) i) after
+    → IsGroupOf log moved.pg stood → group_facts (incs_of log) moved.pg ≡ Some facts
+    → ((l : List Entry) (pg : PgId) (i : Incremental) → IsGroupOf l pg stood → map_fault (incs_of l) i ≡ None → group_facts (incs_of l) pg ≡ Some facts → IsMapOf (then_with (incs_of l) i) after
     → membership (then_with (incs_of l) i) pg ≡ Some members → IsGroupOf (l ++ entry.Inc i ∷ []) pg group)
     → IsKeptOf (log ++ entry.Inc inc ∷ []) (record moved { group = group; view = None })
-kept-moved log inc before after old moved group members step is same stays placed lies takes =
+kept-moved log inc before after old moved stood group members facts step is same placed lies stands told takes =
     record {
-      group_is = takes log moved.pg inc (group-still log old moved is same stays) (step-fine log inc before after step) step.before_is step.after_is
-          (lies-next log inc before after old moved members step same placed lies);
+      group_is = reached-now (log ++ entry.Inc inc ∷ []) moved.pg group
+          (takes log moved.pg inc stands (step-fine log inc before after step) told step.after_is
+          (lies-next log inc before after old moved members step same placed lies));
       raw_is = subst (λ (pg : PgId). IsRawSet (incs_of (log ++ entry.Inc inc ∷ [])) pg moved.raw) (sym same) placed;
       view_is = tt;
     }
@@ -252,11 +260,12 @@ kept-moved log inc before after old moved group members step is same stays place
 
 -- what it keeps may change, as long as it stands for the same log
 pub kept-anew : (log : List Entry) (old : Kept) (group : Group) → IsKeptOf log old → IsGroupOf log old.pg group → IsKeptOf log (record old { group = group })
-kept-anew log old group is stands = record { group_is = stands; raw_is = is.raw_is; view_is = is.view_is }
+kept-anew log old group is stands = record { group_is = reached-now log old.pg group stands; raw_is = is.raw_is; view_is = is.view_is }
 
 pub kept-worked_out : (log : List Entry) (old : Kept) (group : Group) (view : View) → IsKeptOf log old → IsGroupOf log old.pg group → scratch log old.pg ≡ Some view
     → IsKeptOf log (record old { group = group; view = Some view })
-kept-worked_out log old group view is stands says = record { group_is = stands; raw_is = is.raw_is; view_is = view-now log old.pg view says }
+kept-worked_out log old group view is stands says =
+    record { group_is = reached-now log old.pg group stands; raw_is = is.raw_is; view_is = view-now log old.pg view says }
 
 -- ---- the group is told of
 

@@ -7,6 +7,7 @@ pub mod LogLemmas
 pub mod LocateLemmas
 pub mod RawSetLemmas
 pub mod ComingLemmas
+pub mod MapBeforeLemmas
 pub mod KeptLemmas
 pub mod TouchLemmas
 pub mod GroupsLemmas

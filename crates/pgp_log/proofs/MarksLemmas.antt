@@ -229,3 +229,8 @@ pool-left log inc pg untouched =
 pub ok-anyhow : {T E : Type 0} (r : Result T E) (P : Type 0) → P → OnOk r P
 ok-anyhow (Ok x) P holds = holds
 ok-anyhow (Err e) P holds = tt
+
+-- what follows from two facts that hold where a call succeeds holds there
+pub ok-two : {T E : Type 0} (r : Result T E) (P Q R : Type 0) → (P → Q → R) → OnOk r P → OnOk r Q → OnOk r R
+ok-two (Ok x) P Q R goes one two = goes one two
+ok-two (Err e) P Q R goes one two = tt

@@ -1,48 +1,36 @@
 -- A group that an incremental doesn't touch, and the devices with which a group has to do.
-use Rattle.std.proofs.Common.{◌≡◌, ◌≢◌, ℕ, List, [], ◌∷◌, ◌++◌, inl, inr, subst, Bool, true, false, ◌||◌, Option, Some, None, is_some, map, length, refl, sym, ap, ◌∙◌}
+use Rattle.std.proofs.Common.{◌≡◌, ℕ, List, [], ◌∷◌, ◌++◌, inl, inr, Bool, true, false, not, ◌||◌, ◌&&◌, Option, Some, None, IfSome, is_some, map, length, refl, sym, ap, ◌∙◌, arith}
 use Rattle.std.specs.List.{list_any}
-use Rattle.std.specs.Option.{option_map}
-use Rattle.std.specs.Prelude.{nat_eq, nat_lt}
-use Rattle.std.proofs.lemmas.Bool.{cases_Bool, or_parts}
+use Rattle.std.specs.Prelude.{nat_eq, nat_lt, is_none, ◌==◌}
+use Rattle.std.proofs.lemmas.Bool.{and_parts, cases_Bool, or_parts, true≢false}
+use Rattle.std.proofs.lemmas.Bool.Decides.{nat_tests}
 use Rattle.std.proofs.lemmas.List.Folds.{list_any-append}
 use Rattle.pgp_ids.specs.declared.entry.Entry.{Entry}
 use Rattle.pgp_ids.specs.declared.entry.Entry.TheVariants as entry
 use Rattle.pgp_ids.specs.declared.incremental.DeviceEpoch.{DeviceEpoch}
 use Rattle.pgp_ids.specs.declared.incremental.Incremental.{Incremental}
-use Rattle.pgp_ids.specs.declared.membership.Membership.{Membership}
 use Rattle.pgp_ids.specs.declared.pg_id.PgId.{PgId}
 use Rattle.pgp_ids.specs.declared.pool.PoolSizes.{PoolSizes}
 use Rattle.pgp_ids.specs.declared.pool.PoolSpec.{PoolSpec}
+use Rattle.pgp_ids.specs.declared.view.View.{View}
 use Rattle.pgp_map.specs.MapFault.{map_fault, then_with}
-use Rattle.pgp_map.specs.Pools.{pool}
+use Rattle.pgp_map.specs.MapOf.{IsMapOf}
+use Rattle.pgp_map.specs.Pools.{temp}
 use Rattle.pgp_map.specs.declared.map.OsdMap.{OsdMap}
 use Rattle.pgp_sets.proofs.RawSetLemmas.{raw_set-stays}
-use Rattle.pgp_sets.specs.Sets.{membership, moves, pool_membership}
-use Rattle.pgp_group.proofs.GrowthLemmas.{next_epoch}
+use Rattle.pgp_sets.specs.Sets.{moves}
 use Rattle.pgp_group.proofs.Lists.{any-mapped}
-use Rattle.pgp_group.proofs.UntoldLemmas.{IsLeft, members-same, pool-same}
-use Rattle.pgp_group.proofs.UntouchedLemmas.{IsApart, apart, devices-stay}
+use Rattle.pgp_group.proofs.ReachingLemmas.{left-unmoved, lies-as-before, reaches-next, untouched-unmoved}
+use Rattle.pgp_group.proofs.UntoldLemmas.{IsLeft, temp-same}
 use Rattle.pgp_group.specs.Entries.{incs_of}
-use Rattle.pgp_group.specs.GroupOf.{IsGroupOf, IsNext}
-use Rattle.pgp_group.specs.Touched.{changed_devices, is_touched}
-use Rattle.pgp_group.specs.declared.group.Group.{Group}
-use Rattle.pgp_log.specs.Kept.{IsKeptOf, IsStep}
+use Rattle.pgp_group.specs.Touched.{changed_devices, changes_pool, changes_temp, is_touched, may_move, moves_all, turned_devices}
+use Rattle.pgp_log.specs.declared.before.MapBefore.{MapBefore}
+use Rattle.pgp_log.specs.Kept.{IsKeptOf, IsStep, IsViewOf, is_marked}
+use Rattle.pgp_log.specs.Touch.{changes_no_pool, changes_nothing, tells_nothing, turns_none}
 use Rattle.pgp_log.specs.declared.kept.Kept.{Kept}
-use Rattle.pgp_log.proofs.KeptLemmas.{group-still, kept_raw-stays, step-fine, untouched-inc, view-stays}
+use Rattle.pgp_log.proofs.KeptLemmas.{kept_raw-stays, step-fine, untouched-inc, view-stays}
 
--- ---- an incremental that doesn't touch the group
-
--- the group lies as it did
-lies-as-before : (log : List Entry) (inc : Incremental) (pg : PgId) → map_fault (incs_of log) inc ≡ None → IsApart log inc pg → membership (then_with (incs_of log) inc) pg ≡ membership (incs_of log) pg
-lies-as-before log inc pg fine is = at (pool (incs_of log) pg.pool) refl where
-  at : (found : Option PoolSpec) → pool (incs_of log) pg.pool ≡ found → membership (then_with (incs_of log) inc) pg ≡ membership (incs_of log) pg
-  at None none =
-      ap (option_map (pool_membership (then_with (incs_of log) inc) pg)) (pool-same (incs_of log) inc pg.pool is.left.pool ∙ none)
-      ∙ ap (option_map (pool_membership (incs_of log) pg)) (sym none)
-  at (Some made) found =
-      ap (option_map (pool_membership (then_with (incs_of log) inc) pg)) (pool-same (incs_of log) inc pg.pool is.left.pool ∙ found)
-      ∙ ap Some (members-same raw_set-stays (incs_of log) inc pg made fine is.left found (devices-stay log inc pg made is found))
-      ∙ ap (option_map (pool_membership (incs_of log) pg)) (sym found)
+-- ---- an incremental by which the group lies as before
 
 -- it isn't moved
 unmoved : (inc : Incremental) (pg : PgId) → IsLeft inc pg → moves inc pg.pool ≡ false
@@ -51,38 +39,87 @@ unmoved inc pg left =
     let own = or_parts (list_any (λ (made : PoolSpec). nat_eq made.id pg.pool) inc.pools) (list_any (λ (sizes : PoolSizes). nat_eq sizes.pool pg.pool) inc.sizes) left.pool in
     rw (large.1, large.0, own.1) refl
 
--- its current interval goes on
-pub kept-next : (log : List Entry) (inc : Incremental) (before after : OsdMap) (kept : Kept) → IsKeptOf log kept → IsStep log inc before after → IsNext kept.group inc.epoch
-kept-next log inc before after kept is step =
-    record { log = log; pg = kept.pg; is = is.group_is; next = next_epoch (incs_of log) inc (step-fine log inc before after step) }
-
-pub kept-stays : (log : List Entry) (inc : Incremental) (before after : OsdMap) (old : Kept) (group : Group) → IsStep log inc before after → IsKeptOf log old → is_touched log (entry.Inc inc) old.pg ≡ false
-    → ((l : List Entry) (pg : PgId) (i : Incremental) → IsGroupOf l pg old.group → map_fault (incs_of l) i ≡ None → i.epoch ≡ inc.epoch → membership (then_with (incs_of l) i) pg ≡ membership (incs_of l) pg
-    → IsGroupOf (l ++ entry.Inc i ∷ []) pg group)
-    → IsKeptOf (log ++ entry.Inc inc ∷ []) (record old { group = group })
-kept-stays log inc before after old group step is untouched stays =
+-- it sleeps on
+kept-lies : (log : List Entry) (inc : Incremental) (before : MapBefore) (after : OsdMap) (old : Kept) (view : Option View) → IsStep log inc before after → IsKeptOf log old → may_move (incs_of log) inc old.pg ≡ false
+    → IfSome view (IsViewOf (log ++ entry.Inc inc ∷ []) old.pg) → IsKeptOf (log ++ entry.Inc inc ∷ []) (record old { view = view })
+kept-lies log inc before after old view step is still told =
     let fine : map_fault (incs_of log) inc ≡ None = step-fine log inc before after step in
-    let left : IsApart log inc old.pg = apart log inc old.pg untouched in
     record {
-      group_is = stays log old.pg inc is.group_is fine refl (lies-as-before log inc old.pg fine left);
-      raw_is = kept_raw-stays log inc before after old is step (unmoved inc old.pg left.left);
-      view_is = view-stays log (entry.Inc inc) old.pg old.view (untouched-inc log inc before after old.pg step untouched) is.view_is;
+      group_is = reaches-next log inc old.pg old.group fine (lies-as-before raw_set-stays (incs_of log) inc old.pg fine still) is.group_is;
+      raw_is = kept_raw-stays log inc before after old is step (unmoved inc old.pg (left-unmoved (incs_of log) inc old.pg still));
+      view_is = told;
     }
 
--- an incremental by which the group lies elsewhere touches it
-pub kept-touched : (log : List Entry) (inc : Incremental) (before after : OsdMap) (old moved : Kept) (members : Membership) → IsStep log inc before after → IsKeptOf log old
-    → moved.pg ≡ old.pg → moved.group ≡ old.group → membership (then_with (incs_of log) inc) moved.pg ≡ Some members
-    → ((l : List Entry) (pg : PgId) → IsGroupOf l pg moved.group → membership (incs_of l) pg ≢ Some members) → is_touched log (entry.Inc inc) old.pg ≡ true
-kept-touched log inc before after old moved members step is same stays lies elsewhere = elim (cases_Bool (is_touched log (entry.Inc inc) old.pg)) [
+-- the view is forgotten
+pub kept-marked : (log : List Entry) (inc : Incremental) (before : MapBefore) (after : OsdMap) (old : Kept) → IsStep log inc before after → IsKeptOf log old → may_move (incs_of log) inc old.pg ≡ false
+    → IsKeptOf (log ++ entry.Inc inc ∷ []) (record old { view = None })
+kept-marked log inc before after old step is still = kept-lies log inc before after old None step is still tt
+
+-- it was already
+pub kept-unseen : (log : List Entry) (inc : Incremental) (before : MapBefore) (after : OsdMap) (old : Kept) → is_marked old ≡ true → IsStep log inc before after → IsKeptOf log old → may_move (incs_of log) inc old.pg ≡ false
+    → IsKeptOf (log ++ entry.Inc inc ∷ []) old
+kept-unseen log inc before after old marked step is still = kept-lies log inc before after old old.view step is still (unseen old.view marked) where
+  unseen : (view : Option View) → is_none view ≡ true → IfSome view (IsViewOf (log ++ entry.Inc inc ∷ []) old.pg)
+  unseen None none = tt
+  unseen (Some view) none = cc
+
+-- the incremental doesn't touch the group
+pub kept-stays : (log : List Entry) (inc : Incremental) (before : MapBefore) (after : OsdMap) (old : Kept) → IsStep log inc before after → IsKeptOf log old → is_touched log (entry.Inc inc) old.pg ≡ false
+    → IsKeptOf (log ++ entry.Inc inc ∷ []) old
+kept-stays log inc before after old step is untouched =
+    kept-lies log inc before after old old.view step is (untouched-unmoved log inc old.pg untouched)
+    (view-stays log (entry.Inc inc) old.pg old.view (untouched-inc log inc before after old.pg step untouched) is.view_is)
+
+-- one that may move the group touches it
+pub moves-touches : (log : List Entry) (inc : Incremental) (pg : PgId) → may_move (incs_of log) inc pg ≡ true → is_touched log (entry.Inc inc) pg ≡ true
+moves-touches log inc pg moved = elim (cases_Bool (is_touched log (entry.Inc inc) pg)) [
   | inl touched ↦ touched
-  | inr untouched ↦
-      let fine : map_fault (incs_of log) inc ≡ None = step-fine log inc before after step in
-      let before' : membership (then_with (incs_of log) inc) old.pg ≡ membership (incs_of log) old.pg = lies-as-before log inc old.pg fine (apart log inc old.pg untouched) in
-      let there : membership (incs_of log) moved.pg ≡ Some members =
-      subst (λ (pg : PgId). membership (then_with (incs_of log) inc) pg ≡ membership (incs_of log) pg → membership (incs_of log) moved.pg ≡ Some members) same
-      (λ as_before. sym as_before ∙ lies) before' in
-      absurd (elsewhere log moved.pg (group-still log old moved is same stays) there)
+  | inr untouched ↦ absurd (true≢false (sym moved ∙ untouched-unmoved log inc pg untouched))
 ]
+
+-- ---- pg_temp lists
+
+-- where the incremental leaves the group's list, the map after it has the list of before
+pub temp-stays : (log : List Entry) (inc : Incremental) (before : MapBefore) (after : OsdMap) (pg : PgId) (list : List (Option ℕ)) → IsStep log inc before after → changes_temp inc pg ≡ false
+    → ((incs : List Incremental) → IsMapOf incs after → list ≡ temp incs pg) → list ≡ temp (incs_of log) pg
+temp-stays log inc before after pg list step left says = says (then_with (incs_of log) inc) step.after_is ∙ temp-same (incs_of log) inc pg left
+
+-- an incremental that can't change where the group lies leaves its list
+pub left-temp : (inc : Incremental) (pg : PgId) → (moves_all inc || changes_pool inc pg.pool || changes_temp inc pg) ≡ false → changes_temp inc pg ≡ false
+left-temp inc pg none = (or_parts (moves_all inc || changes_pool inc pg.pool) (changes_temp inc pg) none).1
+
+-- ---- an incremental that changes the epoch alone
+
+empty-list : {X : Type 0} (xs : List X) → (length xs == 0) ≡ true → xs ≡ []
+empty-list [] none = refl
+empty-list (x ∷ xs) none = grind (arith, nat_tests)
+
+pub nothing-touched : (log : List Entry) (inc : Incremental) (pg : PgId) → changes_nothing inc ≡ true → is_touched log (entry.Inc inc) pg ≡ false
+nothing-touched log inc pg nothing =
+    let a = and_parts (not (moves_all inc) && changes_no_pool inc) (tells_nothing inc) nothing in
+    let b = and_parts (not (moves_all inc)) (changes_no_pool inc) a.0 in
+    let large : moves_all inc ≡ false = not_true (moves_all inc) b.0 in
+    let c = and_parts ((length inc.pools == 0) && (length inc.sizes == 0)) (length inc.temp == 0) b.1 in
+    let d = and_parts (length inc.pools == 0) (length inc.sizes == 0) c.0 in
+    let e = and_parts (turns_none inc && (length inc.up_thru == 0)) (length inc.lost == 0) a.1 in
+    let f = and_parts (turns_none inc) (length inc.up_thru == 0) e.0 in
+    let g = and_parts ((length inc.up == 0) && (length inc.down == 0)) (length inc.gone == 0) f.0 in
+    let h = and_parts (length inc.up == 0) (length inc.down == 0) g.0 in
+    rw (
+      large,
+      empty-list inc.pools d.0,
+      empty-list inc.sizes d.1,
+      empty-list inc.temp c.1,
+      empty-list inc.up h.0,
+      empty-list inc.down h.1,
+      empty-list inc.gone g.1,
+      empty-list inc.up_thru f.1,
+      empty-list inc.lost e.1,
+    ) refl
+  where
+    not_true : (b : Bool) → not b ≡ true → b ≡ false
+    not_true true is = cc
+    not_true false is = refl
 
 -- ---- with which devices the group has to do
 
@@ -98,3 +135,14 @@ changed-parts test inc =
     ∙ ap (λ b. b || list_any test inc.gone) (list_any-append test inc.up inc.down)))
     ∙ ap (λ b. (list_any test inc.up || list_any test inc.down || list_any test inc.gone || b) || list_any test (map osd inc.lost)) (any-mapped osd test inc.up_thru)
     ∙ ap (λ b. (list_any test inc.up || list_any test inc.down || list_any test inc.gone || list_any (λ (told : DeviceEpoch). test told.osd) inc.up_thru) || b) (any-mapped osd test inc.lost))
+
+-- those that it boots, takes down or destroys
+pub turned-parts : (test : ℕ → Bool) (inc : Incremental) → (list_any test inc.up || list_any test inc.down || list_any test inc.gone) ≡ list_any test (turned_devices inc)
+turned-parts test inc =
+    sym (list_any-append test (inc.up ++ inc.down) inc.gone ∙ ap (λ b. b || list_any test inc.gone) (list_any-append test inc.up inc.down))
+
+pub turned-none : (test : ℕ → Bool) (inc : Incremental) → turns_none inc ≡ true → list_any test (turned_devices inc) ≡ false
+turned-none test inc none =
+    let a = and_parts ((length inc.up == 0) && (length inc.down == 0)) (length inc.gone == 0) none in
+    let b = and_parts (length inc.up == 0) (length inc.down == 0) a.0 in
+    rw (empty-list inc.up b.0, empty-list inc.down b.1, empty-list inc.gone a.1) refl

@@ -1,4 +1,4 @@
--- What a shard keeps beside the entries that it has read: the map that they make, twice, and groups.
+-- What a shard keeps beside the entries that it has read: the map that they make, and groups.
 use Rattle.std.specs.Prelude.{◌≡◌, ◌++◌, ◌&&◌, List, [], ◌∷◌, Option, None, IfSome, option_map, Bool, true}
 use Rattle.pgp_ids.specs.declared.entry.Entry.{Entry}
 use Rattle.pgp_ids.specs.declared.entry.Entry.TheVariants as entry
@@ -12,6 +12,7 @@ use Rattle.pgp_log.specs.Fits.{fits}
 use Rattle.pgp_log.specs.Kept.{AreAllMarked, AreGroupsOf, IsStep, KeepsAll, keeps, marks_of}
 use Rattle.pgp_log.specs.Log.{is_legal}
 use Rattle.pgp_log.specs.Shard.{Shard, is_own}
+use Rattle.pgp_log.specs.declared.before.MapBefore.{MapBefore}
 use Rattle.pgp_log.specs.declared.derived.Derived.{Derived}
 use Rattle.pgp_log.specs.declared.owner.Owner.{Owner}
 
@@ -36,19 +37,19 @@ pub record HasStill (before after : Derived) : Type 0 where
   pub groups_are : KeepsAll before.groups after.groups
   pub marked : AreAllMarked before.groups.kept.items → AreAllMarked after.groups.kept.items
 
--- the log is legal, each of the two maps is the one that it makes, what is kept of each group is what the log says of it, and
--- just the owner's groups that the map has are kept
+-- the log is legal, the map is the one that it makes, what is kept of each group is what the log says of it, and just the
+-- owner's groups that the map has are kept
 pub record IsDerivedOf (owner : Owner) (log : List Entry) (derived : Derived) : Type 0 where
   pub legal : is_legal log ≡ true
-  pub before_is : IsMapOf (incs_of log) derived.before
-  pub after_is : IsMapOf (incs_of log) derived.after
+  pub map_is : IsMapOf (incs_of log) derived.map
   pub groups_are : AreGroupsOf log derived.groups
   pub own_are : HasOwn owner (incs_of log) derived
 
--- one of the maps has an incremental that comes next in the log; the owner's groups that the map before has are kept, and none
--- but the owner's groups that the map after has
+-- the map has an incremental that comes next in the log; the owner's groups that the map before has are kept, and none but the
+-- owner's groups that the map after has
 pub record IsStepping (owner : Owner) (log : List Entry) (inc : Incremental) (derived : Derived) : Type 0 where
-  pub step : IsStep log inc derived.before derived.after
+  pub before : MapBefore
+  pub step : IsStep log inc before derived.map
   pub groups_are : AreGroupsOf (log ++ entry.Inc inc ∷ []) derived.groups
   pub own_are : (pg : PgId) → IsKeptIfOwn owner (incs_of log) derived pg
   pub only_own : (pg : PgId) → IsOwnIfKept owner (then_with (incs_of log) inc) derived pg

@@ -14,12 +14,15 @@ use Rattle.pgp_map.specs.Pools.{is_same_group}
 use Rattle.pgp_map.specs.declared.map.OsdMap.{OsdMap}
 use Rattle.pgp_group.specs.Entries.{incs_of}
 use Rattle.pgp_group.specs.GroupOf.{IsGroupOf}
+use Rattle.pgp_group.specs.Reaching.{reaching}
 use Rattle.pgp_group.specs.Touched.{is_touched, told_at}
 use Rattle.pgp_group.specs.View.{scratch}
 use Rattle.pgp_log.specs.Fits.{fits}
 use Rattle.pgp_log.specs.Log.{is_legal}
+use Rattle.pgp_log.specs.MapBefore.{IsMapBefore}
 use Rattle.pgp_log.specs.RawSets.{IsRawSet}
 use Rattle.pgp_log.specs.Shard.{is_among}
+use Rattle.pgp_log.specs.declared.before.MapBefore.{MapBefore}
 use Rattle.pgp_log.specs.declared.groups.Groups.{Groups}
 use Rattle.pgp_log.specs.declared.kept.Kept.{Kept}
 
@@ -27,10 +30,10 @@ use Rattle.pgp_log.specs.declared.kept.Kept.{Kept}
 abbrev pub IsViewOf : List Entry → PgId → View → Type 0
 IsViewOf log pg view = scratch log pg ≡ Some (told_at (length log) (epoch (incs_of log)) view)
 
--- the group stands for its group of the log, its raw set is where the map's tree puts it, and its view, if it is there, is
--- that of the log
+-- the group, brought to the epoch of the log, stands for its group of the log: it needn't have been told of maps by which it
+-- lies as before. Its raw set is where the map's tree puts it, and its view, if it is there, is that of the log
 pub record IsKeptOf (log : List Entry) (kept : Kept) : Type 0 where
-  pub group_is : IsGroupOf log kept.pg kept.group
+  pub group_is : IsGroupOf log kept.pg (reaching (epoch (incs_of log)) kept.group)
   pub raw_is : IsRawSet (incs_of log) kept.pg kept.raw
   pub view_is : IfSome kept.view (IsViewOf log kept.pg)
 
@@ -38,31 +41,31 @@ pub record IsKeptOf (log : List Entry) (kept : Kept) : Type 0 where
 abbrev pub is_marked : Kept → Bool
 is_marked kept = is_none kept.view
 
--- the incremental comes next in the log, and these are the maps before it and after it
-pub record IsStep (log : List Entry) (inc : Incremental) (before after : OsdMap) : Type 0 where
+-- the incremental comes next in the log; this is what is kept of the map before it, and this the map after it
+pub record IsStep (log : List Entry) (inc : Incremental) (before : MapBefore) (after : OsdMap) : Type 0 where
   pub legal : is_legal log ≡ true
   pub fits : fits log (entry.Inc inc) ≡ None
-  pub before_is : IsMapOf (incs_of log) before
+  pub before_is : IsMapBefore (incs_of log) inc before
   pub after_is : IsMapOf (then_with (incs_of log) inc) after
 
 -- where the incremental comes next in the log, what is kept of the group follows the log on
-abbrev pub StepsOn : Incremental → OsdMap → OsdMap → Kept → Kept → Type 0
+abbrev pub StepsOn : Incremental → MapBefore → OsdMap → Kept → Kept → Type 0
 StepsOn inc before after old new =
     (log : List Entry) → IsKeptOf log old → IsStep log inc before after → IsKeptOf (log ++ entry.Inc inc ∷ []) new
 
 -- where it comes next, it touches the group
-abbrev pub IsTouchedBy : Incremental → OsdMap → OsdMap → Kept → Type 0
+abbrev pub IsTouchedBy : Incremental → MapBefore → OsdMap → Kept → Type 0
 IsTouchedBy inc before after kept =
     (log : List Entry) → IsKeptOf log kept → IsStep log inc before after → is_touched log (entry.Inc inc) kept.pg ≡ true
 
 -- where it comes next and doesn't touch the group, the view that is kept stays as it was
-abbrev pub KeepsView : Incremental → OsdMap → OsdMap → Kept → Kept → Type 0
+abbrev pub KeepsView : Incremental → MapBefore → OsdMap → Kept → Kept → Type 0
 KeepsView inc before after old new =
     (log : List Entry) → IsKeptOf log old → IsStep log inc before after → is_touched log (entry.Inc inc) old.pg ≡ false
     → new.view ≡ old.view
 
 -- it does in some log of which the group is kept
-pub record CanStep (kept : Kept) (inc : Incremental) (before after : OsdMap) : Type 0 where
+pub record CanStep (kept : Kept) (inc : Incremental) (before : MapBefore) (after : OsdMap) : Type 0 where
   pub log : List Entry
   pub is : IsKeptOf log kept
   pub step : IsStep log inc before after
@@ -72,7 +75,7 @@ pub record AreKeptOf (log : List Entry) (groups : List Kept) : Type 0 where
   pub each : (place : ℕ) (kept : Kept) → slice_get groups place ≡ Some kept → IsKeptOf log kept
 
 -- the incremental comes next in some log of which the groups are kept
-pub record CanStepAll (groups : List Kept) (inc : Incremental) (before after : OsdMap) : Type 0 where
+pub record CanStepAll (groups : List Kept) (inc : Incremental) (before : MapBefore) (after : OsdMap) : Type 0 where
   pub log : List Entry
   pub are : AreKeptOf log groups
   pub step : IsStep log inc before after

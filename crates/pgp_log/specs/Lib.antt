@@ -8,6 +8,8 @@ pub mod WorldRun
 pub mod Running
 pub mod Locate
 pub mod RawSets
+pub mod Touch
+pub mod MapBefore
 pub mod Kept
 pub mod Derived
 pub mod Examples

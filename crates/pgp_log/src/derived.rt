@@ -11,6 +11,7 @@ ghost use Rattle.pgp_map.specs.MapFault.{then_with};
 ghost use Rattle.pgp_map.specs.MapOf.{IsMapOf};
 ghost use Rattle.pgp_map.specs.Pools.{has_group};
 ghost use Rattle.pgp_group.specs.Entries.{incs_of};
+ghost use Rattle.pgp_group.specs.GroupHistory.{makes};
 ghost use Rattle.pgp_log.specs.Derived.{IsDerivedOf, IsStepping, CanStepOn, CanAbsorb, IsKeptIfOwn, HasOwn, HasStill, owns};
 ghost use Rattle.pgp_log.specs.Fits.{fits};
 ghost use Rattle.pgp_log.specs.Kept.{AreAllMarked, AreAtPlaces, IsViewOf, MarksTouched, marks_of};
@@ -18,6 +19,7 @@ ghost use Rattle.pgp_log.specs.Log.{HasInc, epoch_of, is_legal};
 ghost use Rattle.pgp_log.specs.Shard.{is_among, without};
 ghost use Rattle.pgp_log.specs.declared.owner.Owner.{Owner as AnyOwner};
 
+use super::before::MapBefore;
 use super::groups::Groups;
 use super::owner::Owner;
 use pgp_ids::{Entry, Epoch, Incremental, PgId, PoolId, View};
@@ -27,13 +29,11 @@ use std::sync::Arc;
 
 /// The map that the entries make, and the groups of one shard, as far as the entries tell of them.
 ///
-/// It has the map twice. Each incremental is applied to `after`, then shown to the groups, which take what the map before
-/// said of their primaries, and then applied to `before`.
+/// What groups need of the map before an incremental is noted before the map takes it.
 #[derive(Drop)]
 pub(crate) struct Derived {
     alloc: Global,
-    before: OsdMap,
-    after: OsdMap,
+    map: OsdMap,
     groups: Groups,
 }
 
@@ -63,8 +63,7 @@ impl Derived {
     {
         Derived {
             alloc,
-            before: OsdMap::empty(alloc),
-            after: OsdMap::empty(alloc),
+            map: OsdMap::empty(alloc),
             groups: Groups::new(alloc),
         }
     }
@@ -79,10 +78,11 @@ impl Derived {
         ensures marked { OnOk result (AreAllMarked self.old.groups.kept.items → AreAllMarked self.new.groups.kept.items) }
         ensures wants { OnErr result ((log : List AnyEntry) → IsDerivedOf owner log self.old → HasInc (log ++ entry.now ∷ [])) }
     {
+        let now = self.map.epoch();
         match entry {
             Entry::Inc(inc) => self.absorb_inc(owner, inc),
-            Entry::Info(info) => self.groups.absorb_report(entry, &info.pg),
-            Entry::Entries(report) => self.groups.absorb_report(entry, &report.pg),
+            Entry::Info(info) => self.groups.absorb_report(entry, now, &info.pg),
+            Entry::Entries(report) => self.groups.absorb_report(entry, now, &report.pg),
             Entry::Close => Ok(()),
         }
     }
@@ -95,10 +95,10 @@ impl Derived {
             → MarksTouched log (entry.Inc inc.now) self.old.groups self.new.groups) }
         ensures marked { OnOk result (AreAllMarked self.old.groups.kept.items → AreAllMarked self.new.groups.kept.items) }
     {
-        self.after.apply(inc)?;
-        self.groups.absorb_inc(&self.before, &self.after, inc)?;
-        self.add_pools(owner, inc)?;
-        self.before.apply(inc)
+        let before = MapBefore::of(self.alloc, &self.map, inc)?;
+        self.map.apply(inc)?;
+        self.groups.absorb_inc(&before, &self.map, inc)?;
+        self.add_pools(owner, inc)
     }
 
     /// Adds the owner's groups of the pools that the incremental which is being taken makes.
@@ -117,9 +117,10 @@ impl Derived {
         Ok(())
     }
 
-    /// Adds the owner's groups of the pool that the map before doesn't have.
+    /// Adds the owner's groups of the pool, which the incremental makes.
     fn add_pool(&mut self, owner: Owner, id: PoolId, inc: &Incremental) -> Result<(), AllocError>
-        requires { CanStepOn owner self.old inc.now }
+        requires can { CanStepOn owner self.old inc.now }
+        requires made { makes id inc.now ≡ true }
         ensures ok { OnOk result ((log : List AnyEntry) → IsStepping owner log inc.now self.old → IsStepping owner log inc.now self.new) }
         ensures own { OnOk result ((log : List AnyEntry) → IsStepping owner log inc.now self.old
             → (pg : Id) → nat_eq id pg.pool ≡ true → IsKeptIfOwn owner (then_with (incs_of log) inc.now) self.new pg) }
@@ -127,7 +128,7 @@ impl Derived {
         ensures marks { OnOk result ((other : Id) → nat_eq id other.pool ≡ false
             → is_among other (marks_of self.new.groups) ≡ is_among other (marks_of self.old.groups)) }
     {
-        let Some(pool) = self.after.pool(id) else {
+        let Some(pool) = self.map.pool(id) else {
             return Ok(());
         };
         for number in 0..pool.pg_num {
@@ -140,9 +141,10 @@ impl Derived {
         Ok(())
     }
 
-    /// Adds the group, if it is one of the owner's, and the map before doesn't have it.
+    /// Adds the group, of a pool that the incremental makes, if it is one of the owner's.
     fn add(&mut self, owner: Owner, pg: PgId, inc: &Incremental) -> Result<(), AllocError>
-        requires { CanStepOn owner self.old inc.now }
+        requires can { CanStepOn owner self.old inc.now }
+        requires made { makes pg.pool inc.now ≡ true }
         ensures ok { OnOk result ((log : List AnyEntry) → IsStepping owner log inc.now self.old → IsStepping owner log inc.now self.new) }
         ensures own { OnOk result ((log : List AnyEntry) → IsStepping owner log inc.now self.old
             → IsKeptIfOwn owner (then_with (incs_of log) inc.now) self.new pg) }
@@ -150,8 +152,8 @@ impl Derived {
         ensures marks { OnOk result ((other : Id) → nat_eq pg.pool other.pool ≡ false
             → is_among other (marks_of self.new.groups) ≡ is_among other (marks_of self.old.groups)) }
     {
-        if owner.owns(&pg) && has_group(&self.after, &pg) && !has_group(&self.before, &pg) {
-            self.groups.add(self.alloc, &self.after, pg)?;
+        if owner.owns(&pg) && has_group(&self.map, &pg) {
+            self.groups.add(self.alloc, &self.map, pg)?;
         }
         Ok(())
     }
@@ -170,7 +172,7 @@ impl Derived {
             → has_group (incs_of log) pg.now ≡ true) }
         ensures wants_marked { OnErr result (is_among pg.now (marks_of self.old.groups) ≡ true) }
     {
-        self.groups.work_out(&self.after, count, pg)
+        self.groups.work_out(&self.map, count, pg)
     }
 
     /// What the entries say of a group of the owner, but for count and epoch, where the map has it and it isn't marked.
@@ -188,7 +190,7 @@ impl Derived {
     pub(crate) fn epoch(&self) -> Epoch
         ensures { (owner : AnyOwner) (log : List AnyEntry) → IsDerivedOf owner log self.now → result ≡ epoch_of log }
     {
-        self.after.epoch()
+        self.map.epoch()
     }
 
     /// Works out up to `max` of the groups that are marked. How many are marked still. `count` is the number of the entries.
@@ -201,7 +203,7 @@ impl Derived {
         ensures wants { OnErr result ((owner : AnyOwner) (log : List AnyEntry) → IsDerivedOf owner log self.old → HasInc log) }
         ensures wants_marked { OnErr result (0 < min max (length (marks_of self.old.groups))) }
     {
-        self.groups.renew(&self.after, count, max)
+        self.groups.renew(&self.map, count, max)
     }
 }
 

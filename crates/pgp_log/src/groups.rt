@@ -10,16 +10,18 @@ ghost use Rattle.pgp_map.specs.Pools.{is_same_group, has_group};
 ghost use Rattle.pgp_map.specs.Held.{HasGroup};
 ghost use Rattle.pgp_map.specs.MapFault.{then_with};
 ghost use Rattle.pgp_map.specs.MapOf.{IsMapOf};
-ghost use Rattle.pgp_map.specs.declared.map.OsdMap.{OsdMap as AnyMap};
+ghost use Rattle.pgp_log.specs.declared.before.MapBefore.{MapBefore as AnyBefore};
 ghost use Rattle.pgp_group.specs.Entries.{inc_of, incs_of};
 ghost use Rattle.pgp_group.specs.GroupOf.{TellsNothingAhead};
 ghost use Rattle.pgp_group.specs.Touched.{is_touched};
 ghost use Rattle.pgp_log.specs.Kept.{AreKeptOf, AreAtPlaces, AreGroupsOf, IsStep, IsViewOf, CanStepAll, ids_of, marks_in, marks_of, AreAllMarked, keeps, MarksTouched};
 ghost use Rattle.pgp_log.specs.Shard.{is_among, without};
-ghost use Rattle.pgp_log.specs.Log.{HasInc};
+ghost use Rattle.pgp_log.specs.Log.{HasInc, epoch_of};
 
+use super::before::MapBefore;
 use super::kept::Kept;
-use pgp_ids::{Entry, Incremental, PgId, View};
+use super::touch::changes_nothing;
+use pgp_ids::{Entry, Epoch, Incremental, PgId, View};
 use pgp_map::OsdMap;
 use std::alloc::{AllocError, Global};
 use std::collections::HashMap;
@@ -55,7 +57,7 @@ impl Groups {
     /// Adds the group, which the incremental that leads to this map brings. After an `Err` they are of no further use.
     pub(crate) fn add(&mut self, alloc: Global, after: &OsdMap, pg: PgId) -> Result<(), AllocError>
         requires { HasGroup after.now pg }
-        ensures ok { OnOk result ((log : List AnyEntry) (inc : AnyIncremental) (before : AnyMap) → IsStep log inc before after.now
+        ensures ok { OnOk result ((log : List AnyEntry) (inc : AnyIncremental) (before : AnyBefore) → IsStep log inc before after.now
             → has_group (incs_of log) pg ≡ false → has_group (then_with (incs_of log) inc) pg ≡ true
             → AreGroupsOf (log ++ entry.Inc inc ∷ []) self.old → AreGroupsOf (log ++ entry.Inc inc ∷ []) self.new) }
         ensures there { OnOk result (AreAtPlaces self.old → keeps pg self.new ≡ true) }
@@ -74,10 +76,11 @@ impl Groups {
         Ok(())
     }
 
-    /// Takes an incremental, which leads from the one map to the other. After an `Err` they are of no further use.
+    /// Takes an incremental, which leads from the map before to the one after. One that changes the epoch alone goes to none of them.
+    /// After an `Err` they are of no further use.
     pub(crate) fn absorb_inc(
         &mut self,
-        before: &OsdMap,
+        before: &MapBefore,
         after: &OsdMap,
         inc: &Incremental,
     ) -> Result<(), AllocError>
@@ -89,13 +92,22 @@ impl Groups {
         ensures marked { OnOk result (AreAllMarked self.old.kept.items → AreAllMarked self.new.kept.items) }
         ensures ids { ids_of self.new.kept.items ≡ ids_of self.old.kept.items }
     {
+        if changes_nothing(inc) {
+            return Ok(());
+        }
         absorb_inc(self.kept.as_mut_slice(), before, after, inc)
     }
 
-    /// Takes an entry that brings no map, but perhaps a report of this group. After an `Err` they are of no further use.
-    pub(crate) fn absorb_report(&mut self, entry: &Entry, pg: &PgId) -> Result<(), AllocError>
+    /// Takes an entry that brings no map, but perhaps a report of this group. `epoch` is the current one. After an `Err` they are
+    /// of no further use.
+    pub(crate) fn absorb_report(
+        &mut self,
+        entry: &Entry,
+        epoch: Epoch,
+        pg: &PgId,
+    ) -> Result<(), AllocError>
         requires { AreAtPlaces self.old }
-        ensures ok { OnOk result ((log : List AnyEntry) → inc_of entry.now ≡ None
+        ensures ok { OnOk result ((log : List AnyEntry) → inc_of entry.now ≡ None → epoch ≡ epoch_of log
             → ((pg : Id) → TellsNothingAhead log pg entry.now)
             → ((other : Id) → is_same_group pg.now other ≡ false → is_touched log entry.now other ≡ false)
             → AreGroupsOf log self.old → AreGroupsOf (log ++ entry.now ∷ []) self.new) }
@@ -108,7 +120,7 @@ impl Groups {
         match self.find(pg) {
             Some(place) => {
                 let kept = &mut self.kept[place];
-                kept.absorb_report(entry)
+                kept.absorb_report(entry, epoch)
             }
             None => Ok(()),
         }
@@ -180,7 +192,7 @@ impl Groups {
 /// Lets each of the groups take an incremental.
 fn absorb_inc(
     groups: &mut [Kept],
-    before: &OsdMap,
+    before: &MapBefore,
     after: &OsdMap,
     inc: &Incremental,
 ) -> Result<(), AllocError>

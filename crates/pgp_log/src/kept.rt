@@ -9,21 +9,26 @@ ghost use Rattle.pgp_map.specs.Held.{HasGroup};
 ghost use Rattle.pgp_map.specs.MapFault.{then_with};
 ghost use Rattle.pgp_map.specs.MapOf.{IsMapOf};
 ghost use Rattle.pgp_map.specs.Pools.{has_group, temp as temp_of};
-ghost use Rattle.pgp_map.specs.declared.map.OsdMap.{OsdMap as AnyMap};
 ghost use Rattle.pgp_group.specs.Entries.{inc_of, incs_of};
 ghost use Rattle.pgp_group.specs.GroupOf.{TellsNothingAhead};
-ghost use Rattle.pgp_group.specs.Touched.{is_touched, has_to_do_with};
+ghost use Rattle.pgp_group.specs.Touched.{is_touched, changes_temp, has_to_do_with, may_lie_on, may_move, turned_devices};
 ghost use Rattle.pgp_log.specs.Kept.{IsKeptOf, IsStep, CanStep, StepsOn, IsTouchedBy, KeepsView, is_marked};
+ghost use Rattle.pgp_log.specs.Log.{epoch_of};
 ghost use Rattle.pgp_log.specs.RawSets.{IsRawSet};
+ghost use Rattle.pgp_log.specs.declared.before.MapBefore.{MapBefore as AnyBefore};
 
-use super::touch::{changes_placement, has_osd, moves};
+use super::before::MapBefore;
+use super::touch::{changes_placement, has_osd, moves, turns_none};
 use pgp_group::Group;
-use pgp_ids::{DeviceEpoch, Entry, Incremental, OsdId, Osds, PgId, View};
+use pgp_ids::{DeviceEpoch, Entry, Epoch, Incremental, OsdId, Osds, PgId, View};
 use pgp_map::OsdMap;
 use pgp_sets::{filter, raw};
 use std::alloc::{AllocError, Global};
 
 /// A group, as the entries so far tell of it.
+///
+/// It sleeps through the maps by which it lies as before: `group` is told of their epochs only where something more happens to
+/// it, or where it is worked out.
 #[derive(Drop)]
 pub(crate) struct Kept {
     pub(crate) pg: PgId,
@@ -39,7 +44,7 @@ impl Kept {
     /// The group, which the incremental that leads to this map brings. It takes no memory.
     pub(crate) fn begin(alloc: Global, after: &OsdMap, pg: PgId) -> Self
         requires { HasGroup after.now pg }
-        ensures is { (log : List AnyEntry) (inc : AnyIncremental) (before : AnyMap) → IsStep log inc before after.now
+        ensures is { (log : List AnyEntry) (inc : AnyIncremental) (before : AnyBefore) → IsStep log inc before after.now
             → has_group (incs_of log) pg ≡ false → has_group (then_with (incs_of log) inc) pg ≡ true
             → IsKeptOf (log ++ entry.Inc inc ∷ []) result }
         ensures marked { is_marked result ≡ true }
@@ -60,12 +65,12 @@ impl Kept {
         self.view.is_none()
     }
 
-    /// Takes an incremental, which leads from the one map to the other. Where it doesn't touch the group, that takes no memory,
-    /// and no placement unless the group is marked: a group that isn't marked is held against the incremental, while of one
-    /// that is marked the view is gone anyhow. After an `Err` it is of no further use.
+    /// Takes an incremental, which leads from the map before to the one after. Where the group lies as before, that takes no placement and
+    /// no memory: the group sleeps on, and one that isn't marked is held against the incremental. After an `Err` it is of no
+    /// further use.
     pub(crate) fn absorb_inc(
         &mut self,
-        before: &OsdMap,
+        before: &MapBefore,
         after: &OsdMap,
         inc: &Incremental,
     ) -> Result<(), AllocError>
@@ -76,58 +81,55 @@ impl Kept {
         ensures wants { OnErr result (IsTouchedBy inc.now before.now after.now self.old) }
         ensures pg { self.new.pg ≡ self.old.pg }
     {
-        if self.is_marked() {
-            self.move_on(before, after, inc)?;
-            self.view = None;
+        if !self.may_move(after, inc) {
+            self.mark(after, inc);
             return Ok(());
         }
-        self.follow(before, after, inc)
+        self.move_on(before, after, inc)?;
+        self.view = None;
+        Ok(())
     }
 
-    /// Takes an incremental, having held the group against it: by its raw set, its pg_temp list, and what `Group::names`.
-    fn follow(
-        &mut self,
-        before: &OsdMap,
-        after: &OsdMap,
-        inc: &Incremental,
-    ) -> Result<(), AllocError>
-        requires { CanStep self.old inc.now before.now after.now }
-        ensures ok { OnOk result (StepsOn inc.now before.now after.now self.old self.new) }
-        ensures marks { OnOk result (KeepsView inc.now before.now after.now self.old self.new) }
-        ensures wants { OnErr result (IsTouchedBy inc.now before.now after.now self.old) }
+    /// Forgets the view, where the incremental touches the group: it goes by the raw set, the pg_temp list, and what
+    /// `Group::names`. A group that is marked is left as it is. `after` is the map with the incremental.
+    fn mark(&mut self, after: &OsdMap, inc: &Incremental)
+        ensures kept { (log : List AnyEntry) (before : AnyBefore) → IsStep log inc.now before after.now
+            → may_move (incs_of log) inc.now self.old.pg ≡ false
+            → IsKeptOf log self.old → IsKeptOf (log ++ entry.Inc inc.now ∷ []) self.new }
+        ensures view { (before : AnyBefore) → KeepsView inc.now before after.now self.old self.new }
+        ensures marked { is_marked self.old ≡ true → is_marked self.new ≡ true }
         ensures pg { self.new.pg ≡ self.old.pg }
     {
-        if self.is_touched(before, inc) {
-            self.move_on(before, after, inc)?;
+        if self.is_marked() {
+            return;
+        }
+        if self.is_touched(after, inc) {
             self.view = None;
-            Ok(())
-        } else {
-            self.group.stay(inc.epoch);
-            Ok(())
         }
     }
 
-    /// Takes an incremental that may touch the group, all but the view, which is to be forgotten.
+    /// Takes an incremental that may move the group, all but the view, which is to be forgotten.
     fn move_on(
         &mut self,
-        before: &OsdMap,
+        before: &MapBefore,
         after: &OsdMap,
         inc: &Incremental,
     ) -> Result<(), AllocError>
         requires { CanStep self.old inc.now before.now after.now }
         ensures ok { OnOk result (StepsOn inc.now before.now after.now self.old (record self.new { view = None })) }
-        ensures wants { OnErr result (IsTouchedBy inc.now before.now after.now self.old) }
         ensures pg { self.new.pg ≡ self.old.pg }
     {
         self.place_again(after, inc);
         let members = filter(after, &self.pg, &self.raw);
-        self.group.absorb_members(before, after, members)
+        self.group.stay(before.epoch());
+        let facts = before.facts(after, self.group.primary());
+        self.group.absorb_members(after, members, facts)
     }
 
     /// Finds where the tree of the incremental's map puts the group, where that may be elsewhere.
     fn place_again(&mut self, after: &OsdMap, inc: &Incremental)
         requires { HasGroup after.now self.old.pg }
-        ensures raw { (log : List AnyEntry) (before : AnyMap) → IsKeptOf log self.old → IsStep log inc.now before after.now
+        ensures raw { (log : List AnyEntry) (before : AnyBefore) → IsKeptOf log self.old → IsStep log inc.now before after.now
             → IsRawSet (incs_of (log ++ entry.Inc inc.now ∷ [])) self.old.pg self.new.raw }
         ensures group { self.new.group ≡ self.old.group }
         ensures pg { self.new.pg ≡ self.old.pg }
@@ -137,12 +139,65 @@ impl Kept {
         }
     }
 
-    /// Whether the incremental touches the group. `map` is the one that it was until now.
-    fn is_touched(&self, map: &OsdMap, inc: &Incremental) -> bool
-        ensures { (log : List AnyEntry) → IsKeptOf log self.now → IsMapOf (incs_of log) map.now
+    /// Whether the group may lie elsewhere by the incremental. `after` is the map with the incremental.
+    fn may_move(&self, after: &OsdMap, inc: &Incremental) -> bool
+        ensures { (log : List AnyEntry) (before : AnyBefore) → IsKeptOf log self.now → IsStep log inc.now before after.now
+            → result ≡ may_move (incs_of log) inc.now self.now.pg }
+    {
+        changes_placement(inc, &self.pg) || self.lies_on_turned(after, inc)
+    }
+
+    /// Whether the group may lie on a device that the incremental boots, takes down or destroys. `after` is the map with the
+    /// incremental, which changes no pg_temp list of the group.
+    fn lies_on_turned(&self, after: &OsdMap, inc: &Incremental) -> bool
+        ensures { (log : List AnyEntry) (before : AnyBefore) → IsKeptOf log self.now → IsStep log inc.now before after.now
+            → changes_temp inc.now self.now.pg ≡ false
+            → result ≡ list_any (may_lie_on (incs_of log) self.now.pg) (turned_devices inc.now) }
+    {
+        if turns_none(inc) {
+            return false;
+        }
+        self.lies_on_one(after.temp(self.pg), inc)
+    }
+
+    /// Whether the group may lie on a device that the incremental boots, takes down or destroys. `temp` is its pg_temp list.
+    fn lies_on_one(&self, temp: &[Option<OsdId>], inc: &Incremental) -> bool
+        ensures { (log : List AnyEntry) → IsKeptOf log self.now → temp.now ≡ temp_of (incs_of log) self.now.pg
+            → let lies = may_lie_on (incs_of log) self.now.pg in
+            result ≡ (list_any lies inc.now.up || list_any lies inc.now.down || list_any lies inc.now.gone) }
+    {
+        self.lies_on_any(temp, inc.up.as_slice())
+            || self.lies_on_any(temp, inc.down.as_slice())
+            || self.lies_on_any(temp, inc.gone.as_slice())
+    }
+
+    /// Whether the group may lie on one of these devices. `temp` is its pg_temp list.
+    fn lies_on_any(&self, temp: &[Option<OsdId>], osds: &[OsdId]) -> bool
+        ensures { (log : List AnyEntry) → IsKeptOf log self.now → temp.now ≡ temp_of (incs_of log) self.now.pg
+            → result ≡ list_any (may_lie_on (incs_of log) self.now.pg) osds.now }
+    {
+        for osd in osds {
+            if self.lies_on(temp, *osd) {
+                return true;
+            }
+        }
+        false
+    }
+
+    /// Whether the group may lie on the device: it stands in the raw set or in pg_temp.
+    fn lies_on(&self, temp: &[Option<OsdId>], osd: OsdId) -> bool
+        ensures { (log : List AnyEntry) → IsKeptOf log self.now → temp.now ≡ temp_of (incs_of log) self.now.pg
+            → result ≡ may_lie_on (incs_of log) self.now.pg osd }
+    {
+        has_osd(self.raw.as_slice(), osd) || has_osd(temp, osd)
+    }
+
+    /// Whether the incremental touches the group. `after` is the map with the incremental.
+    fn is_touched(&self, after: &OsdMap, inc: &Incremental) -> bool
+        ensures { (log : List AnyEntry) (before : AnyBefore) → IsKeptOf log self.now → IsStep log inc.now before after.now
             → result ≡ is_touched log (entry.Inc inc.now) self.now.pg }
     {
-        changes_placement(inc, &self.pg) || self.knows_changed(map.temp(self.pg), inc)
+        changes_placement(inc, &self.pg) || self.knows_changed(after.temp(self.pg), inc)
     }
 
     /// Whether the group has to do with a device whose state the incremental changes. `temp` is the group's pg_temp list.
@@ -191,17 +246,19 @@ impl Kept {
         ensures { (log : List AnyEntry) → IsKeptOf log self.now → temp.now ≡ temp_of (incs_of log) self.now.pg
             → result ≡ has_to_do_with log self.now.pg osd }
     {
-        has_osd(self.raw.as_slice(), osd) || has_osd(temp, osd) || self.group.names(osd)
+        self.lies_on(temp, osd) || self.group.names(osd)
     }
 
-    /// Takes a report of the group, or another entry that brings no map. After an `Err` it is of no further use.
-    pub(crate) fn absorb_report(&mut self, entry: &Entry) -> Result<(), AllocError>
-        ensures ok { OnOk result ((log : List AnyEntry) → inc_of entry.now ≡ None → TellsNothingAhead log self.old.pg entry.now
-            → IsKeptOf log self.old → IsKeptOf (log ++ entry.now ∷ []) self.new) }
+    /// Takes a report of the group, or another entry that brings no map. `epoch` is the current one. After an `Err` it is of no
+    /// further use.
+    pub(crate) fn absorb_report(&mut self, entry: &Entry, epoch: Epoch) -> Result<(), AllocError>
+        ensures ok { OnOk result ((log : List AnyEntry) → inc_of entry.now ≡ None → epoch ≡ epoch_of log
+            → TellsNothingAhead log self.old.pg entry.now → IsKeptOf log self.old → IsKeptOf (log ++ entry.now ∷ []) self.new) }
         ensures marked { is_marked self.new ≡ true }
         ensures pg { self.new.pg ≡ self.old.pg }
     {
         self.view = None;
+        self.group.stay(epoch);
         self.group.absorb_report(entry)
     }
 
@@ -223,6 +280,7 @@ impl Kept {
         ensures pg { self.new.pg ≡ self.old.pg }
     {
         if self.is_marked() {
+            self.group.stay(map.epoch());
             self.view = Some(self.group.view(map, count)?);
         }
         Ok(())

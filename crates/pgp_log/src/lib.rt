@@ -2,6 +2,7 @@
 //! world of one log and several readers answers (the log and its order of refusals are this project's own choice).
 #![tactic(auto)]
 
+mod before;
 mod copies;
 mod derived;
 mod entry;

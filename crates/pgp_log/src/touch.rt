@@ -2,6 +2,7 @@
 
 ghost use Rattle.std.specs.List.{list_any};
 ghost use Rattle.std.specs.Prelude.{◌≡◌, ◌||◌, nat_eq};
+ghost use Rattle.pgp_log.specs.Touch.{turns_none, tells_nothing, changes_no_pool, changes_nothing};
 ghost use Rattle.pgp_group.specs.Touched.{changes_pool, changes_temp, has_osd, moves_all};
 ghost use Rattle.pgp_sets.specs.Sets.{moves};
 
@@ -54,6 +55,34 @@ fn changes_temp(inc: &Incremental, pg: &PgId) -> bool
     ensures { result ≡ changes_temp inc.now pg.now }
 {
     inc.temp.as_slice().iter().any(|given| given.pg == *pg)
+}
+
+/// The incremental changes the epoch alone: it touches no group.
+pub(crate) fn changes_nothing(inc: &Incremental) -> bool
+    ensures { result ≡ changes_nothing inc.now }
+{
+    !moves_all(inc) && changes_no_pool(inc) && tells_nothing(inc)
+}
+
+/// The incremental makes no pool, and changes none, and no pg_temp list.
+fn changes_no_pool(inc: &Incremental) -> bool
+    ensures { result ≡ changes_no_pool inc.now }
+{
+    inc.pools.is_empty() && inc.sizes.is_empty() && inc.temp.is_empty()
+}
+
+/// The incremental tells nothing of devices.
+fn tells_nothing(inc: &Incremental) -> bool
+    ensures { result ≡ tells_nothing inc.now }
+{
+    turns_none(inc) && inc.up_thru.is_empty() && inc.lost.is_empty()
+}
+
+/// The incremental boots no device, takes none down and destroys none.
+pub(crate) fn turns_none(inc: &Incremental) -> bool
+    ensures { result ≡ turns_none inc.now }
+{
+    inc.up.is_empty() && inc.down.is_empty() && inc.gone.is_empty()
 }
 
 /// The device stands in the list.

@@ -1,11 +1,12 @@
 //! Of which devices a group speaks.
 
-ghost use Rattle.std.specs.Prelude.{◌≡◌, List, false};
+ghost use Rattle.std.specs.Prelude.{◌≡◌, ℕ, List, false};
 ghost use Rattle.std.specs.Option.{option_map_or};
 ghost use Rattle.pgp_ids.specs.declared.entry.Entry.{Entry as Told};
 ghost use Rattle.pgp_ids.specs.declared.pg_id.PgId.{PgId as Id};
 ghost use Rattle.pgp_group.specs.GroupLog.{group_in};
 ghost use Rattle.pgp_group.specs.GroupOf.{IsGroupOf};
+ghost use Rattle.pgp_group.specs.Reaching.{reaching};
 ghost use Rattle.pgp_group.specs.Touched.{names};
 
 use super::Group;
@@ -13,9 +14,11 @@ use pgp_ids::OsdId;
 
 impl Group {
     /// Whether the device stands in up or acting of a past interval of the group, or sent a report of it, counted or not. It
-    /// takes no memory.
+    /// takes no memory. It is the same by later maps, as long as the group lies as before.
     pub fn names(&self, osd: OsdId) -> bool
-        ensures { (log : List Told) (pg : Id) → IsGroupOf log pg self.now
+        ensures later { (log : List Told) (pg : Id) (epoch : ℕ) → IsGroupOf log pg (reaching epoch self.now)
+            → result ≡ option_map_or (names osd) (group_in log pg) false }
+        ensures now { (log : List Told) (pg : Id) → IsGroupOf log pg self.now
             → result ≡ option_map_or (names osd) (group_in log pg) false }
     {
         self.named.has(osd)

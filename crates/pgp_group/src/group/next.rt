@@ -10,27 +10,37 @@ ghost use Rattle.pgp_map.specs.MapFault.{map_fault, then_with};
 ghost use Rattle.pgp_map.specs.MapOf.{IsMapOf};
 ghost use Rattle.pgp_sets.specs.Sets.{membership};
 ghost use Rattle.pgp_group.specs.Entries.{incs_of};
-ghost use Rattle.pgp_group.specs.GroupOf.{IsGroupOf, Follows, IsNext};
+ghost use Rattle.pgp_group.specs.GroupHistory.{group_facts, group_primary};
+ghost use Rattle.pgp_group.specs.GroupOf.{IsGroupOf, Follows};
+ghost use Rattle.pgp_group.specs.Reaching.{reaching};
 
 use super::Group;
-use crate::counted::primary_facts;
-use pgp_ids::{Epoch, Membership};
+use pgp_ids::{Epoch, Membership, OsdId, PrimaryFacts};
 use pgp_map::OsdMap;
 use std::alloc::AllocError;
 
 impl Group {
-    /// Takes the next map, by which the group lies at these members: it looks for none itself. `before` is the map that it
-    /// was until now. Where the group lies as before it takes no memory. After an error the group stands for the same log.
+    /// The acting primary by the last map, where the group has one.
+    pub fn primary(&self) -> Option<OsdId>
+        ensures { (log : List Told) (pg : Id) → IsGroupOf log pg self.now → group_primary (incs_of log) pg ≡ Some result }
+    {
+        let (_, current) = self.intervals.current();
+        current.acting_primary
+    }
+
+    /// Takes the next map, by which the group lies at these members: it looks for none itself. `facts` are what the map that it
+    /// was until now says of the acting primary. Where the group lies as before it takes no memory. After an error the group stands for
+    /// the same log.
     pub fn absorb_members(
         &mut self,
-        before: &OsdMap,
         after: &OsdMap,
         members: Membership,
+        facts: PrimaryFacts,
     ) -> Result<(), AllocError>
         requires { Follows self.old after.now }
         ensures ok { OnOk result ((log : List Told) (pg : Id) (inc : Incremental)
             → IsGroupOf log pg self.old → map_fault (incs_of log) inc ≡ None
-            → IsMapOf (incs_of log) before.now → IsMapOf (then_with (incs_of log) inc) after.now
+            → group_facts (incs_of log) pg ≡ Some facts → IsMapOf (then_with (incs_of log) inc) after.now
             → membership (then_with (incs_of log) inc) pg ≡ Some members
             → IsGroupOf (log ++ entry.Inc inc ∷ []) pg self.new) }
         ensures err { OnErr result ((log : List Told) (pg : Id) → IsGroupOf log pg self.old → IsGroupOf log pg self.new) }
@@ -42,7 +52,6 @@ impl Group {
             self.intervals.stay(after.epoch());
             return Ok(());
         }
-        let facts = primary_facts(before, current.acting_primary);
         self.named
             .make_room(current.up.len() + current.acting.len())?;
         self.intervals.step(after.epoch(), members, facts)?;
@@ -51,11 +60,11 @@ impl Group {
         Ok(())
     }
 
-    /// Takes the next map, which is of this epoch and by which the group lies as before: its current interval goes on. It
-    /// looks for no placement and takes no memory.
+    /// Takes the next maps, up to that of this epoch, by which the group lies as before: its current interval goes on. It looks
+    /// for no placement and takes no memory.
     pub fn stay(&mut self, epoch: Epoch)
-        requires { IsNext self.old epoch }
-        ensures { (log : List Told) (pg : Id) (inc : Incremental)
+        ensures is { self.new ≡ reaching epoch self.old }
+        ensures next { (log : List Told) (pg : Id) (inc : Incremental)
             → IsGroupOf log pg self.old → map_fault (incs_of log) inc ≡ None → inc.epoch ≡ epoch
             → membership (then_with (incs_of log) inc) pg ≡ membership (incs_of log) pg
             → IsGroupOf (log ++ entry.Inc inc ∷ []) pg self.new }

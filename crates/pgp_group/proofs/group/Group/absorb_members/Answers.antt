@@ -1,6 +1,8 @@
-use Rattle.std.proofs.Common.{◌≡◌, ◌≢◌, ◌||◌, ℕ, List, [], ◌∷◌, Some, false, nat_eq, ap, refl, subst, sym, ◌∙◌}
+use Rattle.std.proofs.Common.{◌≡◌, ◌≢◌, ◌||◌, ℕ, List, [], ◌∷◌, Option, Some, false, nat_eq, ap, refl, subst, sym, ◌∙◌}
 use Rattle.std.specs.List.{list_any}
+use Rattle.std.specs.Option.{option_map}
 use Rattle.std.proofs.lemmas.Bool.{true≢false}
+use Rattle.std.proofs.lemmas.Option.{same_Some}
 use Rattle.pgp_code.specs.AnyCode.{enough_of, is_by_place}
 use Rattle.pgp_code.specs.declared.any.AnyCode.{AnyCode}
 use Rattle.pgp_ids.specs.declared.entry.Entry.{Entry}
@@ -37,23 +39,24 @@ elsewhere group members current moved was log pg is there =
     differ members current moved (same ∙ sym (was is.history (cleans (group_with log pg is.history)) is.keeps.intervals_are))
 
 pub returns-then-is_same-clause-ok : goal.returns-then-is_same-clause-ok
-returns-then-is_same-clause-ok c = λ log pg inc is fine before after lies.
+returns-then-is_same-clause-ok c = λ log pg inc is fine told after lies.
     let h = is.history in
     let facts : PrimaryFacts = primary_facts (incs_of log) h.current.acting_primary in
     let stays : c.args.members ≡ h.current =
     is_same-eq c.args.members c.current-current.result.1 (sym c.is_same.ensures ∙ c.if-is_same.true) ∙ c.current-current.ensures.members h (cleans (group_with log pg h)) is.keeps.intervals_are in
     IsGroupOf-inc log inc pg c.args.self.now _ h.current is fine (lies ∙ ap Some stays) refl refl refl refl
-    (c.stay.ensures h (cleans (group_with log pg h)) (facts ∷ []) is.keeps.intervals_are (c.epoch.ensures c.requires.incs c.requires.is ∙ c.requires.next))
+    (c.stay.ensures.stays h (cleans (group_with log pg h)) (facts ∷ []) is.keeps.intervals_are (c.epoch.ensures c.requires.incs c.requires.is ∙ c.requires.next))
     (names-stay log inc pg h facts c.args.self.now.named is.keeps.named_are)
 
 pub returns-clause-ok : goal.returns-clause-ok
-returns-clause-ok c = λ log pg inc is fine before after lies.
+returns-clause-ok c = λ log pg inc is fine told after lies.
     let h = is.history in
     let members = c.args.members in
     let current : c.current-current.result.1 ≡ h.current = c.current-current.ensures.members h (cleans (group_with log pg h)) is.keeps.intervals_are in
     let moved : members ≢ h.current = λ same. differ members c.current-current.result.1 (sym c.is_same.ensures ∙ c.if-is_same.false) (same ∙ sym current) in
-    let facts : c.primary_facts-facts.result ≡ primary_facts (incs_of log) h.current.acting_primary =
-    c.primary_facts-facts.ensures (incs_of log) before ∙ ap (λ (m : Membership). primary_facts (incs_of log) m.acting_primary) current in
+    let facts : c.args.facts ≡ primary_facts (incs_of log) h.current.acting_primary =
+    same_Some c.args.facts (primary_facts (incs_of log) h.current.acting_primary)
+    (sym told ∙ ap (λ (o : Option Membership). option_map (primary_facts (incs_of log)) (option_map (λ (m : Membership). m.acting_primary) o)) (history-current (incs_of log) pg h is.history_is)) in
     IsGroupOf-inc log inc pg c.args.self.now _ members is fine lies refl refl refl refl
     (subst (λ (f : PrimaryFacts). IsIntervalsOf enough_of is_by_place (stepped h members f) (cleans (group_with log pg h)) c.step.new.self) facts (c.in_ok-step.ensures.ok h (cleans (group_with log pg h)) is.keeps.intervals_are))
     (names-end log inc pg h members (primary_facts (incs_of log) h.current.acting_primary) c.args.self.now.named c.add_places.new.self c.add_places-2.new.self moved

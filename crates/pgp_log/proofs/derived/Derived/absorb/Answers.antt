@@ -4,12 +4,13 @@ use Rattle.pgp_ids.specs.declared.entry.Entry.{Entry}
 use Rattle.pgp_ids.specs.declared.pg_id.PgId.{PgId}
 use Rattle.pgp_map.specs.Pools.{is_same_group}
 use Rattle.pgp_group.proofs.GroupLemmas.{on_ok}
-use Rattle.pgp_group.specs.Entries.{inc_of}
+use Rattle.pgp_group.specs.Entries.{inc_of, incs_of}
 use Rattle.pgp_group.specs.GroupOf.{TellsNothingAhead}
 use Rattle.pgp_group.specs.Touched.{is_touched}
 use Rattle.pgp_log.specs.Derived.{IsDerivedOf}
 use Rattle.pgp_log.specs.Fits.{fits}
 use Rattle.pgp_log.specs.Kept.{AreGroupsOf}
+use Rattle.pgp_log.specs.Log.{epoch_of}
 use Rattle.pgp_log.specs.declared.derived.Derived.{Derived}
 use Rattle.pgp_log.specs.declared.groups.Groups.{Groups}
 use Rattle.pgp_log.proofs.DerivedLemmas.{told-on}
@@ -30,10 +31,10 @@ returns-in-Info-clause-ok c =
     let groups : Groups = c.absorb_report.new.self in
     let none : inc_of new ≡ None = ap inc_of c.in-Info.is in
     on_ok c.absorb_report.result
-    ((log : List Entry) → inc_of new ≡ None → ((pg : PgId) → TellsNothingAhead log pg new) → ((other : PgId) → is_same_group pg other ≡ false → is_touched log new other ≡ false) → AreGroupsOf log old.groups → AreGroupsOf (log ++ new ∷ []) groups)
+    ((log : List Entry) → inc_of new ≡ None → c.epoch-now.result ≡ epoch_of log → ((pg : PgId) → TellsNothingAhead log pg new) → ((other : PgId) → is_same_group pg other ≡ false → is_touched log new other ≡ false) → AreGroupsOf log old.groups → AreGroupsOf (log ++ new ∷ []) groups)
     ((log : List Entry) → IsDerivedOf c.args.owner log old → fits log new ≡ None → IsDerivedOf c.args.owner (log ++ new ∷ []) (record old { groups = groups }))
     (λ given log is fit. told-on c.args.owner log new old groups none fit is
-    (given log none (λ pg. nothing_ahead log pg new fit) (λ other differs. ap (λ (e : Entry). is_touched log e other) c.in-Info.is ∙ differs) is.groups_are) c.absorb_report.ensures.ids)
+    (given log none (c.epoch-now.ensures (incs_of log) is.map_is) (λ pg. nothing_ahead log pg new fit) (λ other differs. ap (λ (e : Entry). is_touched log e other) c.in-Info.is ∙ differs) is.groups_are) c.absorb_report.ensures.ids)
     c.absorb_report.ensures.ok
 
 pub returns-in-Info-clause-wants : goal.returns-in-Info-clause-wants
@@ -50,10 +51,10 @@ returns-in-Entries-clause-ok c =
     let groups : Groups = c.absorb_report-in-Entries.new.self in
     let none : inc_of new ≡ None = ap inc_of c.in-Entries.is in
     on_ok c.absorb_report-in-Entries.result
-    ((log : List Entry) → inc_of new ≡ None → ((pg : PgId) → TellsNothingAhead log pg new) → ((other : PgId) → is_same_group pg other ≡ false → is_touched log new other ≡ false) → AreGroupsOf log old.groups → AreGroupsOf (log ++ new ∷ []) groups)
+    ((log : List Entry) → inc_of new ≡ None → c.epoch-now.result ≡ epoch_of log → ((pg : PgId) → TellsNothingAhead log pg new) → ((other : PgId) → is_same_group pg other ≡ false → is_touched log new other ≡ false) → AreGroupsOf log old.groups → AreGroupsOf (log ++ new ∷ []) groups)
     ((log : List Entry) → IsDerivedOf c.args.owner log old → fits log new ≡ None → IsDerivedOf c.args.owner (log ++ new ∷ []) (record old { groups = groups }))
     (λ given log is fit. told-on c.args.owner log new old groups none fit is
-    (given log none (λ pg. nothing_ahead log pg new fit) (λ other differs. ap (λ (e : Entry). is_touched log e other) c.in-Entries.is ∙ differs) is.groups_are) c.absorb_report-in-Entries.ensures.ids)
+    (given log none (c.epoch-now.ensures (incs_of log) is.map_is) (λ pg. nothing_ahead log pg new fit) (λ other differs. ap (λ (e : Entry). is_touched log e other) c.in-Entries.is ∙ differs) is.groups_are) c.absorb_report-in-Entries.ensures.ids)
     c.absorb_report-in-Entries.ensures.ok
 
 pub returns-in-Entries-clause-wants : goal.returns-in-Entries-clause-wants

@@ -5,6 +5,9 @@ use Rattle.pgp_log.specs.declared.derived.Derived.{Derived}
 use Rattle.pgp_log.proofs.DerivedLemmas.{pool-more, still-on}
 use Rattle.pgp_log.proofs.derived.Derived.add_pool.Goals as goal
 
+pub add-requires-clause-can : goal.add-requires-clause-can
+add-requires-clause-can c = record { log = c.requires.can.log; is = c.loop-number.invariant.is c.requires.can.log c.requires.can.is }
+
 pub loop-number-init : goal.loop-number-init
 loop-number-init c = record {
   is = λ log is. is;

@@ -1,4 +1,4 @@
-use Rattle.std.proofs.Common.{◌≡◌, ◌<◌, Some, length, slice_get, get_or, refl, ap, ◌∙◌}
+use Rattle.std.proofs.Common.{◌≡◌, ◌<◌, Some, length, slice_get, get_or, refl, ap, ◌∙◌, true}
 use Rattle.std.specs.List.{list_any}
 use Rattle.std.specs.Prelude.{nat_eq}
 use Rattle.std.proofs.lemmas.List.{take_all}
@@ -8,8 +8,20 @@ use Rattle.pgp_lists.proofs.Lists.{none-at}
 use Rattle.pgp_map.specs.MapFault.{then_with}
 use Rattle.pgp_group.specs.Entries.{incs_of}
 use Rattle.pgp_log.specs.declared.derived.Derived.{Derived}
-use Rattle.pgp_log.proofs.DerivedLemmas.{own-next, pools-more, still-on}
+use Rattle.pgp_log.proofs.DerivedLemmas.{made-here, own-next, pools-more, still-on}
 use Rattle.pgp_log.proofs.derived.Derived.add_pools.Goals as goal
+
+pub add_pool-requires-clause-can : goal.add_pool-requires-clause-can
+add_pool-requires-clause-can c = record { log = c.requires.log; is = c.loop-pool.invariant.is c.requires.log c.requires.is }
+
+pub add_pool-requires-clause-made : goal.add_pool-requires-clause-made
+add_pool-requires-clause-made c =
+    let inc = c.args.inc.now in
+    let i = c.loop-pool.pool-index in
+    let made : PoolSpec = c.pool-item.result in
+    let within : i < length inc.pools = rw (← c.as_slice-pool-items.ensures) c.loop-pool-test.true in
+    let item : made ≡ get_or inc.pools i made = rw (← c.as_slice-pool-items.ensures) c.pool-item.is in
+    made-here inc i made (slice_get_read inc.pools (length inc.pools) i made refl within item)
 
 pub loop-pool-preserved : goal.loop-pool-preserved
 loop-pool-preserved c =

@@ -13,7 +13,7 @@ returns-clause-there c =
     (λ there says owner log is own. says ∙ is.own_are c.args.pg.now ∙ ap (λ b. b && has_group (incs_of log) c.args.pg.now) own) c.work_out.ensures.there
 
 pub returns-clause-is : goal.returns-clause-is
-returns-clause-is c = λ owner log is long. asked-on owner log c.args.self.now c.work_out.new.self is (c.work_out.ensures.are log is.groups_are is.after_is long) c.work_out.ensures.ids
+returns-clause-is c = λ owner log is long. asked-on owner log c.args.self.now c.work_out.new.self is (c.work_out.ensures.are log is.groups_are is.map_is long) c.work_out.ensures.ids
 
 pub returns-clause-wants : goal.returns-clause-wants
 returns-clause-wants c = on_err_weaker c.work_out.result (λ given owner log is. given log is.groups_are) c.work_out.ensures.wants

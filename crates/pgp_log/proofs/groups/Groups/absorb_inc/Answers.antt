@@ -11,8 +11,13 @@ use Rattle.pgp_log.specs.Kept.{AreAllMarked, AreGroupsOf, AreKeptOf, IsStep, Mar
 use Rattle.pgp_log.specs.Shard.{is_among}
 use Rattle.pgp_log.specs.declared.groups.Groups.{Groups}
 use Rattle.pgp_log.specs.declared.kept.Kept.{Kept}
-use Rattle.pgp_log.proofs.GroupsLemmas.{at-places}
+use Rattle.pgp_log.proofs.GroupsLemmas.{at-places, groups-stay}
+use Rattle.pgp_log.proofs.TouchLemmas.{nothing-touched}
 use Rattle.pgp_log.proofs.groups.Groups.absorb_inc.Goals as goal
+
+pub returns-then-changes_nothing-clause-ok : goal.returns-then-changes_nothing-clause-ok
+returns-then-changes_nothing-clause-ok c = λ log are step. groups-stay log c.args.inc.now c.args.before.now c.args.after.now c.args.self.now step
+    (λ pg. nothing-touched log c.args.inc.now pg (sym c.changes_nothing.ensures ∙ c.if-changes_nothing.true)) are
 
 pub returns-clause-ok : goal.returns-clause-ok
 returns-clause-ok c =

@@ -11,6 +11,7 @@ use Rattle.pgp_group.specs.Entries.{inc_of}
 use Rattle.pgp_group.specs.GroupOf.{TellsNothingAhead}
 use Rattle.pgp_group.specs.Touched.{is_touched}
 use Rattle.pgp_log.specs.Kept.{AreGroupsOf, IsKeptOf, is_marked}
+use Rattle.pgp_log.specs.Log.{epoch_of}
 use Rattle.pgp_log.specs.declared.groups.Groups.{Groups}
 use Rattle.pgp_log.specs.declared.kept.Kept.{Kept}
 use Rattle.pgp_log.proofs.GroupsLemmas.{groups-inc, groups-told, groups-untold, ids-set, kept-at, missing-group, place-holds, place-within}
@@ -35,9 +36,9 @@ returns-in-Some-clause-ok c =
     let is : hash.get is_same_group old.places pg ≡ Some place = sym c.find.ensures ∙ c.in-Some.is in
     let at : slice_get old.kept.items place ≡ Some kept = kept-at old pg place kept c.requires is c.index_mut-kept.ensures.value in
     on_ok c.absorb_report.result
-    ((log : List Entry) → inc_of new ≡ None → TellsNothingAhead log kept.pg new → IsKeptOf log kept → IsKeptOf (log ++ new ∷ []) after)
-    ((log : List Entry) → inc_of new ≡ None → ((q : PgId) → TellsNothingAhead log q new) → ((other : PgId) → is_same_group pg other ≡ false → is_touched log new other ≡ false) → AreGroupsOf log old → AreGroupsOf (log ++ new ∷ []) groups)
-    (λ given log none past untouched are. groups-told log new old groups pg place kept after none untouched is at (given log none (past kept.pg)) c.absorb_report.ensures.pg refl refl are)
+    ((log : List Entry) → inc_of new ≡ None → c.args.epoch ≡ epoch_of log → TellsNothingAhead log kept.pg new → IsKeptOf log kept → IsKeptOf (log ++ new ∷ []) after)
+    ((log : List Entry) → inc_of new ≡ None → c.args.epoch ≡ epoch_of log → ((q : PgId) → TellsNothingAhead log q new) → ((other : PgId) → is_same_group pg other ≡ false → is_touched log new other ≡ false) → AreGroupsOf log old → AreGroupsOf (log ++ new ∷ []) groups)
+    (λ given log none now past untouched are. groups-told log new old groups pg place kept after none untouched is at (given log none now (past kept.pg)) c.absorb_report.ensures.pg refl refl are)
     c.absorb_report.ensures.ok
 
 pub returns-in-Some-clause-wants : goal.returns-in-Some-clause-wants
@@ -45,7 +46,7 @@ returns-in-Some-clause-wants c =
     on_err c.absorb_report.result _ (λ log are. groups-inc log c.args.self.now c.args.pg.now (ap is_some (sym c.find.ensures ∙ c.in-Some.is)) are)
 
 pub returns-in-None-clause-ok : goal.returns-in-None-clause-ok
-returns-in-None-clause-ok c = λ log none past untouched are.
+returns-in-None-clause-ok c = λ log none now past untouched are.
     groups-untold log c.args.entry.now c.args.self.now none
     (λ place kept at. untouched kept.pg (missing-group c.args.self.now c.args.pg.now place kept c.requires (sym c.find.ensures ∙ c.in-None.is) at)) are
 

@@ -1,0 +1,114 @@
+-- A group that needn't be told of each epoch: what it is by later maps, as long as it lies as before.
+use Rattle.std.proofs.Common.{◌≡◌, ℕ, List, [], ◌∷◌, ◌++◌, Option, Some, None, Bool, true, false, ◌||◌, ◌+◌, map, refl, ap, sym, ◌∙◌, subst, arith}
+use Rattle.std.specs.List.{list_any}
+use Rattle.std.specs.Option.{option_map, option_map_or}
+use Rattle.std.proofs.Math.Bool.{or-true}
+use Rattle.std.proofs.lemmas.Bool.{cases_Bool, or_parts, true≢false}
+use Rattle.pgp_code.specs.AnyCode.{enough_of, is_by_place}
+use Rattle.pgp_code.specs.declared.any.AnyCode.{AnyCode}
+use Rattle.pgp_ids.specs.declared.entry.Entry.{Entry}
+use Rattle.pgp_ids.specs.declared.entry.Entry.TheVariants as entry
+use Rattle.pgp_ids.specs.declared.history.PrimaryFacts.{PrimaryFacts}
+use Rattle.pgp_ids.specs.declared.incremental.DeviceEpoch.{DeviceEpoch}
+use Rattle.pgp_ids.specs.declared.incremental.Incremental.{Incremental}
+use Rattle.pgp_ids.specs.declared.pg_id.PgId.{PgId}
+use Rattle.pgp_ids.specs.declared.pool.PoolSpec.{PoolSpec}
+use Rattle.pgp_interval.proofs.RunningLemmas.{stays}
+use Rattle.pgp_interval.specs.History.{History}
+use Rattle.pgp_map.specs.Map.{epoch}
+use Rattle.pgp_map.specs.MapFault.{map_fault, then_with}
+use Rattle.pgp_map.specs.Pools.{pool, temp}
+use Rattle.pgp_sets.specs.Sets.{membership, pool_membership, raw_set}
+use Rattle.pgp_group.specs.Entries.{inc_of, incs_of}
+use Rattle.pgp_group.specs.GroupHistory.{primary_facts}
+use Rattle.pgp_group.specs.GroupLog.{cleans, group_in, group_with}
+use Rattle.pgp_group.specs.GroupOf.{IsGroupOf}
+use Rattle.pgp_group.specs.Reaching.{reaching}
+use Rattle.pgp_group.specs.Touched.{changed_devices, changes_pool, changes_temp, has_osd, has_to_do_with, is_placed, is_touched, may_lie_on, may_move, moves_all, names, turned_devices}
+use Rattle.pgp_group.specs.declared.group.Group.{Group}
+use Rattle.pgp_group.proofs.GroupLemmas.{IsGroupOf-inc, names-stay}
+use Rattle.pgp_group.proofs.GrowthLemmas.{epoch-snoc, history-last, next_epoch}
+use Rattle.pgp_group.proofs.HistoryLemmas.{history-current}
+use Rattle.pgp_group.proofs.Lists.{none-append, none-narrower, one_new}
+use Rattle.pgp_group.proofs.UntoldLemmas.{IsLeft, RawSetsStay, UpsStay, members-same, pool-same, same_up}
+use Rattle.pgp_group.proofs.UntouchedLemmas.{IsApart, apart}
+
+-- ---- the epoch that a group has reached
+
+-- that of its log
+pub reached-now : (log : List Entry) (pg : PgId) (group : Group) → IsGroupOf log pg group → IsGroupOf log pg (reaching (epoch (incs_of log)) group)
+reached-now log pg group is =
+    let at : group.intervals.last ≡ epoch (incs_of log) = is.keeps.intervals_are.last_is ∙ history-last (incs_of log) pg is.history is.numbered is.history_is in
+    subst (λ (e : ℕ). IsGroupOf log pg (reaching e group)) at is
+
+-- its current interval goes on
+pub reaches-next : (log : List Entry) (inc : Incremental) (pg : PgId) (group : Group) → map_fault (incs_of log) inc ≡ None → membership (then_with (incs_of log) inc) pg ≡ membership (incs_of log) pg
+    → IsGroupOf log pg (reaching (epoch (incs_of log)) group) → IsGroupOf (log ++ entry.Inc inc ∷ []) pg (reaching (epoch (incs_of (log ++ entry.Inc inc ∷ []))) group)
+reaches-next log inc pg group fine same is =
+    let h : History AnyCode = is.history in
+    let facts : PrimaryFacts = primary_facts (incs_of log) h.current.acting_primary in
+    let to : ℕ = epoch (incs_of (log ++ entry.Inc inc ∷ [])) in
+    let next : to ≡ epoch (incs_of log) + 1 = ap epoch (one_new inc_of log (entry.Inc inc) inc refl) ∙ epoch-snoc (incs_of log) inc ∙ next_epoch (incs_of log) inc fine in
+    IsGroupOf-inc log inc pg (reaching (epoch (incs_of log)) group) (reaching to group) h.current is fine (same ∙ history-current (incs_of log) pg h is.history_is) refl refl refl refl
+    (stays enough_of is_by_place (cleans (group_with log pg h)) h (reaching (epoch (incs_of log)) group).intervals is.keeps.intervals_are (facts ∷ []) to next)
+    (names-stay log inc pg h facts group.named is.keeps.named_are)
+
+-- ---- an incremental by which the group lies as before
+
+-- the parts of the test
+record IsUnmoved (incs : List Incremental) (inc : Incremental) (pg : PgId) : Type 0 where
+  left : IsLeft inc pg
+  devices : list_any (may_lie_on incs pg) (turned_devices inc) ≡ false
+
+unmoved : (incs : List Incremental) (inc : Incremental) (pg : PgId) → may_move incs inc pg ≡ false → IsUnmoved incs inc pg
+unmoved incs inc pg still =
+    let a = or_parts (moves_all inc || changes_pool inc pg.pool || changes_temp inc pg) (list_any (may_lie_on incs pg) (turned_devices inc)) still in
+    let b = or_parts (moves_all inc || changes_pool inc pg.pool) (changes_temp inc pg) a.0 in
+    let c = or_parts (moves_all inc) (changes_pool inc pg.pool) b.0 in
+    record { left = record { still = c.0; pool = c.1; temp = b.1 }; devices = a.1 }
+
+pub left-unmoved : (incs : List Incremental) (inc : Incremental) (pg : PgId) → may_move incs inc pg ≡ false → IsLeft inc pg
+left-unmoved incs inc pg still = (unmoved incs inc pg still).left
+
+either-first : (a b : Bool) → a ≡ true → (a || b) ≡ true
+either-first a b passes = rw passes refl
+
+either-second : (a b : Bool) → b ≡ true → (a || b) ≡ true
+either-second a b passes = rw (passes, or-true) refl
+
+-- the devices on which it lies are up where they were
+ups : (incs : List Incremental) (inc : Incremental) (pg : PgId) (made : PoolSpec) → IsUnmoved incs inc pg → pool incs pg.pool ≡ Some made → UpsStay incs inc pg made
+ups incs inc pg made is there = record {
+  placed = λ osd stands.
+      let placed : is_placed incs pg osd ≡ true = ap (λ (o : Option PoolSpec). option_map_or (λ p. has_osd osd (raw_set incs p pg)) o false) there ∙ stands in
+      same_up (may_lie_on incs pg) incs inc osd is.devices (either-first (is_placed incs pg osd) (has_osd osd (temp incs pg)) placed);
+  given = λ osd stands.
+      same_up (may_lie_on incs pg) incs inc osd is.devices (either-second (is_placed incs pg osd) (has_osd osd (temp incs pg)) stands);
+}
+
+pub lies-as-before : RawSetsStay → (incs : List Incremental) (inc : Incremental) (pg : PgId) → map_fault incs inc ≡ None → may_move incs inc pg ≡ false → membership (then_with incs inc) pg ≡ membership incs pg
+lies-as-before raws incs inc pg fine still = at (pool incs pg.pool) refl where
+  is : IsUnmoved incs inc pg
+  is = unmoved incs inc pg still
+
+  at : (found : Option PoolSpec) → pool incs pg.pool ≡ found → membership (then_with incs inc) pg ≡ membership incs pg
+  at None none =
+      ap (option_map (pool_membership (then_with incs inc) pg)) (pool-same incs inc pg.pool is.left.pool ∙ none)
+      ∙ ap (option_map (pool_membership incs pg)) (sym none)
+  at (Some made) found =
+      ap (option_map (pool_membership (then_with incs inc) pg)) (pool-same incs inc pg.pool is.left.pool ∙ found)
+      ∙ ap Some (members-same raws incs inc pg made fine is.left found (ups incs inc pg made is found))
+      ∙ ap (option_map (pool_membership incs pg)) (sym found)
+
+-- an incremental that doesn't touch the group leaves it where it is
+pub untouched-unmoved : (log : List Entry) (inc : Incremental) (pg : PgId) → is_touched log (entry.Inc inc) pg ≡ false → may_move (incs_of log) inc pg ≡ false
+untouched-unmoved log inc pg untouched =
+    let is : IsApart log inc pg = apart log inc pg untouched in
+    let thru : List ℕ = map (λ (told : DeviceEpoch). told.osd) inc.up_thru in
+    let lost : List ℕ = map (λ (told : DeviceEpoch). told.osd) inc.lost in
+    let turned : list_any (has_to_do_with log pg) (turned_devices inc) ≡ false =
+    (none-append (has_to_do_with log pg) (turned_devices inc) thru (none-append (has_to_do_with log pg) (turned_devices inc ++ thru) lost is.devices).0).0 in
+    let none : list_any (may_lie_on (incs_of log) pg) (turned_devices inc) ≡ false =
+    none-narrower (may_lie_on (incs_of log) pg) (has_to_do_with log pg)
+    (λ osd lies. either-first (may_lie_on (incs_of log) pg osd) (option_map_or (names osd) (group_in log pg) false) lies) (turned_devices inc) turned in
+    rw (is.left.still, is.left.pool, is.left.temp, none) refl

@@ -1,0 +1,53 @@
+-- What is kept of the map before an incremental.
+use Rattle.std.proofs.Common.{◌≡◌, ℕ, ◌+◌, ◌<◌, List, [], ◌∷◌, ◌++◌, Bool, true, false, Option, Some, None, map, option_map, length, get_or, take, refl, sym, ap, ◌∙◌, arith, eq-eqb, append_assoc}
+use Rattle.std.specs.List.{list_any}
+use Rattle.std.specs.Prelude.{nat_eq, slice_get}
+use Rattle.std.proofs.lemmas.Bool.{eqb-true}
+use Rattle.std.proofs.lemmas.List.{map-append, map_more}
+use Rattle.std.proofs.lemmas.Option.{slice_get-map, slice_get_read}
+use Rattle.pgp_ids.specs.declared.history.PrimaryFacts.{PrimaryFacts}
+use Rattle.pgp_ids.specs.declared.incremental.DeviceEpoch.{DeviceEpoch}
+use Rattle.pgp_ids.specs.declared.incremental.Incremental.{Incremental}
+use Rattle.pgp_lists.proofs.Lists.{any-mapped}
+use Rattle.pgp_map.specs.Devices.{boots}
+use Rattle.pgp_map.specs.MapFault.{then_with}
+use Rattle.pgp_group.proofs.Lists.{none-append, none-narrower}
+use Rattle.pgp_group.proofs.UntoldLemmas.{facts-stay}
+use Rattle.pgp_group.specs.GroupHistory.{primary_facts}
+use Rattle.pgp_log.specs.MapBefore.{IsMapBefore, renamed_devices, with_facts}
+use Rattle.pgp_log.specs.declared.before.DeviceFacts.{DeviceFacts}
+use Rattle.pgp_log.specs.declared.before.MapBefore.{MapBefore}
+
+-- each of them has what the map said of it
+pub facts-at : (incs : List Incremental) (inc : Incremental) (before : MapBefore) (i : ℕ) (device : DeviceFacts) → IsMapBefore incs inc before → i < length before.devices.items
+    → device ≡ get_or before.devices.items i device → device.facts ≡ primary_facts incs (Some device.osd)
+facts-at incs inc before i device is within item = at (slice_get (renamed_devices inc) i) there where
+  there : option_map (with_facts incs) (slice_get (renamed_devices inc) i) ≡ Some device
+  there =
+      sym (slice_get-map (with_facts incs) (renamed_devices inc) i) ∙ ap (λ (l : List DeviceFacts). slice_get l i) (sym is.devices_are)
+      ∙ slice_get_read before.devices.items (length before.devices.items) i device refl within item
+
+  at : (found : Option ℕ) → option_map (with_facts incs) found ≡ Some device → device.facts ≡ primary_facts incs (Some device.osd)
+  at None same = cc
+  at (Some osd) same =
+      let is_it : with_facts incs osd ≡ device = cc in
+      ap (λ (d : DeviceFacts). d.facts) (sym is_it) ∙ ap (λ (d : DeviceFacts). primary_facts incs (Some d.osd)) is_it
+
+-- and the map with the incremental says the same of every other device
+pub facts-else : (incs : List Incremental) (inc : Incremental) (before : MapBefore) (osd : ℕ) → IsMapBefore incs inc before → list_any (λ (d : DeviceFacts). nat_eq d.osd osd) before.devices.items ≡ false
+    → primary_facts (then_with incs inc) (Some osd) ≡ primary_facts incs (Some osd)
+facts-else incs inc before osd is none =
+    let told : DeviceEpoch → ℕ = λ t. t.osd in
+    let all : list_any (λ (o : ℕ). nat_eq o osd) (renamed_devices inc) ≡ false =
+    sym (any-mapped (with_facts incs) (λ (d : DeviceFacts). nat_eq d.osd osd) (renamed_devices inc)) ∙ ap (list_any (λ (d : DeviceFacts). nat_eq d.osd osd)) (sym is.devices_are) ∙ none in
+    let parts = none-append (λ (o : ℕ). nat_eq o osd) inc.up (map told inc.up_thru) all in
+    let booted : boots osd inc ≡ false =
+    none-narrower (nat_eq osd) (λ (o : ℕ). nat_eq o osd) (λ o same. eq-eqb o osd (sym (eqb-true osd o same))) inc.up parts.0 in
+    facts-stay incs inc osd booted (sym (any-mapped told (λ (o : ℕ). nat_eq o osd) inc.up_thru) ∙ parts.1)
+
+-- one device more is noted
+pub noted-more : {X : Type 0} (f : X → DeviceFacts) (first now : List DeviceFacts) (xs : List X) (i : ℕ) (x : X) (new : DeviceFacts) → i < length xs → x ≡ get_or xs i x → new ≡ f x
+    → now ≡ first ++ map f (take i xs) → now ++ new ∷ [] ≡ first ++ map f (take (i + 1) xs)
+noted-more f first now xs i x new within item is so_far =
+    ap (λ (l : List DeviceFacts). l ++ new ∷ []) so_far ∙ append_assoc first (map f (take i xs)) (new ∷ [])
+    ∙ ap (λ (d : DeviceFacts). first ++ (map f (take i xs) ++ d ∷ [])) (is ∙ ap f item) ∙ ap (λ (l : List DeviceFacts). first ++ l) (sym (map_more f xs i x within))

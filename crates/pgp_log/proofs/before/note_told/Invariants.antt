@@ -1,0 +1,8 @@
+use Rattle.std.proofs.Common.{◌≡◌, List, ◌++◌, map, take}
+use Rattle.pgp_ids.specs.declared.incremental.Incremental.{Incremental}
+use Rattle.pgp_map.specs.MapOf.{IsMapOf}
+use Rattle.pgp_log.specs.MapBefore.{with_facts}
+use Rattle.pgp_log.proofs.before.note_told.Given as goal
+
+abbrev pub invariant-loop-told : goal.invariant-loop-told
+invariant-loop-told l = (incs : List Incremental) → IsMapOf incs l.map → l.devices.items ≡ l.initial.devices.items ++ map (with_facts incs) (map (λ told. told.osd) (take l.told-index l.all))

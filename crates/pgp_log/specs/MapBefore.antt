@@ -1,0 +1,20 @@
+-- What is kept of the map before an incremental while groups take the one after it (this project's own choice).
+use Rattle.std.specs.Prelude.{◌≡◌, ℕ, List, ◌++◌, map, Some}
+use Rattle.pgp_ids.specs.declared.incremental.Incremental.{Incremental}
+use Rattle.pgp_map.specs.Map.{epoch}
+use Rattle.pgp_group.specs.GroupHistory.{primary_facts}
+use Rattle.pgp_log.specs.declared.before.DeviceFacts.{DeviceFacts}
+use Rattle.pgp_log.specs.declared.before.MapBefore.{MapBefore}
+
+-- the devices that the incremental boots, and those of whose up_thru it tells: what the map says of the others as primaries stays
+abbrev pub renamed_devices : Incremental → List ℕ
+renamed_devices inc = inc.up ++ map (λ told. told.osd) inc.up_thru
+
+-- the device with what the map says of it as a primary
+abbrev pub with_facts : List Incremental → ℕ → DeviceFacts
+with_facts incs osd = record { osd = osd; facts = primary_facts incs (Some osd) }
+
+-- what is kept is the epoch of the map that these incrementals make, and what it says of those devices
+pub record IsMapBefore (incs : List Incremental) (inc : Incremental) (before : MapBefore) : Type 0 where
+  pub epoch_is : before.epoch ≡ epoch incs
+  pub devices_are : before.devices.items ≡ map (with_facts incs) (renamed_devices inc)

@@ -1,0 +1,20 @@
+-- What an incremental changes at all (this project's own choice).
+use Rattle.std.specs.Prelude.{List, length, Bool, ◌&&◌, not, ◌==◌}
+use Rattle.pgp_ids.specs.declared.incremental.Incremental.{Incremental}
+use Rattle.pgp_group.specs.Touched.{moves_all}
+
+-- the incremental boots no device, takes none down and destroys none
+abbrev pub turns_none : Incremental → Bool
+turns_none inc = (length inc.up == 0) && (length inc.down == 0) && (length inc.gone == 0)
+
+-- the incremental tells nothing of devices
+abbrev pub tells_nothing : Incremental → Bool
+tells_nothing inc = turns_none inc && (length inc.up_thru == 0) && (length inc.lost == 0)
+
+-- the incremental makes no pool, and changes none, and no pg_temp list
+abbrev pub changes_no_pool : Incremental → Bool
+changes_no_pool inc = (length inc.pools == 0) && (length inc.sizes == 0) && (length inc.temp == 0)
+
+-- the incremental changes the epoch alone
+abbrev pub changes_nothing : Incremental → Bool
+changes_nothing inc = not (moves_all inc) && changes_no_pool inc && tells_nothing inc
