@@ -1,4 +1,5 @@
 pub mod Book
+pub mod Turns
 pub mod Receipts
 pub mod Stores
 pub mod OneLog

@@ -1,4 +1,5 @@
-//! The book that all receipts of a feed are of: its log is the published one, and its one word in use is that log's length.
+//! The book that all receipts of a feed are of: its log is the published one. Of its two words one is the length of that log, and the
+//! other the number of turns that were taken. With each turn a word comes that only its pen brings home.
 
 use logbook::{Gain, Plain, Play, Rule, Seen, Word};
 use pgp_ids::Entry;
@@ -50,8 +51,26 @@ impl Plain<Entry, Entry, u64> for Add {
     ghost state = { λ entry. None };
 }
 
+/// The step that takes the turn of the next entry.
+pub struct Take;
+
+impl Play<Entry, u64> for Take {
+    ghost use Rattle.pgp_feed.specs.Book.{TakesTurn};
+
+    ghost then = { TakesTurn };
+}
+
+impl Plain<(), Entry, u64> for Take {
+    ghost use Rattle.std.specs.Prelude.{None};
+    ghost use Rattle.pgp_ids.specs.declared.entry.Entry.TheVariants.{Close};
+
+    ghost ask = { λ none. Close };
+
+    ghost state = { λ none. None };
+}
+
 /// What a thread knows of the book.
 pub type Known = Seen<Entry, u64, Law>;
 
-/// The book's word.
-pub type Length = Word<Entry, u64, Law>;
+/// A word of the book.
+pub type Number = Word<Entry, u64, Law>;

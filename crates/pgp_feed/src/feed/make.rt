@@ -7,7 +7,7 @@ ghost use Rattle.pgp_feed.specs.Taps.{last_of};
 ghost use Rattle.pgp_feed.specs.Supplies.{IsSupplied};
 ghost use Rattle.pgp_feed.specs.declared.fault.MakeFault.TheVariants.{Memory, NoReader};
 
-use super::steps::shown;
+use super::steps::{next_turn, shown};
 use super::warm::skip_twice;
 use super::{Feed, LogWriter};
 use crate::fault::MakeFault;
@@ -50,7 +50,7 @@ impl Feed {
         requires { (1 ≤ readers) × (readers ≤ 129) }
         ensures { IfOk result (λ feed. entries_of (told_of feed) ≡ []) }
     {
-        let (word, told) = Receipt::open();
+        let (word, turns, told) = Receipt::open();
         let mut writer = opened(alloc, &told, readers)?;
         let Ok(warm) = skip_twice(&mut writer) else {
             writer.take(rt);
@@ -58,8 +58,11 @@ impl Feed {
         };
         // The first publish shows the two, the second empties the queue.
         let writer = shown(rt, shown(rt, writer, &told), &told);
+        let turn = next_turn(rt, &turns, &told);
         Ok(Feed {
             word,
+            turns,
+            turn,
             told,
             writer,
             warm,

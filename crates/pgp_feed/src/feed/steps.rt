@@ -3,17 +3,34 @@ ghost use Rattle.std.specs.Prelude.{◌≡◌, [], ◌∷◌, ◌++◌, None, So
 ghost use Rattle.std.specs.Arc.{arc_value};
 ghost use Rattle.left_right.specs.Sides.{view};
 ghost use Rattle.pgp_log.specs.Fits.{fits};
+ghost use Rattle.pgp_feed.specs.Book.{turns_word};
 ghost use Rattle.pgp_feed.specs.Receipts.{entries_of, feed_of};
 ghost use Rattle.pgp_feed.specs.Feeds.{told_of};
 ghost use Rattle.pgp_feed.specs.Puts.{IsPut};
+ghost use Rattle.pgp_feed.specs.Turns.{IsTurnAfter};
 
 use super::{Feed, LogWriter};
+use crate::law::Number;
 use crate::receipt::Receipt;
 use crate::rule::Sees;
 use crate::store::Operation;
 use core::mem::replace_with;
+use logbook::Pen;
 use pgp_ids::Entry;
 use std::sync::{Arc, Wait};
+
+// Takes the turn of the entry after those that were told. The writer alone takes turns, so the first try does.
+pub(super) fn next_turn<R: Wait>(rt: &R, turns: &Number, told: &Receipt) -> Pen
+    requires { turns.now ≡ turns_word (feed_of told.now) }
+    ensures { IsTurnAfter told.now result }
+{
+    for _ in rt.forever() {
+        if let Some(turn) = told.turn(turns) {
+            return turn;
+        }
+    }
+    unreachable!()
+}
 
 // Keeps the operation until there is room for it. The queue is warm, so the first try does.
 fn queued<R: Wait>(rt: &R, writer: LogWriter, operation: Operation) -> LogWriter
@@ -69,9 +86,8 @@ impl Feed {
         let Ok(copy) = Arc::try_clone(&entry) else {
             return Err(entry);
         };
-        let Some(told) = self.told.grow(&self.word, &entry) else {
-            return Err(entry);
-        };
+        let told = self.told.grow(&self.word, &mut self.turn, &entry);
+        self.turn = next_turn(rt, &self.turns, &told);
         let operation = Operation::Put(copy, told.again());
         replace_with(
             &mut self.writer,
@@ -89,6 +105,8 @@ impl Feed {
     pub fn give_up(self, rt: &impl Wait) {
         let Self {
             word: _,
+            turns: _,
+            turn: _,
             told: _,
             writer,
             warm: _,
