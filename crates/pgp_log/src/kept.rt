@@ -65,9 +65,9 @@ impl Kept {
         self.view.is_none()
     }
 
-    /// Takes an incremental, which leads from the map before to the one after. Where the group lies as before, that takes no placement and
-    /// no memory: the group sleeps on, and one that isn't marked is held against the incremental. After an `Err` it is of no
-    /// further use.
+    /// Takes an incremental, which leads from the map before to the one after. Where the group lies as before, that takes no
+    /// placement and no memory: the group sleeps on, and one that isn't marked is held against the incremental. After an `Err` it
+    /// is of no further use.
     pub(crate) fn absorb_inc(
         &mut self,
         before: &MapBefore,
