@@ -1,7 +1,12 @@
 -- What a session stands for, and what a line does to it. This project's own choice.
 use Rattle.std.specs.Prelude.{ℕ, List, [], ◌∷◌, ◌++◌, Option, Some, None, Result, Ok, Err}
 use Rattle.pgp_ids.specs.declared.entry.Entry.{Entry}
-use Rattle.pgp_core.specs.Answer.{long_text}
+use Rattle.pgp_ids.specs.declared.pg_id.PgId.{PgId}
+use Rattle.pgp_ids.specs.declared.view.View.{View}
+use Rattle.pgp_group.specs.View.{scratch}
+use Rattle.pgp_lines.specs.declared.command.Command.{Command}
+use Rattle.pgp_replies.specs.declared.reply.Reply.{Reply}
+use Rattle.pgp_core.specs.Answer.{long_text, log_after, reply_of}
 use Rattle.pgp_core.specs.Script.{want_text}
 use Rattle.pgp_core.specs.declared.want.Want.{Want}
 use Rattle.pgp_core.specs.declared.session.LastAnswer.{LastAnswer}
@@ -22,3 +27,17 @@ last_text (NoMemory want) text = want_text want ++ 10 ∷ []
 abbrev pub met_by : Result (Unit {0}) Want → Option Want
 met_by (Ok done) = None
 met_by (Err want) = Some want
+
+-- ---- the definitions once more, under names that a proof above reads no further than
+
+-- the reply to a command
+unfoldable pub reply_in : List Entry → Command → Reply
+reply_in log command = reply_of log command
+
+-- the log after a command
+unfoldable pub log_in : List Entry → Command → List Entry
+log_in log command = log_after log command
+
+-- what the log says of a group
+unfoldable pub view_in : List Entry → PgId → Option View
+view_in log pg = scratch log pg

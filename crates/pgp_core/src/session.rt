@@ -1,12 +1,11 @@
 //! A log that one thread tells and asks, line by line or in values, with no reader and no writer.
 
 ghost use Rattle.std.specs.Prelude.{◌≡◌, ◌≤◌, ◌∷◌, [], ◌++◌, length, false, Some, OnOk, IfOk, OnErr, IfErr};
-ghost use Rattle.pgp_group.specs.View.{scratch};
 ghost use Rattle.pgp_lines.specs.declared.command.Command.TheVariants.{Locate, Submit};
-ghost use Rattle.pgp_core.specs.Answer.{line_text, line_log, log_after, reply_of};
+ghost use Rattle.pgp_core.specs.Answer.{line_text, line_log};
 ghost use Rattle.pgp_core.specs.Lines.{is_blank};
 ghost use Rattle.pgp_core.specs.Script.{MayMeet, answer, log_past, longest_line};
-ghost use Rattle.pgp_core.specs.Session.{LogAndAnswer, last_text, met_by};
+ghost use Rattle.pgp_core.specs.Session.{LogAndAnswer, last_text, log_in, met_by, reply_in, view_in};
 ghost use Rattle.pgp_core.specs.Wants.{MayFindNone};
 
 use super::answer::answer_line;
@@ -108,25 +107,28 @@ impl Session {
     }
 
     /// Where the object of this name lies, by the map that the entries make. It takes no memory.
+    #[tactic(auto, unfolding(crate::specs::Session::reply_in))]
     pub fn locate(&mut self, id: PoolId, name: &ObjectName) -> Reply
-        ensures reply { result ≡ reply_of self.old.log (Locate id name.now) }
+        ensures reply { result ≡ reply_in self.old.log (Locate id name.now) }
         ensures same { self.new ≡ self.old }
     {
         self.log.locate(id, name)
     }
 
     /// All that the log says of a group, where its map has it.
+    #[tactic(auto, unfolding(crate::specs::Session::view_in))]
     pub fn ask(&mut self, pg: PgId) -> Result<Option<View>, AllocError>
-        ensures view { IfOk result (λ view. view ≡ scratch self.old.log pg) }
+        ensures view { IfOk result (λ view. view ≡ view_in self.old.log pg) }
         ensures same { self.new ≡ self.old }
     {
         self.log.ask(pg)
     }
 
     /// Tells the log an entry, and gives the reply. Where the log takes the entry, it has it from now on.
+    #[tactic(auto, unfolding(crate::specs::Session::reply_in, crate::specs::Session::log_in))]
     pub fn submit(&mut self, entry: Entry) -> Result<Reply, AllocError>
-        ensures reply { IfOk result (λ reply. reply ≡ reply_of self.old.log (Submit entry)) }
-        ensures log { OnOk result (self.new.log ≡ log_after self.old.log (Submit entry)) }
+        ensures reply { IfOk result (λ reply. reply ≡ reply_in self.old.log (Submit entry)) }
+        ensures log { OnOk result (self.new.log ≡ log_in self.old.log (Submit entry)) }
         ensures answer { self.new.answer ≡ self.old.answer }
         ensures kept { OnErr result (self.new.log ≡ self.old.log) }
         ensures memory { OnErr result (MayFindNone self.old.log (Submit entry)) }
