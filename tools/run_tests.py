@@ -16,6 +16,7 @@ In this order, each part with its count and its seconds:
                                     (fuzz/explain.py)
   allocations refused               each allocation of a short script refused in turn, with and without workers
                                     (refuse_allocations.py), and of an explanation (refuse_in_explanations.py)
+  library for C                     the static library, where tools/build_c_library.sh has left one (check_c_library.py)
 
 --quick runs what stands before the gate alone, and --after-gate what stands after it, on the program that an earlier gate or
 `rt run` left. --seed is that of the generated scripts, 1 if not said.
@@ -41,6 +42,7 @@ from typing import Callable, List, NamedTuple, Optional, Tuple
 
 ROOT = pathlib.Path(__file__).resolve().parent.parent
 PROGRAM = ROOT / "crates/pgpeer/out/pgpeer"
+C_LIBRARY = ROOT / "crates/pgp_c/out/c/libpgpeer.so"
 NO_PROGRAM = ROOT / "no program yet"
 SHORT_SCRIPTS = (("first", 1, 0), ("first", 2, 2))  # an example, shards and workers
 FUZZED_LINES = 300_000  # fewer where a minute goes by before
@@ -80,8 +82,8 @@ def gate(said: str) -> Optional[Counts]:
 
 
 def tried_and_wrong(said: str) -> Optional[Counts]:
-    """The last line of run_examples.py and check_statuses.py."""
-    found = re.search(r"^(\d+) (?:examples|runs), (\d+) wrong\s*\Z", said, re.M)
+    """The last line of run_examples.py, check_statuses.py and check_c_library.py."""
+    found = re.search(r"^(\d+) (?:examples|runs|checks), (\d+) wrong\s*\Z", said, re.M)
     return (int(found[1]) - int(found[2]), int(found[2])) if found else None
 
 
@@ -130,6 +132,12 @@ def before_gate() -> List[Part]:
     ]
 
 
+def on_c_library() -> List[Part]:
+    """What is tested of the library for C, where it was built."""
+    check = python("tools/check_c_library.py", C_LIBRARY.parent)
+    return [Part("library for C", check, 240, tried_and_wrong, ("cc",))] if C_LIBRARY.exists() else []
+
+
 def after_gate(seed: str) -> List[Part]:
     fuzz = python("fuzz/fuzz.py", "--lines", FUZZED_LINES, "--minutes", 1, "--seconds", 60, "--seed", seed)
     explain = python("fuzz/explain.py", "--logs", EXPLAINED_LOGS, "--minutes", 0.5, "--seed", seed)
@@ -157,8 +165,8 @@ def after_gate(seed: str) -> List[Part]:
             90,
             allocations,
             ("cc",),
-        )
-    ]
+        ),
+    ] + on_c_library()
 
 
 # Runs

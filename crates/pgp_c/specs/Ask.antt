@@ -1,0 +1,37 @@
+-- How a question about a placement group ends. This project's own choice.
+use Rattle.std.specs.Prelude.{◌≡◌, ◌≢◌, ℕ, ◌≤◌, List, Option, Some, None}
+use Rattle.pgp_ids.specs.declared.entry.Entry.{Entry}
+use Rattle.pgp_ids.specs.declared.pg_id.PgId.{PgId}
+use Rattle.pgp_ids.specs.declared.view.View.{View}
+use Rattle.pgp_refusals.specs.AskRefusal.{ask_refusal_number}
+use Rattle.pgp_refusals.specs.declared.ask_refusal.AskRefusal.TheVariants.{UnknownGroup}
+use Rattle.pgp_core.specs.Session.{LogAndAnswer, view_in}
+use Rattle.pgp_c.specs.Locate.{IsPool}
+use Rattle.pgp_c.specs.Status.{status_number}
+use Rattle.pgp_c.specs.View.{view_of}
+use Rattle.pgp_c.specs.declared.status.Status.TheVariants.{Done, NoMemory, NotOpen, BadArgument}
+use Rattle.pgp_c.specs.declared.view.PgpView.{PgpView}
+
+-- the numbers are those of a group
+pub record IsGroup (pool pg : ℕ) : Type 0 where
+  pub of_pool : IsPool pool
+  pub in_range : pg ≤ 1023
+
+abbrev pub group : ℕ → ℕ → PgId
+group pool pg = record { pool = pool; pg = pg }
+
+-- what the log says of the group was put where C reads it, or the number of the refusal is the status
+abbrev pub PutsView : Option View → PgpView → PgpView → ℕ → Type 0
+PutsView None old new status = (new ≡ old) × (status ≡ ask_refusal_number UnknownGroup)
+PutsView (Some view) old new status = (new ≡ view_of view) × (status ≡ status_number Done)
+
+-- The question was answered by the log. Only numbers that are no group's are a bad argument.
+pub record AsksIn (log : List Entry) (pool pg : ℕ) (old new : PgpView) (status : ℕ) : Type 0 where
+  pub bad : status ≡ status_number BadArgument → (new ≡ old) × (IsGroup pool pg → ⊥)
+  pub memory : status ≡ status_number NoMemory → new ≡ old
+  pub view : status ≢ status_number BadArgument → status ≢ status_number NoMemory → PutsView (view_in log (group pool pg)) old new status
+
+-- The question was answered by a session, where there is one.
+abbrev pub Asks : Option LogAndAnswer → Option LogAndAnswer → ℕ → ℕ → PgpView → PgpView → ℕ → Type 0
+Asks None now pool pg old new status = (now ≡ None) × (new ≡ old) × (status ≡ status_number NotOpen)
+Asks (Some was) now pool pg old new status = (now ≡ Some was) × AsksIn was.log pool pg old new status

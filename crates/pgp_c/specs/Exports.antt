@@ -1,0 +1,55 @@
+-- What the exported calls do. This project's own choice.
+use Rattle.std.specs.Prelude.{◌≡◌, ℕ, List, [], ◌++◌, Option, Some, None, nat_le, length, drop, if◌then◌else◌}
+use Rattle.pgp_core.specs.Script.{MayMeet, answer, log_past}
+use Rattle.pgp_core.specs.Session.{LogAndAnswer}
+use Rattle.pgp_core.specs.declared.want.Want.{Want}
+use Rattle.pgp_c.specs.Status.{status_number}
+use Rattle.pgp_c.specs.declared.status.Status.{Status}
+use Rattle.pgp_c.specs.declared.status.Status.TheVariants.{Done, RoomTooSmall, NoMemory, NotOpen, AlreadyOpen}
+
+-- room into which the text is put, where it fits; else it stays
+abbrev pub put_in : {A : Type 0} → List A → List A → List A
+put_in text room = if nat_le (length text) (length room) then text ++ drop (length text) room else room
+
+-- whether a text was put into room
+abbrev pub put_status : {A : Type 0} → List A → List A → Status
+put_status text room = if nat_le (length text) (length room) then Done else RoomTooSmall
+
+-- what became of a line that met this want of memory, if any
+abbrev pub line_status : Option Want → List ℕ → List ℕ → Status
+line_status None text room = put_status text room
+line_status (Some want) text room = NoMemory
+
+-- A line was told to a session, which goes from `was` to `now`. It met this want of memory, if any.
+pub record IsTold (was now : LogAndAnswer) (line : List ℕ) (old new : List ℕ) (len : ℕ) (status : ℕ) : Type 0 where
+  pub met : Option Want
+  pub meets : MayMeet met line
+  pub log : now.log ≡ log_past was.log met line
+  pub answer_is : now.answer ≡ answer was.log met line
+  pub room : new ≡ put_in now.answer old
+  pub len_is : len ≡ length now.answer
+  pub status_is : status ≡ status_number (line_status met now.answer old)
+
+-- A line was told to a session, where there is one.
+abbrev pub Tells : Option LogAndAnswer → Option LogAndAnswer → List ℕ → List ℕ → List ℕ → ℕ → ℕ → Type 0
+Tells None None line old new len status = (new ≡ old) × (len ≡ 0) × (status ≡ status_number NotOpen)
+Tells None (Some now) line old new len status = ⊥
+Tells (Some was) None line old new len status = ⊥
+Tells (Some was) (Some now) line old new len status = IsTold was now line old new len status
+
+-- A session was opened: it has an empty log, and has answered no line. One that is open, or for which there is no memory, stays.
+abbrev pub Opens : Option LogAndAnswer → Option LogAndAnswer → ℕ → Type 0
+Opens (Some was) now status = (now ≡ Some was) × (status ≡ status_number AlreadyOpen)
+Opens None None status = status ≡ status_number NoMemory
+Opens None (Some now) status = (now.log ≡ []) × (now.answer ≡ []) × (status ≡ status_number Done)
+
+-- A session was closed, where there was one.
+abbrev pub Closes : Option LogAndAnswer → Option LogAndAnswer → ℕ → Type 0
+Closes None now status = (now ≡ None) × (status ≡ status_number NotOpen)
+Closes (Some was) now status = (now ≡ None) × (status ≡ status_number Done)
+
+-- The answer to the last line of a session was given again, where there is one.
+abbrev pub Repeats : Option LogAndAnswer → Option LogAndAnswer → List ℕ → List ℕ → ℕ → ℕ → Type 0
+Repeats None now old new len status = (now ≡ None) × (new ≡ old) × (len ≡ 0) × (status ≡ status_number NotOpen)
+Repeats (Some was) now old new len status =
+    (now ≡ Some was) × (new ≡ put_in was.answer old) × (len ≡ length was.answer) × (status ≡ status_number (put_status was.answer old))

@@ -1,0 +1,70 @@
+-- How an info that C tells ends. This project's own choice.
+use Rattle.std.specs.Prelude.{◌≡◌, ◌⊎◌, ℕ, ◌≤◌, Option, Some, None}
+use Rattle.pgp_ids.specs.declared.entry.Entry.{Entry}
+use Rattle.pgp_ids.specs.declared.entry.Entry.TheVariants as entry
+use Rattle.pgp_ids.specs.declared.report.Info.{Info}
+use Rattle.pgp_refusals.specs.Refusal.{refusal_number}
+use Rattle.pgp_lines.specs.declared.command.Command.TheVariants.{Submit}
+use Rattle.pgp_replies.specs.declared.reply.Reply.{Reply}
+use Rattle.pgp_replies.specs.declared.reply.Reply.TheVariants.{Accepted, Asked, Located, Traced, Refused}
+use Rattle.pgp_replies.specs.declared.reply.refused.Refused.TheVariants as why
+use Rattle.pgp_core.specs.Session.{LogAndAnswer, log_in, reply_in}
+use Rattle.pgp_c.specs.Ask.{IsGroup, group}
+use Rattle.pgp_c.specs.Status.{status_number}
+use Rattle.pgp_c.specs.declared.info.PgpInfo.{PgpInfo}
+use Rattle.pgp_c.specs.declared.status.Status.TheVariants.{Done, NoMemory, NotOpen, BadArgument}
+
+-- the numbers are those of an info
+pub record IsInfo (told : PgpInfo) : Type 0 where
+  pub of_group : IsGroup told.pool told.pg
+  pub osd : told.osd ≤ 4095
+  pub slot : told.slot ≤ 15
+
+abbrev pub info_of : PgpInfo → Info
+info_of told = record {
+  pg = group told.pool told.pg;
+  member = record { osd = told.osd; slot = told.slot };
+  stamp = told.stamp;
+  les = told.les;
+  history_les = told.history_les;
+  last_epoch_clean = told.last_epoch_clean;
+  last_update = record { epoch = told.last_update_epoch; v = told.last_update };
+  log_tail = record { epoch = told.log_tail_epoch; v = told.log_tail };
+  complete = told.complete;
+}
+
+abbrev pub entry_of : PgpInfo → Entry
+entry_of told = entry.Info (info_of told)
+
+-- the number of the refusal, where the reply says that the log doesn't take an entry
+abbrev pub reply_status : Reply → ℕ
+reply_status (Accepted op count epoch) = status_number Done
+reply_status (Asked pg view) = status_number Done
+reply_status (Located pg members epoch) = status_number Done
+reply_status (Traced first past) = status_number Done
+reply_status (Refused (why.Entry refusal)) = refusal_number refusal
+reply_status (Refused (why.Ask refusal)) = status_number Done
+reply_status (Refused (why.Locate refusal)) = status_number Done
+reply_status (Refused (why.Line fault)) = status_number Done
+
+-- the entry was told, and there was memory for it
+pub record IsTaken (was now : LogAndAnswer) (new : Entry) (status : ℕ) : Type 0 where
+  pub log : now.log ≡ log_in was.log (Submit new)
+  pub status_is : status ≡ reply_status (reply_in was.log (Submit new))
+
+-- there was no memory for the entry
+pub record IsLacking (was now : LogAndAnswer) (status : ℕ) : Type 0 where
+  pub log : now.log ≡ was.log
+  pub status_is : status ≡ status_number NoMemory
+
+-- An info was told to a session, which goes from `was` to `now`.
+pub record SubmitsIn (was now : LogAndAnswer) (told : PgpInfo) (status : ℕ) : Type 0 where
+  pub answer : now.answer ≡ was.answer
+  pub bad : (IsInfo told → ⊥) → (now.log ≡ was.log) × (status ≡ status_number BadArgument)
+  pub good : IsInfo told → IsTaken was now (entry_of told) status ⊎ IsLacking was now status
+
+-- An info was told to a session, where there is one.
+abbrev pub Submits : Option LogAndAnswer → Option LogAndAnswer → PgpInfo → ℕ → Type 0
+Submits None now told status = (now ≡ None) × (status ≡ status_number NotOpen)
+Submits (Some was) None told status = ⊥
+Submits (Some was) (Some now) told status = SubmitsIn was now told status

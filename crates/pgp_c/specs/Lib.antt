@@ -1,0 +1,9 @@
+pub mod Held
+pub mod Status
+pub mod Place
+pub mod View
+pub mod Ask
+pub mod Info
+pub mod Lists
+pub mod Exports
+pub mod Locate

@@ -1,0 +1,74 @@
+//! A session behind a pointer that a C program holds.
+
+ghost use Rattle.std.specs.Prelude.{◌≡◌, Option, Some, None, true, is_some};
+ghost use Rattle.pgp_core.specs.Session.{LogAndAnswer};
+ghost use Rattle.pgp_c.specs.Held.{held_owns, session_coded};
+
+mod parts;
+
+use parts::Parts;
+use pgp_core::Session;
+use std::alloc::Global;
+use std::marker::Model;
+use std::ptr::null_mut;
+
+/// A pointer to a session on the heap, or null. Its type is that of bytes, since C never looks at what it points to.
+#[repr(C)]
+#[derive(Drop)]
+pub struct Held {
+    at: *mut u8,
+    alloc: Global,
+    pub ghost session: { Option LogAndAnswer } by { session_coded },
+}
+
+impl Model for Held {
+    ghost also_owns = { λ held. held_owns held.alloc held.at held.session };
+}
+
+impl Held {
+    /// Null.
+    pub fn none(alloc: Global) -> Held
+        ensures { result.session ≡ None }
+    {
+        Held {
+            at: null_mut(),
+            alloc,
+        }
+    }
+
+    /// The pointer to what the box holds.
+    pub fn of(session: Box<Session>) -> Held
+        ensures { result.session ≡ Some session.value }
+    {
+        Held::of_parts(Parts::of(session))
+    }
+
+    /// The box again.
+    pub fn into_box(self) -> Box<Session>
+        requires { is_some self.session ≡ true }
+        ensures { self.session ≡ Some result.value }
+    {
+        self.into_parts().into_box()
+    }
+
+    fn of_parts(parts: Parts<Session, Global>) -> Held
+        ensures { result.session ≡ Some parts.value }
+    {
+        let Parts { ptr, alloc } = parts;
+        Held {
+            at: ptr as *mut u8,
+            alloc,
+        }
+    }
+
+    fn into_parts(self) -> Parts<Session, Global>
+        requires { is_some self.session ≡ true }
+        ensures { self.session ≡ Some result.value }
+    {
+        let Held { at, alloc } = self;
+        Parts {
+            ptr: at as *mut Session,
+            alloc,
+        }
+    }
+}

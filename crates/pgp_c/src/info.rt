@@ -1,0 +1,101 @@
+//! What a member tells of its copy of a group, as C tells it.
+
+ghost use Rattle.std.specs.Prelude.{◌≡◌, ◌↔◌, ◌≤◌, IsSome, IfSome};
+ghost use Rattle.pgp_c.specs.Info.{IsInfo, SubmitsIn, info_of};
+
+use super::ask::group_of;
+use super::status::Status;
+use pgp_core::Session;
+use pgp_ids::{Entry, Epoch, Info, Member, OsdId, Version};
+use pgp_replies::{Refused, Reply};
+
+/// The greatest slot of a member.
+const LAST_SLOT: u32 = 15;
+
+/// What a member tells of its copy of a group.
+#[repr(C)]
+#[derive(Clone, Copy)]
+pub struct PgpInfo {
+    /// 1 to 255.
+    pub pool: u32,
+    /// 0 to 1,023.
+    pub pg: u32,
+    /// The device that sent it, 0 to 4,095.
+    pub osd: u32,
+    /// Its slot, 0 to 15.
+    pub slot: u32,
+    /// The sender's epoch.
+    pub stamp: u32,
+    /// The last epoch in which its copy began to serve.
+    pub les: u32,
+    /// The last epoch in which the group began to serve, as far as it knows.
+    pub history_les: u32,
+    /// The last epoch in which the group was clean, as far as it knows; 0 where it knows of none.
+    pub last_epoch_clean: u32,
+    /// The epoch and the number of the last write that the copy has.
+    pub last_update_epoch: u32,
+    pub last_update: u32,
+    /// The epoch and the number of the version before the first entry of its log.
+    pub log_tail_epoch: u32,
+    pub log_tail: u32,
+    /// Whether the copy has each object of the group.
+    pub complete: bool,
+}
+
+/// Tells the session an info.
+pub fn submit_info(session: &mut Session, told: &PgpInfo) -> u32
+    ensures { SubmitsIn session.old session.new told.now result }
+{
+    let Some(info) = info_of(told) else {
+        return Status::BadArgument.number();
+    };
+    match session.submit(Entry::Info(info)) {
+        Ok(Reply::Refused(Refused::Entry(refusal))) => u32::from(refusal.number()),
+        Ok(_) => Status::Done.number(),
+        Err(_) => Status::NoMemory.number(),
+    }
+}
+
+/// The info of these numbers, where there can be one.
+fn info_of(told: &PgpInfo) -> Option<Info>
+    ensures in_range { IsSome result ↔ IsInfo told.now }
+    ensures value { IfSome result (λ info. info ≡ info_of told.now) }
+{
+    let pg = group_of(told.pool, told.pg)?;
+    let member = member_of(told.osd, told.slot)?;
+    Some(Info {
+        pg,
+        member,
+        stamp: Epoch::new(told.stamp),
+        les: Epoch::new(told.les),
+        history_les: Epoch::new(told.history_les),
+        last_epoch_clean: Epoch::new(told.last_epoch_clean),
+        last_update: version_of(told.last_update_epoch, told.last_update),
+        log_tail: version_of(told.log_tail_epoch, told.log_tail),
+        complete: told.complete,
+    })
+}
+
+/// The member of these numbers, where there can be one.
+fn member_of(osd: u32, slot: u32) -> Option<Member>
+    ensures in_range { IsSome result ↔ ((osd ≤ 4095) × (slot ≤ 15)) }
+    ensures value { IfSome result (λ member. (member.osd ≡ osd) × (member.slot ≡ slot)) }
+{
+    if osd > u32::from(OsdId::MAX) || slot > LAST_SLOT {
+        return None;
+    }
+    let osd = OsdId::new(osd as u16)?;
+    Some(Member {
+        osd,
+        slot: slot as u8,
+    })
+}
+
+fn version_of(epoch: u32, v: u32) -> Version
+    ensures { (result.epoch ≡ epoch) × (result.v ≡ v) }
+{
+    Version {
+        epoch: Epoch::new(epoch),
+        v,
+    }
+}

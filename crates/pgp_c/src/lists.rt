@@ -1,0 +1,214 @@
+//! The lists of what a log says of a placement group, as C reads them.
+
+ghost use Rattle.std.specs.Prelude.{◌≡◌, map};
+ghost use Rattle.pgp_c.specs.Lists.{ListsIn, device_of, interval_of, lacks, member_of, peer_of, peer_state_number};
+
+use super::ask::group_of;
+use super::each::{AsC, put_each};
+use super::place::{device_number, sixteen};
+use super::status::Status;
+use pgp_core::Session;
+use pgp_ids::{AskRefusal, Member, OsdId, Past, PeerMissing, PeerState};
+
+/// A member of a group.
+#[repr(C)]
+#[derive(Clone, Copy)]
+pub struct PgpMember {
+    pub osd: u16,
+    pub slot: u8,
+}
+
+/// A past interval of a group. A place without a device, one behind the end of its list, and a list without a primary have 65535.
+#[repr(C)]
+#[derive(Clone, Copy)]
+pub struct PgpInterval {
+    /// Its first epoch.
+    pub first: u32,
+    /// Its last epoch.
+    pub last: u32,
+    pub up_primary: u16,
+    pub acting_primary: u16,
+    pub size: u8,
+    pub min_size: u8,
+    /// How many places `up` has.
+    pub up_length: u8,
+    /// How many places `acting` has.
+    pub acting_length: u8,
+    pub up: [u16; 16],
+    pub acting: [u16; 16],
+    /// Whether the group may have gone read-write in it.
+    pub rw: bool,
+}
+
+/// The state of a member other than the best one.
+#[repr(C)]
+#[derive(Clone, Copy)]
+pub struct PgpPeer {
+    /// How many objects it lacks, where its state is 0.
+    pub objects: usize,
+    pub osd: u16,
+    pub slot: u8,
+    /// 0: it has all but these objects; 1: backfill; 2: diverged.
+    pub state: u8,
+}
+
+impl AsC<u16> for OsdId {
+    ghost as_c = { device_of };
+
+    fn as_c(&self) -> u16 {
+        self.number()
+    }
+}
+
+impl AsC<PgpMember> for Member {
+    ghost as_c = { member_of };
+
+    fn as_c(&self) -> PgpMember {
+        PgpMember {
+            osd: self.osd.number(),
+            slot: self.slot,
+        }
+    }
+}
+
+impl AsC<PgpInterval> for Past {
+    ghost as_c = { interval_of };
+
+    fn as_c(&self) -> PgpInterval {
+        PgpInterval {
+            first: self.first.number(),
+            last: self.last.number(),
+            up_primary: device_number(self.members.up_primary),
+            acting_primary: device_number(self.members.acting_primary),
+            size: self.members.size,
+            min_size: self.members.min_size,
+            up_length: self.members.up.len() as u8,
+            acting_length: self.members.acting.len() as u8,
+            up: sixteen(&self.members.up),
+            acting: sixteen(&self.members.acting),
+            rw: self.rw,
+        }
+    }
+}
+
+impl AsC<PgpPeer> for PeerMissing {
+    ghost as_c = { peer_of };
+
+    fn as_c(&self) -> PgpPeer {
+        PgpPeer {
+            objects: lacks(&self.state),
+            osd: self.member.osd.number(),
+            slot: self.member.slot,
+            state: state_number(&self.state),
+        }
+    }
+}
+
+/// How many objects a member lacks, where that is its state.
+fn lacks(state: &PeerState) -> usize
+    ensures { result ≡ lacks state.now }
+{
+    match state {
+        PeerState::Missing(objects) => objects.len(),
+        PeerState::Backfill | PeerState::Diverged => 0,
+    }
+}
+
+/// The number by which C knows a state.
+fn state_number(state: &PeerState) -> u8
+    ensures { result ≡ peer_state_number state.now }
+{
+    match state {
+        PeerState::Missing(_) => 0,
+        PeerState::Backfill => 1,
+        PeerState::Diverged => 2,
+    }
+}
+
+/// Puts the members that have to be heard into the room, where they fit, and says how many they are.
+pub fn put_probe(
+    session: &mut Session,
+    pool: u32,
+    pg: u32,
+    room: &mut [PgpMember],
+    count: &mut usize,
+) -> u32
+    requires { count.old ≡ 0 }
+    ensures same { session.new ≡ session.old }
+    ensures list { ListsIn session.old.log pool pg (λ view. map member_of view.probe) room.old room.new count.new result }
+{
+    let Some(pg) = group_of(pool, pg) else {
+        return Status::BadArgument.number();
+    };
+    match session.ask(pg) {
+        Ok(Some(found)) => put_each(found.probe.as_slice(), room, count).number(),
+        Ok(None) => u32::from(AskRefusal::UnknownGroup.number()),
+        Err(_) => Status::NoMemory.number(),
+    }
+}
+
+/// Puts the devices that block a group into the room, where they fit, and says how many they are.
+pub fn put_blocked_by(
+    session: &mut Session,
+    pool: u32,
+    pg: u32,
+    room: &mut [u16],
+    count: &mut usize,
+) -> u32
+    requires { count.old ≡ 0 }
+    ensures same { session.new ≡ session.old }
+    ensures list { ListsIn session.old.log pool pg (λ view. map device_of view.blocked_by) room.old room.new count.new result }
+{
+    let Some(pg) = group_of(pool, pg) else {
+        return Status::BadArgument.number();
+    };
+    match session.ask(pg) {
+        Ok(Some(found)) => put_each(found.blocked_by.as_slice(), room, count).number(),
+        Ok(None) => u32::from(AskRefusal::UnknownGroup.number()),
+        Err(_) => Status::NoMemory.number(),
+    }
+}
+
+/// Puts the past intervals of a group into the room, where they fit, and says how many they are.
+pub fn put_intervals(
+    session: &mut Session,
+    pool: u32,
+    pg: u32,
+    room: &mut [PgpInterval],
+    count: &mut usize,
+) -> u32
+    requires { count.old ≡ 0 }
+    ensures same { session.new ≡ session.old }
+    ensures list { ListsIn session.old.log pool pg (λ view. map interval_of view.intervals) room.old room.new count.new result }
+{
+    let Some(pg) = group_of(pool, pg) else {
+        return Status::BadArgument.number();
+    };
+    match session.ask(pg) {
+        Ok(Some(found)) => put_each(found.intervals.as_slice(), room, count).number(),
+        Ok(None) => u32::from(AskRefusal::UnknownGroup.number()),
+        Err(_) => Status::NoMemory.number(),
+    }
+}
+
+/// Puts the states of the other members that were heard into the room, where they fit, and says how many they are.
+pub fn put_missing(
+    session: &mut Session,
+    pool: u32,
+    pg: u32,
+    room: &mut [PgpPeer],
+    count: &mut usize,
+) -> u32
+    requires { count.old ≡ 0 }
+    ensures same { session.new ≡ session.old }
+    ensures list { ListsIn session.old.log pool pg (λ view. map peer_of view.missing) room.old room.new count.new result }
+{
+    let Some(pg) = group_of(pool, pg) else {
+        return Status::BadArgument.number();
+    };
+    match session.ask(pg) {
+        Ok(Some(found)) => put_each(found.missing.as_slice(), room, count).number(),
+        Ok(None) => u32::from(AskRefusal::UnknownGroup.number()),
+        Err(_) => Status::NoMemory.number(),
+    }
+}

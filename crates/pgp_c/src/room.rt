@@ -1,0 +1,18 @@
+ghost use Rattle.std.specs.Prelude.{◌≡◌, length};
+ghost use Rattle.pgp_c.specs.Exports.{put_in, put_status};
+
+use super::status::Status;
+
+/// Puts a text into the front of the room, where it fits, and says how long it is.
+pub fn put_out(text: &[u8], room: &mut [u8], len: &mut usize) -> Status
+    ensures room { room.new ≡ put_in text.now room.old }
+    ensures len { len.new ≡ length text.now }
+    ensures status { result ≡ put_status text.now room.old }
+{
+    *len = text.len();
+    if text.len() > room.len() {
+        return Status::RoomTooSmall;
+    }
+    room[..text.len()].copy_from_slice(text);
+    Status::Done
+}

@@ -1,0 +1,50 @@
+//! The session of a C program.
+
+ghost use Rattle.std.specs.Prelude.{◌≡◌, Some, None, is_some, option_map};
+
+use super::held::Held;
+use pgp_core::Session;
+use std::alloc::Global;
+
+/// What a C program keeps of a session: 16 bytes of its own, filled with zeros before the first call. It reads and writes none
+/// of them.
+#[repr(C)]
+#[derive(Drop)]
+pub struct PgpSession {
+    /// Whether there is a session.
+    pub is_open: bool,
+    /// The session.
+    pub held: Held,
+    ghost agrees: { is_open ≡ is_some held.session },
+}
+
+impl PgpSession {
+    /// Takes the session away, where there is one.
+    pub fn take(&mut self, alloc: Global) -> Option<Box<Session>>
+        ensures value { option_map (λ box. box.value) result ≡ self.old.held.session }
+        ensures closed { self.new.held.session ≡ None }
+    {
+        let taken = std::mem::replace(
+            self,
+            PgpSession {
+                is_open: false,
+                held: Held::none(alloc),
+            },
+        );
+        if taken.is_open {
+            Some(taken.held.into_box())
+        } else {
+            None
+        }
+    }
+
+    /// Puts a session in its place.
+    pub fn put(&mut self, session: Box<Session>)
+        ensures { self.new.held.session ≡ Some session.value }
+    {
+        *self = PgpSession {
+            is_open: true,
+            held: Held::of(session),
+        };
+    }
+}

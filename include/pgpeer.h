@@ -1,0 +1,257 @@
+/* pgpeer.h: the placement-group peering core, as a static library.
+ *
+ * A session is one log of map incrementals and reports, told and asked on one thread. It starts no thread and takes no lock.
+ * docs/EMBEDDING.md says how to link it, docs/FORMAT.md has the lines and their answers.
+ *
+ * What a caller owes, at each call:
+ *
+ * - No pointer is null. A pointer with a length has that many bytes behind it, which nothing else reads or writes during the
+ *   call, and which don't overlap what another argument points to.
+ * - A pgp_session is filled with zeros before its first call, and else is as the last call left it. It isn't copied, and its
+ *   fields are neither read nor written.
+ * - A session is given to one call at a time, and stays on the thread that opened it.
+ * - No call is made from a signal handler, or in the child that a process with threads forked.
+ *
+ * The library takes memory by malloc, realloc and free.
+ */
+#ifndef PGPEER_H
+#define PGPEER_H
+
+#include <stdbool.h>
+#include <stddef.h>
+#include <stdint.h>
+
+#ifdef __cplusplus
+extern "C" {
+#endif
+
+/* A session. `pgp_session session = PGP_SESSION;` has it filled with zeros. */
+typedef struct pgp_session {
+    bool is_open_;
+    void *held_;
+} pgp_session;
+
+#define PGP_SESSION {0}
+
+/* What became of a call: one of these, or the number of a refusal. */
+enum {
+    PGP_DONE = 0,           /* it did what its name says */
+    PGP_ROOM_TOO_SMALL = 1, /* it did, and the room is too small for what it gives */
+    PGP_NO_MEMORY = 2,      /* there was no memory, and the log is as before */
+    PGP_NOT_OPEN = 3,       /* the session isn't open */
+    PGP_ALREADY_OPEN = 4,   /* the session is open already */
+    PGP_BAD_ARGUMENT = 5,   /* an argument is none that there can be, and nothing happened */
+
+    /* pgp_ask and the calls of lists */
+    PGP_ASK_UNKNOWN_GROUP = 40,
+
+    /* pgp_locate */
+    PGP_UNKNOWN_POOL = 42,
+
+    /* pgp_submit_info: the log doesn't take the entry */
+    PGP_LOG_FULL = 50,
+    PGP_UNKNOWN_GROUP = 60,
+    PGP_UNKNOWN_MEMBER = 61,
+    PGP_FUTURE_STAMP = 62,
+    PGP_BAD_VERSION = 63,
+    PGP_CLOSED = 64
+};
+
+/* Whether a group may serve, and if not, what it waits for. */
+enum {
+    PGP_NO_PRIMARY = 0,
+    PGP_DOWN = 1,
+    PGP_WAITING = 2,
+    PGP_INCOMPLETE = 3,
+    PGP_SHORT = 4,
+    PGP_NEED_LOG = 5,
+    PGP_NEED_UP_THRU = 6,
+    PGP_SERVE = 7
+};
+
+/* How the copy of a member compares with the best one. */
+enum {
+    PGP_MISSING = 0,
+    PGP_BACKFILL = 1,
+    PGP_DIVERGED = 2
+};
+
+/* Stands for no device: at a place without one, behind the end of a list of places, and where there is no primary or best. */
+#define PGP_NO_DEVICE 65535
+
+/* The longest line, without its line feed. A longer one is answered by LineTooLong. */
+#define PGP_LONGEST_LINE 1048576
+
+/* Opens a session of an empty log: PGP_DONE, PGP_ALREADY_OPEN or PGP_NO_MEMORY. */
+uint32_t pgp_open(pgp_session *session);
+
+/* Ends a session and frees all that it has: PGP_DONE, or PGP_NOT_OPEN where there is none. It may be opened again. */
+uint32_t pgp_close(pgp_session *session);
+
+/* Tells a session a line, given without its line feed, and puts the answer into the front of the room: the same bytes as
+ * `pgpeer run` writes for the line, with the line feed at their end. A blank line has an answer of no bytes.
+ *
+ * *answer_length is the length of the answer; 0 where the session isn't open. The answer is put into the room where it fits,
+ * and else the room stays as it was.
+ *
+ *   PGP_DONE            the line was answered, and the answer is in the room
+ *   PGP_ROOM_TOO_SMALL  the line was answered, and if it is an entry that the log takes, the log has it; pgp_answer gives the
+ *                       answer, until the next line
+ *   PGP_NO_MEMORY       there was no memory for the line or its answer. The log is as before, and the answer, which is in the
+ *                       room where it fits, is the one that `pgpeer run` writes then: refusal 41, or 51 for an entry. The same
+ *                       line may be told again.
+ *   PGP_NOT_OPEN        nothing happened
+ */
+uint32_t pgp_line(pgp_session *session, const uint8_t *line, size_t line_length, uint8_t *room, size_t room_length,
+                  size_t *answer_length);
+
+/* Puts the answer to the last line into the room again, as pgp_line does: PGP_DONE, PGP_ROOM_TOO_SMALL or PGP_NOT_OPEN. */
+uint32_t pgp_answer(pgp_session *session, uint8_t *room, size_t room_length, size_t *answer_length);
+
+/* Where an object lies. */
+typedef struct pgp_place {
+    uint32_t epoch;          /* of the map */
+    uint16_t pg;             /* the number of the group in its pool */
+    uint16_t up_primary;
+    uint16_t acting_primary;
+    uint8_t size;            /* how many copies or shards the pool keeps, 1 to 16 */
+    uint8_t min_size;        /* with how many members the group may serve */
+    uint8_t up_length;       /* how many places `up` has */
+    uint8_t acting_length;   /* how many places `acting` has */
+    uint16_t up[16];
+    uint16_t acting[16];
+} pgp_place;
+
+/* Puts where the object of this name lies into *place, by the map of the session's log. The name has 1 to 255 bytes of UTF-8, the
+ * pool 1 to 255. Any other status than PGP_DONE leaves *place as it was: PGP_UNKNOWN_POOL, PGP_BAD_ARGUMENT, PGP_NOT_OPEN, and
+ * PGP_NO_MEMORY, which comes only for a name of more than 24 bytes. */
+uint32_t pgp_locate(pgp_session *session, uint32_t pool, const uint8_t *name, size_t name_length, pgp_place *place);
+
+/* What a log says of a placement group. */
+typedef struct pgp_view {
+    size_t count;            /* how many entries the log has */
+    size_t intervals;        /* how many past intervals there are: pgp_intervals gives them */
+    size_t probe;            /* how many members have to be heard: pgp_probe */
+    size_t blocked_by;       /* how many devices block the group: pgp_blocked_by */
+    size_t missing;          /* of how many members the state is known: pgp_missing */
+    uint32_t epoch;          /* of the last map */
+    uint32_t first;          /* the first epoch of the current interval */
+    uint32_t les;            /* the last epoch in which the group is known to have begun to serve, 0 if none is known */
+    uint32_t verdict;        /* PGP_NO_PRIMARY to PGP_SERVE */
+    uint16_t up_primary;
+    uint16_t acting_primary;
+    uint16_t best_osd;       /* the device of the best member */
+    uint8_t best_slot;       /* its slot, 0 where there is none */
+    uint8_t up_length;       /* how many places `up` has */
+    uint8_t acting_length;   /* how many places `acting` has */
+    uint16_t up[16];
+    uint16_t acting[16];
+} pgp_view;
+
+/* Puts what the session's log says of group `pg` of the pool into *view: PGP_DONE. Any other status leaves *view as it was:
+ * PGP_ASK_UNKNOWN_GROUP, PGP_BAD_ARGUMENT (a pool that isn't 1 to 255, a group above 1023), PGP_NO_MEMORY, PGP_NOT_OPEN. */
+uint32_t pgp_ask(pgp_session *session, uint32_t pool, uint32_t pg, pgp_view *view);
+
+/* A member of a group: a device in a slot. */
+typedef struct pgp_member {
+    uint16_t osd;
+    uint8_t slot;
+} pgp_member;
+
+/* A past interval of a group. */
+typedef struct pgp_interval {
+    uint32_t first;
+    uint32_t last;
+    uint16_t up_primary;
+    uint16_t acting_primary;
+    uint8_t size;
+    uint8_t min_size;
+    uint8_t up_length;
+    uint8_t acting_length;
+    uint16_t up[16];
+    uint16_t acting[16];
+    bool rw;                 /* whether the group may have gone read-write in it */
+} pgp_interval;
+
+/* The state of a member other than the best one. */
+typedef struct pgp_peer {
+    size_t objects;          /* how many objects it lacks, where its state is PGP_MISSING; else 0 */
+    uint16_t osd;
+    uint8_t slot;
+    uint8_t state;           /* PGP_MISSING, PGP_BACKFILL or PGP_DIVERGED */
+} pgp_peer;
+
+/* Each puts a list of what the session's log says of a group into the front of the room, which has places for `room_length` of
+ * them, and how many they are into *count. PGP_ROOM_TOO_SMALL says by *count how many places it wants, and leaves the room as it
+ * was. At any other status than these two, which are those of pgp_ask, *count is 0. */
+uint32_t pgp_probe(pgp_session *session, uint32_t pool, uint32_t pg, pgp_member *room, size_t room_length, size_t *count);
+uint32_t pgp_blocked_by(pgp_session *session, uint32_t pool, uint32_t pg, uint16_t *room, size_t room_length, size_t *count);
+uint32_t pgp_intervals(pgp_session *session, uint32_t pool, uint32_t pg, pgp_interval *room, size_t room_length, size_t *count);
+uint32_t pgp_missing(pgp_session *session, uint32_t pool, uint32_t pg, pgp_peer *room, size_t room_length, size_t *count);
+
+/* What a member tells of its copy of a group. */
+typedef struct pgp_info {
+    uint32_t pool;              /* 1 to 255 */
+    uint32_t pg;                /* 0 to 1023 */
+    uint32_t osd;               /* the device that sent it, 0 to 4095 */
+    uint32_t slot;              /* its slot, 0 to 15 */
+    uint32_t stamp;             /* the sender's epoch */
+    uint32_t les;               /* the last epoch in which its copy began to serve */
+    uint32_t history_les;       /* the last epoch in which the group began to serve, as far as it knows */
+    uint32_t last_epoch_clean;  /* the last epoch in which the group was clean, as far as it knows; 0 where it knows of none */
+    uint32_t last_update_epoch; /* the last write that the copy has: its epoch and its number */
+    uint32_t last_update;
+    uint32_t log_tail_epoch;    /* the version before the first entry of its log */
+    uint32_t log_tail;
+    bool complete;              /* whether the copy has each object of the group */
+} pgp_info;
+
+/* Tells a session an info, as the line of op "info" does: PGP_DONE where the log takes it. The log stays at any other status: the
+ * number of the refusal, PGP_BAD_ARGUMENT where a number isn't in its range, PGP_NO_MEMORY, or PGP_NOT_OPEN. The answer to the last
+ * line is kept. */
+uint32_t pgp_submit_info(pgp_session *session, const pgp_info *info);
+
+/* The version of the library: ten thousand times the first part, a hundred times the second, and the third. */
+uint32_t pgp_version(void);
+
+/* The name of a status, and "unknown" for a number that is none. */
+static inline const char *pgp_status_name(uint32_t status) {
+    switch (status) {
+    case PGP_DONE: return "Done";
+    case PGP_ROOM_TOO_SMALL: return "RoomTooSmall";
+    case PGP_NO_MEMORY: return "NoMemory";
+    case PGP_NOT_OPEN: return "NotOpen";
+    case PGP_ALREADY_OPEN: return "AlreadyOpen";
+    case PGP_BAD_ARGUMENT: return "BadArgument";
+    case PGP_UNKNOWN_POOL: return "UnknownPool";
+    case PGP_LOG_FULL: return "LogFull";
+    case PGP_ASK_UNKNOWN_GROUP:
+    case PGP_UNKNOWN_GROUP: return "UnknownGroup";
+    case PGP_UNKNOWN_MEMBER: return "UnknownMember";
+    case PGP_FUTURE_STAMP: return "FutureStamp";
+    case PGP_BAD_VERSION: return "BadVersion";
+    case PGP_CLOSED: return "Closed";
+    default: return "unknown";
+    }
+}
+
+/* The name of a verdict, as answers have it, and "unknown" for a number that is none. */
+static inline const char *pgp_verdict_name(uint32_t verdict) {
+    switch (verdict) {
+    case PGP_NO_PRIMARY: return "NoPrimary";
+    case PGP_DOWN: return "Down";
+    case PGP_WAITING: return "Waiting";
+    case PGP_INCOMPLETE: return "Incomplete";
+    case PGP_SHORT: return "Short";
+    case PGP_NEED_LOG: return "NeedLog";
+    case PGP_NEED_UP_THRU: return "NeedUpThru";
+    case PGP_SERVE: return "Serve";
+    default: return "unknown";
+    }
+}
+
+#ifdef __cplusplus
+}
+#endif
+
+#endif

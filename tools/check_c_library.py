@@ -1,0 +1,148 @@
+#!/usr/bin/env python3
+"""Checks the static library for C against the stored scripts, the examples and the sources.
+
+    tools/check_c_library.py [FOLDER]
+
+FOLDER is what tools/build_c_library.sh made: crates/pgp_c/out/c where none is given, which is made first. Needs a C compiler, cc or
+$CC. What is checked, each with a line:
+
+  names      the numbers and names of pgpeer.h are those of the sources in Rattle
+  stored     each script of crates/pgp_scripts has its stored answers, told to a session of its own, with rooms of several sizes,
+             on one thread and on two
+  refused    the same of short scripts, with each call of malloc and realloc refused in turn
+  typed      what pgp_locate, pgp_ask, the lists and pgp_submit_info give is what the answers to lines say
+  example    examples/c and examples/python print the stored answers to each script of examples/
+  memory     valgrind finds no fault and no leak in a short script, where there is a valgrind
+  C++        pgpeer.h is read by c++, where there is one
+
+The last line is `N checks, M wrong`, and the status is 1 where something was wrong.
+"""
+
+import os
+import pathlib
+import re
+import shutil
+import subprocess
+import sys
+import tempfile
+
+ROOT = pathlib.Path(__file__).resolve().parent.parent
+STRICT = ["-std=c11", "-Wall", "-Wextra", "-Werror", "-O1"]
+WRAPPED = "-Wl,--wrap=malloc,--wrap=realloc"
+SHORT = ("first", "outage", "explain_need_log")  # examples, for each call of the allocator
+
+
+def run(*words, **more):
+    return subprocess.run([str(word) for word in words], capture_output=True, timeout=240, check=False, **more)
+
+
+def compiled(folder, program, *words):
+    """Builds a program of these words over the archive."""
+    built = run(os.environ.get("CC", "cc"), *STRICT, f"-I{folder}", "-o", program, *words, folder / "libpgpeer.a")
+    if built.returncode:
+        sys.exit(f"check_c_library.py: {built.stderr.decode()}")
+    return program
+
+
+# Names and numbers
+
+
+def numbers_in(source, pattern):
+    """The names and numbers of the arms of a function of the source."""
+    return {name: int(number) for name, number in re.findall(pattern, (ROOT / "crates" / source).read_text())}
+
+
+def upper(name):
+    return "PGP_" + re.sub(r"(?<!^)(?=[A-Z])", "_", name).upper()
+
+
+def wrong_names(header):
+    """What of the header isn't what the sources say."""
+    told = {name: int(number) for name, number in re.findall(r"(PGP_[A-Z_]+)(?: =| ) ?(\d+)", header)}
+    wanted = {"PGP_LONGEST_LINE": 1_048_576, "PGP_NO_DEVICE": 65535, "PGP_ASK_UNKNOWN_GROUP": 40}
+    for source, pattern in (
+        ("pgp_c/src/status.rt", r"Status::(\w+) => (\d+)"),
+        ("pgp_c/src/view.rt", r"Verdict::(\w+) => (\d+)"),
+        ("pgp_c/src/lists.rt", r"PeerState::(\w+)(?:\(_\))? => (\d),\n"),
+        ("pgp_refusals/src/locate_refusal.rt", r"LocateRefusal::(UnknownPool) => (\d+)"),
+        ("pgp_refusals/src/refusal.rt", r"Refusal::(LogFull|UnknownGroup|UnknownMember|FutureStamp|BadVersion|Closed) => (\d+)"),
+    ):
+        wanted.update({upper(name): number for name, number in numbers_in(source, pattern).items()})
+    return [f"{name}: {told.get(name)} in the header, {wanted.get(name)} in the sources" for name in {*told, *wanted} if told.get(name) != wanted.get(name)]
+
+
+# Scripts
+
+
+def examples():
+    """Each script of examples/ with its answers."""
+    for script in sorted((ROOT / "examples").glob("*.jsonl")):
+        answers = script.with_suffix("").with_suffix(".answers.jsonl")
+        if answers.exists() and script != answers:
+            yield script, answers
+
+
+def wrong_runs(play):
+    scripts = ROOT / "crates/pgp_scripts"
+    for how in ([], ["threads"]):
+        ended = run(play, scripts / "stdin", scripts / "stdout", *how)
+        if ended.returncode:
+            yield f"stored scripts {how}: {ended.stderr.decode()}"
+
+
+def wrong_refusals(play):
+    for name in SHORT:
+        ended = run(play, ROOT / f"examples/{name}.jsonl", ROOT / f"examples/{name}.answers.jsonl", "refuse")
+        if ended.returncode:
+            yield f"{name}: {ended.stderr.decode()}"
+
+
+def wrong_examples(folder, outage):
+    python = [sys.executable, "-B", ROOT / "examples/python/pgpeer.py"]
+    env = {**os.environ, "PGPEER_SO": str(folder / "libpgpeer.so")}
+    for script, answers in examples():
+        for words in ([outage], python):
+            ended = run(*words, input=script.read_bytes(), env=env)
+            if ended.stdout != answers.read_bytes() or ended.returncode:
+                yield f"{script.name}, {words[-1]}: {ended.stderr.decode()[-300:]}"
+
+
+def faults(ended):
+    return [ended.stderr.decode()[-600:]] if ended.returncode else []
+
+
+def main():
+    if len(sys.argv) > 2:
+        sys.exit("check_c_library.py: usage: tools/check_c_library.py [FOLDER]")
+    folder = pathlib.Path(sys.argv[1] if len(sys.argv) == 2 else ROOT / "crates/pgp_c/out/c").resolve()
+    if len(sys.argv) < 2:
+        subprocess.run([str(ROOT / "tools/build_c_library.sh"), str(folder)], check=True, stdout=subprocess.DEVNULL)
+    tests = ROOT / "tools/tests/c"
+    with tempfile.TemporaryDirectory() as work:
+        play = compiled(folder, pathlib.Path(work) / "play", WRAPPED, tests / "play.c", "-pthread")
+        typed = compiled(folder, pathlib.Path(work) / "typed", tests / "typed.c")
+        outage = compiled(folder, pathlib.Path(work) / "outage", ROOT / "examples/c/outage.c")
+        checks = {
+            "names": wrong_names((folder / "pgpeer.h").read_text()),
+            "stored": list(wrong_runs(play)),
+            "refused": list(wrong_refusals(play)),
+            "typed": faults(run(typed)),
+            "example": list(wrong_examples(folder, outage)),
+        }
+        if shutil.which("valgrind"):
+            first = [ROOT / "examples/outage.jsonl", ROOT / "examples/outage.answers.jsonl"]
+            watched = ["valgrind", "-q", "--leak-check=full", "--error-exitcode=3"]
+            checks["memory"] = faults(run(*watched, play, *first)) + faults(run(*watched, typed))
+        if shutil.which("c++"):
+            checks["C++"] = faults(run("c++", "-std=c++17", "-Wall", "-Wextra", "-Werror", "-fsyntax-only", "-x", "c++", folder / "pgpeer.h"))
+    for name, wrong in checks.items():
+        print(name, "wrong" if wrong else "right")
+        for line in wrong:
+            print("   ", line)
+    failed = sum(1 for wrong in checks.values() if wrong)
+    print(f"{len(checks)} checks, {failed} wrong")
+    return int(failed > 0)
+
+
+if __name__ == "__main__":
+    sys.exit(main())

@@ -1,0 +1,143 @@
+// The calls of pgpeer.h that take and give values, held against lines, for tools/check_c_library.py.
+//
+// Ends in status 1 where something is wrong, and says what.
+#include <stdio.h>
+#include <stdlib.h>
+#include <string.h>
+
+#include "pgpeer.h"
+
+#define CHECK(holds) \
+    do { \
+        if (!(holds)) { \
+            fprintf(stderr, "typed: line %d: %s\n", __LINE__, #holds); \
+            exit(1); \
+        } \
+    } while (0)
+
+static pgp_session session = PGP_SESSION;
+static char answer[1 << 16];
+
+// Tells the session a line, and keeps the answer as a string.
+static const char *tell(const char *line) {
+    size_t length;
+    uint32_t status = pgp_line(&session, (const uint8_t *)line, strlen(line), (uint8_t *)answer, sizeof answer - 1, &length);
+    CHECK(status == PGP_DONE);
+    answer[length] = 0;
+    return answer;
+}
+
+static int has(const char *part) {
+    return strstr(answer, part) != NULL;
+}
+
+static uint32_t locate(uint32_t pool, const char *name, pgp_place *place) {
+    return pgp_locate(&session, pool, (const uint8_t *)name, strlen(name), place);
+}
+
+// The eight lines of the README's outage, with the infos told in values.
+static void outage(void) {
+    tell("{\"op\":\"inc\",\"epoch\":1,\"up\":[0,1,2],\"weight\":[[1,0],[2,0]],\"up_thru\":[[0,1]],\"crush\":[{\"id\":-1,\"type\":1,"
+         "\"alg\":\"uniform\",\"items\":[0,1,2]}],\"pools\":[{\"id\":1,\"pg_num\":1,\"kind\":\"replicated\",\"size\":3,\"min_size\":2,"
+         "\"leaf\":0}],\"temp\":[[1,0,[0,1,2]]]}");
+    CHECK(has("\"ok\":\"inc\""));
+    tell("{\"op\":\"inc\",\"epoch\":2,\"down\":[0]}");
+    pgp_view view;
+    CHECK(pgp_ask(&session, 1, 0, &view) == PGP_DONE);
+    CHECK(view.verdict == PGP_WAITING && view.count == 2 && view.epoch == 2 && view.first == 2 && view.intervals == 1);
+    CHECK(view.best_osd == PGP_NO_DEVICE && view.probe == 2 && view.missing == 0);
+    pgp_info info = {.pool = 1, .osd = 1, .stamp = 2, .last_update_epoch = 1, .last_update = 2, .complete = true};
+    CHECK(pgp_submit_info(&session, &info) == PGP_DONE);
+    info.osd = 2;
+    info.last_update = 1;
+    CHECK(pgp_submit_info(&session, &info) == PGP_DONE);
+    tell("{\"op\":\"entries\",\"pg\":[1,0],\"from\":[1,0],\"stamp\":2,\"log\":[[1,1,\"modify\",\"a\"],[1,2,\"modify\",\"b\"]]}");
+    tell("{\"op\":\"inc\",\"epoch\":3,\"up_thru\":[[1,2]]}");
+}
+
+static void views(void) {
+    tell("{\"op\":\"ask\",\"pg\":[1,0]}");
+    CHECK(has("\"verdict\":\"Serve\"") && has("\"best\":[1,0]") && has("\"count\":6,\"epoch\":3,\"first\":2"));
+    pgp_view view;
+    CHECK(pgp_ask(&session, 1, 0, &view) == PGP_DONE);
+    CHECK(view.verdict == PGP_SERVE && strcmp(pgp_verdict_name(view.verdict), "Serve") == 0);
+    CHECK(view.count == 6 && view.epoch == 3 && view.first == 2 && view.les == 0);
+    CHECK(view.best_osd == 1 && view.best_slot == 0 && view.acting_primary == 1 && view.up_primary == PGP_NO_DEVICE);
+    CHECK(view.acting_length == 2 && view.acting[0] == 1 && view.acting[1] == 2 && view.acting[2] == PGP_NO_DEVICE);
+    CHECK(view.up_length == 0 && view.up[0] == PGP_NO_DEVICE && view.acting[15] == PGP_NO_DEVICE);
+    CHECK(view.intervals == 1 && view.probe == 2 && view.blocked_by == 0 && view.missing == 1);
+}
+
+static void lists(void) {
+    size_t count = 99;
+    pgp_member probe[3] = {{7, 7}, {7, 7}, {7, 7}};
+    CHECK(pgp_probe(&session, 1, 0, probe, 1, &count) == PGP_ROOM_TOO_SMALL && count == 2 && probe[0].osd == 7);
+    CHECK(pgp_probe(&session, 1, 0, probe, 3, &count) == PGP_DONE && count == 2);
+    CHECK(probe[0].osd == 1 && probe[0].slot == 0 && probe[1].osd == 2 && probe[2].osd == 7);
+    pgp_interval past[1];
+    CHECK(pgp_intervals(&session, 1, 0, past, 1, &count) == PGP_DONE && count == 1);
+    CHECK(past->first == 1 && past->last == 1 && past->rw && past->size == 3 && past->min_size == 2);
+    CHECK(past->acting_length == 3 && past->acting[2] == 2 && past->acting_primary == 0 && past->up_length == 1);
+    uint16_t devices[1] = {7};
+    CHECK(pgp_blocked_by(&session, 1, 0, devices, 1, &count) == PGP_DONE && count == 0 && devices[0] == 7);
+    pgp_peer peers[1];
+    CHECK(pgp_missing(&session, 1, 0, peers, 1, &count) == PGP_DONE && count == 1);
+    CHECK(peers->osd == 2 && peers->slot == 0 && peers->state == PGP_MISSING && peers->objects == 1);
+    CHECK(pgp_missing(&session, 1, 1, peers, 1, &count) == PGP_ASK_UNKNOWN_GROUP && count == 0);
+    CHECK(pgp_missing(&session, 0, 0, peers, 1, &count) == PGP_BAD_ARGUMENT && count == 0);
+}
+
+static void places(void) {
+    tell("{\"op\":\"locate\",\"pool\":1,\"name\":\"a\"}");
+    CHECK(has("\"acting\":[1,2]") && has("\"epoch\":3") && has("\"pg\":[1,0]"));
+    pgp_place place;
+    CHECK(locate(1, "a", &place) == PGP_DONE);
+    CHECK(place.epoch == 3 && place.pg == 0 && place.acting_length == 2 && place.acting[0] == 1 && place.acting_primary == 1);
+    CHECK(place.up_length == 0 && place.up_primary == PGP_NO_DEVICE && place.size == 3 && place.min_size == 2);
+    CHECK(locate(1, "a name of more than twenty-four bytes", &place) == PGP_DONE);
+    place.epoch = 77;
+    CHECK(locate(2, "a", &place) == PGP_UNKNOWN_POOL && locate(0, "a", &place) == PGP_BAD_ARGUMENT);
+    CHECK(locate(256, "a", &place) == PGP_BAD_ARGUMENT && locate(1, "", &place) == PGP_BAD_ARGUMENT);
+    CHECK(locate(1, "\xff", &place) == PGP_BAD_ARGUMENT && place.epoch == 77);
+}
+
+static void refusals(void) {
+    pgp_info info = {.pool = 1, .osd = 1, .stamp = 9, .complete = true};
+    CHECK(pgp_submit_info(&session, &info) == PGP_FUTURE_STAMP);
+    info.pg = 1;
+    CHECK(pgp_submit_info(&session, &info) == PGP_UNKNOWN_GROUP);
+    info.pg = 1024;
+    CHECK(pgp_submit_info(&session, &info) == PGP_BAD_ARGUMENT);
+    info.pg = 0;
+    info.slot = 16;
+    CHECK(pgp_submit_info(&session, &info) == PGP_BAD_ARGUMENT);
+    pgp_view view;
+    CHECK(pgp_ask(&session, 1, 0, &view) == PGP_DONE && view.count == 6);
+    CHECK(pgp_ask(&session, 1, 1, &view) == PGP_ASK_UNKNOWN_GROUP && pgp_ask(&session, 1, 1024, &view) == PGP_BAD_ARGUMENT);
+    tell("{\"op\":\"close\"}");
+    CHECK(pgp_submit_info(&session, &(pgp_info){.pool = 1, .osd = 1}) == PGP_CLOSED);
+}
+
+static void closed(void) {
+    size_t count;
+    pgp_view view;
+    pgp_place place;
+    pgp_member member;
+    CHECK(pgp_ask(&session, 1, 0, &view) == PGP_NOT_OPEN && locate(1, "a", &place) == PGP_NOT_OPEN);
+    CHECK(pgp_probe(&session, 1, 0, &member, 1, &count) == PGP_NOT_OPEN && count == 0);
+    CHECK(pgp_submit_info(&session, &(pgp_info){.pool = 1}) == PGP_NOT_OPEN);
+}
+
+int main(void) {
+    closed();
+    CHECK(pgp_open(&session) == PGP_DONE);
+    outage();
+    views();
+    lists();
+    places();
+    refusals();
+    CHECK(pgp_close(&session) == PGP_DONE);
+    closed();
+    CHECK(pgp_version() == 100);
+    return 0;
+}
