@@ -1,1 +1,9 @@
+pub mod Text
+pub mod Names
+pub mod Spans
+pub mod Sentence
+pub mod Words
+pub mod Json
+pub mod Summary
+pub mod SummaryText
 pub mod Reading

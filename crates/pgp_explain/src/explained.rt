@@ -1,3 +1,7 @@
+ghost use Rattle.std.specs.Prelude.{◌≡◌, IfOk};
+ghost use Rattle.pgp_group.specs.Heard.{has_member};
+ghost use Rattle.pgp_explain.specs.Sentence.{naming_of, unheard_of};
+
 use super::names::Naming;
 use super::offset::EpochOffset;
 use pgp_ids::{Info, Member, PgId, View};
@@ -20,7 +24,9 @@ pub struct Explained {
 
 impl Explained {
     /// How its members and epochs are told.
-    pub(crate) fn naming(&self, offset: EpochOffset) -> Naming {
+    pub(crate) fn naming(&self, offset: EpochOffset) -> Naming
+        ensures { result ≡ naming_of self.now offset }
+    {
         Naming {
             by_place: self.by_place,
             offset,
@@ -28,7 +34,10 @@ impl Explained {
     }
 
     /// The members that have to be heard and haven't been, in ascending order.
-    pub(crate) fn unheard(&self, alloc: Global) -> Result<Vec<Member>, AllocError> {
+    #[tactic(auto, unfolding(crate::specs::Sentence::unheard_of))]
+    pub(crate) fn unheard(&self, alloc: Global) -> Result<Vec<Member>, AllocError>
+        ensures { IfOk result (λ members. members.items ≡ unheard_of self.now) }
+    {
         let heard = self.reasons.heard.as_slice();
         self.view
             .probe
@@ -41,6 +50,8 @@ impl Explained {
 }
 
 /// Whether one of the infos is of this member.
-fn is_heard(infos: &[Info], member: Member) -> bool {
+fn is_heard(infos: &[Info], member: Member) -> bool
+    ensures { result ≡ has_member member infos.now }
+{
     infos.iter().any(|info| info.member == member)
 }

@@ -1,4 +1,5 @@
-ghost use Rattle.std.specs.Prelude.{◌≡◌, ◌+◌, ◌==◌, if◌then◌else◌};
+ghost use Rattle.std.specs.Prelude.{◌≡◌};
+ghost use Rattle.pgp_explain.specs.Names.{told_epoch};
 
 use pgp_ids::Epoch;
 
@@ -9,7 +10,7 @@ pub struct EpochOffset(pub u32);
 impl EpochOffset {
     /// The number by which the epoch is told. Epoch 0, before the first map, is told as 0.
     pub fn told(self, epoch: Epoch) -> u64
-        ensures { result ≡ (if epoch == 0 then 0 else epoch + self.0) }
+        ensures { result ≡ told_epoch self epoch }
     {
         match epoch.number() {
             0 => 0,

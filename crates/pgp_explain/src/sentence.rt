@@ -1,19 +1,28 @@
 //! What a group waits for, in one sentence.
 
+ghost use Rattle.std.specs.Prelude.{◌≡◌, ◌==◌, length, IfOk, string_bytes, decimal, if◌then◌else◌};
+ghost use Rattle.pgp_explain.specs.Sentence.{informed as informed_of, informed_beside_complete as informed_beside, lacking_log as lacking_log_of, not_recent as not_recent_of, on_down as on_down_of, on_incomplete as on_incomplete_of, on_log as on_log_of, on_serving as on_serving_of, on_short as on_short_of, on_up_thru as on_up_thru_of, on_waiting as on_waiting_of, sentence_of, unordered_log};
+ghost use Rattle.std.specs.List.{list_any};
+ghost use Rattle.std.specs.Option.{option_copied};
+
 use super::explained::Explained;
-use super::names::{Leader, Listed, Naming, are, devices, plural};
+use super::names::{Leader, Naming, are, plural};
 use super::offset::EpochOffset;
-use super::spans::{Runs, runs_of_epochs, runs_of_writes};
+use super::spans::{epochs, writes};
+use super::words::{devices, members, name};
 use pgp_ids::{Info, Member, OsdId, Verdict};
 use pgp_reasons::Gap;
 use std::alloc::{AllocError, Global};
 
 /// The sentence on the verdict of a group.
+#[tactic(auto, unfolding(crate::specs::Sentence::sentence_of))]
 pub(crate) fn sentence(
     alloc: Global,
     explained: &Explained,
     offset: EpochOffset,
-) -> Result<String, AllocError> {
+) -> Result<String, AllocError>
+    ensures { IfOk result (λ text. string_bytes text ≡ sentence_of explained.now offset) }
+{
     let view = &explained.view;
     let reasons = &explained.reasons;
     let naming = explained.naming(offset);
@@ -33,46 +42,90 @@ pub(crate) fn sentence(
 }
 
 /// Writes may be on devices that are down alone.
-fn on_down(
-    alloc: Global,
-    explained: &Explained,
-    offset: EpochOffset,
-) -> Result<String, AllocError> {
-    let down = devices(alloc, explained.view.blocked_by.as_slice())?;
-    let runs = runs_of_epochs(alloc, explained.reasons.blocking.as_slice(), offset)?;
+#[tactic(auto, unfolding(crate::specs::Sentence::on_down))]
+fn on_down(alloc: Global, explained: &Explained, offset: EpochOffset) -> Result<String, AllocError>
+    ensures { IfOk result (λ text. string_bytes text ≡ on_down_of explained.now offset) }
+{
+    let naming = explained.naming(offset);
+    let blocked_by = explained.view.blocked_by.as_slice();
+    let down = devices(alloc, naming, blocked_by)?;
+    let epochs = epochs(alloc, naming, explained.reasons.blocking.as_slice())?;
     format!(in alloc;
-        "It waits for {}, which {} down: writes may have been taken in {}, and too few of the devices that took them are up.",
-        Listed(down.as_slice()),
-        are(down.len()),
-        Runs {
-            noun: "epoch",
-            runs: runs.as_slice()
-        },
+        "It waits for {down}, which {} down: writes may have been taken in {epochs}, and too few of the devices that took them are up.",
+        are(blocked_by.len()),
     )
 }
 
 /// Members that are up haven't told of their copies.
-fn on_waiting(alloc: Global, explained: &Explained, naming: Naming) -> Result<String, AllocError> {
+#[tactic(auto, unfolding(crate::specs::Sentence::on_waiting))]
+fn on_waiting(alloc: Global, explained: &Explained, naming: Naming) -> Result<String, AllocError>
+    ensures { IfOk result (λ text. string_bytes text ≡ on_waiting_of explained.now naming) }
+{
     let unheard = explained.unheard(alloc)?;
-    let members = naming.members(alloc, unheard.as_slice())?;
-    format!(in alloc; "It waits to hear from {}.", Listed(members.as_slice()))
+    let members = members(alloc, naming, unheard.as_slice())?;
+    format!(in alloc; "It waits to hear from {members}.")
 }
 
 /// No copy may be gone by.
-fn on_incomplete(alloc: Global, heard: &[Info], naming: Naming) -> Result<String, AllocError> {
-    let informed = heard.iter().max_by_key(|info| info.history_les);
-    match informed {
-        Some(info) if heard.iter().any(|info| info.complete) => format!(in alloc;
-            "No copy that was heard of is complete and recent enough: {} knows that the group served in epoch {}, and no complete copy has served since.",
-            naming.member(info.member),
-            naming.epoch(info.history_les),
-        ),
-        _ => String::from_str(alloc, "No complete copy was heard of."),
+#[tactic(auto, unfolding(crate::specs::Sentence::on_incomplete))]
+fn on_incomplete(alloc: Global, heard: &[Info], naming: Naming) -> Result<String, AllocError>
+    ensures { IfOk result (λ text. string_bytes text ≡ on_incomplete_of heard.now naming) }
+{
+    match informed_beside_complete(heard) {
+        Some(info) => not_recent(alloc, info, naming),
+        None => String::from_str(alloc, "No complete copy was heard of."),
     }
 }
 
+/// Complete copies are older than what this info knows of.
+#[tactic(auto, unfolding(crate::specs::Sentence::not_recent))]
+fn not_recent(alloc: Global, info: &Info, naming: Naming) -> Result<String, AllocError>
+    ensures { IfOk result (λ text. string_bytes text ≡ not_recent_of info.now naming) }
+{
+    let member = name(alloc, naming, &info.member)?;
+    format!(in alloc;
+        "No copy that was heard of is complete and recent enough: {member} knows that the group served in epoch {}, and no complete copy has served since.",
+        naming.epoch(info.history_les),
+    )
+}
+
+/// The info that knows of the last epoch in which the group served, where one of the infos is of a complete copy.
+fn informed_beside_complete(heard: &[Info]) -> Option<&Info>
+    ensures { option_copied result ≡ informed_beside heard.now }
+{
+    if has_complete(heard) {
+        informed(heard)
+    } else {
+        None
+    }
+}
+
+/// Whether one of the infos is of a complete copy.
+fn has_complete(heard: &[Info]) -> bool
+    ensures { result ≡ list_any (λ info. info.complete) heard.now }
+{
+    heard.iter().any(|info| info.complete)
+}
+
+/// The info that knows of the last epoch in which the group served; of those that know of the same the last.
+fn informed(heard: &[Info]) -> Option<&Info>
+    ensures { option_copied result ≡ informed_of heard.now }
+{
+    let (first, others) = heard.split_first()?;
+    let mut informed = first;
+    for info in others {
+        if informed.history_les <= info.history_les {
+            informed = info;
+        }
+    }
+    Some(informed)
+}
+
 /// The acting set has too few members, or they hold too few shards.
-fn on_short(alloc: Global, explained: &Explained) -> Result<String, AllocError> {
+#[tactic(auto, unfolding(crate::specs::Sentence::on_short))]
+fn on_short(alloc: Global, explained: &Explained) -> Result<String, AllocError>
+    ensures { IfOk result (λ text. string_bytes text ≡ on_short_of explained.now) }
+{
     let members = explained.view.acting.osd_count();
     if members >= usize::from(explained.min_size) {
         return String::from_str(
@@ -88,36 +141,76 @@ fn on_short(alloc: Global, explained: &Explained) -> Result<String, AllocError> 
 }
 
 /// Entries of the log by which objects are brought up to date haven't been reported.
+#[tactic(auto, unfolding(crate::specs::Sentence::on_log))]
 fn on_log(
     alloc: Global,
     best: Option<Member>,
     gaps: &[Gap],
     naming: Naming,
-) -> Result<String, AllocError> {
-    let Some(best) = best else {
-        return String::from_str(alloc, "The log of its best copy is not whole.");
-    };
-    let best = naming.member(best);
-    if gaps.is_empty() {
-        return format!(in alloc; "The log of {best}, which has the best copy, is not in order.");
+) -> Result<String, AllocError>
+    ensures { IfOk result (λ text. string_bytes text ≡ on_log_of best gaps.now naming) }
+{
+    match best {
+        Some(best) => {
+            let best = name(alloc, naming, &best)?;
+            log_of_best(alloc, best.as_str(), gaps, naming)
+        }
+        None => String::from_str(alloc, "The log of its best copy is not whole."),
     }
-    let runs = runs_of_writes(alloc, gaps)?;
-    let lacked = Runs {
-        noun: "write",
-        runs: runs.as_slice(),
-    };
+}
+
+/// What is wrong with the log of this member.
+fn log_of_best(
+    alloc: Global,
+    best: &str,
+    gaps: &[Gap],
+    naming: Naming,
+) -> Result<String, AllocError>
+    ensures { IfOk result (λ text. string_bytes text
+        ≡ (if length gaps.now == 0 then unordered_log best.now else lacking_log_of best.now gaps.now)) }
+{
+    if gaps.is_empty() {
+        not_in_order(alloc, best)
+    } else {
+        lacking_log(alloc, best, gaps, naming)
+    }
+}
+
+#[tactic(auto, unfolding(crate::specs::Sentence::unordered_log))]
+fn not_in_order(alloc: Global, best: &str) -> Result<String, AllocError>
+    ensures { IfOk result (λ text. string_bytes text ≡ unordered_log best.now) }
+{
+    format!(in alloc; "The log of {best}, which has the best copy, is not in order.")
+}
+
+#[tactic(auto, unfolding(crate::specs::Sentence::lacking_log))]
+fn lacking_log(
+    alloc: Global,
+    best: &str,
+    gaps: &[Gap],
+    naming: Naming,
+) -> Result<String, AllocError>
+    ensures { IfOk result (λ text. string_bytes text ≡ lacking_log_of best.now gaps.now) }
+{
+    let lacked = writes(alloc, naming, gaps)?;
     format!(in alloc; "The log of {best}, which has the best copy, lacks the {lacked}.")
 }
 
 /// The map doesn't say yet that writes may be taken in this interval.
-fn on_up_thru(alloc: Global, primary: Option<OsdId>, first: u64) -> Result<String, AllocError> {
+#[tactic(auto, unfolding(crate::specs::Sentence::on_up_thru))]
+fn on_up_thru(alloc: Global, primary: Option<OsdId>, first: u64) -> Result<String, AllocError>
+    ensures { IfOk result (λ text. string_bytes text ≡ on_up_thru_of primary (decimal first)) }
+{
     let leader = Leader(primary);
     format!(in alloc;
         "The map has yet to record that {leader}, which leads it, is up in this interval: up_thru {first} or later."
     )
 }
 
-fn on_serving(alloc: Global, primary: Option<OsdId>) -> Result<String, AllocError> {
+#[tactic(auto, unfolding(crate::specs::Sentence::on_serving))]
+fn on_serving(alloc: Global, primary: Option<OsdId>) -> Result<String, AllocError>
+    ensures { IfOk result (λ text. string_bytes text ≡ on_serving_of primary) }
+{
     let leader = Leader(primary);
     format!(in alloc; "It serves, led by {leader}.")
 }

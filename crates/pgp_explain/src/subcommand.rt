@@ -8,8 +8,7 @@ use super::groups::{explained, summary};
 use super::offset::EpochOffset;
 use super::read::read_log;
 use super::recorded::Recorded;
-use super::summary_json::put_summary_json;
-use super::summary_words::put_summary_words;
+use super::summary_text::text_of_summary;
 use pgp_core::{Log, Sink, Source, write_out};
 use pgp_ids::PgId;
 use std::alloc::Global;
@@ -67,11 +66,6 @@ fn summary_text(
     offset: EpochOffset,
 ) -> Result<String, ExplainFault> {
     let summary = summary(alloc, log)?;
-    let mut text = String::new(alloc);
-    if json {
-        put_summary_json(alloc, &summary, offset, &mut text)?;
-    } else {
-        put_summary_words(alloc, &summary, offset, &mut text)?;
-    }
+    let text = text_of_summary(alloc, &summary, json, offset)?;
     Ok(text)
 }

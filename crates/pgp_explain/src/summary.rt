@@ -1,5 +1,8 @@
 //! What groups say together: how many have which verdict, and for which devices they wait.
 
+ghost use Rattle.std.specs.Prelude.{◌≡◌, IfOk};
+ghost use Rattle.pgp_explain.specs.SummaryText.{AreDevicesOf};
+
 use super::tally::Tally;
 use pgp_ids::{Epoch, OsdId, PgId, Verdict, View};
 use std::alloc::{AllocError, Global};
@@ -74,12 +77,22 @@ impl Summary {
     }
 
     /// The devices for which groups wait: those for which most do first, and then in ascending order.
-    pub(crate) fn devices(&self, alloc: Global) -> Result<Vec<(OsdId, Waits)>, AllocError> {
+    pub(crate) fn devices(&self, alloc: Global) -> Result<Vec<(OsdId, Waits)>, AllocError>
+        ensures { IfOk result (λ devices. AreDevicesOf self.now devices.items) }
+    {
+        let mut devices = self.entries(alloc)?;
+        devices.sort_unstable_by_key(|(osd, waits)| (Reverse(waits.groups()), *osd));
+        Ok(devices)
+    }
+
+    /// The devices for which groups wait, in ascending order.
+    fn entries(&self, alloc: Global) -> Result<Vec<(OsdId, Waits)>, AllocError>
+        ensures { IfOk result (λ devices. devices.items ≡ self.now.devices.entries) }
+    {
         let mut devices = Vec::new(alloc);
         for (osd, waits) in self.devices.iter() {
             devices.push((*osd, *waits))?;
         }
-        devices.sort_unstable_by_key(|(osd, waits)| (Reverse(waits.groups()), *osd));
         Ok(devices)
     }
 }

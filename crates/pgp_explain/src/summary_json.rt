@@ -1,14 +1,16 @@
 //! A summary as JSON.
 
-ghost use Rattle.std.specs.Prelude.{◌≡◌, OnOk, OnErr, string_bytes};
-ghost use Rattle.std.specs.Io.{StartsWith};
+ghost use Rattle.std.specs.Prelude.{◌≡◌, ◌++◌, ◌∷◌, [], flat_map, IfOk, OnOk, OnErr, string_bytes};
+ghost use Rattle.pgp_replies.specs.Written.{fields_tokens, tokens_of};
+ghost use Rattle.pgp_explain.specs.SummaryText.{device_data, summary_data, summary_json, tally_data, verdict_field, verdict_fields};
 
-use super::json_page::Page;
+use super::group_json::into_line;
 use super::json_parts::{Json, write_field};
 use super::offset::EpochOffset;
 use super::summary::{Summary, Waits};
 use super::tally::Tally;
-use pgp_ids::{OsdId, Verdict};
+use json::Writer;
+use pgp_ids::{OsdId, Seq, Verdict};
 use std::alloc::{AllocError, Global};
 
 /// The verdicts, in the ascending order of their names.
@@ -23,59 +25,100 @@ const VERDICTS: [Verdict; 8] = [
     Verdict::Waiting,
 ];
 
-/// Puts a summary behind what `text` has: one object in one line, which ends in a line feed, with the keys of each object in
-/// ascending byte order. Where memory is wanting, `text` stays as it was.
-pub fn put_summary_json(
+/// What there is to say of a summary, whose devices these are: one object in one line, which ends in a line feed, with the keys
+/// of each object in ascending byte order.
+#[tactic(auto, unfolding(crate::specs::SummaryText::summary_json))]
+pub(crate) fn json_of(
     alloc: Global,
     summary: &Summary,
+    devices: &Seq<(OsdId, Waits)>,
     offset: EpochOffset,
-    text: &mut String,
-) -> Result<(), AllocError>
-    ensures ok { OnOk result (StartsWith (string_bytes text.new) (string_bytes text.old)) }
-    ensures err { OnErr result (string_bytes text.new ≡ string_bytes text.old) }
+) -> Result<String, AllocError>
+    ensures { IfOk result (λ text. string_bytes text ≡ summary_json summary.now devices.now offset) }
 {
-    let devices = summary.devices(alloc)?;
-    let mut page = Page::new(alloc, offset);
-    write_summary(&mut page, summary, devices.as_slice())?;
-    let line = page.into_line()?;
-    text.push_str(line.as_str())
+    let mut out = Writer::new(Vec::new(alloc));
+    write_summary(&mut out, offset, summary, devices)?;
+    into_line(out)
 }
 
+#[tactic(auto, using(pgp_replies::proofs::Tokens::token_steps))]
 fn write_summary(
-    page: &mut Page,
+    out: &mut Writer,
+    offset: EpochOffset,
     summary: &Summary,
-    devices: &[(OsdId, Waits)],
-) -> Result<(), AllocError> {
-    page.begin_object()?;
-    write_field(page, "devices", &devices)?;
-    write_field(page, "epoch", &summary.epoch)?;
-    write_field(page, "groups", &summary.tally.groups())?;
-    write_field(page, "verdicts", &summary.tally)?;
-    page.end_object()
+    devices: &Seq<(OsdId, Waits)>,
+) -> Result<(), AllocError>
+    ensures ok { OnOk result
+        (out.new.tokens ≡ out.old.tokens ++ tokens_of (summary_data offset summary.now devices.now)) }
+    ensures before { out.new.before ≡ out.old.before }
+{
+    out.begin_object()?;
+    write_field(out, offset, "devices", devices)?;
+    write_field(out, offset, "epoch", &summary.epoch)?;
+    write_field(out, offset, "groups", &summary.tally.groups())?;
+    write_field(out, offset, "verdicts", &summary.tally)?;
+    out.end_object()
 }
 
 /// For how many groups the device is waited.
 impl Json for (OsdId, Waits) {
-    fn write(&self, page: &mut Page) -> Result<(), AllocError> {
+    ghost value = { λ _ device. device_data device };
+
+    #[tactic(auto, using(pgp_replies::proofs::Tokens::token_steps))]
+    fn write(&self, out: &mut Writer, offset: EpochOffset) -> Result<(), AllocError> {
         let (osd, waits) = self;
-        page.begin_object()?;
-        write_field(page, "awaited", &waits.awaited)?;
-        write_field(page, "blocks", &waits.blocks)?;
-        write_field(page, "osd", osd)?;
-        page.end_object()
+        out.begin_object()?;
+        write_field(out, offset, "awaited", &waits.awaited)?;
+        write_field(out, offset, "blocks", &waits.blocks)?;
+        write_field(out, offset, "osd", osd)?;
+        out.end_object()
     }
 }
 
 /// How many groups have which verdict; one that no group has is left out.
 impl Json for Tally {
-    fn write(&self, page: &mut Page) -> Result<(), AllocError> {
-        page.begin_object()?;
-        for verdict in VERDICTS {
-            let count = self.of(verdict);
-            if count > 0 {
-                write_field(page, verdict.name(), &count)?;
-            }
-        }
-        page.end_object()
+    ghost value = { λ _ tally. tally_data tally };
+
+    #[tactic(auto, using(pgp_replies::proofs::Tokens::token_steps), unfolding(crate::specs::SummaryText::verdict_fields))]
+    fn write(&self, out: &mut Writer, offset: EpochOffset) -> Result<(), AllocError> {
+        out.begin_object()?;
+        write_verdicts(out, offset, self, &VERDICTS)?;
+        out.end_object()
     }
+}
+
+#[tactic(auto, using(pgp_replies::proofs::Tokens::token_steps))]
+fn write_verdicts(
+    out: &mut Writer,
+    offset: EpochOffset,
+    tally: &Tally,
+    verdicts: &[Verdict],
+) -> Result<(), AllocError>
+    ensures ok { OnOk result
+        (out.new.tokens ≡ out.old.tokens ++ fields_tokens (flat_map (verdict_field tally.now) verdicts.now)) }
+    ensures before { out.new.before ≡ out.old.before }
+{
+    for verdict in verdicts {
+        write_verdict(out, offset, tally, *verdict)?;
+    }
+    Ok(())
+}
+
+/// How many groups have the verdict, where some have it.
+#[tactic(auto, unfolding(pgp_replies::specs::Written::fields_tokens))]
+fn write_verdict(
+    out: &mut Writer,
+    offset: EpochOffset,
+    tally: &Tally,
+    verdict: Verdict,
+) -> Result<(), AllocError>
+    ensures ok { OnOk result
+        (out.new.tokens ≡ out.old.tokens ++ fields_tokens (verdict_field tally.now verdict)) }
+    ensures before { out.new.before ≡ out.old.before }
+{
+    let count = tally.of(verdict);
+    if count == 0 {
+        return Ok(());
+    }
+    write_field(out, offset, verdict.name(), &count)
 }

@@ -1,7 +1,7 @@
 //! A summary in words.
 
-ghost use Rattle.std.specs.Prelude.{◌≡◌, OnOk, OnErr, string_bytes};
-ghost use Rattle.std.specs.Io.{StartsWith};
+ghost use Rattle.std.specs.Prelude.{◌≡◌, ◌++◌, flat_map, IfOk, OnOk, OnErr, string_bytes};
+ghost use Rattle.pgp_explain.specs.SummaryText.{Awaited, awaited_part, blocks_part, both_part, count_part, device_line, device_lines, summary_words, tally_lines, total_line, verdict_line, verdicts};
 
 use super::names::{Device, plural};
 use super::offset::EpochOffset;
@@ -22,73 +22,142 @@ const VERDICTS: [Verdict; 8] = [
     Verdict::Serve,
 ];
 
-/// Puts a summary behind what `text` has, in lines that each end in a line feed. Where memory is wanting, `text` stays as it
-/// was.
-pub fn put_summary_words(
+/// What there is to say of a summary, whose devices these are, in lines that each end in a line feed.
+#[tactic(auto, unfolding(crate::specs::SummaryText::summary_words))]
+pub(crate) fn words_of(
     alloc: Global,
     summary: &Summary,
+    devices: &[(OsdId, Waits)],
     offset: EpochOffset,
-    text: &mut String,
-) -> Result<(), AllocError>
-    ensures ok { OnOk result (StartsWith (string_bytes text.new) (string_bytes text.old)) }
-    ensures err { OnErr result (string_bytes text.new ≡ string_bytes text.old) }
+) -> Result<String, AllocError>
+    ensures { IfOk result (λ text. string_bytes text ≡ summary_words summary.now devices.now offset) }
 {
-    let words = words_of(alloc, summary, offset)?;
-    text.push_str(words.as_str())
+    let mut text = String::new(alloc);
+    put_total(summary, offset, &mut text)?;
+    put_tally(&summary.tally, &mut text)?;
+    put_devices(devices, &mut text)?;
+    Ok(text)
 }
 
-fn words_of(alloc: Global, summary: &Summary, offset: EpochOffset) -> Result<String, AllocError> {
+/// How many groups there are, by the map of which epoch.
+#[tactic(auto, unfolding(crate::specs::SummaryText::total_line))]
+fn put_total(summary: &Summary, offset: EpochOffset, text: &mut String) -> Result<(), AllocError>
+    ensures { OnOk result (string_bytes text.new
+        ≡ string_bytes text.old ++ total_line summary.now offset) }
+{
     let groups = summary.tally.groups();
-    let devices = summary.devices(alloc)?;
-    let mut text = String::new(alloc);
     writeln!(
         text,
         "{groups} {} at epoch {}",
         plural(groups, "group", "groups"),
         offset.told(summary.epoch),
-    )?;
-    put_tally(&summary.tally, &mut text)?;
-    put_devices(devices.as_slice(), &mut text)?;
-    Ok(text)
+    )
 }
 
 /// How many groups have which verdict.
-fn put_tally(tally: &Tally, text: &mut String) -> Result<(), AllocError> {
-    for verdict in VERDICTS {
-        let count = tally.of(verdict);
-        if count > 0 {
-            writeln!(text, "  {} {count}", verdict.name())?;
-        }
+#[tactic(auto, unfolding(crate::specs::SummaryText::tally_lines))]
+fn put_tally(tally: &Tally, text: &mut String) -> Result<(), AllocError>
+    ensures { OnOk result (string_bytes text.new ≡ string_bytes text.old ++ tally_lines tally.now) }
+{
+    put_verdicts(tally, &VERDICTS, text)
+}
+
+fn put_verdicts(tally: &Tally, verdicts: &[Verdict], text: &mut String) -> Result<(), AllocError>
+    ensures { OnOk result (string_bytes text.new
+        ≡ string_bytes text.old ++ flat_map (verdict_line tally.now) verdicts.now) }
+{
+    for verdict in verdicts {
+        put_verdict(tally, *verdict, text)?;
     }
     Ok(())
+}
+
+/// How many have this verdict, where some have it.
+#[tactic(auto, unfolding(crate::specs::SummaryText::verdict_line))]
+fn put_verdict(tally: &Tally, verdict: Verdict, text: &mut String) -> Result<(), AllocError>
+    ensures { OnOk result (string_bytes text.new
+        ≡ string_bytes text.old ++ verdict_line tally.now verdict) }
+{
+    let count = tally.of(verdict);
+    if count == 0 {
+        return Ok(());
+    }
+    writeln!(text, "  {} {count}", verdict.name())
 }
 
 /// For which devices groups wait.
-fn put_devices(devices: &[(OsdId, Waits)], text: &mut String) -> Result<(), AllocError> {
-    if !devices.is_empty() {
-        text.push_str("\n")?;
+#[tactic(auto, unfolding(crate::specs::SummaryText::device_lines))]
+fn put_devices(devices: &[(OsdId, Waits)], text: &mut String) -> Result<(), AllocError>
+    ensures { OnOk result (string_bytes text.new
+        ≡ string_bytes text.old ++ device_lines devices.now) }
+{
+    if devices.is_empty() {
+        return Ok(());
     }
-    for (osd, waits) in devices {
-        put_device(*osd, *waits, text)?;
+    text.push_str("\n")?;
+    put_each_device(devices, text)
+}
+
+fn put_each_device(devices: &[(OsdId, Waits)], text: &mut String) -> Result<(), AllocError>
+    ensures { OnOk result (string_bytes text.new
+        ≡ string_bytes text.old ++ flat_map device_line devices.now) }
+{
+    for device in devices {
+        put_device(device, text)?;
     }
     Ok(())
 }
 
-fn put_device(osd: OsdId, waits: Waits, text: &mut String) -> Result<(), AllocError> {
-    write!(text, "{} ", Device(osd))?;
-    if waits.blocks > 0 {
-        put_count("blocks", waits.blocks, text)?;
-    }
-    if waits.blocks > 0 && waits.awaited > 0 {
-        text.push_str(", and ")?;
-    }
-    if waits.awaited > 0 {
-        put_count("is waited for by", waits.awaited, text)?;
-    }
+/// How many groups a device blocks, and how many wait to hear from it.
+#[tactic(auto, unfolding(crate::specs::SummaryText::device_line))]
+fn put_device(device: &(OsdId, Waits), text: &mut String) -> Result<(), AllocError>
+    ensures { OnOk result (string_bytes text.new
+        ≡ string_bytes text.old ++ device_line device.now) }
+{
+    let waits = device.1;
+    write!(text, "{} ", Device(device.0))?;
+    put_blocks(waits.blocks, text)?;
+    text.push_str(both(waits))?;
+    put_awaited(waits.awaited, text)?;
     text.push_str("\n")
 }
 
+/// What stands between the two counts.
+#[tactic(auto, unfolding(crate::specs::SummaryText::both_part))]
+fn both(waits: Waits) -> &'static str
+    ensures { result.now ≡ both_part waits }
+{
+    if waits.blocks > 0 && waits.awaited > 0 {
+        ", and "
+    } else {
+        ""
+    }
+}
+
+#[tactic(auto, unfolding(crate::specs::SummaryText::blocks_part))]
+fn put_blocks(count: usize, text: &mut String) -> Result<(), AllocError>
+    ensures { OnOk result (string_bytes text.new ≡ string_bytes text.old ++ blocks_part count) }
+{
+    if count == 0 {
+        return Ok(());
+    }
+    put_count("blocks", count, text)
+}
+
+#[tactic(auto, unfolding(crate::specs::SummaryText::awaited_part))]
+fn put_awaited(count: usize, text: &mut String) -> Result<(), AllocError>
+    ensures { OnOk result (string_bytes text.new ≡ string_bytes text.old ++ awaited_part count) }
+{
+    if count == 0 {
+        return Ok(());
+    }
+    put_count("is waited for by", count, text)
+}
+
 /// What a device does to so many groups.
-fn put_count(does: &str, count: usize, text: &mut String) -> Result<(), AllocError> {
+fn put_count(does: &str, count: usize, text: &mut String) -> Result<(), AllocError>
+    ensures { OnOk result (string_bytes text.new
+        ≡ string_bytes text.old ++ count_part does.now count) }
+{
     write!(text, "{does} {count} {}", plural(count, "group", "groups"))
 }

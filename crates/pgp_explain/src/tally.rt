@@ -1,4 +1,6 @@
-ghost use Rattle.std.specs.Prelude.{◌<◌};
+ghost use Rattle.std.specs.Prelude.{◌≡◌, ◌+◌, ◌<◌, fold, slice_index, slice_set};
+ghost use Rattle.pgp_explain.specs.Summary.{counted, group_total, one_more, place_of as place_among_all, verdict_count};
+ghost use Rattle.pgp_ids.specs.declared.verdict.Verdict.{Verdict as TheVerdict};
 
 use pgp_ids::Verdict;
 
@@ -10,26 +12,34 @@ pub(crate) struct Tally {
 }
 
 impl Tally {
-    pub fn new() -> Self {
+    pub fn new() -> Self
+        ensures { (verdict : TheVerdict) → verdict_count result verdict ≡ 0 }
+    {
         Tally { counts: [0; 8] }
     }
 
     /// Counts a group of this verdict.
-    pub fn count(&mut self, verdict: Verdict) {
+    pub fn count(&mut self, verdict: Verdict)
+        ensures { self.new.counts ≡ slice_set self.old.counts (place_among_all verdict) (counted (verdict_count self.old verdict + 1)) }
+    {
         let place = place_of(verdict);
         self.counts[place] = self.counts[place].saturating_add(1);
     }
 
     /// How many groups have this verdict.
-    pub fn of(&self, verdict: Verdict) -> usize {
+    pub fn of(&self, verdict: Verdict) -> usize
+        ensures { result ≡ verdict_count self.now verdict }
+    {
         self.counts[place_of(verdict)]
     }
 
     /// How many groups there are.
-    pub fn groups(&self) -> usize {
+    pub fn groups(&self) -> usize
+        ensures { result ≡ group_total self.now }
+    {
         let mut groups = 0usize;
-        for count in self.counts {
-            groups = groups.saturating_add(count);
+        for count in &self.counts {
+            groups = groups.saturating_add(*count);
         }
         groups
     }
@@ -37,7 +47,8 @@ impl Tally {
 
 /// The place of a verdict among all.
 fn place_of(verdict: Verdict) -> usize
-    ensures { result < 8 }
+    ensures place { result ≡ place_among_all verdict }
+    ensures within { result < 8 }
 {
     match verdict {
         Verdict::NoPrimary => 0,
