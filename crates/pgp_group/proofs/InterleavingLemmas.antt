@@ -60,7 +60,7 @@ filter-swap p q (x ∷ xs) = elim (cases_Bool (p x)) [
   ]
 ]
 
-any-found : {X : Type 0} (test : X → Bool) (xs : List X) → list_any test xs ≡ is_some (find test xs)
+pub any-found : {X : Type 0} (test : X → Bool) (xs : List X) → list_any test xs ≡ is_some (find test xs)
 any-found test [] = refl
 any-found test (x ∷ xs) = elim (cases_Bool (test x)) [
   | inl passes ↦ rw passes refl
@@ -77,10 +77,10 @@ last_or-any test before other (x ∷ xs) any = elim (cases_Bool (test x)) [
 
 -- ---- infos of one member
 
-abbrev is_of : Member → Info → Bool
+abbrev pub is_of : Member → Info → Bool
 is_of member info = is_same_member info.member member
 
-is_of_itself : (info : Info) → is_of info.member info ≡ true
+pub is_of_itself : (info : Info) → is_of info.member info ≡ true
 is_of_itself info = grind (arith, nat_tests)
 
 -- both lists have the same infos of each member, in the same order
@@ -96,7 +96,7 @@ alike-among a b alike info there =
     (filter-contains (is_of info.member) b info (subst (λ (l : List Info). Contains l info) (alike info.member) kept)).0
 
 -- the last info of a member is the one that is kept of it
-find-last_of : (member : Member) (told : List Info) → find (is_of member) (last_of_each_member told) ≡ last_or None (filter (is_of member) told)
+pub find-last_of : (member : Member) (told : List Info) → find (is_of member) (last_of_each_member told) ≡ last_or None (filter (is_of member) told)
 find-last_of member [] = refl
 find-last_of member (first ∷ told) = elim (cases_Bool (has_member first.member told)) [
   | inl again ↦ elim (cases_Bool (is_of member first)) [
@@ -114,7 +114,7 @@ find-last_of member (first ∷ told) = elim (cases_Bool (has_member first.member
 ]
 
 -- an info that is kept is the last of its member
-last_of-found : (told : List Info) (info : Info) → Contains (last_of_each_member told) info → last_or None (filter (is_of info.member) told) ≡ Some info
+pub last_of-found : (told : List Info) (info : Info) → Contains (last_of_each_member told) info → last_or None (filter (is_of info.member) told) ≡ Some info
 last_of-found told info there =
     let is = last_of-IsLastOfMember told info there in
     let mine : filter (is_of info.member) (info ∷ is.after) ≡ info ∷ [] = rw (is_of_itself info) (ap (λ (l : List Info). info ∷ l) (filter-none (is_of info.member) is.after is.last)) in
@@ -139,7 +139,7 @@ greatest-start start f (first ∷ told) =
     let rest : max start (f first) ≤ fold max (max start (f first)) (map f told) = greatest-start (max start (f first)) f told in
     omega (arith, rest)
 
-greatest-above : (start : ℕ) (f : Info → ℕ) (told : List Info) (info : Info) → Contains told info → f info ≤ fold max start (map f told)
+pub greatest-above : (start : ℕ) (f : Info → ℕ) (told : List Info) (info : Info) → Contains told info → f info ≤ fold max start (map f told)
 greatest-above start f [] info there = absurd (Contains-nil info there)
 greatest-above start f (first ∷ told) info there = elim (Contains-cases first told info there) [
   | inl here ↦
@@ -149,7 +149,7 @@ greatest-above start f (first ∷ told) info there = elim (Contains-cases first 
   | inr later ↦ greatest-above (max start (f first)) f told info later
 ]
 
-greatest-below : (start limit : ℕ) (f : Info → ℕ) (told : List Info) → start ≤ limit → ((info : Info) → Contains told info → f info ≤ limit) → fold max start (map f told) ≤ limit
+pub greatest-below : (start limit : ℕ) (f : Info → ℕ) (told : List Info) → start ≤ limit → ((info : Info) → Contains told info → f info ≤ limit) → fold max start (map f told) ≤ limit
 greatest-below start limit f [] low each = low
 greatest-below start limit f (first ∷ told) low each =
     let here : f first ≤ limit = each first (Contains-here first told) in

@@ -1,0 +1,10 @@
+pub mod NeededLemmas
+pub mod NumberLemmas
+pub mod IntervalLemmas
+pub mod InfoLemmas
+pub mod ReportLemmas
+pub mod AlikeLemmas
+pub mod PartLemmas
+pub mod GoneOnLemmas
+pub mod LegalLemmas
+pub mod TwiceLemmas

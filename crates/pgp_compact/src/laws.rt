@@ -1,0 +1,54 @@
+//! What holds of a compacted log: every answer is that of the whole one, whatever entries follow.
+
+ghost use Rattle.std.specs.Prelude.{◌≡◌, ◌≢◌, ◌≤◌, ◌++◌, List, Some, true, length, option_map};
+ghost use Rattle.pgp_ids.specs.declared.entry.Entry.{Entry};
+ghost use Rattle.pgp_ids.specs.declared.pg_id.PgId.{PgId};
+ghost use Rattle.pgp_refusals.specs.declared.refusal.Refusal.TheVariants.{LogFull};
+ghost use Rattle.pgp_map.specs.Checked.{are_checked};
+ghost use Rattle.pgp_group.specs.Entries.{incs_of};
+ghost use Rattle.pgp_group.specs.Interleaving.{with_count};
+ghost use Rattle.pgp_group.specs.View.{scratch};
+ghost use Rattle.pgp_log.specs.Fits.{fits, is_closed};
+ghost use Rattle.pgp_log.specs.Log.{is_legal};
+ghost use Rattle.pgp_compact.specs.Compacted.{compacted};
+
+use pgp_group::laws::later::what_does_not_count_never_counts_again;
+
+/// The compacted log of a legal log is legal, has no more entries, the same incrementals in their order, and is closed if the
+/// log is.
+pub fn a_compacted_log_is_legal()
+    ensures legal { (log : List Entry) → is_legal log ≡ true → is_legal (compacted log) ≡ true }
+    ensures shorter { (log : List Entry) → length (compacted log) ≤ length log }
+    ensures incs { (log : List Entry) → incs_of (compacted log) ≡ incs_of log }
+    ensures closed { (log : List Entry) → is_closed (compacted log) ≡ is_closed log }
+{}
+
+/// The view of each group is that of the log, but for count: now, and after whatever entries follow, of which each incremental
+/// was checked when it came. So it is after each list that the compacted log takes, also where the whole one would be full. A
+/// group that one of them doesn't have, the other doesn't have either.
+pub fn every_answer_is_the_same()
+    ensures now { (log : List Entry) (pg : PgId) → is_legal log ≡ true
+        → scratch (compacted log) pg ≡ option_map (with_count (length (compacted log))) (scratch log pg) }
+    ensures after { (log more : List Entry) (pg : PgId) → is_legal log ≡ true → are_checked (incs_of (log ++ more)) ≡ true
+        → scratch (compacted log ++ more) pg ≡ option_map (with_count (length (compacted log ++ more))) (scratch (log ++ more) pg) }
+    ensures taken { (log more : List Entry) (pg : PgId) → is_legal log ≡ true → is_legal (compacted log ++ more) ≡ true
+        → scratch (compacted log ++ more) pg ≡ option_map (with_count (length (compacted log ++ more))) (scratch (log ++ more) pg) }
+{
+    what_does_not_count_never_counts_again();
+    pgp_log::laws::legal_logs_are_checked_and_short();
+}
+
+/// What may follow the log may follow the compacted one. The next entry is taken or refused alike, with the same reason, except
+/// that the compacted log may have room where the whole one is full. The map stays the same.
+pub fn what_follows_is_taken_alike()
+    ensures legal { (log more : List Entry) → is_legal (log ++ more) ≡ true → is_legal (compacted log ++ more) ≡ true }
+    ensures next { (log more : List Entry) (new : Entry) → fits (log ++ more) new ≢ Some LogFull
+        → fits (compacted log ++ more) new ≡ fits (log ++ more) new }
+    ensures incs { (log more : List Entry) → incs_of (compacted log ++ more) ≡ incs_of (log ++ more) }
+    ensures shorter { (log more : List Entry) → length (compacted log ++ more) ≤ length (log ++ more) }
+{}
+
+/// A compacted log that is compacted once more stays as it is.
+pub fn compacting_twice_is_compacting_once()
+    ensures { (log : List Entry) → compacted (compacted log) ≡ compacted log }
+{}

@@ -1,0 +1,4 @@
+//! Logs without the reports that no answer can need any more.
+#![tactic(auto)]
+
+pub mod laws;

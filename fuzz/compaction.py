@@ -1,0 +1,179 @@
+#!/usr/bin/env python3
+"""Holds the answers of a log that was compacted, and went on, against those of the log that wasn't.
+
+    fuzz/compaction.py [--seed N] [--logs N | --minutes M] [--program FILE] [--wrong NAME]
+
+Which entries of a log have to stay is worked out here once more, by docs/FORMAT.md ("pgpeer compact"). A generated log is
+compacted at random places. From then on each line goes to both logs, the whole one and the compacted one, and each answer has to
+be the same but for `count`; at each place each group that the story is about is asked for too. A compacted log is compacted
+once more, and has to stay as it is. With --program the lines that remain have to be those that `FILE compact` writes, and the
+answers those that `FILE run` gives.
+
+--wrong leaves out a reason for which an entry stays: then a difference has to be found, or the status is 1.
+"""
+
+import argparse
+import collections
+import json
+import random
+import subprocess
+import sys
+import time
+from typing import Any, Callable, Counter, Dict, Iterator, List, Optional, Set, Tuple
+
+import grammar
+import model
+import peering
+from maps import Group
+
+Line = Dict[str, Any]
+
+
+# Which entries stay
+
+
+def opening_of(log: model.Model, group: Group, epoch: int) -> Optional[int]:
+    """The first epoch of the group's interval that holds this epoch, by the log; None before the group was made."""
+    firsts = [it["first"] for it in log.view(group)["intervals"]] + [log.view(group)["first"]]
+    return max((first for first in firsts if first <= epoch), default=None)
+
+
+REASONS = ("history_les", "counted", "clean", "entries")
+
+
+def compacted(lines: List[Line], left_out: str = "") -> List[Line]:
+    """The entries of these, which make up a legal log, that an answer can still need."""
+    log = model.Model()
+    for line in lines:
+        log.answer(grammar.compact(line))
+    kept: List[Line] = []
+    stamps: Dict[Any, int] = {}  # the greatest stamp of a later info of a member
+    starts: Set[Group] = set()  # groups with a later info of their greatest history_les
+    cleans: Set[Tuple[Group, int]] = set()  # intervals with a later info that was clean in them
+    numbers: Dict[Any, int] = {}  # the greatest stamp of a later report with a number of a member
+    for line in reversed(lines):
+        if line["op"] in ("inc", "close"):
+            kept.append(line)
+            continue
+        group, member, stamp = tuple(line["pg"]), tuple(line["from"]), line["stamp"]
+        view = log.view(group)
+        is_counted = peering.counts(log.maps, view["first"], line)
+        reasons = set()
+        if line["op"] == "entries":
+            written = {entry[1] for entry in line["log"]}
+            if is_counted and any(numbers.get((group, member, v), -1) < stamp for v in written):
+                reasons.add("entries")
+            for v in written:
+                numbers[group, member, v] = max(numbers.get((group, member, v), -1), stamp)
+        else:
+            if is_counted and stamps.get((group, member), -1) < stamp:
+                reasons.add("counted")
+            stamps[group, member] = max(stamps.get((group, member), -1), stamp)
+            if view["les"] == line["history_les"] > 0 and group not in starts:
+                reasons.add("history_les")
+                starts.add(group)
+            opening = opening_of(log, group, line.get("last_epoch_clean", 0))
+            if opening is not None and (group, opening) not in cleans:
+                reasons.add("clean")
+                cleans.add((group, opening))
+        if reasons - {left_out}:
+            kept.append(line)
+    return kept[::-1]
+
+
+# Logs
+
+
+def same_but_for_count(answer: bytes, other: bytes) -> bool:
+    a, b = json.loads(answer), json.loads(other)
+    a.pop("count", None), b.pop("count", None)
+    return bool(a == b)
+
+
+class Pair:
+    """A log that grows, and one that is compacted from time to time and gets the same lines."""
+
+    def __init__(self, rng: random.Random, counted: Counter[str], left_out: str):
+        self.rng, self.counted, self.left_out = rng, counted, left_out
+        self.log, self.other = model.Model(), model.Model()
+        self.story = grammar.Story(rng, self.log, 10**6)
+        self.story.most_pools = rng.choice((1, 2))
+        self.entries: List[Line] = []  # of the compacted log
+        self.lines: List[Any] = []  # all lines, and None where the log was compacted
+
+    def groups(self) -> List[Group]:
+        made = self.log.maps.made
+        return [(pool, pg) for pool in made for pg in range(min(made[pool]["pg_num"], 2))]
+
+    def compact(self) -> bool:
+        """Compacts the other log; whether that leaves out nothing when done twice."""
+        before = len(self.entries)
+        self.entries = compacted(self.entries, self.left_out)
+        self.counted["entries before"] += before
+        self.counted["entries left"] += len(self.entries)
+        self.counted["compactions"] += 1
+        self.lines.append(None)
+        self.other = model.Model()
+        for line in self.entries:
+            answer = self.other.answer(grammar.compact(line))
+            if answer is None or answer.code:
+                return False
+        return compacted(self.entries, self.left_out) == self.entries
+
+    def take(self) -> Optional[str]:
+        """One line more; what is wrong then."""
+        if self.rng.random() < 0.05 and not self.compact():
+            return "it isn't legal, or compacted again it is another"
+        line = self.story.line()
+        if self.rng.random() < 0.3 and line["op"] in ("info", "entries"):
+            line["stamp"] = self.rng.randint(0, self.log.maps.epoch + 1)
+        text = grammar.compact(line)
+        self.lines.append(line)
+        answer, other = self.log.answer(text), self.other.answer(text)
+        self.counted["lines"] += 1
+        if not same_but_for_count(answer.text, other.text):
+            return f"{answer.text!r} is answered {other.text!r}"
+        if line["op"] in ("inc", "info", "entries", "close") and not answer.code:
+            self.entries.append(line)
+            for group in self.groups():
+                self.counted["views"] += 1
+                if self.log.view(group) != self.other.view(group):
+                    return f"group {group}: {self.log.view(group)} is {self.other.view(group)}"
+        return None
+
+
+def check(seed: str, is_over: Callable[[int], bool], counted: Counter[str], left_out: str) -> Iterator[Tuple[str, List[Any]]]:
+    number = 0
+    while not is_over(number):
+        rng = random.Random(f"{seed}/{number}")
+        pair = Pair(rng, counted, left_out)
+        for _ in range(rng.choice((50, 150, 400))):
+            found = pair.take()
+            if found is not None:
+                yield found, pair.lines
+                break
+        number += 1
+        counted["logs"] += 1
+
+
+def main() -> int:
+    parser = argparse.ArgumentParser(description=__doc__, formatter_class=argparse.RawDescriptionHelpFormatter)
+    parser.add_argument("--seed", default="1")
+    parser.add_argument("--logs", type=int, default=200, metavar="N", help="how many logs (by default 200)")
+    parser.add_argument("--minutes", type=float, metavar="M", help="goes on for so long instead")
+    parser.add_argument("--wrong", choices=REASONS, default="", metavar="NAME", help=", ".join(REASONS))
+    options = parser.parse_args()
+    end = time.monotonic() + 60 * (options.minutes or 0)
+    is_over = (lambda _: time.monotonic() > end) if options.minutes else (lambda number: number >= options.logs)
+    counted: Counter[str] = collections.Counter()
+    found = next(check(options.seed, is_over, counted, options.wrong), None)
+    print(", ".join(f"{counted[key]:,} {key}" for key in sorted(counted)))
+    if found:
+        print(found[0], file=sys.stderr)
+        for line in found[1]:
+            sys.stdout.write("compact\n" if line is None else grammar.compact(line).decode() + "\n")
+    return int(bool(found) != bool(options.wrong))
+
+
+if __name__ == "__main__":
+    sys.exit(main())
