@@ -44,10 +44,10 @@ none-among narrow wide (x ∷ xs) each none = elim (cases_Bool (narrow x)) [
   ]
 ]
 
-first-of : (a b c : Bool) → a ≡ true → (a || b || c) ≡ true
+pub first-of : (a b c : Bool) → a ≡ true → (a || b || c) ≡ true
 first-of a b c is = rw is refl
 
-second-of : (a b c : Bool) → b ≡ true → (a || b || c) ≡ true
+pub second-of : (a b c : Bool) → b ≡ true → (a || b || c) ≡ true
 second-of true b c is = refl
 second-of false b c is = rw is refl
 

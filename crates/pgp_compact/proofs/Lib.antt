@@ -8,3 +8,5 @@ pub mod PartLemmas
 pub mod GoneOnLemmas
 pub mod LegalLemmas
 pub mod TwiceLemmas
+pub mod OpeningLemmas
+pub mod LaterLemmas

@@ -1,2 +1,5 @@
 pub mod Needed
 pub mod Compacted
+pub mod Greatest
+pub mod Standing
+pub mod Later

@@ -1,0 +1,13 @@
+use Rattle.std.proofs.Common.{◌≡◌, true, not, ◌&&◌, Bool, ap, sym, ◌∙◌}
+use Rattle.std.specs.List.{list_any}
+use Rattle.pgp_ids.specs.declared.log_entry.LogEntry.{LogEntry}
+use Rattle.pgp_group.specs.Heard.{is_counted}
+use Rattle.pgp_compact.specs.Compacted.{replaces_number, reports_in}
+use Rattle.pgp_compact.proofs.later.Later.needs_report.Goals as goal
+
+pub returns-then-is_counted : goal.returns-then-is_counted
+returns-then-is_counted c = λ log later g kept present.
+    let report = c.args.report.now in
+    let counted : is_counted g report.member report.stamp ≡ true = sym (c.is_counted.ensures g present) ∙ c.if-is_counted.true in
+    c.has_last_number.ensures log later kept
+    ∙ sym (ap (λ (b : Bool). b && list_any (λ (entry : LogEntry). not (list_any (replaces_number report entry.version.v) (reports_in report.pg later))) report.log) counted)

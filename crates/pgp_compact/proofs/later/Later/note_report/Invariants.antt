@@ -1,0 +1,14 @@
+use Rattle.std.proofs.Common.{◌≡◌, ℕ, List, ◌++◌, map, take}
+use Rattle.pgp_compact.specs.Greatest.{IsGreatestOf}
+use Rattle.pgp_compact.specs.Later.{is_same_number, written}
+use Rattle.pgp_compact.specs.declared.keys.Number.{Number}
+use Rattle.pgp_compact.proofs.later.Later.note_report.Given as goal
+
+abbrev pub invariant-loop-entry : goal.invariant-loop-entry
+invariant-loop-entry l = record {
+  senders : l.self.senders ≡ l.fn.self.senders;
+  starts : l.self.starts ≡ l.fn.self.starts;
+  openings : l.self.openings ≡ l.fn.self.openings;
+  numbers : (rest : List (Number × ℕ)) → IsGreatestOf is_same_number rest l.fn.self.numbers.table
+      → IsGreatestOf is_same_number (map (written l.report) (take l.entry-index l.entry-items) ++ rest) l.self.numbers.table;
+}
