@@ -10,3 +10,4 @@ pub mod LegalLemmas
 pub mod TwiceLemmas
 pub mod OpeningLemmas
 pub mod LaterLemmas
+pub mod WholeLemmas

@@ -3,3 +3,4 @@ pub mod Compacted
 pub mod Greatest
 pub mod Standing
 pub mod Later
+pub mod Whole
