@@ -1,13 +1,12 @@
 #!/usr/bin/env python3
-"""Holds the answers of a log that was compacted, and went on, against those of the log that wasn't.
+"""Holds the answers of a log that was compacted, and went on, against those of the log that wasn't, by the model alone.
 
-    fuzz/compaction.py [--seed N] [--logs N | --minutes M] [--program FILE] [--wrong NAME]
+    fuzz/compaction.py [--seed N] [--logs N | --minutes M] [--wrong NAME]
 
-Which entries of a log have to stay is worked out here once more, by docs/FORMAT.md ("pgpeer compact"). A generated log is
+Which entries of a log have to stay is worked out here once more, by docs/DECISIONS.md ("Compaction"). A generated log is
 compacted at random places. From then on each line goes to both logs, the whole one and the compacted one, and each answer has to
-be the same but for `count`; at each place each group that the story is about is asked for too. A compacted log is compacted
-once more, and has to stay as it is. With --program the lines that remain have to be those that `FILE compact` writes, and the
-answers those that `FILE run` gives.
+be the same but for `count`; after each entry the views of the groups that the story is about have to be the same too. A
+compacted log is compacted once more, and has to stay as it is.
 
 --wrong leaves out a reason for which an entry stays: then a difference has to be found, or the status is 1.
 """
@@ -16,7 +15,6 @@ import argparse
 import collections
 import json
 import random
-import subprocess
 import sys
 import time
 from typing import Any, Callable, Counter, Dict, Iterator, List, Optional, Set, Tuple

@@ -1,5 +1,5 @@
 -- What is kept of later reports says which earlier ones they make needless.
-use Rattle.std.proofs.Common.{◌≡◌, ℕ, List, [], ◌∷◌, ◌++◌, Option, Some, None, Bool, true, false, not, ◌&&◌, ◌||◌, nat_eq, nat_le, ◌+◌, ◌<◌, length, take, get_or, Result, Ok, Err, OnOk, map, refl, ap, sym, ◌∙◌, subst, inl, inr, ◌⊎◌, arith, if◌then◌else◌}
+use Rattle.std.proofs.Common.{◌≡◌, ℕ, List, [], ◌∷◌, ◌++◌, Option, Some, None, Bool, true, false, ◌&&◌, ◌||◌, nat_eq, nat_le, ◌+◌, ◌<◌, length, take, get_or, Result, Ok, Err, OnOk, map, refl, ap, sym, ◌∙◌, inl, inr, arith}
 use Rattle.std.specs.List.{filter, flat_map, list_any}
 use Rattle.std.specs.Option.{option_and_then, option_map_or}
 use Rattle.std.proofs.lemmas.Bool.{cases_Bool}

@@ -1,17 +1,14 @@
 -- What a view says of a group, and which entries are left of a log that is walked from its end.
-use Rattle.std.proofs.Common.{◌≡◌, ℕ, suc, ◌+◌, ◌-◌, ◌<◌, ◌≤◌, List, [], ◌∷◌, ◌++◌, Option, Some, None, Bool, true, false, Result, Ok, Err, IfOk, length, drop, get_or, map, reverse, refl, ap, sym, ◌∙◌, subst, inl, inr, ◌⊎◌, arith, add-one, nat_eq, cond}
-use Rattle.std.specs.List.{Contains, filter, filter_map}
+use Rattle.std.proofs.Common.{◌≡◌, ℕ, suc, ◌+◌, ◌-◌, ◌<◌, ◌≤◌, List, [], ◌∷◌, ◌++◌, Option, Some, None, true, Result, Ok, Err, IfOk, length, drop, get_or, map, reverse, refl, ap, sym, ◌∙◌, subst, inl, inr, arith}
+use Rattle.std.specs.List.{Contains, filter_map}
 use Rattle.std.specs.Option.{option_and_then, option_map}
-use Rattle.std.proofs.Math.Seq.{drop-cons}
+use Rattle.std.proofs.Math.Seq.{drop-cons, drop-length}
 use Rattle.std.proofs.lemmas.Bool.Decides.{nat_tests}
 use Rattle.std.proofs.lemmas.List.{reverse-append}
-use Rattle.pgp_code.specs.declared.any.AnyCode.{AnyCode}
 use Rattle.pgp_ids.specs.declared.entry.Entry.{Entry}
-use Rattle.pgp_ids.specs.declared.entry.Entry.TheVariants as entry
 use Rattle.pgp_ids.specs.declared.pg_id.PgId.{PgId}
 use Rattle.pgp_ids.specs.declared.report.Info.{Info}
 use Rattle.pgp_ids.specs.declared.view.View.{View}
-use Rattle.pgp_interval.specs.History.{History, last_place}
 use Rattle.pgp_lists.proofs.Members.{Contains-cases, Contains-here, Contains-later, Contains-nil, contains-filter}
 use Rattle.pgp_lists.proofs.Options.{map_some}
 use Rattle.pgp_map.specs.Map.{epoch}
@@ -20,7 +17,7 @@ use Rattle.pgp_map.specs.Pools.{is_same_group}
 use Rattle.pgp_map.specs.declared.map.OsdMap.{OsdMap}
 use Rattle.pgp_group.specs.Entries.{incs_of, info_of, infos_of}
 use Rattle.pgp_group.specs.GroupHistory.{group_history}
-use Rattle.pgp_group.specs.GroupLog.{GroupLog, group_in, group_with, incs}
+use Rattle.pgp_group.specs.GroupLog.{GroupLog, group_in, group_with}
 use Rattle.pgp_group.specs.Present.{IsPresent}
 use Rattle.pgp_group.specs.Touched.{told_at}
 use Rattle.pgp_group.specs.View.{scratch, view_of}
@@ -28,7 +25,6 @@ use Rattle.pgp_group.proofs.GrowthLemmas.{history-last}
 use Rattle.pgp_group.proofs.LaterLemmas.{log-in}
 use Rattle.pgp_log.specs.Log.{is_legal}
 use Rattle.pgp_log.proofs.LogLemmas.{legal-counts}
-use Rattle.pgp_compact.specs.Compacted.{infos_in}
 use Rattle.pgp_compact.specs.Standing.{HasReached, IsViewOf, opening_in, standing_at}
 use Rattle.pgp_compact.specs.Whole.{IsReached}
 use Rattle.pgp_compact.specs.declared.standing.Standing.{Standing}
@@ -107,3 +103,9 @@ reverse-last xs x = reverse-append xs (x ∷ [])
 pub if-ok : {X E : Type 0} (r : Result X E) (P Q : X → Type 0) → ((x : X) → P x → Q x) → IfOk r P → IfOk r Q
 if-ok (Ok x) P Q goes holds = goes x holds
 if-ok (Err e) P Q goes holds = tt
+
+pub nothing-yet : {X : Type 0} (xs : List X) → drop (length xs - 0) xs ≡ []
+nothing-yet xs = let all : length xs - 0 ≡ length xs = omega arith in ap (λ (n : ℕ). drop n xs) all ∙ drop-length xs
+
+pub all-of : {X : Type 0} (xs : List X) (step : ℕ) → length xs ≤ step → drop (length xs - step) xs ≡ xs
+all-of xs step over = let none : length xs - step ≡ 0 = omega arith in ap (λ (n : ℕ). drop n xs) none

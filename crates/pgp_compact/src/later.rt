@@ -106,7 +106,11 @@ impl Later {
 
     /// Takes note of an info that comes before all of these; `opening` is the first epoch of the interval of its
     /// last_epoch_clean, by the whole log.
-    pub(crate) fn note_info(&mut self, info: &Info, opening: Option<Epoch>) -> Result<(), AllocError>
+    pub(crate) fn note_info(
+        &mut self,
+        info: &Info,
+        opening: Option<Epoch>,
+    ) -> Result<(), AllocError>
         ensures { OnOk result ((log later : List AnyEntry) → IsLater log later self.old
             → opening ≡ option_and_then (λ g. opening_in g info.now.last_epoch_clean) (group_in log info.now.pg)
             → IsLater log (entry.Info info.now ∷ later) self.new) }

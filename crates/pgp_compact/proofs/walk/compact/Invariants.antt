@@ -1,6 +1,5 @@
-use Rattle.std.proofs.Common.{◌≡◌, ◌-◌, List, map, drop, length, reverse}
+use Rattle.std.proofs.Common.{◌≡◌, ◌-◌, map, drop, length, reverse}
 use Rattle.std.specs.Arc.{arc_value}
-use Rattle.pgp_ids.specs.declared.entry.Entry.{Entry}
 use Rattle.pgp_compact.specs.Compacted.{is_needed}
 use Rattle.pgp_compact.specs.Later.{IsLater}
 use Rattle.pgp_compact.specs.Needed.{needed_of}

@@ -1,4 +1,4 @@
-use Rattle.std.proofs.Common.{◌≡◌, List, Bool, false, not, take}
+use Rattle.std.proofs.Common.{◌≡◌, List, false, not, take}
 use Rattle.std.specs.List.{list_any}
 use Rattle.pgp_ids.specs.declared.entry.Entry.{Entry}
 use Rattle.pgp_compact.specs.Compacted.{replaces_number, reports_in}

@@ -1,8 +1,6 @@
-use Rattle.std.proofs.Common.{◌≡◌, ◌≤◌, ℕ, List, Option, None, Some, true, ap, sym, ◌∙◌, subst, arith}
-use Rattle.std.specs.Option.{option_and_then, option_map, option_map_or}
+use Rattle.std.proofs.Common.{ℕ, Option, true, ap, sym, ◌∙◌}
+use Rattle.std.specs.Option.{option_and_then, option_map_or}
 use Rattle.pgp_lists.proofs.Options.{map_some}
-use Rattle.pgp_map.specs.Map.{epoch}
-use Rattle.pgp_group.specs.Entries.{incs_of}
 use Rattle.pgp_group.specs.GroupLog.{GroupLog, group_in}
 use Rattle.pgp_compact.specs.declared.standing.Standing.{Standing}
 use Rattle.pgp_compact.specs.Compacted.{infos_in, needs_info}

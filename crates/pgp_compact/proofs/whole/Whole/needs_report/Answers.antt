@@ -1,5 +1,5 @@
-use Rattle.std.proofs.Common.{◌≡◌, ◌≤◌, ℕ, List, Option, None, Some, true, ap, sym, ◌∙◌, subst, arith}
-use Rattle.std.specs.Option.{option_and_then, option_map, option_map_or}
+use Rattle.std.proofs.Common.{◌≡◌, ◌≤◌, ℕ, Option, true, ap, sym, ◌∙◌, arith}
+use Rattle.std.specs.Option.{option_map_or}
 use Rattle.pgp_lists.proofs.Options.{map_some}
 use Rattle.pgp_map.specs.Map.{epoch}
 use Rattle.pgp_group.specs.Entries.{incs_of}
