@@ -4,6 +4,8 @@ pub mod Spans
 pub mod Sentence
 pub mod Words
 pub mod Json
+pub mod Pools
 pub mod Summary
 pub mod SummaryText
 pub mod Reading
+pub mod Explanation

@@ -23,12 +23,22 @@ pub enum ExplainFault {
 }
 
 impl From<AllocError> for ExplainFault {
+    ghost use Rattle.std.specs.Prelude.{◌≡◌};
+    ghost use Rattle.pgp_explain.specs.declared.explain_fault.ExplainFault.TheVariants.{Memory};
+
+    ghost from_gives = { λ _ fault. fault ≡ Memory };
+
     fn from(_error: AllocError) -> ExplainFault {
         ExplainFault::Memory
     }
 }
 
 impl From<WriteFault> for ExplainFault {
+    ghost use Rattle.std.specs.Prelude.{◌≡◌};
+    ghost use Rattle.pgp_explain.specs.declared.explain_fault.ExplainFault.TheVariants.{Write};
+
+    ghost from_gives = { λ _ fault. fault ≡ Write };
+
     fn from(_fault: WriteFault) -> ExplainFault {
         ExplainFault::Write
     }

@@ -1,9 +1,7 @@
 //! What a log says of one group, and of all.
-ghost use Rattle.std.specs.Prelude.{◌≡◌, Some, IfOk, option_map};
-ghost use Rattle.pgp_explain.specs.declared.explained.Explained.{Explained as TheExplained};
-ghost use Rattle.pgp_group.specs.GroupLog.{GroupLog, group_in};
+ghost use Rattle.std.specs.Prelude.{◌≡◌, None, IfOk, IfSome, IfNone};
 ghost use Rattle.pgp_group.specs.View.{scratch};
-ghost use Rattle.pgp_reasons.specs.Reasons.{AreReasons};
+ghost use Rattle.pgp_explain.specs.Explanation.{IsExplainedBy};
 
 use super::explained::Explained;
 use super::pools::PoolFacts;
@@ -18,9 +16,8 @@ use std::sync::Arc;
 
 /// The view of a group by the log, and the reasons for its verdict. None where the map has no such group.
 pub fn explained(alloc: Global, log: &mut Log, pg: PgId) -> Result<Option<Explained>, AllocError>
-    ensures view { IfOk result (λ found. option_map (λ e. e.view) found ≡ scratch log.old pg) }
-    ensures reasons { IfOk result (λ found. (e : TheExplained) (g : GroupLog) → found ≡ Some e → group_in log.old pg ≡ Some g
-        → AreReasons g e.reasons) }
+    ensures some { IfOk result (λ found. IfSome found (IsExplainedBy log.old pg)) }
+    ensures none { IfOk result (λ found. IfNone found (scratch log.old pg ≡ None)) }
     ensures same { log.new ≡ log.old }
 {
     let Some(view) = log.ask(copy_of(&pg))? else {

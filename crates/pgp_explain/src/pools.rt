@@ -1,3 +1,7 @@
+ghost use Rattle.pgp_map.specs.MapOf.{Says};
+ghost use Rattle.std.specs.Prelude.{◌≡◌};
+ghost use Rattle.pgp_explain.specs.Pools.{pool_facts};
+
 use pgp_ids::PoolId;
 use pgp_map::OsdMap;
 
@@ -13,8 +17,10 @@ pub struct PoolFacts {
 
 impl PoolFacts {
     /// The pool of the map; where there is none, one of no groups.
-    pub fn of(map: &OsdMap, pool: PoolId) -> Self {
-        match map.pool(pool) {
+    pub fn of(map: &OsdMap, id: PoolId) -> Self
+        ensures { Says map.now (λ incs. result ≡ pool_facts incs id) }
+    {
+        match map.pool(id) {
             Some(pool) => PoolFacts {
                 by_place: pool.kind.is_by_place(),
                 size: pool.size,

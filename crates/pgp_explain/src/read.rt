@@ -1,6 +1,6 @@
 //! Reading a script as a run reads it, for the log that it makes.
-ghost use Rattle.std.specs.Prelude.{◌≡◌, ◌<◌, length, IfOk};
-ghost use Rattle.pgp_explain.specs.Reading.{IsLogOfScript};
+ghost use Rattle.std.specs.Prelude.{◌≡◌, ◌<◌, length, IfOk, IfErr};
+ghost use Rattle.pgp_explain.specs.Reading.{IsLogOfScript, IsOfReading};
 
 use super::answers::{Answers, RefusedLine};
 use super::explain_fault::ExplainFault;
@@ -20,7 +20,8 @@ pub fn read_log<R: Source, E: Write>(
     script: &mut Recorded<'_, R>,
     errors: &mut E,
 ) -> Result<Log, ExplainFault>
-    ensures { IfOk result (λ log. IsLogOfScript log (R.remaining script.old.reader.now) (R.remaining script.new.reader.now)) }
+    ensures ok { IfOk result (λ log. IsLogOfScript log (R.remaining script.old.reader.now) (R.remaining script.new.reader.now)) }
+    ensures err { IfErr result (λ fault. IsOfReading fault) }
 {
     let mut witness = Witness::new(alloc);
     let mut answers = Answers::new(alloc);

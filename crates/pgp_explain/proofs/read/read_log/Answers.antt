@@ -1,7 +1,7 @@
 use Rattle.pgp_explain.proofs.read.read_log.Goals as goal
 
-pub returns-in-Ok : goal.returns-in-Ok
-returns-in-Ok g c =
+pub returns-in-Ok-clause-ok : goal.returns-in-Ok-clause-ok
+returns-in-Ok-clause-ok g c =
     let all = c.in-Ok.ensures.ok in
     record {
       script = all.script;

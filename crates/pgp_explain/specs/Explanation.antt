@@ -1,0 +1,102 @@
+-- What is printed of a script.
+use Rattle.std.specs.Prelude.{◌≡◌, ℕ, List, Option, Some, None, Bool, if◌then◌else◌}
+use Rattle.std.specs.Io.KnownBytes.{Appends}
+use Rattle.pgp_ids.specs.declared.entry.Entry.{Entry}
+use Rattle.pgp_ids.specs.declared.incremental.Incremental.{Incremental}
+use Rattle.pgp_ids.specs.declared.pg_id.PgId.{PgId}
+use Rattle.pgp_group.specs.Entries.{incs_of}
+use Rattle.pgp_group.specs.GroupLog.{GroupLog, group_in}
+use Rattle.pgp_group.specs.View.{scratch}
+use Rattle.pgp_reasons.specs.Reasons.{AreReasons}
+use Rattle.pgp_core.specs.Output.{FrontWent}
+use Rattle.pgp_explain.specs.Json.{json_of}
+use Rattle.pgp_explain.specs.Pools.{pool_facts}
+use Rattle.pgp_explain.specs.Reading.{IsLogOfScript}
+use Rattle.pgp_explain.specs.SummaryText.{IsTextOf}
+use Rattle.pgp_explain.specs.Text.{Text}
+use Rattle.pgp_explain.specs.Words.{words_of}
+use Rattle.pgp_explain.specs.declared.explained.Explained.{Explained}
+use Rattle.pgp_explain.specs.declared.explain_fault.ExplainFault.{ExplainFault}
+use Rattle.pgp_explain.specs.declared.explain_fault.ExplainFault.TheVariants.{Read, TooLarge, Write, UnknownGroup, Memory}
+use Rattle.pgp_explain.specs.declared.offset.EpochOffset.{EpochOffset}
+use Rattle.pgp_explain.specs.declared.summary.Summary.{Summary}
+
+-- what is asked for: a group, or else a summary of all; as JSON, or else in words; and by how much epochs are ahead
+pub record Question : Type 0 where
+  pub pg : Option PgId
+  pub json : Bool
+  pub offset : EpochOffset
+
+abbrev pub question : Option PgId → Bool → ℕ → Question
+question pg json epoch_offset = record { pg = pg; json = json; offset = record { 0 = epoch_offset } }
+
+-- what is told of the group's pool is so by the map of these incrementals
+pub record AreOfPool (incs : List Incremental) (explained : Explained) : Type 0 where
+  pub places_are : explained.by_place ≡ (pool_facts incs explained.pg.pool).by_place
+  pub size_is : explained.size ≡ (pool_facts incs explained.pg.pool).size
+  pub min_size_is : explained.min_size ≡ (pool_facts incs explained.pg.pool).min_size
+
+-- This is what there is to say of the group: its view from scratch, the reasons for that, and its pool by the last map.
+pub record IsExplainedBy (log : List Entry) (pg : PgId) (explained : Explained) : Type 0 where
+  pub pg_is : explained.pg ≡ pg
+  pub view_is : scratch log pg ≡ Some explained.view
+  pub group : GroupLog
+  pub there : group_in log pg ≡ Some group
+  pub reasons_are : AreReasons group explained.reasons
+  pub pool_is : AreOfPool (incs_of log) explained
+
+-- as JSON, or else in words
+abbrev pub group_text : Bool → Explained → EpochOffset → Text
+group_text json explained offset = if json then json_of explained offset else words_of explained offset
+
+-- this text says what there is to say of the group by the log
+pub record IsGroupText (log : List Entry) (pg : PgId) (json : Bool) (offset : EpochOffset) (text : Text) : Type 0 where
+  pub explained : Explained
+  pub is : IsExplainedBy log pg explained
+  pub says : text ≡ group_text json explained offset
+
+-- this text says what a summary says; that the summary is that of the log, no definition says yet
+pub record IsSummaryText (json : Bool) (offset : EpochOffset) (text : Text) : Type 0 where
+  pub summary : Summary
+  pub says : IsTextOf json summary offset text
+
+-- the text says what is asked for
+abbrev pub SaysAsked : List Entry → Option PgId → Bool → EpochOffset → Text → Type 0
+SaysAsked log None json offset text = IsSummaryText json offset text
+SaysAsked log (Some pg) json offset text = IsGroupText log pg json offset text
+
+-- The reader gave a script to its end, and the writer got the text that says what is asked for by the log that the script makes.
+pub record IsExplained (asked : Question) (from to start now : Option (List ℕ)) : Type 0 where
+  pub log : List Entry
+  pub log_is : IsLogOfScript log from to
+  pub text : Text
+  pub says : SaysAsked log asked.pg asked.json asked.offset text
+  pub went : Appends start now text
+
+-- The same, where a write failed: a front of the text went out.
+pub record IsCutShort (asked : Question) (from to start now : Option (List ℕ)) : Type 0 where
+  pub log : List Entry
+  pub log_is : IsLogOfScript log from to
+  pub text : Text
+  pub says : SaysAsked log asked.pg asked.json asked.offset text
+  pub front : FrontWent start now text
+
+-- The map of the log that the script makes has no group of this name.
+pub record HasNoGroup (pg : PgId) (from to : Option (List ℕ)) : Type 0 where
+  pub log : List Entry
+  pub log_is : IsLogOfScript log from to
+  pub none : scratch log pg ≡ None
+
+-- which group is asked for has none in that map
+abbrev pub AsksForNone : Option PgId → (from to : Option (List ℕ)) → Type 0
+AsksForNone None from to = ⊥
+AsksForNone (Some pg) from to = HasNoGroup pg from to
+
+-- why there is no text: the map has no such group, or there was no memory
+abbrev pub StopsText : ExplainFault → List Entry → Option PgId → Type 0
+StopsText Read log pg = ⊥
+StopsText TooLarge log pg = ⊥
+StopsText Write log pg = ⊥
+StopsText UnknownGroup log None = ⊥
+StopsText UnknownGroup log (Some pg) = scratch log pg ≡ None
+StopsText Memory log pg = Unit {0}
