@@ -1,5 +1,5 @@
 -- Runs with one more behind them.
-use Rattle.std.proofs.Common.{◌≡◌, ◌+◌, ◌==◌, Bool, true, false, List, [], ◌∷◌, ◌++◌, cond, refl, sym, ap, ◌∙◌, append_assoc}
+use Rattle.std.proofs.Common.{◌≡◌, ◌+◌, ◌==◌, true, false, List, [], ◌∷◌, ◌++◌, cond, refl, sym, ap, ◌∙◌, append_assoc}
 use Rattle.pgp_explain.specs.Spans.{from_to, then_run}
 use Rattle.pgp_explain.specs.declared.spans.Span.{Span}
 

@@ -87,7 +87,7 @@ pub record HasNoGroup (pg : PgId) (from to : Option (List ℕ)) : Type 0 where
   pub log_is : IsLogOfScript log from to
   pub none : scratch log pg ≡ None
 
--- which group is asked for has none in that map
+-- a group is asked for, and that map has none of this name
 abbrev pub AsksForNone : Option PgId → (from to : Option (List ℕ)) → Type 0
 AsksForNone None from to = ⊥
 AsksForNone (Some pg) from to = HasNoGroup pg from to

@@ -1,5 +1,5 @@
 -- What is told of a group's pool.
-use Rattle.std.specs.Prelude.{◌≡◌, ℕ, List, false, Option, Some, None}
+use Rattle.std.specs.Prelude.{ℕ, List, false, Option, Some, None}
 use Rattle.pgp_ids.specs.Pool.{is_by_place}
 use Rattle.pgp_ids.specs.declared.incremental.Incremental.{Incremental}
 use Rattle.pgp_ids.specs.declared.pool.PoolSpec.{PoolSpec}

@@ -1,5 +1,5 @@
 -- Which log a script makes.
-use Rattle.std.specs.Prelude.{◌≡◌, ℕ, List, [], Option, true}
+use Rattle.std.specs.Prelude.{ℕ, List, [], Option, true}
 use Rattle.std.specs.Io.KnownBytes.{Consumes, IsAtEnd}
 use Rattle.pgp_ids.specs.declared.entry.Entry.{Entry}
 use Rattle.pgp_core.specs.Lines.{lines_of}

@@ -1,5 +1,5 @@
 -- What a group waits for, in one sentence.
-use Rattle.std.specs.Prelude.{ℕ, ◌==◌, List, [], ◌∷◌, ◌++◌, Bool, not, nat_le, length, map, fold, filter, Option, Some, None, codes, decimal, if◌then◌else◌}
+use Rattle.std.specs.Prelude.{ℕ, ◌==◌, List, [], ◌∷◌, not, nat_le, length, map, fold, filter, Option, Some, None, codes, decimal, if◌then◌else◌}
 use Rattle.std.specs.List.{list_any}
 use Rattle.pgp_group.specs.Heard.{has_member}
 use Rattle.pgp_ids.specs.Osds.{osd_count}

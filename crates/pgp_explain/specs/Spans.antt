@@ -1,5 +1,5 @@
 -- Runs of epochs and of writes in words.
-use Rattle.std.specs.Prelude.{ℕ, ◌+◌, ◌<◌, ◌==◌, List, [], ◌∷◌, ◌++◌, Bool, false, nat_lt, length, take, map, fold, flat_map, codes, decimal, if◌then◌else◌}
+use Rattle.std.specs.Prelude.{ℕ, ◌+◌, ◌==◌, List, [], ◌∷◌, ◌++◌, Bool, false, nat_lt, length, take, map, fold, flat_map, codes, decimal, if◌then◌else◌}
 use Rattle.pgp_reasons.specs.declared.blocking.Blocking.{Blocking}
 use Rattle.pgp_reasons.specs.declared.gap.Gap.{Gap}
 use Rattle.pgp_explain.specs.Text.{Text, joined, listed}

@@ -1,13 +1,13 @@
 -- What is said of a summary, in words and as JSON.
-use Rattle.std.specs.Prelude.{◌≡◌, ℕ, ◌==◌, List, [], ◌∷◌, ◌++◌, Bool, true, false, ◌&&◌, nat_lt, length, flat_map, codes, decimal, if◌then◌else◌, IsPermutation}
-use Rattle.serde_json.specs.Data.{Data, object}
+use Rattle.std.specs.Prelude.{◌≡◌, ℕ, ◌==◌, List, [], ◌∷◌, ◌++◌, Bool, ◌&&◌, nat_lt, length, flat_map, codes, decimal, if◌then◌else◌, IsPermutation}
+use Rattle.serde_json.specs.Data.{Data}
 use Rattle.serde_json.specs.Written.{compact_text}
 use Rattle.pgp_ids.specs.Names.{verdict_name}
 use Rattle.pgp_ids.specs.declared.verdict.Verdict.{Verdict}
 use Rattle.pgp_ids.specs.declared.verdict.Verdict.TheVariants.{NoPrimary, Down, Waiting, Incomplete, Short, NeedLog, NeedUpThru, Serve}
 use Rattle.pgp_replies.specs.Json.{Field, object_with, number_data, list_data}
 use Rattle.pgp_explain.specs.Text.{Text, joined, line}
-use Rattle.pgp_explain.specs.Names.{told_epoch, epoch_name, device_name, plural}
+use Rattle.pgp_explain.specs.Names.{epoch_name, device_name, plural}
 use Rattle.pgp_explain.specs.Json.{epoch_data}
 use Rattle.pgp_explain.specs.Summary.{verdict_count, group_total}
 use Rattle.pgp_explain.specs.declared.offset.EpochOffset.{EpochOffset}

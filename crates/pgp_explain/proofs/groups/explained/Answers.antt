@@ -5,7 +5,6 @@ use Rattle.pgp_group.specs.GroupLog.{group_in}
 use Rattle.pgp_group.specs.View.{scratch, view_of}
 use Rattle.pgp_ids.specs.declared.entry.Entry.{Entry}
 use Rattle.pgp_map.specs.MapOf.{IsMapOf}
-use Rattle.pgp_explain.specs.Pools.{pool_facts}
 use Rattle.pgp_explain.proofs.groups.explained.Goals as goal
 
 -- a value that was mapped to something was there

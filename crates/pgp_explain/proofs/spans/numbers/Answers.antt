@@ -1,4 +1,4 @@
-use Rattle.std.proofs.Common.{◌≡◌, ◌++◌, ap, sym, ◌∙◌, true, length, nat_lt}
+use Rattle.std.proofs.Common.{◌≡◌, true, length, nat_lt}
 use Rattle.std.proofs.lemmas.Bool.{lt-ltb}
 use Rattle.pgp_explain.specs.Spans.{most_named}
 use Rattle.pgp_explain.proofs.spans.numbers.Goals as goal

@@ -1,4 +1,4 @@
-use Rattle.std.proofs.Common.{◌≡◌, ◌++◌, ap, ◌∙◌}
+use Rattle.std.proofs.Common.{◌++◌, ap, ◌∙◌}
 use Rattle.json.specs.Print.{print}
 use Rattle.serde_json.proofs.Texts.{print-outline}
 use Rattle.pgp_replies.specs.Written.{tokens_of}
