@@ -13,6 +13,7 @@ use Rattle.clap.specs.Walk.{Row, Rule, Text, first_of}
 use Rattle.clap.specs.declared.parser.matches.ArgMatches.{ArgMatches}
 use Rattle.clap.specs.declared.builder.action.ArgAction.TheVariants.{SetTrue}
 use Rattle.pgp_ids.specs.declared.pg_id.PgId.{PgId}
+use Rattle.pgp_explain.specs.Explanation.{Question, question}
 use Rattle.pgp_cli.specs.declared.run_options.RunOptions.{RunOptions}
 use Rattle.pgp_cli.specs.declared.explain_options.ExplainOptions.{ExplainOptions}
 use Rattle.pgp_cli.specs.declared.request.Request.{Request}
@@ -165,6 +166,10 @@ AsksForExplain words options = (explain_faults_in words ≡ []) × (explanation_
 -- they ask for some explanation
 abbrev pub AsksForSomeExplain : List (List ℕ) → Type 0
 AsksForSomeExplain words = (options : ExplainOptions) × AsksForExplain words options
+
+-- what is asked for, without the words
+abbrev pub question_of : ExplainOptions → Question
+question_of options = question options.pg options.json options.epoch_offset
 
 -- ---- which of the two
 

@@ -1,10 +1,12 @@
--- What the program does beyond answering a script, and how its runs end.
+-- What the program does beyond answering a script, and how its runs and explanations end.
 use Rattle.std.specs.Prelude.{◌≡◌, ◌⊎◌, ℕ, ◌≤◌, List, Bool, true, Option}
 use Rattle.std.specs.Io.KnownBytes.{Appends}
 use Rattle.pgp_core.specs.Run.{AllAnswered, Stopped, script_bounds}
+use Rattle.pgp_explain.specs.Explanation.{IsCutShort, IsExplained}
 use Rattle.pgp_run.specs.Run.{ToldByEngine, StoppedByEngine}
 use Rattle.pgp_run.specs.declared.fault.RunFault.TheVariants.{Read, Write, NoEngine}
-use Rattle.pgp_cli.specs.Options.{Counts}
+use Rattle.pgp_cli.specs.declared.explain_options.ExplainOptions.{ExplainOptions}
+use Rattle.pgp_cli.specs.Options.{Counts, question_of}
 
 -- some text was written after what was there
 pub record Grows (old new : Option (List ℕ)) : Type 0 where
@@ -27,3 +29,13 @@ EngineIsStopped from to start now read_failed write_failed =
 pub record RunIsStopped (counts : Counts) (from to start now : Option (List ℕ)) (read_failed write_failed : Bool) : Type 0 where
   pub alone : counts.workers ≡ 0 → Stopped script_bounds from to start now read_failed write_failed
   pub shared : 1 ≤ counts.workers → EngineIsStopped from to start now read_failed write_failed
+
+-- The writer got what the options ask for, by the log that the reader's script makes.
+pub record ExplainIsDone (options : ExplainOptions) (from start now : Option (List ℕ)) : Type 0 where
+  pub to : Option (List ℕ)
+  pub explained : IsExplained (question_of options) from to start now
+
+-- The same, where a write failed: a front of that went out.
+pub record ExplainIsCutShort (options : ExplainOptions) (from start now : Option (List ℕ)) : Type 0 where
+  pub to : Option (List ℕ)
+  pub cut : IsCutShort (question_of options) from to start now

@@ -1,8 +1,9 @@
 //! What the program does, over any reader and writers, and the status that it ends with.
 
 ghost use Rattle.std.specs.Prelude.{◌≡◌, ◌≢◌, ◌⊎◌, ◌≤◌, true, map, string_bytes};
-ghost use Rattle.pgp_cli.specs.Options.{Counts, counts_of, AsksForRun, AsksForWorkers, AsksForHelp, AsksForSomeExplain};
-ghost use Rattle.pgp_cli.specs.Status.{EngineIsStopped, Grows, RunIsDone, RunIsStopped};
+ghost use Rattle.pgp_cli.specs.Options.{Counts, counts_of, AsksForRun, AsksForWorkers, AsksForExplain, AsksForHelp, AsksForSomeExplain};
+ghost use Rattle.pgp_cli.specs.Status.{EngineIsStopped, ExplainIsCutShort, ExplainIsDone, Grows, RunIsDone, RunIsStopped};
+ghost use Rattle.pgp_cli.specs.declared.explain_options.ExplainOptions.{ExplainOptions as TheOptions};
 ghost use Rattle.pgp_core.specs.Run.{AllAnswered, Stopped, script_bounds};
 ghost use Rattle.pgp_run.specs.Run.{ToldByEngine};
 
@@ -40,13 +41,14 @@ pub fn status_of<R: Source, W: Sink, E: Write, T: Threads + Wait + Sync>(
     writer: &mut W,
     errors: &mut E,
 ) -> u8
-    // The script was answered to its end, or help was asked for and nothing was read, or an explanation was asked for.
+    // The script was answered to its end, or help was asked for and nothing was read, or the script was explained as asked.
     ensures done { result ≡ DONE
         → ((counts : Counts) × (AsksForRun (map string_bytes words.now) counts × RunIsDone counts (R.remaining reader.old)
         (R.remaining reader.new) (W.contents writer.old) (W.contents writer.new)))
         ⊎ (AsksForHelp (map string_bytes words.now) × (reader.new ≡ reader.old)
         × Grows (W.contents writer.old) (W.contents writer.new))
-        ⊎ AsksForSomeExplain (map string_bytes words.now) }
+        ⊎ ((options : TheOptions) × (AsksForExplain (map string_bytes words.now) options
+        × ExplainIsDone options (R.remaining reader.old) (W.contents writer.old) (W.contents writer.new))) }
     // No call failed, and nothing was told, unless an explanation was asked for.
     ensures kept { result ≡ DONE → ((R.failed reader.new ≡ R.failed reader.old) × (W.failed writer.new ≡ W.failed writer.old))
         ⊎ AsksForSomeExplain (map string_bytes words.now) }
@@ -54,13 +56,16 @@ pub fn status_of<R: Source, W: Sink, E: Write, T: Threads + Wait + Sync>(
     // Nothing was read, and nothing was answered.
     ensures usage { result ≡ USAGE → (reader.new ≡ reader.old) × (writer.new ≡ writer.old) }
     // The script was answered as far as it was read whole, or as far as it could be written or had an engine to answer it; or
-    // there was no engine, and nothing was read; or help could not be shown; or an explanation was asked for.
+    // there was no engine, and nothing was read; or help could not be shown; or an explanation was asked for, and
+    // none of it was written, or a front of it, where a write failed.
     ensures fault { result ≢ DONE → result ≢ USAGE → (result ≡ FAULT)
         × (((counts : Counts) × (AsksForRun (map string_bytes words.now) counts × RunIsStopped counts (R.remaining reader.old)
         (R.remaining reader.new) (W.contents writer.old) (W.contents writer.new) (R.failed reader.new) (W.failed writer.new)))
         ⊎ (AsksForWorkers (map string_bytes words.now) × (reader.new ≡ reader.old) × (writer.new ≡ writer.old))
         ⊎ (AsksForHelp (map string_bytes words.now) × (reader.new ≡ reader.old) × (W.failed writer.new ≡ true))
-        ⊎ AsksForSomeExplain (map string_bytes words.now)) }
+        ⊎ ((options : TheOptions) × (AsksForExplain (map string_bytes words.now) options × ((writer.new ≡ writer.old)
+        ⊎ ((W.failed writer.new ≡ true)
+        × ExplainIsCutShort options (R.remaining reader.old) (W.contents writer.old) (W.contents writer.new)))))) }
 {
     match read_request(alloc, words) {
         Ok(Request::Run(options)) => run(rt, alloc, options, reader, writer, errors),
@@ -153,7 +158,10 @@ fn explain_script<R: Source, W: Sink, E: Write>(
     writer: &mut W,
     errors: &mut E,
 ) -> u8
-    ensures { (result ≡ DONE) ⊎ (result ≡ FAULT) }
+    ensures done { result ≡ DONE → ExplainIsDone options.now (R.remaining reader.old) (W.contents writer.old) (W.contents writer.new) }
+    ensures fault { result ≢ DONE → (result ≡ FAULT) × ((writer.new ≡ writer.old)
+        ⊎ ((W.failed writer.new ≡ true)
+        × ExplainIsCutShort options.now (R.remaining reader.old) (W.contents writer.old) (W.contents writer.new))) }
 {
     let told = explain(
         alloc,
