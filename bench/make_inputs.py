@@ -215,7 +215,7 @@ def full_asked(rng, count):
 
 def fall_or_boot(rng, up, down):
     """Takes a device down, or boots one that is down, where an eighth of them are or by chance."""
-    boots = down and (len(down) * 7 >= len(up) or rng.randrange(2) == 0)
+    boots = bool(down) and (len(down) * 7 >= len(up) or rng.randrange(2) == 0)
     source, target = (down, up) if boots else (up, down)
     osd = source.pop(rng.randrange(len(source)))
     target.append(osd)
