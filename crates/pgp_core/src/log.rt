@@ -50,6 +50,7 @@ impl Model for Log {
 }
 
 impl Log {
+    /// The log before its first entry.
     pub fn new(alloc: Global) -> Self
         ensures { result ≡ [] }
     {
@@ -60,6 +61,18 @@ impl Log {
             shard: ShardState::start(alloc, 0, 1),
             raw_sets: RawSets::new(alloc),
         }
+    }
+
+    /// The log of these entries, which it shares: a legal log.
+    pub fn over(alloc: Global, entries: &[Arc<Entry>]) -> Result<Self, AllocError>
+        requires { is_legal (map arc_value entries.now) ≡ true }
+        ensures { IfOk result (λ log. log ≡ map arc_value entries.now) }
+    {
+        let mut log = Log::new(alloc);
+        for entry in entries {
+            log.take_shared(Arc::try_clone(entry)?)?;
+        }
+        Ok(log)
     }
 
     /// How many entries it has.
@@ -155,8 +168,17 @@ impl Log {
         ensures ok { OnOk result (self.new ≡ self.old ++ entry ∷ []) }
         ensures err { OnErr result (self.new ≡ self.old) }
     {
-        self.entries.reserve(1)?;
         let entry = Arc::new(self.alloc, entry)?;
+        self.take_shared(entry)
+    }
+
+    /// The same, of an entry that others may hold too.
+    fn take_shared(&mut self, entry: Arc<Entry>) -> Result<(), AllocError>
+        requires { fits self.old (arc_value entry) ≡ None }
+        ensures ok { OnOk result (self.new ≡ self.old ++ arc_value entry ∷ []) }
+        ensures err { OnErr result (self.new ≡ self.old) }
+    {
+        self.entries.reserve(1)?;
         self.judge.take(&entry)?;
         self.raw_sets.follow(&entry);
         self.entries.push_reserved(entry);

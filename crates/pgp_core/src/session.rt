@@ -1,6 +1,8 @@
 //! A log that one thread tells and asks, line by line or in values, with no reader and no writer.
 
-ghost use Rattle.std.specs.Prelude.{◌≡◌, ◌≤◌, ◌∷◌, [], ◌++◌, length, false, Some, OnOk, IfOk, OnErr, IfErr};
+ghost use Rattle.std.specs.Prelude.{◌≡◌, ◌≤◌, ◌∷◌, [], ◌++◌, length, map, true, false, Some, OnOk, IfOk, OnErr, IfErr};
+ghost use Rattle.std.specs.Arc.{arc_value};
+ghost use Rattle.pgp_log.specs.Log.{is_legal};
 ghost use Rattle.pgp_lines.specs.declared.command.Command.TheVariants.{Locate, Submit};
 ghost use Rattle.pgp_core.specs.Answer.{line_text, line_log};
 ghost use Rattle.pgp_core.specs.Lines.{is_blank};
@@ -18,6 +20,7 @@ use pgp_ids::{Entry, ObjectName, PgId, PoolId, View};
 use pgp_text::Reply;
 use std::alloc::{AllocError, Global};
 use std::marker::Model;
+use std::sync::Arc;
 
 /// What was written for the last line of a session.
 #[derive(Clone, Copy)]
@@ -134,6 +137,25 @@ impl Session {
         ensures memory { OnErr result (MayFindNone self.old.log (Submit entry)) }
     {
         submit(entry, &mut self.log)
+    }
+
+    /// The entries of its log, in the order in which they were taken.
+    pub fn entries(&self) -> &[Arc<Entry>]
+        ensures { map arc_value result.now ≡ self.now.log }
+    {
+        self.log.entries()
+    }
+
+    /// Goes on with the log of these entries in place of its own: a legal log, as the compacted one. The last answer stays.
+    /// Where there is no memory for it, the session stays as it was.
+    pub fn go_on_with(&mut self, entries: &[Arc<Entry>]) -> Result<(), AllocError>
+        requires { is_legal (map arc_value entries.now) ≡ true }
+        ensures log { OnOk result (self.new.log ≡ map arc_value entries.now) }
+        ensures answer { self.new.answer ≡ self.old.answer }
+        ensures kept { OnErr result (self.new.log ≡ self.old.log) }
+    {
+        self.log = Log::over(self.alloc, entries)?;
+        Ok(())
     }
 }
 
