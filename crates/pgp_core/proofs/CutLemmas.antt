@@ -78,3 +78,20 @@ some_before false byte (line ∷ lines) rest = omega arith
 pub some-line : (bytes : List ℕ) → 0 < length bytes → 0 < length (lines_of bytes)
 some-line [] some = absurd (omega arith)
 some-line (byte ∷ bytes) some = some_before (is_line_feed byte) byte (cut bytes).whole (cut bytes).rest
+
+-- ---- the first line
+
+-- one that a line feed ends
+pub cut-one : (line : List ℕ) → list_any is_line_feed line ≡ false → cut (line ++ 10 ∷ []) ≡ record { whole = line ∷ []; rest = [] }
+cut-one line one = cut-feed line ∙ ap (λ (c : Cut). make (c.whole ++ c.rest ∷ []) []) (cut_piece line one)
+
+pub lines-first : (line rest : List ℕ) → list_any is_line_feed line ≡ false → lines_of (line ++ 10 ∷ rest) ≡ line ∷ lines_of rest
+lines-first line rest one =
+    ap lines_of (sym (append_assoc line (10 ∷ []) rest))
+    ∙ lines-closed (line ++ 10 ∷ []) rest (ap (λ (c : Cut). c.rest) (cut-one line one))
+    ∙ ap (λ (c : Cut). c.whole ++ lines_of rest) (cut-one line one)
+
+-- one that is the last
+pub lines-last : (line : List ℕ) → list_any is_line_feed line ≡ false → 0 < length line → lines_of line ≡ line ∷ []
+lines-last [] one some = absurd (omega arith)
+lines-last (byte ∷ line) one some = ap (λ (c : Cut). c.whole ++ last_line c.rest) (cut_piece (byte ∷ line) one)

@@ -9,6 +9,8 @@ pub mod Output
 pub mod Wants
 pub mod Told
 pub mod Run
+pub mod Whole
+pub mod Added
 pub mod Telling
 pub mod Session
 pub mod Examples

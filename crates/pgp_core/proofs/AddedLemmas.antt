@@ -1,0 +1,116 @@
+-- What a line that adds an entry is, and the log that the lines of a script make.
+use Rattle.std.proofs.Common.{◌≡◌, ℕ, List, [], ◌∷◌, ◌++◌, Bool, true, false, Option, Some, None, Result, Ok, Err, length, map, nat_lt, refl, sym, ap, ◌∙◌, append_assoc, append-nil, inl, inr}
+use Rattle.std.specs.Prelude.{is_none, IfSome}
+use Rattle.std.proofs.lemmas.Bool.{cases_Bool}
+use Rattle.pgp_ids.specs.declared.entry.Entry.{Entry}
+use Rattle.pgp_refusals.specs.declared.refusal.Refusal.{Refusal}
+use Rattle.pgp_text.specs.Command.{command_of}
+use Rattle.pgp_text.specs.LineFault.{LineFault}
+use Rattle.pgp_lines.specs.declared.command.Command.{Command}
+use Rattle.pgp_lines.specs.declared.command.Command.TheVariants.{Submit, Ask, Locate, Trace}
+use Rattle.pgp_log.specs.Fits.{fits}
+use Rattle.pgp_log.specs.Log.{is_legal}
+use Rattle.pgp_log.proofs.LogLemmas.{legal-snoc}
+use Rattle.pgp_core.specs.Added.{EntryLine, IsOutcome, IsOutcomeOf, added_by, entries_of, entry_line, entry_lines, taken_by, taken_from, with_added}
+use Rattle.pgp_core.specs.Answer.{log_of, log_with}
+use Rattle.pgp_core.specs.Lines.{is_blank}
+use Rattle.pgp_core.specs.Script.{log_past, logs, longest_line}
+use Rattle.pgp_core.specs.declared.want.Want.{Want}
+use Rattle.pgp_core.specs.declared.outcome.LineOutcome.{LineOutcome}
+use Rattle.pgp_core.specs.declared.outcome.LineOutcome.TheVariants.{Blank, Taken, Asked, Refused}
+use Rattle.pgp_replies.specs.declared.reply.refused.Refused.TheVariants as why
+use Rattle.pgp_refusals.specs.declared.text_fault.TextFault.{TextFault}
+use Rattle.pgp_refusals.specs.declared.text_fault.TextFault.TheVariants.{LineTooLong, NotJson, NoOp, UnknownKey, BadField, Memory}
+use Rattle.pgp_lines.specs.LineFault.{told}
+use Rattle.pgp_text.specs.Reply.{reply_text}
+
+-- ---- one line
+
+-- the line was read as the entry, which fits
+pub record IsAdding (log : List Entry) (line : List ℕ) (entry : Entry) : Type 0 where
+  pub some : is_blank line ≡ false
+  pub short : nat_lt longest_line (length line) ≡ false
+  pub reads : command_of line ≡ Ok (Submit entry)
+  pub fit : fits log entry ≡ None
+
+taken-fits : (log : List Entry) (entry : Entry) (why : Option Refusal) (taken : Entry) → fits log entry ≡ why
+    → taken_from log (Submit entry) ≡ Some taken → (entry ≡ taken) × (fits log taken ≡ None)
+taken-fits log entry None taken fit is =
+    let some : Some entry ≡ Some taken = rw fit at is in
+    let same : entry ≡ taken = cc in (same, ap (fits log) (sym same) ∙ fit)
+taken-fits log entry (Some refusal) taken fit is = let none : Some taken ≡ None = sym is ∙ rw fit refl in absurd cc
+
+taken-reads : (log : List Entry) (read : Result Command LineFault) (taken : Entry) → taken_by log read ≡ Some taken
+    → (read ≡ Ok (Submit taken)) × (fits log taken ≡ None)
+taken-reads log (Ok (Submit entry)) taken is =
+    let facts = taken-fits log entry (fits log entry) taken refl is in (ap (λ e. Ok (Submit e)) facts.0, facts.1)
+taken-reads log (Ok (Ask pg)) taken is = absurd cc
+taken-reads log (Ok (Locate pool name)) taken is = absurd cc
+taken-reads log (Ok (Trace code epochs)) taken is = absurd cc
+taken-reads log (Err fault) taken is = absurd cc
+
+pub adding : (log : List Entry) (line : List ℕ) (entry : Entry) → added_by log line ≡ Some entry → IsAdding log line entry
+adding log line entry is = elim (cases_Bool (is_blank line)) [
+  | inl blank ↦ let none : None ≡ Some entry = rw blank at is in absurd cc
+  | inr some ↦ elim (cases_Bool (nat_lt longest_line (length line))) [
+    | inl long ↦ let none : None ≡ Some entry = rw (some, long) at is in absurd cc
+    | inr short ↦
+        let facts = taken-reads log (command_of line) entry (rw (some, short) at is) in
+        record { some = some; short = short; reads = facts.0; fit = facts.1 }
+  ]
+]
+
+-- ---- the lines of a script
+
+-- after one line: what it adds, and what the others add to the log then
+pub lines-cases : (P : List EntryLine → Type 0) (log : List Entry) (line : List ℕ) (lines : List (List ℕ)) → (added_by log line ≡ None → P (entry_lines log lines))
+    → ((entry : Entry) → added_by log line ≡ Some entry → P (entry_line line entry ∷ entry_lines (log ++ entry ∷ []) lines)) → P (entry_lines log (line ∷ lines))
+lines-cases P log line lines none some = go (added_by log line) refl where
+  go : (added : Option Entry) → added_by log line ≡ added → P (entry_lines log (line ∷ lines))
+  go None is = rw is (none is)
+  go (Some entry) is = rw is (some entry is)
+
+-- the log that they make is legal
+pub lines-legal : (log : List Entry) (lines : List (List ℕ)) → is_legal log ≡ true → is_legal (log ++ entries_of (entry_lines log lines)) ≡ true
+lines-legal log [] legal = ap is_legal (append-nil log) ∙ legal
+lines-legal log (line ∷ lines) legal =
+    let P : List EntryLine → Type 0 = λ l. is_legal (log ++ entries_of l) ≡ true in
+    lines-cases P log line lines (λ none. lines-legal log lines legal)
+    (λ entry adds.
+    let grown = log ++ entry ∷ [] in
+    ap is_legal (sym (append_assoc log (entry ∷ []) (entries_of (entry_lines grown lines))))
+    ∙ lines-legal grown lines (legal-snoc log entry legal (adding log line entry adds).fit))
+
+taken-past : (log : List Entry) (entry : Entry) (why : Option Refusal) → fits log entry ≡ why → with_added log (taken_from log (Submit entry)) ≡ log_with log entry why
+taken-past log entry None fit = rw fit refl
+taken-past log entry (Some refusal) fit = rw fit refl
+
+read-past : (log : List Entry) (read : Result Command LineFault) → with_added log (taken_by log read) ≡ log_of log read
+read-past log (Ok (Submit entry)) = taken-past log entry (fits log entry) refl
+read-past log (Ok (Ask pg)) = refl
+read-past log (Ok (Locate pool name)) = refl
+read-past log (Ok (Trace code epochs)) = refl
+read-past log (Err fault) = refl
+
+-- a line that meets no want adds its entry
+added-past : (log : List Entry) (line : List ℕ) → log_past log None line ≡ with_added log (added_by log line)
+added-past log line = elim (cases_Bool (is_blank line)) [
+  | inl blank ↦ rw blank refl
+  | inr some ↦ elim (cases_Bool (nat_lt longest_line (length line))) [
+    | inl long ↦ rw (some, long) refl
+    | inr short ↦ rw (some, short) (sym (read-past log (command_of line)))
+  ]
+]
+
+abbrev no_wants : List (List ℕ) → List (Option Want)
+no_wants lines = map (λ line. None) lines
+
+-- lines that meet no want make this log
+pub lines-made : (log : List Entry) (lines : List (List ℕ)) → logs log (no_wants lines) lines ≡ log ++ entries_of (entry_lines log lines)
+lines-made log [] = sym (append-nil log)
+lines-made log (line ∷ lines) =
+    let P : List EntryLine → Type 0 = λ l. logs (log_past log None line) (no_wants lines) lines ≡ log ++ entries_of l in
+    let after : (added : Option Entry) → added_by log line ≡ added → logs (log_past log None line) (no_wants lines) lines ≡ logs (with_added log added) (no_wants lines) lines =
+    λ added is. ap (λ l. logs l (no_wants lines) lines) (added-past log line ∙ ap (with_added log) is) in
+    lines-cases P log line lines (λ none. after None none ∙ lines-made log lines)
+    (λ entry adds. after (Some entry) adds ∙ lines-made (log ++ entry ∷ []) lines ∙ append_assoc log (entry ∷ []) (entries_of (entry_lines (log ++ entry ∷ []) lines)))

@@ -1,0 +1,14 @@
+use Rattle.std.proofs.Common.{◌≡◌, ◌-◌, ◌<◌, ◌≤◌, length}
+use Rattle.std.specs.Io.KnownBytes.{Consumes}
+use Rattle.pgp_core.proofs.whole.read_whole.Given as goal
+
+abbrev pub invariant-loop-script : goal.invariant-loop-script
+invariant-loop-script g l = record {
+  room : 0 < length l.chunk;
+  few : length l.script.items ≤ l.bounds.bytes;
+  bytes : Consumes (g.R.Source.remaining l.initial.reader) (g.R.Source.remaining l.reader) l.script.items;
+  kept : g.R.Source.failed l.reader ≡ g.R.Source.failed l.initial.reader;
+}
+
+abbrev pub decreases-loop-script : goal.decreases-loop-script
+decreases-loop-script g l = l.bounds.bytes - length l.script.items

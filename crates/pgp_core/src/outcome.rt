@@ -1,0 +1,116 @@
+//! What a line of a script is to a log that takes its entries and answers nothing.
+
+ghost use Rattle.std.specs.Prelude.{◌≡◌, IfOk, OnErr};
+ghost use Rattle.pgp_lines.specs.declared.command.Command.TheVariants.{Ask, Locate, Submit};
+ghost use Rattle.pgp_core.specs.Added.{IsOutcome, IsOutcomeOf, added_by, taken_from, with_added};
+ghost use Rattle.pgp_group.specs.Entries.{incs_of};
+ghost use Rattle.pgp_map.specs.Pools.{has_group};
+
+use super::line::{LONGEST_LINE, all_blank};
+use super::log::Log;
+use pgp_ids::{AskRefusal, Entry, LocateRefusal, ObjectName, PgId, PoolId, Refusal, TextFault};
+use pgp_text::{Command, LineReader, Refused};
+use std::alloc::{AllocError, Global};
+
+/// What a line of a script is to the log before it.
+#[derive(Debug, Drop)]
+pub enum LineOutcome {
+    /// It has only blanks.
+    Blank,
+    /// An entry, which the log has from now on.
+    Taken,
+    /// A question that a run would answer. It changes nothing.
+    Asked,
+    /// It is refused, and changes nothing.
+    Refused(Refused),
+}
+
+impl Log {
+    /// Reads a line, given without its line feed, and takes its entry, if it is one that fits. Nothing is answered: a question
+    /// isn't worked out.
+    ///
+    /// An error says that there was no memory, and the log stays as it was.
+    pub fn read_line(
+        &mut self,
+        alloc: Global,
+        reader: &mut LineReader,
+        line: &[u8],
+    ) -> Result<LineOutcome, AllocError>
+        ensures outcome { IfOk result (IsOutcome self.old line.now) }
+        ensures log { IfOk result (λ _. self.new ≡ with_added self.old (added_by self.old line.now)) }
+        ensures kept { OnErr result (self.new ≡ self.old) }
+    {
+        if all_blank(line) {
+            return Ok(LineOutcome::Blank);
+        }
+        if line.len() > LONGEST_LINE {
+            return Ok(LineOutcome::Refused(Refused::Line(TextFault::LineTooLong)));
+        }
+        match reader.read(alloc, line) {
+            Ok(command) => obey(self, command),
+            Err(TextFault::Memory) => Err(AllocError),
+            Err(fault) => Ok(LineOutcome::Refused(Refused::Line(fault))),
+        }
+    }
+}
+
+/// Takes the entry of the command, if it is one that fits.
+fn obey(log: &mut Log, command: Command) -> Result<LineOutcome, AllocError>
+    ensures outcome { IfOk result (IsOutcomeOf log.old command) }
+    ensures log { IfOk result (λ _. log.new ≡ with_added log.old (taken_from log.old command)) }
+    ensures kept { OnErr result (log.new ≡ log.old) }
+{
+    match command {
+        Command::Submit(entry) => take_if_fits(log, entry),
+        Command::Ask(pg) => Ok(asked(log, pg)),
+        Command::Locate { pool, name } => Ok(located(log, pool, &name)),
+        Command::Trace { code: _, epochs: _ } => Ok(LineOutcome::Asked),
+    }
+}
+
+/// Takes the entry if it fits.
+fn take_if_fits(log: &mut Log, entry: Entry) -> Result<LineOutcome, AllocError>
+    ensures outcome { IfOk result (IsOutcomeOf log.old (Submit entry)) }
+    ensures log { IfOk result (λ _. log.new ≡ with_added log.old (taken_from log.old (Submit entry))) }
+    ensures kept { OnErr result (log.new ≡ log.old) }
+{
+    match log.judge(&entry) {
+        Ok(()) => {
+            log.take(entry)?;
+            Ok(LineOutcome::Taken)
+        }
+        Err(Refusal::Memory) => Err(AllocError),
+        Err(refusal) => Ok(LineOutcome::Refused(Refused::Entry(refusal))),
+    }
+}
+
+/// What a question about the group is to the log.
+fn asked(log: &Log, pg: PgId) -> LineOutcome
+    ensures { IsOutcomeOf log.now (Ask pg) result }
+{
+    if has_group(log, pg) {
+        LineOutcome::Asked
+    } else {
+        LineOutcome::Refused(Refused::Ask(AskRefusal::UnknownGroup))
+    }
+}
+
+/// Whether the log's map has the group.
+fn has_group(log: &Log, pg: PgId) -> bool
+    ensures { result ≡ has_group (incs_of log.now) pg }
+{
+    match log.map().pool(pg.pool) {
+        Some(pool) => pg.pg < pool.pg_num,
+        None => false,
+    }
+}
+
+/// What a question where the object of this name lies is to the log. It has an answer where the map has the pool.
+fn located(log: &Log, id: PoolId, _name: &ObjectName) -> LineOutcome
+    ensures { IsOutcomeOf log.now (Locate id _name.now) result }
+{
+    match log.map().pool(id) {
+        Some(_) => LineOutcome::Asked,
+        None => LineOutcome::Refused(Refused::Locate(LocateRefusal::UnknownPool)),
+    }
+}

@@ -1,0 +1,120 @@
+//! Reading a script whole, before anything is done with it.
+
+ghost use Rattle.std.specs.Prelude.{◌≡◌, ◌≢◌, ℕ, ◌+◌, ◌<◌, ◌≤◌, List, [], ◌∷◌, Option, OnOk, IfOk, IfSome, IfNone, length, nat_le, true};
+ghost use Rattle.std.specs.Io.KnownBytes.{Consumes, IsAtEnd};
+ghost use Rattle.pgp_core.specs.Lines.{lines_of};
+ghost use Rattle.pgp_core.specs.Whole.{GivesTooMuch, IsWholeScript};
+
+use super::input::{Bounds, split_line};
+use super::streams::Source;
+use std::alloc::{AllocError, Global};
+use thiserror::Error;
+
+/// How many bytes a read asks for.
+const CHUNK: usize = 65536;
+
+/// Why a script could not be read whole.
+#[derive(Clone, Copy, Debug, PartialEq, Eq, Error)]
+pub enum WholeFault {
+    /// A read failed.
+    #[error("read fault")]
+    Read,
+    /// It is larger than its bounds.
+    #[error("the script is too large")]
+    TooLarge,
+    /// There was no memory to keep it.
+    #[error("out of memory")]
+    Memory,
+}
+
+impl From<AllocError> for WholeFault {
+    ghost use Rattle.std.specs.Prelude.{◌≡◌};
+    ghost use Rattle.pgp_core.specs.declared.whole.WholeFault.TheVariants.{Memory};
+
+    ghost from_gives = { λ _ fault. fault ≡ Memory };
+
+    fn from(_error: AllocError) -> WholeFault {
+        WholeFault::Memory
+    }
+}
+
+/// The bytes of the script that the reader gives, to its end.
+pub fn read_whole<R: Source>(
+    alloc: Global,
+    reader: &mut R,
+    bounds: Bounds,
+) -> Result<Vec<u8>, WholeFault>
+    ensures ok { IfOk result (λ script. IsWholeScript bounds script.items (R.remaining reader.old) (R.remaining reader.new)) }
+    ensures read { result ≡ Err WholeFault.Read → R.failed reader.new ≡ true }
+    ensures large { result ≡ Err WholeFault.TooLarge → GivesTooMuch bounds (R.remaining reader.old) (R.remaining reader.new) }
+    ensures kept { result ≢ Err WholeFault.Read → R.failed reader.new ≡ R.failed reader.old }
+{
+    let mut chunk = [0u8; CHUNK];
+    let mut script = Vec::new(alloc);
+    while read_more(&mut chunk, &mut script, reader, bounds)? != 0 {}
+    if has_lines_within(script.as_slice(), bounds.lines) {
+        Ok(script)
+    } else {
+        Err(WholeFault::TooLarge)
+    }
+}
+
+/// Reads once, and puts what was read behind the bytes before. Gives how many bytes that was: none only at the end.
+fn read_more<R: Source>(
+    chunk: &mut [u8],
+    script: &mut Vec<u8>,
+    reader: &mut R,
+    bounds: Bounds,
+) -> Result<usize, WholeFault>
+    requires few { length script.old.items ≤ bounds.bytes }
+    ensures few { OnOk result (length script.new.items ≤ bounds.bytes) }
+    ensures more { IfOk result (λ count. length script.new.items ≡ length script.old.items + count) }
+    ensures bytes { OnOk result ((from : Option (List ℕ)) → Consumes from (R.remaining reader.old) script.old.items
+        → Consumes from (R.remaining reader.new) script.new.items) }
+    ensures end { IfOk result (λ count. count ≡ 0 → 0 < length chunk.old → IsAtEnd (R.remaining reader.new)) }
+    ensures read { result ≡ Err WholeFault.Read → R.failed reader.new ≡ true }
+    ensures large { result ≡ Err WholeFault.TooLarge → (from : Option (List ℕ)) → Consumes from (R.remaining reader.old) script.old.items
+        → GivesTooMuch bounds from (R.remaining reader.new) }
+    ensures kept { result ≢ Err WholeFault.Read → R.failed reader.new ≡ R.failed reader.old }
+{
+    let count = match reader.read(chunk) {
+        Ok(count) => count,
+        Err(_) => return Err(WholeFault::Read),
+    };
+    if count as u64 > bounds.bytes - script.len() as u64 {
+        return Err(WholeFault::TooLarge);
+    }
+    script.extend_from_slice(&chunk[..count])?;
+    Ok(count)
+}
+
+/// Whether a script has at most so many lines.
+fn has_lines_within(script: &[u8], most: u64) -> bool
+    ensures { result ≡ nat_le (length (lines_of script.now)) most }
+{
+    let mut rest = script;
+    let mut left = most;
+    while let Some((_, others)) = first_line(rest) {
+        if left == 0 {
+            return false;
+        }
+        left -= 1;
+        rest = others;
+    }
+    true
+}
+
+/// The first line of a script, without its line feed, and the bytes after it; nothing where no byte is left.
+pub fn first_line(script: &[u8]) -> Option<(&[u8], &[u8])>
+    ensures none { IfNone result (script.now ≡ []) }
+    ensures lines { IfSome result (λ parts. lines_of script.now ≡ parts.0.now ∷ lines_of parts.1.now) }
+    ensures shorter { IfSome result (λ parts. length parts.1.now < length script.now) }
+{
+    if script.is_empty() {
+        return None;
+    }
+    match split_line(script) {
+        Some((line, rest)) => Some((line, rest)),
+        None => Some((script, &[])),
+    }
+}
