@@ -1,9 +1,10 @@
 -- What holds of the elements of a list that are needed.
-use Rattle.std.proofs.Common.{◌≡◌, ◌≤◌, List, [], ◌∷◌, Option, Some, None, Bool, true, false, length, is_some, refl, ap, sym, ◌∙◌, inl, inr, arith}
+use Rattle.std.proofs.Common.{◌≡◌, ℕ, ◌+◌, ◌<◌, ◌≤◌, ◌++◌, if◌then◌else◌, drop, get_or, ap₂, append_assoc, append-nil, List, [], ◌∷◌, Option, Some, None, Bool, true, false, length, is_some, refl, ap, sym, ◌∙◌, inl, inr, arith}
 use Rattle.std.specs.List.{Contains, filter, filter_map, last_or, list_any}
 use Rattle.std.proofs.lemmas.Bool.{cases_Bool, true≢false}
+use Rattle.std.proofs.lemmas.List.{drop_all, drop_more}
 use Rattle.pgp_lists.proofs.Members.{Contains-here, Contains-later, Contains-cases, Contains-first}
-use Rattle.pgp_compact.specs.Needed.{needed_of}
+use Rattle.pgp_compact.specs.Needed.{are_needed, chosen, needed_of}
 
 pub needed-within : {X : Type 0} (test : List X → X → Bool) (xs : List X) (y : X) → Contains (needed_of test xs) y → Contains xs y
 needed-within test [] y there = there
@@ -159,3 +160,46 @@ needed-twice {X = X} needs again still (x ∷ xs) = elim (cases_Bool (needs xs x
 pub needed-each : {X : Type 0} (needs : List X → X → Bool) → ((later : List X) (x : X) → needs later x ≡ true) → (xs : List X) → needed_of needs xs ≡ xs
 needed-each needs each [] = refl
 needed-each {X = X} needs each (x ∷ xs) = rw each (ap (λ (l : List X). x ∷ l) (needed-each needs each xs))
+
+-- ---- which of them are needed
+
+pub chosen-needed : {X : Type 0} (test : List X → X → Bool) (xs : List X) → chosen (are_needed test xs) xs ≡ needed_of test xs
+chosen-needed test [] = refl
+chosen-needed {X = X} test (x ∷ xs) = elim (cases_Bool (test xs x)) [
+  | inl needed ↦ rw needed (ap (λ (l : List X). x ∷ l) (chosen-needed test xs))
+  | inr other ↦ rw other (chosen-needed test xs)
+]
+
+pub are_needed-length : {X : Type 0} (test : List X → X → Bool) (xs : List X) → length (are_needed test xs) ≡ length xs
+are_needed-length test [] = refl
+are_needed-length test (x ∷ xs) = let rest : length (are_needed test xs) ≡ length xs = are_needed-length test xs in omega arith
+
+-- ---- those that are chosen
+
+-- this one, if it is
+abbrev pub one_if : {X : Type 0} → Bool → X → List X
+one_if choice x = if choice then x ∷ [] else []
+
+chosen-first : {X : Type 0} (choice : Bool) (x : X) (choices : List Bool) (xs : List X) → chosen (choice ∷ choices) (x ∷ xs) ≡ one_if choice x ++ chosen choices xs
+chosen-first true x choices xs = refl
+chosen-first false x choices xs = refl
+
+chosen-none : {X : Type 0} (choices : List Bool) → chosen choices (let none : List X = [] in none) ≡ []
+chosen-none [] = refl
+chosen-none (choice ∷ choices) = refl
+
+-- after one choice more
+pub chosen-next : {X : Type 0} (done all : List X) (choices : List Bool) (xs : List X) (i : ℕ) (choice : Bool) (x : X) → i < length choices → i < length xs
+    → choice ≡ get_or choices i choice → x ≡ get_or xs i x → done ++ chosen (drop i choices) (drop i xs) ≡ all
+    → (done ++ one_if choice x) ++ chosen (drop (i + 1) choices) (drop (i + 1) xs) ≡ all
+chosen-next done all choices xs i choice x some more is at before =
+    let first : drop i choices ≡ choice ∷ drop (i + 1) choices = drop_more choices i choice some ∙ ap (λ b. b ∷ drop (i + 1) choices) (sym is) in
+    let here : drop i xs ≡ x ∷ drop (i + 1) xs = drop_more xs i x more ∙ ap (λ y. y ∷ drop (i + 1) xs) (sym at) in
+    append_assoc done (one_if choice x) (chosen (drop (i + 1) choices) (drop (i + 1) xs))
+    ∙ ap (λ l. done ++ l) (sym (ap₂ chosen first here ∙ chosen-first choice x (drop (i + 1) choices) (drop (i + 1) xs)))
+    ∙ before
+
+-- after the last choice
+pub chosen-all : {X : Type 0} (done all : List X) (choices : List Bool) (xs : List X) (i : ℕ) → length xs ≤ i → done ++ chosen choices (drop i xs) ≡ all → done ≡ all
+chosen-all done all choices xs i end is =
+    sym (append-nil done) ∙ ap (λ l. done ++ l) (sym (ap (chosen choices) (drop_all i xs end) ∙ chosen-none choices)) ∙ is

@@ -16,7 +16,7 @@ use Rattle.pgp_missing.specs.Log.{has_number}
 use Rattle.pgp_group.specs.Entries.{infos_of, reports_of}
 use Rattle.pgp_group.specs.GroupLog.{GroupLog, group_in}
 use Rattle.pgp_group.specs.Heard.{is_counted, les}
-use Rattle.pgp_compact.specs.Needed.{needed_of}
+use Rattle.pgp_compact.specs.Needed.{are_needed, needed_of}
 
 -- ---- infos
 
@@ -93,3 +93,7 @@ is_needed log later entry.Close = true
 -- the log with the entries alone that an answer can need
 abbrev pub compacted : List Entry → List Entry
 compacted log = needed_of (is_needed log) log
+
+-- of each entry of the log whether it is one of these
+abbrev pub are_needed_in : List Entry → List Bool
+are_needed_in log = are_needed (is_needed log) log

@@ -13,4 +13,4 @@ mod standing;
 mod walk;
 mod whole;
 
-pub use walk::compact;
+pub use walk::{compact, needed};

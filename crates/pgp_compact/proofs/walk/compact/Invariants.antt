@@ -1,0 +1,9 @@
+use Rattle.std.proofs.Common.{◌≡◌, ◌++◌, map, drop}
+use Rattle.std.specs.Arc.{arc_value}
+use Rattle.pgp_compact.specs.Compacted.{compacted}
+use Rattle.pgp_compact.specs.Needed.{chosen}
+use Rattle.pgp_compact.proofs.walk.compact.Given as goal
+
+abbrev pub invariant-loop-place : goal.invariant-loop-place
+invariant-loop-place l =
+    map arc_value l.kept.items ++ chosen (drop l.place l.choices.items) (drop l.place (map arc_value l.entries)) ≡ compacted (map arc_value l.entries)
