@@ -1,0 +1,59 @@
+-- The lines that add an entry, and what is read of them anew.
+use Rattle.std.proofs.Common.{◌≡◌, ℕ, List, [], ◌∷◌, ◌++◌, Bool, true, false, Some, None, Ok, length, nat_lt, refl, ap, ◌∙◌, append_assoc, inl, inr}
+use Rattle.std.proofs.lemmas.Bool.{cases_Bool}
+use Rattle.pgp_ids.specs.declared.entry.Entry.{Entry}
+use Rattle.pgp_text.specs.Command.{command_of}
+use Rattle.pgp_lines.specs.declared.command.Command.TheVariants.{Submit}
+use Rattle.pgp_log.specs.Fits.{fits}
+use Rattle.pgp_log.specs.Log.{is_legal}
+use Rattle.pgp_log.proofs.LogLemmas.{front-legal, legal-last}
+use Rattle.pgp_core.specs.Added.{EntryLine, added_by, entries_of, entry_lines}
+use Rattle.pgp_core.specs.Lines.{is_blank}
+use Rattle.pgp_core.specs.Script.{longest_line}
+use Rattle.pgp_core.proofs.AddedLemmas.{IsAdding, adding, lines-cases}
+use Rattle.pgp_compact.specs.Needed.{needed_of}
+use Rattle.pgp_compact_script.specs.Remaining.{bare}
+use Rattle.pgp_compact_script.proofs.Lines.{AreOneLine, IsOneLine}
+
+-- the line is read as the entry, whatever log takes it
+pub record IsRead (it : EntryLine) : Type 0 where
+  pub one : IsOneLine it.line
+  pub some : is_blank it.line ≡ false
+  pub short : nat_lt longest_line (length it.line) ≡ false
+  pub reads : command_of it.line ≡ Ok (Submit it.entry)
+
+abbrev pub AreRead : List EntryLine → Type 0
+AreRead [] = Unit {0}
+AreRead (it ∷ lines) = IsRead it × AreRead lines
+
+-- ---- the lines of a script
+
+pub entries-read : (log : List Entry) (lines : List (List ℕ)) → AreOneLine lines → AreRead (entry_lines log lines)
+entries-read log [] one = tt
+entries-read log (line ∷ lines) one =
+    lines-cases AreRead log line lines (λ none. entries-read log lines one.1)
+    (λ entry adds.
+    let is : IsAdding log line entry = adding log line entry adds in
+    (record { one = one.0; some = is.some; short = is.short; reads = is.reads }, entries-read (log ++ entry ∷ []) lines one.1))
+
+pub needed-read : (test : List EntryLine → EntryLine → Bool) (lines : List EntryLine) → AreRead lines → AreRead (needed_of test lines)
+needed-read test [] each = tt
+needed-read test (it ∷ lines) each = elim (cases_Bool (test lines it)) [
+  | inl needed ↦ rw needed (each.0, needed-read test lines each.1)
+  | inr other ↦ rw other (needed-read test lines each.1)
+]
+
+pub bare-one : (lines : List EntryLine) → AreRead lines → AreOneLine (bare lines)
+bare-one [] each = tt
+bare-one (it ∷ lines) each = (each.0.one, bare-one lines each.1)
+
+-- ---- read anew
+
+-- lines whose entries are a legal log add them all
+pub read-again : (log : List Entry) (lines : List EntryLine) → AreRead lines → is_legal (log ++ entries_of lines) ≡ true → entry_lines log (bare lines) ≡ lines
+read-again log [] each legal = refl
+read-again log (it ∷ lines) each legal =
+    let grown : is_legal ((log ++ it.entry ∷ []) ++ entries_of lines) ≡ true = ap is_legal (append_assoc log (it.entry ∷ []) (entries_of lines)) ∙ legal in
+    let fit : fits log it.entry ≡ None = legal-last log it.entry (front-legal (log ++ it.entry ∷ []) (entries_of lines) grown) in
+    let adds : added_by log it.line ≡ Some it.entry = rw (each.0.some, each.0.short, each.0.reads, fit) refl in
+    rw adds (ap (λ (l : List EntryLine). it ∷ l) (read-again (log ++ it.entry ∷ []) lines each.1 grown))

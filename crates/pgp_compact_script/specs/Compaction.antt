@@ -1,0 +1,39 @@
+-- What compacting a script did to its reader and writer.
+use Rattle.std.specs.Prelude.{◌≡◌, ℕ, List, [], Bool, true, Option, length}
+use Rattle.std.specs.Io.KnownBytes.{Appends}
+use Rattle.pgp_core.specs.Added.{entry_lines}
+use Rattle.pgp_core.specs.Lines.{lines_of}
+use Rattle.pgp_core.specs.Output.{FrontWent}
+use Rattle.pgp_core.specs.Run.{script_bounds}
+use Rattle.pgp_core.specs.Whole.{IsWholeScript}
+use Rattle.pgp_core.specs.declared.whole.WholeFault.{WholeFault}
+use Rattle.pgp_core.specs.declared.whole.WholeFault.TheVariants as whole
+use Rattle.pgp_compact_script.specs.Remaining.{compacted_text, remaining_lines}
+use Rattle.pgp_compact_script.specs.declared.compact.Compaction.{Compaction}
+use Rattle.pgp_compact_script.specs.declared.fault.CompactFault.{CompactFault}
+use Rattle.pgp_compact_script.specs.declared.fault.CompactFault.TheVariants.{Read, TooLarge, Memory}
+
+-- why a script that could not be read whole isn't compacted
+abbrev pub fault_of : WholeFault → CompactFault
+fault_of whole.Read = Read
+fault_of whole.TooLarge = TooLarge
+fault_of whole.Memory = Memory
+
+-- so many entries the script has, and so many of them remain
+pub record HasCounts (script : List ℕ) (counts : Compaction) : Type 0 where
+  pub entries : counts.entries ≡ length (entry_lines [] (lines_of script))
+  pub kept : counts.kept ≡ length (remaining_lines script)
+
+-- The reader gave a script to its end, the writer got the lines that remain of it, and so many entries there were and remain.
+pub record IsCompacted (counts : Compaction) (from to start now : Option (List ℕ)) : Type 0 where
+  pub script : List ℕ
+  pub whole : IsWholeScript script_bounds script from to
+  pub went : Appends start now (compacted_text script)
+  pub counted : HasCounts script counts
+
+-- A write failed, after the script was read whole: a front of the lines that remain went out.
+pub record IsCutShort (from to start now : Option (List ℕ)) (write_failed : Bool) : Type 0 where
+  pub script : List ℕ
+  pub whole : IsWholeScript script_bounds script from to
+  pub front : FrontWent start now (compacted_text script)
+  pub failed : write_failed ≡ true

@@ -1,0 +1,26 @@
+-- The lines of a script that an answer can need, now or after whatever lines follow. This project's own choice.
+use Rattle.std.specs.Prelude.{ℕ, List, [], ◌∷◌, ◌++◌, map, flat_map}
+use Rattle.pgp_core.specs.Added.{EntryLine, entries_of, entry_lines}
+use Rattle.pgp_core.specs.Lines.{lines_of}
+use Rattle.pgp_compact.specs.Compacted.{is_needed}
+use Rattle.pgp_compact.specs.Needed.{needed_of}
+
+-- of the lines that make a log those whose entry an answer can need
+abbrev pub remaining : List EntryLine → List EntryLine
+remaining lines = needed_of (λ later it. is_needed (entries_of lines) (entries_of later) it.entry) lines
+
+-- the lines without their entries
+abbrev pub bare : List EntryLine → List (List ℕ)
+bare lines = map (λ it. it.line) lines
+
+-- lines, each with a line feed
+abbrev pub text_of_lines : List (List ℕ) → List ℕ
+text_of_lines lines = flat_map (λ line. line ++ 10 ∷ []) lines
+
+-- the lines that remain of a script
+abbrev pub remaining_lines : List ℕ → List (List ℕ)
+remaining_lines script = bare (remaining (entry_lines [] (lines_of script)))
+
+-- what is written of a script
+abbrev pub compacted_text : List ℕ → List ℕ
+compacted_text script = text_of_lines (remaining_lines script)

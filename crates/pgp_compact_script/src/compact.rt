@@ -1,0 +1,89 @@
+//! Compacting a script.
+
+ghost use Rattle.std.specs.Prelude.{◌≡◌, ◌≢◌, true, count_by, IfOk, OnOk, OnErr};
+ghost use Rattle.std.specs.Io.KnownBytes.{Appends};
+ghost use Rattle.pgp_core.specs.Output.{FrontWent};
+ghost use Rattle.pgp_core.specs.Run.{script_bounds};
+ghost use Rattle.pgp_core.specs.Whole.{GivesTooMuch};
+ghost use Rattle.pgp_compact_script.specs.Compaction.{HasCounts, IsCompacted, IsCutShort};
+ghost use Rattle.pgp_compact_script.specs.Remaining.{compacted_text};
+
+use super::entries::read_entries;
+use super::fault::CompactFault;
+use super::text::text_of;
+use pgp_compact::needed;
+use pgp_core::{SCRIPT_BOUNDS, Sink, Source, WriteFault, read_whole, write_out};
+use std::alloc::{AllocError, Global};
+
+/// What became of the lines of a script.
+#[derive(Clone, Copy, Debug, PartialEq, Eq)]
+pub struct Compaction {
+    /// How many entries its log has.
+    pub entries: usize,
+    /// How many of them remain.
+    pub kept: usize,
+    /// How many lines were refused, and add nothing to the log.
+    pub refused: u64,
+}
+
+/// Writes the lines of the script whose entries an answer can need, by its log or by whatever follows it: byte for byte, in
+/// their order, each with a line feed.
+///
+/// Nothing is written before the script is read to its end, and nothing at a fault but [`CompactFault::Write`]: then a front of
+/// the lines went out. Questions, blank lines and lines that are refused don't remain. Where a line meets want of memory, no
+/// line is written, since its entry would be lost.
+pub fn compact_script<R: Source, W: Sink>(
+    alloc: Global,
+    reader: &mut R,
+    writer: &mut W,
+) -> Result<Compaction, CompactFault>
+    ensures ok { IfOk result (λ counts. IsCompacted counts (R.remaining reader.old) (R.remaining reader.new)
+        (W.contents writer.old) (W.contents writer.new)) }
+    ensures read { result ≡ Err CompactFault.Read → R.failed reader.new ≡ true }
+    ensures large { result ≡ Err CompactFault.TooLarge → GivesTooMuch script_bounds (R.remaining reader.old) (R.remaining reader.new) }
+    ensures write { result ≡ Err CompactFault.Write → IsCutShort (R.remaining reader.old) (R.remaining reader.new)
+        (W.contents writer.old) (W.contents writer.new) (W.failed writer.new) }
+    ensures quiet { OnErr result (result ≢ Err CompactFault.Write → writer.new ≡ writer.old) }
+    ensures kept { OnOk result (W.failed writer.new ≡ W.failed writer.old) }
+    ensures kept_reader { result ≢ Err CompactFault.Read → R.failed reader.new ≡ R.failed reader.old }
+{
+    let script = read_whole(alloc, reader, SCRIPT_BOUNDS)?;
+    let (text, counts) = compacted(alloc, script.as_slice())?;
+    pass_on(writer, text.as_slice())?;
+    Ok(counts)
+}
+
+/// The lines that remain of a script, each with a line feed, and what became of them.
+fn compacted(alloc: Global, script: &[u8]) -> Result<(Vec<u8>, Compaction), AllocError>
+    ensures text { IfOk result (λ made. made.0.items ≡ compacted_text script.now) }
+    ensures counts { IfOk result (λ made. HasCounts script.now made.1) }
+{
+    let read = read_entries(alloc, script)?;
+    let needed = needed(alloc, read.log.entries())?;
+    let choices = needed.as_slice();
+    let text = text_of(alloc, read.lines.as_slice(), choices)?;
+    let counts = Compaction {
+        entries: choices.len(),
+        kept: count_chosen(choices),
+        refused: read.refused,
+    };
+    Ok((text, counts))
+}
+
+/// How many are chosen.
+fn count_chosen(choices: &[bool]) -> usize
+    ensures { result ≡ count_by (λ choice. choice) choices.now }
+{
+    choices.iter().filter(|choice| **choice).count()
+}
+
+/// Writes all of the text, and has the writer pass it on.
+fn pass_on<W: Sink>(writer: &mut W, text: &[u8]) -> Result<(), WriteFault>
+    ensures ok { OnOk result (Appends (W.contents writer.old) (W.contents writer.new) text.now) }
+    ensures err { OnErr result (FrontWent (W.contents writer.old) (W.contents writer.new) text.now) }
+    ensures told { OnErr result (W.failed writer.new ≡ true) }
+    ensures kept { OnOk result (W.failed writer.new ≡ W.failed writer.old) }
+{
+    write_out(writer, text)?;
+    writer.flush().or(Err(WriteFault))
+}

@@ -1,0 +1,21 @@
+//! What holds of the script that is written: it makes the compacted log.
+
+ghost use Rattle.std.specs.Prelude.{◌≡◌, ℕ, ◌≤◌, List, length};
+ghost use Rattle.pgp_compact.specs.Compacted.{compacted};
+ghost use Rattle.pgp_core.specs.Added.{log_of_lines};
+ghost use Rattle.pgp_core.specs.Lines.{lines_of};
+ghost use Rattle.pgp_compact_script.specs.Remaining.{compacted_text, remaining_lines};
+
+/// Each line that remains adds its entry, and together they make the compacted log of the script: so a run of what is written
+/// gives every answer that a run of the script gives, but for count, whatever lines follow
+/// (`pgp_compact::laws::every_answer_is_the_same`).
+pub fn what_remains_makes_the_compacted_log()
+    ensures lines { (script : List ℕ) → lines_of (compacted_text script) ≡ remaining_lines script }
+    ensures log { (script : List ℕ) → log_of_lines (lines_of (compacted_text script)) ≡ compacted (log_of_lines (lines_of script)) }
+    ensures each { (script : List ℕ) → length (remaining_lines script) ≡ length (log_of_lines (remaining_lines script)) }
+{}
+
+/// What is written stays as it is when it is compacted once more.
+pub fn compacting_a_script_twice_is_compacting_it_once()
+    ensures { (script : List ℕ) → compacted_text (compacted_text script) ≡ compacted_text script }
+{}
