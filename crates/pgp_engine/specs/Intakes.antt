@@ -1,12 +1,12 @@
 -- What an intake keeps, and what a submit is answered.
-use Rattle.std.specs.Prelude.{◌≡◌, ◌≢◌, ◌<◌, ◌⊎◌, List, [], ◌∷◌, ◌++◌, length, true, is_some, Some, None}
+use Rattle.std.specs.Prelude.{◌≡◌, ◌≢◌, ◌<◌, ◌⊎◌, List, [], ◌∷◌, ◌++◌, length, true, Some, None}
 use Rattle.logbook.specs.Pages.{Book}
 use Rattle.pgp_refusals.specs.declared.refusal.Refusal.{Refusal}
 use Rattle.pgp_refusals.specs.declared.refusal.Refusal.TheVariants as refusal
 use Rattle.pgp_ids.specs.declared.entry.Entry.{Entry}
-use Rattle.pgp_group.specs.Entries.{inc_of}
 use Rattle.pgp_log.specs.declared.judge.Judge.{Judge}
 use Rattle.pgp_log.specs.Fits.{fits}
+use Rattle.pgp_log.specs.Judge.{MapMayLack}
 use Rattle.pgp_log.specs.Log.{is_legal}
 use Rattle.pgp_feed.specs.declared.receipt.Receipt.{Receipt}
 use Rattle.pgp_feed.specs.Receipts.{entries_of, feed_of, Holds}
@@ -32,9 +32,10 @@ MayRefuse feed log entry (Refused why at) = IsRefused feed log entry why at
 MayRefuse feed log entry Memory = Unit {0}
 MayRefuse feed log entry NoReader = Unit {0}
 
--- for what a submit may find no memory: the judge may have to take some of the log, an incremental is judged, or the entry fits
+-- for what a submit may find no memory: the judge may have to take some of the log, the map may lack it to look at an
+-- incremental, or the entry fits
 abbrev pub MayWant : List Entry → Entry → Type 0
-MayWant log entry = (0 < length log) ⊎ ((is_some (inc_of entry) ≡ true) ⊎ (fits log entry ≡ None))
+MayWant log entry = (0 < length log) ⊎ (MapMayLack log entry ⊎ (fits log entry ≡ None))
 
 -- the receipt names a longer front than the caller's, which it holds; its last entry is the one that was submitted, and it is
 -- legal

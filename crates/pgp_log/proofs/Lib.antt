@@ -1,4 +1,5 @@
 pub mod FitsLemmas
+pub mod JudgeLemmas
 pub mod SharedLemmas
 pub mod WorldLemmas
 pub mod RunningLemmas

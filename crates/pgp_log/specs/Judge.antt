@@ -1,8 +1,10 @@
 -- What a judge keeps of the log whose next entry it judges.
-use Rattle.std.specs.Prelude.{◌≡◌, List, length, true, None}
+use Rattle.std.specs.Prelude.{◌≡◌, List, length, true, Some, None}
 use Rattle.pgp_ids.specs.declared.entry.Entry.{Entry}
+use Rattle.pgp_ids.specs.declared.incremental.Incremental.{Incremental}
 use Rattle.pgp_map.specs.MapOf.{IsMapOf}
-use Rattle.pgp_group.specs.Entries.{incs_of}
+use Rattle.pgp_map.specs.Memory.{MayLackMemory}
+use Rattle.pgp_group.specs.Entries.{inc_of, incs_of}
 use Rattle.pgp_log.specs.Fits.{is_closed, fits}
 use Rattle.pgp_log.specs.Log.{is_legal}
 use Rattle.pgp_log.specs.declared.judge.Judge.{Judge}
@@ -23,3 +25,9 @@ pub record CanTake (judge : Judge) (new : Entry) : Type 0 where
   pub log : List Entry
   pub is : IsJudgeOf log judge
   pub fits : fits log new ≡ None
+
+-- the entry is an incremental, and the map that the log makes may lack memory to look at it
+pub record MapMayLack (log : List Entry) (entry : Entry) : Type 0 where
+  pub inc : Incremental
+  pub is_inc : inc_of entry ≡ Some inc
+  pub lacks : MayLackMemory (incs_of log) inc

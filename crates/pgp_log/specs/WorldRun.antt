@@ -1,11 +1,11 @@
 -- Runs of a world in which a step may lack memory. Such a step changes nothing, but a shard that was reading may have read
 -- the first few of its entries (this project's own choice). No memory is wanting to answer by a front without an incremental.
-use Rattle.std.specs.Prelude.{◌≡◌, ℕ, ◌<◌, List, [], ◌∷◌, ◌++◌, length, take, drop, slice_index, if◌then◌else◌, ◌⊎◌, Bool, true, false, None, is_some, Ok, Err, alloc_error}
+use Rattle.std.specs.Prelude.{◌≡◌, ℕ, ◌<◌, List, [], ◌∷◌, ◌++◌, length, take, drop, slice_index, if◌then◌else◌, ◌⊎◌, Bool, true, false, None, Ok, Err, alloc_error}
 use Rattle.pgp_refusals.specs.declared.ask_refusal.AskRefusal.TheVariants as ask
 use Rattle.pgp_ids.specs.declared.entry.Entry.{Entry}
 use Rattle.pgp_refusals.specs.declared.refusal.Refusal.TheVariants as refusal
-use Rattle.pgp_group.specs.Entries.{inc_of}
 use Rattle.pgp_log.specs.Fits.{fits, is_closed}
+use Rattle.pgp_log.specs.Judge.{MapMayLack}
 use Rattle.pgp_log.specs.Log.{HasInc}
 use Rattle.pgp_log.specs.World.{World, Step, Reply, reply_to, after, after_absorb, after_all, replies, front_of}
 use Rattle.pgp_log.specs.World.Step.{Submit, Absorb, Ask}
@@ -16,10 +16,10 @@ pub record IsTaken (w : World) (step : Step) (reply : Reply) (next : World) : Ty
   pub reply_is : reply ≡ reply_to w step
   pub next_is : next ≡ after w step
 
--- the log may lack memory for the entry: it is open, and the entry fits or is an incremental
+-- the log may lack memory for the entry: it is open, and the entry fits, or is an incremental at which the map may lack it
 pub record MayLackMemory (log : List Entry) (entry : Entry) : Type 0 where
   pub is_open : is_closed log ≡ false
-  pub cause : (fits log entry ≡ None) ⊎ (is_some (inc_of entry) ≡ true)
+  pub cause : (fits log entry ≡ None) ⊎ MapMayLack log entry
 
 -- the shard has read the first few of the entries that it was to read, perhaps none, and not all
 pub record HasReadPart (w : World) (shard count : ℕ) (next : World) : Type 0 where

@@ -8,7 +8,7 @@ ghost use Rattle.pgp_map.specs.MapFault.{given_fault};
 ghost use Rattle.pgp_map.specs.MapOf.{IsMapOf};
 ghost use Rattle.pgp_group.specs.Entries.{inc_of, incs_of};
 ghost use Rattle.pgp_log.specs.Fits.{is_closed, entry_fault, fits, longest_log};
-ghost use Rattle.pgp_log.specs.Judge.{IsJudgeOf, OfItsLog, CanTake};
+ghost use Rattle.pgp_log.specs.Judge.{IsJudgeOf, OfItsLog, CanTake, MapMayLack};
 ghost use Rattle.pgp_log.specs.Log.{epoch_of};
 
 use super::entry::{inc_of, is_close};
@@ -74,12 +74,13 @@ impl Judge {
     }
 
     /// Why the log doesn't take the entry, if it doesn't. `Memory` comes only where there was none to look at an incremental
-    /// of an open log.
+    /// of an open log, of the next epoch, that has a long list or whose tree alone may have a fault.
     pub fn fits(&self, entry: &Entry) -> Result<(), Refusal>
         ensures ok { IsOk result → OfItsLog self.now (λ log. fits log entry.now ≡ None) }
         ensures err { IfErr result (λ refusal. refusal ≢ Memory → OfItsLog self.now (λ log. fits log entry.now ≡ Some refusal)) }
         ensures wants { result ≡ Err Memory → is_some (inc_of entry.now) ≡ true }
         ensures wants_open { result ≡ Err Memory → OfItsLog self.now (λ log. is_closed log ≡ false) }
+        ensures lacks { result ≡ Err Memory → OfItsLog self.now (λ log. MapMayLack log entry.now) }
     {
         if self.closed {
             return Err(Refusal::Closed);
@@ -99,6 +100,7 @@ impl Judge {
         ensures none { IfNone result (OfItsLog self.now (λ log. entry_fault log entry.now ≡ None)) }
         ensures some { IfSome result (λ refusal. refusal ≢ Memory → OfItsLog self.now (λ log. entry_fault log entry.now ≡ Some refusal)) }
         ensures wants { result ≡ Some Memory → is_some (inc_of entry.now) ≡ true }
+        ensures lacks { result ≡ Some Memory → OfItsLog self.now (λ log. MapMayLack log entry.now) }
     {
         match entry {
             Entry::Inc(inc) => match self.map.check(inc) {

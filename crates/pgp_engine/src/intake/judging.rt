@@ -1,9 +1,8 @@
 //! How the judge of an intake keeps up with the log, and what it says of the next entry.
-ghost use Rattle.std.specs.Prelude.{◌≡◌, ◌≢◌, ◌<◌, [], ◌∷◌, ◌++◌, length, map, true, is_some, None, Err, IfErr, OnOk, OnErr, MatchResult};
+ghost use Rattle.std.specs.Prelude.{◌≡◌, ◌≢◌, ◌<◌, [], ◌∷◌, ◌++◌, length, map, true, None, Err, IfErr, OnOk, OnErr, MatchResult};
 ghost use Rattle.std.specs.Arc.{arc_value};
-ghost use Rattle.pgp_group.specs.Entries.{inc_of};
 ghost use Rattle.pgp_log.specs.Fits.{fits};
-ghost use Rattle.pgp_log.specs.Judge.{IsJudgeOf, OfItsLog, CanTake};
+ghost use Rattle.pgp_log.specs.Judge.{IsJudgeOf, OfItsLog, CanTake, MapMayLack};
 ghost use Rattle.pgp_log.specs.Log.{is_legal};
 ghost use Rattle.pgp_feed.specs.Receipts.{entries_of, feed_of};
 ghost use Rattle.pgp_feed.specs.Feeds.{told_of};
@@ -73,7 +72,7 @@ pub(super) fn fits(judge: &Judge, told: &Receipt, entry: &Entry) -> Result<(), S
     requires { IsJudgeOf (entries_of told.now) judge.now }
     ensures fit { MatchResult result (λ _. fits (entries_of told.now) entry.now ≡ None) (MayRefuse (feed_of told.now) (entries_of told.now) entry.now) }
     ensures reads { result ≢ Err submit.NoReader }
-    ensures wants { result ≡ Err submit.Memory → is_some (inc_of entry.now) ≡ true }
+    ensures wants { result ≡ Err submit.Memory → MapMayLack (entries_of told.now) entry.now }
 {
     match judge.fits(entry) {
         Ok(()) => Ok(()),
