@@ -1,18 +1,22 @@
 //! The engine of a test, its clients, and receipts of its feed. Their types say of which feed they are, so that a test may
 //! hand any of them to any thread.
-ghost use Rattle.std.specs.Prelude.{◌≡◌, ◌<◌};
+ghost use Rattle.std.specs.Prelude.{◌≡◌, ◌<◌, map, true, IfOk};
+ghost use Rattle.std.specs.Arc.{arc_value};
+ghost use Rattle.pgp_log.specs.Log.{is_legal};
 ghost use Rattle.pgp_feed.specs.Receipts.{feed_of};
+ghost use Rattle.pgp_feed.specs.Taps.{last_of};
 ghost use Rattle.pgp_engine_tests.specs.declared.opened.TheConstants.{SHARDS};
 
 use crate::opened::SHARDS;
 use pgp_engine::{AskFault, Client, Engine, Gate, LocateFault, Naming, SubmitFault};
-use pgp_feed::Receipt;
+use pgp_feed::{ReadFault, Receipt, Tap};
 use pgp_ids::{Entry, Epoch, Membership, ObjectName, PgId, PoolId, View};
 use pgp_text::Reply;
+use std::alloc::Global;
 use std::cmp::Ordering;
 use std::marker::PhantomData;
 use std::process::Abort;
-use std::sync::Wait;
+use std::sync::{Arc, Wait};
 
 /// A receipt of the engine's feed.
 pub struct Ticket<J: Naming> {
@@ -29,7 +33,7 @@ impl<J: Naming> Drop for Ticket<J> {
 }
 
 impl<J: Naming> Ticket<J> {
-    fn over(receipt: Receipt) -> Ticket<J>
+    pub fn over(receipt: Receipt) -> Ticket<J>
         requires { feed_of receipt ≡ J.feed }
         ensures { result.receipt ≡ receipt }
     {
@@ -45,6 +49,17 @@ impl<J: Naming> Ticket<J> {
 
     pub fn again(&self) -> Ticket<J> {
         Ticket::over(self.receipt.again())
+    }
+
+    /// All entries of its front, read by a tap of the same feed.
+    pub fn read(&self, alloc: Global, tap: &mut Tap) -> Result<Vec<Arc<Entry>>, ReadFault>
+        requires { feed_of (last_of tap.old) ≡ J.feed }
+        ensures { IfOk result (λ log. is_legal (map arc_value log.items) ≡ true) }
+    {
+        prove!(self.receipt.len() <= self.receipt.len());
+        let mut log = Vec::new(alloc);
+        tap.read(&self.receipt, 0, &mut log)?;
+        Ok(log)
     }
 }
 

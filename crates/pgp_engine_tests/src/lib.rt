@@ -6,6 +6,8 @@
 #[cfg(test)]
 mod absorbs;
 #[cfg(test)]
+mod begins;
+#[cfg(test)]
 mod clients;
 #[cfg(test)]
 mod closes;

@@ -24,10 +24,10 @@ use std::time::Clock;
 pub const SHARDS: usize = 2;
 
 /// How many workers serve them, one for each shard.
-const WORKERS: usize = SHARDS;
+pub const WORKERS: usize = SHARDS;
 
 /// How many taps their feeds have: one for each shard and for the intake, and two for clients.
-const TAPS: usize = SHARDS + 3;
+pub const TAPS: usize = SHARDS + 3;
 
 /// What is tried with an engine to which nothing was submitted yet, and with its two clients.
 #[derive(Clone, Copy)]

@@ -58,9 +58,10 @@ openings-each log k all are =
           rw (here, long) (opening-reads log k n),
     )
 
-pub openings-running : (k : ℕ) (judge : Judge) (all : List Shard) → all ≡ map (λ i. opening_shard i k) (range_with_len 0 k) → 0 < k → IsJudgeOf [] judge → IsRunning [] judge all
-openings-running k judge all are some is =
-    let each = openings-each [] k all are in
+pub openings-running : (log : List Entry) (k : ℕ) (judge : Judge) (all : List Shard) → all ≡ map (λ i. opening_shard i k) (range_with_len 0 k) → 0 < k → IsJudgeOf log judge
+    → IsRunning log judge all
+openings-running log k judge all are some is =
+    let each = openings-each log k all are in
     record { judge_is = is; some = omega (arith, some, each.0); each = each.1 }
 
 -- ---- the log takes an entry

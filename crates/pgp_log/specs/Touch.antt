@@ -1,5 +1,5 @@
 -- What an incremental changes at all (this project's own choice).
-use Rattle.std.specs.Prelude.{List, length, Bool, ◌&&◌, not, ◌==◌}
+use Rattle.std.specs.Prelude.{length, Bool, ◌&&◌, not, ◌==◌}
 use Rattle.pgp_ids.specs.declared.incremental.Incremental.{Incremental}
 use Rattle.pgp_group.specs.Touched.{moves_all}
 

@@ -22,6 +22,10 @@ pub record World : Type 0 where
 abbrev pub opening : ℕ → World
 opening shards = record { log = []; read = replicate shards 0 }
 
+-- the world of so many shards with this log, of which no shard has read an entry
+abbrev pub opening_over : ℕ → List Entry → World
+opening_over shards log = record (opening shards) { log = log }
+
 -- the world whose log has one more entry
 abbrev pub with_entry : World → Entry → World
 with_entry w entry = record w { log = w.log ++ entry ∷ [] }

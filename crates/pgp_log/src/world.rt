@@ -1,10 +1,13 @@
 //! A world of one log and several shards, in one thread.
 
-ghost use Rattle.std.specs.Prelude.{◌≡◌, ◌<◌, ◌≤◌, length, map, take, drop, None, IfOk, OnOk, OnErr};
+ghost use Rattle.std.specs.Prelude.{◌≡◌, ◌<◌, ◌≤◌, length, map, take, drop, true, None, IfOk, OnOk, OnErr};
+ghost use Rattle.std.specs.Arc.{arc_value};
 ghost use Rattle.std.specs.List.{range_with_len};
 ghost use Rattle.pgp_log.specs.Fits.{fits};
+ghost use Rattle.pgp_log.specs.Judge.{IsJudgeOf};
+ghost use Rattle.pgp_log.specs.Log.{is_legal};
 ghost use Rattle.pgp_log.specs.Shard.{opening_shard};
-ghost use Rattle.pgp_log.specs.World.{opening, with_entry};
+ghost use Rattle.pgp_log.specs.World.{opening, opening_over, with_entry};
 ghost use Rattle.pgp_log.specs.World.Step.{Submit, Absorb, Ask};
 ghost use Rattle.pgp_log.specs.World.Reply.{Submitted, Absorbed, Asked};
 ghost use Rattle.pgp_log.specs.WorldRun.{MayReply};
@@ -65,6 +68,24 @@ impl World {
         Ok(world)
     }
 
+    /// The world of so many shards whose log is these entries, of which no shard has read one yet. It shares them.
+    pub fn over(alloc: Global, shards: usize, entries: &[Arc<Entry>]) -> Result<Self, AllocError>
+        requires some { 0 < shards }
+        requires legal { is_legal (map arc_value entries.now) ≡ true }
+        ensures { IfOk result (λ world. world ≡ opening_over shards (map arc_value entries.now)) }
+    {
+        let all = opening_shards(alloc, shards)?;
+        let judge = judge_of(alloc, entries)?;
+        let owned = shared(alloc, entries)?;
+        let world = World {
+            alloc,
+            entries: owned,
+            judge,
+            shards: all,
+        };
+        Ok(world)
+    }
+
     /// Adds the entry to the log, if it fits, and answers how long the log is then.
     pub fn submit(&mut self, entry: Entry) -> Result<usize, Refusal>
         ensures reply { MayReply self.old (Submit entry) (Submitted result) self.new }
@@ -109,6 +130,30 @@ impl World {
         let state = &mut self.shards[shard];
         state.ask(pg)
     }
+}
+
+/// One more owner of each entry.
+fn shared(alloc: Global, entries: &[Arc<Entry>]) -> Result<Vec<Arc<Entry>>, AllocError>
+    ensures { IfOk result (λ all. map arc_value all.items ≡ map arc_value entries.now) }
+{
+    let mut all = Vec::with_capacity(alloc, entries.len())?;
+    for entry in entries {
+        let copy = Arc::try_clone(entry)?;
+        all.push(copy)?;
+    }
+    Ok(all)
+}
+
+/// The judge of the log of these entries.
+fn judge_of(alloc: Global, entries: &[Arc<Entry>]) -> Result<Judge, AllocError>
+    requires { is_legal (map arc_value entries.now) ≡ true }
+    ensures { IfOk result (IsJudgeOf (map arc_value entries.now)) }
+{
+    let mut judge = Judge::start(alloc);
+    for entry in entries {
+        judge.take(entry)?;
+    }
+    Ok(judge)
 }
 
 /// The entries after so many that were read, at most this many.

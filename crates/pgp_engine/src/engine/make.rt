@@ -1,19 +1,24 @@
 //! How an engine is made.
-ghost use Rattle.std.specs.Prelude.{◌≡◌, ◌+◌, ◌<◌, ◌≤◌, [], length, All, IfOk, IfErr, OnOk};
+ghost use Rattle.std.specs.Prelude.{◌≡◌, ◌+◌, ◌<◌, ◌≤◌, [], ◌∷◌, ◌++◌, length, map, true, None, All, IfOk, IfErr, OnOk};
+ghost use Rattle.std.specs.Arc.{arc_value};
+ghost use Rattle.pgp_log.specs.Fits.{fits};
+ghost use Rattle.pgp_log.specs.Log.{is_legal};
 ghost use Rattle.pgp_feed.specs.Receipts.{entries_of, feed_of};
 ghost use Rattle.pgp_feed.specs.Feeds.{told_of};
 ghost use Rattle.pgp_feed.specs.Taps.{last_of};
 ghost use Rattle.pgp_feed.specs.declared.fault.MakeFault.TheVariants.{Memory};
 ghost use Rattle.pgp_engine.specs.Clients.{IsNew};
+ghost use Rattle.pgp_engine.specs.Fronts.{Names};
 
 use super::Engine;
 use crate::client::Client;
 use crate::intake::Intake;
 use crate::naming::Naming;
 use crate::shard::Shard;
-use pgp_feed::{Feed, MakeFault, Tap};
+use pgp_feed::{Feed, MakeFault, Receipt, Tap};
+use pgp_ids::Entry;
 use std::alloc::{AllocError, Global};
-use std::sync::{Condvar, Mutex, Wait};
+use std::sync::{Arc, Condvar, Mutex, Wait};
 
 // So many shards, each with one of the taps, of which the others are left.
 fn make_shards<J: Naming>(
@@ -49,6 +54,31 @@ fn make_clients<J: Naming>(alloc: Global, taps: Vec<Tap>) -> Result<Vec<Client<J
     Ok(clients)
 }
 
+// Publishes one more owner of an entry that the log takes next.
+fn publish_shared<R: Wait>(rt: &R, feed: &mut Feed, entry: &Arc<Entry>) -> Result<(), AllocError>
+    requires { fits (entries_of (told_of feed.old)) (arc_value entry.now) ≡ None }
+    ensures feed { feed_of (told_of feed.new) ≡ feed_of (told_of feed.old) }
+    ensures told { OnOk result (entries_of (told_of feed.new) ≡ entries_of (told_of feed.old) ++ arc_value entry.now ∷ []) }
+{
+    let copy = Arc::try_clone(entry)?;
+    match feed.publish(rt, copy) {
+        Ok(_) => Ok(()),
+        Err(_) => Err(AllocError),
+    }
+}
+
+// Publishes these entries, which the log takes next, one after the other. Refused, it has published the first of them.
+fn publish_all<R: Wait>(rt: &R, feed: &mut Feed, entries: &[Arc<Entry>]) -> Result<(), AllocError>
+    requires { is_legal (entries_of (told_of feed.old) ++ map arc_value entries.now) ≡ true }
+    ensures feed { feed_of (told_of feed.new) ≡ feed_of (told_of feed.old) }
+    ensures told { OnOk result (entries_of (told_of feed.new) ≡ entries_of (told_of feed.old) ++ map arc_value entries.now) }
+{
+    for entry in entries {
+        publish_shared(rt, feed, entry)?;
+    }
+    Ok(())
+}
+
 impl<J: Naming> Engine<J> {
     /// The engine over a feed in which nothing was published yet, with so many shards, to be served by so many workers, and a
     /// client for each tap that neither a shard nor the intake has, with the empty front. Refused, which is for `Memory`
@@ -72,18 +102,70 @@ impl<J: Naming> Engine<J> {
         ensures new { IfOk result (λ made. All IsNew made.1.items) }
         ensures err { IfErr result (λ fault. fault ≡ Memory) }
     {
-        let (engine, taps) = Engine::over(rt, alloc, feed, taps, shards, workers)?;
+        let (engine, taps) = Engine::with_taps(rt, alloc, feed, taps, shards, workers)?;
+        engine.with_clients(rt, alloc, taps)
+    }
+
+    /// The same over these entries, which are a legal log: they are published first, and the receipt names the log that they
+    /// make. So whoever hands it in is answered by a front that holds all of them. Each entry is shared with the caller. The
+    /// intake has judged them already, where there was memory for it; shards and clients read them later.
+    pub fn over<R: Wait>(
+        rt: &R,
+        alloc: Global,
+        feed: Feed,
+        taps: Vec<Tap>,
+        shards: usize,
+        workers: usize,
+        entries: &[Arc<Entry>],
+    ) -> Result<(Engine<J>, Vec<Client<J>>, Receipt), MakeFault>
+        requires feed { feed_of (told_of feed) ≡ J.feed }
+        requires empty { entries_of (told_of feed) ≡ [] }
+        requires taps { All (λ tap. feed_of (last_of tap) ≡ J.feed) taps.items }
+        requires enough { (shards + 2 ≤ length taps.items) × (length taps.items ≤ shards + 65) }
+        requires shards { (1 ≤ shards) × (shards ≤ 64) }
+        requires workers { (1 ≤ workers) × (workers ≤ 64) }
+        requires legal { is_legal (map arc_value entries.now) ≡ true }
+        ensures sizes { IfOk result (λ made. made.0 ≡ record { shards = shards; workers = workers }) }
+        ensures clients { IfOk result (λ made. length made.1.items + shards + 1 ≡ length taps.items) }
+        ensures new { IfOk result (λ made. All IsNew made.1.items) }
+        ensures told { IfOk result (λ made. Names J.feed (map arc_value entries.now) made.2) }
+        ensures err { IfErr result (λ fault. fault ≡ Memory) }
+    {
+        let mut feed = feed;
+        let Ok(()) = publish_all(rt, &mut feed, entries) else {
+            feed.give_up(rt);
+            return Err(MakeFault::Memory);
+        };
+        let told = feed.told();
+        let (engine, taps) = Engine::with_taps(rt, alloc, feed, taps, shards, workers)?;
+        let (engine, clients) = engine.with_clients(rt, alloc, taps)?;
+        Ok((engine, clients, told))
+    }
+
+    // The engine, with a client for each of these taps.
+    fn with_clients<R: Wait>(
+        self,
+        rt: &R,
+        alloc: Global,
+        taps: Vec<Tap>,
+    ) -> Result<(Engine<J>, Vec<Client<J>>), MakeFault>
+        requires { All (λ tap. feed_of (last_of tap) ≡ J.feed) taps.items }
+        ensures same { IfOk result (λ made. made.0 ≡ self) }
+        ensures clients { IfOk result (λ made. length made.1.items ≡ length taps.items) }
+        ensures new { IfOk result (λ made. All IsNew made.1.items) }
+        ensures err { IfErr result (λ fault. fault ≡ Memory) }
+    {
         match make_clients(alloc, taps) {
-            Ok(clients) => Ok((engine, clients)),
+            Ok(clients) => Ok((self, clients)),
             Err(_) => {
-                engine.give_up(rt);
+                self.give_up(rt);
                 Err(MakeFault::Memory)
             }
         }
     }
 
-    // The same with the taps that are left.
-    fn over<R: Wait>(
+    // The engine over what the feed has told, and the taps that are left.
+    fn with_taps<R: Wait>(
         rt: &R,
         alloc: Global,
         feed: Feed,
@@ -92,7 +174,6 @@ impl<J: Naming> Engine<J> {
         workers: usize,
     ) -> Result<(Engine<J>, Vec<Tap>), MakeFault>
         requires feed { feed_of (told_of feed) ≡ J.feed }
-        requires empty { entries_of (told_of feed) ≡ [] }
         requires taps { All (λ tap. feed_of (last_of tap) ≡ J.feed) taps.items }
         requires enough { (shards + 2 ≤ length taps.items) × (length taps.items ≤ shards + 65) }
         requires shards { (1 ≤ shards) × (shards ≤ 64) }
@@ -109,7 +190,7 @@ impl<J: Naming> Engine<J> {
         };
         let tap = taps.pop().unwrap();
         let engine = Engine {
-            intake: Mutex::new(Intake::start(alloc, feed, tap)),
+            intake: Mutex::new(Intake::ready(alloc, feed, tap)),
             grown: Condvar::new(),
             shards: all,
             workers,

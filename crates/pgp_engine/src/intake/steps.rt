@@ -39,6 +39,23 @@ impl<J: Naming> Intake<J> {
         }
     }
 
+    /// The same, with a judge that has taken what was told already, where there was memory for it and a copy to read.
+    pub(crate) fn ready(alloc: Global, feed: Feed, tap: Tap) -> Intake<J>
+        requires feed { feed_of (told_of feed) ≡ J.feed }
+        requires tap { feed_of (last_of tap) ≡ J.feed }
+        ensures { result ≡ entries_of (told_of feed) }
+    {
+        let mut intake = Intake::start(alloc, feed, tap);
+        let told = intake.feed.told();
+        let _ = catch_up(
+            &mut intake.judge,
+            &told,
+            &mut intake.tap,
+            &mut intake.unread,
+        );
+        intake
+    }
+
     /// The receipt of the whole log.
     pub fn told(&self) -> Receipt
         ensures { Names J.feed self.now result }
@@ -57,8 +74,8 @@ impl<J: Naming> Intake<J> {
     }
 
     /// Publishes the entry, if the log takes it. `Refused`: the whole log that was told doesn't take it, and the receipt is
-    /// of that log. `NoReader`: the log isn't empty. `Memory`: it isn't, or the entry fits or is an incremental. Whatever the
-    /// fault, the log is as before.
+    /// of that log. `NoReader`: the log isn't empty. `Memory`: it isn't, or the entry fits, or is an incremental at which the
+    /// map may lack memory. Whatever the fault, the log is as before.
     pub fn submit<R: Wait>(&mut self, rt: &R, entry: Entry) -> Result<Receipt, SubmitFault>
         ensures log { MatchResult result (λ _. self.new ≡ self.old ++ entry ∷ []) (λ _. self.new ≡ self.old) }
         ensures told { MatchResult result (Names J.feed self.new) (MayRefuse J.feed self.old entry) }

@@ -1,9 +1,11 @@
-use Rattle.std.proofs.Common.{◌≡◌, All, sym, subst}
-use Rattle.std.proofs.lemmas.List.Elements.{All-take}
-use Rattle.pgp_feed.specs.Receipts.{feed_of}
-use Rattle.pgp_feed.specs.Taps.{last_of}
+use Rattle.std.proofs.Common.{◌++◌, List, map, ap, ◌∙◌}
+use Rattle.std.specs.Arc.{arc_value}
+use Rattle.pgp_ids.specs.declared.entry.Entry.{Entry}
+use Rattle.pgp_feed.specs.Receipts.{entries_of, feed_of}
 use Rattle.pgp_engine.proofs.engine.Engine.over.Goals as goal
 
-pub returns-clause-feed : goal.returns-clause-feed
-returns-clause-feed g c =
-    subst (All (λ tap. feed_of (last_of tap) ≡ g.J.Naming.feed)) (sym c.pop.ensures.rest) (All-take (λ tap. feed_of (last_of tap) ≡ g.J.Naming.feed) _ _ c.in-Ok.ensures.feed)
+pub returns-clause-told : goal.returns-clause-told
+returns-clause-told g c = record {
+  of_feed = ap feed_of c.told-told.ensures ∙ (c.publish_all.ensures.feed ∙ c.requires.feed);
+  entries = ap entries_of c.told-told.ensures ∙ (c.in-Ok.ensures.told ∙ ap (λ (l : List Entry). l ++ map arc_value c.args.entries.now) c.requires.empty);
+}

@@ -1,4 +1,4 @@
-use Rattle.std.proofs.Common.{ap, sym, ◌∙◌}
+use Rattle.std.proofs.Common.{sym, ◌∙◌}
 use Rattle.pgp_group.specs.Entries.{incs_of}
 use Rattle.pgp_group.specs.Touched.{may_lie_on}
 use Rattle.pgp_log.proofs.TouchLemmas.{temp-stays, turned-none, turned-parts}

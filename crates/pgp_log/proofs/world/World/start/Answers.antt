@@ -1,4 +1,4 @@
-use Rattle.std.proofs.Common.{◌≡◌, ℕ, List, length, map, replicate, ap, ap₂, ◌∙◌}
+use Rattle.std.proofs.Common.{◌≡◌, ℕ, List, [], length, map, replicate, ap, ap₂, ◌∙◌}
 use Rattle.std.specs.Arc.{arc_value}
 use Rattle.pgp_ids.specs.declared.entry.Entry.{Entry}
 use Rattle.pgp_log.specs.Shard.{Shard}
@@ -8,7 +8,7 @@ use Rattle.pgp_log.proofs.world.World.start.Goals as goal
 
 pub invariant_of-world : goal.invariant_of-world
 invariant_of-world c =
-    rw c.new.ensures.items (openings-running c.args.shards c.start.result c.in_ok-all.all.items c.in_ok-all.ensures c.requires c.start.ensures)
+    rw c.new.ensures.items (openings-running [] c.args.shards c.start.result c.in_ok-all.all.items c.in_ok-all.ensures c.requires c.start.ensures)
 
 pub returns : goal.returns
 returns c =
