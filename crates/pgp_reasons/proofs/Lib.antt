@@ -8,3 +8,4 @@ pub mod GapLawLemmas
 pub mod SetLemmas
 pub mod WalkLemmas
 pub mod WayLemmas
+pub mod SameWayLemmas

@@ -110,7 +110,7 @@ module _ (enough : List ℕ → Bool) (monotone : IsMonotone enough) where
 
 -- ---- where all of them aren't enough
 
-all-part : (osds set : List ℕ) → Contains (all_sets osds) set → IsPartOf set osds
+pub all-part : (osds set : List ℕ) → Contains (all_sets osds) set → IsPartOf set osds
 all-part osds set in' =
     let found = flat_map-contains (λ n. sets_of n osds) (range_with_len 0 (length osds + 1)) set in' in
     set-part found.0 osds set found.1.1

@@ -90,7 +90,7 @@ none-ever : {X : Type 0} (test : X → Bool) (xs : List X) → ((x : X) → test
 none-ever test [] none = refl
 none-ever test (x ∷ xs) none = rw (none x) (none-ever test xs none)
 
-any-agree : {X : Type 0} (f g : X → Bool) (xs : List X) → ((x : X) → Contains xs x → f x ≡ g x) → list_any f xs ≡ list_any g xs
+pub any-agree : {X : Type 0} (f g : X → Bool) (xs : List X) → ((x : X) → Contains xs x → f x ≡ g x) → list_any f xs ≡ list_any g xs
 any-agree f g [] same = refl
 any-agree f g (x ∷ xs) same = λ i. same x (Contains-here x xs) i || any-agree f g xs (λ y in'. same y (Contains-later x xs y in')) i
 

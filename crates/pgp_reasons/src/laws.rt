@@ -7,6 +7,7 @@ ghost use Rattle.pgp_group.specs.GroupLog.{GroupLog};
 ghost use Rattle.pgp_group.specs.Later.{IsAfter};
 ghost use Rattle.pgp_group.specs.Peering.{prior};
 ghost use Rattle.pgp_reasons.specs.declared.ways.Way.{Way};
+ghost use Rattle.pgp_reasons.specs.declared.ways.Way.TheVariants.{Start, GiveUp};
 ghost use Rattle.pgp_reasons.specs.GroupWays.{is_down_with, ways, GoesWay};
 ghost use Rattle.pgp_reasons.specs.Smallest.{smallest, holds, IsPartOf};
 
@@ -34,6 +35,14 @@ pub fn smallest_are_all()
     ensures each { (way : Way) (g : GroupLog) (osds : List ℕ) → (prior g).down ≡ true
         → IsPartOf osds (prior g).blocked_by → is_down_with way osds g ≡ false
         → (set : List ℕ) × (Contains (ways way g) set × IsPartOf set osds) }
+{}
+
+/// To start devices and to declare them lost come to the same: the devices that a group waits for bring it back by the one
+/// just where they do so by the other, so the smallest sets that do are the same. What is lost is what those devices hold.
+pub fn starts_and_losses_are_the_same_sets()
+    ensures each { (g : GroupLog) (osds : List ℕ) → IsPartOf osds (prior g).blocked_by
+        → is_down_with Start osds g ≡ is_down_with GiveUp osds g }
+    ensures sets { (g : GroupLog) → ways Start g ≡ ways GiveUp g }
 {}
 
 /// Of the devices 0, 3 and 5 the first alone is enough, or the two others. Three devices of which any two are enough have
