@@ -1,2 +1,4 @@
+pub mod ArenaSend
 pub mod AsBox
 pub mod EachLemmas
+pub mod SessionSend

@@ -25,6 +25,9 @@ impl Model for Held {
     ghost also_owns = { λ held. held_owns held.alloc held.at held.session };
 }
 
+// A thread may go on with the session of another one: all that a session has may go with it.
+unsafe impl Send for Held {}
+
 impl Held {
     /// Null.
     pub fn none(alloc: Global) -> Held

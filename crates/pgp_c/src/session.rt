@@ -42,9 +42,16 @@ impl PgpSession {
     pub fn put(&mut self, session: Box<Session>)
         ensures { self.new.held.session ≡ Some session.value }
     {
-        *self = PgpSession {
+        *self = for_any_thread(PgpSession {
             is_open: true,
             held: Held::of(session),
-        };
+        });
     }
+}
+
+/// The same value, which a C program may hand to another thread.
+fn for_any_thread<T: Send>(value: T) -> T
+    ensures { result ≡ value }
+{
+    value
 }

@@ -4,6 +4,7 @@
 //     play FILE EXPECTED refuse  the same, once for each call of the allocator, which is refused: a line for which there was no
 //                                memory is told again
 //     play FILE EXPECTED threads the same on two threads, each with sessions of its own
+//     play FILE EXPECTED moves   the same, where a session is opened, told each of its lines and closed by a thread of its own
 //
 // A line of FILE that begins with "# " ends a script, and is written as it stands. What is written has to be EXPECTED. Prints
 // what was played, and ends in status 1 where something was wrong.
@@ -93,10 +94,39 @@ static void close_session(pgp_session *session) {
     if (pgp_answer(session, room, 1, &wanted) != PGP_NOT_OPEN) fail("a closed session gave an answer");
 }
 
+// What is done with a session next: it is opened, closed, or told a line.
+typedef struct {
+    pgp_session *session;
+    void (*step)(pgp_session *session);
+    const uint8_t *line;
+    size_t length;
+    text *out;
+    unsigned turn;
+} work;
+
+static void *do_work(void *given) {
+    const work *it = given;
+    if (it->step) it->step(it->session);
+    else tell(it->session, it->line, it->length, it->out, it->turn);
+    return NULL;
+}
+
+static int moves;  // whether each call comes from a thread of its own
+
+static void have_done(work it) {
+    pthread_t other;
+    if (!moves) {
+        do_work(&it);
+    } else if (pthread_create(&other, NULL, do_work, &it) || pthread_join(other, NULL)) {
+        fail("no thread");
+    }
+}
+
 static text play(text scripts) {
     text out = {__real_malloc(1 << 26), 0};
     pgp_session session = PGP_SESSION;
-    open_session(&session);
+    const work opening = {.session = &session, .step = open_session}, closing = {.session = &session, .step = close_session};
+    have_done(opening);
     unsigned turn = 0;
     for (size_t at = 0; at < scripts.length; turn++) {
         const uint8_t *line = scripts.bytes + at;
@@ -105,13 +135,13 @@ static text play(text scripts) {
         at += length + (end != NULL);
         if (length >= 2 && line[0] == '#' && line[1] == ' ') {
             put(&out, line, length + (end != NULL));
-            close_session(&session);
-            open_session(&session);
+            have_done(closing);
+            have_done(opening);
         } else {
-            tell(&session, line, length, &out, turn);
+            have_done((work){.session = &session, .line = line, .length = length, .out = &out, .turn = turn});
         }
     }
-    close_session(&session);
+    have_done(closing);
     return out;
 }
 
@@ -127,11 +157,15 @@ static void *play_and_compare(void *unused) {
 }
 
 int main(int argc, char **argv) {
-    if (argc < 3) fail("usage: play FILE EXPECTED [refuse | threads]");
+    if (argc < 3) fail("usage: play FILE EXPECTED [refuse | threads | moves]");
     scripts = read_file(argv[1]);
     expected = read_file(argv[2]);
     play_and_compare(NULL);
     long all = calls;
+    if (argc > 3 && strcmp(argv[3], "moves") == 0) {
+        moves = 1;
+        play_and_compare(NULL);
+    }
     if (argc > 3 && strcmp(argv[3], "refuse") == 0) {
         for (refused = 1; refused <= all; refused++) play_and_compare(NULL);
         refused = 0;
