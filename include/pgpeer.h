@@ -1,18 +1,20 @@
 /* pgpeer.h: the placement-group peering core, as a static library.
  *
- * A session is one log of map incrementals and reports, told and asked on one thread. It starts no thread and takes no lock.
- * docs/EMBEDDING.md says how to link it, docs/FORMAT.md has the lines and their answers.
+ * A session is one log of map incrementals and reports, told and asked by one call at a time. It starts no thread and takes no
+ * lock. docs/EMBEDDING.md says how to link it, docs/FORMAT.md has the lines and their answers.
  *
  * What a caller owes, at each call:
  *
- * - No pointer is null. A pointer with a length has that many bytes behind it, which nothing else reads or writes during the
- *   call, and which don't overlap what another argument points to.
- * - A pgp_session is filled with zeros before its first call, and else is as the last call left it. It isn't copied, and its
- *   fields are neither read nor written.
- * - A session is given to one call at a time, and stays on the thread that opened it.
+ * - No pointer is null, also where its length is 0. Behind a pointer with a length are that many items, behind any other one.
+ *   Nothing else reads or writes what a call may write, or writes what it may read, as long as the call runs, and what it may
+ *   write overlaps nothing else that it is given. A struct or a room that a call only writes needn't be filled.
+ * - A pgp_session is filled with zeros before its first call, and else is as the last call left it. Its fields are neither read
+ *   nor written. It may be moved, but of two copies only one is ever used.
+ * - A session is given to one call at a time. It may go from thread to thread, where a lock, the start or the end of a thread
+ *   that is waited for, or an atomic in sequentially consistent order stands between its calls. Two sessions share nothing.
  * - No call is made from a signal handler, or in the child that a process with threads forked.
  *
- * The library takes memory by malloc, realloc and free.
+ * Everything else a status answers. The library takes memory by malloc, realloc and free.
  */
 #ifndef PGPEER_H
 #define PGPEER_H
@@ -36,11 +38,12 @@ typedef struct pgp_session {
 /* What became of a call: one of these, or the number of a refusal. */
 enum {
     PGP_DONE = 0,           /* it did what its name says */
-    PGP_ROOM_TOO_SMALL = 1, /* it did, and the room is too small for what it gives */
+    PGP_ROOM_TOO_SMALL = 1, /* it did, and the room is too small for what it gives, and stays as it was */
     PGP_NO_MEMORY = 2,      /* there was no memory, and the log is as before */
-    PGP_NOT_OPEN = 3,       /* the session isn't open */
-    PGP_ALREADY_OPEN = 4,   /* the session is open already */
-    PGP_BAD_ARGUMENT = 5,   /* an argument is none that there can be, and nothing happened */
+    PGP_NOT_OPEN = 3,       /* the session isn't open, and stays so */
+    PGP_ALREADY_OPEN = 4,   /* the session is open already, and stays as it was */
+    PGP_BAD_ARGUMENT = 5,   /* a number or a name is none that there can be, and the session stays as it was */
+    PGP_NO_LIST = 6,        /* pgp_missing_objects: there is no such list, and the session stays as it was */
 
     /* pgp_ask and the calls of lists */
     PGP_ASK_UNKNOWN_GROUP = 40,
@@ -55,6 +58,29 @@ enum {
     PGP_FUTURE_STAMP = 62,
     PGP_BAD_VERSION = 63,
     PGP_CLOSED = 64
+};
+
+/* The other numbers that answers to lines have as their code. No call has one as its status. */
+enum {
+    PGP_EPOCH_GAP = 10,
+    PGP_TWICE = 11,
+    PGP_UNKNOWN_DEVICE = 12,
+    PGP_ALREADY_UP = 13,
+    PGP_ALREADY_DOWN = 14,
+    PGP_STILL_UP = 15,
+    PGP_UP_THRU_BACK = 16,
+    PGP_AHEAD = 17,
+    PGP_BAD_POOL = 18,
+    PGP_POOL_KNOWN = 19,
+    PGP_BAD_TEMP = 20,
+    PGP_TREE_FAULT = 21,
+    PGP_LINE_TOO_LONG = 30,
+    PGP_NOT_JSON = 31,
+    PGP_NO_OP = 32,
+    PGP_UNKNOWN_KEY = 33,
+    PGP_BAD_FIELD = 34,
+    PGP_LINE_MEMORY = 41,   /* there was no memory for a line that is no entry */
+    PGP_ENTRY_MEMORY = 51   /* there was no memory for an entry */
 };
 
 /* Whether a group may serve, and if not, what it waits for. */
@@ -82,49 +108,52 @@ enum {
 /* The longest line, without its line feed. A longer one is answered by LineTooLong. */
 #define PGP_LONGEST_LINE 1048576
 
-/* Opens a session of an empty log: PGP_DONE, PGP_ALREADY_OPEN or PGP_NO_MEMORY. */
+/* Opens a session of an empty log, which has answered no line: PGP_DONE. At PGP_ALREADY_OPEN the session stays as it was, and
+ * at PGP_NO_MEMORY it isn't open. */
 uint32_t pgp_open(pgp_session *session);
 
-/* Ends a session and frees all that it has: PGP_DONE, or PGP_NOT_OPEN where there is none. It may be opened again. */
+/* Ends a session and frees all that it has: PGP_DONE, or PGP_NOT_OPEN. It may be opened again. */
 uint32_t pgp_close(pgp_session *session);
 
 /* Tells a session a line, given without its line feed, and puts the answer into the front of the room: the same bytes as
  * `pgpeer run` writes for the line, with the line feed at their end. A blank line has an answer of no bytes.
  *
- * *answer_length is the length of the answer; 0 where the session isn't open. The answer is put into the room where it fits,
- * and else the room stays as it was.
+ * The answer is put into the room where it fits, and else the room stays as it was. *answer_length is the length of the answer,
+ * whether it fits or not.
  *
- *   PGP_DONE            the line was answered, and the answer is in the room
- *   PGP_ROOM_TOO_SMALL  the line was answered, and if it is an entry that the log takes, the log has it; pgp_answer gives the
- *                       answer, until the next line
+ *   PGP_DONE            the line was answered, be it by a refusal, and the answer is in the room
+ *   PGP_ROOM_TOO_SMALL  the line was answered too, and pgp_answer gives the answer until the next line. As with PGP_DONE the log has
+ *                       the entry that the line is, if it is one that the log takes
  *   PGP_NO_MEMORY       there was no memory for the line or its answer. The log is as before, and the answer, which is in the
  *                       room where it fits, is the one that `pgpeer run` writes then: refusal 41, or 51 for an entry. The same
- *                       line may be told again.
- *   PGP_NOT_OPEN        nothing happened
+ *                       line may be told again
+ *   PGP_NOT_OPEN        *answer_length is 0, and the room stays as it was
  */
 uint32_t pgp_line(pgp_session *session, const uint8_t *line, size_t line_length, uint8_t *room, size_t room_length,
                   size_t *answer_length);
 
-/* Puts the answer to the last line into the room again, as pgp_line does: PGP_DONE, PGP_ROOM_TOO_SMALL or PGP_NOT_OPEN. */
+/* Puts the answer to the last line into the room again, and its length into *answer_length, as pgp_line does: PGP_DONE,
+ * PGP_ROOM_TOO_SMALL or PGP_NOT_OPEN. Before the first line the answer has no bytes. The session stays as it was. */
 uint32_t pgp_answer(pgp_session *session, uint8_t *room, size_t room_length, size_t *answer_length);
 
-/* Where an object lies. */
+/* Where an object lies: its group, and the group's up and acting sets, whose places hold devices. */
 typedef struct pgp_place {
     uint32_t epoch;          /* of the map */
     uint16_t pg;             /* the number of the group in its pool */
     uint16_t up_primary;
     uint16_t acting_primary;
     uint8_t size;            /* how many copies or shards the pool keeps, 1 to 16 */
-    uint8_t min_size;        /* with how many members the group may serve */
+    uint8_t min_size;        /* how many members the group has to have to serve */
     uint8_t up_length;       /* how many places `up` has */
     uint8_t acting_length;   /* how many places `acting` has */
     uint16_t up[16];
     uint16_t acting[16];
 } pgp_place;
 
-/* Puts where the object of this name lies into *place, by the map of the session's log. The name has 1 to 255 bytes of UTF-8, the
- * pool 1 to 255. Any other status than PGP_DONE leaves *place as it was: PGP_UNKNOWN_POOL, PGP_BAD_ARGUMENT, PGP_NOT_OPEN, and
- * PGP_NO_MEMORY, which comes only for a name of more than 24 bytes. */
+/* Puts where the object of this name lies into *place, by the map of the session's log: PGP_DONE. Any other status leaves *place
+ * as it was: PGP_UNKNOWN_POOL where the map has no such pool, PGP_BAD_ARGUMENT where the pool isn't 1 to 255 or the name isn't 1 to
+ * 255 bytes of UTF-8, PGP_NO_MEMORY, which comes only for a name of more than 24 bytes, or PGP_NOT_OPEN. The session stays as it
+ * was. */
 uint32_t pgp_locate(pgp_session *session, uint32_t pool, const uint8_t *name, size_t name_length, pgp_place *place);
 
 /* What a log says of a placement group. */
@@ -149,7 +178,8 @@ typedef struct pgp_view {
 } pgp_view;
 
 /* Puts what the session's log says of group `pg` of the pool into *view: PGP_DONE. Any other status leaves *view as it was:
- * PGP_ASK_UNKNOWN_GROUP, PGP_BAD_ARGUMENT (a pool that isn't 1 to 255, a group above 1023), PGP_NO_MEMORY, PGP_NOT_OPEN. */
+ * PGP_ASK_UNKNOWN_GROUP where the map has no such group, PGP_BAD_ARGUMENT where the pool isn't 1 to 255 or the group is above 1023,
+ * PGP_NO_MEMORY or PGP_NOT_OPEN. The session stays as it was. */
 uint32_t pgp_ask(pgp_session *session, uint32_t pool, uint32_t pg, pgp_view *view);
 
 /* A member of a group: a device in a slot. */
@@ -158,10 +188,10 @@ typedef struct pgp_member {
     uint8_t slot;
 } pgp_member;
 
-/* A past interval of a group. */
+/* A past interval of a group, with the sets and sizes that it had then. */
 typedef struct pgp_interval {
-    uint32_t first;
-    uint32_t last;
+    uint32_t first;          /* its first epoch */
+    uint32_t last;           /* its last epoch */
     uint16_t up_primary;
     uint16_t acting_primary;
     uint8_t size;
@@ -170,7 +200,7 @@ typedef struct pgp_interval {
     uint8_t acting_length;
     uint16_t up[16];
     uint16_t acting[16];
-    bool rw;                 /* whether the group may have gone read-write in it */
+    uint8_t rw;              /* 1 where the group may have gone read-write in it, else 0 */
 } pgp_interval;
 
 /* The state of a member other than the best one. */
@@ -182,12 +212,27 @@ typedef struct pgp_peer {
 } pgp_peer;
 
 /* Each puts a list of what the session's log says of a group into the front of the room, which has places for `room_length` of
- * them, and how many they are into *count. PGP_ROOM_TOO_SMALL says by *count how many places it wants, and leaves the room as it
- * was. At any other status than these two, which are those of pgp_ask, *count is 0. */
+ * them, and how many they are into *count: PGP_DONE. PGP_ROOM_TOO_SMALL says by *count how many places it wants, and leaves the
+ * room as it was. At any other status, which are those of pgp_ask, the room stays as it was too, and *count is 0. The session
+ * stays as it was. */
 uint32_t pgp_probe(pgp_session *session, uint32_t pool, uint32_t pg, pgp_member *room, size_t room_length, size_t *count);
 uint32_t pgp_blocked_by(pgp_session *session, uint32_t pool, uint32_t pg, uint16_t *room, size_t room_length, size_t *count);
 uint32_t pgp_intervals(pgp_session *session, uint32_t pool, uint32_t pg, pgp_interval *room, size_t room_length, size_t *count);
 uint32_t pgp_missing(pgp_session *session, uint32_t pool, uint32_t pg, pgp_peer *room, size_t room_length, size_t *count);
+
+/* An object that a member lacks. */
+typedef struct pgp_object {
+    uint32_t epoch;          /* the write that the member needs: its epoch and its number */
+    uint32_t number;
+    uint8_t name_length;     /* how many bytes the name has, 1 to 255 */
+    uint8_t name[255];       /* the name, in UTF-8, and zeros behind it */
+} pgp_object;
+
+/* Puts the objects that the member `slot` of device `osd` lacks into the room, in ascending order of their names, as the calls
+ * above put a list. There is one for each member to which pgp_missing gives the state PGP_MISSING. For any other it is
+ * PGP_NO_LIST: *count is 0, and the room stays as it was. A device above 4095 or a slot above 15 is a PGP_BAD_ARGUMENT too. */
+uint32_t pgp_missing_objects(pgp_session *session, uint32_t pool, uint32_t pg, uint32_t osd, uint32_t slot, pgp_object *room,
+                             size_t room_length, size_t *count);
 
 /* What a member tells of its copy of a group. */
 typedef struct pgp_info {
@@ -203,18 +248,18 @@ typedef struct pgp_info {
     uint32_t last_update;
     uint32_t log_tail_epoch;    /* the version before the first entry of its log */
     uint32_t log_tail;
-    bool complete;              /* whether the copy has each object of the group */
+    uint8_t complete;           /* 1 where the copy has each object of the group, else 0 */
 } pgp_info;
 
-/* Tells a session an info, as the line of op "info" does: PGP_DONE where the log takes it. The log stays at any other status: the
- * number of the refusal, PGP_BAD_ARGUMENT where a number isn't in its range, PGP_NO_MEMORY, or PGP_NOT_OPEN. The answer to the last
- * line is kept. */
+/* Tells a session an info, as the line of op "info" does: PGP_DONE where the log takes it. At any other status the log is as
+ * before: the number of the refusal, PGP_BAD_ARGUMENT where a number with a range above isn't in it, PGP_NO_MEMORY, or
+ * PGP_NOT_OPEN. The answer to the last line is kept. */
 uint32_t pgp_submit_info(pgp_session *session, const pgp_info *info);
 
 /* The version of the library: ten thousand times the first part, a hundred times the second, and the third. */
 uint32_t pgp_version(void);
 
-/* The name of a status, and "unknown" for a number that is none. */
+/* The name of a status or of another number that answers have, and "unknown" for a number that is none. */
 static inline const char *pgp_status_name(uint32_t status) {
     switch (status) {
     case PGP_DONE: return "Done";
@@ -223,10 +268,30 @@ static inline const char *pgp_status_name(uint32_t status) {
     case PGP_NOT_OPEN: return "NotOpen";
     case PGP_ALREADY_OPEN: return "AlreadyOpen";
     case PGP_BAD_ARGUMENT: return "BadArgument";
-    case PGP_UNKNOWN_POOL: return "UnknownPool";
-    case PGP_LOG_FULL: return "LogFull";
+    case PGP_NO_LIST: return "NoList";
+    case PGP_EPOCH_GAP: return "EpochGap";
+    case PGP_TWICE: return "Twice";
+    case PGP_UNKNOWN_DEVICE: return "UnknownDevice";
+    case PGP_ALREADY_UP: return "AlreadyUp";
+    case PGP_ALREADY_DOWN: return "AlreadyDown";
+    case PGP_STILL_UP: return "StillUp";
+    case PGP_UP_THRU_BACK: return "UpThruBack";
+    case PGP_AHEAD: return "Ahead";
+    case PGP_BAD_POOL: return "BadPool";
+    case PGP_POOL_KNOWN: return "PoolKnown";
+    case PGP_BAD_TEMP: return "BadTemp";
+    case PGP_TREE_FAULT: return "TreeFault";
+    case PGP_LINE_TOO_LONG: return "LineTooLong";
+    case PGP_NOT_JSON: return "NotJson";
+    case PGP_NO_OP: return "NoOp";
+    case PGP_UNKNOWN_KEY: return "UnknownKey";
+    case PGP_BAD_FIELD: return "BadField";
     case PGP_ASK_UNKNOWN_GROUP:
     case PGP_UNKNOWN_GROUP: return "UnknownGroup";
+    case PGP_LINE_MEMORY:
+    case PGP_ENTRY_MEMORY: return "Memory";
+    case PGP_UNKNOWN_POOL: return "UnknownPool";
+    case PGP_LOG_FULL: return "LogFull";
     case PGP_UNKNOWN_MEMBER: return "UnknownMember";
     case PGP_FUTURE_STAMP: return "FutureStamp";
     case PGP_BAD_VERSION: return "BadVersion";

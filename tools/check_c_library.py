@@ -8,11 +8,14 @@ $CC. What is checked, each with a line:
 
   names      the numbers and names of pgpeer.h are those of the sources in Rattle
   stored     each script of crates/pgp_scripts has its stored answers, told to a session of its own, with rooms of several sizes,
-             on one thread and on two
+             on one thread, on two, and with each line told by a thread of its own
   refused    the same of short scripts, with each call of malloc and realloc refused in turn
-  typed      what pgp_locate, pgp_ask, the lists and pgp_submit_info give is what the answers to lines say
-  example    examples/c and examples/python print the stored answers to each script of examples/
-  memory     valgrind finds no fault and no leak in a short script, where there is a valgrind
+  typed      what the calls that give and take values do is what the answers to lines say, also with each call of malloc and
+             realloc refused in turn
+  example    examples/c and examples/python print the stored answers to each script of examples/, and examples/c/ask.c what it
+             is to print of an outage
+  Rust       the tests of examples/rust pass, where there is a cargo
+  memory     valgrind finds no fault, no leak and no race in a short script, where there is a valgrind
   C++        pgpeer.h is read by c++, where there is one
 
 The last line is `N checks, M wrong`, and the status is 1 where something was wrong.
@@ -30,6 +33,13 @@ ROOT = pathlib.Path(__file__).resolve().parent.parent
 STRICT = ["-std=c11", "-Wall", "-Wextra", "-Werror", "-O1"]
 WRAPPED = "-Wl,--wrap=malloc,--wrap=realloc"
 SHORT = ("first", "outage", "explain_need_log")  # examples, for each call of the allocator
+OUTAGE = b"""Serve, since epoch 2 of 3
+osd.1 has the best copy
+osd.1 has to be heard
+osd.2 has to be heard
+osd.2 lacks b, written as 1'2
+osd.1 serves 1000 of 1000 objects
+"""  # what examples/c/ask.c prints of examples/outage.jsonl
 
 
 def run(*words, **more):
@@ -56,19 +66,35 @@ def upper(name):
     return "PGP_" + re.sub(r"(?<!^)(?=[A-Z])", "_", name).upper()
 
 
+def wanted_numbers():
+    """The names of the header with their numbers, by the sources."""
+    wanted = {"PGP_LONGEST_LINE": 1_048_576, "PGP_NO_DEVICE": 65535, "PGP_ASK_UNKNOWN_GROUP": 40}
+    for source, pattern, memory in (
+        ("pgp_c/src/status.rt", r"Status::(\w+) => (\d+)", None),
+        ("pgp_c/src/view.rt", r"Verdict::(\w+) => (\d+)", None),
+        ("pgp_c/src/lists.rt", r"PeerState::(\w+)(?:\(_\))? => (\d),\n", None),
+        ("pgp_refusals/src/locate_refusal.rt", r"LocateRefusal::(UnknownPool) => (\d+)", None),
+        ("pgp_refusals/src/text_fault.rt", r"TextFault::(\w+)(?:\(_\))? => (\d+)", "PGP_LINE_MEMORY"),
+        ("pgp_refusals/src/refusal.rt", r"Refusal::(\w+)(?:\(_\))? => (\d+)", "PGP_ENTRY_MEMORY"),
+    ):
+        for name, number in numbers_in(source, pattern).items():
+            wanted[memory if name == "Memory" else upper(name)] = number
+    return wanted
+
+
 def wrong_names(header):
     """What of the header isn't what the sources say."""
     told = {name: int(number) for name, number in re.findall(r"(PGP_[A-Z_]+)(?: =| ) ?(\d+)", header)}
-    wanted = {"PGP_LONGEST_LINE": 1_048_576, "PGP_NO_DEVICE": 65535, "PGP_ASK_UNKNOWN_GROUP": 40}
-    for source, pattern in (
-        ("pgp_c/src/status.rt", r"Status::(\w+) => (\d+)"),
-        ("pgp_c/src/view.rt", r"Verdict::(\w+) => (\d+)"),
-        ("pgp_c/src/lists.rt", r"PeerState::(\w+)(?:\(_\))? => (\d),\n"),
-        ("pgp_refusals/src/locate_refusal.rt", r"LocateRefusal::(UnknownPool) => (\d+)"),
-        ("pgp_refusals/src/refusal.rt", r"Refusal::(LogFull|UnknownGroup|UnknownMember|FutureStamp|BadVersion|Closed) => (\d+)"),
-    ):
-        wanted.update({upper(name): number for name, number in numbers_in(source, pattern).items()})
-    return [f"{name}: {told.get(name)} in the header, {wanted.get(name)} in the sources" for name in {*told, *wanted} if told.get(name) != wanted.get(name)]
+    wanted = wanted_numbers()
+    for name in {*told, *wanted}:
+        if told.get(name) != wanted.get(name):
+            yield f"{name}: {told.get(name)} in the header, {wanted.get(name)} in the sources"
+    cases = dict(re.findall(r"case (PGP_\w+):(?:\n\s*case PGP_\w+:)? return \"(\w+)\";", header))
+    for name, word in cases.items():
+        if upper(word) not in (name, name.replace("ASK_", ""), name.replace("LINE_", "")):
+            yield f"{name}: its name is {word}"
+    unnamed = {name for name in wanted if f"case {name}:" not in header}
+    yield from (f"{name}: it has no name" for name in unnamed - {"PGP_LONGEST_LINE", "PGP_NO_DEVICE", "PGP_MISSING", "PGP_BACKFILL", "PGP_DIVERGED"})
 
 
 # Scripts
@@ -84,7 +110,7 @@ def examples():
 
 def wrong_runs(play):
     scripts = ROOT / "crates/pgp_scripts"
-    for how in ([], ["threads"]):
+    for how in ([], ["threads"], ["moves"]):
         ended = run(play, scripts / "stdin", scripts / "stdout", *how)
         if ended.returncode:
             yield f"stored scripts {how}: {ended.stderr.decode()}"
@@ -97,7 +123,7 @@ def wrong_refusals(play):
             yield f"{name}: {ended.stderr.decode()}"
 
 
-def wrong_examples(folder, outage):
+def wrong_examples(folder, outage, ask):
     python = [sys.executable, "-B", ROOT / "examples/python/pgpeer.py"]
     env = {**os.environ, "PGPEER_SO": str(folder / "libpgpeer.so")}
     for script, answers in examples():
@@ -105,6 +131,35 @@ def wrong_examples(folder, outage):
             ended = run(*words, input=script.read_bytes(), env=env)
             if ended.stdout != answers.read_bytes() or ended.returncode:
                 yield f"{script.name}, {words[-1]}: {ended.stderr.decode()[-300:]}"
+    asked = run(ask, input=(ROOT / "examples/outage.jsonl").read_bytes())
+    if asked.stdout != OUTAGE or asked.returncode:
+        yield f"ask: {asked.stdout.decode()}{asked.stderr.decode()}"
+
+
+IN_VALUES = """
+import pgpeer, sys
+session = pgpeer.Session(sys.argv[1])
+for line in open(sys.argv[2], "rb"):
+    session.tell(line.rstrip())
+view, place, peer = session.ask(1, 0), session.locate(1, "a"), session.missing(1, 0)[0]
+assert (pgpeer.VERDICTS[view.verdict], view.best_osd, view.up_primary) == ("Serve", 1, pgpeer.NO_DEVICE)
+assert (place.epoch, list(place.acting[:3]), pgpeer.STATES[peer.state], peer.osd) == (3, [1, 2, pgpeer.NO_DEVICE], "missing", 2)
+assert [(it.name, it.epoch, it.number) for it in session.missing_objects(1, 0, 2, 0)] == [("b", 1, 2)]
+session.close()
+"""  # what examples/python/pgpeer.py gives in values
+
+
+def wrong_values(folder):
+    words = [sys.executable, "-B", "-c", IN_VALUES, folder / "libpgpeer.so", ROOT / "examples/outage.jsonl"]
+    return faults(run(*words, cwd=ROOT / "examples/python"))
+
+
+def wrong_memory(play, typed):
+    outage = [ROOT / "examples/outage.jsonl", ROOT / "examples/outage.answers.jsonl"]
+    leaks = ["valgrind", "-q", "--leak-check=full", "--error-exitcode=3"]
+    races = ["valgrind", "-q", "--tool=helgrind", "--error-exitcode=3"]
+    for words in ([*leaks, play, *outage], [*leaks, typed], [*races, play, *outage, "threads"], [*races, play, *outage, "moves"]):
+        yield from faults(run(*words))
 
 
 def faults(ended):
@@ -120,19 +175,21 @@ def main():
     tests = ROOT / "tools/tests/c"
     with tempfile.TemporaryDirectory() as work:
         play = compiled(folder, pathlib.Path(work) / "play", WRAPPED, tests / "play.c", "-pthread")
-        typed = compiled(folder, pathlib.Path(work) / "typed", tests / "typed.c")
+        typed = compiled(folder, pathlib.Path(work) / "typed", WRAPPED, tests / "typed.c")
         outage = compiled(folder, pathlib.Path(work) / "outage", ROOT / "examples/c/outage.c")
+        ask = compiled(folder, pathlib.Path(work) / "ask", ROOT / "examples/c/ask.c")
         checks = {
-            "names": wrong_names((folder / "pgpeer.h").read_text()),
+            "names": list(wrong_names((folder / "pgpeer.h").read_text())),
             "stored": list(wrong_runs(play)),
             "refused": list(wrong_refusals(play)),
-            "typed": faults(run(typed)),
-            "example": list(wrong_examples(folder, outage)),
+            "typed": faults(run(typed)) + faults(run(typed, "refuse")),
+            "example": list(wrong_examples(folder, outage, ask)) + wrong_values(folder),
         }
+        if shutil.which("cargo"):
+            env = {**os.environ, "PGPEER_DIR": str(folder), "CARGO_TARGET_DIR": f"{work}/rust"}
+            checks["Rust"] = faults(run("cargo", "test", "-q", "--offline", cwd=ROOT / "examples/rust", env=env))
         if shutil.which("valgrind"):
-            first = [ROOT / "examples/outage.jsonl", ROOT / "examples/outage.answers.jsonl"]
-            watched = ["valgrind", "-q", "--leak-check=full", "--error-exitcode=3"]
-            checks["memory"] = faults(run(*watched, play, *first)) + faults(run(*watched, typed))
+            checks["memory"] = list(wrong_memory(play, typed))
         if shutil.which("c++"):
             checks["C++"] = faults(run("c++", "-std=c++17", "-Wall", "-Wextra", "-Werror", "-fsyntax-only", "-x", "c++", folder / "pgpeer.h"))
     for name, wrong in checks.items():

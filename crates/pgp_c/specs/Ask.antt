@@ -1,5 +1,5 @@
 -- How a question about a placement group ends. This project's own choice.
-use Rattle.std.specs.Prelude.{◌≡◌, ◌≢◌, ℕ, ◌≤◌, List, Option, Some, None}
+use Rattle.std.specs.Prelude.{◌≡◌, ◌⊎◌, ℕ, ◌≤◌, List, Option, Some, None}
 use Rattle.pgp_ids.specs.declared.entry.Entry.{Entry}
 use Rattle.pgp_ids.specs.declared.pg_id.PgId.{PgId}
 use Rattle.pgp_ids.specs.declared.view.View.{View}
@@ -25,11 +25,15 @@ abbrev pub PutsView : Option View → PgpView → PgpView → ℕ → Type 0
 PutsView None old new status = (new ≡ old) × (status ≡ ask_refusal_number UnknownGroup)
 PutsView (Some view) old new status = (new ≡ view_of view) × (status ≡ status_number Done)
 
--- The question was answered by the log. Only numbers that are no group's are a bad argument.
+-- there was no memory for the answer
+pub record FindsNone {C : Type 0} (old new : C) (status : ℕ) : Type 0 where
+  pub same : new ≡ old
+  pub status_is : status ≡ status_number NoMemory
+
+-- The question was answered by the log.
 pub record AsksIn (log : List Entry) (pool pg : ℕ) (old new : PgpView) (status : ℕ) : Type 0 where
-  pub bad : status ≡ status_number BadArgument → (new ≡ old) × (IsGroup pool pg → ⊥)
-  pub memory : status ≡ status_number NoMemory → new ≡ old
-  pub view : status ≢ status_number BadArgument → status ≢ status_number NoMemory → PutsView (view_in log (group pool pg)) old new status
+  pub bad : (IsGroup pool pg → ⊥) → (new ≡ old) × (status ≡ status_number BadArgument)
+  pub good : IsGroup pool pg → PutsView (view_in log (group pool pg)) old new status ⊎ FindsNone old new status
 
 -- The question was answered by a session, where there is one.
 abbrev pub Asks : Option LogAndAnswer → Option LogAndAnswer → ℕ → ℕ → PgpView → PgpView → ℕ → Type 0

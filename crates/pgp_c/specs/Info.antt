@@ -1,5 +1,5 @@
 -- How an info that C tells ends. This project's own choice.
-use Rattle.std.specs.Prelude.{◌≡◌, ◌⊎◌, ℕ, ◌≤◌, Option, Some, None}
+use Rattle.std.specs.Prelude.{◌≡◌, ◌⊎◌, ℕ, ◌≤◌, Option, Some, None, nat_eq}
 use Rattle.pgp_ids.specs.declared.entry.Entry.{Entry}
 use Rattle.pgp_ids.specs.declared.entry.Entry.TheVariants as entry
 use Rattle.pgp_ids.specs.declared.report.Info.{Info}
@@ -10,6 +10,7 @@ use Rattle.pgp_replies.specs.declared.reply.Reply.TheVariants.{Accepted, Asked, 
 use Rattle.pgp_replies.specs.declared.reply.refused.Refused.TheVariants as why
 use Rattle.pgp_core.specs.Session.{LogAndAnswer, log_in, reply_in}
 use Rattle.pgp_c.specs.Ask.{IsGroup, group}
+use Rattle.pgp_c.specs.Member.{IsMember, member}
 use Rattle.pgp_c.specs.Status.{status_number}
 use Rattle.pgp_c.specs.declared.info.PgpInfo.{PgpInfo}
 use Rattle.pgp_c.specs.declared.status.Status.TheVariants.{Done, NoMemory, NotOpen, BadArgument}
@@ -17,20 +18,20 @@ use Rattle.pgp_c.specs.declared.status.Status.TheVariants.{Done, NoMemory, NotOp
 -- the numbers are those of an info
 pub record IsInfo (told : PgpInfo) : Type 0 where
   pub of_group : IsGroup told.pool told.pg
-  pub osd : told.osd ≤ 4095
-  pub slot : told.slot ≤ 15
+  pub of_member : IsMember told.osd told.slot
+  pub complete : told.complete ≤ 1
 
 abbrev pub info_of : PgpInfo → Info
 info_of told = record {
   pg = group told.pool told.pg;
-  member = record { osd = told.osd; slot = told.slot };
+  member = member told.osd told.slot;
   stamp = told.stamp;
   les = told.les;
   history_les = told.history_les;
   last_epoch_clean = told.last_epoch_clean;
   last_update = record { epoch = told.last_update_epoch; v = told.last_update };
   log_tail = record { epoch = told.log_tail_epoch; v = told.log_tail };
-  complete = told.complete;
+  complete = nat_eq told.complete 1;
 }
 
 abbrev pub entry_of : PgpInfo → Entry

@@ -5,5 +5,7 @@ pub mod View
 pub mod Ask
 pub mod Info
 pub mod Lists
+pub mod Member
+pub mod Objects
 pub mod Exports
 pub mod Locate

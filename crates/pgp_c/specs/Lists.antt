@@ -1,5 +1,5 @@
 -- The lists of what a log says of a placement group, as C reads them. This project's own choice.
-use Rattle.std.specs.Prelude.{◌≡◌, ◌⊎◌, ℕ, List, length, Option, Some, None, option_map}
+use Rattle.std.specs.Prelude.{◌≡◌, ◌⊎◌, ℕ, List, length, Option, Some, None, option_map, if◌then◌else◌}
 use Rattle.pgp_ids.specs.declared.entry.Entry.{Entry}
 use Rattle.pgp_ids.specs.declared.member.Member.{Member}
 use Rattle.pgp_ids.specs.declared.past.Past.{Past}
@@ -37,7 +37,7 @@ interval_of past = record {
   acting_length = length past.members.acting;
   up = sixteen past.members.up;
   acting = sixteen past.members.acting;
-  rw = past.rw;
+  rw = if past.rw then 1 else 0;
 }
 
 -- how many objects a member lacks, where that is its state

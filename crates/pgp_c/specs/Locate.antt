@@ -1,5 +1,5 @@
 -- How the question where an object lies ends. This project's own choice.
-use Rattle.std.specs.Prelude.{◌≡◌, ◌≢◌, ℕ, ◌<◌, ◌≤◌, List, length, Option, Some, None}
+use Rattle.std.specs.Prelude.{◌≡◌, ◌⊎◌, ℕ, ◌<◌, ◌≤◌, List, length, Option, Some, None}
 use Rattle.std.specs.Str.{IsUtf8}
 use Rattle.pgp_ids.specs.declared.entry.Entry.{Entry}
 use Rattle.pgp_refusals.specs.LocateRefusal.{locate_refusal_number}
@@ -27,12 +27,16 @@ PutsPlace (Accepted op count epoch) old new status = (new ≡ old) × (status �
 PutsPlace (Asked pg view) old new status = (new ≡ old) × (status ≡ locate_refusal_number UnknownPool)
 PutsPlace (Traced first past) old new status = (new ≡ old) × (status ≡ locate_refusal_number UnknownPool)
 
--- The question was answered by the log. Only a number that is no pool's and bytes that are no name are a bad argument, and only a
--- name of more than 24 bytes takes memory.
+-- there was no memory for the name, which has more than 24 bytes
+pub record FindsNone (name : List ℕ) (old new : PgpPlace) (status : ℕ) : Type 0 where
+  pub long : 24 < length name
+  pub same : new ≡ old
+  pub status_is : status ≡ status_number NoMemory
+
+-- The question was answered by the log.
 pub record LocatesIn (log : List Entry) (pool : ℕ) (name : List ℕ) (old new : PgpPlace) (status : ℕ) : Type 0 where
-  pub bad : status ≡ status_number BadArgument → (new ≡ old) × (IsPool pool → IsName name → ⊥)
-  pub memory : status ≡ status_number NoMemory → (new ≡ old) × (24 < length name)
-  pub place : status ≢ status_number BadArgument → status ≢ status_number NoMemory → PutsPlace (reply_in log (Locate pool name)) old new status
+  pub bad : (IsPool pool → IsName name → ⊥) → (new ≡ old) × (status ≡ status_number BadArgument)
+  pub good : IsPool pool → IsName name → PutsPlace (reply_in log (Locate pool name)) old new status ⊎ FindsNone name old new status
 
 -- The question was answered by a session, where there is one.
 abbrev pub Locates : Option LogAndAnswer → Option LogAndAnswer → ℕ → List ℕ → PgpPlace → PgpPlace → ℕ → Type 0

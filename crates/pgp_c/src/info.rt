@@ -1,7 +1,8 @@
 //! What a member tells of its copy of a group, as C tells it.
 
-ghost use Rattle.std.specs.Prelude.{◌≡◌, ◌↔◌, ◌≤◌, IsSome, IfSome};
+ghost use Rattle.std.specs.Prelude.{◌≡◌, ◌↔◌, IsSome, IfSome};
 ghost use Rattle.pgp_c.specs.Info.{IsInfo, SubmitsIn, info_of};
+ghost use Rattle.pgp_c.specs.Member.{IsMember, member};
 
 use super::ask::group_of;
 use super::status::Status;
@@ -38,8 +39,8 @@ pub struct PgpInfo {
     /// The epoch and the number of the version before the first entry of its log.
     pub log_tail_epoch: u32,
     pub log_tail: u32,
-    /// Whether the copy has each object of the group.
-    pub complete: bool,
+    /// 1 where the copy has each object of the group, else 0.
+    pub complete: u8,
 }
 
 /// Tells the session an info.
@@ -63,6 +64,9 @@ fn info_of(told: &PgpInfo) -> Option<Info>
 {
     let pg = group_of(told.pool, told.pg)?;
     let member = member_of(told.osd, told.slot)?;
+    if told.complete > 1 {
+        return None;
+    }
     Some(Info {
         pg,
         member,
@@ -72,14 +76,14 @@ fn info_of(told: &PgpInfo) -> Option<Info>
         last_epoch_clean: Epoch::new(told.last_epoch_clean),
         last_update: version_of(told.last_update_epoch, told.last_update),
         log_tail: version_of(told.log_tail_epoch, told.log_tail),
-        complete: told.complete,
+        complete: told.complete == 1,
     })
 }
 
 /// The member of these numbers, where there can be one.
-fn member_of(osd: u32, slot: u32) -> Option<Member>
-    ensures in_range { IsSome result ↔ ((osd ≤ 4095) × (slot ≤ 15)) }
-    ensures value { IfSome result (λ member. (member.osd ≡ osd) × (member.slot ≡ slot)) }
+pub fn member_of(osd: u32, slot: u32) -> Option<Member>
+    ensures in_range { IsSome result ↔ IsMember osd slot }
+    ensures value { IfSome result (λ it. it ≡ member osd slot) }
 {
     if osd > u32::from(OsdId::MAX) || slot > LAST_SLOT {
         return None;

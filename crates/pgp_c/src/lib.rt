@@ -10,6 +10,7 @@ ghost use Rattle.pgp_c.specs.Exports.{Opens, Closes, Tells, Repeats};
 ghost use Rattle.pgp_c.specs.Info.{Submits};
 ghost use Rattle.pgp_c.specs.Lists.{Lists, device_of, interval_of, member_of, peer_of};
 ghost use Rattle.pgp_c.specs.Locate.{Locates};
+ghost use Rattle.pgp_c.specs.Objects.{Objects};
 
 mod ask;
 mod each;
@@ -17,6 +18,7 @@ mod held;
 mod info;
 mod lists;
 mod locate;
+mod objects;
 mod place;
 mod room;
 mod session;
@@ -29,6 +31,7 @@ use lists::{
     PgpInterval, PgpMember, PgpPeer, put_blocked_by, put_intervals, put_missing, put_probe,
 };
 use locate::locate;
+use objects::{PgpObject, put_missing_objects};
 use pgp_core::Session;
 use place::PgpPlace;
 use room::put_out;
@@ -249,6 +252,29 @@ pub extern "C" fn pgp_missing(
         return Status::NotOpen.number();
     };
     let status = put_missing(&mut opened, pool, pg, room, count);
+    session.put(opened);
+    status
+}
+
+/// Puts the objects that a member of a group lacks into the room, where they fit, and how many they are into `count`.
+#[unsafe(no_mangle)]
+pub extern "C" fn pgp_missing_objects(
+    alloc: Global,
+    session: &mut PgpSession,
+    pool: u32,
+    pg: u32,
+    osd: u32,
+    slot: u32,
+    room: &mut [PgpObject],
+    count: &mut usize,
+) -> u32
+    ensures { Objects session.old.held.session session.new.held.session pool pg osd slot room.old room.new count.new result }
+{
+    *count = 0;
+    let Some(mut opened) = session.take(alloc) else {
+        return Status::NotOpen.number();
+    };
+    let status = put_missing_objects(&mut opened, pool, pg, osd, slot, room, count);
     session.put(opened);
     status
 }

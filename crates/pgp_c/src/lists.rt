@@ -36,8 +36,8 @@ pub struct PgpInterval {
     pub acting_length: u8,
     pub up: [u16; 16],
     pub acting: [u16; 16],
-    /// Whether the group may have gone read-write in it.
-    pub rw: bool,
+    /// 1 where the group may have gone read-write in it, else 0.
+    pub rw: u8,
 }
 
 /// The state of a member other than the best one.
@@ -86,7 +86,7 @@ impl AsC<PgpInterval> for Past {
             acting_length: self.members.acting.len() as u8,
             up: sixteen(&self.members.up),
             acting: sixteen(&self.members.acting),
-            rw: self.rw,
+            rw: u8::from(self.rw),
         }
     }
 }

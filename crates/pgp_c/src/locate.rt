@@ -53,7 +53,7 @@ pub fn pool_of(pool: u32) -> Option<PoolId>
 fn name_of(alloc: Global, name: &[u8]) -> Result<ObjectName, Status>
     ensures ok { IfOk result (λ object. (object ≡ name.now) × IsName name.now) }
     ensures bad { result ≡ Err Status.BadArgument → IsName name.now → ⊥ }
-    ensures memory { result ≡ Err Status.NoMemory → 24 < length name.now }
+    ensures memory { result ≡ Err Status.NoMemory → IsName name.now × (24 < length name.now) }
     ensures err { IfErr result (λ status. (status ≡ Status.BadArgument) ⊎ (status ≡ Status.NoMemory)) }
 {
     let Ok(text) = from_utf8(name) else {

@@ -16,6 +16,8 @@ pub enum Status {
     AlreadyOpen,
     /// An argument is none that there can be, and nothing happened.
     BadArgument,
+    /// There is no such list.
+    NoList,
 }
 
 impl Status {
@@ -30,6 +32,7 @@ impl Status {
             Status::NotOpen => 3,
             Status::AlreadyOpen => 4,
             Status::BadArgument => 5,
+            Status::NoList => 6,
         }
     }
 }

@@ -1,71 +1,127 @@
-//! A session of the peering core, safe to use. The one `unsafe` of each method is its call.
+//! A session of the peering core, safe to use. `unsafe` are its calls, one in a method, and the word that it may go to another
+//! thread.
 //!
 //! ```sh
 //! tools/build_c_library.sh /tmp/pgpeer
 //! cd examples/rust && PGPEER_DIR=/tmp/pgpeer cargo test --offline
 //! ```
 
-use std::ffi::c_void;
+mod raw;
+
 use std::ptr::null_mut;
+
+pub use raw::{Member, Object, Peer, Place, View};
+
+/// Stands for no device.
+pub const NO_DEVICE: u16 = 65535;
 
 const DONE: u32 = 0;
 const ROOM_TOO_SMALL: u32 = 1;
+const NO_MEMORY: u32 = 2;
 
-/// `pgp_session` of pgpeer.h.
-#[repr(C)]
-struct Kept {
-    is_open: bool,
-    held: *mut c_void,
-}
-
-extern "C" {
-    fn pgp_open(session: *mut Kept) -> u32;
-    fn pgp_close(session: *mut Kept) -> u32;
-    fn pgp_line(session: *mut Kept, line: *const u8, length: usize, room: *mut u8, room_length: usize, wanted: *mut usize) -> u32;
-    fn pgp_answer(session: *mut Kept, room: *mut u8, room_length: usize, wanted: *mut usize) -> u32;
-}
-
-/// There was no memory, and nothing changed.
+/// Why a call wasn't done.
 #[derive(Debug, PartialEq, Eq)]
-pub struct NoMemory;
+pub enum Fault {
+    /// There was no memory, and the log is as before.
+    NoMemory,
+    /// The number of this status, or of the refusal: those of pgpeer.h.
+    Status(u32),
+}
 
-/// One log, told and asked on one thread: its pointer makes it neither `Send` nor `Sync`.
+fn done(status: u32) -> Result<(), Fault> {
+    match status {
+        DONE => Ok(()),
+        NO_MEMORY => Err(Fault::NoMemory),
+        status => Err(Fault::Status(status)),
+    }
+}
+
+/// One log, told and asked by one call at a time.
 pub struct Session {
-    kept: Kept,
+    kept: raw::Kept,
     room: Vec<u8>,
 }
 
+// SAFETY: pgpeer.h lets a session go from thread to thread, where what hands it over orders the calls.
+unsafe impl Send for Session {}
+
 impl Session {
     /// An empty log.
-    pub fn open() -> Result<Self, NoMemory> {
-        let mut kept = Kept { is_open: false, held: null_mut() };
+    pub fn open() -> Result<Self, Fault> {
+        let mut kept = raw::Kept { is_open: false, held: null_mut() };
         // SAFETY: the session is filled with zeros.
-        match unsafe { pgp_open(&mut kept) } {
-            DONE => Ok(Session { kept, room: vec![0; 4096] }),
-            _ => Err(NoMemory),
-        }
+        done(unsafe { raw::pgp_open(&mut kept) })?;
+        Ok(Session { kept, room: vec![0; 4096] })
     }
 
     /// The answer to a line, which is given without its line feed.
-    pub fn tell(&mut self, line: &[u8]) -> Result<&[u8], NoMemory> {
+    pub fn tell(&mut self, line: &[u8]) -> Result<&[u8], Fault> {
         let (room, mut wanted) = (&mut self.room, 0);
         // SAFETY: the slices are as long as is said, and the session is this one's alone.
-        let mut status = unsafe { pgp_line(&mut self.kept, line.as_ptr(), line.len(), room.as_mut_ptr(), room.len(), &mut wanted) };
+        let mut status = unsafe { raw::pgp_line(&mut self.kept, line.as_ptr(), line.len(), room.as_mut_ptr(), room.len(), &mut wanted) };
         if status == ROOM_TOO_SMALL {
             room.resize(wanted, 0);
             // SAFETY: as above.
-            status = unsafe { pgp_answer(&mut self.kept, room.as_mut_ptr(), room.len(), &mut wanted) };
+            status = unsafe { raw::pgp_answer(&mut self.kept, room.as_mut_ptr(), room.len(), &mut wanted) };
         }
-        match status {
-            DONE => Ok(&self.room[..wanted]),
-            _ => Err(NoMemory),
-        }
+        done(status)?;
+        Ok(&self.room[..wanted])
     }
+
+    /// Where the object of this name lies.
+    pub fn locate(&mut self, pool: u32, name: &str) -> Result<Place, Fault> {
+        let mut place = Place::default();
+        // SAFETY: the name is as long as is said.
+        done(unsafe { raw::pgp_locate(&mut self.kept, pool, name.as_ptr(), name.len(), &mut place) })?;
+        Ok(place)
+    }
+
+    /// What the log says of a group.
+    pub fn ask(&mut self, pool: u32, pg: u32) -> Result<View, Fault> {
+        let mut view = View::default();
+        // SAFETY: the session is this one's alone.
+        done(unsafe { raw::pgp_ask(&mut self.kept, pool, pg, &mut view) })?;
+        Ok(view)
+    }
+
+    /// The members of a group that have to be heard.
+    pub fn probe(&mut self, pool: u32, pg: u32) -> Result<Vec<Member>, Fault> {
+        let kept = &mut self.kept;
+        // SAFETY: the room has the length that is said.
+        listed(|room, length, count| unsafe { raw::pgp_probe(kept, pool, pg, room, length, count) })
+    }
+
+    /// The states of the group's other members that were heard.
+    pub fn missing(&mut self, pool: u32, pg: u32) -> Result<Vec<Peer>, Fault> {
+        let kept = &mut self.kept;
+        // SAFETY: the room has the length that is said.
+        listed(|room, length, count| unsafe { raw::pgp_missing(kept, pool, pg, room, length, count) })
+    }
+
+    /// The objects that a member lacks whose state is 0, missing. Of any other one it is a fault, of status 6.
+    pub fn missing_objects(&mut self, pool: u32, pg: u32, osd: u32, slot: u32) -> Result<Vec<Object>, Fault> {
+        let kept = &mut self.kept;
+        // SAFETY: the room has the length that is said.
+        listed(|room, length, count| unsafe { raw::pgp_missing_objects(kept, pool, pg, osd, slot, room, length, count) })
+    }
+}
+
+/// A list that a call puts into room: it is called once more where the first room was too small.
+fn listed<T: Clone + Default>(mut call: impl FnMut(*mut T, usize, &mut usize) -> u32) -> Result<Vec<T>, Fault> {
+    let (mut room, mut count) = (vec![T::default(); 16], 0);
+    let mut status = call(room.as_mut_ptr(), room.len(), &mut count);
+    if status == ROOM_TOO_SMALL {
+        room.resize(count, T::default());
+        status = call(room.as_mut_ptr(), room.len(), &mut count);
+    }
+    done(status)?;
+    room.truncate(count);
+    Ok(room)
 }
 
 impl Drop for Session {
     fn drop(&mut self) {
         // SAFETY: the session is as the last call left it.
-        unsafe { pgp_close(&mut self.kept) };
+        unsafe { raw::pgp_close(&mut self.kept) };
     }
 }

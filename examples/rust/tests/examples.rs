@@ -8,7 +8,10 @@ fn scripts_have_their_answers() {
     for entry in read_dir("..").unwrap() {
         let path = entry.unwrap().path();
         let name = path.to_string_lossy().into_owned();
-        let Some(stem) = name.strip_suffix(".answers.jsonl") else { continue };
+        let stem = match name.strip_suffix(".answers.jsonl") {
+            Some(stem) => stem,
+            None => continue,
+        };
         let mut session = pgpeer::Session::open().unwrap();
         let mut told: Vec<u8> = Vec::new();
         for line in read(format!("{stem}.jsonl")).unwrap().split_inclusive(|byte| *byte == b'\n') {

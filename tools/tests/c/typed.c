@@ -1,5 +1,8 @@
 // The calls of pgpeer.h that take and give values, held against lines, for tools/check_c_library.py.
 //
+//     typed         each call
+//     typed refuse  the same, once for each call of the allocator, which is refused: what there was no memory for is called again
+//
 // Ends in status 1 where something is wrong, and says what.
 #include <stdio.h>
 #include <stdlib.h>
@@ -18,11 +21,38 @@
 static pgp_session session = PGP_SESSION;
 static char answer[1 << 16];
 
+// The library's calls of the allocator come here by the linker's --wrap. The one of this number, from 1 on, is refused.
+static long calls, refused;
+
+void *__real_malloc(size_t size);
+void *__real_realloc(void *at, size_t size);
+
+void *__wrap_malloc(size_t size) {
+    return ++calls == refused ? NULL : __real_malloc(size);
+}
+
+void *__wrap_realloc(void *at, size_t size) {
+    return ++calls == refused ? NULL : __real_realloc(at, size);
+}
+
+static uint32_t last;
+
+static int lacks_memory(uint32_t status) {
+    last = status;
+    if (status == PGP_NO_MEMORY && (!refused || calls < refused)) {
+        fprintf(stderr, "typed: no memory where none was refused\n");
+        exit(1);
+    }
+    return status == PGP_NO_MEMORY;
+}
+
+// The status of a call, which is made again where there was no memory for it.
+#define MADE(call) (lacks_memory(call) ? (call) : last)
+
 // Tells the session a line, and keeps the answer as a string.
 static const char *tell(const char *line) {
     size_t length;
-    uint32_t status = pgp_line(&session, (const uint8_t *)line, strlen(line), (uint8_t *)answer, sizeof answer - 1, &length);
-    CHECK(status == PGP_DONE);
+    CHECK(MADE(pgp_line(&session, (const uint8_t *)line, strlen(line), (uint8_t *)answer, sizeof answer - 1, &length)) == PGP_DONE);
     answer[length] = 0;
     return answer;
 }
@@ -32,7 +62,7 @@ static int has(const char *part) {
 }
 
 static uint32_t locate(uint32_t pool, const char *name, pgp_place *place) {
-    return pgp_locate(&session, pool, (const uint8_t *)name, strlen(name), place);
+    return MADE(pgp_locate(&session, pool, (const uint8_t *)name, strlen(name), place));
 }
 
 // The eight lines of the README's outage, with the infos told in values.
@@ -43,14 +73,14 @@ static void outage(void) {
     CHECK(has("\"ok\":\"inc\""));
     tell("{\"op\":\"inc\",\"epoch\":2,\"down\":[0]}");
     pgp_view view;
-    CHECK(pgp_ask(&session, 1, 0, &view) == PGP_DONE);
+    CHECK(MADE(pgp_ask(&session, 1, 0, &view)) == PGP_DONE);
     CHECK(view.verdict == PGP_WAITING && view.count == 2 && view.epoch == 2 && view.first == 2 && view.intervals == 1);
     CHECK(view.best_osd == PGP_NO_DEVICE && view.probe == 2 && view.missing == 0);
     pgp_info info = {.pool = 1, .osd = 1, .stamp = 2, .last_update_epoch = 1, .last_update = 2, .complete = true};
-    CHECK(pgp_submit_info(&session, &info) == PGP_DONE);
+    CHECK(MADE(pgp_submit_info(&session, &info)) == PGP_DONE);
     info.osd = 2;
     info.last_update = 1;
-    CHECK(pgp_submit_info(&session, &info) == PGP_DONE);
+    CHECK(MADE(pgp_submit_info(&session, &info)) == PGP_DONE);
     tell("{\"op\":\"entries\",\"pg\":[1,0],\"from\":[1,0],\"stamp\":2,\"log\":[[1,1,\"modify\",\"a\"],[1,2,\"modify\",\"b\"]]}");
     tell("{\"op\":\"inc\",\"epoch\":3,\"up_thru\":[[1,2]]}");
 }
@@ -59,7 +89,7 @@ static void views(void) {
     tell("{\"op\":\"ask\",\"pg\":[1,0]}");
     CHECK(has("\"verdict\":\"Serve\"") && has("\"best\":[1,0]") && has("\"count\":6,\"epoch\":3,\"first\":2"));
     pgp_view view;
-    CHECK(pgp_ask(&session, 1, 0, &view) == PGP_DONE);
+    CHECK(MADE(pgp_ask(&session, 1, 0, &view)) == PGP_DONE);
     CHECK(view.verdict == PGP_SERVE && strcmp(pgp_verdict_name(view.verdict), "Serve") == 0);
     CHECK(view.count == 6 && view.epoch == 3 && view.first == 2 && view.les == 0);
     CHECK(view.best_osd == 1 && view.best_slot == 0 && view.acting_primary == 1 && view.up_primary == PGP_NO_DEVICE);
@@ -71,20 +101,62 @@ static void views(void) {
 static void lists(void) {
     size_t count = 99;
     pgp_member probe[3] = {{7, 7}, {7, 7}, {7, 7}};
-    CHECK(pgp_probe(&session, 1, 0, probe, 1, &count) == PGP_ROOM_TOO_SMALL && count == 2 && probe[0].osd == 7);
-    CHECK(pgp_probe(&session, 1, 0, probe, 3, &count) == PGP_DONE && count == 2);
+    CHECK(MADE(pgp_probe(&session, 1, 0, probe, 1, &count)) == PGP_ROOM_TOO_SMALL && count == 2 && probe[0].osd == 7);
+    CHECK(MADE(pgp_probe(&session, 1, 0, probe, 3, &count)) == PGP_DONE && count == 2);
     CHECK(probe[0].osd == 1 && probe[0].slot == 0 && probe[1].osd == 2 && probe[2].osd == 7);
     pgp_interval past[1];
-    CHECK(pgp_intervals(&session, 1, 0, past, 1, &count) == PGP_DONE && count == 1);
+    CHECK(MADE(pgp_intervals(&session, 1, 0, past, 1, &count)) == PGP_DONE && count == 1);
     CHECK(past->first == 1 && past->last == 1 && past->rw && past->size == 3 && past->min_size == 2);
     CHECK(past->acting_length == 3 && past->acting[2] == 2 && past->acting_primary == 0 && past->up_length == 1);
     uint16_t devices[1] = {7};
-    CHECK(pgp_blocked_by(&session, 1, 0, devices, 1, &count) == PGP_DONE && count == 0 && devices[0] == 7);
+    CHECK(MADE(pgp_blocked_by(&session, 1, 0, devices, 1, &count)) == PGP_DONE && count == 0 && devices[0] == 7);
     pgp_peer peers[1];
-    CHECK(pgp_missing(&session, 1, 0, peers, 1, &count) == PGP_DONE && count == 1);
+    CHECK(MADE(pgp_missing(&session, 1, 0, peers, 1, &count)) == PGP_DONE && count == 1);
     CHECK(peers->osd == 2 && peers->slot == 0 && peers->state == PGP_MISSING && peers->objects == 1);
-    CHECK(pgp_missing(&session, 1, 1, peers, 1, &count) == PGP_ASK_UNKNOWN_GROUP && count == 0);
-    CHECK(pgp_missing(&session, 0, 0, peers, 1, &count) == PGP_BAD_ARGUMENT && count == 0);
+    CHECK(MADE(pgp_missing(&session, 1, 1, peers, 1, &count)) == PGP_ASK_UNKNOWN_GROUP && count == 0);
+    CHECK(MADE(pgp_missing(&session, 0, 0, peers, 1, &count)) == PGP_BAD_ARGUMENT && count == 0);
+}
+
+static uint32_t objects_of(uint32_t pg, uint32_t osd, uint32_t slot, pgp_object *room, size_t length, size_t *count) {
+    return MADE(pgp_missing_objects(&session, 1, pg, osd, slot, room, length, count));
+}
+
+// Device 2 lacks b alone.
+static void objects(void) {
+    size_t count = 99;
+    pgp_object room[3];
+    memset(room, 7, sizeof room);
+    CHECK(objects_of(0, 2, 0, room, 0, &count) == PGP_ROOM_TOO_SMALL && count == 1 && room->name_length == 7);
+    CHECK(objects_of(0, 2, 0, room, 3, &count) == PGP_DONE && count == 1);
+    CHECK(room->epoch == 1 && room->number == 2 && room->name_length == 1 && room->name[0] == 'b');
+    for (int at = 1; at < 255; at++) CHECK(room->name[at] == 0);
+    CHECK(room[1].epoch == 0x07070707 && room[1].name[0] == 7);
+    CHECK(objects_of(0, 1, 0, room, 3, &count) == PGP_NO_LIST && count == 0 && room->number == 2);
+    count = 99;
+    CHECK(objects_of(0, 2, 1, room, 3, &count) == PGP_NO_LIST && count == 0);
+    CHECK(objects_of(1, 2, 0, room, 3, &count) == PGP_ASK_UNKNOWN_GROUP && count == 0);
+    CHECK(objects_of(1024, 2, 0, room, 3, &count) == PGP_BAD_ARGUMENT && objects_of(0, 4096, 0, room, 3, &count) == PGP_BAD_ARGUMENT);
+    CHECK(objects_of(0, 2, 16, room, 3, &count) == PGP_BAD_ARGUMENT && count == 0 && room->number == 2);
+}
+
+// The two objects of a new report, one of a long name, both of which device 2 lacks.
+static void long_names(void) {
+    char line[700], name[256];
+    memset(name, 'n', 255);
+    name[255] = 0;
+    snprintf(line, sizeof line, "{\"op\":\"entries\",\"pg\":[1,0],\"from\":[1,0],\"stamp\":3,\"log\":[[1,1,\"modify\",\"%s\"],[1,2,\"modify\",\"z\"]]}", name);
+    tell(line);
+    CHECK(has("\"ok\":\"entries\""));
+    tell("{\"op\":\"info\",\"pg\":[1,0],\"from\":[2,0],\"stamp\":3,\"les\":0,\"history_les\":0,\"last_update\":[0,0],\"log_tail\":[0,0],"
+         "\"complete\":true}");
+    tell("{\"op\":\"ask\",\"pg\":[1,0]}");
+    snprintf(line, sizeof line, "\"objects\":{\"%s\":[1,1],\"z\":[1,2]}", name);
+    CHECK(has(line));
+    size_t count;
+    pgp_object room[2];
+    CHECK(objects_of(0, 2, 0, room, 2, &count) == PGP_DONE && count == 2);
+    CHECK(room[0].name_length == 255 && memcmp(room[0].name, name, 255) == 0 && room[0].epoch == 1 && room[0].number == 1);
+    CHECK(room[1].name_length == 1 && room[1].name[0] == 'z' && room[1].name[1] == 0 && room[1].number == 2);
 }
 
 static void places(void) {
@@ -103,19 +175,22 @@ static void places(void) {
 
 static void refusals(void) {
     pgp_info info = {.pool = 1, .osd = 1, .stamp = 9, .complete = true};
-    CHECK(pgp_submit_info(&session, &info) == PGP_FUTURE_STAMP);
+    CHECK(MADE(pgp_submit_info(&session, &info)) == PGP_FUTURE_STAMP);
     info.pg = 1;
-    CHECK(pgp_submit_info(&session, &info) == PGP_UNKNOWN_GROUP);
+    CHECK(MADE(pgp_submit_info(&session, &info)) == PGP_UNKNOWN_GROUP);
     info.pg = 1024;
-    CHECK(pgp_submit_info(&session, &info) == PGP_BAD_ARGUMENT);
+    CHECK(MADE(pgp_submit_info(&session, &info)) == PGP_BAD_ARGUMENT);
     info.pg = 0;
     info.slot = 16;
-    CHECK(pgp_submit_info(&session, &info) == PGP_BAD_ARGUMENT);
+    CHECK(MADE(pgp_submit_info(&session, &info)) == PGP_BAD_ARGUMENT);
+    info.slot = 0;
+    info.complete = 2;
+    CHECK(MADE(pgp_submit_info(&session, &info)) == PGP_BAD_ARGUMENT);
     pgp_view view;
-    CHECK(pgp_ask(&session, 1, 0, &view) == PGP_DONE && view.count == 6);
-    CHECK(pgp_ask(&session, 1, 1, &view) == PGP_ASK_UNKNOWN_GROUP && pgp_ask(&session, 1, 1024, &view) == PGP_BAD_ARGUMENT);
+    CHECK(MADE(pgp_ask(&session, 1, 0, &view)) == PGP_DONE && view.count == 6);
+    CHECK(MADE(pgp_ask(&session, 1, 1, &view)) == PGP_ASK_UNKNOWN_GROUP && MADE(pgp_ask(&session, 1, 1024, &view)) == PGP_BAD_ARGUMENT);
     tell("{\"op\":\"close\"}");
-    CHECK(pgp_submit_info(&session, &(pgp_info){.pool = 1, .osd = 1}) == PGP_CLOSED);
+    CHECK(MADE(pgp_submit_info(&session, &(pgp_info){.pool = 1, .osd = 1})) == PGP_CLOSED);
 }
 
 static void closed(void) {
@@ -123,21 +198,34 @@ static void closed(void) {
     pgp_view view;
     pgp_place place;
     pgp_member member;
-    CHECK(pgp_ask(&session, 1, 0, &view) == PGP_NOT_OPEN && locate(1, "a", &place) == PGP_NOT_OPEN);
-    CHECK(pgp_probe(&session, 1, 0, &member, 1, &count) == PGP_NOT_OPEN && count == 0);
-    CHECK(pgp_submit_info(&session, &(pgp_info){.pool = 1}) == PGP_NOT_OPEN);
+    CHECK(MADE(pgp_ask(&session, 1, 0, &view)) == PGP_NOT_OPEN && locate(1, "a", &place) == PGP_NOT_OPEN);
+    CHECK(MADE(pgp_probe(&session, 1, 0, &member, 1, &count)) == PGP_NOT_OPEN && count == 0);
+    CHECK(MADE(pgp_submit_info(&session, &(pgp_info){.pool = 1})) == PGP_NOT_OPEN);
 }
 
-int main(void) {
+static void all(void) {
+    calls = 0;
     closed();
-    CHECK(pgp_open(&session) == PGP_DONE);
+    CHECK(MADE(pgp_open(&session)) == PGP_DONE);
     outage();
     views();
     lists();
+    objects();
     places();
     refusals();
     CHECK(pgp_close(&session) == PGP_DONE);
     closed();
+    CHECK(MADE(pgp_open(&session)) == PGP_DONE);
+    outage();
+    long_names();
+    CHECK(pgp_close(&session) == PGP_DONE);
     CHECK(pgp_version() == 100);
+}
+
+int main(int argc, char **argv) {
+    all();
+    long number = argc > 1 && strcmp(argv[1], "refuse") == 0 ? calls : 0;
+    for (refused = 1; refused <= number; refused++) all();
+    printf("%ld allocations\n", number);
     return 0;
 }

@@ -1,0 +1,107 @@
+//! The objects that a member of a placement group lacks, as C reads them.
+
+ghost use Rattle.std.specs.Prelude.{◌≡◌, option_map};
+ghost use Rattle.pgp_c.specs.Objects.{ObjectsIn, PutsObjects, lacked, name_room, object_of, objects_of};
+
+use super::ask::group_of;
+use super::each::{AsC, put_each};
+use super::info::member_of;
+use super::status::Status;
+use pgp_core::Session;
+use pgp_ids::{AskRefusal, Member, MissingObject, ObjectName, PeerMissing, PeerState, View};
+
+/// An object that a member lacks.
+#[repr(C)]
+#[derive(Clone, Copy)]
+pub struct PgpObject {
+    /// The epoch and the number of the write that the member needs.
+    pub epoch: u32,
+    pub number: u32,
+    /// How many bytes the name has, 1 to 255.
+    pub name_length: u8,
+    /// The name, in UTF-8, and zeros behind it.
+    pub name: [u8; 255],
+}
+
+impl AsC<PgpObject> for MissingObject {
+    ghost as_c = { object_of };
+
+    fn as_c(&self) -> PgpObject {
+        PgpObject {
+            epoch: self.version.epoch.number(),
+            number: self.version.v,
+            name_length: self.object.as_str().len() as u8,
+            name: name_room(&self.object),
+        }
+    }
+}
+
+/// The bytes of a name, and zeros behind them.
+fn name_room(name: &ObjectName) -> [u8; 255]
+    ensures { result ≡ name_room name.now }
+{
+    let bytes = name.as_str().as_bytes();
+    let mut room = [0; 255];
+    room[..bytes.len()].copy_from_slice(bytes);
+    room
+}
+
+/// Puts the objects that a member lacks into the room, where they fit, and says how many they are.
+pub fn put_missing_objects(
+    session: &mut Session,
+    pool: u32,
+    pg: u32,
+    osd: u32,
+    slot: u32,
+    room: &mut [PgpObject],
+    count: &mut usize,
+) -> u32
+    requires { count.old ≡ 0 }
+    ensures same { session.new ≡ session.old }
+    ensures list { ObjectsIn session.old.log pool pg osd slot room.old room.new count.new result }
+{
+    let Some(pg) = group_of(pool, pg) else {
+        return Status::BadArgument.number();
+    };
+    let Some(member) = member_of(osd, slot) else {
+        return Status::BadArgument.number();
+    };
+    match session.ask(pg) {
+        Ok(Some(found)) => put_objects(&found, member, room, count),
+        Ok(None) => u32::from(AskRefusal::UnknownGroup.number()),
+        Err(_) => Status::NoMemory.number(),
+    }
+}
+
+/// Puts the objects that a member lacks into the room, where a view has them and they fit, and says how many they are.
+fn put_objects(view: &View, member: Member, room: &mut [PgpObject], count: &mut usize) -> u32
+    requires { count.old ≡ 0 }
+    ensures { PutsObjects (objects_of view.now.missing member) room.old room.new count.new result }
+{
+    match objects_of(view.missing.as_slice(), member) {
+        Some(objects) => put_each(objects, room, count).number(),
+        None => Status::NoList.number(),
+    }
+}
+
+/// The objects that a member lacks, where one of the states says them.
+fn objects_of(peers: &[PeerMissing], member: Member) -> Option<&[MissingObject]>
+    ensures { option_map (λ objects. objects.now) result ≡ objects_of peers.now member }
+{
+    for peer in peers {
+        if peer.member == member {
+            return lacked(&peer.state);
+        }
+    }
+    None
+}
+
+/// The objects that a state says are lacking, where it says them.
+fn lacked(state: &PeerState) -> Option<&[MissingObject]>
+    ensures { option_map (λ objects. objects.now) result ≡ lacked state.now }
+{
+    match state {
+        PeerState::Missing(objects) => Some(objects.as_slice()),
+        PeerState::Backfill | PeerState::Diverged => None,
+    }
+}
