@@ -97,6 +97,13 @@ impl Log {
         self.entries.as_slice()
     }
 
+    /// The entries are a legal log. It does nothing else than to say so.
+    pub fn stays_legal(&self)
+        ensures { is_legal self.now ≡ true }
+    {
+        let _log = &self.judge;
+    }
+
     /// Where the object of this name lies by the map that the entries make: the reply to a question that changes nothing.
     pub fn locate(&mut self, id: PoolId, name: &ObjectName) -> Reply
         ensures reply { result ≡ located_reply self.old id name.now (pool (incs_of self.old) id) }

@@ -139,10 +139,12 @@ impl Session {
         submit(entry, &mut self.log)
     }
 
-    /// The entries of its log, in the order in which they were taken.
+    /// The entries of its log, in the order in which they were taken: a legal log.
     pub fn entries(&self) -> &[Arc<Entry>]
-        ensures { map arc_value result.now ≡ self.now.log }
+        ensures entries { map arc_value result.now ≡ self.now.log }
+        ensures legal { is_legal self.now.log ≡ true }
     {
+        self.log.stays_legal();
         self.log.entries()
     }
 
