@@ -145,6 +145,7 @@ view, place, peer = session.ask(1, 0), session.locate(1, "a"), session.missing(1
 assert (pgpeer.VERDICTS[view.verdict], view.best_osd, view.up_primary) == ("Serve", 1, pgpeer.NO_DEVICE)
 assert (place.epoch, list(place.acting[:3]), pgpeer.STATES[peer.state], peer.osd) == (3, [1, 2, pgpeer.NO_DEVICE], "missing", 2)
 assert [(it.name, it.epoch, it.number) for it in session.missing_objects(1, 0, 2, 0)] == [("b", 1, 2)]
+assert (session.compact(), session.ask(1, 0).count) == (0, 6)
 session.close()
 """  # what examples/python/pgpeer.py gives in values
 

@@ -6,6 +6,7 @@
 
 ghost use Rattle.std.specs.Prelude.{◌≡◌, map};
 ghost use Rattle.pgp_c.specs.Ask.{Asks};
+ghost use Rattle.pgp_c.specs.Compact.{Compacts};
 ghost use Rattle.pgp_c.specs.Exports.{Opens, Closes, Tells, Repeats};
 ghost use Rattle.pgp_c.specs.Info.{Submits};
 ghost use Rattle.pgp_c.specs.Lists.{Lists, device_of, interval_of, member_of, peer_of};
@@ -13,6 +14,7 @@ ghost use Rattle.pgp_c.specs.Locate.{Locates};
 ghost use Rattle.pgp_c.specs.Objects.{Objects};
 
 mod ask;
+mod compact;
 mod each;
 mod held;
 mod info;
@@ -26,6 +28,7 @@ mod status;
 mod view;
 
 use ask::ask;
+use compact::compact_session;
 use info::{PgpInfo, submit_info};
 use lists::{
     PgpInterval, PgpMember, PgpPeer, put_blocked_by, put_intervals, put_missing, put_probe,
@@ -164,6 +167,24 @@ pub extern "C" fn pgp_submit_info(alloc: Global, session: &mut PgpSession, info:
         return Status::NotOpen.number();
     };
     let status = submit_info(&mut opened, info);
+    session.put(opened);
+    status
+}
+
+/// Leaves in the session's log only the entries that an answer can need, and puts how many it left out into `left_out`.
+#[unsafe(no_mangle)]
+pub extern "C" fn pgp_compact_log(
+    alloc: Global,
+    session: &mut PgpSession,
+    left_out: &mut usize,
+) -> u32
+    ensures { Compacts session.old.held.session session.new.held.session left_out.new result }
+{
+    *left_out = 0;
+    let Some(mut opened) = session.take(alloc) else {
+        return Status::NotOpen.number();
+    };
+    let status = compact_session(alloc, &mut opened, left_out);
     session.put(opened);
     status
 }

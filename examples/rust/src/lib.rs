@@ -104,6 +104,14 @@ impl Session {
         // SAFETY: the room has the length that is said.
         listed(|room, length, count| unsafe { raw::pgp_missing_objects(kept, pool, pg, osd, slot, room, length, count) })
     }
+
+    /// Leaves out the entries that no answer can need any more, and says how many they were.
+    pub fn compact(&mut self) -> Result<usize, Fault> {
+        let mut left_out = 0;
+        // SAFETY: the session is this one's alone.
+        done(unsafe { raw::pgp_compact_log(&mut self.kept, &mut left_out) })?;
+        Ok(left_out)
+    }
 }
 
 /// A list that a call puts into room: it is called once more where the first room was too small.

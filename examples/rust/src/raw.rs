@@ -99,4 +99,5 @@ extern "C" {
     pub fn pgp_probe(session: *mut Kept, pool: u32, pg: u32, room: *mut Member, length: usize, count: *mut usize) -> u32;
     pub fn pgp_missing(session: *mut Kept, pool: u32, pg: u32, room: *mut Peer, length: usize, count: *mut usize) -> u32;
     pub fn pgp_missing_objects(session: *mut Kept, pool: u32, pg: u32, osd: u32, slot: u32, room: *mut Object, length: usize, count: *mut usize) -> u32;
+    pub fn pgp_compact_log(session: *mut Kept, left_out: *mut usize) -> u32;
 }

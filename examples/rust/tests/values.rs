@@ -25,6 +25,7 @@ fn an_outage_in_values() {
     assert_eq!((place.epoch, place.acting_length, place.acting[0], place.acting_primary), (3, 2, 1, 1));
     assert_eq!(session.locate(1, "").err(), Some(Fault::Status(5)));
     assert_eq!(session.locate(2, "a").err(), Some(Fault::Status(42)));
+    assert_eq!((session.compact(), session.ask(1, 0).unwrap().count), (Ok(0), 6));
 }
 
 #[test]

@@ -159,6 +159,40 @@ static void long_names(void) {
     CHECK(room[1].name_length == 1 && room[1].name[0] == 'z' && room[1].name[1] == 0 && room[1].number == 2);
 }
 
+// An info that the same member tells once more is left out, and the group's view is the same but for its count.
+static void compaction(void) {
+    pgp_view before, after;
+    pgp_info info = {.pool = 1, .osd = 2, .stamp = 3, .last_update_epoch = 1, .last_update = 1, .complete = true};
+    size_t left_out = 99;
+    CHECK(MADE(pgp_submit_info(&session, &info)) == PGP_DONE);
+    tell("{\"op\":\"locate\",\"pool\":1,\"name\":\"a\"}");
+    CHECK(MADE(pgp_ask(&session, 1, 0, &before)) == PGP_DONE && before.count == 7);
+    CHECK(MADE(pgp_compact_log(&session, &left_out)) == PGP_DONE && left_out == 1);
+    CHECK(MADE(pgp_ask(&session, 1, 0, &after)) == PGP_DONE && after.count == 6);
+    CHECK(after.verdict == before.verdict && after.epoch == before.epoch && after.first == before.first && after.les == before.les);
+    CHECK(after.best_osd == before.best_osd && after.missing == before.missing && after.intervals == before.intervals);
+    CHECK(after.probe == before.probe && memcmp(after.acting, before.acting, sizeof after.acting) == 0);
+    CHECK(MADE(pgp_compact_log(&session, &left_out)) == PGP_DONE && left_out == 0);
+    size_t length;
+    CHECK(pgp_answer(&session, (uint8_t *)answer, sizeof answer, &length) == PGP_DONE && has("\"ok\":\"locate\""));
+}
+
+// A full log has room again after it was compacted.
+static void full(void) {
+    pgp_info info = {.pool = 1, .osd = 2, .stamp = 2, .last_update_epoch = 1, .last_update = 1, .complete = true};
+    pgp_view view;
+    size_t left_out = 99;
+    CHECK(pgp_compact_log(&session, &left_out) == PGP_NOT_OPEN && left_out == 0);
+    CHECK(pgp_open(&session) == PGP_DONE);
+    outage();
+    for (int count = 6; count < 65535; count++) CHECK(pgp_submit_info(&session, &info) == PGP_DONE);
+    CHECK(pgp_submit_info(&session, &info) == PGP_LOG_FULL);
+    CHECK(pgp_compact_log(&session, &left_out) == PGP_DONE && left_out == 65535 - 6);
+    CHECK(pgp_submit_info(&session, &info) == PGP_DONE);
+    CHECK(pgp_ask(&session, 1, 0, &view) == PGP_DONE && view.count == 7 && view.verdict == PGP_SERVE);
+    CHECK(pgp_close(&session) == PGP_DONE);
+}
+
 static void places(void) {
     tell("{\"op\":\"locate\",\"pool\":1,\"name\":\"a\"}");
     CHECK(has("\"acting\":[1,2]") && has("\"epoch\":3") && has("\"pg\":[1,0]"));
@@ -217,6 +251,7 @@ static void all(void) {
     closed();
     CHECK(MADE(pgp_open(&session)) == PGP_DONE);
     outage();
+    compaction();
     long_names();
     CHECK(pgp_close(&session) == PGP_DONE);
     CHECK(pgp_version() == 100);
@@ -226,6 +261,8 @@ int main(int argc, char **argv) {
     all();
     long number = argc > 1 && strcmp(argv[1], "refuse") == 0 ? calls : 0;
     for (refused = 1; refused <= number; refused++) all();
+    refused = 0;
+    if (number == 0) full();
     printf("%ld allocations\n", number);
     return 0;
 }
