@@ -52,7 +52,7 @@ def cuts(program: str) -> bool:
 
 def examples() -> List[pathlib.Path]:
     files = sorted((fuzz.ROOT / "examples").glob("*.jsonl"))
-    return [file for file in files if not file.name.endswith(".answers.jsonl")]
+    return [file for file in files if "." not in file.stem]
 
 
 def failing_read(program: str) -> bool:

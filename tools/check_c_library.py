@@ -103,8 +103,8 @@ def wrong_names(header):
 def examples():
     """Each script of examples/ with its answers."""
     for script in sorted((ROOT / "examples").glob("*.jsonl")):
-        answers = script.with_suffix("").with_suffix(".answers.jsonl")
-        if answers.exists() and script != answers:
+        answers = script.with_suffix(".answers.jsonl")
+        if answers.exists():
             yield script, answers
 
 

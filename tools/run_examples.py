@@ -5,10 +5,10 @@
 
 PROGRAM is crates/pgpeer/out/pgpeer where none is given. Each script examples/NAME.jsonl is run and its answers compared
 with examples/NAME.answers.jsonl. Where examples/NAME.txt is there, `explain 1.0` has to print just that of the script, and
-`explain 1.0 --json` what stands in examples/NAME.explain.json. Of docs/FORMAT.md each line of JSON that stands indented by
-four is run as the line after examples/first.jsonl, whose map it speaks of: it may be answered neither as no command nor by a
-fault of its line, but where the next indented line is its answer, and then that has to be it. Exits with 1 where an answer
-differs.
+`explain 1.0 --json` what stands in examples/NAME.explain.json. Where examples/NAME.compacted.jsonl is there, `compact` has to
+write just that of the script, and of itself. Of docs/FORMAT.md each line of JSON that stands indented by four is run as the
+line after examples/first.jsonl, whose map it speaks of: it may be answered neither as no command nor by a fault of its line,
+but where the next indented line is its answer, and then that has to be it. Exits with 1 where an answer differs.
 """
 
 import argparse
@@ -30,7 +30,7 @@ def answers(program, script, *words):
 def examples():
     """Gives each script with its answers."""
     for script in sorted((ROOT / "examples").glob("*.jsonl")):
-        if not script.name.endswith(".answers.jsonl"):
+        if "." not in script.stem:
             yield script, script.with_suffix("").with_suffix(".answers.jsonl")
 
 
@@ -39,6 +39,13 @@ def explanations():
     for suffix, words in ((".txt", ["explain", "1.0"]), (".explain.json", ["explain", "1.0", "--json"])):
         for wanted in sorted((ROOT / "examples").glob(f"*{suffix}")):
             yield wanted, wanted.with_name(wanted.name[: -len(suffix)] + ".jsonl"), words
+
+
+def compactions():
+    """Gives each script that is there compacted too, and then each that was compacted, with what `compact` writes of it."""
+    for wanted in sorted((ROOT / "examples").glob("*.compacted.jsonl")):
+        yield wanted.with_name(wanted.name.replace(".compacted", "")), wanted
+        yield wanted, wanted
 
 
 def is_answer(line):
@@ -86,6 +93,9 @@ def main(program):
     for wanted, script, words in explanations():
         tried += 1
         wrong.append((wanted.name, wrong_example(program, script, wanted, *words)))
+    for script, wanted in compactions():
+        tried += 1
+        wrong.append((f"{script.name}, compacted", wrong_example(program, script, wanted, "compact")))
     before = (ROOT / "examples" / "first.jsonl").read_bytes()
     for line, wanted in documented():
         tried += 1
