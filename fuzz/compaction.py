@@ -12,6 +12,7 @@ compacted log is compacted once more, and has to stay as it is.
 """
 
 import argparse
+import bisect
 import collections
 import json
 import random
@@ -30,13 +31,57 @@ Line = Dict[str, Any]
 # Which entries stay
 
 
-def opening_of(log: model.Model, group: Group, epoch: int) -> Optional[int]:
-    """The first epoch of the group's interval that holds this epoch, by the log; None before the group was made."""
-    firsts = [it["first"] for it in log.view(group)["intervals"]] + [log.view(group)["first"]]
-    return max((first for first in firsts if first <= epoch), default=None)
-
-
 REASONS = ("history_les", "counted", "clean", "entries")
+
+
+class Later:
+    """What comes after an entry, as a walk from the end of a log to its beginning meets it."""
+
+    def __init__(self, log: model.Model):
+        self.log = log
+        self.stamps: Dict[Any, int] = {}  # the greatest stamp of a later info of a member
+        self.starts: Set[Group] = set()  # groups with a later info of their greatest history_les
+        self.cleans: Set[Tuple[Group, int]] = set()  # intervals with a later info that was clean in them
+        self.numbers: Dict[Any, int] = {}  # the greatest stamp of a later report with a number of a member
+        self.firsts: Dict[Group, List[int]] = {}  # of the intervals of a group, ascending
+
+    def opening_of(self, group: Group, epoch: int) -> Optional[int]:
+        """The first epoch of the group's interval that holds this epoch, by the log; None before the group was made."""
+        if group not in self.firsts:
+            view = self.log.view(group)
+            self.firsts[group] = [*(it["first"] for it in view["intervals"]), view["first"]]
+        count = bisect.bisect_right(self.firsts[group], epoch)
+        return self.firsts[group][count - 1] if count else None
+
+    def reasons(self, report: Line) -> Set[str]:
+        """The reasons for which a report stays; it is met then."""
+        group, member, stamp = tuple(report["pg"]), tuple(report["from"]), report["stamp"]
+        is_counted = peering.counts(self.log.maps, self.log.view(group)["first"], report)
+        if report["op"] == "entries":
+            written = {entry[1] for entry in report["log"]}
+            is_new = any(self.numbers.get((group, member, v), -1) < stamp for v in written)
+            for v in written:
+                self.numbers[group, member, v] = max(self.numbers.get((group, member, v), -1), stamp)
+            return {"entries"} if is_counted and is_new else set()
+        reasons = set()
+        if is_counted and self.stamps.get((group, member), -1) < stamp:
+            reasons.add("counted")
+        self.stamps[group, member] = max(self.stamps.get((group, member), -1), stamp)
+        if self.log.view(group)["les"] == report["history_les"] > 0 and group not in self.starts:
+            reasons.add("history_les")
+            self.starts.add(group)
+        opening = self.opening_of(group, report.get("last_epoch_clean", 0))
+        if opening is not None and (group, opening) not in self.cleans:
+            reasons.add("clean")
+            self.cleans.add((group, opening))
+        return reasons
+
+
+def places_left(log: model.Model, entries: List[Line], left_out: str = "") -> List[int]:
+    """Which of the entries of a log an answer can still need, ascending, the first being 0."""
+    later = Later(log)
+    back = reversed(list(enumerate(entries)))
+    return [at for at, it in back if it["op"] in ("inc", "close") or later.reasons(it) - {left_out}][::-1]
 
 
 def compacted(lines: List[Line], left_out: str = "") -> List[Line]:
@@ -44,39 +89,7 @@ def compacted(lines: List[Line], left_out: str = "") -> List[Line]:
     log = model.Model()
     for line in lines:
         log.answer(grammar.compact(line))
-    kept: List[Line] = []
-    stamps: Dict[Any, int] = {}  # the greatest stamp of a later info of a member
-    starts: Set[Group] = set()  # groups with a later info of their greatest history_les
-    cleans: Set[Tuple[Group, int]] = set()  # intervals with a later info that was clean in them
-    numbers: Dict[Any, int] = {}  # the greatest stamp of a later report with a number of a member
-    for line in reversed(lines):
-        if line["op"] in ("inc", "close"):
-            kept.append(line)
-            continue
-        group, member, stamp = tuple(line["pg"]), tuple(line["from"]), line["stamp"]
-        view = log.view(group)
-        is_counted = peering.counts(log.maps, view["first"], line)
-        reasons = set()
-        if line["op"] == "entries":
-            written = {entry[1] for entry in line["log"]}
-            if is_counted and any(numbers.get((group, member, v), -1) < stamp for v in written):
-                reasons.add("entries")
-            for v in written:
-                numbers[group, member, v] = max(numbers.get((group, member, v), -1), stamp)
-        else:
-            if is_counted and stamps.get((group, member), -1) < stamp:
-                reasons.add("counted")
-            stamps[group, member] = max(stamps.get((group, member), -1), stamp)
-            if view["les"] == line["history_les"] > 0 and group not in starts:
-                reasons.add("history_les")
-                starts.add(group)
-            opening = opening_of(log, group, line.get("last_epoch_clean", 0))
-            if opening is not None and (group, opening) not in cleans:
-                reasons.add("clean")
-                cleans.add((group, opening))
-        if reasons - {left_out}:
-            kept.append(line)
-    return kept[::-1]
+    return [lines[at] for at in places_left(log, lines, left_out)]
 
 
 # Logs

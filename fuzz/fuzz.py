@@ -23,6 +23,7 @@ import subprocess
 import sys
 import tempfile
 import time
+from dataclasses import dataclass, field
 from typing import Any, Counter, Dict, Iterator, List, NamedTuple, Optional, Sequence, Tuple
 
 import grammar
@@ -37,12 +38,14 @@ KINDS = {"story": 750, "noise": 200, "traces": 20, "long": 15, "wide": 10, "full
 AFTER_CLOSE = 30  # lines
 
 
-class Script(NamedTuple):
-    """Lines, each with the answer that it must have; None for a blank line."""
+@dataclass
+class Script:
+    """Lines, each with the answer that it must have; None for a blank line. The log is that of the model that answered them."""
 
     lines: List[bytes]
     answers: List[Optional[model.Answer]]
     has_last_feed: bool
+    log: Optional[model.Model] = field(default=None, compare=False, repr=False)
 
     def text(self) -> bytes:
         text = b"\n".join(self.lines)
@@ -74,7 +77,7 @@ class Writer:
         self.answers.append(self.log.answer(line))
 
     def script(self) -> Script:
-        return Script(self.lines, self.answers, self.rng.random() < 0.9)
+        return Script(self.lines, self.answers, self.rng.random() < 0.9, self.log)
 
 
 def story(rng: random.Random, others: List[bytes]) -> Script:
@@ -198,12 +201,12 @@ class Run(NamedTuple):
     errors: bytes
 
 
-def answered(words: List[str], text: bytes, seconds: int) -> Run:
+def answered(words: List[str], text: bytes, seconds: int, subcommand: str = "run") -> Run:
     with tempfile.TemporaryFile() as stdin:
         stdin.write(text)
         stdin.seek(0)
         try:
-            run = subprocess.run([*words, "run"], stdin=stdin, capture_output=True, timeout=seconds)
+            run = subprocess.run([*words, subcommand], stdin=stdin, capture_output=True, timeout=seconds)
         except subprocess.TimeoutExpired as late:
             return Run(late.stdout or b"", None, late.stderr or b"")
     return Run(run.stdout, run.returncode, run.stderr)
