@@ -4,8 +4,8 @@
     tools/check_statuses.py [PROGRAM]
 
 PROGRAM is crates/pgpeer/out/pgpeer where none is given. Each case is a command line with a standard input and output, among
-them a script of one line more than it may have, an input that can't be read and an output that can't be written; and the
-status, the output and the errors that docs/FORMAT.md promises of it. Exits with 1 where one of them is another.
+them a script of one line more than it may have, an input that can't be read, and outputs that can't be written or that nobody
+reads; and the status, the output and the errors that docs/FORMAT.md promises of it. Exits with 1 where one of them is another.
 """
 
 import argparse
@@ -22,6 +22,13 @@ MAX_LINES = 1_000_000
 CLOSE = b'{"op":"close"}\n'
 CLOSED = b'{"count":1,"epoch":0,"ok":"close"}\n'
 OUTAGE = (ROOT / "examples" / "outage.jsonl").read_bytes()
+COMPACT = (ROOT / "examples" / "compact.jsonl").read_bytes()
+COMPACTED = (ROOT / "examples" / "compact.compacted.jsonl").read_bytes()
+LEFT_OUT = b"pgpeer: left out 7 of 13 entries; 1 line was refused\n"
+NONE_LEFT_OUT = b"pgpeer: left out 0 of 1 entries\n"
+READ_FAULT, WRITE_FAULT = b"pgpeer: read fault\n", b"pgpeer: write fault\n"
+READS_INPUT = b"pgpeer compact reads standard input: pgpeer compact < FILE"
+NOBODY = "a pipe that nobody reads"
 TOO_LARGE = b"pgpeer: the script has more than 1000000 lines or 4294967296 bytes\n"
 
 
@@ -45,19 +52,30 @@ CASES = [
     Case("a script", ["run"], 0, script=CLOSE, output=CLOSED),
     Case("as many lines as may be", ["run"], 0, script=CLOSE + b"\n" * (MAX_LINES - 1), output=CLOSED),
     Case("one line too many", ["run"], 3, script=CLOSE + b"\n" * MAX_LINES, output=CLOSED, errors=TOO_LARGE),
-    Case("an input that can't be read", ["run"], 3, reads="/", errors=b"pgpeer: read fault\n"),
-    Case("an output that can't be written", ["run"], 3, script=CLOSE, writes="/dev/full", errors=b"pgpeer: write fault\n"),
+    Case("an input that can't be read", ["run"], 3, reads="/", errors=READ_FAULT),
+    Case("an output that can't be written", ["run"], 3, script=CLOSE, writes="/dev/full", errors=WRITE_FAULT),
     Case("an explanation of a group", ["explain", "1.0"], 0, script=OUTAGE, output=None),
     Case("one in JSON", ["explain", "--json", "1.0", "--epoch-offset", "100"], 0, script=OUTAGE, output=None),
     Case("a summary", ["explain"], 0, script=OUTAGE, output=None),
     Case("a group that isn't there", ["explain", "1.3FF"], 3, script=OUTAGE, errors=b"pgpeer: the map has no group 1.3ff\n"),
     Case("one line too many to explain", ["explain"], 3, script=CLOSE + b"\n" * MAX_LINES, errors=TOO_LARGE),
-    Case("an input that can't be read to explain it", ["explain"], 3, reads="/", errors=b"pgpeer: read fault\n"),
-    Case("an explanation that can't be written", ["explain"], 3, script=OUTAGE, writes="/dev/full", errors=b"pgpeer: write fault\n"),
+    Case("an input that can't be read to explain it", ["explain"], 3, reads="/", errors=READ_FAULT),
+    Case("an explanation that can't be written", ["explain"], 3, script=OUTAGE, writes="/dev/full", errors=WRITE_FAULT),
+    Case("answers that nobody reads", ["run"], 3, script=CLOSE, writes=NOBODY, errors=WRITE_FAULT),
+    Case("a compaction", ["compact"], 0, script=COMPACT, output=COMPACTED, errors=LEFT_OUT),
+    Case("one of what was compacted", ["compact"], 0, script=COMPACTED, output=COMPACTED, errors=b"pgpeer: left out 0 of 6 entries\n"),
+    Case("one of an empty script", ["compact"], 0, errors=b"pgpeer: left out 0 of 0 entries\n"),
+    Case("one of a last line without a line feed", ["compact"], 0, script=CLOSE[:-1], output=CLOSE, errors=NONE_LEFT_OUT),
+    Case("as many lines as may be to compact", ["compact"], 0, script=CLOSE + b"\n" * (MAX_LINES - 1), output=CLOSE, errors=NONE_LEFT_OUT),
+    Case("one line too many to compact", ["compact"], 3, script=CLOSE + b"\n" * MAX_LINES, errors=TOO_LARGE),
+    Case("an input that can't be read to compact it", ["compact"], 3, reads="/", errors=READ_FAULT),
+    Case("a compaction that can't be written", ["compact"], 3, script=COMPACT, writes="/dev/full", errors=WRITE_FAULT),
+    Case("a compaction that nobody reads", ["compact"], 3, script=COMPACT, writes=NOBODY, errors=WRITE_FAULT),
     Case("help", ["--help"], 0, output=None),
     Case("help on a run", ["run", "--help"], 0, output=None),
     Case("help on an explanation", ["explain", "--help"], 0, output=None),
-    Case("help that can't be written", ["--help"], 3, writes="/dev/full", errors=b"pgpeer: write fault\n"),
+    Case("help on a compaction", ["compact", "--help"], 0, output=None),
+    Case("help that can't be written", ["--help"], 3, writes="/dev/full", errors=WRITE_FAULT),
     Case("the version", ["--version"], 0, output=b"pgpeer 0.1.0\n"),
     Case("no command", [], 2, script=CLOSE, errors=None),
     Case("another command", ["peer"], 2, script=CLOSE, errors=None),
@@ -66,18 +84,29 @@ CASES = [
     Case("no group's name", ["explain", "1"], 2, errors=None, tells=b"Usage: pgpeer explain"),
     Case("no offset", ["explain", "--epoch-offset", "-1"], 2, errors=None, tells=b"pgpeer explain"),
     Case("a word too many to explain", ["explain", "1.a", "now"], 2, errors=None, tells=b"pgpeer explain < FILE"),
+    Case("a word too many to compact", ["compact", "script.jsonl"], 2, errors=None, tells=READS_INPUT),
+    Case("an option that a compaction doesn't have", ["compact", "--json"], 2, errors=None, tells=b"pgpeer compact"),
     Case("an argument that isn't UTF-8", [b"\xff"], 2, errors=b"error: an argument is not UTF-8\n"),
 ]
 
 
+def sink_of(case):
+    """Gives where a case writes."""
+    if case.writes != NOBODY:
+        return subprocess.PIPE if case.writes is None else os.open(case.writes, os.O_WRONLY)
+    reader, writer = os.pipe()
+    os.close(reader)
+    return writer
+
+
 def run(program, case):
-    """Runs a case, and gives its status, its output and its errors."""
+    """Runs a case, and gives its status, its output and its errors. A write that nobody reads fails, and sends no signal."""
     with tempfile.TemporaryFile() as script:
         script.write(case.script)
         script.seek(0)
         source = script.fileno() if case.reads is None else os.open(case.reads, os.O_RDONLY)
-        sink = subprocess.PIPE if case.writes is None else os.open(case.writes, os.O_WRONLY)
-        ended = subprocess.run([program, *case.words], stdin=source, stdout=sink, stderr=subprocess.PIPE, timeout=120)
+        streams = {"stdin": source, "stdout": sink_of(case), "stderr": subprocess.PIPE}
+        ended = subprocess.run([program, *case.words], **streams, restore_signals=False, timeout=120)
         return ended.returncode, ended.stdout or b"", ended.stderr
 
 
