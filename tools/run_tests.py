@@ -14,8 +14,10 @@ In this order, each part with its count and its seconds:
   fuzz                              generated scripts have the answers of the model, for a minute at most (fuzz/fuzz.py)
   explanations                      what brings a group back is what each subset of devices does, for half a minute at most
                                     (fuzz/explain.py)
+  compactions                       a script that `compact` wrote has the answers of the whole one, for half a minute at most
+                                    (fuzz/compact.py)
   allocations refused               each allocation of a short script refused in turn, with and without workers
-                                    (refuse_allocations.py), and of an explanation (refuse_in_explanations.py)
+                                    (refuse_allocations.py), of an explanation and of a compaction (refuse_in_subcommands.py)
   library for C                     the static library, where tools/build_c_library.sh has left one (check_c_library.py)
 
 --quick runs what stands before the gate alone, and --after-gate what stands after it, on the program that an earlier gate or
@@ -47,6 +49,12 @@ NO_PROGRAM = ROOT / "no program yet"
 SHORT_SCRIPTS = (("first", 1, 0), ("first", 2, 2))  # an example, shards and workers
 FUZZED_LINES = 300_000  # fewer where a minute goes by before
 EXPLAINED_LOGS = 300  # fewer where half a minute goes by before
+COMPACTED_LINES = 100_000  # fewer where half a minute goes by before
+COMPACTED_KINDS = ("story", "crowd", "noise", "long", "wide")  # without full logs, one of which takes a minute
+REFUSED_SCRIPTS = (  # in which each allocation is refused, with the words before and behind them
+    ("an explanation", ("explain", "examples/explain_down.jsonl", "1.0")),
+    ("a compaction", ("compact", "examples/compact.jsonl")),
+)
 MOST_SECONDS = 480  # for all parts but the gate
 MOST_SHOWN = 4000  # characters of what a failed part said
 
@@ -108,6 +116,14 @@ def explanations(said: str) -> Optional[Counts]:
     return max(groups - failed, 0), failed
 
 
+def compactions(said: str) -> Optional[Counts]:
+    found = re.search(r"^([\d,]+) scripts, .* ([\d,]+) compactions .*, ([\d,]+) wrong\s*\Z", said, re.M)
+    if not found:
+        return None
+    made, failed = (int(it.replace(",", "")) for it in found.groups()[1:])
+    return max(made - failed, 0), failed
+
+
 def allocations(said: str) -> Optional[Counts]:
     found = re.search(r"^(\d+) allocations(?:, \d+ answers)?$", said, re.M)
     wrong = re.findall(r"\d+", "".join(re.findall(r"^wrong where these were refused: \[(.*)\]$", said, re.M)))
@@ -141,6 +157,7 @@ def on_c_library() -> List[Part]:
 def after_gate(seed: str) -> List[Part]:
     fuzz = python("fuzz/fuzz.py", "--lines", FUZZED_LINES, "--minutes", 1, "--seconds", 60, "--seed", seed)
     explain = python("fuzz/explain.py", "--logs", EXPLAINED_LOGS, "--minutes", 0.5, "--seed", seed)
+    compact = python("fuzz/compact.py", "--lines", COMPACTED_LINES, "--minutes", 0.5, "--kinds", *COMPACTED_KINDS, "--seed", seed)
     sweep = python("tools/refuse_allocations.py", PROGRAM)
     return [
         Part("tests of tools/, with the program", tests_in("tools"), 240, unit_tests, program=PROGRAM),
@@ -149,6 +166,7 @@ def after_gate(seed: str) -> List[Part]:
         Part("workers", python("tools/compare_workers.py", "--stored", "--seconds", 30), 90, compared_runs),
         Part(f"fuzz, seed {seed}", fuzz, 130, scripts),
         Part(f"explanations, seed {seed}", explain, 60, explanations),
+        Part(f"compactions, seed {seed}", compact, 90, compactions),
     ] + [
         Part(
             f"allocations refused, {script}.jsonl, {shards} shards, {workers} workers",
@@ -159,13 +177,8 @@ def after_gate(seed: str) -> List[Part]:
         )
         for script, shards, workers in SHORT_SCRIPTS
     ] + [
-        Part(
-            "allocations refused, an explanation",
-            python("tools/refuse_in_explanations.py", PROGRAM, "examples/explain_down.jsonl", "1.0"),
-            90,
-            allocations,
-            ("cc",),
-        ),
+        Part(f"allocations refused, {what}", python("tools/refuse_in_subcommands.py", PROGRAM, *words), 90, allocations, ("cc",))
+        for what, words in REFUSED_SCRIPTS
     ] + on_c_library()
 
 

@@ -21,9 +21,10 @@ SAYS = {
     "tools/check_statuses.py": "14 runs, 0 wrong",
     "tools/compare_workers.py": "8 scripts, 3 runs of each with workers, 0 wrong",
     "tools/refuse_allocations.py": "153 allocations, 8 answers",
-    "tools/refuse_in_explanations.py": "261 allocations\n   170 a line met no memory, and is told",
+    "tools/refuse_in_subcommands.py": "261 allocations\n   170 a line met no memory, and is told",
     "fuzz/fuzz.py": "1,060 scripts, 55,530 lines, 9 bytes, 0 wrong answers, 0 other statuses, 0 hangs.",
     "fuzz/explain.py": "60 logs, 125 ends\n1,352 groups, 800 subsets, 0 wrong",
+    "fuzz/compact.py": "Scripts: 9 story.\n9 scripts, 9,041 lines, 1,022 compactions which left out 5 of 9 entries, 8 answers after them, 0 wrong",
 }
 STUB = "import sys, time\n{before}\nprint({said!r})\nsys.exit({status})\n"
 UNIT_TEST = """import os, unittest
@@ -42,7 +43,7 @@ echo "{last}"
 exit {status}
 """
 BUILD = "mkdir -p crates/pgpeer/out && cp /bin/true crates/pgpeer/out/pgpeer"
-ALL = 2 + 110 + 2 + 47 + 14 + 24 + 1060 + 1352 + 2 * 153 + 261
+ALL = 2 + 110 + 2 + 47 + 14 + 24 + 1060 + 1352 + 1022 + 2 * 153 + 2 * 261
 
 
 class WithTree(unittest.TestCase):
@@ -94,6 +95,8 @@ class Runs(WithTree):
         self.assertIn("rt: proved", lines)
         self.assertRegex("\n".join(lines), r"\nfuzz, seed 7: 1060 passed, 0 failed \(\d+ s\)\n")
         self.assertRegex("\n".join(lines), r"\nexplanations, seed 7: 1352 passed, 0 failed \(\d+ s\)\n")
+        self.assertRegex("\n".join(lines), r"\ncompactions, seed 7: 1022 passed, 0 failed \(\d+ s\)\n")
+        self.assertRegex("\n".join(lines), r"\nallocations refused, a compaction: 261 passed, 0 failed \(\d+ s\)\n")
         self.assertRegex("\n".join(lines), r"\ntests of tools/, with the program: 2 passed, 0 failed \(\d+ s\)\n")
 
     def test_no_file_is_left_but_in_out(self):
@@ -136,7 +139,7 @@ class Runs(WithTree):
         for name in SAYS:
             self.stub(name, "Traceback", 1)
         status, lines = self.run_all()
-        self.assertEqual((status, lines[-1]), (1, "114 passed, 8 failed"))
+        self.assertEqual((status, lines[-1]), (1, "114 passed, 10 failed"))
 
     def test_a_part_without_end_is_stopped(self):
         self.stub("tools/check_statuses.py", "", before="time.sleep(600)")
@@ -149,7 +152,7 @@ class Runs(WithTree):
     def test_without_a_compiler_the_sweep_is_skipped(self):
         with mock.patch.object(run_tests.shutil, "which", lambda name: None):
             status, lines = self.run_all()
-        self.assertEqual((status, lines[-1]), (0, f"{ALL - 2 * 153 - 261} passed, 0 failed"))
+        self.assertEqual((status, lines[-1]), (0, f"{ALL - 2 * 153 - 2 * 261} passed, 0 failed"))
         self.assertIn("allocations refused, first.jsonl, 1 shards, 0 workers: skipped, since cc isn't there", lines)
 
     def test_the_parts_that_are_asked_for(self):
@@ -172,6 +175,7 @@ class Counts(unittest.TestCase):
             (run_tests.compared_runs, "8 scripts, 3 runs of each with workers, 5 wrong\n", (19, 5)),
             (run_tests.scripts, "1,060 scripts, 5 lines, 2 wrong answers, 1 other statuses, 3 hangs.\nScripts: 1 full.\n", (1054, 6)),
             (run_tests.explanations, "1,352 groups, 8,001 subsets, 3 wrong\n", (1349, 3)),
+            (run_tests.compactions, "12 scripts, 9,000 lines, 1,022 compactions which left out 5 of 9 entries, 8 answers after them, 2 wrong\n", (1020, 2)),
             (run_tests.allocations, "153 allocations, 8 answers\n   151 all answers\nwrong where these were refused: [3, 17]\n", (151, 2)),
         ]:
             self.assertEqual(read(said), wanted)

@@ -1,0 +1,49 @@
+"""Tests of what refuse_in_subcommands.py says of a run in which an allocation was refused."""
+
+import pathlib
+import subprocess
+import sys
+import unittest
+
+HERE = pathlib.Path(__file__).resolve().parent
+sys.path.insert(0, str(HERE.parent))
+
+import refuse_in_subcommands  # noqa: E402
+
+NO_MEMORY = refuse_in_subcommands.NO_MEMORY
+A_LINE = b"line 3: Memory (51): there was no memory to take it\n"
+SAID = b"pgpeer: left out 1 of 3 entries\n"
+
+
+def verdict(subcommand, status, out, errors):
+    """Of a run that ended so, where all that is to be written is `lines` and SAID."""
+    whole, run = (subprocess.CompletedProcess([], *it) for it in ((0, b"lines\n", SAID), (status, out, errors)))
+    return refuse_in_subcommands.verdict(subcommand, run, whole)
+
+
+class Verdicts(unittest.TestCase):
+    def test_of_both(self):
+        for subcommand in refuse_in_subcommands.SUBCOMMANDS:
+            for wanted, *end in (
+                ("the same", 0, b"lines\n", SAID),
+                ("out of memory", 3, b"", NO_MEMORY),
+                ("status 2, nothing read", 2, b"", b"pgpeer: usage\n"),
+                (None, 3, b"lines\n", NO_MEMORY),
+                (None, 2, b"lines\n", NO_MEMORY),
+                (None, 3, b"", b""),
+                (None, 0, b"", SAID),
+                (None, 0, b"lines\n", b""),
+                (None, 0, b"lines\n", b"pgpeer: left out 1 of 2 entries\n"),
+                (None, -11, b"", NO_MEMORY),
+            ):
+                self.assertEqual(verdict(subcommand, *end), wanted, (subcommand, *end))
+
+    def test_a_line_that_met_no_memory_ends_a_compaction(self):
+        for end in ((0, b"other\n", A_LINE), (3, b"", A_LINE + NO_MEMORY)):
+            self.assertEqual(verdict("explain", *end), "a line met no memory, and is told")
+            self.assertIsNone(verdict("compact", *end))
+        self.assertIsNone(verdict("explain", 3, b"other\n", A_LINE))
+
+
+if __name__ == "__main__":
+    unittest.main()
