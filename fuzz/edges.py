@@ -3,9 +3,10 @@
 
     fuzz/edges.py [--program PATH] [--large]
 
-Each script of examples/ is cut after each number of bytes. A read fails where standard input is a folder, a write where
-standard output is /dev/full or a pipe that nobody reads. --large has the scripts of 4 GiB too, and needs a minute.
-Prints a line for each check. Status 1: one failed.
+Each script of examples/ is cut after each number of bytes, and that of a compaction is compacted then. A read fails where
+standard input is a folder, a write where standard output is /dev/full or a pipe that nobody reads, or reads no further; `run`
+and `compact` are tried. --large has the scripts of 4 GiB too, for `run` alone, and needs a minute. Prints a line for each check.
+Status 1: one failed.
 """
 
 import argparse
@@ -13,9 +14,11 @@ import os
 import pathlib
 import subprocess
 import sys
+import tempfile
 import threading
 from typing import Any, Callable, List, NamedTuple, Tuple
 
+import compact
 import fuzz
 
 MOST_LINES, MOST_BYTES = 1_000_000, 4_294_967_296
@@ -23,6 +26,8 @@ READ_FAULT, WRITE_FAULT = b"pgpeer: read fault\n", b"pgpeer: write fault\n"
 TOO_LARGE = b"pgpeer: the script has more than 1000000 lines or 4294967296 bytes\n"
 CLOSE, CLOSED = b'{"op":"close"}\n', b'{"count":1,"epoch":0,"ok":"close"}\n'
 TOO_LONG = b'{"code":30,"refused":"LineTooLong"}\n'
+KEPT = compact.message(1, 1, 0)  # of a Close
+SUBCOMMANDS = ("run", "compact")
 
 
 class End(NamedTuple):
@@ -50,6 +55,16 @@ def cuts(program: str) -> bool:
     return True
 
 
+def compacted_cuts(program: str) -> bool:
+    """The example of a compaction cut after each number of bytes is compacted as the model says."""
+    text = (fuzz.ROOT / "examples" / "compact.jsonl").read_bytes()
+    for length in range(len(text) + 1):
+        if ended(program, text[:length], "compact") != End(*compact.by_model(text[:length]), 0):
+            print(f"compact.jsonl cut after {length} bytes", file=sys.stderr)
+            return False
+    return True
+
+
 def examples() -> List[pathlib.Path]:
     files = sorted((fuzz.ROOT / "examples").glob("*.jsonl"))
     return [file for file in files if "." not in file.stem]
@@ -58,35 +73,67 @@ def examples() -> List[pathlib.Path]:
 def failing_read(program: str) -> bool:
     folder = os.open("/", os.O_RDONLY)
     try:
-        run = subprocess.run([program, "run"], stdin=folder, capture_output=True, timeout=60)
+        runs = [subprocess.run([program, it], stdin=folder, capture_output=True, timeout=60) for it in SUBCOMMANDS]
     finally:
         os.close(folder)
-    return End(run.stdout, run.stderr, run.returncode) == End(b"", READ_FAULT, 3)
+    return all(End(run.stdout, run.stderr, run.returncode) == End(b"", READ_FAULT, 3) for run in runs)
 
 
 def failing_write(program: str) -> bool:
-    with open("/dev/full", "wb") as full:
-        run = subprocess.run([program, "run"], input=CLOSE, stdout=full, stderr=subprocess.PIPE, timeout=60)
-    return (run.stderr, run.returncode) == (WRITE_FAULT, 3)
+    def run(subcommand: str) -> bool:
+        with open("/dev/full", "wb") as full:
+            run = subprocess.run([program, subcommand], input=CLOSE, stdout=full, stderr=subprocess.PIPE, timeout=60)
+        return (run.stderr, run.returncode) == (WRITE_FAULT, 3)
+
+    return all(map(run, SUBCOMMANDS))
 
 
 def nobody_reads(program: str) -> bool:
     """The signal SIGPIPE stays ignored, as it is here, so that the write fails."""
-    mine, its = os.pipe()
-    os.close(mine)
-    errors = {"stderr": subprocess.PIPE, "restore_signals": False}
-    try:
-        run = subprocess.run([program, "run"], input=CLOSE, stdout=its, timeout=60, **errors)
-    finally:
-        os.close(its)
-    return (run.stderr, run.returncode) == (WRITE_FAULT, 3)
+
+    def run(subcommand: str) -> bool:
+        mine, its = os.pipe()
+        os.close(mine)
+        errors = {"stderr": subprocess.PIPE, "restore_signals": False}
+        try:
+            run = subprocess.run([program, subcommand], input=CLOSE, stdout=its, timeout=60, **errors)
+        finally:
+            os.close(its)
+        return (run.stderr, run.returncode) == (WRITE_FAULT, 3)
+
+    return all(map(run, SUBCOMMANDS))
+
+
+def no_further(program: str) -> bool:
+    """Of what goes out before a write fails each byte is as it should be: nobody reads after the first thousand."""
+    incs = [b'{"op":"inc","epoch":%d}' % epoch for epoch in range(1, 20_001)]
+    text, wanted = compact.text_of(incs), (fuzz.modelled(incs).wanted(), compact.text_of(incs))
+
+    def run(subcommand: str, whole: bytes) -> bool:
+        mine, its = os.pipe()
+        with tempfile.TemporaryFile() as script, tempfile.TemporaryFile() as errors:
+            script.write(text)
+            script.seek(0)
+            streams = {"stdin": script, "stdout": its, "stderr": errors}
+            with subprocess.Popen([program, subcommand], **streams, restore_signals=False) as process:
+                os.close(its)
+                found = os.read(mine, 1000)
+                os.close(mine)
+                status = process.wait(60)
+            errors.seek(0)
+            return bool(found) and whole.startswith(found) and (errors.read(), status) == (WRITE_FAULT, 3)
+
+    return all(map(run, SUBCOMMANDS, wanted))
 
 
 def most_lines(program: str) -> bool:
     text = CLOSE + b"\n" * (MOST_LINES - 1)
     more = [b"\n", b"x", b" ", CLOSE]
-    whole = ended(program, text) == End(CLOSED, b"", 0)
-    return whole and all(ended(program, text + it) == End(CLOSED, TOO_LARGE, 3) for it in more)
+    whole = ended(program, text) == End(CLOSED, b"", 0) and ended(program, text, "compact") == End(CLOSE, KEPT, 0)
+    return whole and all(
+        ended(program, text + it) == End(CLOSED, TOO_LARGE, 3) and ended(program, text + it, "compact") == End(b"", TOO_LARGE, 3)
+        for it in more
+    )
 
 
 def streamed(program: str, head: bytes, count: int) -> End:
@@ -138,13 +185,14 @@ def words(program: str) -> bool:
     wrong: List[Tuple[Any, ...]] = [("--nothing",), ("run", "x"), ("walk",), ("run", "--nothing"), (b"\xff",), ("run", b"\xff")]
     wrong += [("run", "--shards", it) for it in ("0", "65", "-1", "1.0", "many", "", "256", "99999999999999999999")]
     wrong += [("run", "--workers", it) for it in ("65", "-1", "0x1", " 1", "320")]
+    wrong += [("compact", "x"), ("compact", "--json"), ("compact", "--shards", "1"), ("compact", "--", "x"), ("compact", b"\xff")]
     wrong += [("run", "--shards"), ("run", "--workers"), ("--workers", "1", "run"), ("run", "--workers", "1", "--workers", "1")]
     if any(ended(program, b"", *it).status != 2 or ended(program, b"", *it).out for it in wrong):
         return False
     right = [("--shards", "64", "--workers", "0"), ("--shards=1", "--workers=64"), ("--workers", "+1", "--shards", "064")]
     if any(ended(program, CLOSE, "run", *it) != End(CLOSED, b"", 0) for it in right):
         return False
-    shown = [ended(program, b"", *it) for it in (("--version",), ("--help",), ("run", "--help"))]
+    shown = [ended(program, b"", *it) for it in (("--version",), ("--help",), ("run", "--help"), ("compact", "--help"))]
     return shown[0] == End(b"pgpeer 0.1.0\n", b"", 0) and all(it.status == 0 and it.out and not it.errors for it in shown)
 
 
@@ -153,7 +201,8 @@ def main() -> int:
     parser.add_argument("--program", default=str(fuzz.PROGRAM), metavar="PATH")
     parser.add_argument("--large", action="store_true")
     options = parser.parse_args()
-    checks: List[Callable[[str], bool]] = [cuts, failing_read, failing_write, nobody_reads, most_lines, by_turns, words]
+    checks: List[Callable[[str], bool]] = [cuts, compacted_cuts, failing_read, failing_write, nobody_reads, no_further]
+    checks += [most_lines, by_turns, words]
     is_well = True
     for check in [*checks, *([most_bytes] if options.large else [])]:
         is_so = check(options.program)
