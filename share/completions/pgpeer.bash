@@ -7,14 +7,15 @@ _pgpeer() {
     case ${COMP_WORDS[1]} in
         run) choices="--shards --workers --help" ;;
         explain) choices="--json --epoch-offset --help" ;;
-        help) choices="run explain" ;;
-        *) choices="run explain help --help --version" ;;
+        compact) choices="--help" ;;
+        help) choices="run explain compact" ;;
+        *) choices="run explain compact help --help --version" ;;
     esac
     if [[ ${COMP_WORDS[1]} == help && $COMP_CWORD -gt 2 ]]; then
         return
     fi
     if [[ $COMP_CWORD -eq 1 ]]; then
-        choices="run explain help --help --version"
+        choices="run explain compact help --help --version"
     fi
     mapfile -t COMPREPLY < <(compgen -W "$choices" -- "$word")
 }

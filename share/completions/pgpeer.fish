@@ -2,6 +2,7 @@
 complete -c pgpeer -f
 complete -c pgpeer -n __fish_use_subcommand -a run -d 'answer a script line by line'
 complete -c pgpeer -n __fish_use_subcommand -a explain -d 'say why a group does not serve, and what brings it back'
+complete -c pgpeer -n __fish_use_subcommand -a compact -d 'leave out of a script what no answer can need any more'
 complete -c pgpeer -n __fish_use_subcommand -a help -d 'print help'
 complete -c pgpeer -n __fish_use_subcommand -s V -l version -d 'print the version'
 complete -c pgpeer -s h -l help -d 'print help'
@@ -9,4 +10,4 @@ complete -c pgpeer -n '__fish_seen_subcommand_from run' -x -l shards -d 'how man
 complete -c pgpeer -n '__fish_seen_subcommand_from run' -x -l workers -d 'how many threads read the log, 0 to 64'
 complete -c pgpeer -n '__fish_seen_subcommand_from explain' -l json -d 'write one line of JSON in place of words'
 complete -c pgpeer -n '__fish_seen_subcommand_from explain' -x -l epoch-offset -d 'add a number to each epoch but 0'
-complete -c pgpeer -n '__fish_seen_subcommand_from help' -a 'run explain'
+complete -c pgpeer -n '__fish_seen_subcommand_from help' -a 'run explain compact'

@@ -26,8 +26,8 @@ FILES = {
     "share/doc/pgpeer/FORMAT.md": 0o644,
     "share/doc/pgpeer/examples/outage.jsonl": 0o644,
 }
-OPTIONS = {"run": {"--shards", "--workers"}, "explain": {"--json", "--epoch-offset"}}
-SUBCOMMANDS = {"run", "explain", "help"}
+OPTIONS = {"run": {"--shards", "--workers"}, "explain": {"--json", "--epoch-offset"}, "compact": set()}
+SUBCOMMANDS = {*OPTIONS, "help"}
 OPTION = re.compile(r"(?<![\w-])--[a-z][a-z-]*")
 
 
@@ -138,7 +138,8 @@ class BashCompletion(unittest.TestCase):
         self.assertEqual(self.completed(""), SUBCOMMANDS | {"--help", "--version"})
         self.assertEqual(self.completed("ex"), {"explain"})
         self.assertEqual(self.completed("run"), {"run"})
-        self.assertEqual(self.completed("help", ""), {"run", "explain"})
+        self.assertEqual(self.completed("com"), {"compact"})
+        self.assertEqual(self.completed("help", ""), {"run", "explain", "compact"})
         self.assertEqual(self.completed("help", "run", ""), set())
 
     def test_offers_the_options_of_the_subcommand(self):
@@ -186,7 +187,7 @@ class Page(unittest.TestCase):
 
     @unittest.skipUnless(os.access(PROGRAM, os.X_OK), "no program")
     def test_names_what_help_names(self):
-        for words in ([], ["run"], ["explain"]):
+        for words in ([], ["run"], ["explain"], ["compact"]):
             told = subprocess.run([PROGRAM, *words, "--help"], capture_output=True, text=True, check=True).stdout
             named = set(OPTION.findall(told))
             self.assertEqual(named - set(OPTION.findall(page())), set(), words)
