@@ -1,9 +1,9 @@
 #!/usr/bin/env python3
 """Makes the large scripts that measure.py runs.
 
-    bench/make_inputs.py [FOLDER]
+    bench/make_inputs.py [FOLDER [NAME...]]
 
-Writes into FOLDER (by default bench/out) these files, which are the same at every call:
+Writes into FOLDER (by default bench/out) these files, or those named alone, which are the same at every call:
 
   locate.jsonl    one incremental, and then 200,000 look-ups of objects in its map: 256 devices in 32 hosts in 8 racks,
                   a replicated and an erasure pool of 512 groups each, some devices out, some groups with a pg_temp list
@@ -14,6 +14,10 @@ Writes into FOLDER (by default bench/out) these files, which are the same at eve
   steps.jsonl     the same, and then 2,000 incrementals as the later ones of incs.jsonl
   traces.jsonl    500 traces, each as long as a line of at most 1,048,576 bytes may be, with lists of 16 places
   full.jsonl      65,535 incrementals as those of incs.jsonl, which fill the log
+  full_infos.jsonl    a full log of a map of 16,384 groups of three copies, of whose first 7,168 each member sends three
+                  infos, one in each of three rounds: more groups three rounds don't take
+  full_entries.jsonl  a full log of 256 groups of three copies, whose members send their logs of 128 entries in each of
+                  five rounds, eight entries a report
   peering.jsonl   an outage of 8 devices of 64: the infos and log entries of all 256 groups of a pool, and then a
                   question about each group
   peering_wide.jsonl  the same with all 4,096 groups of four pools
@@ -43,33 +47,11 @@ import os
 import random
 import sys
 
+from full_logs import full_entries, full_infos
+from maps import DEVICE, HOST, IN, RACK, compact, copies, told, tree
+
 LONGEST_LINE = 1048576  # bytes, without the line feed
 MOST_EPOCHS = 4096  # of one trace
-IN = 0x10000  # the weight of a device that takes its whole share
-
-DEVICE, HOST, RACK, ROOT = range(4)  # the types of the tree
-
-
-def compact(value):
-    return json.dumps(value, separators=(",", ":"))
-
-
-def tree(racks, hosts, devices):
-    """Gives the buckets of a tree of so many racks, hosts in each and devices in each of these, all of one weight."""
-    rack_ids = [-2 - rack for rack in range(racks)]
-    buckets = [bucket(-1, ROOT, rack_ids, hosts * devices)]
-    host_ids = [-2 - racks - host for host in range(racks * hosts)]
-    for rack, name in enumerate(rack_ids):
-        buckets.append(bucket(name, RACK, host_ids[rack * hosts : (rack + 1) * hosts], devices))
-    for host, name in enumerate(host_ids):
-        items = list(range(host * devices, (host + 1) * devices))
-        buckets.append({"id": name, "type": HOST, "alg": "uniform", "items": items})
-    return buckets
-
-
-def bucket(name, kind, items, devices):
-    """Gives a list bucket whose items hold so many devices each."""
-    return {"id": name, "type": kind, "alg": "list", "items": items, "weights": [devices * IN] * len(items)}
 
 
 def locate(rng, count):
@@ -100,11 +82,6 @@ def incs(rng, count):
     up = list(range(64))
     yield compact({"op": "inc", "epoch": 1, "up": up, "pools": [copies(1, 256)], "crush": tree(4, 4, 4)})
     yield from falls_and_boots(rng, up, range(2, count + 1))
-
-
-def copies(pool, groups):
-    """Gives a pool of so many groups, with three copies on different hosts."""
-    return {"id": pool, "pg_num": groups, "kind": "replicated", "size": 3, "min_size": 2, "leaf": HOST}
 
 
 def falls_and_boots(rng, up, epochs):
@@ -220,11 +197,6 @@ def fall_or_boot(rng, up, down):
     osd = source.pop(rng.randrange(len(source)))
     target.append(osd)
     return {"up" if boots else "down": [osd]}
-
-
-def told(rng, up, count, epoch):
-    """Gives that so many of the devices that are up are known to have been up through the epoch."""
-    return [[osd, epoch] for osd in rng.sample(up, count)]
 
 
 def asks(_rng, count):
@@ -369,6 +341,8 @@ INPUTS = {
     "map": (largest_map, 256),
     "steps": (steps, 2_256),
     "full": (incs, 65_535),
+    "full_infos": (full_infos, 65_535),
+    "full_entries": (full_entries, 65_535),
     "peering": (peering, 1_185),
     "peering_wide": (peering_wide, 18_953),
     "churn": (churn, 4_000),
@@ -387,9 +361,10 @@ INPUTS = {
 }
 
 
-def main(folder):
+def main(folder, names):
     os.makedirs(folder, exist_ok=True)
-    for name, (make, count) in INPUTS.items():
+    for name in names:
+        make, count = INPUTS[name]
         with open(f"{folder}/{name}.jsonl", "w") as whole, open(f"{folder}/{name}.tenth.jsonl", "w") as tenth:
             for number, line in enumerate(make(random.Random(name), count)):
                 whole.write(line + "\n")
@@ -398,6 +373,7 @@ def main(folder):
 
 
 if __name__ == "__main__":
-    if len(sys.argv) > 2 or sys.argv[1:2] in (["-h"], ["--help"]):
+    if sys.argv[1:2] in (["-h"], ["--help"]) or not INPUTS.keys() >= set(sys.argv[2:]):
         sys.exit(__doc__)
-    main(sys.argv[1] if sys.argv[1:] else os.path.join(os.path.dirname(os.path.abspath(__file__)), "out"))
+    folder = sys.argv[1] if sys.argv[1:] else os.path.join(os.path.dirname(os.path.abspath(__file__)), "out")
+    main(folder, sys.argv[2:] or INPUTS)

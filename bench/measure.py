@@ -38,12 +38,12 @@ class Run(NamedTuple):
     peak: float
 
 
-def measure(command, script):
-    """Runs the command on the script."""
+def measure(command, script, errors=None):
+    """Runs the command on the script; what it says on standard error goes to `errors`, or is shown."""
     with open(script, "rb") as lines, tempfile.NamedTemporaryFile("r") as peak:
         before = time.perf_counter()
         timed = ["/usr/bin/time", "-f", "%M", "-o", peak.name, *command]
-        child = subprocess.Popen(timed, stdin=lines, stdout=subprocess.DEVNULL)
+        child = subprocess.Popen(timed, stdin=lines, stdout=subprocess.DEVNULL, stderr=errors)
         _, status, usage = os.wait4(child.pid, 0)
         elapsed = time.perf_counter() - before
         child.returncode = os.waitstatus_to_exitcode(status)
@@ -73,12 +73,12 @@ def fault_of(script, answers):
     return None if told == expected else f"{told} answers to {expected} lines"
 
 
-def alternate(commands, script, runs):
+def alternate(commands, script, runs, errors=None):
     """Runs the commands by turns, and gives for each the list of its runs."""
     found = [[] for _ in commands]
     for _ in range(runs):
         for command, list_of in zip(commands, found):
-            list_of.append(measure(command, script))
+            list_of.append(measure(command, script, errors))
     return found
 
 
