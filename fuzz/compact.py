@@ -1,7 +1,7 @@
 #!/usr/bin/env python3
 """Holds the built program's `compact` against its `run`, and against the model.
 
-    fuzz/compact.py [--program PATH] [--seed N] [--kinds KIND...] [--lines N | --minutes M] [--keep FOLDER]
+    fuzz/compact.py [--program PATH] [--seed N] [--kinds KIND...] [--lines N | --minutes M] [--under WORDS] [--keep FOLDER]
 
 A generated script is cut at a few places. At each, what `compact` wrote at the cut before, with the lines that came since, is
 compacted. What it writes has to be what the model keeps of the whole script up to there, byte for byte; the line on standard
@@ -9,9 +9,9 @@ error has to say how much that is; and compacted once more it has to stay. Then 
 does in the whole script, except that each count is less by the entries that were left out. Questions about groups with reports
 stand at each cut and at the end.
 
-The same seed gives the same scripts. A script with something wrong is kept in the folder that --keep names, with what was given
-to the program, what it wrote and what it should have written. The last line is `N scripts, .. wrong`. Status 1: something was
-wrong.
+The same seed gives the same scripts. --under puts words before the program, such as "valgrind -q --error-exitcode=99". A script
+with something wrong is kept in the folder that --keep names, with what was given to the program, what it wrote and what it should
+have written. The last line is `N scripts, .. wrong`. Status 1: something was wrong.
 """
 
 import argparse
@@ -21,6 +21,7 @@ import pathlib
 import random
 import re
 import resource
+import shlex
 import sys
 import time
 from typing import Callable, Counter, Iterator, List, NamedTuple, Optional, Sequence, Tuple
@@ -260,13 +261,13 @@ class Figures:
 
 def tried(options: argparse.Namespace, is_over: Callable[[Counter[str]], bool], figures: Figures) -> Iterator[str]:
     """Tries script after script; gives what is wrong with each that is."""
-    others, number = fuzz.repository_lines(), 0
+    words, others, number = [*shlex.split(options.under), options.program], fuzz.repository_lines(), 0
     while not is_over(figures.sums):
         kind, script, cuts = script_of(options.seed, number, others, options.kinds)
         figures.kinds[kind] += 1
         figures.sums.update(scripts=1, lines=len(script.lines), refused=sum(map(is_refused, script.answers)))
         try:
-            try_script([options.program], script, cuts, options.seconds, figures.sums)
+            try_script(words, script, cuts, options.seconds, figures.sums)
         except Wrong as why:
             figures.sums["wrong"] += 1
             keep(pathlib.Path(options.keep), f"{options.seed}-{number}", script, why)
@@ -282,6 +283,7 @@ def main() -> int:
     parser.add_argument("--lines", type=float, metavar="N", help="ends once so many lines were tried (by default 100,000)")
     parser.add_argument("--minutes", type=float, metavar="M", help="ends once so much time has gone by")
     parser.add_argument("--seconds", type=int, default=60, metavar="S", help="how long a run may take")
+    parser.add_argument("--under", default="", metavar="WORDS")
     parser.add_argument("--keep", default=str(fuzz.HERE / "out"), metavar="FOLDER")
     options = parser.parse_args()
     most = options.lines if options.lines is not None else float("inf") if options.minutes else 100_000
