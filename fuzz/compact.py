@@ -205,19 +205,19 @@ def expect(run: fuzz.Run, what: str, given: bytes, wanted: bytes, said: bytes) -
 def try_script(words: List[str], script: fuzz.Script, cuts: List[Cut], seconds: int, sums: Counter[str]) -> None:
     """Compacts a script at its cuts, one after the other, and runs what follows each; raises Wrong."""
 
-    def ask(subcommand: str, what: str, given: bytes, wanted: bytes, said: bytes = b"") -> None:
+    def hold(subcommand: str, what: str, given: bytes, wanted: bytes, said: bytes = b"") -> None:
         sums["runs"] += 1
         expect(fuzz.answered(words, given, seconds, subcommand), what, given, wanted, said)
 
-    ask("run", "run", script.text(), script.wanted())
+    hold("run", "run", script.text(), script.wanted())
     front, begin, before, kept = b"", 0, 0, 0
     for it in cuts:
         given, refused = front + text_of(script.lines[begin : it.at]), sum(map(is_refused, script.answers[begin : it.at]))
         given = given if it.has_last_feed else given.removesuffix(b"\n")
         entries, front, place = kept + it.entries - before, text_of(it.kept), f"at line {it.at}"
-        ask("compact", f"compact {place}", given, front, message(entries, len(it.kept), refused))
-        ask("compact", f"compact {place}, once more", front, front, message(len(it.kept), len(it.kept), 0))
-        ask("run", f"run {place}", front + text_of(script.lines[it.at :]), wanted_after(script, it))
+        hold("compact", f"compact {place}", given, front, message(entries, len(it.kept), refused))
+        hold("compact", f"compact {place}, once more", front, front, message(len(it.kept), len(it.kept), 0))
+        hold("run", f"run {place}", front + text_of(script.lines[it.at :]), wanted_after(script, it))
         begin, before, kept = it.at, it.entries, len(it.kept)
         sums.update({"compactions": 1, "entries": entries, "left out": entries - len(it.kept)})
         sums["answers"] += sum(answer is not None for answer in script.answers[it.at :])

@@ -1,0 +1,88 @@
+"""Tests of check_statuses.py and run_examples.py, with programs that are small scripts."""
+
+import os
+import pathlib
+import sys
+import tempfile
+import unittest
+from unittest import mock
+
+HERE = pathlib.Path(__file__).resolve().parent
+sys.path.insert(0, str(HERE.parent))
+
+import check_statuses  # noqa: E402
+import run_examples  # noqa: E402
+from check_statuses import NOBODY, WRITE_FAULT, Case  # noqa: E402
+
+# Writes the lines of standard input; those with `drop` not, where it is to compact.
+COMPACTS = "#!/bin/sh\nif test \"$1\" = compact; then grep -v drop; else cat; fi\n"
+
+
+class WithPrograms(unittest.TestCase):
+    def setUp(self):
+        room = tempfile.TemporaryDirectory()
+        self.addCleanup(room.cleanup)
+        self.room = pathlib.Path(room.name)
+
+    def program(self, text):
+        file = self.room / "program"
+        file.write_text(text)
+        os.chmod(file, 0o755)
+        return str(file)
+
+
+class Statuses(WithPrograms):
+    def wrong(self, text, **parts):
+        return check_statuses.wrong(self.program(text), Case("a case", ["run"], **parts))
+
+    def test_an_output_that_nobody_reads(self):
+        faulty = "#!/bin/sh\ncat > /dev/null\nif echo a 2>/dev/null; then exit 0; fi\necho 'pgpeer: write fault' >&2\nexit 3\n"
+        for writes in (NOBODY, "/dev/full"):
+            self.assertIsNone(self.wrong(faulty, status=3, writes=writes, errors=WRITE_FAULT))
+        self.assertEqual(self.wrong(faulty, status=3, errors=WRITE_FAULT), "status 0 and not 3")
+
+    def test_what_is_wrong(self):
+        said = "#!/bin/sh\necho out\necho said >&2\nexit 2\n"
+        self.assertIsNone(self.wrong(said, status=2, output=b"out\n", errors=b"said\n"))
+        self.assertIsNone(self.wrong(said, status=2, output=None, errors=None, tells=b"ai"))
+        self.assertEqual(self.wrong(said, status=0), "status 2 and not 0")
+        self.assertEqual(self.wrong(said, status=2, errors=b"said\n"), "output b'out\\n'")
+        self.assertEqual(self.wrong(said, status=2, output=None, errors=None, tells=b"else"), "errors b'said\\n'")
+
+    def test_each_subcommand_has_its_cases(self):
+        for name in ("run", "explain", "compact"):
+            statuses = {case.status for case in check_statuses.CASES if case.words[:1] == [name]}
+            self.assertEqual(statuses, {0, 2, 3}, name)
+        names = [case.name for case in check_statuses.CASES]
+        self.assertEqual(len(names), len(set(names)))
+
+
+class Examples(WithPrograms):
+    def setUp(self):
+        super().setUp()
+        (self.room / "examples").mkdir()
+        for name, text in (("a.jsonl", "1\ndrop\n2\n"), ("a.answers.jsonl", "1\ndrop\n2\n"), ("a.compacted.jsonl", "1\n2\n")):
+            (self.room / "examples" / name).write_text(text)
+        patch = mock.patch.object(run_examples, "ROOT", self.room)
+        patch.start()
+        self.addCleanup(patch.stop)
+
+    def names(self, pairs):
+        return [tuple(file.name for file in pair) for pair in pairs]
+
+    def test_what_was_compacted_is_no_example_of_its_own(self):
+        self.assertEqual(self.names(run_examples.examples()), [("a.jsonl", "a.answers.jsonl")])
+        wanted = [("a.jsonl", "a.compacted.jsonl"), ("a.compacted.jsonl", "a.compacted.jsonl")]
+        self.assertEqual(self.names(run_examples.compactions()), wanted)
+
+    def test_what_compact_writes_is_compared(self):
+        program = self.program(COMPACTS)
+        for script, wanted in run_examples.compactions():
+            self.assertIsNone(run_examples.wrong_example(program, script, wanted, "compact"))
+        (self.room / "examples" / "a.jsonl").write_text("1\n2\n3\n")
+        script, wanted = next(run_examples.compactions())
+        self.assertEqual(run_examples.wrong_example(program, script, wanted, "compact"), "3 lines and not 2")
+
+
+if __name__ == "__main__":
+    unittest.main()
