@@ -1,8 +1,8 @@
 -- Which want of memory a command meets, if any, and why it may have no reply.
-use Rattle.std.specs.Prelude.{◌≡◌, ◌⊎◌, List, Bool, true, false, None, is_some}
+use Rattle.std.specs.Prelude.{◌≡◌, ◌⊎◌, List, Bool, false, None}
 use Rattle.pgp_ids.specs.declared.entry.Entry.{Entry}
-use Rattle.pgp_group.specs.Entries.{inc_of}
 use Rattle.pgp_log.specs.Fits.{fits, is_closed}
+use Rattle.pgp_log.specs.Judge.{MapMayLack}
 use Rattle.pgp_lines.specs.declared.command.Command.{Command}
 use Rattle.pgp_lines.specs.declared.command.Command.TheVariants.{Submit, Ask, Locate, Trace}
 use Rattle.pgp_core.specs.declared.want.Want.{Want}
@@ -17,10 +17,10 @@ want_of (Ask pg) = want.Line
 want_of (Locate pool name) = want.Line
 want_of (Trace code epochs) = want.Line
 
--- The command may find no memory, where nobody else adds to the log: an entry that the log takes, or an incremental, which an
--- open log has to look at. So any other entry has its refusal, and where an object lies is always answered.
+-- The command may find no memory, where nobody else adds to the log: an entry that the log takes, or an incremental at which
+-- the map of an open log may lack it. So any other entry has its refusal, and where an object lies is always answered.
 abbrev pub MayFindNone : List Entry → Command → Type 0
-MayFindNone log (Submit entry) = (fits log entry ≡ None) ⊎ ((is_closed log ≡ false) × (is_some (inc_of entry) ≡ true))
+MayFindNone log (Submit entry) = (fits log entry ≡ None) ⊎ ((is_closed log ≡ false) × MapMayLack log entry)
 MayFindNone log (Ask pg) = Unit {0}
 MayFindNone log (Locate pool name) = ⊥
 MayFindNone log (Trace code epochs) = Unit {0}

@@ -1,14 +1,14 @@
 //! The log of a script, and what it takes next.
-ghost use Rattle.std.specs.Prelude.{◌≡◌, ◌≢◌, ◌≤◌, ◌+◌, List, [], ◌∷◌, ◌++◌, length, map, false, true, is_some, None, Some, Err, IfOk, IsOk, OnOk, OnErr, IfErr};
+ghost use Rattle.std.specs.Prelude.{◌≡◌, ◌≢◌, ◌≤◌, ◌+◌, List, [], ◌∷◌, ◌++◌, length, map, false, true, None, Some, Err, IfOk, IsOk, OnOk, OnErr, IfErr};
 ghost use Rattle.std.specs.Arc.{arc_value};
 ghost use Rattle.pgp_ids.specs.declared.entry.Entry.{Entry as AnyEntry};
 ghost use Rattle.pgp_refusals.specs.declared.refusal.Refusal.TheVariants.{Memory};
 ghost use Rattle.pgp_map.specs.MapOf.{IsMapOf};
 ghost use Rattle.pgp_map.specs.Pools.{pool};
-ghost use Rattle.pgp_group.specs.Entries.{inc_of, incs_of};
+ghost use Rattle.pgp_group.specs.Entries.{incs_of};
 ghost use Rattle.pgp_group.specs.View.{scratch};
 ghost use Rattle.pgp_log.specs.Fits.{is_closed, fits, longest_log};
-ghost use Rattle.pgp_log.specs.Judge.{IsJudgeOf};
+ghost use Rattle.pgp_log.specs.Judge.{IsJudgeOf, MapMayLack};
 ghost use Rattle.pgp_log.specs.Log.{epoch_of, is_legal};
 ghost use Rattle.pgp_log.specs.RawSets.{AreRawSets};
 ghost use Rattle.pgp_log.specs.Running.{IsReading};
@@ -153,11 +153,11 @@ impl Log {
     }
 
     /// Why the log doesn't take the entry, if it doesn't. `Memory` comes only where there was none to look at an incremental
-    /// of an open log.
+    /// of an open log, of the next epoch, that has a long list or whose tree alone may have a fault.
     pub fn judge(&self, entry: &Entry) -> Result<(), Refusal>
         ensures ok { IsOk result → fits self.now entry.now ≡ None }
         ensures err { IfErr result (λ refusal. refusal ≢ Memory → fits self.now entry.now ≡ Some refusal) }
-        ensures wants { result ≡ Err Memory → (is_closed self.now ≡ false) × (is_some (inc_of entry.now) ≡ true) }
+        ensures wants { result ≡ Err Memory → (is_closed self.now ≡ false) × MapMayLack self.now entry.now }
     {
         self.judge.fits(entry)
     }
