@@ -1,3 +1,10 @@
 pub mod FieldLemmas
 pub mod SpanLemmas
 pub mod TextLemmas
+pub mod SummaryLemmas
+pub mod SummaryCounts
+pub mod SummaryDevices
+pub mod SummaryHearing
+pub mod SummaryUnheard
+pub mod SummaryGroups
+pub mod ReadingLemmas

@@ -12,14 +12,14 @@ use Rattle.pgp_core.specs.Output.{FrontWent}
 use Rattle.pgp_explain.specs.Json.{json_of}
 use Rattle.pgp_explain.specs.Pools.{pool_facts}
 use Rattle.pgp_explain.specs.Reading.{IsLogOfScript}
-use Rattle.pgp_explain.specs.SummaryText.{IsTextOf}
+use Rattle.pgp_explain.specs.Summary.{summary_of}
+use Rattle.pgp_explain.specs.SummaryText.{summary_text}
 use Rattle.pgp_explain.specs.Text.{Text}
 use Rattle.pgp_explain.specs.Words.{words_of}
 use Rattle.pgp_explain.specs.declared.explained.Explained.{Explained}
 use Rattle.pgp_explain.specs.declared.explain_fault.ExplainFault.{ExplainFault}
 use Rattle.pgp_explain.specs.declared.explain_fault.ExplainFault.TheVariants.{Read, TooLarge, Write, UnknownGroup, Memory}
 use Rattle.pgp_explain.specs.declared.offset.EpochOffset.{EpochOffset}
-use Rattle.pgp_explain.specs.declared.summary.Summary.{Summary}
 
 -- what is asked for: a group, or else a summary of all; as JSON, or else in words; and by how much epochs are ahead
 pub record Question : Type 0 where
@@ -55,17 +55,13 @@ pub record IsGroupText (log : List Entry) (pg : PgId) (json : Bool) (offset : Ep
   pub is : IsExplainedBy log pg explained
   pub says : text ≡ group_text json explained offset
 
--- this text says what a summary says; that the summary is that of the log, no definition says yet
-pub record IsSummaryText (json : Bool) (offset : EpochOffset) (text : Text) : Type 0 where
-  pub summary : Summary
-  pub says : IsTextOf json summary offset text
-
 -- the text says what is asked for
 abbrev pub SaysAsked : List Entry → Option PgId → Bool → EpochOffset → Text → Type 0
-SaysAsked log None json offset text = IsSummaryText json offset text
+SaysAsked log None json offset text = text ≡ summary_text json (summary_of log) offset
 SaysAsked log (Some pg) json offset text = IsGroupText log pg json offset text
 
--- The reader gave a script to its end, and the writer got the text that says what is asked for by the log that the script makes.
+-- The reader gave a script to its end, and the writer got the text that says what is asked for by the log that the script makes:
+-- of a group what there is to say of it, or else the summary.
 pub record IsExplained (asked : Question) (from to start now : Option (List ℕ)) : Type 0 where
   pub log : List Entry
   pub log_is : IsLogOfScript log from to

@@ -6,6 +6,9 @@ pub mod Words
 pub mod Json
 pub mod Pools
 pub mod Summary
+pub mod Ranks
+pub mod Sums
+pub mod Hearing
 pub mod SummaryText
 pub mod Reading
 pub mod Explanation

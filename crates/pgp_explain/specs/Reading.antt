@@ -1,22 +1,35 @@
--- Which log a script makes.
-use Rattle.std.specs.Prelude.{ℕ, List, [], Option, true}
-use Rattle.std.specs.Io.KnownBytes.{Consumes, IsAtEnd}
+-- Which log a script makes, and whether one of its lines is refused.
+use Rattle.std.specs.Prelude.{◌≡◌, ◌⊎◌, ℕ, List, [], ◌∷◌, Option}
 use Rattle.pgp_ids.specs.declared.entry.Entry.{Entry}
+use Rattle.pgp_replies.specs.declared.reply.refused.Refused.{Refused}
+use Rattle.pgp_replies.specs.declared.reply.Reply.TheVariants as reply
+use Rattle.pgp_core.specs.Added.{IsRefused, added_by, log_of_lines, with_added}
 use Rattle.pgp_core.specs.Lines.{lines_of}
 use Rattle.pgp_core.specs.Run.{script_bounds}
-use Rattle.pgp_core.specs.Script.{Within}
-use Rattle.pgp_core.specs.Told.{AreTold}
+use Rattle.pgp_core.specs.Whole.{IsWholeScript}
 use Rattle.pgp_explain.specs.declared.explain_fault.ExplainFault.{ExplainFault}
 use Rattle.pgp_explain.specs.declared.explain_fault.ExplainFault.TheVariants.{Read, TooLarge, Write, UnknownGroup, Memory}
 
--- The reader gave a script to its end, and these are the entries that a run of it takes, each line being judged by those before it.
+-- The reader gave a script within its bounds, to its end, and this is the log that its lines make.
 pub record IsLogOfScript (log : List Entry) (from to : Option (List ℕ)) : Type 0 where
   pub script : List ℕ
-  pub consumed : Consumes from to script
-  pub ended : IsAtEnd to
-  pub within : Within script_bounds.lines script_bounds.bytes script
-  pub answers : List ℕ
-  pub taken : AreTold true [] (lines_of script) log answers
+  pub whole : IsWholeScript script_bounds script from to
+  pub makes : log ≡ log_of_lines (lines_of script)
+
+-- a run would refuse the line
+abbrev pub IsRefusedLine : List Entry → List ℕ → Type 0
+IsRefusedLine log line = (why : Refused) × IsRefused log line (reply.Refused why)
+
+-- it would refuse one of the lines, each by the log that those before it make
+abbrev pub HasRefused : List Entry → List (List ℕ) → Type 0
+HasRefused log [] = ⊥
+HasRefused log (line ∷ lines) = IsRefusedLine log line ⊎ HasRefused (with_added log (added_by log line)) lines
+
+-- The reader gave a script within its bounds, to its end, and a run would refuse one of its lines.
+pub record IsRefusedInPart (from to : Option (List ℕ)) : Type 0 where
+  pub script : List ℕ
+  pub whole : IsWholeScript script_bounds script from to
+  pub refused : HasRefused [] (lines_of script)
 
 -- why a script makes no log: a read failed, it is larger than its bounds, or there was no memory
 abbrev pub IsOfReading : ExplainFault → Type 0

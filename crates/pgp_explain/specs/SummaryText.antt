@@ -1,5 +1,5 @@
 -- What is said of a summary, in words and as JSON.
-use Rattle.std.specs.Prelude.{◌≡◌, ℕ, ◌==◌, List, [], ◌∷◌, ◌++◌, Bool, ◌&&◌, nat_lt, length, flat_map, codes, decimal, if◌then◌else◌, IsPermutation}
+use Rattle.std.specs.Prelude.{ℕ, ◌==◌, List, [], ◌∷◌, ◌++◌, Bool, ◌&&◌, nat_lt, length, flat_map, codes, decimal, if◌then◌else◌}
 use Rattle.serde_json.specs.Data.{Data}
 use Rattle.serde_json.specs.Written.{compact_text}
 use Rattle.pgp_ids.specs.Names.{verdict_name}
@@ -9,19 +9,11 @@ use Rattle.pgp_replies.specs.Json.{Field, object_with, number_data, list_data}
 use Rattle.pgp_explain.specs.Text.{Text, joined, line}
 use Rattle.pgp_explain.specs.Names.{epoch_name, device_name, plural}
 use Rattle.pgp_explain.specs.Json.{epoch_data}
-use Rattle.pgp_explain.specs.Summary.{verdict_count, group_total}
+use Rattle.pgp_explain.specs.Summary.{Awaited, verdict_count, group_total}
 use Rattle.pgp_explain.specs.declared.offset.EpochOffset.{EpochOffset}
 use Rattle.pgp_explain.specs.declared.summary.Summary.{Summary}
-use Rattle.pgp_explain.specs.declared.summary.Waits.{Waits}
+use Rattle.pgp_explain.specs.declared.waits.Waits.{Waits}
 use Rattle.pgp_explain.specs.declared.tally.Tally.{Tally}
-
--- a device, and how many groups wait for it
-abbrev pub Awaited : Type 0
-Awaited = ℕ × Waits
-
--- these are the devices of a summary for which groups wait, each once
-pub record AreDevicesOf (summary : Summary) (devices : List Awaited) : Type 0 where
-  pub all : IsPermutation summary.devices.entries devices
 
 -- ---- in words
 
@@ -74,8 +66,8 @@ unfoldable pub device_lines : List Awaited → Text
 device_lines devices = gap_before devices ++ flat_map device_line devices
 
 -- what is said of a summary in words
-unfoldable pub summary_words : Summary → List Awaited → EpochOffset → Text
-summary_words summary devices offset = joined (total_line summary offset ∷ tally_lines summary.tally ∷ device_lines devices ∷ [])
+unfoldable pub summary_words : Summary → EpochOffset → Text
+summary_words summary offset = joined (total_line summary offset ∷ tally_lines summary.tally ∷ device_lines summary.devices ∷ [])
 
 -- ---- as JSON
 
@@ -101,24 +93,19 @@ verdict_fields tally = flat_map (verdict_field tally) verdicts_by_name
 abbrev pub tally_data : Tally → Data
 tally_data tally = object_with (verdict_fields tally)
 
-abbrev pub summary_data : EpochOffset → Summary → List Awaited → Data
-summary_data offset summary devices = object_with (
-    (codes "devices", list_data device_data devices)
+abbrev pub summary_data : EpochOffset → Summary → Data
+summary_data offset summary = object_with (
+    (codes "devices", list_data device_data summary.devices)
     ∷ (codes "epoch", epoch_data offset summary.epoch)
     ∷ (codes "groups", number_data (group_total summary.tally))
     ∷ (codes "verdicts", tally_data summary.tally)
     ∷ [])
 
-unfoldable pub summary_json : Summary → List Awaited → EpochOffset → Text
-summary_json summary devices offset = compact_text (summary_data offset summary devices) ++ 10 ∷ []
+unfoldable pub summary_json : Summary → EpochOffset → Text
+summary_json summary offset = compact_text (summary_data offset summary) ++ 10 ∷ []
 
 -- ---- either
 
-abbrev pub summary_text : Bool → Summary → List Awaited → EpochOffset → Text
-summary_text json summary devices offset = if json then summary_json summary devices offset else summary_words summary devices offset
-
--- this text says what there is to say of the summary, in words or as JSON
-pub record IsTextOf (json : Bool) (summary : Summary) (offset : EpochOffset) (text : Text) : Type 0 where
-  pub devices : List Awaited
-  pub are : AreDevicesOf summary devices
-  pub says : text ≡ summary_text json summary devices offset
+-- what there is to say of the summary, as JSON or else in words
+abbrev pub summary_text : Bool → Summary → EpochOffset → Text
+summary_text json summary offset = if json then summary_json summary offset else summary_words summary offset

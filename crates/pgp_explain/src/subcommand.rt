@@ -1,25 +1,30 @@
 //! The subcommand, over any reader and writers.
-ghost use Rattle.std.specs.Prelude.{◌≡◌, ◌≢◌, ℕ, List, Option, true, Some, None, IfOk, IfErr, OnOk, OnErr, string_bytes};
+ghost use Rattle.std.specs.Prelude.{◌≡◌, ◌≢◌, ◌⊎◌, true, Some, None, IfOk, IfErr, OnOk, OnErr, string_bytes};
 ghost use Rattle.std.specs.Io.KnownBytes.{Appends};
 ghost use Rattle.pgp_core.specs.Output.{FrontWent};
-ghost use Rattle.pgp_explain.specs.Explanation.{AsksForNone, IsCutShort, IsExplained, IsGroupText, IsSummaryText, SaysAsked, StopsText, group_text as text_of_explained, question};
+ghost use Rattle.pgp_core.specs.Run.{script_bounds};
+ghost use Rattle.pgp_core.specs.Whole.{GivesTooMuch};
+ghost use Rattle.pgp_explain.specs.Explanation.{AsksForNone, IsCutShort, IsExplained, IsGroupText, SaysAsked, StopsText, group_text as text_of_explained, question};
+ghost use Rattle.pgp_explain.specs.Reading.{IsRefusedInPart};
+ghost use Rattle.pgp_explain.specs.Summary.{summary_of};
+ghost use Rattle.pgp_explain.specs.SummaryText.{summary_text as text_of_all};
 
 use super::explain_fault::ExplainFault;
 use super::explained::Explained;
 use super::group_json::put_json;
 use super::group_words::put_words;
-use super::groups::{explained, summary};
+use super::groups::explained;
 use super::offset::EpochOffset;
 use super::read::read_log;
-use super::recorded::Recorded;
+use super::summary::summary_of;
 use super::summary_text::text_of_summary;
 use pgp_core::{Log, Sink, Source, WriteFault, write_out};
 use pgp_ids::PgId;
 use std::alloc::{AllocError, Global};
 use std::io::Write;
 
-/// Reads a script as a run reads it, and says at its end why the group has its verdict and what brings it back; without a group, how
-/// many groups have each verdict and for which devices they wait. What is wrong with lines goes to `errors`.
+/// Reads a script whole, and says at its end why the group has its verdict and what brings it back; without a group, how many
+/// groups have each verdict and for which devices they wait. What is wrong with lines goes to `errors`.
 ///
 /// With `json` it says so as one JSON object. `epoch_offset` is added to each epoch but 0.
 pub fn explain<R: Source, W: Sink, E: Write>(
@@ -31,22 +36,41 @@ pub fn explain<R: Source, W: Sink, E: Write>(
     json: bool,
     epoch_offset: u32,
 ) -> Result<(), ExplainFault>
-    // The writer got the text that says what is asked for by the log that the reader's script makes.
-    ensures ok { OnOk result ((to : Option (List ℕ)) × IsExplained (question pg json epoch_offset) (R.remaining reader.old) to
+    // The reader is at its end, and the writer got the text that says what is asked for by the log that its script makes.
+    ensures ok { OnOk result (IsExplained (question pg json epoch_offset) (R.remaining reader.old) (R.remaining reader.new)
         (W.contents writer.old) (W.contents writer.new)) }
     ensures kept { OnOk result (W.failed writer.new ≡ W.failed writer.old) }
+    // A read failed, or the script is too large. At every other outcome no read failed.
+    ensures read { result ≡ Err ExplainFault.Read → R.failed reader.new ≡ true }
+    ensures large { result ≡ Err ExplainFault.TooLarge → GivesTooMuch script_bounds (R.remaining reader.old) (R.remaining reader.new) }
+    ensures reads { result ≢ Err ExplainFault.Read → R.failed reader.new ≡ R.failed reader.old }
     // A write failed, and what went out is a front of that text.
-    ensures write { result ≡ Err ExplainFault.Write → (W.failed writer.new ≡ true) × ((to : Option (List ℕ))
-        × IsCutShort (question pg json epoch_offset) (R.remaining reader.old) to (W.contents writer.old) (W.contents writer.new)) }
+    ensures write { result ≡ Err ExplainFault.Write → (W.failed writer.new ≡ true) × IsCutShort (question pg json epoch_offset)
+        (R.remaining reader.old) (R.remaining reader.new) (W.contents writer.old) (W.contents writer.new) }
     // The map of that log has no such group.
-    ensures unknown { result ≡ Err ExplainFault.UnknownGroup
-        → ((to : Option (List ℕ)) × AsksForNone pg (R.remaining reader.old) to) }
+    ensures unknown { result ≡ Err ExplainFault.UnknownGroup → AsksForNone pg (R.remaining reader.old) (R.remaining reader.new) }
     // At every other fault nothing was written.
     ensures unwritten { IfErr result (λ fault. fault ≢ ExplainFault.Write → writer.new ≡ writer.old) }
+    // Nothing is told of lines, unless one of the script is refused.
+    ensures told { (errors.new ≡ errors.old) ⊎ IsRefusedInPart (R.remaining reader.old) (R.remaining reader.new) }
 {
-    let mut script = Recorded::new(alloc, reader);
-    let mut log = read_log(alloc, &mut script, errors)?;
-    let text = asked_text(alloc, &mut log, pg, json, EpochOffset(epoch_offset))?;
+    let mut log = match read_log(alloc, reader, errors) {
+        Ok(log) => log,
+        Err(fault) => return Err(fault),
+    };
+    match asked_text(alloc, &mut log, pg, json, EpochOffset(epoch_offset)) {
+        Ok(text) => write_text(writer, text.as_str()),
+        Err(fault) => Err(fault),
+    }
+}
+
+/// Writes all of the text, and has the writer pass it on.
+fn write_text<W: Sink>(writer: &mut W, text: &str) -> Result<(), ExplainFault>
+    ensures ok { OnOk result (Appends (W.contents writer.old) (W.contents writer.new) text.now) }
+    ensures kept { OnOk result (W.failed writer.new ≡ W.failed writer.old) }
+    ensures err { IfErr result (λ fault. (fault ≡ ExplainFault.Write) × (W.failed writer.new ≡ true)
+        × FrontWent (W.contents writer.old) (W.contents writer.new) text.now) }
+{
     match pass_on(writer, text.as_bytes()) {
         Ok(()) => Ok(()),
         Err(_) => Err(ExplainFault::Write),
@@ -112,10 +136,10 @@ fn summary_text(
     json: bool,
     offset: EpochOffset,
 ) -> Result<String, ExplainFault>
-    ensures ok { IfOk result (λ text. IsSummaryText json offset (string_bytes text)) }
+    ensures ok { IfOk result (λ text. string_bytes text ≡ text_of_all json (summary_of log.old) offset) }
     ensures err { IfErr result (λ fault. StopsText fault log.old None) }
 {
-    let summary = summary(alloc, log)?;
+    let summary = summary_of(alloc, log)?;
     Ok(text_of_summary(alloc, &summary, json, offset)?)
 }
 

@@ -1,104 +1,114 @@
 //! What groups say together: how many have which verdict, and for which devices they wait.
 
-ghost use Rattle.std.specs.Prelude.{◌≡◌, IfOk};
-ghost use Rattle.pgp_explain.specs.SummaryText.{AreDevicesOf};
+ghost use Rattle.std.specs.Prelude.{◌≡◌, ◌++◌, [], ◌∷◌, List, Some, filter_map, IfOk, OnOk};
+ghost use Rattle.pgp_ids.specs.declared.pg_id.PgId.{PgId as Group};
+ghost use Rattle.pgp_group.specs.GroupLog.{GroupLog, group_in};
+ghost use Rattle.pgp_explain.specs.Hearing.{AreHeard, IsHeard};
+ghost use Rattle.pgp_explain.specs.Summary.{summary_of};
+ghost use Rattle.pgp_explain.specs.Sums.{AreAwaited, AreSums};
 
+use super::all_groups::all_groups;
+use super::devices::devices_of;
+use super::group_counts::GroupCounts;
+use super::group_sums::GroupSums;
+use super::heard_of::{Hearing, heard_of};
 use super::tally::Tally;
-use pgp_ids::{Epoch, OsdId, PgId, Verdict, View};
+use super::unheard::add_unheard;
+use super::waits::Waits;
+use pgp_core::Log;
+use pgp_ids::{Epoch, OsdId, PgId, Seq};
 use std::alloc::{AllocError, Global};
-use std::cmp::Reverse;
-use std::collections::BTreeMap;
+use std::collections::{HashMap, HashSet};
 
-/// How many groups wait for a device.
-#[derive(Clone, Copy, Debug)]
-pub(crate) struct Waits {
-    /// How many are down and wait for it to come back.
-    pub blocks: usize,
-    /// How many wait to hear from it.
-    pub awaited: usize,
-}
-
-impl Waits {
-    fn groups(self) -> usize {
-        self.blocks.saturating_add(self.awaited)
-    }
-}
-
-/// What groups say together. It is made of one group after the other.
+/// What the groups of a log say together.
 #[derive(Debug, Drop)]
 pub struct Summary {
     pub(crate) epoch: Epoch,
     pub(crate) tally: Tally,
-    devices: BTreeMap<OsdId, Waits>,
-    /// Which group was the last to be counted as one that waits to hear from a device, and from which.
-    last_awaited: Option<(PgId, OsdId)>,
-}
-
-impl Summary {
-    /// The summary of no group, by the map of this epoch.
-    pub fn new(alloc: Global, epoch: Epoch) -> Self {
-        Summary {
-            epoch,
-            tally: Tally::new(),
-            devices: BTreeMap::new(alloc),
-            last_awaited: None,
-        }
-    }
-
-    /// Counts a group in, and where it is down the devices that keep it down. Where memory is wanting, the group isn't
-    /// counted, but some of the devices may be.
-    pub fn add(&mut self, view: &View) -> Result<(), AllocError> {
-        if view.verdict == Verdict::Down {
-            self.add_blocking(view.blocked_by.as_slice())?;
-        }
-        self.tally.count(view.verdict);
-        Ok(())
-    }
-
-    /// Counts a group for which these devices have to come back.
-    fn add_blocking(&mut self, osds: &[OsdId]) -> Result<(), AllocError> {
-        for osd in osds {
-            let waits = self.devices.entry(*osd)?.or_insert(NOBODY);
-            waits.blocks = waits.blocks.saturating_add(1);
-        }
-        Ok(())
-    }
-
-    /// Counts a device from which a group waits to hear. A device of several members of the group is counted once, where one
-    /// comes right after the other.
-    pub fn add_awaited(&mut self, pg: PgId, osd: OsdId) -> Result<(), AllocError> {
-        if self.last_awaited == Some((pg, osd)) {
-            return Ok(());
-        }
-        let waits = self.devices.entry(osd)?.or_insert(NOBODY);
-        waits.awaited = waits.awaited.saturating_add(1);
-        self.last_awaited = Some((pg, osd));
-        Ok(())
-    }
-
     /// The devices for which groups wait: those for which most do first, and then in ascending order.
-    pub(crate) fn devices(&self, alloc: Global) -> Result<Vec<(OsdId, Waits)>, AllocError>
-        ensures { IfOk result (λ devices. AreDevicesOf self.now devices.items) }
-    {
-        let mut devices = self.entries(alloc)?;
-        devices.sort_unstable_by_key(|(osd, waits)| (Reverse(waits.groups()), *osd));
-        Ok(devices)
-    }
+    pub(crate) devices: Seq<(OsdId, Waits)>,
+}
 
-    /// The devices for which groups wait, in ascending order.
-    fn entries(&self, alloc: Global) -> Result<Vec<(OsdId, Waits)>, AllocError>
-        ensures { IfOk result (λ devices. devices.items ≡ self.now.devices.entries) }
-    {
-        let mut devices = Vec::new(alloc);
-        for (osd, waits) in self.devices.iter() {
-            devices.push((*osd, *waits))?;
-        }
-        Ok(devices)
+/// What the log says of all groups of its map together.
+///
+/// It asks for each group once, and again for those that wait to hear members, after one walk over the log for whom they heard.
+pub fn summary_of(alloc: Global, log: &mut Log) -> Result<Summary, AllocError>
+    ensures value { IfOk result (λ summary. summary ≡ summary_of log.old) }
+    ensures same { log.new ≡ log.old }
+{
+    let groups = all_groups(alloc, log.map())?;
+    let sums = sums_of(alloc, log, groups.as_slice())?;
+    let heard = heard_of(alloc, log.map(), log.entries(), &sums.waiting)?;
+    let awaited = awaited_of(alloc, log, groups.as_slice(), &sums.waiting, &heard)?;
+    let devices = devices_of(alloc, &sums.blocks, &awaited)?;
+    Ok(Summary {
+        epoch: log.map().epoch(),
+        tally: sums.tally,
+        devices,
+    })
+}
+
+/// What the views of these groups tell of them together.
+fn sums_of(alloc: Global, log: &mut Log, groups: &[PgId]) -> Result<GroupSums, AllocError>
+    ensures value { IfOk result (AreSums (filter_map (group_in log.old) groups.now)) }
+    ensures same { log.new ≡ log.old }
+{
+    let mut sums = GroupSums::new(alloc)?;
+    for pg in groups {
+        add_group(log, pg, &mut sums)?;
+    }
+    Ok(sums)
+}
+
+/// Takes in the group, where the map has it.
+fn add_group(log: &mut Log, pg: &PgId, sums: &mut GroupSums) -> Result<(), AllocError>
+    ensures more { OnOk result ((groups : List Group) → AreSums (filter_map (group_in log.old) groups) sums.old
+        → AreSums (filter_map (group_in log.old) (groups ++ pg.now ∷ [])) sums.new) }
+    ensures same { log.new ≡ log.old }
+{
+    match log.ask(*pg)? {
+        Some(view) => sums.add(pg, &view),
+        None => Ok(()),
     }
 }
 
-/// No group waits.
-const NOBODY: Waits = Waits {
-    blocks: 0,
-    awaited: 0,
-};
+/// For how many of these groups each device has yet to be heard.
+fn awaited_of(
+    alloc: Global,
+    log: &mut Log,
+    groups: &[PgId],
+    waiting: &HashMap<PgId, Epoch>,
+    heard: &HashSet<Hearing>,
+) -> Result<GroupCounts, AllocError>
+    ensures value { IfOk result (λ counts. AreHeard (filter_map (group_in log.old) groups.now) waiting.now heard.now
+        → AreAwaited (filter_map (group_in log.old) groups.now) counts) }
+    ensures same { log.new ≡ log.old }
+{
+    let mut counts = GroupCounts::new(alloc)?;
+    for pg in groups {
+        count_group(alloc, log, pg, waiting, heard, &mut counts)?;
+    }
+    Ok(counts)
+}
+
+/// Counts the group, where it waits, for each device from which it has yet to hear.
+fn count_group(
+    alloc: Global,
+    log: &mut Log,
+    pg: &PgId,
+    waiting: &HashMap<PgId, Epoch>,
+    heard: &HashSet<Hearing>,
+    counts: &mut GroupCounts,
+) -> Result<(), AllocError>
+    ensures more { OnOk result ((groups : List Group) → ((g : GroupLog) → group_in log.old pg.now ≡ Some g → IsHeard g waiting.now heard.now)
+        → AreAwaited (filter_map (group_in log.old) groups) counts.old → AreAwaited (filter_map (group_in log.old) (groups ++ pg.now ∷ [])) counts.new) }
+    ensures same { log.new ≡ log.old }
+{
+    if !waiting.contains_key(pg) {
+        return Ok(());
+    }
+    match log.ask(*pg)? {
+        Some(view) => add_unheard(alloc, counts, pg, &view, heard),
+        None => Ok(()),
+    }
+}

@@ -7,10 +7,11 @@ ghost use Rattle.pgp_explain.specs.SummaryText.{device_data, summary_data, summa
 use super::group_json::into_line;
 use super::json_parts::{Json, write_field};
 use super::offset::EpochOffset;
-use super::summary::{Summary, Waits};
+use super::summary::Summary;
 use super::tally::Tally;
+use super::waits::Waits;
 use json::Writer;
-use pgp_ids::{OsdId, Seq, Verdict};
+use pgp_ids::{OsdId, Verdict};
 use std::alloc::{AllocError, Global};
 
 /// The verdicts, in the ascending order of their names.
@@ -25,35 +26,29 @@ const VERDICTS: [Verdict; 8] = [
     Verdict::Waiting,
 ];
 
-/// What there is to say of a summary, whose devices these are: one object in one line, which ends in a line feed, with the keys
+/// What there is to say of a summary: one object in one line, which ends in a line feed, with the keys
 /// of each object in ascending byte order.
 #[tactic(auto, unfolding(crate::specs::SummaryText::summary_json))]
 pub(crate) fn json_of(
     alloc: Global,
     summary: &Summary,
-    devices: &Seq<(OsdId, Waits)>,
     offset: EpochOffset,
 ) -> Result<String, AllocError>
-    ensures { IfOk result (λ text. string_bytes text ≡ summary_json summary.now devices.now offset) }
+    ensures { IfOk result (λ text. string_bytes text ≡ summary_json summary.now offset) }
 {
     let mut out = Writer::new(Vec::new(alloc));
-    write_summary(&mut out, offset, summary, devices)?;
+    write_summary(&mut out, offset, summary)?;
     into_line(out)
 }
 
 #[tactic(auto, using(pgp_replies::proofs::Tokens::token_steps))]
-fn write_summary(
-    out: &mut Writer,
-    offset: EpochOffset,
-    summary: &Summary,
-    devices: &Seq<(OsdId, Waits)>,
-) -> Result<(), AllocError>
+fn write_summary(out: &mut Writer, offset: EpochOffset, summary: &Summary) -> Result<(), AllocError>
     ensures ok { OnOk result
-        (out.new.tokens ≡ out.old.tokens ++ tokens_of (summary_data offset summary.now devices.now)) }
+        (out.new.tokens ≡ out.old.tokens ++ tokens_of (summary_data offset summary.now)) }
     ensures before { out.new.before ≡ out.old.before }
 {
     out.begin_object()?;
-    write_field(out, offset, "devices", devices)?;
+    write_field(out, offset, "devices", &summary.devices)?;
     write_field(out, offset, "epoch", &summary.epoch)?;
     write_field(out, offset, "groups", &summary.tally.groups())?;
     write_field(out, offset, "verdicts", &summary.tally)?;

@@ -1,13 +1,12 @@
 //! What is said of a summary.
 
 ghost use Rattle.std.specs.Prelude.{◌≡◌, IfOk, string_bytes};
-ghost use Rattle.pgp_explain.specs.SummaryText.{IsTextOf};
+ghost use Rattle.pgp_explain.specs.SummaryText.{summary_text};
 
 use super::offset::EpochOffset;
 use super::summary::Summary;
 use super::summary_json::json_of;
 use super::summary_words::words_of;
-use pgp_ids::Seq;
 use std::alloc::{AllocError, Global};
 
 /// What there is to say of a summary, in lines that each end in a line feed: as JSON one object in one line, with the keys of
@@ -18,12 +17,11 @@ pub fn text_of_summary(
     json: bool,
     offset: EpochOffset,
 ) -> Result<String, AllocError>
-    ensures { IfOk result (λ text. IsTextOf json summary.now offset (string_bytes text)) }
+    ensures { IfOk result (λ text. string_bytes text ≡ summary_text json summary.now offset) }
 {
-    let devices = Seq::from_vec(summary.devices(alloc)?);
     if json {
-        json_of(alloc, summary, &devices, offset)
+        json_of(alloc, summary, offset)
     } else {
-        words_of(alloc, summary, devices.as_slice(), offset)
+        words_of(alloc, summary, offset)
     }
 }

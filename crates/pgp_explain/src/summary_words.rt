@@ -1,12 +1,13 @@
 //! A summary in words.
 
 ghost use Rattle.std.specs.Prelude.{◌≡◌, ◌++◌, flat_map, IfOk, OnOk, OnErr, string_bytes};
-ghost use Rattle.pgp_explain.specs.SummaryText.{Awaited, awaited_part, blocks_part, both_part, count_part, device_line, device_lines, summary_words, tally_lines, total_line, verdict_line, verdicts};
+ghost use Rattle.pgp_explain.specs.SummaryText.{awaited_part, blocks_part, both_part, count_part, device_line, device_lines, summary_words, tally_lines, total_line, verdict_line, verdicts};
 
 use super::names::{Device, plural};
 use super::offset::EpochOffset;
-use super::summary::{Summary, Waits};
+use super::summary::Summary;
 use super::tally::Tally;
+use super::waits::Waits;
 use pgp_ids::{OsdId, Verdict};
 use std::alloc::{AllocError, Global};
 
@@ -22,20 +23,19 @@ const VERDICTS: [Verdict; 8] = [
     Verdict::Serve,
 ];
 
-/// What there is to say of a summary, whose devices these are, in lines that each end in a line feed.
+/// What there is to say of a summary, in lines that each end in a line feed.
 #[tactic(auto, unfolding(crate::specs::SummaryText::summary_words))]
 pub(crate) fn words_of(
     alloc: Global,
     summary: &Summary,
-    devices: &[(OsdId, Waits)],
     offset: EpochOffset,
 ) -> Result<String, AllocError>
-    ensures { IfOk result (λ text. string_bytes text ≡ summary_words summary.now devices.now offset) }
+    ensures { IfOk result (λ text. string_bytes text ≡ summary_words summary.now offset) }
 {
     let mut text = String::new(alloc);
     put_total(summary, offset, &mut text)?;
     put_tally(&summary.tally, &mut text)?;
-    put_devices(devices, &mut text)?;
+    put_devices(summary.devices.as_slice(), &mut text)?;
     Ok(text)
 }
 

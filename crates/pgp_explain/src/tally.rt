@@ -1,6 +1,7 @@
-ghost use Rattle.std.specs.Prelude.{◌≡◌, ◌+◌, ◌<◌, fold, slice_index, slice_set};
-ghost use Rattle.pgp_explain.specs.Summary.{counted, group_total, one_more, place_of as place_among_all, verdict_count};
-ghost use Rattle.pgp_ids.specs.declared.verdict.Verdict.{Verdict as TheVerdict};
+ghost use Rattle.std.specs.Prelude.{◌≡◌, ◌+◌, ◌<◌, [], ◌∷◌, ◌++◌, List, fold, slice_index, slice_set};
+ghost use Rattle.pgp_group.specs.GroupLog.{GroupLog};
+ghost use Rattle.pgp_group.specs.Verdict.{verdict as verdict_of};
+ghost use Rattle.pgp_explain.specs.Summary.{counted, group_total, one_more, place_of as place_among_all, tally_of, verdict_count};
 
 use pgp_ids::Verdict;
 
@@ -12,15 +13,16 @@ pub(crate) struct Tally {
 }
 
 impl Tally {
+    /// No group.
     pub fn new() -> Self
-        ensures { (verdict : TheVerdict) → verdict_count result verdict ≡ 0 }
+        ensures { result ≡ tally_of [] }
     {
         Tally { counts: [0; 8] }
     }
 
     /// Counts a group of this verdict.
     pub fn count(&mut self, verdict: Verdict)
-        ensures { self.new.counts ≡ slice_set self.old.counts (place_among_all verdict) (counted (verdict_count self.old verdict + 1)) }
+        ensures { (groups : List GroupLog) (g : GroupLog) → self.old ≡ tally_of groups → verdict_of g ≡ verdict → self.new ≡ tally_of (groups ++ g ∷ []) }
     {
         let place = place_of(verdict);
         self.counts[place] = self.counts[place].saturating_add(1);

@@ -9,3 +9,4 @@ pub mod SetLemmas
 pub mod WalkLemmas
 pub mod WayLemmas
 pub mod SameWayLemmas
+pub mod AwaitedLemmas

@@ -8,6 +8,6 @@ use Rattle.pgp_explain.proofs.summary_json.json_of.Goals as goal
 pub returns : goal.returns
 unfolding summary_json
 returns c =
-    let d = summary_data c.args.offset c.args.summary.now c.args.devices.now in
+    let d = summary_data c.args.offset c.args.summary.now in
     let whole = c.in_ok-write_summary.ensures.ok ∙ ap (λ ts. ts ++ tokens_of d) c.new-out.ensures.tokens in
     rw (ap print whole ∙ print-outline d) at c.into_line.ensures

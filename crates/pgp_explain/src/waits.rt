@@ -1,0 +1,19 @@
+ghost use Rattle.std.specs.Prelude.{◌≡◌};
+ghost use Rattle.pgp_explain.specs.Summary.{waiting};
+
+/// How many groups wait for a device.
+#[derive(Clone, Copy, Debug)]
+pub(crate) struct Waits {
+    /// How many are down and wait for it to come back.
+    pub blocks: usize,
+    /// How many wait to hear from it.
+    pub awaited: usize,
+}
+
+impl Waits {
+    pub fn groups(self) -> usize
+        ensures { result ≡ waiting self }
+    {
+        self.blocks.saturating_add(self.awaited)
+    }
+}
