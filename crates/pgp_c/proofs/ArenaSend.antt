@@ -1,21 +1,16 @@
 -- The arena in which a session reads a line may go to another thread: neither its chunks nor its counts name a thread.
 -- The arena is bumpalo's, which doesn't say so of itself.
-use Rattle.std.specs.Prelude.{ℕ, zero, suc, ◌+◌, ◌-◌, ◌/◌, ◌%◌, ◌==◌, Bool, true, false, List, []}
+use Rattle.std.specs.Prelude.{ℕ, zero, suc, ◌+◌, ◌-◌, ◌%◌, ◌==◌, Bool, true, false}
 use mir.Syntax.{Ty, Width, w8, w16, w32, w64, ty_int}
 use base.Fml.{Fml, Share, fsep, froom}
-use base.Fraction.{full_share}
-use base.Growing.{Order, latest, at_least}
+use base.Growing.{Order, latest}
 use base.Shift.{Keyless}
-use denote.RattleType.{RattleType}
 use denote.RawPtr.{Ptr, block_ptr, null_ptr, room_for}
-use denote.Struct.Struct.{exits_of}
-use denote.Struct.Owning.{shape, fields, to}
-use denote.Param.Send.{IsSend, AllSend, owning_send, struct_send, sendable}
-use Rattle.std_alloc.proofs.SendSync.{quiet}
+use denote.Param.Send.{IsSend, owning_send, sendable}
 use Rattle.std.proofs.Crossing as heap
 use Rattle.std_heap.specs.contracts.Global as Heap
 use Rattle.std_heap.specs.contracts.GlobalAllocator.TheImpl.{ghosts}
-use Rattle.bumpalo.specs.Ownership.{Epoch, Place, Footer, chunk, chunks, newest, listed, arena, parts, half_of, returns}
+use Rattle.bumpalo.specs.Ownership.{Epoch, Place, Footer, chunk, chunks, listed, arena, returns}
 use Rattle.bumpalo.specs.Spare.{either, level, by_16, by_8, by_4, by_2, spare}
 use Rattle.bumpalo.specs.contracts.bump.Bump as Bump
 use Rattle.bumpalo.specs.contracts.current.Current as Current

@@ -1,5 +1,4 @@
 -- The pointer that C holds may go to another thread, since the session behind it may, and any thread may free its block.
-use mathlib.Core.List.{[], ◌∷◌}
 use mir.Raw.{raw}
 use base.Shift.{Keyless}
 use denote.Memory.{lone}

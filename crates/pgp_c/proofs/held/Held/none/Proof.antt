@@ -5,7 +5,7 @@ use Rattle.std.specs.Prelude.{None}
 use lib.Dec.{lit<}
 use seplogic.Ra.Ura.{Ura}
 use mir.Syntax.{w64}
-use mir.Val.{Val, vint, vnull, vstruct, vcons, vnil, has_ty}
+use mir.Val.{Val, vint, vstruct, vcons, vnil, has_ty}
 use base.Logic.{SProp, ent, emp, id⊢}
 use base.Fml.{ftrue, fsep}
 use prog.Memory.{Memory}
