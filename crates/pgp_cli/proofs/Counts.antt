@@ -12,7 +12,7 @@ use Rattle.clap.proofs.ValueTestLemmas.{accepts-Accepts, Accepts-accepts}
 use Rattle.clap.specs.Faults.{fault_of}
 use Rattle.clap.proofs.FaultLemmas.{failed_up}
 use Rattle.clap.specs.declared.error.kind.ErrorKind.TheVariants.{ValueValidation}
-use Rattle.pgp_cli.specs.Options.{pgpeer_app, count_in, count_or, counts_in, counts_asked, counts_of, faults_in, explanation_asked, explain_faults_in}
+use Rattle.pgp_cli.specs.Options.{pgpeer_app, count_in, count_or, counts_in, counts_asked, counts_of, faults_in, explanation_asked, explain_faults_in, compact_faults_in, is_compact_asked}
 use Rattle.pgp_cli.specs.declared.run_options.RunOptions.{RunOptions}
 use Rattle.pgp_cli.specs.declared.explain_options.ExplainOptions.{ExplainOptions}
 
@@ -57,6 +57,9 @@ some_fault r e words = clap_fault r e words (cond (is_some (counts_asked words))
 pub explain_fault : {T : Type 0} (r : Result T Error) (e : Error) (words : List (List ℕ)) → IsErrAnd r (λ y. y ≡ e) → HasKind (fault_of pgpeer_app words) e → FailsBy (explain_faults_in words) r
 explain_fault r e words = clap_fault r e words (cond (is_some (explanation_asked words)) [] (ValueValidation ∷ []))
 
+pub compact_fault : {T : Type 0} (r : Result T Error) (e : Error) (words : List (List ℕ)) → IsErrAnd r (λ y. y ≡ e) → HasKind (fault_of pgpeer_app words) e → FailsBy (compact_faults_in words) r
+compact_fault r e words = clap_fault r e words (cond (is_compact_asked words) [] (ValueValidation ∷ []))
+
 -- where clap finds none and the numbers are within their bounds, there is none
 pub all_asked : (words : List (List ℕ)) → fault_of pgpeer_app words ≡ [] → (options : RunOptions) → counts_asked words ≡ Some (counts_of options) → faults_in words ≡ []
 all_asked words none options asked = rw (none, asked) refl
@@ -70,6 +73,12 @@ wrong_explanation words e none asked kind = inr (rw (none, asked) (inl kind))
 
 pub all_explained : (words : List (List ℕ)) → fault_of pgpeer_app words ≡ [] → (options : ExplainOptions) → explanation_asked words ≡ Some options → explain_faults_in words ≡ []
 all_explained words none options asked = rw (none, asked) refl
+
+pub wrong_compaction : (words : List (List ℕ)) (e : Error) → fault_of pgpeer_app words ≡ [] → is_compact_asked words ≡ false → kind_of e ≡ ValueValidation → HasKind (compact_faults_in words) e
+wrong_compaction words e none asked kind = inr (rw (none, asked) (inl kind))
+
+pub all_compacted : (words : List (List ℕ)) → fault_of pgpeer_app words ≡ [] → is_compact_asked words ≡ true → compact_faults_in words ≡ []
+all_compacted words none asked = rw (none, asked) refl
 
 -- ---- what the matches of `run` ask for
 

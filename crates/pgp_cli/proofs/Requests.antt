@@ -1,4 +1,4 @@
--- Which of a run, an explanation and help the words ask for.
+-- Which of a run, an explanation, a compaction and help the words ask for.
 use Rattle.std.proofs.Common.{◌≡◌, ◌⊎◌, refl, sym, subst, ap, ◌∙◌, ◌∷◌, ℕ, Bool, true, false, List, [], cond, arith, inl, inr}
 use Rattle.std.specs.Prelude.{codes, is_some, option_map, option_and_then, Some, None, Option, slice_index}
 use Rattle.std.proofs.lemmas.Option.{none-some}
@@ -13,7 +13,7 @@ use Rattle.clap.specs.declared.error.Error.{Error}
 use Rattle.clap.specs.declared.error.kind.ErrorKind.{ErrorKind}
 use Rattle.clap.specs.declared.error.kind.ErrorKind.TheVariants.{DisplayHelp, DisplayVersion, OutOfMemory, ValueValidation}
 use Rattle.pgp_cli.specs.declared.explain_options.ExplainOptions.{ExplainOptions}
-use Rattle.pgp_cli.specs.Options.{Counts, pgpeer_app, counts_asked, counts_in, explanation_asked, explanation_in, explain_faults_in, faults_in, names_explain, request_faults, with_name, AsksForExplain, AsksForHelp, AsksForRun, IsRequest}
+use Rattle.pgp_cli.specs.Options.{Counts, pgpeer_app, counts_asked, counts_in, explanation_asked, explanation_in, explain_faults_in, compact_faults_in, faults_in, is_compact_asked, names, request_faults, rows_after, with_name, AsksForCompact, AsksForExplain, AsksForHelp, AsksForRun, IsRequest}
 
 -- ---- one subcommand
 
@@ -40,6 +40,33 @@ run_or_explain words counts options run explain =
     ∙ name_of (codes "explain") (subcommand_of pgpeer_app words) explanation_in options explain.1 in
     apart (ap first_byte names)
 
+-- the same where something follows it
+after_name : (name : Text) (found : Option (Text × List Row)) → is_some (with_name name found) ≡ true → option_map (λ f. f.0) found ≡ Some name
+after_name name None is = cc
+after_name name (Some f) is = go (bytes_eq f.0 name) refl is
+  where
+    go : (b : Bool) → bytes_eq f.0 name ≡ b → is_some (cond b (Some f.1) None) ≡ true → Some f.0 ≡ Some name
+    go true same is = ap Some ((bytes_eq-Decides f.0 name).0 same)
+    go false same is = cc
+
+apart_second : ◌≡◌ {A = ℕ} 99 101 → ⊥
+apart_second h = absurd (omega (arith, h))
+
+apart_third : ◌≡◌ {A = ℕ} 114 99 → ⊥
+apart_third h = absurd (omega (arith, h))
+
+pub run_or_compact : (words : List (List ℕ)) (counts : Counts) → AsksForRun words counts → AsksForCompact words → ⊥
+run_or_compact words counts run compact =
+    let asked : Some (codes "run") ≡ Some (codes "compact") = sym (name_of (codes "run") (subcommand_of pgpeer_app words) counts_in counts run.1)
+    ∙ after_name (codes "compact") (subcommand_of pgpeer_app words) compact.1 in
+    apart_third (ap first_byte asked)
+
+pub compact_or_explain : (words : List (List ℕ)) (options : ExplainOptions) → AsksForCompact words → AsksForExplain words options → ⊥
+compact_or_explain words options compact explain =
+    let asked : Some (codes "compact") ≡ Some (codes "explain") = sym (after_name (codes "compact") (subcommand_of pgpeer_app words) compact.1)
+    ∙ name_of (codes "explain") (subcommand_of pgpeer_app words) explanation_in options explain.1 in
+    apart_second (ap first_byte asked)
+
 -- ---- help
 
 -- a kind that stands for a request is among no faults that the program itself finds
@@ -62,9 +89,11 @@ as_help : (k : ErrorKind) (words : List (List ℕ)) → IsRequest k → IsAmong 
 as_help k words (inl help) h = inl (subst (λ (x : ErrorKind). IsAmong x (faults_in words)) help h)
 as_help k words (inr version) h = inr (subst (λ (x : ErrorKind). IsAmong x (faults_in words)) version h)
 
-by_name : (k : ErrorKind) (words : List (List ℕ)) (b : Bool) → IsRequest k → IsAmong k (cond b (explain_faults_in words) (faults_in words)) → AsksForHelp words
-by_name k words true is h = as_help k words is (in_either k (fault_of pgpeer_app words) (is_some (explanation_asked words)) (is_some (counts_asked words)) is h)
-by_name k words false is h = as_help k words is h
+by_name : (k : ErrorKind) (words : List (List ℕ)) (b c : Bool) → IsRequest k
+    → IsAmong k (cond b (explain_faults_in words) (cond c (compact_faults_in words) (faults_in words))) → AsksForHelp words
+by_name k words true c is h = as_help k words is (in_either k (fault_of pgpeer_app words) (is_some (explanation_asked words)) (is_some (counts_asked words)) is h)
+by_name k words false true is h = as_help k words is (in_either k (fault_of pgpeer_app words) (is_compact_asked words) (is_some (counts_asked words)) is h)
+by_name k words false false is h = as_help k words is h
 
 -- an error that stands for a request is one for help
 pub help_asked : (e : Error) (words : List (List ℕ)) → IsRequest (kind_of e) → HasKind (request_faults words) e → AsksForHelp words
@@ -74,7 +103,7 @@ help_asked e words (inl help) (inl memory) =
 help_asked e words (inr version) (inl memory) =
     let bad : DisplayVersion ≡ OutOfMemory = sym version ∙ memory in
     cc
-help_asked e words is (inr among) = by_name (kind_of e) words (names_explain words) is among
+help_asked e words is (inr among) = by_name (kind_of e) words (names (codes "explain") words) (names (codes "compact") words) is among
 
 none_among : (k : ErrorKind) (kinds : Kinds) → kinds ≡ [] → IsAmong k kinds → ⊥
 none_among k kinds none h = subst (IsAmong k) none h
@@ -88,3 +117,9 @@ explain_or_help words options explain (inl help) =
     none_among DisplayHelp _ explain.0 (in_either DisplayHelp (fault_of pgpeer_app words) (is_some (counts_asked words)) (is_some (explanation_asked words)) (inl refl) help)
 explain_or_help words options explain (inr version) =
     none_among DisplayVersion _ explain.0 (in_either DisplayVersion (fault_of pgpeer_app words) (is_some (counts_asked words)) (is_some (explanation_asked words)) (inr refl) version)
+
+pub compact_or_help : (words : List (List ℕ)) → AsksForCompact words → AsksForHelp words → ⊥
+compact_or_help words compact (inl help) =
+    none_among DisplayHelp _ compact.0 (in_either DisplayHelp (fault_of pgpeer_app words) (is_some (counts_asked words)) (is_compact_asked words) (inl refl) help)
+compact_or_help words compact (inr version) =
+    none_among DisplayVersion _ compact.0 (in_either DisplayVersion (fault_of pgpeer_app words) (is_some (counts_asked words)) (is_compact_asked words) (inr refl) version)

@@ -17,7 +17,7 @@ use Rattle.pgp_explain.specs.Explanation.{Question, question}
 use Rattle.pgp_cli.specs.declared.run_options.RunOptions.{RunOptions}
 use Rattle.pgp_cli.specs.declared.explain_options.ExplainOptions.{ExplainOptions}
 use Rattle.pgp_cli.specs.declared.request.Request.{Request}
-use Rattle.pgp_cli.specs.declared.request.Request.TheVariants.{Run, Explain}
+use Rattle.pgp_cli.specs.declared.request.Request.TheVariants.{Run, Explain, Compact}
 use Rattle.clap.specs.declared.error.kind.ErrorKind.{ErrorKind}
 use Rattle.clap.specs.declared.error.kind.ErrorKind.TheVariants.{DisplayHelp, DisplayVersion, ValueValidation}
 
@@ -42,13 +42,17 @@ abbrev pub explain_app : App
 explain_app =
     with_rule (with_rule (with_rule (new_app (codes "explain")) group_word) json_flag) (count_option (codes "epoch-offset"))
 
+-- `compact`
+abbrev pub compact_app : App
+compact_app = new_app (codes "compact")
+
 -- `pgpeer --version`, without a subcommand
 abbrev pub bare_app : App
 bare_app = on_top (λ top. record top { has_version = true; subcommand_required = true }) (new_app (codes "pgpeer"))
 
--- `pgpeer run` and `pgpeer explain`, one of which is required, and `pgpeer --version`
+-- `pgpeer run`, `pgpeer explain` and `pgpeer compact`, one of which is required, and `pgpeer --version`
 abbrev pub pgpeer_app : App
-pgpeer_app = with_subcommand (with_subcommand bare_app run_app.top) explain_app.top
+pgpeer_app = with_subcommand (with_subcommand (with_subcommand bare_app run_app.top) explain_app.top) compact_app.top
 
 -- what follows the subcommand, if it has this name
 abbrev pub with_name : Text → Option (Text × List Row) → Option (List Row)
@@ -171,20 +175,38 @@ AsksForSomeExplain words = (options : ExplainOptions) × AsksForExplain words op
 abbrev pub question_of : ExplainOptions → Question
 question_of options = question options.pg options.json options.epoch_offset
 
--- ---- which of the two
+-- ---- compact
 
--- the word after the program's name is `explain`
-abbrev pub names_explain : List (List ℕ) → Bool
-names_explain words = option_map_or (λ word. bytes_eq word (codes "explain")) (slice_get words 1) false
+-- the words ask to compact a script, the program's name first
+abbrev pub is_compact_asked : List (List ℕ) → Bool
+is_compact_asked words = is_some (rows_after (codes "compact") words)
+
+-- the kinds of fault that the words may have, read as those of `compact`: those that clap finds
+abbrev pub compact_faults_in : List (List ℕ) → Kinds
+compact_faults_in words =
+    or_else (fault_of pgpeer_app words) (if is_compact_asked words then [] else ValueValidation ∷ [])
+
+-- the words have no fault: they ask for that
+abbrev pub AsksForCompact : List (List ℕ) → Type 0
+AsksForCompact words = (compact_faults_in words ≡ []) × (is_compact_asked words ≡ true)
+
+-- ---- which of them
+
+-- the word after the program's name is this one
+abbrev pub names : Text → List (List ℕ) → Bool
+names name words = option_map_or (λ word. bytes_eq word name) (slice_get words 1) false
 
 -- the kinds of fault that the words may have, by the subcommand that they name
 abbrev pub request_faults : List (List ℕ) → Kinds
-request_faults words = if names_explain words then explain_faults_in words else faults_in words
+request_faults words =
+    if names (codes "explain") words then explain_faults_in words
+    else (if names (codes "compact") words then compact_faults_in words else faults_in words)
 
 -- the request is what the words ask for
 abbrev pub IsAsked : List (List ℕ) → Request → Type 0
 IsAsked words (Run options) = AsksForRun words (counts_of options)
 IsAsked words (Explain options) = AsksForExplain words options
+IsAsked words Compact = AsksForCompact words
 
 -- a kind of error that stands for a request: help, or the version
 abbrev pub IsRequest : ErrorKind → Type 0

@@ -1,6 +1,8 @@
 -- What the program does beyond answering a script, and how its runs and explanations end.
 use Rattle.std.specs.Prelude.{◌≡◌, ◌⊎◌, ℕ, ◌≤◌, List, Bool, true, Option}
 use Rattle.std.specs.Io.KnownBytes.{Appends}
+use Rattle.pgp_compact_script.specs.Compaction.{IsCompacted}
+use Rattle.pgp_compact_script.specs.declared.compact.Compaction.{Compaction}
 use Rattle.pgp_core.specs.Run.{AllAnswered, Stopped, script_bounds}
 use Rattle.pgp_explain.specs.Explanation.{IsCutShort, IsExplained}
 use Rattle.pgp_run.specs.Run.{ToldByEngine, StoppedByEngine}
@@ -30,12 +32,15 @@ pub record RunIsStopped (counts : Counts) (from to start now : Option (List ℕ)
   pub alone : counts.workers ≡ 0 → Stopped script_bounds from to start now read_failed write_failed
   pub shared : 1 ≤ counts.workers → EngineIsStopped from to start now read_failed write_failed
 
--- The writer got what the options ask for, by the log that the reader's script makes.
-pub record ExplainIsDone (options : ExplainOptions) (from start now : Option (List ℕ)) : Type 0 where
-  pub to : Option (List ℕ)
-  pub explained : IsExplained (question_of options) from to start now
+-- The reader is at its end, and the writer got what the options ask for, by the log that the reader's script makes.
+abbrev pub ExplainIsDone : ExplainOptions → (from to start now : Option (List ℕ)) → Type 0
+ExplainIsDone options from to start now = IsExplained (question_of options) from to start now
 
 -- The same, where a write failed: a front of that went out.
-pub record ExplainIsCutShort (options : ExplainOptions) (from start now : Option (List ℕ)) : Type 0 where
-  pub to : Option (List ℕ)
-  pub cut : IsCutShort (question_of options) from to start now
+abbrev pub ExplainIsCutShort : ExplainOptions → (from to start now : Option (List ℕ)) → Type 0
+ExplainIsCutShort options from to start now = IsCutShort (question_of options) from to start now
+
+-- The writer got the lines that remain of the reader's script.
+pub record CompactIsDone (from to start now : Option (List ℕ)) : Type 0 where
+  pub counts : Compaction
+  pub compacted : IsCompacted counts from to start now

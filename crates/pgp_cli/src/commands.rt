@@ -3,7 +3,7 @@ ghost use Rattle.std.specs.Prelude.{◌≡◌, false, IfOk};
 ghost use Rattle.clap.specs.Simple.{app_of};
 ghost use Rattle.clap.specs.Walk.{rule_of};
 ghost use Rattle.clap.specs.Values.{kind_of};
-ghost use Rattle.pgp_cli.specs.Options.{pgpeer_app, run_app, explain_app, group_word, json_flag, count_option};
+ghost use Rattle.pgp_cli.specs.Options.{pgpeer_app, run_app, explain_app, compact_app, group_word, json_flag, count_option};
 
 use clap::error::ErrorKind;
 use clap::{Arg, ArgAction, Command, Error};
@@ -11,14 +11,15 @@ use std::alloc::{AllocError, Global};
 
 /// What `pgpeer --help` tells beyond its usage.
 const HELP: &str = "\
-Both read a script from standard input: lines of JSON, of which docs/FORMAT.md
+All read a script from standard input: lines of JSON, of which docs/FORMAT.md
 tells the keys.
 
 Example:
   pgpeer run < script.jsonl
   pgpeer explain 1.a < script.jsonl
+  pgpeer compact < script.jsonl > shorter.jsonl
 
-'pgpeer run --help' and 'pgpeer explain --help' tell more.";
+'pgpeer run --help' and the like tell more.";
 
 /// What `pgpeer run --help` tells beyond its usage.
 const RUN_HELP: &str = "\
@@ -52,6 +53,24 @@ Exit status:
   3  a read or a write failed, the script has more than 1000000 lines or
      4294967296 bytes, the map has no such group, or memory ran out";
 
+/// What `pgpeer compact --help` tells beyond its usage.
+const COMPACT_HELP: &str = "\
+The script is read as 'pgpeer run' reads it: each line is judged by the lines
+before it. The lines whose entries an answer can still need, now or after
+whatever lines follow, are written as they are: all incrementals, and the reports
+that nothing later makes needless. Questions, blank lines and refused lines are
+left out. How many entries were left out is told on standard error. A run of what
+is written, and of any lines behind it, gives the same answers but for count.
+
+Example:
+  pgpeer compact < script.jsonl > shorter.jsonl
+
+Exit status:
+  0  the script was read to its end, and what remains of it was written
+  2  the command line is wrong, or there was no memory to read it
+  3  a read or a write failed, the script has more than 1000000 lines or
+     4294967296 bytes, or memory ran out";
+
 const SHARDS_HELP: &str = "How many shards share the groups, 1 to 64 [default: 1]";
 
 const WORKERS_HELP: &str =
@@ -71,6 +90,7 @@ pub fn pgpeer<'a>(alloc: Global) -> Result<Command<'a>, AllocError>
 {
     let run = run(alloc)?;
     let explain = explain(alloc)?;
+    let compact = compact(alloc);
     Command::new(alloc, "pgpeer")
         .version("0.1.0")
         .about(
@@ -79,7 +99,8 @@ pub fn pgpeer<'a>(alloc: Global) -> Result<Command<'a>, AllocError>
         .after_help(HELP)
         .subcommand_required(true)
         .subcommand(run)?
-        .subcommand(explain)
+        .subcommand(explain)?
+        .subcommand(compact)
 }
 
 /// `run [--shards N] [--workers N]`
@@ -105,6 +126,17 @@ fn explain<'a>(alloc: Global) -> Result<Command<'a>, AllocError>
         .arg(group(alloc))?
         .arg(json(alloc))?
         .arg(count(alloc, "epoch-offset", OFFSET_HELP))
+}
+
+/// `compact`
+fn compact<'a>(alloc: Global) -> Command<'a>
+    ensures { app_of result ≡ compact_app }
+{
+    Command::new(alloc, "compact")
+        .about(
+            "Reads a script from standard input and writes the lines that an answer can still need",
+        )
+        .after_help(COMPACT_HELP)
 }
 
 /// The word that names a group.
@@ -147,5 +179,14 @@ pub fn explain_error(alloc: Global, kind: ErrorKind, message: &str) -> Result<Er
 {
     explain(alloc)?
         .bin_name("pgpeer explain")?
+        .error(kind, message)
+}
+
+/// An error of `pgpeer compact`, with its usage.
+pub fn compact_error(alloc: Global, kind: ErrorKind, message: &str) -> Result<Error, AllocError>
+    ensures { IfOk result (λ error. kind_of error ≡ kind) }
+{
+    compact(alloc)
+        .bin_name("pgpeer compact")?
         .error(kind, message)
 }

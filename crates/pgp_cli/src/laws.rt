@@ -2,7 +2,7 @@
 ghost use Rattle.std.specs.Prelude.{◌≡◌, [], ◌∷◌, ℕ, List, codes, Some, None, true, false};
 ghost use Rattle.clap.specs.declared.error.kind.ErrorKind.TheVariants.{DisplayHelp, DisplayVersion, InvalidValue, MissingSubcommand, TooManyValues, UnknownArgument, ValueValidation};
 ghost use Rattle.pgp_cli.specs.declared.explain_options.ExplainOptions.{ExplainOptions};
-ghost use Rattle.pgp_cli.specs.Options.{Counts, counts, counts_asked, faults_in, explanation, explanation_asked, explain_faults_in, group_in, request_faults, AsksForRun, AsksForExplain, AsksForHelp};
+ghost use Rattle.pgp_cli.specs.Options.{Counts, counts, counts_asked, faults_in, explanation, explanation_asked, explain_faults_in, group_in, request_faults, AsksForRun, AsksForExplain, AsksForCompact, AsksForHelp};
 
 use super::status::{DONE, FAULT, USAGE};
 
@@ -47,13 +47,17 @@ pub fn wrong_counts()
     ensures no_value { faults_in (codes "pgpeer" ∷ codes "run" ∷ codes "--workers" ∷ []) ≡ InvalidValue ∷ [] }
 {}
 
-/// The words ask for a run or for an explanation, and for help only where they ask for neither.
+/// The words ask for one of a run, an explanation and a compaction, and for help only where they ask for none of them.
 pub fn one_request()
     ensures run_or_explain { (words : List (List ℕ)) (counts : Counts) (options : ExplainOptions)
         → AsksForRun words counts → AsksForExplain words options → ⊥ }
     ensures run_or_help { (words : List (List ℕ)) (counts : Counts) → AsksForRun words counts → AsksForHelp words → ⊥ }
     ensures explain_or_help { (words : List (List ℕ)) (options : ExplainOptions)
         → AsksForExplain words options → AsksForHelp words → ⊥ }
+    ensures run_or_compact { (words : List (List ℕ)) (counts : Counts) → AsksForRun words counts → AsksForCompact words → ⊥ }
+    ensures compact_or_explain { (words : List (List ℕ)) (options : ExplainOptions)
+        → AsksForCompact words → AsksForExplain words options → ⊥ }
+    ensures compact_or_help { (words : List (List ℕ)) → AsksForCompact words → AsksForHelp words → ⊥ }
 {}
 
 /// The words of a command line that names `explain`.
@@ -101,4 +105,12 @@ pub fn wrong_explanations()
     ensures no_number { explain_faults_in (codes "pgpeer" ∷ codes "explain" ∷ codes "--epoch-offset" ∷ codes "two" ∷ []) ≡ ValueValidation ∷ [] }
     ensures no_value { explain_faults_in (codes "pgpeer" ∷ codes "explain" ∷ codes "--epoch-offset" ∷ []) ≡ InvalidValue ∷ [] }
     ensures value { explain_faults_in (codes "pgpeer" ∷ codes "explain" ∷ codes "--json=1" ∷ []) ≡ TooManyValues ∷ [] }
+{}
+
+/// The words of a command line that names `compact`: no word stands behind it.
+pub fn compact_lines()
+    ensures all { request_faults (codes "pgpeer" ∷ codes "compact" ∷ []) ≡ [] }
+    ensures help { request_faults (codes "pgpeer" ∷ codes "compact" ∷ codes "--help" ∷ []) ≡ DisplayHelp ∷ [] }
+    ensures more { request_faults (codes "pgpeer" ∷ codes "compact" ∷ codes "script" ∷ []) ≡ UnknownArgument ∷ [] }
+    ensures flag { request_faults (codes "pgpeer" ∷ codes "compact" ∷ codes "--json" ∷ []) ≡ UnknownArgument ∷ [] }
 {}

@@ -1,11 +1,13 @@
 //! The command line: what its words ask for, and the status that the program ends with.
 //!
 //! [`status_of`] does what the words ask for, over any reader and writers: `pgp_core` answers a script on one thread, and
-//! `pgp_run` one with workers; `pgp_explain` explains one. [`Watched`] is a stream with an account of whether a call of it
+//! `pgp_run` one with workers; `pgp_explain` explains one, and
+//! `pgp_compact_script` compacts one. [`Watched`] is a stream with an account of whether a call of it
 //! failed, which the contract of a run goes by.
 #![tactic(auto)]
 
 mod commands;
+mod compact_words;
 mod explain_options;
 mod explain_words;
 mod fault;
@@ -18,11 +20,12 @@ mod streams;
 mod tell;
 mod words;
 
+pub use compact_words::compaction;
 pub use explain_options::ExplainOptions;
 pub use explain_words::explanation;
 pub use laws::{
-    command_lines, counts_of_runs, explain_lines, explanations, names_of_groups, one_request,
-    right_counts, statuses, wrong_counts, wrong_explanations,
+    command_lines, compact_lines, counts_of_runs, explain_lines, explanations, names_of_groups,
+    one_request, right_counts, statuses, wrong_counts, wrong_explanations,
 };
 pub use request::{Request, read_request};
 pub use run_options::RunOptions;

@@ -1,8 +1,9 @@
 //! Which of its subcommands the program is asked for.
 ghost use Rattle.std.specs.Prelude.{◌≡◌, map, string_bytes, IfOk};
 ghost use Rattle.clap.specs.Kinds.{FailsBy};
-ghost use Rattle.pgp_cli.specs.Options.{names_explain, request_faults, IsAsked};
+ghost use Rattle.pgp_cli.specs.Options.{names, request_faults, IsAsked};
 
+use super::compact_words::compaction;
 use super::explain_options::ExplainOptions;
 use super::explain_words::explanation;
 use super::run_options::RunOptions;
@@ -17,6 +18,8 @@ pub enum Request {
     Run(RunOptions),
     /// To explain what a script says of its groups.
     Explain(ExplainOptions),
+    /// To write the lines of a script that an answer can still need.
+    Compact,
 }
 
 /// Reads the words of the command line, the program's name first.
@@ -26,9 +29,14 @@ pub fn read_request(alloc: Global, words: &[String]) -> Result<Request, Error>
     ensures fails { FailsBy (request_faults (map string_bytes words.now)) result }
     ensures asked { IfOk result (IsAsked (map string_bytes words.now)) }
 {
-    if names_explain(words) {
+    if names(words, "explain") {
         match explanation(alloc, words) {
             Ok(options) => Ok(Request::Explain(options)),
+            Err(error) => Err(error),
+        }
+    } else if names(words, "compact") {
+        match compaction(alloc, words) {
+            Ok(()) => Ok(Request::Compact),
             Err(error) => Err(error),
         }
     } else {
@@ -39,12 +47,12 @@ pub fn read_request(alloc: Global, words: &[String]) -> Result<Request, Error>
     }
 }
 
-/// Whether the word behind the program's name is `explain`.
-fn names_explain(words: &[String]) -> bool
-    ensures { result ≡ names_explain (map string_bytes words.now) }
+/// Whether the word behind the program's name is this one.
+fn names(words: &[String], name: &str) -> bool
+    ensures { result ≡ names name.now (map string_bytes words.now) }
 {
     match words.get(1) {
-        Some(word) => word.as_str() == "explain",
+        Some(word) => word.as_str() == name,
         None => false,
     }
 }

@@ -1,17 +1,20 @@
 //! What the program does, over any reader and writers, and the status that it ends with.
 
 ghost use Rattle.std.specs.Prelude.{◌≡◌, ◌≢◌, ◌⊎◌, ◌≤◌, true, map, string_bytes};
-ghost use Rattle.pgp_cli.specs.Options.{Counts, counts_of, AsksForRun, AsksForWorkers, AsksForExplain, AsksForHelp, AsksForSomeExplain};
-ghost use Rattle.pgp_cli.specs.Status.{EngineIsStopped, ExplainIsCutShort, ExplainIsDone, Grows, RunIsDone, RunIsStopped};
+ghost use Rattle.pgp_cli.specs.Options.{Counts, counts_of, AsksForRun, AsksForWorkers, AsksForCompact, AsksForExplain, AsksForHelp, AsksForSomeExplain};
+ghost use Rattle.pgp_cli.specs.Status.{CompactIsDone, EngineIsStopped, ExplainIsCutShort, ExplainIsDone, Grows, RunIsDone, RunIsStopped};
 ghost use Rattle.pgp_cli.specs.declared.explain_options.ExplainOptions.{ExplainOptions as TheOptions};
+ghost use Rattle.pgp_compact_script.specs.Compaction.{IsCutShort};
 ghost use Rattle.pgp_core.specs.Run.{AllAnswered, Stopped, script_bounds};
+ghost use Rattle.pgp_explain.specs.Reading.{IsRefusedInPart};
 ghost use Rattle.pgp_run.specs.Run.{ToldByEngine};
 
 use super::explain_options::ExplainOptions;
 use super::fault::Fault;
 use super::request::{Request, read_request};
 use super::run_options::RunOptions;
-use super::tell::{fault, help_or_usage};
+use super::tell::{fault, help_or_usage, left_out};
+use pgp_compact_script::{CompactFault, compact_script};
 use pgp_core::{ScriptFault, Sink, Source, run_script};
 use pgp_explain::{ExplainFault, explain};
 use pgp_run::{RunFault, run_engine};
@@ -20,18 +23,18 @@ use std::io::Write;
 use std::sync::Wait;
 use std::thread::Threads;
 
-/// The script was answered or explained to its end, or help was shown.
+/// The script was answered, explained or compacted to its end, or help was shown.
 pub const DONE: u8 = 0;
 /// The command line is wrong.
 pub const USAGE: u8 = 2;
 /// A read or a write failed, the script is too large, there is no engine to answer it, no such group to explain, or no memory
-/// to explain it.
+/// to explain or compact it.
 pub const FAULT: u8 = 3;
 
 /// Does what the words ask for, the program's name first, and gives the status to exit with.
 ///
-/// Answers, explanations and help go to `writer`, and what is wrong goes to `errors`, refused lines of an explained script
-/// among it. What cannot be written to `errors` is lost. A run with workers starts threads and waits for them; anything else is
+/// Answers, explanations, lines that remain and help go to `writer`, and what is wrong goes to `errors`, refused lines of an
+/// explained script among it, and how many entries a compaction left out. What cannot be written to `errors` is lost. A run with workers starts threads and waits for them; anything else is
 /// done on this thread alone.
 pub fn status_of<R: Source, W: Sink, E: Write, T: Threads + Wait + Sync>(
     rt: &T,
@@ -41,22 +44,26 @@ pub fn status_of<R: Source, W: Sink, E: Write, T: Threads + Wait + Sync>(
     writer: &mut W,
     errors: &mut E,
 ) -> u8
-    // The script was answered to its end, or help was asked for and nothing was read, or the script was explained as asked.
+    // The script was answered to its end, or help was asked for and nothing was read, or the script was explained as asked, or
+    // what remains of it was written.
     ensures done { result ≡ DONE
         → ((counts : Counts) × (AsksForRun (map string_bytes words.now) counts × RunIsDone counts (R.remaining reader.old)
         (R.remaining reader.new) (W.contents writer.old) (W.contents writer.new)))
         ⊎ (AsksForHelp (map string_bytes words.now) × (reader.new ≡ reader.old)
         × Grows (W.contents writer.old) (W.contents writer.new))
         ⊎ ((options : TheOptions) × (AsksForExplain (map string_bytes words.now) options
-        × ExplainIsDone options (R.remaining reader.old) (W.contents writer.old) (W.contents writer.new))) }
-    // No call failed, and nothing was told, unless an explanation was asked for.
-    ensures kept { result ≡ DONE → ((R.failed reader.new ≡ R.failed reader.old) × (W.failed writer.new ≡ W.failed writer.old))
-        ⊎ AsksForSomeExplain (map string_bytes words.now) }
-    ensures quiet { result ≡ DONE → (errors.new ≡ errors.old) ⊎ AsksForSomeExplain (map string_bytes words.now) }
+        × ExplainIsDone options (R.remaining reader.old) (R.remaining reader.new) (W.contents writer.old) (W.contents writer.new)))
+        ⊎ (AsksForCompact (map string_bytes words.now) × CompactIsDone (R.remaining reader.old) (R.remaining reader.new)
+        (W.contents writer.old) (W.contents writer.new)) }
+    // No call failed. Nothing was told, unless a script was explained of which a line is refused, or one was compacted.
+    ensures kept { result ≡ DONE → (R.failed reader.new ≡ R.failed reader.old) × (W.failed writer.new ≡ W.failed writer.old) }
+    ensures quiet { result ≡ DONE → (errors.new ≡ errors.old)
+        ⊎ (AsksForSomeExplain (map string_bytes words.now) × IsRefusedInPart (R.remaining reader.old) (R.remaining reader.new))
+        ⊎ AsksForCompact (map string_bytes words.now) }
     // Nothing was read, and nothing was answered.
     ensures usage { result ≡ USAGE → (reader.new ≡ reader.old) × (writer.new ≡ writer.old) }
     // The script was answered as far as it was read whole, or as far as it could be written or had an engine to answer it; or
-    // there was no engine, and nothing was read; or help could not be shown; or an explanation was asked for, and
+    // there was no engine, and nothing was read; or help could not be shown; or an explanation or a compaction was asked for, and
     // none of it was written, or a front of it, where a write failed.
     ensures fault { result ≢ DONE → result ≢ USAGE → (result ≡ FAULT)
         × (((counts : Counts) × (AsksForRun (map string_bytes words.now) counts × RunIsStopped counts (R.remaining reader.old)
@@ -65,11 +72,15 @@ pub fn status_of<R: Source, W: Sink, E: Write, T: Threads + Wait + Sync>(
         ⊎ (AsksForHelp (map string_bytes words.now) × (reader.new ≡ reader.old) × (W.failed writer.new ≡ true))
         ⊎ ((options : TheOptions) × (AsksForExplain (map string_bytes words.now) options × ((writer.new ≡ writer.old)
         ⊎ ((W.failed writer.new ≡ true)
-        × ExplainIsCutShort options (R.remaining reader.old) (W.contents writer.old) (W.contents writer.new)))))) }
+        × ExplainIsCutShort options (R.remaining reader.old) (R.remaining reader.new) (W.contents writer.old) (W.contents writer.new)))))
+        ⊎ (AsksForCompact (map string_bytes words.now) × ((writer.new ≡ writer.old)
+        ⊎ IsCutShort (R.remaining reader.old) (R.remaining reader.new) (W.contents writer.old) (W.contents writer.new)
+        (W.failed writer.new)))) }
 {
     match read_request(alloc, words) {
         Ok(Request::Run(options)) => run(rt, alloc, options, reader, writer, errors),
         Ok(Request::Explain(options)) => explain_script(alloc, &options, reader, writer, errors),
+        Ok(Request::Compact) => compact(alloc, reader, writer, errors),
         Err(error) => help_or_usage(alloc, &error, words, writer, errors),
     }
 }
@@ -158,10 +169,14 @@ fn explain_script<R: Source, W: Sink, E: Write>(
     writer: &mut W,
     errors: &mut E,
 ) -> u8
-    ensures done { result ≡ DONE → ExplainIsDone options.now (R.remaining reader.old) (W.contents writer.old) (W.contents writer.new) }
+    ensures done { result ≡ DONE → ExplainIsDone options.now (R.remaining reader.old) (R.remaining reader.new)
+        (W.contents writer.old) (W.contents writer.new) }
+    ensures kept { result ≡ DONE → (R.failed reader.new ≡ R.failed reader.old) × (W.failed writer.new ≡ W.failed writer.old) }
+    ensures quiet { result ≡ DONE → (errors.new ≡ errors.old) ⊎ IsRefusedInPart (R.remaining reader.old) (R.remaining reader.new) }
     ensures fault { result ≢ DONE → (result ≡ FAULT) × ((writer.new ≡ writer.old)
         ⊎ ((W.failed writer.new ≡ true)
-        × ExplainIsCutShort options.now (R.remaining reader.old) (W.contents writer.old) (W.contents writer.new))) }
+        × ExplainIsCutShort options.now (R.remaining reader.old) (R.remaining reader.new) (W.contents writer.old)
+        (W.contents writer.new))) }
 {
     let told = explain(
         alloc,
@@ -189,5 +204,38 @@ fn fault_of(why: ExplainFault, options: &ExplainOptions) -> Fault {
             None => Fault::Memory,
         },
         ExplainFault::Memory => Fault::Memory,
+    }
+}
+
+/// Writes the lines of the script that an answer can still need, and tells how many entries were left out.
+fn compact<R: Source, W: Sink, E: Write>(
+    alloc: Global,
+    reader: &mut R,
+    writer: &mut W,
+    errors: &mut E,
+) -> u8
+    ensures done { result ≡ DONE → CompactIsDone (R.remaining reader.old) (R.remaining reader.new) (W.contents writer.old)
+        (W.contents writer.new) }
+    ensures kept { result ≡ DONE → (R.failed reader.new ≡ R.failed reader.old) × (W.failed writer.new ≡ W.failed writer.old) }
+    ensures fault { result ≢ DONE → (result ≡ FAULT) × ((writer.new ≡ writer.old)
+        ⊎ IsCutShort (R.remaining reader.old) (R.remaining reader.new) (W.contents writer.old) (W.contents writer.new)
+        (W.failed writer.new)) }
+{
+    match compact_script(alloc, reader, writer) {
+        Ok(counts) => {
+            left_out(&counts, errors);
+            DONE
+        }
+        Err(why) => fault(compact_fault(why), errors),
+    }
+}
+
+/// The fault that ended a compaction.
+fn compact_fault(why: CompactFault) -> Fault {
+    match why {
+        CompactFault::Read => Fault::Read,
+        CompactFault::TooLarge => Fault::TooLarge,
+        CompactFault::Write => Fault::Write,
+        CompactFault::Memory => Fault::Memory,
     }
 }

@@ -8,6 +8,7 @@ ghost use Rattle.pgp_cli.specs.Status.{Grows};
 use super::fault::Fault;
 use super::status::{DONE, FAULT, USAGE};
 use clap::Error;
+use pgp_compact_script::Compaction;
 use pgp_core::{Sink, WriteFault, write_out};
 use std::alloc::{AllocError, Global};
 use std::io::{ErrorKind, Write};
@@ -52,7 +53,7 @@ fn tell_source<E: Write>(words: &[String], errors: &mut E) {
     let Some(name) = words.get(1) else {
         return;
     };
-    if name.as_str() != "run" && name.as_str() != "explain" {
+    if !matches!(name.as_str(), "run" | "explain" | "compact") {
         return;
     }
     if words[2..]
@@ -107,4 +108,19 @@ pub fn fault<E: Write>(fault: Fault, errors: &mut E) -> u8
 {
     let _ = writeln!(errors, "pgpeer: {fault}");
     FAULT
+}
+
+/// Tells how many entries a compaction left out, and how many lines were refused.
+pub fn left_out<E: Write>(counts: &Compaction, errors: &mut E) {
+    let left_out = counts.entries.saturating_sub(counts.kept);
+    let _ = write!(
+        errors,
+        "pgpeer: left out {left_out} of {} entries",
+        counts.entries
+    );
+    let _ = match counts.refused {
+        0 => writeln!(errors),
+        1 => writeln!(errors, "; 1 line was refused"),
+        refused => writeln!(errors, "; {refused} lines were refused"),
+    };
 }

@@ -11,16 +11,11 @@ write_or_other Write = inl refl
 write_or_other UnknownGroup = inr (λ is. cc)
 write_or_other Memory = inr (λ is. cc)
 
-pub returns-in-Ok-clause-done : goal.returns-in-Ok-clause-done
-returns-in-Ok-clause-done g c done = record { to = c.in-Ok.ensures.ok.0; explained = c.in-Ok.ensures.ok.1 }
-
 pub returns-in-Err-clause-fault : goal.returns-in-Err-clause-fault
 returns-in-Err-clause-fault g c not_done = (
   c.fault.ensures,
   elim (write_or_other c.in-Err.why) [
-    | inl write ↦
-        let failed = c.explain-told.ensures.write (c.in-Err.is ∙ ap Err write) in
-        inr (failed.0, record { to = failed.1.0; cut = failed.1.1 })
+    | inl write ↦ inr (c.explain-told.ensures.write (c.in-Err.is ∙ ap Err write))
     | inr other ↦ inl (c.in-Err.ensures.unwritten other)
   ],
 )
