@@ -1,10 +1,10 @@
 -- Numbers of the command line.
-use Rattle.std.proofs.Common.{◌≡◌, refl, ◌∷◌, ◌<◌, ◌≤◌, ℕ, Bool, true, false, List, [], ap, cond, arith, ◌^◌, inl, inr}
-use Rattle.std.specs.Prelude.{codes, is_some, Some, None, Option, Result, IsErrAnd}
+use Rattle.std.proofs.Common.{◌≡◌, refl, ◌∷◌, ◌<◌, ◌≤◌, ℕ, Bool, true, false, List, [], cond, arith, ◌^◌, inl, inr}
+use Rattle.std.specs.Prelude.{codes, is_some, Some, None, Result, IsErrAnd}
 use Rattle.std.specs.Str.Parse.{IsNumeral, digits_value, without_leading_plus}
 use Rattle.clap.specs.Values.{kind_of}
 use Rattle.clap.specs.Kinds.{Kinds, HasKind, FailsBy, or_else}
-use Rattle.clap.specs.Walk.{Row, Text, first_of}
+use Rattle.clap.specs.Walk.{Row, first_of}
 use Rattle.clap.specs.ValueTests.{is_unsigned_in}
 use Rattle.clap.specs.declared.builder.value_parser.ValueParser.TheVariants as vp
 use Rattle.clap.specs.declared.error.Error.{Error}

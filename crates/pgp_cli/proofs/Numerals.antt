@@ -1,7 +1,7 @@
 -- Numbers of a group's name.
-use Rattle.std.proofs.Common.{◌≡◌, ◌≢◌, refl, ◌∷◌, ◌<◌, ◌≤◌, ◌^◌, ◌==◌, ◌&&◌, ℕ, Bool, true, false, List, [], length, cond, drop, arith, ap, subst, sym, ◌∙◌}
+use Rattle.std.proofs.Common.{◌≡◌, refl, ◌∷◌, ◌<◌, ◌≤◌, ◌^◌, ◌&&◌, ℕ, Bool, true, false, List, [], cond, arith, ap, subst, sym, ◌∙◌}
 use Rattle.std.proofs.lemmas.Bool.{ltb-true, leb-true, lt-ltb, le-leb, ne_eqb}
-use Rattle.std.specs.Prelude.{Option, Some, None, nat_lt, nat_le, slice_index}
+use Rattle.std.specs.Prelude.{Some, None, nat_lt, nat_le, slice_index}
 use Rattle.std.specs.Bool.{Decides}
 use Rattle.std.specs.Char.{digit_value}
 use Rattle.std.specs.List.{list_all}

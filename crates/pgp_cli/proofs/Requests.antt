@@ -1,5 +1,5 @@
 -- Which of a run, an explanation, a compaction and help the words ask for.
-use Rattle.std.proofs.Common.{◌≡◌, ◌⊎◌, refl, sym, subst, ap, ◌∙◌, ◌∷◌, ℕ, Bool, true, false, List, [], cond, arith, inl, inr}
+use Rattle.std.proofs.Common.{◌≡◌, refl, sym, subst, ap, ◌∙◌, ◌∷◌, ℕ, Bool, true, false, List, [], cond, arith, inl, inr}
 use Rattle.std.specs.Prelude.{codes, is_some, option_map, option_and_then, Some, None, Option, slice_index}
 use Rattle.std.proofs.lemmas.Option.{none-some}
 use Rattle.std.proofs.lemmas.Slice.Eq.{bytes_eq-Decides}
@@ -13,7 +13,7 @@ use Rattle.clap.specs.declared.error.Error.{Error}
 use Rattle.clap.specs.declared.error.kind.ErrorKind.{ErrorKind}
 use Rattle.clap.specs.declared.error.kind.ErrorKind.TheVariants.{DisplayHelp, DisplayVersion, OutOfMemory, ValueValidation}
 use Rattle.pgp_cli.specs.declared.explain_options.ExplainOptions.{ExplainOptions}
-use Rattle.pgp_cli.specs.Options.{Counts, pgpeer_app, counts_asked, counts_in, explanation_asked, explanation_in, explain_faults_in, compact_faults_in, faults_in, is_compact_asked, names, request_faults, rows_after, with_name, AsksForCompact, AsksForExplain, AsksForHelp, AsksForRun, IsRequest}
+use Rattle.pgp_cli.specs.Options.{Counts, pgpeer_app, counts_asked, counts_in, explanation_asked, explanation_in, explain_faults_in, compact_faults_in, faults_in, is_compact_asked, names, request_faults, with_name, AsksForCompact, AsksForExplain, AsksForHelp, AsksForRun, IsRequest}
 
 -- ---- one subcommand
 

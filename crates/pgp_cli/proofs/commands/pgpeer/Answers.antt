@@ -16,4 +16,4 @@ returns c =
     let bare : app_of c.subcommand_required.result ≡ bare_app = search rules in
     let run = c.in_ok-subcommand.ensures.shape (plain_fields _ (ap is_plain c.in_ok-run.ensures)).globals ∙ ap₂ with_app bare c.in_ok-run.ensures in
     let explain = c.in_ok-subcommand-2.ensures.shape (plain_fields _ (ap is_plain c.in_ok-explain.ensures)).globals ∙ ap₂ with_app run c.in_ok-explain.ensures in
-    IfOk-weaker c.subcommand-3.result _ _ (λ r h. h.shape (plain_fields _ (ap is_plain c.compact.ensures)).globals ∙ ap₂ with_app explain c.compact.ensures) c.subcommand-3.ensures
+    IfOk-weaker c.subcommand-3.result _ _ (λ r h. h.shape (plain_fields _ (ap is_plain c.compact-compact.ensures)).globals ∙ ap₂ with_app explain c.compact-compact.ensures) c.subcommand-3.ensures
