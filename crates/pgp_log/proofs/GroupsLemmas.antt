@@ -8,6 +8,7 @@ use Rattle.std.proofs.Math.Seq.{map-set_same}
 use Rattle.std.proofs.lemmas.Bool.{cases_Bool, cases_eq, cases_lt, true≢false}
 use Rattle.std.proofs.Math.Bool.{or-false, or-true}
 use Rattle.std.proofs.lemmas.List.{length-map, map-append}
+use Rattle.std.proofs.lemmas.List.Elements.{All-get_or, All-push, All-set}
 use Rattle.std.proofs.lemmas.List.Folds.{list_any-append}
 use Rattle.std.proofs.lemmas.Option.{get_or_from_slice_get, slice_get_read, same_Some, slice_get-map, slice_get_within, none-some}
 use Rattle.pgp_lists.proofs.Lists.{get-append, get-last, get-set_other, get-set_same, none-at, none-each}
@@ -17,17 +18,17 @@ use Rattle.pgp_ids.specs.declared.incremental.Incremental.{Incremental}
 use Rattle.pgp_ids.specs.declared.pg_id.PgId.{PgId}
 use Rattle.pgp_map.specs.Pools.{is_same_group}
 use Rattle.pgp_map.specs.declared.map.OsdMap.{OsdMap}
-use Rattle.pgp_group.specs.Entries.{inc_of}
-use Rattle.pgp_group.specs.Touched.{is_touched}
+use Rattle.pgp_group.specs.Entries.{inc_of, incs_of}
+use Rattle.pgp_group.specs.Touched.{is_touched, may_move}
 use Rattle.pgp_log.specs.declared.before.MapBefore.{MapBefore}
-use Rattle.pgp_log.specs.Kept.{AreAtPlaces, AreGroupsOf, AreKeptOf, IsKeptOf, IsStep, ids_of, keeps}
+use Rattle.pgp_log.specs.Kept.{AreAllMarked, AreAtPlaces, AreGroupsOf, AreKeptOf, IsKeptOf, IsStep, ids_of, is_marked, keeps}
 use Rattle.pgp_log.specs.Shard.{is_among}
 use Rattle.pgp_log.specs.declared.groups.Groups.{Groups}
 use Rattle.pgp_log.specs.declared.kept.Kept.{Kept}
 use Rattle.pgp_log.specs.Log.{HasInc}
 use Rattle.pgp_log.proofs.KeptLemmas.{kept-inc, kept-untold}
 use Rattle.pgp_log.proofs.RawSetLemmas.{same_group}
-use Rattle.pgp_log.proofs.TouchLemmas.{kept-stays}
+use Rattle.pgp_log.proofs.TouchLemmas.{kept-stays, kept-unseen}
 
 -- ---- elements by their places
 
@@ -78,7 +79,14 @@ pub groups-untold : (log : List Entry) (new : Entry) (groups : Groups) → inc_o
 groups-untold log new groups none untouched are = record {
   each = record { each = λ place kept at. kept-untold log new kept none (untouched place kept at) (are.each.each place kept at) };
   places_are = are.places_are;
+  marked_are = are.marked_are;
 }
+
+-- each of a list of marked groups is marked
+marked-there : (xs : List Kept) (place : ℕ) (kept : Kept) → AreAllMarked xs → slice_get xs place ≡ Some kept → is_marked kept ≡ true
+marked-there xs place kept all at =
+    subst (λ (k : Kept). is_marked k ≡ true) (get_or_from_slice_get xs place kept kept at)
+    (All-get_or (λ (k : Kept). is_marked k ≡ true) xs place kept (slice_get_within xs place kept at) all)
 
 -- an incremental touches no group
 pub groups-stay : (log : List Entry) (inc : Incremental) (before : MapBefore) (after : OsdMap) (groups : Groups) → IsStep log inc before after → ((pg : PgId) → is_touched log (entry.Inc inc) pg ≡ false)
@@ -86,6 +94,18 @@ pub groups-stay : (log : List Entry) (inc : Incremental) (before : MapBefore) (a
 groups-stay log inc before after groups step untouched are = record {
   each = record { each = λ place kept at. kept-stays log inc before after kept step (are.each.each place kept at) (untouched kept.pg) };
   places_are = are.places_are;
+  marked_are = are.marked_are;
+}
+
+-- it moves none of them, while all are marked
+pub groups-sleep : (log : List Entry) (inc : Incremental) (before : MapBefore) (after : OsdMap) (groups : Groups) → IsStep log inc before after → groups.some_worked_out ≡ false → ((pg : PgId) → may_move (incs_of log) inc pg ≡ false)
+    → AreGroupsOf log groups → AreGroupsOf (log ++ entry.Inc inc ∷ []) groups
+groups-sleep log inc before after groups step none still are = record {
+  each = record {
+    each = λ place kept at. kept-unseen log inc before after kept (marked-there groups.kept.items place kept (are.marked_are none) at) step (are.each.each place kept at) (still kept.pg);
+  };
+  places_are = are.places_are;
+  marked_are = are.marked_are;
 }
 
 -- another group than the one at this place
@@ -112,8 +132,9 @@ missing-group groups pg j kept are none at = missing-id groups pg kept.pg j are 
 pub groups-told : (log : List Entry) (new : Entry) (old groups : Groups) (pg : PgId) (place : ℕ) (kept after : Kept) → inc_of new ≡ None
     → ((other : PgId) → is_same_group pg other ≡ false → is_touched log new other ≡ false)
     → hash.get is_same_group old.places pg ≡ Some place → slice_get old.kept.items place ≡ Some kept → (IsKeptOf log kept → IsKeptOf (log ++ new ∷ []) after) → after.pg ≡ kept.pg
-    → groups.places ≡ old.places → groups.kept.items ≡ set old.kept.items place after → AreGroupsOf log old → AreGroupsOf (log ++ new ∷ []) groups
-groups-told log new old groups pg place kept after none untouched is at takes same places items are =
+    → groups.places ≡ old.places → groups.kept.items ≡ set old.kept.items place after → groups.some_worked_out ≡ old.some_worked_out → is_marked after ≡ true
+    → AreGroupsOf log old → AreGroupsOf (log ++ new ∷ []) groups
+groups-told log new old groups pg place kept after none untouched is at takes same places items worked marked are =
     let within : place < length old.kept.items = place-within old pg place are.places_are is in
     let each : AreKeptOf (log ++ new ∷ []) (set old.kept.items place after) = record {
       each = each-set (IsKeptOf log) (IsKeptOf (log ++ new ∷ [])) old.kept.items place kept after within (takes (are.each.each place kept at))
@@ -122,6 +143,8 @@ groups-told log new old groups pg place kept after none untouched is at takes sa
     record {
       each = subst (AreKeptOf (log ++ new ∷ [])) (sym items) each;
       places_are = at-places old groups places (ap ids_of items ∙ ids-set old.kept.items place kept after at same) are.places_are;
+      marked_are = λ none. subst AreAllMarked (sym items)
+          (All-set (λ (k : Kept). is_marked k ≡ true) old.kept.items place after marked (are.marked_are (sym worked ∙ none)));
     }
 
 -- each of them is kept, where one is kept anew
@@ -130,13 +153,14 @@ each-kept log xs i old after within is are = record { each = each-set (IsKeptOf 
 
 -- the group at this place was asked
 pub groups-asked : (log : List Entry) (old groups : Groups) (pg : PgId) (place : ℕ) (kept after : Kept) → hash.get is_same_group old.places pg ≡ Some place → slice_get old.kept.items place ≡ Some kept
-    → (IsKeptOf log kept → IsKeptOf log after) → after.pg ≡ kept.pg → groups.places ≡ old.places → groups.kept.items ≡ set old.kept.items place after → AreGroupsOf log old → AreGroupsOf log groups
-groups-asked log old groups pg place kept after is at stays same places items are =
+    → (IsKeptOf log kept → IsKeptOf log after) → after.pg ≡ kept.pg → groups.places ≡ old.places → groups.kept.items ≡ set old.kept.items place after → groups.some_worked_out ≡ true → AreGroupsOf log old → AreGroupsOf log groups
+groups-asked log old groups pg place kept after is at stays same places items worked are =
     let within : place < length old.kept.items = place-within old pg place are.places_are is in
     let each : AreKeptOf log (set old.kept.items place after) = each-kept log old.kept.items place kept after within (stays (are.each.each place kept at)) are.each in
     record {
       each = subst (AreKeptOf log) (sym items) each;
       places_are = at-places old groups places (ap ids_of items ∙ ids-set old.kept.items place kept after at same) are.places_are;
+      marked_are = λ none. absurd (true≢false (sym worked ∙ none));
     }
 
 -- ---- a group comes
@@ -187,8 +211,8 @@ found-push ids pg old absent are q place at = elim (cases_lt place (length ids))
 
 pub groups-more : (later : List Entry) (old groups : Groups) (kept : Kept) → is_some (hash.get is_same_group old.places kept.pg) ≡ false
     → ((q : PgId) → hash.get is_same_group groups.places q ≡ cond (is_same_group kept.pg q) (Some (length old.kept.items)) (hash.get is_same_group old.places q))
-    → groups.kept.items ≡ old.kept.items ++ kept ∷ [] → IsKeptOf later kept → AreGroupsOf later old → AreGroupsOf later groups
-groups-more later old groups kept absent step items is are =
+    → groups.kept.items ≡ old.kept.items ++ kept ∷ [] → groups.some_worked_out ≡ old.some_worked_out → is_marked kept ≡ true → IsKeptOf later kept → AreGroupsOf later old → AreGroupsOf later groups
+groups-more later old groups kept absent step items worked marked is are =
     let ids : ids_of groups.kept.items ≡ ids_of old.kept.items ++ kept.pg ∷ [] = ap ids_of items ∙ ids-push old.kept.items kept in
     let places : PgId → Option ℕ = hash.get is_same_group old.places in
     let long : length (ids_of old.kept.items) ≡ length old.kept.items = length-map old.kept.items (λ (k : Kept). k.pg) in
@@ -205,6 +229,7 @@ groups-more later old groups kept absent step items is are =
         found = λ q place at. grows q
             ∙ found-push (ids_of old.kept.items) kept.pg places absent are.places_are.found q place (ap (λ (l : List PgId). slice_get l place) (sym ids) ∙ at);
       };
+      marked_are = λ none. subst AreAllMarked (sym items) (All-push (λ (k : Kept). is_marked k ≡ true) old.kept.items kept (are.marked_are (sym worked ∙ none)) marked);
     }
 
 -- ---- which groups are kept

@@ -21,7 +21,7 @@ use Rattle.pgp_map.specs.Held.{HasGroup}
 use Rattle.pgp_map.specs.Map.{epoch}
 use Rattle.pgp_map.specs.MapFault.{map_fault, then_with}
 use Rattle.pgp_map.specs.MapOf.{IsMapOf}
-use Rattle.pgp_map.specs.Pools.{has_group, is_same_group, pool}
+use Rattle.pgp_map.specs.Pools.{has_group, is_same_group, pool, temp}
 use Rattle.pgp_map.specs.declared.map.OsdMap.{OsdMap}
 use Rattle.pgp_sets.proofs.RawSetLemmas.{raw_set-stays}
 use Rattle.pgp_sets.specs.Sets.{members_from_up, membership, moves, raw_set_of, without_down}
@@ -82,6 +82,12 @@ pub raw-anew : (log : List Entry) (inc : Incremental) (before : MapBefore) (afte
     → ((incs : List Incremental) → IsMapOf incs after → raw_set_of incs pg ≡ Some raw) → IsRawSet (incs_of (log ++ entry.Inc inc ∷ [])) pg raw
 raw-anew log inc before after pg raw step placed =
     placed (incs_of (log ++ entry.Inc inc ∷ [])) (subst (λ (l : List Incremental). IsMapOf l after) (sym (grown log inc)) step.after_is)
+
+-- the pg_temp list is read anew
+pub temp-anew : (log : List Entry) (inc : Incremental) (before : MapBefore) (after : OsdMap) (pg : PgId) (list : List (Option ℕ)) → IsStep log inc before after
+    → ((incs : List Incremental) → IsMapOf incs after → list ≡ temp incs pg) → list ≡ temp (incs_of (log ++ entry.Inc inc ∷ [])) pg
+temp-anew log inc before after pg list step says =
+    says (incs_of (log ++ entry.Inc inc ∷ [])) (subst (λ (l : List Incremental). IsMapOf l after) (sym (grown log inc)) step.after_is)
 
 -- ---- groups that a legal log doesn't have
 
@@ -149,8 +155,9 @@ view-now log pg view is =
 pub kept-begun : (log : List Entry) (inc : Incremental) (before : MapBefore) (after : OsdMap) (kept : Kept) → kept.view ≡ None → IsStep log inc before after → has_group (incs_of log) kept.pg ≡ false → has_group (then_with (incs_of log) inc) kept.pg ≡ true
     → ((l : List Entry) → AreNumbered (incs_of l) → IsMapOf (incs_of l) after → has_group (incs_of l) kept.pg ≡ true → made_at (incs_of l) kept.pg.pool ≡ epoch (incs_of l) → IsSilent l kept.pg → IsGroupOf l kept.pg kept.group)
     → ((incs : List Incremental) → IsMapOf incs after → raw_set_of incs kept.pg ≡ Some kept.raw)
+    → ((incs : List Incremental) → IsMapOf incs after → kept.temp ≡ temp incs kept.pg)
     → IsKeptOf (log ++ entry.Inc inc ∷ []) kept
-kept-begun log inc before after kept none step absent there begins placed =
+kept-begun log inc before after kept none step absent there begins placed says =
     let later : List Entry = log ++ entry.Inc inc ∷ [] in
     let back : then_with (incs_of log) inc ≡ incs_of later = sym (grown log inc) in
     record {
@@ -161,6 +168,7 @@ kept-begun log inc before after kept none step absent there begins placed =
           (subst (λ (l : List Incremental). made_at l kept.pg.pool ≡ epoch l) back (made-now (incs_of log) inc kept.pg absent there))
           (silent-inc log inc kept.pg (legal-absent log step.legal kept.pg absent).silent));
       raw_is = raw-anew log inc before after kept.pg kept.raw step placed;
+      temp_is = temp-anew log inc before after kept.pg kept.temp step says;
       view_is = no_view later kept.pg kept.view none;
     }
 
@@ -206,6 +214,7 @@ kept-untold log new kept none untouched is =
       group_is = subst (λ (l : List Incremental). IsGroupOf (log ++ new ∷ []) kept.pg (reaching (epoch l) kept.group)) (sym (incs-other log new none))
           (group-untold log new kept.pg (reaching (epoch (incs_of log)) kept.group) none others is.group_is);
       raw_is = subst (λ (l : List Incremental). IsRawSet l kept.pg kept.raw) (sym (incs-other log new none)) is.raw_is;
+      temp_is = subst (λ (l : List Incremental). kept.temp ≡ temp l kept.pg) (sym (incs-other log new none)) is.temp_is;
       view_is = view-stays log new kept.pg kept.view (view-untold log new kept.pg none others) is.view_is;
     }
 
@@ -215,6 +224,7 @@ pub kept-told : (log : List Entry) (new : Entry) (old : Kept) (group : Group) �
 kept-told log new old group none is told = record {
   group_is = reached-now (log ++ new ∷ []) old.pg group told;
   raw_is = subst (λ (l : List Incremental). IsRawSet l old.pg old.raw) (sym (incs-other log new none)) is.raw_is;
+  temp_is = subst (λ (l : List Incremental). old.temp ≡ temp l old.pg) (sym (incs-other log new none)) is.temp_is;
   view_is = tt;
 }
 
@@ -241,18 +251,19 @@ group-still log old pg stood at is same stands here =
     (subst (λ (g : Group). IsGroupOf log old.pg g) (sym (stands ∙ ap (λ (e : ℕ). reaching e old.group) here)) is.group_is)
 
 pub kept-moved : (log : List Entry) (inc : Incremental) (before : MapBefore) (after : OsdMap) (old moved : Kept) (stood group : Group) (members : Membership) (facts : PrimaryFacts) → IsStep log inc before after → IsKeptOf log old
-    → moved.pg ≡ old.pg → IsRawSet (incs_of (log ++ entry.Inc inc ∷ [])) old.pg moved.raw
+    → moved.pg ≡ old.pg → IsRawSet (incs_of (log ++ entry.Inc inc ∷ [])) old.pg moved.raw → moved.temp ≡ temp (incs_of (log ++ entry.Inc inc ∷ [])) old.pg
     → ((incs : List Incremental) → IsMapOf incs after → option_map (λ made. members_from_up incs made moved.pg (without_down incs made moved.raw)) (pool incs moved.pg.pool) ≡ Some members)
     → IsGroupOf log moved.pg stood → group_facts (incs_of log) moved.pg ≡ Some facts
     → ((l : List Entry) (pg : PgId) (i : Incremental) → IsGroupOf l pg stood → map_fault (incs_of l) i ≡ None → group_facts (incs_of l) pg ≡ Some facts → IsMapOf (then_with (incs_of l) i) after
     → membership (then_with (incs_of l) i) pg ≡ Some members → IsGroupOf (l ++ entry.Inc i ∷ []) pg group)
     → IsKeptOf (log ++ entry.Inc inc ∷ []) (record moved { group = group; view = None })
-kept-moved log inc before after old moved stood group members facts step is same placed lies stands told takes =
+kept-moved log inc before after old moved stood group members facts step is same placed listed lies stands told takes =
     record {
       group_is = reached-now (log ++ entry.Inc inc ∷ []) moved.pg group
           (takes log moved.pg inc stands (step-fine log inc before after step) told step.after_is
           (lies-next log inc before after old moved members step same placed lies));
       raw_is = subst (λ (pg : PgId). IsRawSet (incs_of (log ++ entry.Inc inc ∷ [])) pg moved.raw) (sym same) placed;
+      temp_is = listed ∙ ap (temp (incs_of (log ++ entry.Inc inc ∷ []))) (sym same);
       view_is = tt;
     }
 
@@ -260,12 +271,12 @@ kept-moved log inc before after old moved stood group members facts step is same
 
 -- what it keeps may change, as long as it stands for the same log
 pub kept-anew : (log : List Entry) (old : Kept) (group : Group) → IsKeptOf log old → IsGroupOf log old.pg group → IsKeptOf log (record old { group = group })
-kept-anew log old group is stands = record { group_is = reached-now log old.pg group stands; raw_is = is.raw_is; view_is = is.view_is }
+kept-anew log old group is stands = record { group_is = reached-now log old.pg group stands; raw_is = is.raw_is; temp_is = is.temp_is; view_is = is.view_is }
 
 pub kept-worked_out : (log : List Entry) (old : Kept) (group : Group) (view : View) → IsKeptOf log old → IsGroupOf log old.pg group → scratch log old.pg ≡ Some view
     → IsKeptOf log (record old { group = group; view = Some view })
 kept-worked_out log old group view is stands says =
-    record { group_is = reached-now log old.pg group stands; raw_is = is.raw_is; view_is = view-now log old.pg view says }
+    record { group_is = reached-now log old.pg group stands; raw_is = is.raw_is; temp_is = is.temp_is; view_is = view-now log old.pg view says }
 
 -- ---- the group is told of
 

@@ -23,12 +23,12 @@ use Rattle.pgp_group.proofs.Lists.{any-mapped}
 use Rattle.pgp_group.proofs.ReachingLemmas.{left-unmoved, lies-as-before, reaches-next, untouched-unmoved}
 use Rattle.pgp_group.proofs.UntoldLemmas.{IsLeft, temp-same}
 use Rattle.pgp_group.specs.Entries.{incs_of}
-use Rattle.pgp_group.specs.Touched.{changed_devices, changes_pool, changes_temp, is_touched, may_move, moves_all, turned_devices}
+use Rattle.pgp_group.specs.Touched.{changed_devices, changes_pool, changes_temp, is_touched, may_lie_on, may_move, moves_all, turned_devices}
 use Rattle.pgp_log.specs.declared.before.MapBefore.{MapBefore}
 use Rattle.pgp_log.specs.Kept.{IsKeptOf, IsStep, IsViewOf, is_marked}
-use Rattle.pgp_log.specs.Touch.{changes_no_pool, changes_nothing, tells_nothing, turns_none}
+use Rattle.pgp_log.specs.Touch.{changes_no_pool, changes_nothing, moves_none, tells_nothing, turns_none}
 use Rattle.pgp_log.specs.declared.kept.Kept.{Kept}
-use Rattle.pgp_log.proofs.KeptLemmas.{kept_raw-stays, step-fine, untouched-inc, view-stays}
+use Rattle.pgp_log.proofs.KeptLemmas.{grown, kept_raw-stays, step-fine, untouched-inc, view-stays}
 
 -- ---- an incremental by which the group lies as before
 
@@ -44,9 +44,11 @@ kept-lies : (log : List Entry) (inc : Incremental) (before : MapBefore) (after :
     → IfSome view (IsViewOf (log ++ entry.Inc inc ∷ []) old.pg) → IsKeptOf (log ++ entry.Inc inc ∷ []) (record old { view = view })
 kept-lies log inc before after old view step is still told =
     let fine : map_fault (incs_of log) inc ≡ None = step-fine log inc before after step in
+    let left : IsLeft inc old.pg = left-unmoved (incs_of log) inc old.pg still in
     record {
       group_is = reaches-next log inc old.pg old.group fine (lies-as-before raw_set-stays (incs_of log) inc old.pg fine still) is.group_is;
-      raw_is = kept_raw-stays log inc before after old is step (unmoved inc old.pg (left-unmoved (incs_of log) inc old.pg still));
+      raw_is = kept_raw-stays log inc before after old is step (unmoved inc old.pg left);
+      temp_is = is.temp_is ∙ sym (ap (λ (l : List Incremental). temp l old.pg) (grown log inc) ∙ temp-same (incs_of log) inc old.pg left.temp);
       view_is = told;
     }
 
@@ -77,22 +79,15 @@ moves-touches log inc pg moved = elim (cases_Bool (is_touched log (entry.Inc inc
   | inr untouched ↦ absurd (true≢false (sym moved ∙ untouched-unmoved log inc pg untouched))
 ]
 
--- ---- pg_temp lists
-
--- where the incremental leaves the group's list, the map after it has the list of before
-pub temp-stays : (log : List Entry) (inc : Incremental) (before : MapBefore) (after : OsdMap) (pg : PgId) (list : List (Option ℕ)) → IsStep log inc before after → changes_temp inc pg ≡ false
-    → ((incs : List Incremental) → IsMapOf incs after → list ≡ temp incs pg) → list ≡ temp (incs_of log) pg
-temp-stays log inc before after pg list step left says = says (then_with (incs_of log) inc) step.after_is ∙ temp-same (incs_of log) inc pg left
-
--- an incremental that can't change where the group lies leaves its list
-pub left-temp : (inc : Incremental) (pg : PgId) → (moves_all inc || changes_pool inc pg.pool || changes_temp inc pg) ≡ false → changes_temp inc pg ≡ false
-left-temp inc pg none = (or_parts (moves_all inc || changes_pool inc pg.pool) (changes_temp inc pg) none).1
-
 -- ---- an incremental that changes the epoch alone
 
 empty-list : {X : Type 0} (xs : List X) → (length xs == 0) ≡ true → xs ≡ []
 empty-list [] none = refl
 empty-list (x ∷ xs) none = grind (arith, nat_tests)
+
+not_true : (b : Bool) → not b ≡ true → b ≡ false
+not_true true is = cc
+not_true false is = refl
 
 pub nothing-touched : (log : List Entry) (inc : Incremental) (pg : PgId) → changes_nothing inc ≡ true → is_touched log (entry.Inc inc) pg ≡ false
 nothing-touched log inc pg nothing =
@@ -116,10 +111,6 @@ nothing-touched log inc pg nothing =
       empty-list inc.up_thru f.1,
       empty-list inc.lost e.1,
     ) refl
-  where
-    not_true : (b : Bool) → not b ≡ true → b ≡ false
-    not_true true is = cc
-    not_true false is = refl
 
 -- ---- with which devices the group has to do
 
@@ -141,8 +132,19 @@ pub turned-parts : (test : ℕ → Bool) (inc : Incremental) → (list_any test 
 turned-parts test inc =
     sym (list_any-append test (inc.up ++ inc.down) inc.gone ∙ ap (λ b. b || list_any test inc.gone) (list_any-append test inc.up inc.down))
 
-pub turned-none : (test : ℕ → Bool) (inc : Incremental) → turns_none inc ≡ true → list_any test (turned_devices inc) ≡ false
+turned-none : (test : ℕ → Bool) (inc : Incremental) → turns_none inc ≡ true → list_any test (turned_devices inc) ≡ false
 turned-none test inc none =
     let a = and_parts ((length inc.up == 0) && (length inc.down == 0)) (length inc.gone == 0) none in
     let b = and_parts (length inc.up == 0) (length inc.down == 0) a.0 in
     rw (empty-list inc.up b.0, empty-list inc.down b.1, empty-list inc.gone a.1) refl
+
+-- ---- an incremental that moves no group
+
+pub none-moved : (incs : List Incremental) (inc : Incremental) (pg : PgId) → moves_none inc ≡ true → may_move incs inc pg ≡ false
+none-moved incs inc pg none =
+    let a = and_parts (not (moves_all inc) && changes_no_pool inc) (turns_none inc) none in
+    let b = and_parts (not (moves_all inc)) (changes_no_pool inc) a.0 in
+    let large : moves_all inc ≡ false = not_true (moves_all inc) b.0 in
+    let c = and_parts ((length inc.pools == 0) && (length inc.sizes == 0)) (length inc.temp == 0) b.1 in
+    let d = and_parts (length inc.pools == 0) (length inc.sizes == 0) c.0 in
+    rw (large, turned-none (may_lie_on incs pg) inc a.1, empty-list inc.pools d.0, empty-list inc.sizes d.1, empty-list inc.temp c.1) refl

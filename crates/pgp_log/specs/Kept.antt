@@ -10,7 +10,7 @@ use Rattle.pgp_ids.specs.declared.view.View.{View}
 use Rattle.pgp_map.specs.Map.{epoch}
 use Rattle.pgp_map.specs.MapFault.{then_with}
 use Rattle.pgp_map.specs.MapOf.{IsMapOf}
-use Rattle.pgp_map.specs.Pools.{is_same_group}
+use Rattle.pgp_map.specs.Pools.{is_same_group, temp}
 use Rattle.pgp_map.specs.declared.map.OsdMap.{OsdMap}
 use Rattle.pgp_group.specs.Entries.{incs_of}
 use Rattle.pgp_group.specs.GroupOf.{IsGroupOf}
@@ -31,10 +31,12 @@ abbrev pub IsViewOf : List Entry → PgId → View → Type 0
 IsViewOf log pg view = scratch log pg ≡ Some (told_at (length log) (epoch (incs_of log)) view)
 
 -- the group, brought to the epoch of the log, stands for its group of the log: it needn't have been told of maps by which it
--- lies as before. Its raw set is where the map's tree puts it, and its view, if it is there, is that of the log
+-- lies as before. Its raw set is where the map's tree puts it, its pg_temp list is that of the map, and its view, if it is
+-- there, is that of the log
 pub record IsKeptOf (log : List Entry) (kept : Kept) : Type 0 where
   pub group_is : IsGroupOf log kept.pg (reaching (epoch (incs_of log)) kept.group)
   pub raw_is : IsRawSet (incs_of log) kept.pg kept.raw
+  pub temp_is : kept.temp ≡ temp (incs_of log) kept.pg
   pub view_is : IfSome kept.view (IsViewOf log kept.pg)
 
 -- its view has to be worked out anew
@@ -93,14 +95,19 @@ pub record AreAtPlaces (groups : Groups) : Type 0 where
   pub there : (pg : PgId) (place : ℕ) → hash.get is_same_group groups.places pg ≡ Some place → slice_get (ids_of groups.kept.items) place ≡ Some pg
   pub found : (pg : PgId) (place : ℕ) → slice_get (ids_of groups.kept.items) place ≡ Some pg → hash.get is_same_group groups.places pg ≡ Some place
 
+-- each of the groups is marked
+abbrev pub AreAllMarked : List Kept → Type 0
+AreAllMarked groups = All (λ kept. is_marked kept ≡ true) groups
+
+-- until one of them is worked out, all are marked
+abbrev pub AreMarkedAtFirst : Groups → Type 0
+AreMarkedAtFirst groups = groups.some_worked_out ≡ false → AreAllMarked groups.kept.items
+
 -- the groups are kept, each at its place
 pub record AreGroupsOf (log : List Entry) (groups : Groups) : Type 0 where
   pub each : AreKeptOf log groups.kept.items
   pub places_are : AreAtPlaces groups
-
--- each of the groups is marked
-abbrev pub AreAllMarked : List Kept → Type 0
-AreAllMarked groups = All (λ kept. is_marked kept ≡ true) groups
+  pub marked_are : AreMarkedAtFirst groups
 
 -- the groups that are marked: they have to be worked out anew at the next question
 abbrev pub marks_of : Groups → List PgId

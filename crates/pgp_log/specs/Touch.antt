@@ -15,6 +15,10 @@ tells_nothing inc = turns_none inc && (length inc.up_thru == 0) && (length inc.l
 abbrev pub changes_no_pool : Incremental → Bool
 changes_no_pool inc = (length inc.pools == 0) && (length inc.sizes == 0) && (length inc.temp == 0)
 
+-- the incremental moves no group: it changes no placement, no pool and no pg_temp list, and turns no device
+abbrev pub moves_none : Incremental → Bool
+moves_none inc = not (moves_all inc) && changes_no_pool inc && turns_none inc
+
 -- the incremental changes the epoch alone
 abbrev pub changes_nothing : Incremental → Bool
 changes_nothing inc = not (moves_all inc) && changes_no_pool inc && tells_nothing inc

@@ -20,7 +20,7 @@ ghost use Rattle.pgp_log.specs.Log.{HasInc, epoch_of};
 
 use super::before::MapBefore;
 use super::kept::Kept;
-use super::touch::changes_nothing;
+use super::touch::{changes_nothing, moves_none};
 use pgp_ids::{Entry, Epoch, Incremental, PgId, View};
 use pgp_map::OsdMap;
 use std::alloc::{AllocError, Global};
@@ -32,6 +32,8 @@ pub(crate) struct Groups {
     /// At which place of the list each group stands.
     places: HashMap<PgId, usize>,
     kept: Vec<Kept>,
+    /// Whether one of them was worked out: until then all are marked.
+    some_worked_out: bool,
 }
 
 impl Groups {
@@ -44,6 +46,7 @@ impl Groups {
         Groups {
             places: HashMap::new(alloc),
             kept: Vec::new(alloc),
+            some_worked_out: false,
         }
     }
 
@@ -76,8 +79,8 @@ impl Groups {
         Ok(())
     }
 
-    /// Takes an incremental, which leads from the map before to the one after. One that changes the epoch alone goes to none of them.
-    /// After an `Err` they are of no further use.
+    /// Takes an incremental, which leads from the map before to the one after. One that changes the epoch alone goes to none of
+    /// them, nor does one that moves none, while all are marked. After an `Err` they are of no further use.
     pub(crate) fn absorb_inc(
         &mut self,
         before: &MapBefore,
@@ -93,6 +96,9 @@ impl Groups {
         ensures ids { ids_of self.new.kept.items ≡ ids_of self.old.kept.items }
     {
         if changes_nothing(inc) {
+            return Ok(());
+        }
+        if !self.some_worked_out && moves_none(inc) {
             return Ok(());
         }
         absorb_inc(self.kept.as_mut_slice(), before, after, inc)
@@ -146,6 +152,7 @@ impl Groups {
     {
         match self.find(pg) {
             Some(place) => {
+                self.some_worked_out = true;
                 let found = &mut self.kept[place];
                 found.renew(map, count)?;
                 Ok(true)
@@ -185,6 +192,7 @@ impl Groups {
         ensures wants { OnErr result ((log : List AnyEntry) → AreGroupsOf log self.old → HasInc log) }
         ensures wants_marked { OnErr result (0 < min max (length (marks_of self.old))) }
     {
+        self.some_worked_out = true;
         renew(self.kept.as_mut_slice(), map, count, max)
     }
 }

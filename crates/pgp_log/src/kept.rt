@@ -8,17 +8,18 @@ ghost use Rattle.pgp_ids.specs.declared.incremental.Incremental.{Incremental as 
 ghost use Rattle.pgp_map.specs.Held.{HasGroup};
 ghost use Rattle.pgp_map.specs.MapFault.{then_with};
 ghost use Rattle.pgp_map.specs.MapOf.{IsMapOf};
-ghost use Rattle.pgp_map.specs.Pools.{has_group, temp as temp_of};
+ghost use Rattle.pgp_map.specs.Pools.{has_group, temp};
+ghost use Rattle.pgp_map.specs.declared.map.OsdMap.{OsdMap as AnyMap};
 ghost use Rattle.pgp_group.specs.Entries.{inc_of, incs_of};
 ghost use Rattle.pgp_group.specs.GroupOf.{TellsNothingAhead};
-ghost use Rattle.pgp_group.specs.Touched.{is_touched, changes_temp, has_to_do_with, may_lie_on, may_move, turned_devices};
+ghost use Rattle.pgp_group.specs.Touched.{is_touched, has_to_do_with, may_lie_on, may_move};
 ghost use Rattle.pgp_log.specs.Kept.{IsKeptOf, IsStep, CanStep, StepsOn, IsTouchedBy, KeepsView, is_marked};
 ghost use Rattle.pgp_log.specs.Log.{epoch_of};
 ghost use Rattle.pgp_log.specs.RawSets.{IsRawSet};
 ghost use Rattle.pgp_log.specs.declared.before.MapBefore.{MapBefore as AnyBefore};
 
 use super::before::MapBefore;
-use super::touch::{changes_placement, has_osd, moves, turns_none};
+use super::touch::{changes_placement, has_osd, moves};
 use pgp_group::Group;
 use pgp_ids::{DeviceEpoch, Entry, Epoch, Incremental, OsdId, Osds, PgId, View};
 use pgp_map::OsdMap;
@@ -32,12 +33,14 @@ use std::alloc::{AllocError, Global};
 #[derive(Drop)]
 pub(crate) struct Kept {
     pub(crate) pg: PgId,
-    group: Group,
     /// Where the tree of the last map puts the group.
     raw: Osds,
+    /// The group's pg_temp list by the last map.
+    temp: Osds,
     /// What the entries said of the group when it was last worked out, but for count and epoch. Not there before that, and
     /// where something touched the group since.
     view: Option<View>,
+    group: Group,
 }
 
 impl Kept {
@@ -52,9 +55,10 @@ impl Kept {
     {
         Kept {
             pg,
-            group: Group::begin(alloc, after, pg),
             raw: raw(after, &pg),
+            temp: temp_of(after, pg),
             view: None,
+            group: Group::begin(alloc, after, pg),
         }
     }
 
@@ -81,8 +85,8 @@ impl Kept {
         ensures wants { OnErr result (IsTouchedBy inc.now before.now after.now self.old) }
         ensures pg { self.new.pg ≡ self.old.pg }
     {
-        if !self.may_move(after, inc) {
-            self.mark(after, inc);
+        if !self.may_move(inc) {
+            self.mark(inc);
             return Ok(());
         }
         self.move_on(before, after, inc)?;
@@ -91,19 +95,19 @@ impl Kept {
     }
 
     /// Forgets the view, where the incremental touches the group: it goes by the raw set, the pg_temp list, and what
-    /// `Group::names`. A group that is marked is left as it is. `after` is the map with the incremental.
-    fn mark(&mut self, after: &OsdMap, inc: &Incremental)
-        ensures kept { (log : List AnyEntry) (before : AnyBefore) → IsStep log inc.now before after.now
+    /// `Group::names`. A group that is marked is left as it is.
+    fn mark(&mut self, inc: &Incremental)
+        ensures kept { (log : List AnyEntry) (before : AnyBefore) (after : AnyMap) → IsStep log inc.now before after
             → may_move (incs_of log) inc.now self.old.pg ≡ false
             → IsKeptOf log self.old → IsKeptOf (log ++ entry.Inc inc.now ∷ []) self.new }
-        ensures view { (before : AnyBefore) → KeepsView inc.now before after.now self.old self.new }
+        ensures view { (before : AnyBefore) (after : AnyMap) → KeepsView inc.now before after self.old self.new }
         ensures marked { is_marked self.old ≡ true → is_marked self.new ≡ true }
         ensures pg { self.new.pg ≡ self.old.pg }
     {
         if self.is_marked() {
             return;
         }
-        if self.is_touched(after, inc) {
+        if self.is_touched(inc) {
             self.view = None;
         }
     }
@@ -126,58 +130,45 @@ impl Kept {
         self.group.absorb_members(after, members, facts)
     }
 
-    /// Finds where the tree of the incremental's map puts the group, where that may be elsewhere.
+    /// Finds where the incremental's map puts the group, where that may be elsewhere.
     fn place_again(&mut self, after: &OsdMap, inc: &Incremental)
         requires { HasGroup after.now self.old.pg }
         ensures raw { (log : List AnyEntry) (before : AnyBefore) → IsKeptOf log self.old → IsStep log inc.now before after.now
             → IsRawSet (incs_of (log ++ entry.Inc inc.now ∷ [])) self.old.pg self.new.raw }
+        ensures temp { (log : List AnyEntry) (before : AnyBefore) → IsStep log inc.now before after.now
+            → self.new.temp ≡ temp (incs_of (log ++ entry.Inc inc.now ∷ [])) self.old.pg }
         ensures group { self.new.group ≡ self.old.group }
         ensures pg { self.new.pg ≡ self.old.pg }
     {
+        self.temp = temp_of(after, self.pg);
         if moves(inc, self.pg.pool) {
             self.raw = raw(after, &self.pg);
         }
     }
 
-    /// Whether the group may lie elsewhere by the incremental. `after` is the map with the incremental.
-    fn may_move(&self, after: &OsdMap, inc: &Incremental) -> bool
-        ensures { (log : List AnyEntry) (before : AnyBefore) → IsKeptOf log self.now → IsStep log inc.now before after.now
-            → result ≡ may_move (incs_of log) inc.now self.now.pg }
+    /// Whether the group may lie elsewhere by the incremental.
+    fn may_move(&self, inc: &Incremental) -> bool
+        ensures { (log : List AnyEntry) → IsKeptOf log self.now → result ≡ may_move (incs_of log) inc.now self.now.pg }
     {
-        changes_placement(inc, &self.pg) || self.lies_on_turned(after, inc)
+        changes_placement(inc, &self.pg) || self.lies_on_turned(inc)
     }
 
-    /// Whether the group may lie on a device that the incremental boots, takes down or destroys. `after` is the map with the
-    /// incremental, which changes no pg_temp list of the group.
-    fn lies_on_turned(&self, after: &OsdMap, inc: &Incremental) -> bool
-        ensures { (log : List AnyEntry) (before : AnyBefore) → IsKeptOf log self.now → IsStep log inc.now before after.now
-            → changes_temp inc.now self.now.pg ≡ false
-            → result ≡ list_any (may_lie_on (incs_of log) self.now.pg) (turned_devices inc.now) }
-    {
-        if turns_none(inc) {
-            return false;
-        }
-        self.lies_on_one(after.temp(self.pg), inc)
-    }
-
-    /// Whether the group may lie on a device that the incremental boots, takes down or destroys. `temp` is its pg_temp list.
-    fn lies_on_one(&self, temp: &[Option<OsdId>], inc: &Incremental) -> bool
-        ensures { (log : List AnyEntry) → IsKeptOf log self.now → temp.now ≡ temp_of (incs_of log) self.now.pg
-            → let lies = may_lie_on (incs_of log) self.now.pg in
+    /// Whether the group may lie on a device that the incremental boots, takes down or destroys.
+    fn lies_on_turned(&self, inc: &Incremental) -> bool
+        ensures { (log : List AnyEntry) → IsKeptOf log self.now → let lies = may_lie_on (incs_of log) self.now.pg in
             result ≡ (list_any lies inc.now.up || list_any lies inc.now.down || list_any lies inc.now.gone) }
     {
-        self.lies_on_any(temp, inc.up.as_slice())
-            || self.lies_on_any(temp, inc.down.as_slice())
-            || self.lies_on_any(temp, inc.gone.as_slice())
+        self.lies_on_any(inc.up.as_slice())
+            || self.lies_on_any(inc.down.as_slice())
+            || self.lies_on_any(inc.gone.as_slice())
     }
 
-    /// Whether the group may lie on one of these devices. `temp` is its pg_temp list.
-    fn lies_on_any(&self, temp: &[Option<OsdId>], osds: &[OsdId]) -> bool
-        ensures { (log : List AnyEntry) → IsKeptOf log self.now → temp.now ≡ temp_of (incs_of log) self.now.pg
-            → result ≡ list_any (may_lie_on (incs_of log) self.now.pg) osds.now }
+    /// Whether the group may lie on one of these devices.
+    fn lies_on_any(&self, osds: &[OsdId]) -> bool
+        ensures { (log : List AnyEntry) → IsKeptOf log self.now → result ≡ list_any (may_lie_on (incs_of log) self.now.pg) osds.now }
     {
         for osd in osds {
-            if self.lies_on(temp, *osd) {
+            if self.lies_on(*osd) {
                 return true;
             }
         }
@@ -185,42 +176,39 @@ impl Kept {
     }
 
     /// Whether the group may lie on the device: it stands in the raw set or in pg_temp.
-    fn lies_on(&self, temp: &[Option<OsdId>], osd: OsdId) -> bool
-        ensures { (log : List AnyEntry) → IsKeptOf log self.now → temp.now ≡ temp_of (incs_of log) self.now.pg
-            → result ≡ may_lie_on (incs_of log) self.now.pg osd }
+    fn lies_on(&self, osd: OsdId) -> bool
+        ensures { (log : List AnyEntry) → IsKeptOf log self.now → result ≡ may_lie_on (incs_of log) self.now.pg osd }
     {
-        has_osd(self.raw.as_slice(), osd) || has_osd(temp, osd)
+        has_osd(self.raw.as_slice(), osd) || has_osd(self.temp.as_slice(), osd)
     }
 
-    /// Whether the incremental touches the group. `after` is the map with the incremental.
-    fn is_touched(&self, after: &OsdMap, inc: &Incremental) -> bool
-        ensures { (log : List AnyEntry) (before : AnyBefore) → IsKeptOf log self.now → IsStep log inc.now before after.now
-            → result ≡ is_touched log (entry.Inc inc.now) self.now.pg }
+    /// Whether the incremental touches the group.
+    fn is_touched(&self, inc: &Incremental) -> bool
+        ensures { (log : List AnyEntry) → IsKeptOf log self.now → result ≡ is_touched log (entry.Inc inc.now) self.now.pg }
     {
-        changes_placement(inc, &self.pg) || self.knows_changed(after.temp(self.pg), inc)
+        changes_placement(inc, &self.pg) || self.knows_changed(inc)
     }
 
-    /// Whether the group has to do with a device whose state the incremental changes. `temp` is the group's pg_temp list.
-    fn knows_changed(&self, temp: &[Option<OsdId>], inc: &Incremental) -> bool
-        ensures { (log : List AnyEntry) → IsKeptOf log self.now → temp.now ≡ temp_of (incs_of log) self.now.pg
-            → let knows = has_to_do_with log self.now.pg in result ≡ (list_any knows inc.now.up || list_any knows inc.now.down
-            || list_any knows inc.now.gone || list_any (λ told. knows told.osd) inc.now.up_thru
-            || list_any (λ told. knows told.osd) inc.now.lost) }
+    /// Whether the group has to do with a device whose state the incremental changes.
+    fn knows_changed(&self, inc: &Incremental) -> bool
+        ensures { (log : List AnyEntry) → IsKeptOf log self.now → let knows = has_to_do_with log self.now.pg in
+            result ≡ (list_any knows inc.now.up || list_any knows inc.now.down || list_any knows inc.now.gone
+            || list_any (λ told. knows told.osd) inc.now.up_thru || list_any (λ told. knows told.osd) inc.now.lost) }
     {
-        self.knows_any(temp, inc.up.as_slice())
-            || self.knows_any(temp, inc.down.as_slice())
-            || self.knows_any(temp, inc.gone.as_slice())
-            || self.knows_told(temp, inc.up_thru.as_slice())
-            || self.knows_told(temp, inc.lost.as_slice())
+        self.knows_any(inc.up.as_slice())
+            || self.knows_any(inc.down.as_slice())
+            || self.knows_any(inc.gone.as_slice())
+            || self.knows_told(inc.up_thru.as_slice())
+            || self.knows_told(inc.lost.as_slice())
     }
 
     /// Whether the group has to do with one of these devices.
-    fn knows_any(&self, temp: &[Option<OsdId>], osds: &[OsdId]) -> bool
-        ensures { (log : List AnyEntry) → IsKeptOf log self.now → temp.now ≡ temp_of (incs_of log) self.now.pg
+    fn knows_any(&self, osds: &[OsdId]) -> bool
+        ensures { (log : List AnyEntry) → IsKeptOf log self.now
             → result ≡ list_any (has_to_do_with log self.now.pg) osds.now }
     {
         for osd in osds {
-            if self.knows(temp, *osd) {
+            if self.knows(*osd) {
                 return true;
             }
         }
@@ -228,12 +216,12 @@ impl Kept {
     }
 
     /// Whether the group has to do with a device of which this is told.
-    fn knows_told(&self, temp: &[Option<OsdId>], all: &[DeviceEpoch]) -> bool
-        ensures { (log : List AnyEntry) → IsKeptOf log self.now → temp.now ≡ temp_of (incs_of log) self.now.pg
+    fn knows_told(&self, all: &[DeviceEpoch]) -> bool
+        ensures { (log : List AnyEntry) → IsKeptOf log self.now
             → result ≡ list_any (λ told. has_to_do_with log self.now.pg told.osd) all.now }
     {
         for told in all {
-            if self.knows(temp, told.osd) {
+            if self.knows(told.osd) {
                 return true;
             }
         }
@@ -242,11 +230,10 @@ impl Kept {
 
     /// Whether the group has to do with the device: it stands in the raw set, in pg_temp or in a past interval, or sent a
     /// report.
-    fn knows(&self, temp: &[Option<OsdId>], osd: OsdId) -> bool
-        ensures { (log : List AnyEntry) → IsKeptOf log self.now → temp.now ≡ temp_of (incs_of log) self.now.pg
-            → result ≡ has_to_do_with log self.now.pg osd }
+    fn knows(&self, osd: OsdId) -> bool
+        ensures { (log : List AnyEntry) → IsKeptOf log self.now → result ≡ has_to_do_with log self.now.pg osd }
     {
-        self.lies_on(temp, osd) || self.group.names(osd)
+        self.lies_on(osd) || self.group.names(osd)
     }
 
     /// Takes a report of the group, or another entry that brings no map. `epoch` is the current one. After an `Err` it is of no
@@ -285,4 +272,15 @@ impl Kept {
         }
         Ok(())
     }
+}
+
+/// The group's pg_temp list by the map, as a copy, which takes no memory.
+fn temp_of(map: &OsdMap, pg: PgId) -> Osds
+    ensures { (incs : List AnyIncremental) → IsMapOf incs map.now → result ≡ temp incs pg }
+{
+    let mut copy = Osds::new();
+    for place in map.temp(pg) {
+        copy.push(*place);
+    }
+    copy
 }

@@ -6,18 +6,24 @@ use Rattle.pgp_ids.specs.declared.entry.Entry.{Entry}
 use Rattle.pgp_ids.specs.declared.entry.Entry.TheVariants as entry
 use Rattle.pgp_group.proofs.GroupLemmas.{on_ok}
 use Rattle.pgp_ids.specs.declared.pg_id.PgId.{PgId}
+use Rattle.pgp_group.specs.Entries.{incs_of}
 use Rattle.pgp_group.specs.Touched.{is_touched}
 use Rattle.pgp_log.specs.Kept.{AreAllMarked, AreGroupsOf, AreKeptOf, IsStep, MarksTouched, ids_of, marks_in}
 use Rattle.pgp_log.specs.Shard.{is_among}
 use Rattle.pgp_log.specs.declared.groups.Groups.{Groups}
 use Rattle.pgp_log.specs.declared.kept.Kept.{Kept}
-use Rattle.pgp_log.proofs.GroupsLemmas.{at-places, groups-stay}
-use Rattle.pgp_log.proofs.TouchLemmas.{nothing-touched}
+use Rattle.pgp_log.proofs.GroupsLemmas.{at-places, groups-sleep, groups-stay}
+use Rattle.pgp_log.proofs.MarksLemmas.{ok-two}
+use Rattle.pgp_log.proofs.TouchLemmas.{none-moved, nothing-touched}
 use Rattle.pgp_log.proofs.groups.Groups.absorb_inc.Goals as goal
 
 pub returns-then-changes_nothing-clause-ok : goal.returns-then-changes_nothing-clause-ok
 returns-then-changes_nothing-clause-ok c = λ log are step. groups-stay log c.args.inc.now c.args.before.now c.args.after.now c.args.self.now step
     (λ pg. nothing-touched log c.args.inc.now pg (sym c.changes_nothing.ensures ∙ c.if-changes_nothing.true)) are
+
+pub returns-then-moves_none-clause-ok : goal.returns-then-moves_none-clause-ok
+returns-then-moves_none-clause-ok c = λ log are step. groups-sleep log c.args.inc.now c.args.before.now c.args.after.now c.args.self.now step
+    (search) (λ pg. none-moved (incs_of log) c.args.inc.now pg (sym c.moves_none.ensures ∙ c.if-moves_none.true)) are
 
 pub returns-clause-ok : goal.returns-clause-ok
 returns-clause-ok c =
@@ -29,11 +35,16 @@ returns-clause-ok c =
     let same : ids_of kept ≡ ids_of old.kept.items = c.absorb_inc.ensures.ids ∙ ap ids_of c.as_mut_slice.ensures.value in
     let long : length kept ≡ old.kept.len = sym (length-map kept (λ (k : Kept). k.pg)) ∙ ap length same ∙ length-map old.kept.items (λ (k : Kept). k.pg) ∙ sym old.kept.ok.0 in
     let is : (with_items old.kept kept).items ≡ kept = with_items_is old.kept kept long in
-    on_ok c.absorb_inc.result
+    ok-two c.absorb_inc.result
     ((log : List Entry) → AreKeptOf log first → IsStep log inc c.args.before.now c.args.after.now → AreKeptOf (log ++ entry.Inc inc ∷ []) kept)
+    (AreAllMarked first → AreAllMarked kept)
     ((log : List Entry) → AreGroupsOf log old → IsStep log inc c.args.before.now c.args.after.now → AreGroupsOf (log ++ entry.Inc inc ∷ []) new)
-    (λ given log are step. record { each = subst (AreKeptOf (log ++ entry.Inc inc ∷ [])) (sym is) (given log (subst (AreKeptOf log) (sym c.as_mut_slice.ensures.value) are.each) step); places_are = at-places old new refl (ap ids_of is ∙ same) are.places_are })
-    c.absorb_inc.ensures.ok
+    (λ given still log are step. record {
+      each = subst (AreKeptOf (log ++ entry.Inc inc ∷ [])) (sym is) (given log (subst (AreKeptOf log) (sym c.as_mut_slice.ensures.value) are.each) step);
+      places_are = at-places old new refl (ap ids_of is ∙ same) are.places_are;
+      marked_are = λ none. subst AreAllMarked (sym is) (still (subst AreAllMarked (sym c.as_mut_slice.ensures.value) (are.marked_are none)));
+    })
+    c.absorb_inc.ensures.ok c.absorb_inc.ensures.marked
 
 pub returns-clause-marks : goal.returns-clause-marks
 returns-clause-marks c =

@@ -38,7 +38,7 @@ returns-in-Some-clause-ok c =
     on_ok c.absorb_report.result
     ((log : List Entry) → inc_of new ≡ None → c.args.epoch ≡ epoch_of log → TellsNothingAhead log kept.pg new → IsKeptOf log kept → IsKeptOf (log ++ new ∷ []) after)
     ((log : List Entry) → inc_of new ≡ None → c.args.epoch ≡ epoch_of log → ((q : PgId) → TellsNothingAhead log q new) → ((other : PgId) → is_same_group pg other ≡ false → is_touched log new other ≡ false) → AreGroupsOf log old → AreGroupsOf (log ++ new ∷ []) groups)
-    (λ given log none now past untouched are. groups-told log new old groups pg place kept after none untouched is at (given log none now (past kept.pg)) c.absorb_report.ensures.pg refl refl are)
+    (λ given log none now past untouched are. groups-told log new old groups pg place kept after none untouched is at (given log none now (past kept.pg)) c.absorb_report.ensures.pg refl refl refl c.absorb_report.ensures.marked are)
     c.absorb_report.ensures.ok
 
 pub returns-in-Some-clause-wants : goal.returns-in-Some-clause-wants

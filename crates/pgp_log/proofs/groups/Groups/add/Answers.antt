@@ -1,4 +1,4 @@
-use Rattle.std.proofs.Common.{◌≡◌, true, List, [], ◌∷◌, ◌++◌, ℕ, Some, cond, sym, ap, ◌∙◌, subst}
+use Rattle.std.proofs.Common.{◌≡◌, true, List, [], ◌∷◌, ◌++◌, ℕ, Some, cond, refl, sym, ap, ◌∙◌, subst}
 use Rattle.std.specs.HashMap as hash
 use Rattle.std.proofs.lemmas.List.Elements.{All-push}
 use Rattle.pgp_ids.specs.declared.entry.Entry.TheVariants as entry
@@ -17,7 +17,7 @@ returns-clause-ok c = λ log inc before step absent there are.
     (rw c.begin.ensures.pg (sym c.contains_key.ensures ∙ c.if-contains_key.false))
     (λ q. rw c.begin.ensures.pg (c.in_ok-insert.ensures.updates.0 q
     ∙ ap (λ (n : ℕ). cond (is_same_group c.args.pg q) (Some n) (hash.get is_same_group c.args.self.now.places q)) (c.len-place.ensures ∙ c.args.self.now.kept.ok.0)))
-    c.in_ok-push.ensures.items (c.begin.ensures.is log inc before step absent there) are
+    c.in_ok-push.ensures.items refl c.begin.ensures.marked (c.begin.ensures.is log inc before step absent there) are
 
 pub returns-clause-marks : goal.returns-clause-marks
 returns-clause-marks c = λ other differs.

@@ -24,7 +24,7 @@ returns-in_ok-renew-in-Some-clause-are c = λ log are lies long.
     let after : Kept = c.renew.new.self in
     let is : hash.get is_same_group old.places pg ≡ Some place = sym c.find.ensures ∙ c.in-Some.is in
     let at : slice_get old.kept.items place ≡ Some kept = kept-at old pg place kept c.requires is c.index_mut-found.ensures.value in
-    groups-asked log old _ pg place kept after is at (λ of. c.renew.ensures.kept log of lies long) c.renew.ensures.pg refl refl are
+    groups-asked log old _ pg place kept after is at (λ of. c.renew.ensures.kept log of lies long) c.renew.ensures.pg refl refl refl are
 
 pub returns-in_err-renew-in-Some-clause-are : goal.returns-in_err-renew-in-Some-clause-are
 returns-in_err-renew-in-Some-clause-are c = λ log are lies long.
@@ -35,7 +35,7 @@ returns-in_err-renew-in-Some-clause-are c = λ log are lies long.
     let after : Kept = c.renew.new.self in
     let is : hash.get is_same_group old.places pg ≡ Some place = sym c.find.ensures ∙ c.in-Some.is in
     let at : slice_get old.kept.items place ≡ Some kept = kept-at old pg place kept c.requires is c.index_mut-found.ensures.value in
-    groups-asked log old _ pg place kept after is at (λ of. c.renew.ensures.kept log of lies long) c.renew.ensures.pg refl refl are
+    groups-asked log old _ pg place kept after is at (λ of. c.renew.ensures.kept log of lies long) c.renew.ensures.pg refl refl refl are
 
 pub returns-in_err-renew-in-Some-clause-wants : goal.returns-in_err-renew-in-Some-clause-wants
 returns-in_err-renew-in-Some-clause-wants c =

@@ -3,4 +3,4 @@ use Rattle.pgp_log.proofs.KeptLemmas.{kept-begun}
 use Rattle.pgp_log.proofs.kept.Kept.begin.Goals as goal
 
 pub returns-clause-is : goal.returns-clause-is
-returns-clause-is c = λ log inc before step absent there. kept-begun log inc before c.args.after.now _ refl step absent there c.begin.ensures c.raw.ensures
+returns-clause-is c = λ log inc before step absent there. kept-begun log inc before c.args.after.now _ refl step absent there c.begin.ensures c.raw.ensures c.temp_of.ensures

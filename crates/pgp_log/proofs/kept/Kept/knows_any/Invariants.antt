@@ -1,8 +1,6 @@
 use Rattle.std.proofs.Common.{◌≡◌, List, false, take}
 use Rattle.std.specs.List.{list_any}
 use Rattle.pgp_ids.specs.declared.entry.Entry.{Entry}
-use Rattle.pgp_map.specs.Pools.{temp}
-use Rattle.pgp_group.specs.Entries.{incs_of}
 use Rattle.pgp_group.specs.Touched.{has_to_do_with}
 use Rattle.pgp_log.specs.Kept.{IsKeptOf}
 use Rattle.pgp_log.proofs.kept.Kept.knows_any.Given as goal
@@ -10,5 +8,5 @@ use Rattle.pgp_log.proofs.kept.Kept.knows_any.Given as goal
 -- none of the devices so far is one with which the group has to do
 abbrev pub invariant-loop-osd : goal.invariant-loop-osd
 invariant-loop-osd l =
-    (log : List Entry) → IsKeptOf log l.self → l.temp ≡ temp (incs_of log) l.self.pg
+    (log : List Entry) → IsKeptOf log l.self
     → list_any (has_to_do_with log l.self.pg) (take l.osd-index l.osds) ≡ false

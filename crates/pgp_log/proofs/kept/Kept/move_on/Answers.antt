@@ -55,6 +55,6 @@ returns-clause-ok c =
     (λ given log kept step.
     let stands : IsGroupOf log moved.pg stood = group-still log old moved.pg stood at kept c.place_again.ensures.pg is (c.epoch.ensures (incs_of log) inc step.before_is) in
     kept-moved log inc before after old moved stood group c.filter-members.result facts step kept c.place_again.ensures.pg
-    (c.place_again.ensures.raw log before kept step) c.filter-members.ensures
+    (c.place_again.ensures.raw log before kept step) (c.place_again.ensures.temp log before step) c.filter-members.ensures
     stands (ap (option_map (primary_facts (incs_of log))) (c.primary.ensures log moved.pg stands) ∙ ap Some (sym (c.facts-facts.ensures (incs_of log) inc step.before_is step.after_is))) given)
     c.absorb_members.ensures.ok
