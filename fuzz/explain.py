@@ -177,7 +177,9 @@ def named(group: Group) -> str:
 def words_of(end: End, group: Group, found: Dict[str, Any]) -> wording.Words:
     """The words for an explanation of a group."""
     size, min_size = end.log.maps.sizes.last(group[0], end.log.maps.epoch, None)
-    return wording.Words(found, end.log.maps.code(group[0]), size, min_size, end.log.view(group)["best"])
+    it = reasons.Reckoned(end.log, group)
+    beside = wording.Beside(size, min_size, it.view["best"], it.lacks(), it.fallen(), it.view["missing"])
+    return wording.Words(found, it.code, beside)
 
 
 class Told(NamedTuple):
