@@ -141,14 +141,9 @@ def as_json(value: Any) -> Any:
 
 
 def wrong_sets(found: Any, wanted: List[Devices]) -> Optional[str]:
-    """What is wrong with the sets that `explain` lists: it may stop at MOST_SETS, and then has to say so."""
-    sets, more = found["sets"], found["more"]
-    right = as_json(wanted)
-    if not more and sets == right:
-        return None
-    if more and len(sets) >= MOST_SETS and sets == right[: len(sets)]:
-        return None
-    return f"{found} and not {right}"
+    """What is wrong with the sets that `explain` lists: the first MOST_SETS, and whether there are more."""
+    right = {"sets": as_json(wanted[:MOST_SETS]), "more": len(wanted) > MOST_SETS}
+    return None if found == right else f"{found} and not {right}"
 
 
 def wrong_group(found: Dict[str, Any], end: End, group: Group, sets: Sets) -> Iterator[str]:
