@@ -11,7 +11,10 @@ Writes into FOLDER (by default bench/out) these files, or those named alone, whi
                   down, boots others and tells of up_thru
   map.jsonl       256 incrementals that make the largest map: 4,096 devices in 256 hosts in 8 racks, and 255 pools of
                   16,384 groups in all, each with a pg_temp list
-  steps.jsonl     the same, and then 2,000 incrementals as the later ones of incs.jsonl
+  map_asked.jsonl     the same, and then a question about each group
+  down_asked.jsonl    16,384 groups of three copies on 48 devices, each with four intervals that may have gone read-write; then
+                      these devices go down, each group moves to another one, and a question about each group
+  steps.jsonl     the map of map.jsonl, and then 2,000 incrementals as the later ones of incs.jsonl
   traces.jsonl    500 traces, each as long as a line of at most 1,048,576 bytes may be, with lists of 16 places
   full.jsonl      65,535 incrementals as those of incs.jsonl, which fill the log
   full_infos.jsonl    a full log of a map of 16,384 groups of three copies, of whose first 7,168 each member sends three
@@ -104,6 +107,43 @@ def largest_map(rng, _count):
     for pool in pools:
         temps = [[pool["id"], pg, rng.sample(devices, 3)] for pg in range(pool["pg_num"])]
         yield compact({"op": "inc", "epoch": pool["id"] + 1, "temp": temps})
+
+
+def map_asked(rng, count):
+    """Gives the largest map, and a question about each of its groups."""
+    yield from largest_map(rng, count)
+    for pool in range(1, 256):
+        yield from asked(pool, 128 if pool == 255 else 64)
+
+
+def asked(pool, groups):
+    """Gives a question about each group of a pool."""
+    for pg in range(groups):
+        yield compact({"op": "ask", "pg": [pool, pg]})
+
+
+def down_asked(rng, _count):
+    """Gives groups that are down behind four intervals each, and a question about each group.
+
+    A group has a copy in each of three quarters of the devices. These go down in turn, so that two copies take writes at a
+    time. Then all three are down, and each group has a list with a device of the fourth quarter.
+    """
+    first, second, third, last = (list(range(16 * at, 16 * at + 16)) for at in range(4))
+    pools = range(1, 17)
+    yield compact({"op": "inc", "epoch": 1, "up": list(range(64)), "pools": [copies(it, 1024) for it in pools], "crush": tree(4, 4, 4)})
+    for pool in pools:
+        temps = [[pool, pg, [rng.choice(it) for it in (first, second, third)]] for pg in range(1024)]
+        yield compact({"op": "inc", "epoch": pool + 1, "temp": temps})
+    up, down = first + second + third, []
+    for epoch, falls in zip(range(18, 26, 2), ([], third, second, first)):
+        yield compact({"op": "inc", "epoch": epoch, "up": down, "down": falls})
+        yield compact({"op": "inc", "epoch": epoch + 1, "up_thru": [[osd, epoch] for osd in up if osd not in falls]})
+        down = falls
+    yield compact({"op": "inc", "epoch": 26, "down": second + third})
+    for pool in pools:
+        yield compact({"op": "inc", "epoch": pool + 26, "temp": [[pool, pg, [rng.choice(last)]] for pg in range(1024)]})
+    for pool in pools:
+        yield from asked(pool, 1024)
 
 
 def steps(rng, count):
@@ -339,6 +379,8 @@ INPUTS = {
     "locate": (locate, 200_000),
     "incs": (incs, 2_000),
     "map": (largest_map, 256),
+    "map_asked": (map_asked, 256 + 16_384),
+    "down_asked": (down_asked, 42 + 16_384),
     "steps": (steps, 2_256),
     "full": (incs, 65_535),
     "full_infos": (full_infos, 65_535),

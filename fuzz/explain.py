@@ -141,14 +141,9 @@ def as_json(value: Any) -> Any:
 
 
 def wrong_sets(found: Any, wanted: List[Devices]) -> Optional[str]:
-    """What is wrong with the sets that `explain` lists: it may stop at MOST_SETS, and then has to say so."""
-    sets, more = found["sets"], found["more"]
-    right = as_json(wanted)
-    if not more and sets == right:
-        return None
-    if more and len(sets) >= MOST_SETS and sets == right[: len(sets)]:
-        return None
-    return f"{found} and not {right}"
+    """What is wrong with the sets that `explain` lists: the first MOST_SETS, and whether there are more."""
+    right = {"sets": as_json(wanted[:MOST_SETS]), "more": len(wanted) > MOST_SETS}
+    return None if found == right else f"{found} and not {right}"
 
 
 def wrong_group(found: Dict[str, Any], end: End, group: Group, sets: Sets) -> Iterator[str]:
@@ -177,7 +172,9 @@ def named(group: Group) -> str:
 def words_of(end: End, group: Group, found: Dict[str, Any]) -> wording.Words:
     """The words for an explanation of a group."""
     size, min_size = end.log.maps.sizes.last(group[0], end.log.maps.epoch, None)
-    return wording.Words(found, end.log.maps.code(group[0]), size, min_size, end.log.view(group)["best"])
+    it = reasons.Reckoned(end.log, group)
+    beside = wording.Beside(size, min_size, it.view["best"], it.lacks(), it.fallen(), it.view["missing"])
+    return wording.Words(found, it.code, beside)
 
 
 class Told(NamedTuple):

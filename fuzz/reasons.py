@@ -130,6 +130,16 @@ class Reckoned:
         heard = {tuple(info["from"]) for info in self.heard()}
         return [member for member in self.view["probe"] if member not in heard]
 
+    def lacks(self) -> int:
+        """How many more slots than those of the acting members would be enough."""
+        return lacking(self.code, (slot for _, slot in codes.members(self.code, self.view["acting"])))
+
+    def fallen(self) -> List[int]:
+        """The devices, down now, that were acting in the past intervals since the group last began to serve."""
+        since = [it for it in self.past if self.view["les"] <= it.last]
+        acting = {(osd, it.first) for it in since for osd, _ in codes.members(self.code, it.members.acting)}
+        return sorted({osd for osd, first in acting if self.maps.status(osd, first) == "Down"})
+
     def shown(self) -> Dict[str, Any]:
         """All that `explain --json` says of the group but the sentence and the smallest sets."""
         keys = ("acting", "acting_primary", "up", "up_primary", "epoch", "first", "les", "verdict")

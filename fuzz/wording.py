@@ -1,6 +1,6 @@
-"""What `pgpeer explain` says in words, by the object that it gives with --json and by the group's pool."""
+"""What `pgpeer explain` says in words, by the object that it gives with --json and by what stands beside it."""
 
-from typing import Any, Dict, Iterable, Iterator, List, Optional, Sequence
+from typing import Any, Dict, Iterable, Iterator, List, NamedTuple, Optional, Sequence
 
 import reasons
 from codes import Code
@@ -61,11 +61,22 @@ def shifted(found: Any, offset: int, key: str = "") -> Any:
     return found + offset if is_epoch and found else found
 
 
+class Beside(NamedTuple):
+    """What the words of a group say that its object has in no key but the sentence."""
+
+    size: int
+    min_size: int
+    best: Any  # the member with the best copy
+    lacks: int  # so many slots of the acting set
+    fallen: List[int]  # who of those that served the group last is down
+    missing: List[Shown]  # how the other copies compare with the best one, as `ask` answers
+
+
 class Words:
     """The words of a group."""
 
-    def __init__(self, found: Shown, code: Code, size: int, min_size: int, best: Any):
-        self.found, self.code, self.size, self.min_size, self.best = found, code, size, min_size, best
+    def __init__(self, found: Shown, code: Code, beside: Beside):
+        self.found, self.code, self.beside = found, code, beside
 
     def member(self, member: Sequence[int]) -> str:
         return f"osd.{member[0]}" + ("" if self.code is None else f"({member[1]})")
@@ -102,21 +113,34 @@ class Words:
         return f"No copy that was heard of is complete and recent enough: {knows}, and no complete copy has served since."
 
     def on_short(self) -> str:
-        acting = [slot for slot, osd in enumerate(self.found["acting"]) if osd is not None]
-        if len(acting) < self.min_size:
-            return f"Its acting set has {counted(len(acting), 'member')}, and needs at least {self.min_size}."
-        return "The members of its acting set hold too few shards to give objects back."
+        members, least, lacks = sum(osd is not None for osd in self.found["acting"]), self.beside.min_size, self.beside.lacks
+        if members < least:
+            waits = f"it waits for {counted(least - members, 'more device')}"
+            says = f"Its acting set has {counted(members, 'member')}, and needs at least {least}: {waits}."
+        else:
+            waits = f"it waits for {counted(lacks, 'more shard')}"
+            says = f"The members of its acting set hold too few shards to give objects back: {waits}."
+        fallen = self.beside.fallen
+        return says + (f" Of those that served it last, {devices(fallen)} {are(len(fallen))} down." if fallen else "")
 
     def on_needlog(self) -> str:
         lacks = f"lacks the {runs('write', self.found['gaps'])}" if self.found["gaps"] else "is not in order"
-        return f"The log of {self.member(self.best)}, which has the best copy, {lacks}."
+        return f"The log of {self.member(self.beside.best)}, which has the best copy, {lacks}."
 
     def on_needupthru(self) -> str:
         wanted = f"up_thru {self.found['first']} or later"
         return f"The map has yet to record that {self.leader()}, which leads it, is up in this interval: {wanted}."
 
     def on_serve(self) -> str:
-        return f"It serves, led by {self.leader()}."
+        lags = listed(name for name in map(self.behind, self.beside.missing) if name)
+        return f"It serves, led by {self.leader()}." + (f" {lags}." if lags else "")
+
+    def behind(self, peer: Shown) -> str:
+        """A member and what it lacks; empty where it has all."""
+        lacks = {"backfill": "needs a backfill", "diverged": "has diverged"}.get(peer["state"])
+        if peer.get("objects"):
+            lacks = f"lacks {counted(len(peer['objects']), 'object')}"
+        return f"{self.member(peer['member'])} {lacks}" if lacks else ""
 
     # The lines
 
@@ -126,7 +150,7 @@ class Words:
         yield f"group {pool}.{pg:x} at epoch {found['epoch']}: {found['verdict']}"
         yield found["says"]
         yield ""
-        sizes = f"(of size {self.size}, at least {self.min_size})"
+        sizes = f"(of size {self.beside.size}, at least {self.beside.min_size})"
         yield f"acting {places(found['acting'])}, led by {self.leader()}, since epoch {found['first']} {sizes}"
         yield f"up     {places(found['up'])}"
         served = f"It is known to have last begun to serve in epoch {found['les']}."

@@ -34,7 +34,8 @@ TOO_LARGE = b"pgpeer: the script has more than 1000000 lines or 4294967296 bytes
 
 @dataclass
 class Case:
-    """A run, and what it has to end with; None stands for any text that isn't empty, which for errors has `tells` in it."""
+    """A run, and what it has to end with; None stands for any text that isn't empty. The errors have `tells` in them,
+    and the output `says`."""
 
     name: str
     words: list
@@ -45,6 +46,7 @@ class Case:
     reads: Optional[str] = None
     writes: Optional[str] = None
     tells: bytes = b""
+    says: bytes = b""
 
 
 CASES = [
@@ -71,9 +73,9 @@ CASES = [
     Case("an input that can't be read to compact it", ["compact"], 3, reads="/", errors=READ_FAULT),
     Case("a compaction that can't be written", ["compact"], 3, script=COMPACT, writes="/dev/full", errors=WRITE_FAULT),
     Case("a compaction that nobody reads", ["compact"], 3, script=COMPACT, writes=NOBODY, errors=WRITE_FAULT),
-    Case("help", ["--help"], 0, output=None),
+    Case("help", ["--help"], 0, output=None, says=b"pgpeer explain 1.a <"),
     Case("help on a run", ["run", "--help"], 0, output=None),
-    Case("help on an explanation", ["explain", "--help"], 0, output=None),
+    Case("help on an explanation", ["explain", "--help"], 0, output=None, says=b"pgpeer explain 1.a <"),
     Case("help on a compaction", ["compact", "--help"], 0, output=None),
     Case("help that can't be written", ["--help"], 3, writes="/dev/full", errors=WRITE_FAULT),
     Case("the version", ["--version"], 0, output=b"pgpeer 0.1.0\n"),
@@ -120,7 +122,7 @@ def wrong(program, case):
     status, output, errors = run(program, case)
     if status != case.status:
         return f"status {status} and not {case.status}"
-    if not is_text(output, case.output):
+    if not is_text(output, case.output) or case.says not in output:
         return f"output {output[:200]!r}"
     if not is_text(errors, case.errors) or case.tells not in errors:
         return f"errors {errors[:200]!r}"

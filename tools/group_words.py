@@ -32,11 +32,8 @@ def reason(step: Step, pool: Pool) -> str:
 
 
 def at_end(step: Step, pool: Pool, why: Optional[Reasons]) -> str:
-    """The verdict after the last step and why, as the program explains it; and who lacks something, where the group serves."""
-    if why is None:
-        return reason(step, pool)
-    lacks = f" {behind(step.view, pool)}." if why.verdict == "Serve" and step.view["missing"] else ""
-    return f"{why.verdict}. {why.says}{lacks}"
+    """The verdict after the last step and why, as the program explains it."""
+    return reason(step, pool) if why is None else f"{why.verdict}. {why.says}"
 
 
 def short(view: Dict[str, Any], pool: Pool) -> str:

@@ -5,7 +5,8 @@
 
 PROGRAM is crates/pgpeer/out/pgpeer where none is given. Each script examples/NAME.jsonl is run and its answers compared
 with examples/NAME.answers.jsonl. Where examples/NAME.txt is there, `explain 1.0` has to print just that of the script, and
-`explain 1.0 --json` what stands in examples/NAME.explain.json. Where examples/NAME.compacted.jsonl is there, `compact` has to
+`explain 1.0 --json` what stands in examples/NAME.explain.json; in the same way `explain` and `explain --json` what stands in
+examples/NAME.summary.txt and examples/NAME.summary.json. Where examples/NAME.compacted.jsonl is there, `compact` has to
 write just that of the script, and of itself. Of docs/FORMAT.md each line of JSON that stands indented by four is run as the
 line after examples/first.jsonl, whose map it speaks of: it may be answered neither as no command nor by a fault of its line,
 but where the next indented line is its answer, and then that has to be it. Exits with 1 where an answer differs.
@@ -19,6 +20,12 @@ import sys
 
 ROOT = pathlib.Path(__file__).resolve().parent.parent
 FAULTS_OF_A_LINE = range(30, 35)
+EXPLANATIONS = {
+    ".txt": ["explain", "1.0"],
+    ".explain.json": ["explain", "1.0", "--json"],
+    ".summary.txt": ["explain"],
+    ".summary.json": ["explain", "--json"],
+}
 
 
 def answers(program, script, *words):
@@ -36,9 +43,11 @@ def examples():
 
 def explanations():
     """Gives each explanation beside a script with that script, and with the words that print it."""
-    for suffix, words in ((".txt", ["explain", "1.0"]), (".explain.json", ["explain", "1.0", "--json"])):
+    for suffix, words in EXPLANATIONS.items():
         for wanted in sorted((ROOT / "examples").glob(f"*{suffix}")):
-            yield wanted, wanted.with_name(wanted.name[: -len(suffix)] + ".jsonl"), words
+            name = wanted.name[: -len(suffix)]
+            if "." not in name:
+                yield wanted, wanted.with_name(name + ".jsonl"), words
 
 
 def compactions():

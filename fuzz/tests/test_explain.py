@@ -210,8 +210,14 @@ class Wording(unittest.TestCase):
         "up": [], "up_primary": None, "verdict": "Down",
     }  # fmt: skip
 
-    def words(self, code=None, best=None, **more):
-        return wording.Words({**self.FOUND, **more}, code, 3, 2, best)
+    MISSING = [
+        {"member": [2, 3], "objects": {}, "state": "missing"}, {"member": [3, 0], "objects": {"a": [1, 1]}, "state": "missing"},
+        {"member": [4, 1], "state": "backfill"}, {"member": [5, 2], "state": "diverged"},
+    ]  # fmt: skip
+
+    def words(self, code=None, best=None, lacks=0, fallen=(), missing=(), **more):
+        beside = wording.Beside(3, 2, best, lacks, list(fallen), list(missing))
+        return wording.Words({**self.FOUND, **more}, code, beside)
 
     def test_sentences(self):
         info = {"from": [1, 2], "history_les": 9, "complete": True}
@@ -222,12 +228,14 @@ class Wording(unittest.TestCase):
             (self.words(2, verdict="Waiting", unheard=[[2, 1], [2, 3]]), "It waits to hear from osd.2(1) and osd.2(3)."),
             (self.words(verdict="Incomplete"), "No complete copy was heard of."),
             (self.words(2, verdict="Incomplete", heard=[info]), "No copy that was heard of is complete and recent enough: osd.1(2) knows that the group served in epoch 9, and no complete copy has served since."),
-            (self.words(verdict="Short"), "Its acting set has 1 member, and needs at least 2."),
-            (self.words(3, verdict="Short", acting=[0, 1]), "The members of its acting set hold too few shards to give objects back."),
+            (self.words(verdict="Short"), "Its acting set has 1 member, and needs at least 2: it waits for 1 more device."),
+            (self.words(verdict="Short", acting=[], fallen=[0, 4]), "Its acting set has 0 members, and needs at least 2: it waits for 2 more devices. Of those that served it last, osd.0 and osd.4 are down."),
+            (self.words(3, verdict="Short", acting=[0, 1], lacks=1, fallen=[3]), "The members of its acting set hold too few shards to give objects back: it waits for 1 more shard. Of those that served it last, osd.3 is down."),
             (self.words(best=(4, 0), verdict="NeedLog"), "The log of osd.4, which has the best copy, is not in order."),
             (self.words(best=(4, 0), verdict="NeedLog", gaps=[[5, 7], [9, 9]]), "The log of osd.4, which has the best copy, lacks the writes 5 to 7 and 9."),
             (self.words(verdict="NeedUpThru"), "The map has yet to record that osd.1, which leads it, is up in this interval: up_thru 22 or later."),
             (self.words(verdict="Serve"), "It serves, led by osd.1."),
+            (self.words(2, verdict="Serve", missing=self.MISSING), "It serves, led by osd.1. osd.3(0) lacks 1 object, osd.4(1) needs a backfill and osd.5(2) has diverged."),
         ):  # fmt: skip
             self.assertEqual(words.says(), says)
 

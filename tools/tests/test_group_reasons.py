@@ -104,11 +104,12 @@ class Pictures(unittest.TestCase):
         self.assertEqual((drawing.head, drawing.foot), (["At the end: Serve. It serves, led by osd.0."], []))
         self.assertEqual(drawing.foot_y, drawing.legend_y)
 
-    def test_who_lacks_something_where_it_serves_is_told_too(self):
+    def test_who_lacks_something_where_it_serves_is_told_in_the_words_of_the_program(self):
         last = step(1)
-        last.view["missing"] = [{"member": [2, 0], "state": "missing", "objects": {"a": [1, 1]}}]
-        why = reasons(verdict="Serve", says="It serves, led by osd.0.", blocking=[], starts=ways(), losses=ways())
-        self.assertEqual(picture([last], why).head, ["At the end: Serve. It serves, led by osd.0. osd.2 lacks 1 object."])
+        last.view["missing"] = [{"member": [2, 0], "state": "missing", "objects": {"a": [1, 1], "b": [1, 2]}}]
+        says = "It serves, led by osd.0. osd.2 lacks 2 objects."
+        why = reasons(verdict="Serve", says=says, blocking=[], starts=ways(), losses=ways())
+        self.assertEqual(picture([last], why).head, [f"At the end: Serve. {says}"])
 
     def test_the_last_columns_marks_are_by_it_and_earlier_ones_by_the_answers(self):
         steps = [step(4, 4, [2], "Waiting", unheard=[(7, 0)]), step(5, 5, [2], "Down", blocked=[0])]

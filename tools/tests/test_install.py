@@ -108,17 +108,74 @@ class Install(Room):
         self.assertFalse((self.room / "prefix").exists())
 
 
+# What the package has otherwise than the folder that install.sh fills
+IN_PACKAGE = {
+    "share/man/man1/pgpeer.1": "share/man/man1/pgpeer.1.gz",
+    "share/zsh/site-functions/_pgpeer": "share/zsh/vendor-completions/_pgpeer",
+}
+ONLY_IN_PACKAGE = {"share/doc/pgpeer/changelog.gz": 0o644, "share/doc/pgpeer/copyright": 0o644}
+MAINTAINER = {"DEBFULLNAME": "A Name", "DEBEMAIL": "ops@example.org"}
+SOURCE = '#include <stdio.h>\nint main(void) { puts("pgpeer 9.8.7"); return 0; }\n'
+BUILD = ["cc", "-O2", "-g", "-fPIE", "-pie", "-Wl,-z,relro,-z,now"]
+
+
 @unittest.skipUnless(shutil.which("dpkg-deb"), "dpkg-deb isn't there")
 class Package(Room):
+    def build(self, program, **env):
+        ran = subprocess.run([BUILD_DEB, "--program", program, self.room], env={**os.environ, **env}, capture_output=True, text=True)
+        return ran.returncode, ran.stdout, ran.stderr
+
+    def package(self, program):
+        """A package of the program."""
+        status, said, errors = self.build(program, **MAINTAINER)
+        self.assertEqual((status, errors), (0, ""))
+        return pathlib.Path(said.splitlines()[-1])
+
+    def compiled(self):
+        """A program that a compiler made, with what a debugger wants of it."""
+        program = self.room / "compiled"
+        subprocess.run([*BUILD, "-x", "c", "-o", program, "-"], input=SOURCE, text=True, check=True)
+        return program
+
     def test_holds_the_same_files(self):
-        ran = subprocess.run([BUILD_DEB, "--program", self.fake, self.room], capture_output=True, text=True)
-        self.assertEqual((ran.returncode, ran.stderr), (0, ""))
-        package = pathlib.Path(ran.stdout.splitlines()[-1])
+        package = self.package(self.fake)
         self.assertTrue(package.name.startswith("pgpeer_9.8.7_"))
-        subprocess.run(["dpkg-deb", "--extract", package, self.room / "out"], check=True)
-        there = files_in(self.room / "out/usr")
-        self.assertEqual({it for it in FILES if not it.startswith("share/man")} - set(there), set())
-        self.assertIn("share/man/man1/pgpeer.1.gz", there)
+        subprocess.run(["dpkg-deb", "--raw-extract", package, self.room / "out"], check=True)
+        wanted = {IN_PACKAGE.get(name, name): mode for name, mode in FILES.items()}
+        self.assertEqual(files_in(self.room / "out/usr"), {**wanted, **ONLY_IN_PACKAGE})
+        self.assertEqual((self.room / "out/usr/bin/pgpeer").read_text(), FAKE)
+        control = (self.room / "out/DEBIAN/control").read_text()
+        self.assertIn("\nVersion: 9.8.7\n", control)
+        self.assertIn("\nMaintainer: A Name <ops@example.org>\n", control)
+        sums = [line.split("  ")[1] for line in (self.room / "out/DEBIAN/md5sums").read_text().splitlines()]
+        self.assertEqual(sums, sorted(f"usr/{name}" for name in {**wanted, **ONLY_IN_PACKAGE}))
+        subprocess.run(["md5sum", "--check", "--quiet", "DEBIAN/md5sums"], cwd=self.room / "out", check=True)
+
+    def test_says_that_no_licence_was_chosen(self):
+        subprocess.run(["dpkg-deb", "--extract", self.package(self.fake), self.room / "out"], check=True)
+        told = " ".join((self.room / "out/usr/share/doc/pgpeer/copyright").read_text().split())
+        self.assertIn("No license has been chosen for this program yet. All rights are with its authors.", told)
+
+    def test_wants_to_know_the_maintainer(self):
+        for env in ({"DEBEMAIL": "", "DEBFULLNAME": "A Name"}, {"DEBEMAIL": "nobody", "DEBFULLNAME": "A Name"}, {**MAINTAINER, "DEBFULLNAME": ""}):
+            status, said, errors = self.build(self.fake, **env)
+            self.assertEqual((status, said), (2, ""), env)
+            self.assertRegex(errors, "^build_deb.sh: set DEB(EMAIL|FULLNAME)")
+        self.assertEqual(list(self.room.glob("*.deb")), [])
+
+    @unittest.skipUnless(shutil.which("cc") and shutil.which("strip"), "cc or strip isn't there")
+    def test_strips_the_copy_and_not_the_program(self):
+        program = self.compiled()
+        before = program.read_bytes()
+        subprocess.run(["dpkg-deb", "--extract", self.package(program), self.room / "out"], check=True)
+        self.assertLess((self.room / "out/usr/bin/pgpeer").stat().st_size, len(before))
+        self.assertEqual(program.read_bytes(), before)
+
+    @unittest.skipUnless(shutil.which("cc") and shutil.which("strip") and shutil.which("lintian"), "cc, strip or lintian isn't there")
+    def test_passes_lintian(self):
+        words = ["lintian", "--no-cfg", "--allow-root", "--display-info", "--pedantic", self.package(self.compiled())]
+        ran = subprocess.run(words, capture_output=True, text=True)
+        self.assertEqual((ran.returncode, ran.stdout), (0, ""))
 
 
 @unittest.skipUnless(shutil.which("bash"), "bash isn't there")

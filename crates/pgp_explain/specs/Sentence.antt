@@ -1,5 +1,5 @@
 -- What a group waits for, in one sentence.
-use Rattle.std.specs.Prelude.{ℕ, ◌==◌, List, [], ◌∷◌, not, nat_le, length, map, fold, filter, Option, Some, None, codes, decimal, if◌then◌else◌}
+use Rattle.std.specs.Prelude.{ℕ, ◌-◌, ◌==◌, List, [], ◌∷◌, ◌++◌, not, nat_le, length, map, fold, filter, filter_map, Option, Some, None, codes, decimal, if◌then◌else◌}
 use Rattle.std.specs.List.{list_any}
 use Rattle.pgp_group.specs.Heard.{has_member}
 use Rattle.pgp_ids.specs.Osds.{osd_count}
@@ -9,9 +9,11 @@ use Rattle.pgp_ids.specs.declared.verdict.Verdict.{Verdict}
 use Rattle.pgp_ids.specs.declared.verdict.Verdict.TheVariants.{NoPrimary, Down, Waiting, Incomplete, Short, NeedLog, NeedUpThru, Serve}
 use Rattle.pgp_reasons.specs.declared.gap.Gap.{Gap}
 use Rattle.pgp_explain.specs.Text.{Text, joined, listed}
+use Rattle.pgp_explain.specs.Lags.{laggard_of, laggard_name}
 use Rattle.pgp_explain.specs.Names.{epoch_name, device_name, leader_name, member_name, are, plural}
 use Rattle.pgp_explain.specs.Spans.{epochs_name, writes_name}
 use Rattle.pgp_explain.specs.declared.explained.Explained.{Explained}
+use Rattle.pgp_explain.specs.declared.lags.Laggard.{Laggard}
 use Rattle.pgp_explain.specs.declared.names.Naming.{Naming}
 use Rattle.pgp_explain.specs.declared.offset.EpochOffset.{EpochOffset}
 
@@ -70,20 +72,53 @@ none_recent (Some info) naming = not_recent info naming
 unfoldable pub on_incomplete : List Info → Naming → Text
 on_incomplete heard naming = none_recent (informed_beside_complete heard) naming
 
--- the acting set has too few members, or they hold too few shards
-unfoldable pub on_short : Explained → Text
-on_short explained =
-    let members = osd_count explained.view.acting in
-    if nat_le explained.min_size members then codes "The members of its acting set hold too few shards to give objects back."
-    else joined (
+-- the acting set has too few members
+unfoldable pub few_members : (members min_size : ℕ) → Text
+few_members members min_size = joined (
     codes "Its acting set has "
     ∷ decimal members
     ∷ codes " "
     ∷ plural members (codes "member") (codes "members")
     ∷ codes ", and needs at least "
-    ∷ decimal explained.min_size
+    ∷ decimal min_size
+    ∷ codes ": it waits for "
+    ∷ decimal (min_size - members)
+    ∷ codes " more "
+    ∷ plural (min_size - members) (codes "device") (codes "devices")
     ∷ codes "."
     ∷ [])
+
+-- its members are enough, and hold too few shards
+unfoldable pub few_shards : ℕ → Text
+few_shards lacks = joined (
+    codes "The members of its acting set hold too few shards to give objects back: it waits for "
+    ∷ decimal lacks
+    ∷ codes " more "
+    ∷ plural lacks (codes "shard") (codes "shards")
+    ∷ codes "."
+    ∷ [])
+
+-- either of these
+abbrev pub few : Explained → Text
+few explained =
+    if nat_le explained.min_size (osd_count explained.view.acting) then few_shards explained.reasons.short.lacks
+    else few_members (osd_count explained.view.acting) explained.min_size
+
+-- who of those that served the group last is down
+unfoldable pub fallen_part : List ℕ → Text
+fallen_part osds =
+    if length osds == 0 then []
+    else joined (
+    codes " Of those that served it last, "
+    ∷ listed (map device_name osds)
+    ∷ codes " "
+    ∷ are (length osds)
+    ∷ codes " down."
+    ∷ [])
+
+-- the acting set has too few members, or they hold too few shards; and who might be started
+unfoldable pub on_short : Explained → Text
+on_short explained = few explained ++ fallen_part explained.reasons.short.fallen
 
 -- the log of this member lacks these numbers of writes
 unfoldable pub lacking_log : Text → List Gap → Text
@@ -118,8 +153,16 @@ on_up_thru primary first = joined (
     ∷ codes " or later."
     ∷ [])
 
-unfoldable pub on_serving : Option ℕ → Text
-on_serving primary = joined (codes "It serves, led by " ∷ leader_name primary ∷ codes "." ∷ [])
+-- who lacks something of the best copy
+unfoldable pub behind_part : List Laggard → Naming → Text
+behind_part laggards naming =
+    if length laggards == 0 then [] else joined (codes " " ∷ listed (map (laggard_name naming) laggards) ∷ codes "." ∷ [])
+
+-- it serves, and members that lag behind catch up
+unfoldable pub on_serving : Explained → Naming → Text
+on_serving explained naming =
+    joined (codes "It serves, led by " ∷ leader_name explained.view.acting_primary ∷ codes "." ∷ [])
+    ++ behind_part (filter_map laggard_of explained.view.missing) naming
 
 -- the sentence on this verdict
 abbrev pub sentence_on : Verdict → Explained → EpochOffset → Text
@@ -130,7 +173,7 @@ sentence_on Incomplete explained offset = on_incomplete explained.reasons.heard 
 sentence_on Short explained offset = on_short explained
 sentence_on NeedLog explained offset = on_log explained.view.best explained.reasons.gaps (naming_of explained offset)
 sentence_on NeedUpThru explained offset = on_up_thru explained.view.acting_primary (epoch_name offset explained.view.first)
-sentence_on Serve explained offset = on_serving explained.view.acting_primary
+sentence_on Serve explained offset = on_serving explained (naming_of explained offset)
 
 -- the sentence on the verdict of a group
 unfoldable pub sentence_of : Explained → EpochOffset → Text

@@ -17,6 +17,7 @@ mod group_words;
 mod groups;
 mod heard_of;
 mod json_parts;
+mod lags;
 mod names;
 mod offset;
 mod pools;

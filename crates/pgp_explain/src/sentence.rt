@@ -1,15 +1,16 @@
 //! What a group waits for, in one sentence.
 
-ghost use Rattle.std.specs.Prelude.{◌≡◌, ◌==◌, length, IfOk, string_bytes, decimal, if◌then◌else◌};
-ghost use Rattle.pgp_explain.specs.Sentence.{informed as informed_of, informed_beside_complete as informed_beside, lacking_log as lacking_log_of, not_recent as not_recent_of, on_down as on_down_of, on_incomplete as on_incomplete_of, on_log as on_log_of, on_serving as on_serving_of, on_short as on_short_of, on_up_thru as on_up_thru_of, on_waiting as on_waiting_of, sentence_of, unordered_log};
+ghost use Rattle.std.specs.Prelude.{◌≡◌, ◌==◌, ◌<◌, ◌++◌, length, IfOk, OnOk, string_bytes, decimal, if◌then◌else◌};
+ghost use Rattle.pgp_explain.specs.Sentence.{informed as informed_of, informed_beside_complete as informed_beside, behind_part, fallen_part, few as few_of, few_members as few_members_of, few_shards as few_shards_of, lacking_log as lacking_log_of, not_recent as not_recent_of, on_down as on_down_of, on_incomplete as on_incomplete_of, on_log as on_log_of, on_serving as on_serving_of, on_short as on_short_of, on_up_thru as on_up_thru_of, on_waiting as on_waiting_of, sentence_of, unordered_log};
 ghost use Rattle.std.specs.List.{list_any};
 ghost use Rattle.std.specs.Option.{option_copied};
 
 use super::explained::Explained;
+use super::lags::{Laggard, laggards};
 use super::names::{Leader, Naming, are, plural};
 use super::offset::EpochOffset;
 use super::spans::{epochs, writes};
-use super::words::{devices, members, name};
+use super::words::{devices, listed, members, name};
 use pgp_ids::{Info, Member, OsdId, Verdict};
 use pgp_reasons::Gap;
 use std::alloc::{AllocError, Global};
@@ -34,10 +35,10 @@ pub(crate) fn sentence(
         Verdict::Down => on_down(alloc, explained, offset),
         Verdict::Waiting => on_waiting(alloc, explained, naming),
         Verdict::Incomplete => on_incomplete(alloc, reasons.heard.as_slice(), naming),
-        Verdict::Short => on_short(alloc, explained),
+        Verdict::Short => on_short(alloc, explained, naming),
         Verdict::NeedLog => on_log(alloc, view.best, reasons.gaps.as_slice(), naming),
         Verdict::NeedUpThru => on_up_thru(alloc, view.acting_primary, naming.epoch(view.first)),
-        Verdict::Serve => on_serving(alloc, view.acting_primary),
+        Verdict::Serve => on_serving(alloc, explained, naming),
     }
 }
 
@@ -123,21 +124,67 @@ fn informed(heard: &[Info]) -> Option<&Info>
 
 /// The acting set has too few members, or they hold too few shards.
 #[tactic(auto, unfolding(crate::specs::Sentence::on_short))]
-fn on_short(alloc: Global, explained: &Explained) -> Result<String, AllocError>
+fn on_short(alloc: Global, explained: &Explained, naming: Naming) -> Result<String, AllocError>
     ensures { IfOk result (λ text. string_bytes text ≡ on_short_of explained.now) }
 {
+    let mut text = few(alloc, explained)?;
+    put_fallen(alloc, explained.reasons.short.fallen.as_slice(), naming, &mut text)?;
+    Ok(text)
+}
+
+/// What the acting set lacks.
+fn few(alloc: Global, explained: &Explained) -> Result<String, AllocError>
+    ensures { IfOk result (λ text. string_bytes text ≡ few_of explained.now) }
+{
     let members = explained.view.acting.osd_count();
-    if members >= usize::from(explained.min_size) {
-        return String::from_str(
-            alloc,
-            "The members of its acting set hold too few shards to give objects back.",
-        );
+    let least = usize::from(explained.min_size);
+    if members >= least {
+        few_shards(alloc, explained.reasons.short.lacks)
+    } else {
+        few_members(alloc, members, least)
     }
+}
+
+/// It has too few members.
+#[tactic(auto, unfolding(crate::specs::Sentence::few_members))]
+fn few_members(alloc: Global, members: usize, least: usize) -> Result<String, AllocError>
+    requires { members < least }
+    ensures { IfOk result (λ text. string_bytes text ≡ few_members_of members least) }
+{
+    let more = least - members;
     format!(in alloc;
-        "Its acting set has {members} {}, and needs at least {}.",
+        "Its acting set has {members} {}, and needs at least {least}: it waits for {more} more {}.",
         plural(members, "member", "members"),
-        explained.min_size,
+        plural(more, "device", "devices"),
     )
+}
+
+/// Its members are enough, and hold too few shards.
+#[tactic(auto, unfolding(crate::specs::Sentence::few_shards))]
+fn few_shards(alloc: Global, lacks: usize) -> Result<String, AllocError>
+    ensures { IfOk result (λ text. string_bytes text ≡ few_shards_of lacks) }
+{
+    let shards = plural(lacks, "shard", "shards");
+    format!(in alloc;
+        "The members of its acting set hold too few shards to give objects back: it waits for {lacks} more {shards}."
+    )
+}
+
+/// Who of those that served the group last is down.
+#[tactic(auto, unfolding(crate::specs::Sentence::fallen_part))]
+fn put_fallen(
+    alloc: Global,
+    osds: &[OsdId],
+    naming: Naming,
+    text: &mut String,
+) -> Result<(), AllocError>
+    ensures { OnOk result (string_bytes text.new ≡ string_bytes text.old ++ fallen_part osds.now) }
+{
+    if osds.is_empty() {
+        return Ok(());
+    }
+    let down = devices(alloc, naming, osds)?;
+    write!(text, " Of those that served it last, {down} {} down.", are(osds.len()))
 }
 
 /// Entries of the log by which objects are brought up to date haven't been reported.
@@ -207,10 +254,31 @@ fn on_up_thru(alloc: Global, primary: Option<OsdId>, first: u64) -> Result<Strin
     )
 }
 
+/// It serves, and members that lag behind catch up.
 #[tactic(auto, unfolding(crate::specs::Sentence::on_serving))]
-fn on_serving(alloc: Global, primary: Option<OsdId>) -> Result<String, AllocError>
-    ensures { IfOk result (λ text. string_bytes text ≡ on_serving_of primary) }
+fn on_serving(alloc: Global, explained: &Explained, naming: Naming) -> Result<String, AllocError>
+    ensures { IfOk result (λ text. string_bytes text ≡ on_serving_of explained.now naming) }
 {
-    let leader = Leader(primary);
-    format!(in alloc; "It serves, led by {leader}.")
+    let laggards = laggards(alloc, explained.view.missing.as_slice())?;
+    let leader = Leader(explained.view.acting_primary);
+    let mut text = format!(in alloc; "It serves, led by {leader}.")?;
+    put_behind(alloc, laggards.as_slice(), naming, &mut text)?;
+    Ok(text)
+}
+
+/// Who lacks something of the best copy.
+#[tactic(auto, unfolding(crate::specs::Sentence::behind_part))]
+fn put_behind(
+    alloc: Global,
+    laggards: &[Laggard],
+    naming: Naming,
+    text: &mut String,
+) -> Result<(), AllocError>
+    ensures { OnOk result (string_bytes text.new ≡ string_bytes text.old ++ behind_part laggards.now naming) }
+{
+    if laggards.is_empty() {
+        return Ok(());
+    }
+    let names = listed(alloc, naming, laggards, " and ")?;
+    write!(text, " {names}.")
 }

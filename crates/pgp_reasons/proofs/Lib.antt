@@ -6,6 +6,7 @@ pub mod BlockingLemmas
 pub mod ReasonsLemmas
 pub mod GapLawLemmas
 pub mod SetLemmas
+pub mod LookLemmas
 pub mod WalkLemmas
 pub mod WayLemmas
 pub mod SameWayLemmas

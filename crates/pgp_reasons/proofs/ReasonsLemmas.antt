@@ -41,7 +41,8 @@ use Rattle.pgp_reasons.specs.GroupWays.{brings_back, ways}
 use Rattle.pgp_reasons.specs.Smallest.{AreSome, smallest}
 use Rattle.pgp_reasons.specs.Ways.{is_relieved}
 use Rattle.pgp_reasons.specs.declared.ways.Way.{Way}
-use Rattle.pgp_reasons.specs.Reasons.{blocking, gaps, IsViewed, IsAskedOf}
+use Rattle.pgp_reasons.specs.Reasons.{blocking, gaps, short, IsViewed, IsAskedOf}
+use Rattle.pgp_reasons.specs.Short.{short_of}
 use Rattle.pgp_reasons.specs.Told.{infos_in}
 
 -- ---- the group of a view
@@ -141,22 +142,38 @@ down-is g =
     (prior g).probe (prior g).blocked_by (length (prior g).blocked_by == 0) refl refl refl)
 
 ways-some : (way : Way) (g : GroupLog) (sets : List (List ℕ)) (more : Bool) → (length (prior g).blocked_by == 0) ≡ false
-    → AreSome (smallest (brings_back way g) (prior g).blocked_by) sets more → AreSome (ways way g) sets more
+    → AreSome (prior g).blocked_by (smallest (brings_back way g) (prior g).blocked_by) sets more → AreSome (prior g).blocked_by (ways way g) sets more
 ways-some way g sets more some are =
     let down : (prior g).down ≡ true = sym (down-is g) ∙ ap not some in
     let all : ways way g ≡ smallest (brings_back way g) (prior g).blocked_by =
     ap (λ (b : Bool). if b then smallest (brings_back way g) (prior g).blocked_by else []) down in
-    subst (λ (l : List (List ℕ)). AreSome l sets more) (sym all) are
+    subst (λ (l : List (List ℕ)). AreSome (prior g).blocked_by l sets more) (sym all) are
 
 -- the same, of what the code was asked
 pub ways-asked : (way : Way) (g : GroupLog) (code : AnyCode) (map : OsdMap) (view : View) (sets : List (List ℕ)) (more : Bool)
     → g.history.code ≡ code → IsMapOf (incs g) map → view ≡ view_of g → (length view.blocked_by == 0) ≡ false
-    → AreSome (smallest (is_relieved (enough_of code) (is_by_place code) (held_status map) view.les view.intervals way) view.blocked_by) sets more
-    → AreSome (ways way g) sets more
+    → AreSome view.blocked_by (smallest (is_relieved (enough_of code) (is_by_place code) (held_status map) view.les view.intervals way) view.blocked_by) sets more
+    → AreSome (prior g).blocked_by (ways way g) sets more
 ways-asked way g code map view sets more of_code of_map of_view some are =
     ways-some way g sets more (ap (λ (v : View). length v.blocked_by == 0) (sym of_view) ∙ some)
-    (subst (λ (l : List (List ℕ)). AreSome l sets more)
+    (subst (λ (v : View). AreSome v.blocked_by (smallest (brings_back way g) v.blocked_by) sets more) of_view
+    (subst (λ (l : List (List ℕ)). AreSome view.blocked_by l sets more)
     (λ i.
     smallest (is_relieved (enough_of (sym of_code i)) (is_by_place (sym of_code i)) (λ osd first. held_status-is (incs g) map of_map osd first i)
-    (of_view i).les (of_view i).intervals way) (of_view i).blocked_by)
-    are)
+    (of_view i).les (of_view i).intervals way) view.blocked_by)
+    are))
+
+-- ---- what the acting set lacks
+
+pub short-asked : (g : GroupLog) (code : AnyCode) (map : OsdMap) (view : View) → g.history.code ≡ code → IsMapOf (incs g) map → view ≡ view_of g
+    → short_of code (held_status map) view.les view.intervals view.acting ≡ short g
+short-asked g code map view of_code of_map of_view = λ i.
+    short_of (sym of_code i) (λ osd first. held_status-is (incs g) map of_map osd first i) (of_view i).les (of_view i).intervals (of_view i).acting
+
+-- ---- whether devices bring it back
+
+pub unblocks-asked : (way : Way) (osds : List ℕ) (g : GroupLog) (code : AnyCode) (map : OsdMap) (view : View) → g.history.code ≡ code → IsMapOf (incs g) map → view ≡ view_of g
+    → is_relieved (enough_of code) (is_by_place code) (held_status map) view.les view.intervals way osds ≡ brings_back way g osds
+unblocks-asked way osds g code map view of_code of_map of_view = λ i.
+    is_relieved (enough_of (sym of_code i)) (is_by_place (sym of_code i)) (λ osd first. held_status-is (incs g) map of_map osd first i)
+    (of_view i).les (of_view i).intervals way osds

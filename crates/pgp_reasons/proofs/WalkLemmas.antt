@@ -1,13 +1,16 @@
 -- A walk over sets of devices, by their size and from the first device to the last, and what it has listed.
-use Rattle.std.proofs.Common.{◌≡◌, ℕ, zero, suc, ◌+◌, ◌-◌, ◌<◌, List, [], ◌∷◌, ◌++◌, Bool, true, false, not, ◌&&◌, length, map, append-nil, append_assoc, add-one, zero-add, suc-add, refl, ap, sym, ◌∙◌, subst, inl, inr, arith}
+use Rattle.std.proofs.Common.{◌≡◌, ◌==◌, ℕ, zero, suc, ◌+◌, ◌-◌, ◌<◌, ◌≤◌, nat_lt, List, [], ◌∷◌, ◌++◌, Bool, true, false, not, ◌&&◌, length, map, append-nil, append_assoc, add-one, zero-add, suc-add, refl, ap, sym, ◌∙◌, subst, inl, inr, arith}
 use Rattle.std.specs.List.{Contains, filter, flat_map, list_any, range_with_len}
-use Rattle.std.proofs.lemmas.Bool.{true≢false}
-use Rattle.std.proofs.lemmas.List.{map-append}
+use Rattle.std.proofs.lemmas.Bool.{cases_Bool, true≢false}
+use Rattle.std.proofs.lemmas.Bool.Decides.{nat_tests}
+use Rattle.std.proofs.lemmas.List.{length-append, map-append}
 use Rattle.std.proofs.lemmas.List.Elements.{filter-append}
 use Rattle.pgp_lists.proofs.Lists.{flat_map-push}
 use Rattle.pgp_lists.proofs.Ranges.{range_with_len-suc}
 use Rattle.pgp_lists.proofs.Members.{contains-append, map-contains, contains-any}
-use Rattle.pgp_reasons.specs.Smallest.{sets_of, each_but_one, is_smallest, smallest, smallest_with, AreFirstOf, AreSome}
+use Rattle.pgp_reasons.specs.Looks.{looks_below, most_looks, HasStopped}
+use Rattle.pgp_reasons.specs.Smallest.{sets_of, each_but_one, is_smallest, smallest, smallest_with, few_devices, most_sets, AreFirstOf, AreMany, AreSome}
+use Rattle.pgp_reasons.proofs.LookLemmas.{few-looks, stopped-more, stopped-same}
 use Rattle.pgp_reasons.proofs.SetLemmas.{too_few, set-part, first-of, each-append, filter-none, append-part, IsMonotone, fewer-short}
 
 -- ---- the smallest of the sets with the chosen devices
@@ -107,6 +110,23 @@ module _ (enough : List ℕ → Bool) (chosen pushed popped : List ℕ) (n osd :
       let stopped = first-stopped (old ++ smallest_with enough pushed (n - 1) others) (smallest_with enough chosen n others) between first in
       rw still (subst (λ (l : List (List ℕ)). AreFirstOf false l between) (append_assoc old _ _ ∙ ap (λ l. old ++ l) with-cut) stopped)
 
+  -- why the walk stopped, in its first part or in its second
+  pub stop-first : (looks : ℕ) → HasStopped looks (old ++ smallest_with enough pushed (n - 1) others) between → HasStopped looks (old ++ smallest_with enough chosen n rest) after
+  stop-first looks stopped =
+      stopped-same looks _ _ between after (append_assoc old _ _ ∙ ap (λ l. old ++ l) with-cut) (sym still)
+      (stopped-more looks (old ++ smallest_with enough pushed (n - 1) others) (smallest_with enough chosen n others) between stopped)
+
+  pub stop-then : (looks : ℕ) (listed : List (List ℕ)) → whole ≡ true → HasStopped looks (after ++ smallest_with enough popped n others) listed → HasStopped looks (old ++ smallest_with enough chosen n rest) listed
+  stop-then looks listed all stopped =
+      let here = smallest_with enough pushed (n - 1) others in
+      let went : old ++ here ≡ between = first.are ∙ ap (λ l. between ++ l) (first.none_other all) ∙ append-nil between in
+      stopped-same looks _ _ listed listed
+      ((λ i. still i ++ smallest_with enough (pop i) n others)
+      ∙ ap (λ l. l ++ smallest_with enough chosen n others) (sym went)
+      ∙ append_assoc old here (smallest_with enough chosen n others)
+      ∙ ap (λ l. old ++ l) with-cut)
+      refl stopped
+
   pub on-then : (w : Bool) (listed : List (List ℕ)) → whole ≡ true → AreFirstOf w (after ++ smallest_with enough popped n others) listed → AreFirstOf w (old ++ smallest_with enough chosen n rest) listed
   on-then w listed all then' =
       let next : AreFirstOf w (between ++ smallest_with enough chosen n others) listed =
@@ -173,19 +193,62 @@ said-is enough shown osds said b same is said-b = ap enough (sym same) ∙ sym i
 
 -- ---- what is told in the end
 
-pub listed-all : (all listed : List (List ℕ)) → listed ≡ all → AreSome all listed false
-listed-all all listed same = record { each = λ _. same; some = inl (subst (λ (l : List (List ℕ)). AreFirstOf true l listed) same (first-all true listed)); none = λ e. sym (ap length same) ∙ e }
+pub listed-all : (osds : List ℕ) (all listed : List (List ℕ)) → listed ≡ all → length listed ≤ most_sets → AreSome osds all listed false
+listed-all osds all listed same few =
+    record {
+      each = λ _. same;
+      some = inl (subst (λ (l : List (List ℕ)). AreFirstOf true l listed) same (first-all true listed));
+      none = λ e. sym (ap length same) ∙ e;
+      bound = few;
+      word = λ no. absurd (true≢false (sym no));
+    }
 
-pub listed-one : (all : List (List ℕ)) (set : List ℕ) (listed : List (List ℕ)) → listed ≡ set ∷ [] → Contains all set → AreSome all listed true
-listed-one all set listed is there = record { each = λ no. absurd (true≢false no); some = inr (record { set = set; is = is; there = there }); none = λ e. absurd (omega (arith, ap length is)) }
+-- none was listed before the walk stopped, and now one is
+pub listed-one : (osds : List ℕ) (all : List (List ℕ)) (set : List ℕ) (before listed : List (List ℕ)) → length before ≡ 0 → AreMany osds all before → listed ≡ set ∷ [] → Contains all set → AreSome osds all listed true
+listed-one osds all set before listed none (inl many) is there = absurd (omega (arith, none, many.0))
+listed-one osds all set before listed none (inr many) is there =
+    record {
+      each = λ no. absurd (true≢false no);
+      some = inr (record { set = set; is = is; there = there });
+      none = λ e. absurd (omega (arith, e, ap length is));
+      bound = omega (arith, ap length is);
+      word = λ _. inr many;
+    }
+
+-- some were listed before the walk stopped
+pub listed-some : (osds : List ℕ) (all listed : List (List ℕ)) → (length listed == 0) ≡ false → AreFirstOf false all listed → length listed ≤ most_sets → AreMany osds all listed → AreSome osds all listed true
+listed-some osds all listed some first few many =
+    record {
+      each = λ no. absurd (true≢false no);
+      some = inl first;
+      none = λ e. absurd (grind (arith, nat_tests));
+      bound = few;
+      word = λ _. many;
+    }
 
 -- a walk of one size that went through all
 pub listed-more : {whole : Bool} (old here all listed : List (List ℕ)) → whole ≡ true → old ++ here ≡ all → AreFirstOf whole (old ++ here) listed → listed ≡ all
 listed-more old here all listed went is first = sym (append-nil listed) ∙ ap (λ l. listed ++ l) (sym (first.none_other went)) ∙ sym first.are ∙ is
 
 -- after all sizes
-pub sizes-done : (enough : List ℕ → Bool) (osds : List ℕ) (n : ℕ) (listed : List (List ℕ)) → n ≡ length osds + 1 → listed ≡ smallest_below enough osds n → AreSome (smallest enough osds) listed false
-sizes-done enough osds n listed size is = listed-all (smallest enough osds) listed (is ∙ ap (smallest_below enough osds) size)
+pub sizes-done : (enough : List ℕ → Bool) (osds : List ℕ) (n : ℕ) (listed : List (List ℕ)) → n ≡ length osds + 1 → listed ≡ smallest_below enough osds n → length listed ≤ most_sets → AreSome osds (smallest enough osds) listed false
+sizes-done enough osds n listed size is few = listed-all osds (smallest enough osds) listed (is ∙ ap (smallest_below enough osds) size) few
+
+-- why a walk stopped at this size
+pub many-at : (enough : List ℕ → Bool) (osds : List ℕ) (n looks : ℕ) (all listed : List (List ℕ)) → n < length osds + 1 → all ≡ smallest_below enough osds (n + 1) → most_looks ≤ looks + looks_below (length osds) (n + 1)
+    → HasStopped looks all listed → AreMany osds (smallest enough osds) listed
+many-at enough osds n looks all listed below is counted (inl full) =
+    let rest = below-first enough osds (n + 1) (length osds - n) in
+    let size : length osds - n + (n + 1) ≡ length osds + 1 = omega arith in
+    let whole : smallest enough osds ≡ all ++ rest.0 = ap (smallest_below enough osds) (sym size) ∙ rest.1 ∙ ap (λ l. l ++ rest.0) (sym is) in
+    inl (full.0, omega (arith, full.1, ap length whole, length-append all rest.0))
+many-at enough osds n looks all listed below is counted (inr none) = elim (cases_Bool (nat_lt few_devices (length osds))) [
+  | inl many ↦ inr (grind (arith, nat_tests))
+  | inr few ↦
+      let count : length osds ≤ 9 = grind (arith, nat_tests) in
+      let looked : looks_below (length osds) (n + 1) < most_looks = few-looks (length osds) (n + 1) count (omega (arith, below)) in
+      absurd (omega (arith, counted, none, looked))
+]
 
 -- nothing is chosen again after a walk
 pub none-again : (after before : List ℕ) → after ≡ before → before ≡ [] → after ≡ []

@@ -3,6 +3,8 @@ pub mod Blocking
 pub mod Gaps
 pub mod Told
 pub mod Smallest
+pub mod Looks
+pub mod Short
 pub mod Ways
 pub mod WayLaws
 pub mod GroupWays

@@ -1,5 +1,5 @@
 -- Sets of devices, and the smallest of those that are enough for something. `enough` says whether a set is enough.
-use Rattle.std.specs.Prelude.{◌≡◌, ◌⊎◌, ℕ, zero, suc, ◌+◌, List, [], ◌∷◌, ◌++◌, Bool, true, false, not, nat_eq, ◌&&◌, length, map, filter, flat_map, Contains}
+use Rattle.std.specs.Prelude.{◌≡◌, ◌⊎◌, ℕ, zero, suc, ◌+◌, ◌<◌, ◌≤◌, List, [], ◌∷◌, ◌++◌, Bool, true, false, not, nat_eq, ◌&&◌, length, map, filter, flat_map, Contains}
 use Rattle.std.specs.List.{list_any, range_with_len}
 
 -- the sets of this many of the devices, in the order of the devices
@@ -49,9 +49,23 @@ pub record IsOneOf (all listed : List (List ℕ)) : Type 0 where
   pub is : listed ≡ set ∷ []
   pub there : Contains all set
 
--- the sets are those of `all`; where there may be more, they are the first of them, or one of them. Where there is one, one is
--- listed
-pub record AreSome (all : List (List ℕ)) (listed : List (List ℕ)) (more : Bool) : Type 0 where
+-- how many sets are listed at most
+abbrev pub most_sets : ℕ
+most_sets = 16
+
+-- of so many devices all sets are judged, as far as they have to be
+abbrev pub few_devices : ℕ
+few_devices = 9
+
+-- there are more sets than are listed, and as many are listed as may be; or there were too many devices to judge all their sets
+abbrev pub AreMany : List ℕ → (all listed : List (List ℕ)) → Type 0
+AreMany osds all listed = (length listed ≡ most_sets) × (most_sets < length all) ⊎ (few_devices < length osds)
+
+-- The sets of these devices are those of `all`; where there may be more, they are the first of them, or one of them. Where there
+-- is one, one is listed, and no more are than may be. That there may be more is only said where there are many.
+pub record AreSome (osds : List ℕ) (all listed : List (List ℕ)) (more : Bool) : Type 0 where
   pub each : more ≡ false → listed ≡ all
   pub some : AreFirstOf (not more) all listed ⊎ IsOneOf all listed
   pub none : length listed ≡ 0 → length all ≡ 0
+  pub bound : length listed ≤ most_sets
+  pub word : more ≡ true → AreMany osds all listed

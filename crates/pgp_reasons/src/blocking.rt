@@ -93,7 +93,7 @@ fn down_osds(
 }
 
 /// Adds the acting devices of the interval that are down.
-fn add_down(
+pub(crate) fn add_down(
     list: &mut Vec<OsdId>,
     by_place: bool,
     map: &OsdMap,

@@ -1,6 +1,7 @@
-ghost use Rattle.std.specs.Prelude.{◌≡◌, ◌<◌, ◌++◌, [], ◌∷◌, filter, IfOk, IfSome, OnOk};
+ghost use Rattle.std.specs.Prelude.{◌≡◌, ◌<◌, ◌≤◌, ◌+◌, ◌++◌, [], ◌∷◌, false, length, filter, IfOk, IfSome, IfNone, OnOk};
 ghost use Rattle.std.specs.List.{list_any};
-ghost use Rattle.pgp_reasons.specs.Smallest.{each_but_one, is_smallest, smallest_with, AreFirstOf};
+ghost use Rattle.pgp_reasons.specs.Looks.{looks_of, most_looks, HasStopped};
+ghost use Rattle.pgp_reasons.specs.Smallest.{each_but_one, is_smallest, most_sets, smallest_with, AreFirstOf};
 
 use super::enough::Enough;
 use pgp_ids::{OsdId, Seq};
@@ -17,13 +18,14 @@ const MOST_SETS: usize = 16;
 pub(crate) struct Found {
     pub(crate) sets: Seq<Seq<OsdId>>,
     /// How many more sets may be judged.
-    looks: usize,
+    pub(crate) looks: usize,
 }
 
 impl Found {
     /// Before the walk.
     pub(crate) fn new(alloc: Global) -> Self
-        ensures { result.sets ≡ [] }
+        ensures sets { result.sets ≡ [] }
+        ensures looks { result.looks ≡ most_looks }
     {
         Found {
             sets: Seq::new(alloc),
@@ -35,6 +37,8 @@ impl Found {
     fn look<E: Enough>(&mut self, judge: &E, these: &[OsdId], those: &[OsdId]) -> Option<bool>
         ensures said { IfSome result (λ said. said ≡ E.enough judge.now (these.now ++ those.now)) }
         ensures kept { self.new.sets ≡ self.old.sets }
+        ensures counted { self.old.looks ≤ self.new.looks + 1 }
+        ensures stopped { IfNone result (self.new.looks ≡ 0) }
     {
         if self.looks == 0 {
             return None;
@@ -47,6 +51,8 @@ impl Found {
     fn is_enough_but_one<E: Enough>(&mut self, judge: &E, set: &[OsdId]) -> Option<bool>
         ensures said { IfSome result (λ said. said ≡ list_any (E.enough judge.now) (each_but_one set.now)) }
         ensures kept { self.new.sets ≡ self.old.sets }
+        ensures counted { self.old.looks ≤ self.new.looks + length set.now }
+        ensures stopped { IfNone result (self.new.looks ≡ 0) }
     {
         for place in 0..set.len() {
             if self.look(judge, &set[..place], &set[place + 1..])? {
@@ -61,6 +67,8 @@ impl Found {
     fn is_smallest<E: Enough>(&mut self, judge: &E, set: &[OsdId]) -> Option<bool>
         ensures said { IfSome result (λ said. said ≡ is_smallest (E.enough judge.now) set.now) }
         ensures kept { self.new.sets ≡ self.old.sets }
+        ensures counted { self.old.looks ≤ self.new.looks + (length set.now + 1) }
+        ensures stopped { IfNone result (self.new.looks ≡ 0) }
     {
         Some(self.look(judge, set, &[])? && !self.is_enough_but_one(judge, set)?)
     }
@@ -72,7 +80,11 @@ impl Found {
         judge: &E,
         set: &[OsdId],
     ) -> Result<bool, AllocError>
-        ensures { IfOk result (λ whole. AreFirstOf whole
+        ensures found { IfOk result (λ whole. AreFirstOf whole
+            (self.old.sets ++ filter (is_smallest (E.enough judge.now)) (set.now ∷ [])) self.new.sets) }
+        ensures bound { OnOk result (length self.old.sets ≤ most_sets → length self.new.sets ≤ most_sets) }
+        ensures counted { OnOk result (self.old.looks ≤ self.new.looks + (length set.now + 1)) }
+        ensures stopped { IfOk result (λ whole. whole ≡ false → HasStopped self.new.looks
             (self.old.sets ++ filter (is_smallest (E.enough judge.now)) (set.now ∷ [])) self.new.sets) }
     {
         match self.is_smallest(judge, set) {
@@ -102,6 +114,11 @@ impl Found {
         ensures found { IfOk result (λ whole. AreFirstOf whole
             (self.old.sets ++ smallest_with (E.enough judge.now) chosen.old.items left rest.now) self.new.sets) }
         ensures chosen { OnOk result (chosen.new.items ≡ chosen.old.items) }
+        ensures bound { OnOk result (length self.old.sets ≤ most_sets → length self.new.sets ≤ most_sets) }
+        ensures counted { OnOk result (self.old.looks ≤ self.new.looks
+            + looks_of (length chosen.old.items + left) left (length rest.now)) }
+        ensures stopped { IfOk result (λ whole. whole ≡ false → HasStopped self.new.looks
+            (self.old.sets ++ smallest_with (E.enough judge.now) chosen.old.items left rest.now) self.new.sets) }
     {
         if left == 0 {
             return self.list_if_smallest(alloc, judge, chosen.as_slice());
@@ -129,6 +146,11 @@ impl Found {
         ensures found { IfOk result (λ whole. AreFirstOf whole
             (self.old.sets ++ smallest_with (E.enough judge.now) chosen.old.items left rest.now) self.new.sets) }
         ensures chosen { OnOk result (chosen.new.items ≡ chosen.old.items) }
+        ensures bound { OnOk result (length self.old.sets ≤ most_sets → length self.new.sets ≤ most_sets) }
+        ensures counted { OnOk result (self.old.looks + 1 ≤ self.new.looks
+            + looks_of (length chosen.old.items + left) left (length rest.now)) }
+        ensures stopped { IfOk result (λ whole. whole ≡ false → HasStopped self.new.looks
+            (self.old.sets ++ smallest_with (E.enough judge.now) chosen.old.items left rest.now) self.new.sets) }
     {
         if rest.len() < left {
             return Ok(true);

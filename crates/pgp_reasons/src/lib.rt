@@ -16,14 +16,18 @@ mod gaps;
 mod heard;
 mod lacking;
 pub mod laws;
+mod outcome;
 mod reasons;
 mod relief;
 mod search;
+mod short;
 mod waits;
 mod ways;
 
 pub use blocking::Blocking;
 pub use gap::Gap;
+pub use outcome::unblocks;
 pub use reasons::{Reasons, reasons_of};
 pub use relief::{is_relieved, smallest};
+pub use short::Short;
 pub use ways::{Way, Ways};

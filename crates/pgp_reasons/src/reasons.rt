@@ -5,12 +5,13 @@ ghost use Rattle.pgp_group.specs.GroupLog.{GroupLog};
 ghost use Rattle.pgp_group.specs.Heard.{heard as heard_by};
 ghost use Rattle.pgp_group.specs.Peering.{best as best_copy, info_of};
 ghost use Rattle.pgp_group.specs.Present.{IsPresent};
-ghost use Rattle.pgp_reasons.specs.Reasons.{gaps, AreReasons, AreWaits, IsViewed, IsAskedOf};
+ghost use Rattle.pgp_reasons.specs.Reasons.{gaps, short as short_by, AreReasons, AreWaits, IsViewed, IsAskedOf};
 
 use super::blocking::Blocking;
 use super::gap::Gap;
 use super::gaps::gaps;
 use super::heard::{heard, infos_in};
+use super::short::{Short, short_of};
 use super::waits::{Waits, no_ways, waits_of};
 use super::ways::Ways;
 use pgp_code::AnyCode;
@@ -30,6 +31,8 @@ pub struct Reasons {
     pub starts: Ways,
     /// The same of devices that are declared lost.
     pub losses: Ways,
+    /// What its acting set lacks, and who might be missed in it.
+    pub short: Short,
     /// The numbers of writes that the log of the best copy lacks. None where there is no best copy.
     pub gaps: Seq<Gap>,
 }
@@ -80,18 +83,21 @@ fn reasons_by(
         heard.as_slice(),
     )?;
     let waits = waits_of(alloc, code, map, infos, view)?;
-    Ok(joined(heard, waits, gaps))
+    let short = short_of(alloc, code, map, view)?;
+    Ok(joined(heard, waits, short, gaps))
 }
 
 /// The reasons of these parts.
-fn joined(heard: Seq<Info>, waits: Waits, lacked: Seq<Gap>) -> Reasons
-    ensures { (g : GroupLog) → heard ≡ heard_by g → AreWaits g waits → lacked ≡ gaps g → AreReasons g result }
+fn joined(heard: Seq<Info>, waits: Waits, short: Short, lacked: Seq<Gap>) -> Reasons
+    ensures { (g : GroupLog) → heard ≡ heard_by g → AreWaits g waits → short ≡ short_by g → lacked ≡ gaps g
+        → AreReasons g result }
 {
     Reasons {
         heard,
         blocking: waits.blocking,
         starts: waits.starts,
         losses: waits.losses,
+        short,
         gaps: lacked,
     }
 }
@@ -144,6 +150,10 @@ fn nothing(alloc: Global) -> Reasons {
         blocking: Seq::new(alloc),
         starts: no_ways(alloc),
         losses: no_ways(alloc),
+        short: Short {
+            lacks: 0,
+            fallen: Seq::new(alloc),
+        },
         gaps: Seq::new(alloc),
     }
 }

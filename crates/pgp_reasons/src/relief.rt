@@ -81,7 +81,9 @@ pub fn is_relieved<R: Recoverable, S: StatusOf>(
 
 /// The smallest sets of these devices which, once they boot, or are declared lost, leave a group that no past interval blocks.
 ///
-/// It judges each set by the past intervals that are handed in, and stops after some thousands of sets: `more` says so.
+/// It judges each set by the past intervals that are handed in, lists at most 16 sets, and stops after it has judged some
+/// thousands: `more` says so. Of nine devices or fewer it judges as many as there need be, so there `more` says that there are
+/// more than 16.
 pub fn smallest<R: Recoverable, S: StatusOf>(
     alloc: Global,
     code: &R,
@@ -91,7 +93,7 @@ pub fn smallest<R: Recoverable, S: StatusOf>(
     way: Way,
     among: &[OsdId],
 ) -> Result<Ways, AllocError>
-    ensures { IfOk result (λ ways. AreSome (smallest
+    ensures { IfOk result (λ ways. AreSome among.now (smallest
         (is_relieved (R.enough code.now) (R.by_place code.now) (S.status_of statuses.now) les past.now way) among.now)
         ways.sets ways.more) }
 {

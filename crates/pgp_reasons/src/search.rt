@@ -1,5 +1,5 @@
-ghost use Rattle.std.specs.Prelude.{◌≡◌, true, false, Contains, IfOk};
-ghost use Rattle.pgp_reasons.specs.Smallest.{smallest, AreFirstOf, AreSome};
+ghost use Rattle.std.specs.Prelude.{◌≡◌, ◌≤◌, true, false, length, Contains, IfOk};
+ghost use Rattle.pgp_reasons.specs.Smallest.{most_sets, smallest, AreFirstOf, AreMany, AreSome};
 
 use super::enough::Enough;
 use super::found::Found;
@@ -10,13 +10,14 @@ use std::alloc::{AllocError, Global};
 /// The smallest sets of these devices that are enough, the smaller first.
 ///
 /// It walks the sets by their size, and stops after it has judged 10,000 of them or listed 16. Where it stopped before it
-/// came upon any, it lists one that it finds by leaving out one device after another.
+/// came upon any, it lists one that it finds by leaving out one device after another. Of nine devices it never has to judge
+/// 10,000 sets.
 pub(crate) fn smallest_of<E: Enough>(
     alloc: Global,
     judge: &E,
     among: &[OsdId],
 ) -> Result<Ways, AllocError>
-    ensures { IfOk result (λ ways. AreSome (smallest (E.enough judge.now) among.now) ways.sets ways.more) }
+    ensures { IfOk result (λ ways. AreSome among.now (smallest (E.enough judge.now) among.now) ways.sets ways.more) }
 {
     let mut found = Found::new(alloc);
     if !judge.is_enough(among, &[]) {
@@ -46,7 +47,9 @@ fn or_one<E: Enough>(
 ) -> Result<Ways, AllocError>
     requires enough { E.enough judge.now among.now ≡ true }
     requires first { AreFirstOf false (smallest (E.enough judge.now) among.now) listed }
-    ensures { IfOk result (λ ways. AreSome (smallest (E.enough judge.now) among.now) ways.sets ways.more) }
+    requires bound { length listed ≤ most_sets }
+    requires many { AreMany among.now (smallest (E.enough judge.now) among.now) listed }
+    ensures { IfOk result (λ ways. AreSome among.now (smallest (E.enough judge.now) among.now) ways.sets ways.more) }
 {
     let mut sets = listed;
     if sets.is_empty() {

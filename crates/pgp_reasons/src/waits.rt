@@ -3,6 +3,7 @@
 ghost use Rattle.std.specs.Prelude.{◌≡◌, [], false, IfOk};
 ghost use Rattle.pgp_map.specs.MapOf.{IsMapOf};
 ghost use Rattle.pgp_group.specs.GroupLog.{GroupLog, incs, infos as told};
+ghost use Rattle.pgp_group.specs.Peering.{prior};
 ghost use Rattle.pgp_group.specs.View.{view_of};
 ghost use Rattle.pgp_reasons.specs.GroupWays.{ways as ways_of};
 ghost use Rattle.pgp_reasons.specs.Smallest.{AreSome};
@@ -58,7 +59,7 @@ fn ways(
     way: Way,
 ) -> Result<Ways, AllocError>
     ensures { IfOk result (λ list. (g : GroupLog) → g.history.code ≡ code.now → IsMapOf (incs g) map.now → view.now ≡ view_of g
-        → AreSome (ways_of way g) list.sets list.more) }
+        → AreSome (prior g).blocked_by (ways_of way g) list.sets list.more) }
 {
     if view.blocked_by.is_empty() {
         return Ok(no_ways(alloc));

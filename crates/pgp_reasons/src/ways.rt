@@ -14,6 +14,6 @@ pub enum Way {
 pub struct Ways {
     /// The smaller sets first; each in ascending order.
     pub sets: Seq<Seq<OsdId>>,
-    /// Whether there may be others.
+    /// Whether there may be others: 16 are listed and there are more, or there were more than nine devices to choose from.
     pub more: bool,
 }

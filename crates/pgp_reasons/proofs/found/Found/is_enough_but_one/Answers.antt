@@ -10,6 +10,7 @@ returns-then-branch-clause-said g c =
 pub loop-place-preserved : goal.loop-place-preserved
 loop-place-preserved g c = record {
   kept = c.look.ensures.kept ∙ c.loop-place.invariant.kept;
+  counted = omega (arith, c.look.ensures.counted, c.loop-place.invariant.counted);
   none = none-more (g.E.Enough.enough c.args.judge.now) c.args.set.now c.loop-place.place c.loop-place-test.true c.loop-place.invariant.none (grind (arith, common_steps));
 }
 

@@ -1,0 +1,62 @@
+//! What a group lacks whose acting set is too small to serve.
+
+ghost use Rattle.std.specs.Prelude.{◌≡◌, nat_lt, IfOk};
+ghost use Rattle.pgp_lists.specs.Ordered.{ascending};
+ghost use Rattle.pgp_sets.specs.Status.{held_status};
+ghost use Rattle.pgp_reasons.specs.Short.{fallen as fallen_of, short_of as short_by};
+
+use super::blocking::add_down;
+use super::lacking::lacking;
+use pgp_code::{AnyCode, Recoverable};
+use pgp_ids::{Epoch, OsdId, Past, Seq, View};
+use pgp_interval::acting_slots;
+use pgp_map::OsdMap;
+use std::alloc::{AllocError, Global};
+
+/// What the acting set of a group lacks, and who might be missed in it.
+#[derive(Debug, Drop)]
+pub struct Short {
+    /// How many more slots than those of the acting members would be enough.
+    pub lacks: usize,
+    /// The devices that are down of those that were acting in the past intervals since the group last began to serve. In
+    /// ascending order, each once.
+    pub fallen: Seq<OsdId>,
+}
+
+/// What the acting set of the group of this view lacks.
+pub(crate) fn short_of(
+    alloc: Global,
+    code: &AnyCode,
+    map: &OsdMap,
+    view: &View,
+) -> Result<Short, AllocError>
+    ensures { IfOk result (λ short. short
+        ≡ short_by code.now (held_status map.now) view.now.les view.now.intervals view.now.acting) }
+{
+    let by_place = code.by_place();
+    let past = view.intervals.as_slice();
+    let fallen = fallen(alloc, by_place, map, view.les, past)?;
+    Ok(Short {
+        lacks: lacking(code, acting_slots(by_place, &view.acting)),
+        fallen,
+    })
+}
+
+/// The acting devices, down now, of the past intervals that didn't end before the epoch `les`.
+fn fallen(
+    alloc: Global,
+    by_place: bool,
+    map: &OsdMap,
+    les: Epoch,
+    past: &[Past],
+) -> Result<Seq<OsdId>, AllocError>
+    ensures { IfOk result (λ list. list ≡ fallen_of by_place (held_status map.now) les past.now) }
+{
+    let mut list = Vec::new(alloc);
+    for interval in past {
+        if les <= interval.last {
+            add_down(&mut list, by_place, map, interval)?;
+        }
+    }
+    Ok(Seq::from_vec(list))
+}
