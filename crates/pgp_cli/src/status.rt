@@ -56,7 +56,8 @@ pub fn status_of<R: Source, W: Sink, E: Write, T: Threads + Wait + Sync>(
     // The words have a fault and are no request for help. Nothing was read, and nothing was answered.
     ensures usage { result ≡ Ending.Usage
         → AreWrong (map string_bytes words.now) × (reader.new ≡ reader.old) × (writer.new ≡ writer.old) }
-    // Nothing was read, and nothing was answered.
+    // There was no memory to read the words, or for the text of help: that there was none no clause can say. Nothing was read,
+    // and nothing was answered.
     ensures memory { result ≡ Ending.NoMemory → (reader.new ≡ reader.old) × (writer.new ≡ writer.old) }
     // The script was answered as far as it was read whole, or as far as it could be written or had an engine to answer it; or
     // there was no engine, and nothing was read; or help could not be shown; or an explanation or a compaction was asked for, and
