@@ -24,8 +24,8 @@ In this order, each part with its count and its seconds:
 --quick runs what stands before the gate alone, and --after-gate what stands after it, on the program that an earlier gate or
 `rt run` left. --seed is that of the generated scripts, 1 if not said.
 
-Needs bash, Python and `rt`, and a C compiler for the last parts: a part that lacks what it needs is skipped, and its line says
-what that is. All but the gate take some twelve minutes on a quiet machine. Each part has a bound of its own, some four times
+Needs bash, Python and `rt`, and a C compiler for two of the statuses and for the last parts: what lacks one is left out, and a
+line says so. All but the gate take some twelve minutes on a quiet machine. Each part has a bound of its own, some four times
 that, so that a busy machine fails none; one that takes longer has failed. The gate says its lines as they come, another part
 where it failed. Nothing is installed, and no file is left in the tree but in folders `out`. The last line is
 `N passed, M failed`, of all parts together, and the status is 1 where something failed.
