@@ -56,7 +56,7 @@ REFUSED_SCRIPTS = (  # in which each allocation is refused, with the words befor
     ("an explanation", ("explain", "examples/explain_down.jsonl", "1.0")),
     ("a compaction", ("compact", "examples/compact.jsonl")),
 )
-MOST_SECONDS = 3000  # for all parts but the gate
+MOST_SECONDS = 3600  # for all parts but the gate
 SKIPPED = 3  # the status of a part that says in its own words that it was skipped
 MOST_SHOWN = 4000  # characters of what a failed part said
 
@@ -161,8 +161,8 @@ def on_c_library() -> List[Part]:
     build = ["tools/build_c_library.sh", "--after-gate", str(C_LIBRARY.parent)]
     check = python("tools/check_c_library.py", C_LIBRARY.parent)
     return [
-        Part("library for C, built", build, 900, built, ("cc", "ar")),
-        Part("library for C", check, 900, tried_and_wrong, ("cc",), C_LIBRARY),
+        Part("library for C, built", build, 1500, built, ("cc", "ar")),
+        Part("library for C", check, 200, tried_and_wrong, ("cc",), C_LIBRARY),
     ]
 
 
