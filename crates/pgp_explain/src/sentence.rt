@@ -128,7 +128,12 @@ fn on_short(alloc: Global, explained: &Explained, naming: Naming) -> Result<Stri
     ensures { IfOk result (λ text. string_bytes text ≡ on_short_of explained.now) }
 {
     let mut text = few(alloc, explained)?;
-    put_fallen(alloc, explained.reasons.short.fallen.as_slice(), naming, &mut text)?;
+    put_fallen(
+        alloc,
+        explained.reasons.short.fallen.as_slice(),
+        naming,
+        &mut text,
+    )?;
     Ok(text)
 }
 
@@ -184,7 +189,11 @@ fn put_fallen(
         return Ok(());
     }
     let down = devices(alloc, naming, osds)?;
-    write!(text, " Of those that served it last, {down} {} down.", are(osds.len()))
+    write!(
+        text,
+        " Of those that served it last, {down} {} down.",
+        are(osds.len())
+    )
 }
 
 /// Entries of the log by which objects are brought up to date haven't been reported.
