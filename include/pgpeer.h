@@ -252,8 +252,8 @@ typedef struct pgp_info {
 } pgp_info;
 
 /* Tells a session an info, as the line of op "info" does: PGP_DONE where the log takes it. At any other status the log is as
- * before: the number of the refusal, PGP_BAD_ARGUMENT where a number with a range above isn't in it, PGP_NO_MEMORY, or
- * PGP_NOT_OPEN. The answer to the last line is kept. */
+ * before: the number of the refusal, PGP_BAD_ARGUMENT where a number with a range above isn't in it, PGP_NO_MEMORY, which comes
+ * only for an info that the log takes, or PGP_NOT_OPEN. The answer to the last line is kept. */
 uint32_t pgp_submit_info(pgp_session *session, const pgp_info *info);
 
 /* Leaves in the session's log only the entries that an answer can still need: PGP_DONE, and *left_out is how many it left out. From

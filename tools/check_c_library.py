@@ -7,23 +7,28 @@ FOLDER is what tools/build_c_library.sh made: crates/pgp_c/out/c where none is g
 $CC. What is checked, each with a line:
 
   names      the numbers and names of pgpeer.h are those of the sources in Rattle
+  version    pgp_version, pgpeer.pc, the program and examples/rust have one version
   stored     each script of crates/pgp_scripts has its stored answers, told to a session of its own, with rooms of several sizes,
              on one thread, on two, and with each line told by a thread of its own
-  refused    the same of short scripts, with each call of malloc and realloc refused in turn
+  refused    the same of short scripts, with each call of malloc and realloc refused in turn: the line is answered by one of the two
+             texts for it, and then told again
   typed      what the calls that give and take values do is what the answers to lines say, also with each call of malloc and
              realloc refused in turn
   example    examples/c and examples/python print the stored answers to each script of examples/, and examples/c/ask.c what it
              is to print of an outage
-  Rust       the tests of examples/rust pass, where there is a cargo
-  memory     valgrind finds no fault, no leak and no race in a short script, where there is a valgrind
-  C++        pgpeer.h is read by c++, where there is one
+  pkg-config examples/c/outage.c is built with the words that pkg-config gives of pgpeer.pc, and prints the stored answers
+  Rust       the tests of examples/rust pass, by cargo
+  memory     valgrind finds no fault, no leak and no race in a short script
+  C++        pgpeer.h is read by c++
 
-The last line is `N checks, M wrong`, and the status is 1 where something was wrong.
+One of the last four is skipped where its program isn't there, and its line says so. The last line is `N checks, M wrong`, and the status is 1 where something was wrong.
 """
 
+import ctypes
 import os
 import pathlib
 import re
+import shlex
 import shutil
 import subprocess
 import sys
@@ -97,6 +102,20 @@ def wrong_names(header):
     yield from (f"{name}: it has no name" for name in unnamed - {"PGP_LONGEST_LINE", "PGP_NO_DEVICE", "PGP_MISSING", "PGP_BACKFILL", "PGP_DIVERGED"})
 
 
+def wrong_versions(folder):
+    """What has another version than the library says."""
+    number = ctypes.CDLL(str(folder / "libpgpeer.so")).pgp_version()
+    version = f"{number // 10000}.{number // 100 % 100}.{number % 100}"
+    for file, pattern in (
+        (folder / "pgpeer.pc", r"^Version: (\S+)$"),
+        (ROOT / "crates/pgp_cli/src/commands.rt", r'\.version\("(\S+)"\)'),
+        (ROOT / "examples/rust/Cargo.toml", r'^version = "(\S+)"$'),
+    ):
+        told = re.findall(pattern, file.read_text(), re.M)
+        if told != [version]:
+            yield f"{file.name}: {told}, and {version} in the library"
+
+
 # Scripts
 
 
@@ -155,6 +174,33 @@ def wrong_values(folder):
     return faults(run(*words, cwd=ROOT / "examples/python"))
 
 
+def wrong_package(folder, program):
+    """What is wrong where a program is built by pkg-config, by a stored example."""
+    env = {**os.environ, "PKG_CONFIG_PATH": str(folder)}
+    asked = run("pkg-config", "--cflags", "--libs", "pgpeer", env=env)
+    if asked.returncode:
+        return faults(asked)
+    built = run(os.environ.get("CC", "cc"), "-o", program, ROOT / "examples/c/outage.c", *shlex.split(asked.stdout.decode()))
+    if built.returncode:
+        return faults(built)
+    told = run(program, input=(ROOT / "examples/outage.jsonl").read_bytes())
+    if told.stdout != (ROOT / "examples/outage.answers.jsonl").read_bytes():
+        return ["other answers"]
+    return faults(told)
+
+
+def wrong_crate(folder, work):
+    """What is wrong with examples/rust, in a copy: cargo writes beside its files."""
+    examples = pathlib.Path(work) / "examples"
+    shutil.copytree(ROOT / "examples", examples, ignore=shutil.ignore_patterns("target", "Cargo.lock"))
+    env = {**os.environ, "PGPEER_DIR": str(folder), "CARGO_TARGET_DIR": f"{work}/rust"}
+    return faults(run("cargo", "test", "-q", "--offline", cwd=examples / "rust", env=env))
+
+
+def wrong_header(folder):
+    return faults(run("c++", "-std=c++17", "-Wall", "-Wextra", "-Werror", "-fsyntax-only", "-x", "c++", folder / "pgpeer.h"))
+
+
 def wrong_memory(play, typed):
     outage = [ROOT / "examples/outage.jsonl", ROOT / "examples/outage.answers.jsonl"]
     leaks = ["valgrind", "-q", "--leak-check=full", "--error-exitcode=3"]
@@ -173,7 +219,7 @@ def main():
     folder = pathlib.Path(sys.argv[1] if len(sys.argv) == 2 else ROOT / "crates/pgp_c/out/c").resolve()
     if len(sys.argv) < 2:
         subprocess.run([str(ROOT / "tools/build_c_library.sh"), str(folder)], check=True, stdout=subprocess.DEVNULL)
-    tests = ROOT / "tools/tests/c"
+    tests, skipped = ROOT / "tools/tests/c", {}
     with tempfile.TemporaryDirectory() as work:
         play = compiled(folder, pathlib.Path(work) / "play", WRAPPED, tests / "play.c", "-pthread")
         typed = compiled(folder, pathlib.Path(work) / "typed", WRAPPED, tests / "typed.c")
@@ -181,24 +227,27 @@ def main():
         ask = compiled(folder, pathlib.Path(work) / "ask", ROOT / "examples/c/ask.c")
         checks = {
             "names": list(wrong_names((folder / "pgpeer.h").read_text())),
+            "version": list(wrong_versions(folder)),
             "stored": list(wrong_runs(play)),
             "refused": list(wrong_refusals(play)),
             "typed": faults(run(typed)) + faults(run(typed, "refuse")),
             "example": list(wrong_examples(folder, outage, ask)) + wrong_values(folder),
         }
-        if shutil.which("cargo"):
-            env = {**os.environ, "PGPEER_DIR": str(folder), "CARGO_TARGET_DIR": f"{work}/rust"}
-            checks["Rust"] = faults(run("cargo", "test", "-q", "--offline", cwd=ROOT / "examples/rust", env=env))
-        if shutil.which("valgrind"):
-            checks["memory"] = list(wrong_memory(play, typed))
-        if shutil.which("c++"):
-            checks["C++"] = faults(run("c++", "-std=c++17", "-Wall", "-Wextra", "-Werror", "-fsyntax-only", "-x", "c++", folder / "pgpeer.h"))
+        for name, program, look in (
+            ("pkg-config", "pkg-config", lambda: wrong_package(folder, pathlib.Path(work) / "packaged")),
+            ("Rust", "cargo", lambda: wrong_crate(folder, work)),
+            ("memory", "valgrind", lambda: wrong_memory(play, typed)),
+            ("C++", "c++", lambda: wrong_header(folder)),
+        ):
+            if not shutil.which(program):
+                skipped[name] = program
+            checks[name] = list(look()) if name not in skipped else []
     for name, wrong in checks.items():
-        print(name, "wrong" if wrong else "right")
+        print(f"{name} skipped, since {skipped[name]} isn't there" if name in skipped else f"{name} {'wrong' if wrong else 'right'}")
         for line in wrong:
             print("   ", line)
     failed = sum(1 for wrong in checks.values() if wrong)
-    print(f"{len(checks)} checks, {failed} wrong")
+    print(f"{len(checks) - len(skipped)} checks, {failed} wrong")
     return int(failed > 0)
 
 

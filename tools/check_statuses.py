@@ -5,20 +5,24 @@
 
 PROGRAM is crates/pgpeer/out/pgpeer where none is given. Each case is a command line with a standard input and output, among
 them a script of one line more than it may have, an input that can't be read, and outputs that can't be written or that nobody
-reads; and the status, the output and the errors that docs/FORMAT.md promises of it. Exits with 1 where one of them is another.
+reads; and the status, the output and the errors that docs/FORMAT.md promises of it. In some a worker's thread can't be started:
+these need a C compiler, `cc`, and are left out where there is none. Exits with 1 where a case ends otherwise, or doesn't end.
 """
 
 import argparse
+import contextlib
 import os
 import pathlib
+import shutil
 import subprocess
 import sys
 import tempfile
 from dataclasses import dataclass
-from typing import Optional
+from typing import Iterator, Optional
 
 ROOT = pathlib.Path(__file__).resolve().parent.parent
 MAX_LINES = 1_000_000
+MOST_SECONDS = 120  # that a case takes
 CLOSE = b'{"op":"close"}\n'
 CLOSED = b'{"count":1,"epoch":0,"ok":"close"}\n'
 OUTAGE = (ROOT / "examples" / "outage.jsonl").read_bytes()
@@ -28,6 +32,7 @@ LEFT_OUT = b"pgpeer: left out 7 of 13 entries; 1 line was refused\n"
 NONE_LEFT_OUT = b"pgpeer: left out 0 of 1 entries\n"
 READ_FAULT, WRITE_FAULT = b"pgpeer: read fault\n", b"pgpeer: write fault\n"
 READS_INPUT = b"pgpeer compact reads standard input: pgpeer compact < FILE"
+NO_ENGINE = b"pgpeer: no engine\n"
 NOBODY = "a pipe that nobody reads"
 TOO_LARGE = b"pgpeer: the script has more than 1000000 lines or 4294967296 bytes\n"
 
@@ -47,12 +52,16 @@ class Case:
     writes: Optional[str] = None
     tells: bytes = b""
     says: bytes = b""
+    refused_thread: int = 0  # which start of a thread is refused, counted from 1
 
 
 CASES = [
     Case("an empty script", ["run"], 0),
     Case("a script", ["run"], 0, script=CLOSE, output=CLOSED),
     Case("as many lines as may be", ["run"], 0, script=CLOSE + b"\n" * (MAX_LINES - 1), output=CLOSED),
+    Case("more workers than shards", ["run", "--shards", "1", "--workers", "3"], 0, script=CLOSE, output=CLOSED),
+    Case("no thread for a worker", ["run", "--workers", "1"], 3, script=CLOSE, errors=NO_ENGINE, refused_thread=1),
+    Case("one thread for three workers", ["run", "--workers", "3"], 3, script=CLOSE, errors=NO_ENGINE, refused_thread=2),
     Case("one line too many", ["run"], 3, script=CLOSE + b"\n" * MAX_LINES, output=CLOSED, errors=TOO_LARGE),
     Case("an input that can't be read", ["run"], 3, reads="/", errors=READ_FAULT),
     Case("an output that can't be written", ["run"], 3, script=CLOSE, writes="/dev/full", errors=WRITE_FAULT),
@@ -101,14 +110,29 @@ def sink_of(case):
     return writer
 
 
-def run(program, case):
+@contextlib.contextmanager
+def refusing_threads() -> Iterator[Optional[str]]:
+    """A library that refuses a start of a thread in the program into which it is loaded; None where there is no C compiler."""
+    if not shutil.which("cc"):
+        yield None
+        return
+    with tempfile.TemporaryDirectory() as folder:
+        library = f"{folder}/refuse_thread.so"
+        source = ROOT / "tools" / "refuse_thread.c"
+        subprocess.run(["cc", "-shared", "-fPIC", "-O1", "-o", library, str(source), "-ldl"], check=True)
+        yield library
+
+
+def run(program, case, library=None):
     """Runs a case, and gives its status, its output and its errors. A write that nobody reads fails, and sends no signal."""
     with tempfile.TemporaryFile() as script:
         script.write(case.script)
         script.seek(0)
         source = script.fileno() if case.reads is None else os.open(case.reads, os.O_RDONLY)
         streams = {"stdin": source, "stdout": sink_of(case), "stderr": subprocess.PIPE}
-        ended = subprocess.run([program, *case.words], **streams, restore_signals=False, timeout=120)
+        refuses = {"LD_PRELOAD": library, "REFUSE_THREAD": str(case.refused_thread)} if case.refused_thread else {}
+        how = {**streams, "env": {**os.environ, **refuses}, "restore_signals": False, "timeout": MOST_SECONDS}
+        ended = subprocess.run([program, *case.words], **how)
         return ended.returncode, ended.stdout or b"", ended.stderr
 
 
@@ -117,9 +141,12 @@ def is_text(found, wanted):
     return found != b"" if wanted is None else found == wanted
 
 
-def wrong(program, case):
+def wrong(program, case, library=None):
     """Says what is wrong with how a case ends, if anything."""
-    status, output, errors = run(program, case)
+    try:
+        status, output, errors = run(program, case, library)
+    except subprocess.TimeoutExpired:
+        return f"not ended after {MOST_SECONDS} seconds"
     if status != case.status:
         return f"status {status} and not {case.status}"
     if not is_text(output, case.output) or case.says not in output:
@@ -130,7 +157,11 @@ def wrong(program, case):
 
 
 def main(program):
-    found = [(case.name, wrong(program, case)) for case in CASES]
+    with refusing_threads() as library:
+        cases = [case for case in CASES if library or not case.refused_thread]
+        found = [(case.name, wrong(program, case, library)) for case in cases]
+    if len(cases) < len(CASES):
+        print(f"{len(CASES) - len(cases)} runs left out, since cc isn't there")
     differ = [(name, what) for name, what in found if what is not None]
     for name, what in differ:
         print(f"{name}: {what}")

@@ -18,13 +18,14 @@ In this order, each part with its count and its seconds:
                                     (fuzz/compact.py)
   allocations refused               each allocation of a short script refused in turn, with and without workers
                                     (refuse_allocations.py), of an explanation and of a compaction (refuse_in_subcommands.py)
-  library for C                     the static library, where tools/build_c_library.sh has left one (check_c_library.py)
+  library for C, built              the static library, over what the gate proved (build_c_library.sh)
+  library for C                     its scripts, calls, examples and names (check_c_library.py)
 
 --quick runs what stands before the gate alone, and --after-gate what stands after it, on the program that an earlier gate or
 `rt run` left. --seed is that of the generated scripts, 1 if not said.
 
-Needs bash, Python and `rt`, and a C compiler for the last part: a part that lacks what it needs is skipped, and its line says
-what that is. All but the gate take some eight minutes on a quiet machine. Each part has a bound of its own, some four times
+Needs bash, Python and `rt`, and a C compiler for two of the statuses and for the last parts: what lacks one is left out, and a
+line says so. All but the gate take some twelve minutes on a quiet machine. Each part has a bound of its own, some four times
 that, so that a busy machine fails none; one that takes longer has failed. The gate says its lines as they come, another part
 where it failed. Nothing is installed, and no file is left in the tree but in folders `out`. The last line is
 `N passed, M failed`, of all parts together, and the status is 1 where something failed.
@@ -40,7 +41,7 @@ import signal
 import subprocess
 import sys
 import time
-from typing import Callable, List, NamedTuple, Optional, Tuple
+from typing import Callable, Iterator, List, NamedTuple, Optional, Tuple
 
 ROOT = pathlib.Path(__file__).resolve().parent.parent
 PROGRAM = ROOT / "crates/pgpeer/out/pgpeer"
@@ -55,7 +56,8 @@ REFUSED_SCRIPTS = (  # in which each allocation is refused, with the words befor
     ("an explanation", ("explain", "examples/explain_down.jsonl", "1.0")),
     ("a compaction", ("compact", "examples/compact.jsonl")),
 )
-MOST_SECONDS = 2400  # for all parts but the gate
+MOST_SECONDS = 3000  # for all parts but the gate
+SKIPPED = 3  # the status of a part that says in its own words that it was skipped
 MOST_SHOWN = 4000  # characters of what a failed part said
 
 Counts = Tuple[int, int]  # passed, failed
@@ -69,6 +71,7 @@ class Part(NamedTuple):
     seconds: float  # its bound
     counts: Callable[[str], Optional[Counts]]
     needs: Tuple[str, ...] = ()  # other programs, without which it is skipped
+    file: Optional[pathlib.Path] = None  # a file, without which it is skipped
     program: pathlib.Path = NO_PROGRAM  # where unit tests find the built program
 
 
@@ -124,6 +127,11 @@ def compactions(said: str) -> Optional[Counts]:
     return max(made - failed, 0), failed
 
 
+def built(said: str) -> Optional[Counts]:
+    """The last line of build_c_library.sh: the folder that it filled."""
+    return (1, 0) if said.rstrip("\n").rpartition("\n")[2] == str(C_LIBRARY.parent) else None
+
+
 def allocations(said: str) -> Optional[Counts]:
     found = re.search(r"^(\d+) allocations(?:, \d+ answers)?$", said, re.M)
     wrong = re.findall(r"\d+", "".join(re.findall(r"^wrong where these were refused: \[(.*)\]$", said, re.M)))
@@ -149,9 +157,13 @@ def before_gate() -> List[Part]:
 
 
 def on_c_library() -> List[Part]:
-    """What is tested of the library for C, where it was built."""
+    """What is tested of the library for C, which is built first."""
+    build = ["tools/build_c_library.sh", "--after-gate", str(C_LIBRARY.parent)]
     check = python("tools/check_c_library.py", C_LIBRARY.parent)
-    return [Part("library for C", check, 900, tried_and_wrong, ("cc",))] if C_LIBRARY.exists() else []
+    return [
+        Part("library for C, built", build, 900, built, ("cc", "ar")),
+        Part("library for C", check, 900, tried_and_wrong, ("cc",), C_LIBRARY),
+    ]
 
 
 def after_gate(seed: str) -> List[Part]:
@@ -229,14 +241,23 @@ def judged(part: Part, end: Ended) -> Counts:
     return passed, failed if is_well else max(failed, 1)
 
 
+def lacking(part: Part) -> Iterator[object]:
+    """What a part needs and isn't there."""
+    yield from (it for it in part.needs if not shutil.which(it))
+    if part.file and not part.file.exists():
+        yield part.file.relative_to(ROOT)
+
+
 def run_part(part: Part, seconds: float) -> Counts:
     """Runs a part for so many seconds at most, prints its line, and gives its counts."""
-    lacking = [it for it in part.needs if not shutil.which(it)]
-    if lacking:
-        print(f"{part.name}: skipped, since {lacking[0]} isn't there", flush=True)
+    for lack in lacking(part):
+        print(f"{part.name}: skipped, since {lack} isn't there", flush=True)
         return 0, 0
     start = time.monotonic()
     end = ended(part, seconds)
+    if end.status == SKIPPED and end.said.startswith("skipped, "):
+        print(f"{part.name}: {end.said.rstrip()}", flush=True)
+        return 0, 0
     passed, failed = judged(part, end)
     if failed:
         print(end.said[-MOST_SHOWN:].rstrip("\n"))

@@ -2,6 +2,7 @@
 
 import os
 import pathlib
+import shutil
 import sys
 import tempfile
 import unittest
@@ -13,6 +14,16 @@ sys.path.insert(0, str(HERE.parent))
 import check_statuses  # noqa: E402
 import run_examples  # noqa: E402
 from check_statuses import NOBODY, WRITE_FAULT, Case  # noqa: E402
+
+# Starts two threads, and says whether both ran.
+THREADS = """#!/usr/bin/env python3
+import sys, threading
+try:
+    for _ in range(2):
+        threading.Thread(target=int).start()
+except RuntimeError:
+    sys.exit(3)
+"""
 
 # Writes the lines of standard input; those with `drop` not, where it is to compact.
 COMPACTS = "#!/bin/sh\nif test \"$1\" = compact; then grep -v drop; else cat; fi\n"
@@ -48,6 +59,21 @@ class Statuses(WithPrograms):
         self.assertEqual(self.wrong(said, status=0), "status 2 and not 0")
         self.assertEqual(self.wrong(said, status=2, errors=b"said\n"), "output b'out\\n'")
         self.assertEqual(self.wrong(said, status=2, output=None, errors=None, tells=b"else"), "errors b'said\\n'")
+
+    @unittest.skipUnless(shutil.which("cc"), "needs a C compiler")
+    def test_a_thread_that_cannot_be_started(self):
+        with check_statuses.refusing_threads() as library:
+            for refused, status in ((0, 0), (1, 3), (2, 3), (3, 0)):
+                case = Case("a case", [], status, refused_thread=refused)
+                self.assertIsNone(check_statuses.wrong(self.program(THREADS), case, library), refused)
+
+    def test_a_run_that_does_not_end(self):
+        with mock.patch.object(check_statuses, "MOST_SECONDS", 0.2):
+            self.assertEqual(self.wrong("#!/bin/sh\nexec sleep 5\n", status=0), "not ended after 0.2 seconds")
+
+    def test_without_a_compiler(self):
+        with mock.patch.object(shutil, "which", return_value=None), check_statuses.refusing_threads() as library:
+            self.assertIsNone(library)
 
     def test_each_subcommand_has_its_cases(self):
         for name in ("run", "explain", "compact"):

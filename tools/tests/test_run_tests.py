@@ -22,6 +22,7 @@ SAYS = {
     "tools/compare_workers.py": "8 scripts, 3 runs of each with workers, 0 wrong",
     "tools/refuse_allocations.py": "153 allocations, 8 answers",
     "tools/refuse_in_subcommands.py": "261 allocations\n   170 a line met no memory, and is told",
+    "tools/check_c_library.py": "names right\nRust skipped, since cargo isn't there\n9 checks, 0 wrong",
     "fuzz/fuzz.py": "1,060 scripts, 55,530 lines, 9 bytes, 0 wrong answers, 0 other statuses, 0 hangs.",
     "fuzz/explain.py": "60 logs, 125 ends\n1,352 groups, 800 subsets, 0 wrong",
     "fuzz/compact.py": "Scripts: 9 story.\n9 scripts, 9,041 lines, 1,022 compactions which left out 5 of 9 entries, 8 answers after them, 0 wrong",
@@ -43,7 +44,15 @@ echo "{last}"
 exit {status}
 """
 BUILD = "mkdir -p crates/pgpeer/out && cp /bin/true crates/pgpeer/out/pgpeer"
-ALL = 2 + 110 + 2 + 47 + 14 + 24 + 1060 + 1352 + 1022 + 2 * 153 + 2 * 261
+BUILD_C = """#!/bin/sh
+test "$1" = --after-gate || exit 9
+{build}
+echo "{last}"
+exit {status}
+"""
+BUILT_C = 'mkdir -p "$2" && touch "$2/libpgpeer.so"'
+ON_C = 1 + 9  # the build of the library for C, and its checks
+ALL = ON_C + 2 + 110 + 2 + 47 + 14 + 24 + 1060 + 1352 + 1022 + 2 * 153 + 2 * 261
 
 
 class WithTree(unittest.TestCase):
@@ -58,12 +67,14 @@ class WithTree(unittest.TestCase):
         for name, said in SAYS.items():
             self.stub(name, said)
         self.rt(BUILD, "110 passed, 0 failed", 0)
+        self.build_c(BUILT_C, "$2", 0)
         path = {"PATH": f"{self.bin}:{os.environ['PATH']}"}
         program = self.root / "crates/pgpeer/out/pgpeer"
         for patch in (
             mock.patch.dict(os.environ, path),
             mock.patch.object(run_tests, "ROOT", self.root),
             mock.patch.object(run_tests, "PROGRAM", program),
+            mock.patch.object(run_tests, "C_LIBRARY", self.root / "crates/pgp_c/out/c/libpgpeer.so"),
             mock.patch.object(run_tests.shutil, "which", lambda name: f"/bin/{name}"),
         ):
             patch.start()
@@ -78,6 +89,11 @@ class WithTree(unittest.TestCase):
     def rt(self, build, last, status):
         (self.bin / "rt").write_text(RT.format(build=build, last=last, status=status))
         (self.bin / "rt").chmod(0o755)
+
+    def build_c(self, build, last, status):
+        stub = self.root / "tools/build_c_library.sh"
+        stub.write_text(BUILD_C.format(build=build, last=last, status=status))
+        stub.chmod(0o755)
 
     def run_all(self, *words):
         """The status, and the lines that were written."""
@@ -103,7 +119,9 @@ class Runs(WithTree):
         before = {it for it in self.root.rglob("*")}
         self.run_all()
         left = {str(it.relative_to(self.root)) for it in set(self.root.rglob("*")) - before}
-        self.assertEqual(left, {"crates", "crates/pgpeer", "crates/pgpeer/out", "crates/pgpeer/out/pgpeer"})
+        made = ("crates/pgpeer/out/pgpeer", "crates/pgp_c/out/c/libpgpeer.so")
+        within = {str(it) for file in made for it in pathlib.PurePath(file).parents if it.name}
+        self.assertEqual(left, {*made, *within})
 
     def test_a_failing_example_fails(self):
         self.stub("tools/run_examples.py", "map.jsonl: answer 3 is {} and not []\n47 examples, 1 wrong", 1)
@@ -139,7 +157,7 @@ class Runs(WithTree):
         for name in SAYS:
             self.stub(name, "Traceback", 1)
         status, lines = self.run_all()
-        self.assertEqual((status, lines[-1]), (1, "114 passed, 10 failed"))
+        self.assertEqual((status, lines[-1]), (1, "115 passed, 11 failed"))
 
     def test_a_part_without_end_is_stopped(self):
         self.stub("tools/check_statuses.py", "", before="time.sleep(600)")
@@ -152,8 +170,23 @@ class Runs(WithTree):
     def test_without_a_compiler_the_sweep_is_skipped(self):
         with mock.patch.object(run_tests.shutil, "which", lambda name: None):
             status, lines = self.run_all()
-        self.assertEqual((status, lines[-1]), (0, f"{ALL - 2 * 153 - 2 * 261} passed, 0 failed"))
+        self.assertEqual((status, lines[-1]), (0, f"{ALL - ON_C - 2 * 153 - 2 * 261} passed, 0 failed"))
         self.assertIn("allocations refused, first.jsonl, 1 shards, 0 workers: skipped, since cc isn't there", lines)
+        self.assertIn("library for C, built: skipped, since cc isn't there", lines)
+        self.assertIn("library for C: skipped, since cc isn't there", lines)
+
+    def test_a_library_that_is_not_built_fails_and_is_not_checked(self):
+        self.build_c("", "error: pgp_c: not proved", 1)
+        status, lines = self.run_all()
+        self.assertEqual((status, lines[-1]), (1, f"{ALL - ON_C} passed, 1 failed"))
+        self.assertIn("error: pgp_c: not proved", lines)
+        self.assertIn("library for C: skipped, since crates/pgp_c/out/c/libpgpeer.so isn't there", lines)
+
+    def test_a_library_over_those_of_earlier_checks_is_skipped(self):
+        self.build_c("", "skipped, since checks before the gate left libraries here", 3)
+        status, lines = self.run_all()
+        self.assertEqual((status, lines[-1]), (0, f"{ALL - ON_C} passed, 0 failed"))
+        self.assertIn("library for C, built: skipped, since checks before the gate left libraries here", lines)
 
     def test_the_parts_that_are_asked_for(self):
         status, lines = self.run_all("--quick")
@@ -176,6 +209,7 @@ class Counts(unittest.TestCase):
             (run_tests.scripts, "1,060 scripts, 5 lines, 2 wrong answers, 1 other statuses, 3 hangs.\nScripts: 1 full.\n", (1054, 6)),
             (run_tests.explanations, "1,352 groups, 8,001 subsets, 3 wrong\n", (1349, 3)),
             (run_tests.compactions, "12 scripts, 9,000 lines, 1,022 compactions which left out 5 of 9 entries, 8 answers after them, 2 wrong\n", (1020, 2)),
+            (run_tests.built, f"{run_tests.C_LIBRARY.parent}\n", (1, 0)),
             (run_tests.allocations, "153 allocations, 8 answers\n   151 all answers\nwrong where these were refused: [3, 17]\n", (151, 2)),
         ]:
             self.assertEqual(read(said), wanted)

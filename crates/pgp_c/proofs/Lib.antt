@@ -1,4 +1,5 @@
 pub mod ArenaSend
 pub mod AsBox
 pub mod EachLemmas
+pub mod InfoLemmas
 pub mod SessionSend

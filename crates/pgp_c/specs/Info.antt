@@ -5,6 +5,7 @@ use Rattle.pgp_ids.specs.declared.entry.Entry.TheVariants as entry
 use Rattle.pgp_ids.specs.declared.report.Info.{Info}
 use Rattle.pgp_refusals.specs.Refusal.{refusal_number}
 use Rattle.pgp_lines.specs.declared.command.Command.TheVariants.{Submit}
+use Rattle.pgp_log.specs.Fits.{fits}
 use Rattle.pgp_replies.specs.declared.reply.Reply.{Reply}
 use Rattle.pgp_replies.specs.declared.reply.Reply.TheVariants.{Accepted, Asked, Located, Traced, Refused}
 use Rattle.pgp_replies.specs.declared.reply.refused.Refused.TheVariants as why
@@ -53,8 +54,9 @@ pub record IsTaken (was now : LogAndAnswer) (new : Entry) (status : ℕ) : Type 
   pub log : now.log ≡ log_in was.log (Submit new)
   pub status_is : status ≡ reply_status (reply_in was.log (Submit new))
 
--- there was no memory for the entry
-pub record IsLacking (was now : LogAndAnswer) (status : ℕ) : Type 0 where
+-- there was no memory for the entry, which is one that the log takes
+pub record IsLacking (was now : LogAndAnswer) (new : Entry) (status : ℕ) : Type 0 where
+  pub takes : fits was.log new ≡ None
   pub log : now.log ≡ was.log
   pub status_is : status ≡ status_number NoMemory
 
@@ -62,7 +64,7 @@ pub record IsLacking (was now : LogAndAnswer) (status : ℕ) : Type 0 where
 pub record SubmitsIn (was now : LogAndAnswer) (told : PgpInfo) (status : ℕ) : Type 0 where
   pub answer : now.answer ≡ was.answer
   pub bad : (IsInfo told → ⊥) → (now.log ≡ was.log) × (status ≡ status_number BadArgument)
-  pub good : IsInfo told → IsTaken was now (entry_of told) status ⊎ IsLacking was now status
+  pub good : IsInfo told → IsTaken was now (entry_of told) status ⊎ IsLacking was now (entry_of told) status
 
 -- An info was told to a session, where there is one.
 abbrev pub Submits : Option LogAndAnswer → Option LogAndAnswer → PgpInfo → ℕ → Type 0

@@ -1,5 +1,5 @@
 -- Which of a run, an explanation, a compaction and help the words ask for.
-use Rattle.std.proofs.Common.{◌≡◌, refl, sym, subst, ap, ◌∙◌, ◌∷◌, ℕ, Bool, true, false, List, [], cond, arith, inl, inr}
+use Rattle.std.proofs.Common.{◌≡◌, ◌≢◌, refl, sym, subst, ap, ◌∙◌, ◌∷◌, ℕ, Bool, true, false, List, [], cond, arith, inl, inr}
 use Rattle.std.specs.Prelude.{codes, is_some, option_map, option_and_then, Some, None, Option, slice_index}
 use Rattle.std.proofs.lemmas.Option.{none-some}
 use Rattle.std.proofs.lemmas.Slice.Eq.{bytes_eq-Decides}
@@ -13,7 +13,7 @@ use Rattle.clap.specs.declared.error.Error.{Error}
 use Rattle.clap.specs.declared.error.kind.ErrorKind.{ErrorKind}
 use Rattle.clap.specs.declared.error.kind.ErrorKind.TheVariants.{DisplayHelp, DisplayVersion, OutOfMemory, ValueValidation}
 use Rattle.pgp_cli.specs.declared.explain_options.ExplainOptions.{ExplainOptions}
-use Rattle.pgp_cli.specs.Options.{Counts, pgpeer_app, counts_asked, counts_in, explanation_asked, explanation_in, explain_faults_in, compact_faults_in, faults_in, is_compact_asked, names, request_faults, with_name, AsksForCompact, AsksForExplain, AsksForHelp, AsksForRun, IsRequest}
+use Rattle.pgp_cli.specs.Options.{Counts, pgpeer_app, counts_asked, counts_in, explanation_asked, explanation_in, explain_faults_in, compact_faults_in, faults_in, is_compact_asked, names, request_faults, with_name, AsksForCompact, AsksForExplain, AsksForHelp, AsksForRun, AreWrong, IsRequest}
 
 -- ---- one subcommand
 
@@ -105,6 +105,11 @@ help_asked e words (inr version) (inl memory) =
     cc
 help_asked e words is (inr among) = by_name (kind_of e) words (names (codes "explain") words) (names (codes "compact") words) is among
 
+-- another error that isn't out of memory is one of wrong words
+pub are_wrong : (e : Error) (words : List (List ℕ)) → kind_of e ≢ OutOfMemory → (IsRequest (kind_of e) → ⊥) → HasKind (request_faults words) e → AreWrong words
+are_wrong e words lacked request (inl memory) = absurd (lacked memory)
+are_wrong e words lacked request (inr among) = record { kind = kind_of e; among = among; other = request }
+
 none_among : (k : ErrorKind) (kinds : Kinds) → kinds ≡ [] → IsAmong k kinds → ⊥
 none_among k kinds none h = subst (IsAmong k) none h
 
@@ -123,3 +128,21 @@ compact_or_help words compact (inl help) =
     none_among DisplayHelp _ compact.0 (in_either DisplayHelp (fault_of pgpeer_app words) (is_some (counts_asked words)) (is_compact_asked words) (inl refl) help)
 compact_or_help words compact (inr version) =
     none_among DisplayVersion _ compact.0 (in_either DisplayVersion (fault_of pgpeer_app words) (is_some (counts_asked words)) (is_compact_asked words) (inr refl) version)
+
+-- ---- wrong words
+
+pub right_words : (words : List (List ℕ)) → request_faults words ≡ [] → AreWrong words → ⊥
+right_words words none wrong = none_among wrong.kind _ none wrong.among
+
+-- one kind that is a request is no fault
+one_among : (k request : ErrorKind) (kinds : Kinds) → kinds ≡ request ∷ [] → IsRequest request → IsAmong k kinds → IsRequest k
+one_among k request kinds one is h = elim (subst (IsAmong k) one h) [
+  | inl same ↦ subst IsRequest (sym same) is
+  | inr none ↦ absurd none
+]
+
+pub help_words : (words : List (List ℕ)) → request_faults words ≡ DisplayHelp ∷ [] → AreWrong words → ⊥
+help_words words one wrong = wrong.other (one_among wrong.kind DisplayHelp _ one (inl refl) wrong.among)
+
+pub version_words : (words : List (List ℕ)) → request_faults words ≡ DisplayVersion ∷ [] → AreWrong words → ⊥
+version_words words one wrong = wrong.other (one_among wrong.kind DisplayVersion _ one (inr refl) wrong.among)

@@ -215,3 +215,9 @@ IsRequest kind = (kind ≡ DisplayHelp) ⊎ (kind ≡ DisplayVersion)
 -- the words may be such a request
 abbrev pub AsksForHelp : List (List ℕ) → Type 0
 AsksForHelp words = IsAmong DisplayHelp (faults_in words) ⊎ IsAmong DisplayVersion (faults_in words)
+
+-- the words have a fault, which is no request for help
+pub record AreWrong (words : List (List ℕ)) : Type 0 where
+  pub kind : ErrorKind
+  pub among : IsAmong kind (request_faults words)
+  pub other : IsRequest kind → ⊥

@@ -1,4 +1,4 @@
--- What the program does beyond answering a script, and how its runs and explanations end.
+-- What the program does beyond answering a script, how its runs and explanations end, and its exit statuses.
 use Rattle.std.specs.Prelude.{◌≡◌, ◌⊎◌, ℕ, ◌≤◌, List, Bool, true, Option}
 use Rattle.std.specs.Io.KnownBytes.{Appends}
 use Rattle.pgp_compact_script.specs.Compaction.{IsCompacted}
@@ -7,8 +7,17 @@ use Rattle.pgp_core.specs.Run.{AllAnswered, Stopped, script_bounds}
 use Rattle.pgp_explain.specs.Explanation.{IsCutShort, IsExplained}
 use Rattle.pgp_run.specs.Run.{ToldByEngine, StoppedByEngine}
 use Rattle.pgp_run.specs.declared.fault.RunFault.TheVariants.{Read, Write, NoEngine}
+use Rattle.pgp_cli.specs.declared.ending.Ending.{Ending}
+use Rattle.pgp_cli.specs.declared.ending.Ending.TheVariants.{Done, Usage, NoMemory, Fault}
 use Rattle.pgp_cli.specs.declared.explain_options.ExplainOptions.{ExplainOptions}
 use Rattle.pgp_cli.specs.Options.{Counts, question_of}
+
+-- the exit status
+abbrev pub ending_status : Ending → ℕ
+ending_status Done = 0
+ending_status Usage = 2
+ending_status NoMemory = 2
+ending_status Fault = 3
 
 -- some text was written after what was there
 pub record Grows (old new : Option (List ℕ)) : Type 0 where

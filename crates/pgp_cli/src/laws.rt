@@ -2,15 +2,20 @@
 ghost use Rattle.std.specs.Prelude.{◌≡◌, [], ◌∷◌, ℕ, List, codes, Some, None, true, false};
 ghost use Rattle.clap.specs.declared.error.kind.ErrorKind.TheVariants.{DisplayHelp, DisplayVersion, InvalidValue, MissingSubcommand, TooManyValues, UnknownArgument, ValueValidation};
 ghost use Rattle.pgp_cli.specs.declared.explain_options.ExplainOptions.{ExplainOptions};
-ghost use Rattle.pgp_cli.specs.Options.{Counts, counts, counts_asked, faults_in, explanation, explanation_asked, explain_faults_in, group_in, request_faults, AsksForRun, AsksForExplain, AsksForCompact, AsksForHelp};
+ghost use Rattle.pgp_cli.specs.Options.{Counts, counts, counts_asked, faults_in, explanation, explanation_asked, explain_faults_in, group_in, request_faults, AsksForRun, AsksForExplain, AreWrong, AsksForCompact, AsksForHelp};
+ghost use Rattle.pgp_cli.specs.Status.{ending_status};
 
-use super::status::{DONE, FAULT, USAGE};
+use super::ending::{DONE, Ending, FAULT, USAGE};
 
-/// The exit statuses.
+/// The exit statuses, and which of them each ending has.
 pub fn statuses()
     ensures done { DONE ≡ 0 }
     ensures usage { USAGE ≡ 2 }
     ensures fault { FAULT ≡ 3 }
+    ensures done_ends { ending_status Ending.Done ≡ DONE }
+    ensures usage_ends { ending_status Ending.Usage ≡ USAGE }
+    ensures no_memory_ends { ending_status Ending.NoMemory ≡ USAGE }
+    ensures fault_ends { ending_status Ending.Fault ≡ FAULT }
 {}
 
 /// The words of a command line: help is a request of its own, and no word stands behind `run`.
@@ -36,6 +41,14 @@ pub fn right_counts()
     ensures most_workers { faults_in (codes "pgpeer" ∷ codes "run" ∷ codes "--shards" ∷ codes "1" ∷ codes "--workers" ∷ codes "64" ∷ []) ≡ [] }
     ensures most_shards { faults_in (codes "pgpeer" ∷ codes "run" ∷ codes "--workers" ∷ codes "1" ∷ codes "--shards" ∷ codes "64" ∷ []) ≡ [] }
     ensures most { faults_in (codes "pgpeer" ∷ codes "run" ∷ codes "--shards=64" ∷ codes "--workers=64" ∷ []) ≡ [] }
+    ensures taken { AreWrong (codes "pgpeer" ∷ codes "run" ∷ codes "--shards" ∷ codes "1" ∷ codes "--workers" ∷ codes "64" ∷ []) → ⊥ }
+{}
+
+/// Words without a fault aren't wrong, nor are those that ask for help alone.
+pub fn right_words()
+    ensures no_fault { (words : List (List ℕ)) → request_faults words ≡ [] → AreWrong words → ⊥ }
+    ensures help { (words : List (List ℕ)) → request_faults words ≡ DisplayHelp ∷ [] → AreWrong words → ⊥ }
+    ensures version { (words : List (List ℕ)) → request_faults words ≡ DisplayVersion ∷ [] → AreWrong words → ⊥ }
 {}
 
 /// Counts that are out of their bounds, or no numbers.

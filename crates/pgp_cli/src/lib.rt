@@ -1,4 +1,4 @@
-//! The command line: what its words ask for, and the status that the program ends with.
+//! The command line: what its words ask for, and how the program ends.
 //!
 //! [`status_of`] does what the words ask for, over any reader and writers: `pgp_core` answers a script on one thread, and
 //! `pgp_run` one with workers; `pgp_explain` explains one, and
@@ -8,6 +8,7 @@
 
 mod commands;
 mod compact_words;
+mod ending;
 mod explain_options;
 mod explain_words;
 mod fault;
@@ -21,15 +22,16 @@ mod tell;
 mod words;
 
 pub use compact_words::compaction;
+pub use ending::{DONE, Ending, FAULT, USAGE};
 pub use explain_options::ExplainOptions;
 pub use explain_words::explanation;
 pub use laws::{
     command_lines, compact_lines, counts_of_runs, explain_lines, explanations, names_of_groups,
-    one_request, right_counts, statuses, wrong_counts, wrong_explanations,
+    one_request, right_counts, right_words, statuses, wrong_counts, wrong_explanations,
 };
 pub use request::{Request, read_request};
 pub use run_options::RunOptions;
-pub use status::{DONE, FAULT, USAGE, status_of};
+pub use status::status_of;
 pub use streams::Watched;
 pub use tell::without_words;
 pub use words::options;

@@ -1,7 +1,7 @@
-//! What the program does, over any reader and writers, and the status that it ends with.
+//! What the program does, over any reader and writers, and how it ends.
 
-ghost use Rattle.std.specs.Prelude.{◌≡◌, ◌≢◌, ◌⊎◌, ◌≤◌, true, map, string_bytes};
-ghost use Rattle.pgp_cli.specs.Options.{Counts, counts_of, AsksForRun, AsksForWorkers, AsksForCompact, AsksForExplain, AsksForHelp, AsksForSomeExplain};
+ghost use Rattle.std.specs.Prelude.{◌≡◌, ◌⊎◌, ◌≤◌, true, map, string_bytes};
+ghost use Rattle.pgp_cli.specs.Options.{Counts, counts_of, AreWrong, AsksForRun, AsksForWorkers, AsksForCompact, AsksForExplain, AsksForHelp, AsksForSomeExplain};
 ghost use Rattle.pgp_cli.specs.Status.{CompactIsDone, EngineIsStopped, ExplainIsCutShort, ExplainIsDone, Grows, RunIsDone, RunIsStopped};
 ghost use Rattle.pgp_cli.specs.declared.explain_options.ExplainOptions.{ExplainOptions as TheOptions};
 ghost use Rattle.pgp_compact_script.specs.Compaction.{IsCutShort};
@@ -9,6 +9,7 @@ ghost use Rattle.pgp_core.specs.Run.{AllAnswered, Stopped, script_bounds};
 ghost use Rattle.pgp_explain.specs.Reading.{IsRefusedInPart};
 ghost use Rattle.pgp_run.specs.Run.{ToldByEngine};
 
+use super::ending::Ending;
 use super::explain_options::ExplainOptions;
 use super::fault::Fault;
 use super::request::{Request, read_request};
@@ -23,15 +24,7 @@ use std::io::Write;
 use std::sync::Wait;
 use std::thread::Threads;
 
-/// The script was answered, explained or compacted to its end, or help was shown.
-pub const DONE: u8 = 0;
-/// The command line is wrong.
-pub const USAGE: u8 = 2;
-/// A read or a write failed, the script is too large, there is no engine to answer it, no such group to explain, or no memory
-/// to explain or compact it.
-pub const FAULT: u8 = 3;
-
-/// Does what the words ask for, the program's name first, and gives the status to exit with.
+/// Does what the words ask for, the program's name first, and says how that ended.
 ///
 /// Answers, explanations, lines that remain and help go to `writer`, and what is wrong goes to `errors`, refused lines of an
 /// explained script among it, and how many entries a compaction left out. What cannot be written to `errors` is lost. A run with workers starts threads and waits for them; anything else is
@@ -43,10 +36,10 @@ pub fn status_of<R: Source, W: Sink, E: Write, T: Threads + Wait + Sync>(
     reader: &mut R,
     writer: &mut W,
     errors: &mut E,
-) -> u8
+) -> Ending
     // The script was answered to its end, or help was asked for and nothing was read, or the script was explained as asked, or
     // what remains of it was written.
-    ensures done { result ≡ DONE
+    ensures done { result ≡ Ending.Done
         → ((counts : Counts) × (AsksForRun (map string_bytes words.now) counts × RunIsDone counts (R.remaining reader.old)
         (R.remaining reader.new) (W.contents writer.old) (W.contents writer.new)))
         ⊎ (AsksForHelp (map string_bytes words.now) × (reader.new ≡ reader.old)
@@ -56,17 +49,21 @@ pub fn status_of<R: Source, W: Sink, E: Write, T: Threads + Wait + Sync>(
         ⊎ (AsksForCompact (map string_bytes words.now) × CompactIsDone (R.remaining reader.old) (R.remaining reader.new)
         (W.contents writer.old) (W.contents writer.new)) }
     // No call failed. Nothing was told, unless a script was explained of which a line is refused, or one was compacted.
-    ensures kept { result ≡ DONE → (R.failed reader.new ≡ R.failed reader.old) × (W.failed writer.new ≡ W.failed writer.old) }
-    ensures quiet { result ≡ DONE → (errors.new ≡ errors.old)
+    ensures kept { result ≡ Ending.Done → (R.failed reader.new ≡ R.failed reader.old) × (W.failed writer.new ≡ W.failed writer.old) }
+    ensures quiet { result ≡ Ending.Done → (errors.new ≡ errors.old)
         ⊎ (AsksForSomeExplain (map string_bytes words.now) × IsRefusedInPart (R.remaining reader.old) (R.remaining reader.new))
         ⊎ AsksForCompact (map string_bytes words.now) }
-    // Nothing was read, and nothing was answered.
-    ensures usage { result ≡ USAGE → (reader.new ≡ reader.old) × (writer.new ≡ writer.old) }
+    // The words have a fault and are no request for help. Nothing was read, and nothing was answered.
+    ensures usage { result ≡ Ending.Usage
+        → AreWrong (map string_bytes words.now) × (reader.new ≡ reader.old) × (writer.new ≡ writer.old) }
+    // There was no memory to read the words, or for the text of help: that there was none no clause can say. Nothing was read,
+    // and nothing was answered.
+    ensures memory { result ≡ Ending.NoMemory → (reader.new ≡ reader.old) × (writer.new ≡ writer.old) }
     // The script was answered as far as it was read whole, or as far as it could be written or had an engine to answer it; or
     // there was no engine, and nothing was read; or help could not be shown; or an explanation or a compaction was asked for, and
     // none of it was written, or a front of it, where a write failed.
-    ensures fault { result ≢ DONE → result ≢ USAGE → (result ≡ FAULT)
-        × (((counts : Counts) × (AsksForRun (map string_bytes words.now) counts × RunIsStopped counts (R.remaining reader.old)
+    ensures fault { result ≡ Ending.Fault
+        → ((counts : Counts) × (AsksForRun (map string_bytes words.now) counts × RunIsStopped counts (R.remaining reader.old)
         (R.remaining reader.new) (W.contents writer.old) (W.contents writer.new) (R.failed reader.new) (W.failed writer.new)))
         ⊎ (AsksForWorkers (map string_bytes words.now) × (reader.new ≡ reader.old) × (writer.new ≡ writer.old))
         ⊎ (AsksForHelp (map string_bytes words.now) × (reader.new ≡ reader.old) × (W.failed writer.new ≡ true))
@@ -75,7 +72,7 @@ pub fn status_of<R: Source, W: Sink, E: Write, T: Threads + Wait + Sync>(
         × ExplainIsCutShort options (R.remaining reader.old) (R.remaining reader.new) (W.contents writer.old) (W.contents writer.new)))))
         ⊎ (AsksForCompact (map string_bytes words.now) × ((writer.new ≡ writer.old)
         ⊎ IsCutShort (R.remaining reader.old) (R.remaining reader.new) (W.contents writer.old) (W.contents writer.new)
-        (W.failed writer.new)))) }
+        (W.failed writer.new))) }
 {
     match read_request(alloc, words) {
         Ok(Request::Run(options)) => run(rt, alloc, options, reader, writer, errors),
@@ -93,15 +90,16 @@ fn run<R: Source, W: Sink, E: Write, T: Threads + Wait + Sync>(
     reader: &mut R,
     writer: &mut W,
     errors: &mut E,
-) -> u8
-    ensures done { result ≡ DONE → RunIsDone (counts_of options) (R.remaining reader.old) (R.remaining reader.new)
+) -> Ending
+    ensures done { result ≡ Ending.Done → RunIsDone (counts_of options) (R.remaining reader.old) (R.remaining reader.new)
         (W.contents writer.old) (W.contents writer.new) }
-    ensures kept { result ≡ DONE → (R.failed reader.new ≡ R.failed reader.old) × (W.failed writer.new ≡ W.failed writer.old) }
-    ensures quiet { result ≡ DONE → errors.new ≡ errors.old }
-    ensures fault { result ≢ DONE → (result ≡ FAULT)
-        × (RunIsStopped (counts_of options) (R.remaining reader.old) (R.remaining reader.new) (W.contents writer.old)
+    ensures kept { result ≡ Ending.Done → (R.failed reader.new ≡ R.failed reader.old) × (W.failed writer.new ≡ W.failed writer.old) }
+    ensures quiet { result ≡ Ending.Done → errors.new ≡ errors.old }
+    ensures only { (result ≡ Ending.Done) ⊎ (result ≡ Ending.Fault) }
+    ensures fault { result ≡ Ending.Fault
+        → RunIsStopped (counts_of options) (R.remaining reader.old) (R.remaining reader.new) (W.contents writer.old)
         (W.contents writer.new) (R.failed reader.new) (W.failed writer.new)
-        ⊎ ((1 ≤ options.workers) × (reader.new ≡ reader.old) × (writer.new ≡ writer.old))) }
+        ⊎ ((1 ≤ options.workers) × (reader.new ≡ reader.old) × (writer.new ≡ writer.old)) }
 {
     if options.workers == 0 {
         run_alone(alloc, reader, writer, errors)
@@ -116,17 +114,18 @@ fn run_alone<R: Source, W: Sink, E: Write>(
     reader: &mut R,
     writer: &mut W,
     errors: &mut E,
-) -> u8
-    ensures done { result ≡ DONE → AllAnswered script_bounds (R.remaining reader.old) (R.remaining reader.new)
+) -> Ending
+    ensures done { result ≡ Ending.Done → AllAnswered script_bounds (R.remaining reader.old) (R.remaining reader.new)
         (W.contents writer.old) (W.contents writer.new) }
-    ensures kept { result ≡ DONE → (R.failed reader.new ≡ R.failed reader.old) × (W.failed writer.new ≡ W.failed writer.old) }
-    ensures quiet { result ≡ DONE → errors.new ≡ errors.old }
-    ensures fault { result ≢ DONE → (result ≡ FAULT)
-        × Stopped script_bounds (R.remaining reader.old) (R.remaining reader.new) (W.contents writer.old) (W.contents writer.new)
+    ensures kept { result ≡ Ending.Done → (R.failed reader.new ≡ R.failed reader.old) × (W.failed writer.new ≡ W.failed writer.old) }
+    ensures quiet { result ≡ Ending.Done → errors.new ≡ errors.old }
+    ensures only { (result ≡ Ending.Done) ⊎ (result ≡ Ending.Fault) }
+    ensures fault { result ≡ Ending.Fault
+        → Stopped script_bounds (R.remaining reader.old) (R.remaining reader.new) (W.contents writer.old) (W.contents writer.new)
         (R.failed reader.new) (W.failed writer.new) }
 {
     match run_script(alloc, reader, writer) {
-        Ok(()) => DONE,
+        Ok(()) => Ending::Done,
         Err(ScriptFault::Read) => fault(Fault::of_reader(reader), errors),
         Err(ScriptFault::Write) => fault(Fault::Write, errors),
     }
@@ -140,21 +139,22 @@ fn run_shared<R: Source, W: Sink, E: Write, T: Threads + Wait + Sync>(
     reader: &mut R,
     writer: &mut W,
     errors: &mut E,
-) -> u8
+) -> Ending
     requires { 1 ≤ options.workers }
-    ensures done { result ≡ DONE → ToldByEngine (R.remaining reader.old) (R.remaining reader.new) (W.contents writer.old)
+    ensures done { result ≡ Ending.Done → ToldByEngine (R.remaining reader.old) (R.remaining reader.new) (W.contents writer.old)
         (W.contents writer.new) }
-    ensures kept { result ≡ DONE → (R.failed reader.new ≡ R.failed reader.old) × (W.failed writer.new ≡ W.failed writer.old) }
-    ensures quiet { result ≡ DONE → errors.new ≡ errors.old }
-    ensures fault { result ≢ DONE → (result ≡ FAULT)
-        × (EngineIsStopped (R.remaining reader.old) (R.remaining reader.new) (W.contents writer.old) (W.contents writer.new)
+    ensures kept { result ≡ Ending.Done → (R.failed reader.new ≡ R.failed reader.old) × (W.failed writer.new ≡ W.failed writer.old) }
+    ensures quiet { result ≡ Ending.Done → errors.new ≡ errors.old }
+    ensures only { (result ≡ Ending.Done) ⊎ (result ≡ Ending.Fault) }
+    ensures fault { result ≡ Ending.Fault
+        → EngineIsStopped (R.remaining reader.old) (R.remaining reader.new) (W.contents writer.old) (W.contents writer.new)
         (R.failed reader.new) (W.failed writer.new)
-        ⊎ ((reader.new ≡ reader.old) × (writer.new ≡ writer.old))) }
+        ⊎ ((reader.new ≡ reader.old) × (writer.new ≡ writer.old)) }
 {
     let shards = usize::from(options.shards);
     let workers = usize::from(options.workers);
     match run_engine(rt, alloc, reader, writer, shards, workers) {
-        Ok(()) => DONE,
+        Ok(()) => Ending::Done,
         Err(RunFault::Read) => fault(Fault::of_reader(reader), errors),
         Err(RunFault::Write) => fault(Fault::Write, errors),
         Err(RunFault::NoEngine) => fault(Fault::NoEngine, errors),
@@ -168,15 +168,16 @@ fn explain_script<R: Source, W: Sink, E: Write>(
     reader: &mut R,
     writer: &mut W,
     errors: &mut E,
-) -> u8
-    ensures done { result ≡ DONE → ExplainIsDone options.now (R.remaining reader.old) (R.remaining reader.new)
+) -> Ending
+    ensures done { result ≡ Ending.Done → ExplainIsDone options.now (R.remaining reader.old) (R.remaining reader.new)
         (W.contents writer.old) (W.contents writer.new) }
-    ensures kept { result ≡ DONE → (R.failed reader.new ≡ R.failed reader.old) × (W.failed writer.new ≡ W.failed writer.old) }
-    ensures quiet { result ≡ DONE → (errors.new ≡ errors.old) ⊎ IsRefusedInPart (R.remaining reader.old) (R.remaining reader.new) }
-    ensures fault { result ≢ DONE → (result ≡ FAULT) × ((writer.new ≡ writer.old)
+    ensures kept { result ≡ Ending.Done → (R.failed reader.new ≡ R.failed reader.old) × (W.failed writer.new ≡ W.failed writer.old) }
+    ensures quiet { result ≡ Ending.Done → (errors.new ≡ errors.old) ⊎ IsRefusedInPart (R.remaining reader.old) (R.remaining reader.new) }
+    ensures only { (result ≡ Ending.Done) ⊎ (result ≡ Ending.Fault) }
+    ensures fault { result ≡ Ending.Fault → (writer.new ≡ writer.old)
         ⊎ ((W.failed writer.new ≡ true)
         × ExplainIsCutShort options.now (R.remaining reader.old) (R.remaining reader.new) (W.contents writer.old)
-        (W.contents writer.new))) }
+        (W.contents writer.new)) }
 {
     let told = explain(
         alloc,
@@ -188,7 +189,7 @@ fn explain_script<R: Source, W: Sink, E: Write>(
         options.epoch_offset,
     );
     match told {
-        Ok(()) => DONE,
+        Ok(()) => Ending::Done,
         Err(why) => fault(fault_of(why, options), errors),
     }
 }
@@ -213,18 +214,19 @@ fn compact<R: Source, W: Sink, E: Write>(
     reader: &mut R,
     writer: &mut W,
     errors: &mut E,
-) -> u8
-    ensures done { result ≡ DONE → CompactIsDone (R.remaining reader.old) (R.remaining reader.new) (W.contents writer.old)
+) -> Ending
+    ensures done { result ≡ Ending.Done → CompactIsDone (R.remaining reader.old) (R.remaining reader.new) (W.contents writer.old)
         (W.contents writer.new) }
-    ensures kept { result ≡ DONE → (R.failed reader.new ≡ R.failed reader.old) × (W.failed writer.new ≡ W.failed writer.old) }
-    ensures fault { result ≢ DONE → (result ≡ FAULT) × ((writer.new ≡ writer.old)
+    ensures kept { result ≡ Ending.Done → (R.failed reader.new ≡ R.failed reader.old) × (W.failed writer.new ≡ W.failed writer.old) }
+    ensures only { (result ≡ Ending.Done) ⊎ (result ≡ Ending.Fault) }
+    ensures fault { result ≡ Ending.Fault → (writer.new ≡ writer.old)
         ⊎ IsCutShort (R.remaining reader.old) (R.remaining reader.new) (W.contents writer.old) (W.contents writer.new)
-        (W.failed writer.new)) }
+        (W.failed writer.new) }
 {
     match compact_script(alloc, reader, writer) {
         Ok(counts) => {
             left_out(&counts, errors);
-            DONE
+            Ending::Done
         }
         Err(why) => fault(compact_fault(why), errors),
     }

@@ -1,17 +1,20 @@
 //! Help, and what is told where the program does not do what it is asked for.
-ghost use Rattle.std.specs.Prelude.{◌≡◌, ◌≢◌, true, OnOk, OnErr};
+ghost use Rattle.std.specs.Prelude.{◌≡◌, ◌≢◌, ◌⊎◌, true, OnOk, OnErr};
 ghost use Rattle.std.specs.Io.KnownBytes.{Appends};
+ghost use Rattle.std.specs.declared.io.ErrorKind.TheVariants.{InvalidData};
 ghost use Rattle.clap.specs.Values.{kind_of};
 ghost use Rattle.pgp_cli.specs.Options.{IsRequest};
 ghost use Rattle.pgp_cli.specs.Status.{Grows};
 
+use super::ending::Ending;
 use super::fault::Fault;
-use super::status::{DONE, FAULT, USAGE};
 use clap::Error;
+use clap::error::ErrorKind;
 use pgp_compact_script::Compaction;
 use pgp_core::{Sink, WriteFault, write_out};
 use std::alloc::{AllocError, Global};
-use std::io::{ErrorKind, Write};
+use std::io;
+use std::io::Write;
 
 /// Shows help where that was asked for, and else tells what is wrong with the command line.
 pub fn help_or_usage<W: Sink, E: Write>(
@@ -20,32 +23,49 @@ pub fn help_or_usage<W: Sink, E: Write>(
     words: &[String],
     writer: &mut W,
     errors: &mut E,
-) -> u8
-    ensures done { result ≡ DONE → IsRequest (kind_of error.now) × Grows (W.contents writer.old) (W.contents writer.new) }
-    ensures kept { result ≡ DONE → W.failed writer.new ≡ W.failed writer.old }
-    ensures quiet { result ≡ DONE → errors.new ≡ errors.old }
-    ensures usage { result ≡ USAGE → writer.new ≡ writer.old }
-    ensures fault { result ≢ DONE → result ≢ USAGE
-        → (result ≡ FAULT) × IsRequest (kind_of error.now) × (W.failed writer.new ≡ true) }
+) -> Ending
+    ensures done { result ≡ Ending.Done → IsRequest (kind_of error.now) × Grows (W.contents writer.old) (W.contents writer.new) }
+    ensures kept { result ≡ Ending.Done → W.failed writer.new ≡ W.failed writer.old }
+    ensures quiet { result ≡ Ending.Done → errors.new ≡ errors.old }
+    ensures usage { result ≡ Ending.Usage → (kind_of error.now ≢ ErrorKind.OutOfMemory) × (IsRequest (kind_of error.now) → ⊥)
+        × (writer.new ≡ writer.old) }
+    ensures memory { result ≡ Ending.NoMemory → writer.new ≡ writer.old }
+    ensures fault { result ≡ Ending.Fault → IsRequest (kind_of error.now) × (W.failed writer.new ≡ true) }
 {
     if error.use_stderr() {
         return usage(error, words, errors);
     }
     match format!(in alloc; "{error}") {
         Ok(help) => show_help(help.as_str(), writer, errors),
-        Err(_) => usage(&Error::from(AllocError), words, errors),
+        Err(_) => no_memory(errors),
     }
 }
 
-/// Tells what is wrong with the command line, and where a script comes from if a word too many may be the name of one.
-fn usage<E: Write>(error: &Error, words: &[String], errors: &mut E) -> u8
-    ensures { result ≡ USAGE }
+/// Tells what is wrong with the command line, and where a script comes from if a word too many may be the name of one; or that
+/// there was no memory to read it.
+fn usage<E: Write>(error: &Error, words: &[String], errors: &mut E) -> Ending
+    ensures wrong { result ≡ Ending.Usage → kind_of error.now ≢ ErrorKind.OutOfMemory }
+    ensures memory { result ≡ Ending.NoMemory → kind_of error.now ≡ ErrorKind.OutOfMemory }
+    ensures only { (result ≡ Ending.Usage) ⊎ (result ≡ Ending.NoMemory) }
 {
     let _ = write!(errors, "{error}");
-    if error.kind() == clap::error::ErrorKind::UnknownArgument {
-        tell_source(words, errors);
+    match error.kind() {
+        ErrorKind::OutOfMemory => Ending::NoMemory,
+        ErrorKind::UnknownArgument => {
+            tell_source(words, errors);
+            Ending::Usage
+        }
+        _ => Ending::Usage,
     }
-    USAGE
+}
+
+/// Tells that there was no memory for the text of help.
+fn no_memory<E: Write>(errors: &mut E) -> Ending
+    ensures { result ≡ Ending.NoMemory }
+{
+    let error = Error::from(AllocError);
+    let _ = write!(errors, "{error}");
+    Ending::NoMemory
 }
 
 /// Tells where a script comes from, if a word that is no option follows the subcommand.
@@ -68,14 +88,15 @@ fn tell_source<E: Write>(words: &[String], errors: &mut E) {
 }
 
 /// Shows the text of help.
-fn show_help<W: Sink, E: Write>(help: &str, writer: &mut W, errors: &mut E) -> u8
-    ensures fault { result ≢ DONE → (result ≡ FAULT) × (W.failed writer.new ≡ true) }
-    ensures shown { result ≡ DONE → Appends (W.contents writer.old) (W.contents writer.new) help.now }
-    ensures kept { result ≡ DONE → W.failed writer.new ≡ W.failed writer.old }
-    ensures quiet { result ≡ DONE → errors.new ≡ errors.old }
+fn show_help<W: Sink, E: Write>(help: &str, writer: &mut W, errors: &mut E) -> Ending
+    ensures only { (result ≡ Ending.Done) ⊎ (result ≡ Ending.Fault) }
+    ensures fault { result ≡ Ending.Fault → W.failed writer.new ≡ true }
+    ensures shown { result ≡ Ending.Done → Appends (W.contents writer.old) (W.contents writer.new) help.now }
+    ensures kept { result ≡ Ending.Done → W.failed writer.new ≡ W.failed writer.old }
+    ensures quiet { result ≡ Ending.Done → errors.new ≡ errors.old }
 {
     match pass_on(writer, help.as_bytes()) {
-        Ok(()) => DONE,
+        Ok(()) => Ending::Done,
         Err(_) => fault(Fault::Write, errors),
     }
 }
@@ -90,24 +111,25 @@ fn pass_on<W: Sink>(writer: &mut W, text: &[u8]) -> Result<(), WriteFault>
     writer.flush().or(Err(WriteFault))
 }
 
-/// Tells why the words of the command line could not be read.
-pub fn without_words<E: Write>(kind: ErrorKind, errors: &mut E) -> u8
-    ensures { result ≡ USAGE }
+/// Tells why the words of the command line could not be read: one is no text, or there was no memory for them.
+pub fn without_words<E: Write>(kind: io::ErrorKind, errors: &mut E) -> Ending
+    ensures wrong { kind ≡ InvalidData → result ≡ Ending.Usage }
+    ensures memory { kind ≢ InvalidData → result ≡ Ending.NoMemory }
 {
-    let why = match kind {
-        ErrorKind::InvalidData => "an argument is not UTF-8",
-        _ => "out of memory",
+    let (why, ending) = match kind {
+        io::ErrorKind::InvalidData => ("an argument is not UTF-8", Ending::Usage),
+        _ => ("out of memory", Ending::NoMemory),
     };
     let _ = writeln!(errors, "error: {why}");
-    USAGE
+    ending
 }
 
 /// Tells a fault.
-pub fn fault<E: Write>(fault: Fault, errors: &mut E) -> u8
-    ensures { result ≡ FAULT }
+pub fn fault<E: Write>(fault: Fault, errors: &mut E) -> Ending
+    ensures { result ≡ Ending.Fault }
 {
     let _ = writeln!(errors, "pgpeer: {fault}");
-    FAULT
+    Ending::Fault
 }
 
 /// Tells how many entries a compaction left out, and how many lines were refused.

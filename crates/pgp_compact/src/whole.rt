@@ -7,7 +7,6 @@ ghost use Rattle.pgp_ids.specs.declared.entry.Entry.TheVariants as entry;
 ghost use Rattle.pgp_map.specs.Map.{epoch};
 ghost use Rattle.pgp_group.specs.Entries.{incs_of};
 ghost use Rattle.pgp_group.specs.GroupLog.{group_in};
-ghost use Rattle.pgp_log.specs.Judge.{IsJudgeOf};
 ghost use Rattle.pgp_log.specs.Log.{is_legal};
 ghost use Rattle.pgp_compact.specs.Compacted.{is_needed};
 ghost use Rattle.pgp_compact.specs.Later.{IsLater};
@@ -42,7 +41,7 @@ impl Whole {
     {
         let mut state = ShardState::start(alloc, 0, 1);
         state.absorb_all(entries)?;
-        let judge = judge_of(alloc, entries)?;
+        let judge = Judge::of(alloc, entries)?;
         Ok(Whole { state, judge })
     }
 
@@ -122,16 +121,4 @@ impl Whole {
             None => Ok(None),
         }
     }
-}
-
-/// The judge of the log that has these entries.
-fn judge_of(alloc: Global, entries: &[Arc<Entry>]) -> Result<Judge, AllocError>
-    requires { is_legal (map arc_value entries.now) ≡ true }
-    ensures { IfOk result (λ judge. IsJudgeOf (map arc_value entries.now) judge) }
-{
-    let mut judge = Judge::start(alloc);
-    for entry in entries {
-        judge.take(entry)?;
-    }
-    Ok(judge)
 }

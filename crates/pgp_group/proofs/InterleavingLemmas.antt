@@ -1,8 +1,8 @@
 -- Two logs that tell the same of a group give the same view of it, but for count.
-use Rattle.std.proofs.Common.{◌≡◌, ℕ, ◌≤◌, List, [], ◌∷◌, ◌++◌, Option, Some, None, is_none, is_some, Bool, true, false, not, ◌&&◌, nat_le, nat_lt, length, map, fold, max, refl, ap, ap₂, sym, ◌∙◌, subst, inl, inr, arith, if◌then◌else◌}
+use Rattle.std.proofs.Common.{◌≡◌, ℕ, ◌≤◌, List, [], ◌∷◌, ◌++◌, Option, Some, None, is_none, is_some, Bool, true, false, not, nat_lt, length, map, fold, max, refl, ap, ap₂, sym, ◌∙◌, subst, inl, inr, arith, if◌then◌else◌}
 use Rattle.std.specs.List.{Contains, filter, filter_map, find, flat_map, last_or, list_any}
 use Rattle.std.specs.Option.{option_and_then, option_map, option_map_or, unwrap_or}
-use Rattle.std.proofs.lemmas.Bool.{and_parts, cases_Bool, eqb-true}
+use Rattle.std.proofs.lemmas.Bool.{cases_Bool}
 use Rattle.std.proofs.lemmas.Bool.Decides.{nat_tests}
 use Rattle.std.proofs.lemmas.List.Elements.{filter-append}
 use Rattle.pgp_code.specs.AnyCode.{enough_of, is_by_place}
@@ -10,9 +10,7 @@ use Rattle.pgp_code.specs.declared.any.AnyCode.{AnyCode}
 use Rattle.pgp_ids.specs.Member.{is_same_member}
 use Rattle.pgp_ids.specs.declared.entry.Entry.{Entry}
 use Rattle.pgp_ids.specs.declared.incremental.Incremental.{Incremental}
-use Rattle.pgp_ids.specs.declared.log_entry.LogEntry.{LogEntry}
 use Rattle.pgp_ids.specs.declared.member.Member.{Member}
-use Rattle.pgp_ids.specs.declared.peer.PeerMissing.{PeerMissing}
 use Rattle.pgp_ids.specs.declared.pg_id.PgId.{PgId}
 use Rattle.pgp_ids.specs.declared.report.Info.{Info}
 use Rattle.pgp_ids.specs.declared.report.Report.{Report}
@@ -23,10 +21,9 @@ use Rattle.pgp_interval.specs.History.{History}
 use Rattle.pgp_interval.specs.Runs.{current_first}
 use Rattle.pgp_interval.proofs.CleanLemmas.{past_intervals-same}
 use Rattle.pgp_lists.proofs.Members.{Contains-nil, Contains-here, Contains-later, Contains-cases, contains-filter, contains-map, filter-contains, find-some, map-contains}
-use Rattle.pgp_map.specs.Devices.{is_up, up_from, up_thru}
+use Rattle.pgp_map.specs.Devices.{up_thru}
 use Rattle.pgp_map.specs.Map.{epoch}
 use Rattle.pgp_missing.specs.Log.{is_whole}
-use Rattle.pgp_missing.specs.Missing.{peer_state}
 use Rattle.pgp_prior.specs.Prior.{prior_set}
 use Rattle.pgp_prior.specs.declared.prior_set.Prior.{Prior}
 use Rattle.pgp_sets.specs.Status.{status}

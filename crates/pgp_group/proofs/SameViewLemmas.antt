@@ -9,11 +9,9 @@ use Rattle.pgp_code.specs.declared.any.AnyCode.{AnyCode}
 use Rattle.pgp_ids.specs.Member.{is_same_member}
 use Rattle.pgp_ids.specs.declared.entry.Entry.{Entry}
 use Rattle.pgp_ids.specs.declared.history.EpochState.{EpochState}
-use Rattle.pgp_ids.specs.declared.log_entry.LogEntry.{LogEntry}
 use Rattle.pgp_ids.specs.declared.member.Member.{Member}
 use Rattle.pgp_ids.specs.declared.membership.Membership.{Membership}
 use Rattle.pgp_ids.specs.declared.past.Past.{Past}
-use Rattle.pgp_ids.specs.declared.peer.PeerMissing.{PeerMissing}
 use Rattle.pgp_ids.specs.declared.pg_id.PgId.{PgId}
 use Rattle.pgp_ids.specs.declared.report.Info.{Info}
 use Rattle.pgp_ids.specs.declared.report.Report.{Report}
@@ -27,7 +25,6 @@ use Rattle.pgp_lists.proofs.Options.{map_some}
 use Rattle.pgp_map.specs.Devices.{device, up_thru}
 use Rattle.pgp_map.specs.Map.{epoch}
 use Rattle.pgp_missing.specs.Log.{is_whole}
-use Rattle.pgp_missing.specs.Missing.{peer_state}
 use Rattle.pgp_prior.specs.Blocks as block
 use Rattle.pgp_prior.specs.Members.{held_member, members_of, slots_of}
 use Rattle.pgp_prior.specs.Prior.{prior_set}

@@ -102,20 +102,8 @@ impl Group {
             → has_group (incs_of log) pg ≡ true → made_at (incs_of log) pg.pool ≡ epoch_of (incs_of log)
             → IsSilent log pg → IsGroupOf log pg result }
     {
-        let kind = kind_of(map, &pg);
         let members = lies_at(map, &pg);
-        let intervals = opening(alloc, kind, map.epoch(), members);
-        let (_, current) = intervals.current();
-        let reckoned = Reckoned::begin(alloc, *intervals.code(), current);
-        Group {
-            alloc,
-            pg,
-            intervals,
-            infos: Infos::new(alloc),
-            reports: Reports::new(alloc),
-            named: Named::new(alloc),
-            reckoned,
-        }
+        Group::begin_members(alloc, map, pg, members)
     }
 
     /// Takes the next map. `before` is the one that it was until now. After an error the group stands for the same log.

@@ -152,22 +152,26 @@ view-now log pg view is =
 
 -- ---- a group comes
 
-pub kept-begun : (log : List Entry) (inc : Incremental) (before : MapBefore) (after : OsdMap) (kept : Kept) → kept.view ≡ None → IsStep log inc before after → has_group (incs_of log) kept.pg ≡ false → has_group (then_with (incs_of log) inc) kept.pg ≡ true
-    → ((l : List Entry) → AreNumbered (incs_of l) → IsMapOf (incs_of l) after → has_group (incs_of l) kept.pg ≡ true → made_at (incs_of l) kept.pg.pool ≡ epoch (incs_of l) → IsSilent l kept.pg → IsGroupOf l kept.pg kept.group)
+pub kept-begun : (log : List Entry) (inc : Incremental) (before : MapBefore) (after : OsdMap) (kept : Kept) (members : Membership) → kept.view ≡ None → IsStep log inc before after → has_group (incs_of log) kept.pg ≡ false → has_group (then_with (incs_of log) inc) kept.pg ≡ true
+    → ((l : List Entry) → AreNumbered (incs_of l) → IsMapOf (incs_of l) after → has_group (incs_of l) kept.pg ≡ true → made_at (incs_of l) kept.pg.pool ≡ epoch (incs_of l) → IsSilent l kept.pg → membership (incs_of l) kept.pg ≡ Some members → IsGroupOf l kept.pg kept.group)
     → ((incs : List Incremental) → IsMapOf incs after → raw_set_of incs kept.pg ≡ Some kept.raw)
+    → ((incs : List Incremental) → IsMapOf incs after → option_map (λ made. members_from_up incs made kept.pg (without_down incs made kept.raw)) (pool incs kept.pg.pool) ≡ Some members)
     → ((incs : List Incremental) → IsMapOf incs after → kept.temp ≡ temp incs kept.pg)
     → IsKeptOf (log ++ entry.Inc inc ∷ []) kept
-kept-begun log inc before after kept none step absent there begins placed says =
+kept-begun log inc before after kept members none step absent there begins placed lies says =
     let later : List Entry = log ++ entry.Inc inc ∷ [] in
     let back : then_with (incs_of log) inc ≡ incs_of later = sym (grown log inc) in
+    let now : IsMapOf (incs_of later) after = subst (λ (l : List Incremental). IsMapOf l after) back step.after_is in
+    let raw : IsRawSet (incs_of later) kept.pg kept.raw = raw-anew log inc before after kept.pg kept.raw step placed in
     record {
       group_is = reached-now later kept.pg kept.group (begins later
           (numbered (incs_of later) (ap are_checked (grown log inc) ∙ step-checked log inc before after step))
-          (subst (λ (l : List Incremental). IsMapOf l after) back step.after_is)
+          now
           (ap (λ (l : List Incremental). has_group l kept.pg) (grown log inc) ∙ there)
           (subst (λ (l : List Incremental). made_at l kept.pg.pool ≡ epoch l) back (made-now (incs_of log) inc kept.pg absent there))
-          (silent-inc log inc kept.pg (legal-absent log step.legal kept.pg absent).silent));
-      raw_is = raw-anew log inc before after kept.pg kept.raw step placed;
+          (silent-inc log inc kept.pg (legal-absent log step.legal kept.pg absent).silent)
+          (filtered (incs_of later) kept.pg kept.raw members raw (lies (incs_of later) now)));
+      raw_is = raw;
       temp_is = temp-anew log inc before after kept.pg kept.temp step says;
       view_is = no_view later kept.pg kept.view none;
     }

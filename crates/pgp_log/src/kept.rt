@@ -53,12 +53,14 @@ impl Kept {
         ensures marked { is_marked result ≡ true }
         ensures pg { result.pg ≡ pg }
     {
+        let raw = raw(after, &pg);
+        let members = filter(after, &pg, &raw);
         Kept {
             pg,
-            raw: raw(after, &pg),
+            raw,
             temp: temp_of(after, pg),
             view: None,
-            group: Group::begin(alloc, after, pg),
+            group: Group::begin_members(alloc, after, pg, members),
         }
     }
 

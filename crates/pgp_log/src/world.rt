@@ -4,7 +4,6 @@ ghost use Rattle.std.specs.Prelude.{◌≡◌, ◌<◌, ◌≤◌, length, map, 
 ghost use Rattle.std.specs.Arc.{arc_value};
 ghost use Rattle.std.specs.List.{range_with_len};
 ghost use Rattle.pgp_log.specs.Fits.{fits};
-ghost use Rattle.pgp_log.specs.Judge.{IsJudgeOf};
 ghost use Rattle.pgp_log.specs.Log.{is_legal};
 ghost use Rattle.pgp_log.specs.Shard.{opening_shard};
 ghost use Rattle.pgp_log.specs.World.{opening, opening_over, with_entry};
@@ -75,7 +74,7 @@ impl World {
         ensures { IfOk result (λ world. world ≡ opening_over shards (map arc_value entries.now)) }
     {
         let all = opening_shards(alloc, shards)?;
-        let judge = judge_of(alloc, entries)?;
+        let judge = Judge::of(alloc, entries)?;
         let owned = shared(alloc, entries)?;
         let world = World {
             alloc,
@@ -142,18 +141,6 @@ fn shared(alloc: Global, entries: &[Arc<Entry>]) -> Result<Vec<Arc<Entry>>, Allo
         all.push(copy)?;
     }
     Ok(all)
-}
-
-/// The judge of the log of these entries.
-fn judge_of(alloc: Global, entries: &[Arc<Entry>]) -> Result<Judge, AllocError>
-    requires { is_legal (map arc_value entries.now) ≡ true }
-    ensures { IfOk result (IsJudgeOf (map arc_value entries.now)) }
-{
-    let mut judge = Judge::start(alloc);
-    for entry in entries {
-        judge.take(entry)?;
-    }
-    Ok(judge)
 }
 
 /// The entries after so many that were read, at most this many.

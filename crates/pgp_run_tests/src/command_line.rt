@@ -1,7 +1,7 @@
 //! Command lines that are right, of which a contract can't say that they are taken: where words have no fault, the program may
 //! still say that there was no memory to read them. And the text of help, of which the contract says only that it was written.
 
-use pgp_cli::{DONE, Watched, status_of};
+use pgp_cli::{Ending, Watched, status_of};
 use std::alloc::Global;
 use std::sync::Wait;
 use std::test::Fail;
@@ -12,7 +12,7 @@ const SCRIPT: &[u8] = b"{\"op\":\"close\"}\n";
 
 const ANSWERED: &[u8] = b"{\"count\":1,\"epoch\":0,\"ok\":\"close\"}\n";
 
-/// What the program writes for these words, and what it says on standard error; its status has to be `DONE`.
+/// What the program writes for these words, and what it says on standard error; it has to end with `Done`.
 fn written_for<T: Threads + Wait + Sync>(
     rt: &T,
     alloc: Global,
@@ -24,7 +24,7 @@ fn written_for<T: Threads + Wait + Sync>(
     }
     let mut writer = Watched::new(Vec::new(alloc));
     let mut errors = Vec::new(alloc);
-    let status = status_of(
+    let ending = status_of(
         rt,
         alloc,
         given.as_slice(),
@@ -32,7 +32,7 @@ fn written_for<T: Threads + Wait + Sync>(
         &mut writer,
         &mut errors,
     );
-    if status != DONE {
+    if !matches!(ending, Ending::Done) {
         return Err(Fail::new("the words were refused"));
     }
     Ok((writer.into_inner(), errors))

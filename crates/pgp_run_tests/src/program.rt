@@ -102,7 +102,7 @@ fn run_with<R: Read + Drop, W: Write + Drop, T: Threads + Wait + Sync>(
     let mut out = Watched::new(writer);
     let mut errors = Vec::new(alloc);
     let mut source = Watched::new(reader);
-    let status = status_of(
+    let ending = status_of(
         rt,
         alloc,
         given.as_slice(),
@@ -110,7 +110,7 @@ fn run_with<R: Read + Drop, W: Write + Drop, T: Threads + Wait + Sync>(
         &mut out,
         &mut errors,
     );
-    Ok((status, out.into_inner(), errors))
+    Ok((ending.status(), out.into_inner(), errors))
 }
 
 #[test]
@@ -265,13 +265,18 @@ fn tells_its_version(rt: HostRuntime) -> Result<(), Fail> {
 
 #[test]
 fn tells_of_words_that_could_not_be_read(rt: HostRuntime) -> Result<(), Fail> {
-    let mut errors = Vec::new(rt.alloc());
-    let status = without_words(ErrorKind::InvalidData, &mut errors);
-    assert_eq!(rt; status, USAGE);
-    assert_eq!(rt;
-        errors.as_slice(),
-        b"error: an argument is not UTF-8\n".as_slice()
-    );
+    for (kind, told) in [
+        (
+            ErrorKind::InvalidData,
+            b"error: an argument is not UTF-8\n".as_slice(),
+        ),
+        (ErrorKind::OutOfMemory, b"error: out of memory\n".as_slice()),
+    ] {
+        let mut errors = Vec::new(rt.alloc());
+        let ending = without_words(kind, &mut errors);
+        assert_eq!(rt; ending.status(), USAGE);
+        assert_eq!(rt; errors.as_slice(), told);
+    }
     Ok(())
 }
 

@@ -16,7 +16,7 @@ fn main(rt: HostRuntime) -> ExitCode {
             .or(Err(ErrorKind::OutOfMemory)),
         Err(error) => Err(error.kind()),
     };
-    let status = match words {
+    let ending = match words {
         Ok(words) => status_of(
             &rt,
             alloc,
@@ -27,5 +27,5 @@ fn main(rt: HostRuntime) -> ExitCode {
         ),
         Err(kind) => without_words(kind, &mut rt.stderr()),
     };
-    ExitCode::from(status)
+    ExitCode::from(ending.status())
 }

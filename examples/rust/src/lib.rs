@@ -1,5 +1,4 @@
-//! A session of the peering core, safe to use. `unsafe` are its calls, one in a method, and the word that it may go to another
-//! thread.
+//! A session of the peering core, safe to use: only the calls of the library are `unsafe`.
 //!
 //! ```sh
 //! tools/build_c_library.sh /tmp/pgpeer
@@ -7,8 +6,6 @@
 //! ```
 
 mod raw;
-
-use std::ptr::null_mut;
 
 pub use raw::{Member, Object, Peer, Place, View};
 
@@ -36,19 +33,16 @@ fn done(status: u32) -> Result<(), Fault> {
     }
 }
 
-/// One log, told and asked by one call at a time.
+/// One log, told and asked by one call at a time, from whichever thread.
 pub struct Session {
     kept: raw::Kept,
     room: Vec<u8>,
 }
 
-// SAFETY: pgpeer.h lets a session go from thread to thread, where what hands it over orders the calls.
-unsafe impl Send for Session {}
-
 impl Session {
     /// An empty log.
     pub fn open() -> Result<Self, Fault> {
-        let mut kept = raw::Kept { is_open: false, held: null_mut() };
+        let mut kept = raw::Kept::zeros();
         // SAFETY: the session is filled with zeros.
         done(unsafe { raw::pgp_open(&mut kept) })?;
         Ok(Session { kept, room: vec![0; 4096] })

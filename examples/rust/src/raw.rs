@@ -1,12 +1,20 @@
 //! What pgpeer.h declares, as far as this crate uses it.
 
-use std::ffi::c_void;
+use std::mem::MaybeUninit;
 
-/// `pgp_session`.
+/// `pgp_session`, which the library alone reads and writes. The place of its pointer is no pointer here, so that a session is `Send`,
+/// as pgpeer.h lets it go from thread to thread; `MaybeUninit` keeps what the library put there whole where a session is moved.
 #[repr(C)]
 pub struct Kept {
-    pub is_open: bool,
-    pub held: *mut c_void,
+    is_open: bool,
+    held: MaybeUninit<usize>,
+}
+
+impl Kept {
+    /// A session before its first call.
+    pub fn zeros() -> Self {
+        Kept { is_open: false, held: MaybeUninit::new(0) }
+    }
 }
 
 /// `pgp_place`: where an object lies.

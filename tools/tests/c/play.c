@@ -2,12 +2,13 @@
 //
 //     play FILE EXPECTED         each script in a session of its own, with rooms of several sizes
 //     play FILE EXPECTED refuse  the same, once for each call of the allocator, which is refused: a line for which there was no
-//                                memory is told again
+//                                memory has one of the two texts for that, and is told again
 //     play FILE EXPECTED threads the same on two threads, each with sessions of its own
 //     play FILE EXPECTED moves   the same, where a session is opened, told each of its lines and closed by a thread of its own
 //
 // A line of FILE that begins with "# " ends a script, and is written as it stands. What is written has to be EXPECTED. Prints
 // what was played, and ends in status 1 where something was wrong.
+#define _GNU_SOURCE  // memmem
 #include <pthread.h>
 #include <stdio.h>
 #include <stdlib.h>
@@ -53,22 +54,64 @@ static void put(text *out, const uint8_t *bytes, size_t length) {
     out->length += length;
 }
 
+enum { UNTOUCHED = 171, FILLED = 64 };  // what fills the front of a room before a call, and how much of it
+
+static void fill(uint8_t *room, size_t length) {
+    memset(room, UNTOUCHED, length < FILLED ? length : FILLED);
+}
+
+static void look_untouched(const uint8_t *room, size_t length) {
+    for (size_t at = 0; at < length && at < FILLED; at++) {
+        if (room[at] != UNTOUCHED) fail("a room that is too small was written");
+    }
+}
+
 static uint8_t *take_room(size_t length) {
     return __real_malloc(length ? length : 1);
+}
+
+static const char no_line[] = "{\"code\":41,\"refused\":\"Memory\"}\n", no_entry[] = "{\"code\":51,\"refused\":\"Memory\"}\n";
+
+// Whether a line asks something, so that it is no entry.
+static int asks(const uint8_t *line, size_t length) {
+    static const char *const ops[] = {"\"ask\"", "\"locate\"", "\"trace\""};
+    for (size_t at = 0; at < sizeof ops / sizeof *ops; at++) {
+        if (memmem(line, length, ops[at], strlen(ops[at]))) return 1;
+    }
+    return 0;
+}
+
+// Looks at what a line left that met no memory: in the room, where it fits, and as the answer of the session.
+static void look_at_lack(pgp_session *session, const uint8_t *line, size_t length, const uint8_t *room, size_t room_length,
+                         size_t wanted) {
+    uint8_t again[64];
+    size_t kept = 0;
+    if (pgp_answer(session, again, sizeof again, &kept) != PGP_DONE || kept != wanted) fail("another answer where there was no memory");
+    if (kept != strlen(no_line) || (memcmp(again, no_line, kept) && memcmp(again, no_entry, kept))) fail("no text of no memory");
+    if (asks(line, length) && memcmp(again, no_line, kept)) fail("a question was told to be an entry");
+    if (room_length >= kept) {
+        if (memcmp(room, again, kept)) fail("no text of no memory in the room");
+        return;
+    }
+    look_untouched(room, room_length);
 }
 
 // Tells the session a line, and puts the answer behind the text. The room is large, small or of just the right size, in turn.
 static void tell(pgp_session *session, const uint8_t *line, size_t length, text *out, unsigned turn) {
     size_t room_length = turn % 3 == 0 ? 1 << 24 : turn % 3 == 1 ? 7 : 0;
     uint8_t *room = take_room(room_length);
+    fill(room, room_length);
     size_t wanted = 0;
     uint32_t status = pgp_line(session, line, length, room, room_length, &wanted);
     if (status == PGP_NO_MEMORY) {
         if (!refused) fail("no memory where none was refused");
+        look_at_lack(session, line, length, room, room_length, wanted);
+        fill(room, room_length);
         status = pgp_line(session, line, length, room, room_length, &wanted);
     }
     if (status == PGP_ROOM_TOO_SMALL) {
         if (wanted <= room_length) fail("told too small a room where it was large enough");
+        look_untouched(room, room_length);
         free(room);
         room = take_room(wanted);
         status = pgp_answer(session, room, wanted, &wanted);

@@ -1,25 +1,51 @@
-//! The next map, where it is known how the group lies by it.
+//! The first map and the next one, where it is known how the group lies by them.
 
-ghost use Rattle.std.specs.Prelude.{◌≡◌, ◌≢◌, ◌++◌, [], ◌∷◌, List, Some, None, OnOk, OnErr};
+ghost use Rattle.std.specs.Prelude.{◌≡◌, ◌≢◌, ◌++◌, [], ◌∷◌, List, Some, None, true, OnOk, OnErr};
 ghost use Rattle.pgp_ids.specs.declared.entry.Entry.{Entry as Told};
 ghost use Rattle.pgp_ids.specs.declared.entry.Entry.TheVariants as entry;
 ghost use Rattle.pgp_ids.specs.declared.incremental.Incremental.{Incremental};
 ghost use Rattle.pgp_ids.specs.declared.pg_id.PgId.{PgId as Id};
 ghost use Rattle.pgp_interval.specs.SameMembers.{is_same};
+ghost use Rattle.pgp_map.specs.Held.{HasGroup};
+ghost use Rattle.pgp_map.specs.Map.{epoch as epoch_of};
 ghost use Rattle.pgp_map.specs.MapFault.{map_fault, then_with};
 ghost use Rattle.pgp_map.specs.MapOf.{IsMapOf};
+ghost use Rattle.pgp_map.specs.Pools.{has_group};
 ghost use Rattle.pgp_sets.specs.Sets.{membership};
 ghost use Rattle.pgp_group.specs.Entries.{incs_of};
-ghost use Rattle.pgp_group.specs.GroupHistory.{group_facts, group_primary};
-ghost use Rattle.pgp_group.specs.GroupOf.{IsGroupOf, Follows};
+ghost use Rattle.pgp_group.specs.GroupHistory.{AreNumbered, group_facts, group_primary, made_at};
+ghost use Rattle.pgp_group.specs.GroupOf.{IsGroupOf, IsSilent, Follows};
 ghost use Rattle.pgp_group.specs.Reaching.{reaching};
 
-use super::Group;
-use pgp_ids::{Epoch, Membership, OsdId, PrimaryFacts};
+use super::{Group, Infos, Named, Reckoned, Reports, kind_of, opening};
+use pgp_ids::{Epoch, Membership, OsdId, PgId, PrimaryFacts};
 use pgp_map::OsdMap;
-use std::alloc::AllocError;
+use std::alloc::{AllocError, Global};
 
 impl Group {
+    /// The group at the epoch that made its pool, of which nothing was reported yet, where it lies at these members by the map:
+    /// it looks for none itself. It takes no memory.
+    pub fn begin_members(alloc: Global, map: &OsdMap, pg: PgId, members: Membership) -> Self
+        requires { HasGroup map.now pg }
+        ensures { (log : List Told) → AreNumbered (incs_of log) → IsMapOf (incs_of log) map.now
+            → has_group (incs_of log) pg ≡ true → made_at (incs_of log) pg.pool ≡ epoch_of (incs_of log)
+            → IsSilent log pg → membership (incs_of log) pg ≡ Some members → IsGroupOf log pg result }
+    {
+        let kind = kind_of(map, &pg);
+        let intervals = opening(alloc, kind, map.epoch(), members);
+        let (_, current) = intervals.current();
+        let reckoned = Reckoned::begin(alloc, *intervals.code(), current);
+        Group {
+            alloc,
+            pg,
+            intervals,
+            infos: Infos::new(alloc),
+            reports: Reports::new(alloc),
+            named: Named::new(alloc),
+            reckoned,
+        }
+    }
+
     /// The acting primary by the last map, where the group has one.
     pub fn primary(&self) -> Option<OsdId>
         ensures { (log : List Told) (pg : Id) → IsGroupOf log pg self.now → group_primary (incs_of log) pg ≡ Some result }

@@ -17,3 +17,7 @@ returns-clause-most_shards c = refl
 pub returns-clause-most : goal.returns-clause-most
 unfolding clap_on_literals
 returns-clause-most c = refl
+
+pub returns-clause-taken : goal.returns-clause-taken
+unfolding clap_on_literals
+returns-clause-taken c wrong = wrong.among

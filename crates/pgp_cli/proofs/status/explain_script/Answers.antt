@@ -12,10 +12,7 @@ write_or_other UnknownGroup = inr (λ is. cc)
 write_or_other Memory = inr (λ is. cc)
 
 pub returns-in-Err-clause-fault : goal.returns-in-Err-clause-fault
-returns-in-Err-clause-fault g c not_done = (
-  c.fault.ensures,
-  elim (write_or_other c.in-Err.why) [
-    | inl write ↦ inr (c.explain-told.ensures.write (c.in-Err.is ∙ ap Err write))
-    | inr other ↦ inl (c.in-Err.ensures.unwritten other)
-  ],
-)
+returns-in-Err-clause-fault g c fault = elim (write_or_other c.in-Err.why) [
+  | inl write ↦ inr (c.explain-told.ensures.write (c.in-Err.is ∙ ap Err write))
+  | inr other ↦ inl (c.in-Err.ensures.unwritten other)
+]

@@ -8,14 +8,10 @@ returns-then-options-eq0-clause-done g c done = record {
 }
 
 pub returns-then-options-eq0-clause-fault : goal.returns-then-options-eq0-clause-fault
-returns-then-options-eq0-clause-fault g c not_done =
-    let stopped = c.run_alone.ensures.fault not_done in (
-      stopped.0,
-      inl (record {
-        alone = λ _. stopped.1;
-        shared = λ many. absurd (omega (arith, many, c.if-options-eq0.true));
-      }),
-    )
+returns-then-options-eq0-clause-fault g c fault = inl (record {
+  alone = λ _. c.run_alone.ensures.fault fault;
+  shared = λ many. absurd (omega (arith, many, c.if-options-eq0.true));
+})
 
 pub returns-else-options-eq0-clause-done : goal.returns-else-options-eq0-clause-done
 returns-else-options-eq0-clause-done g c done = record {
@@ -24,14 +20,10 @@ returns-else-options-eq0-clause-done g c done = record {
 }
 
 pub returns-else-options-eq0-clause-fault : goal.returns-else-options-eq0-clause-fault
-returns-else-options-eq0-clause-fault g c not_done =
-    let stopped = c.run_shared.ensures.fault not_done in (
-      stopped.0,
-      elim stopped.1 [
-        | inl is ↦ inl (record {
-          alone = λ none. absurd (c.if-options-eq0.false none);
-          shared = λ _. is;
-        })
-        | inr untouched ↦ inr (omega (arith, c.if-options-eq0.false), untouched.0, untouched.1)
-      ],
-    )
+returns-else-options-eq0-clause-fault g c fault = elim (c.run_shared.ensures.fault fault) [
+  | inl is ↦ inl (record {
+    alone = λ none. absurd (c.if-options-eq0.false none);
+    shared = λ _. is;
+  })
+  | inr untouched ↦ inr (omega (arith, c.if-options-eq0.false), untouched.0, untouched.1)
+]

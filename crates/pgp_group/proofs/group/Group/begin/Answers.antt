@@ -1,17 +1,5 @@
-use Rattle.std.proofs.Common.{ℕ, [], refl, subst, sym, ◌∙◌}
-use Rattle.pgp_code.specs.AnyCode.{enough_of, is_by_place}
-use Rattle.pgp_code.specs.Pool.{code_of}
-use Rattle.pgp_interval.specs.History.{begun}
-use Rattle.pgp_interval.specs.IntervalsOf.{IsIntervalsOf}
 use Rattle.pgp_group.specs.Entries.{incs_of}
-use Rattle.pgp_group.proofs.GroupLemmas.{IsGroupOf-begun}
 use Rattle.pgp_group.proofs.group.Group.begin.Goals as goal
 
 pub returns : goal.returns
-returns c = λ log counts is there now silent.
-    let kind = c.kind_of-kind.result in
-    let members = c.lies_at-members.result in
-    IsGroupOf-begun log c.args.pg kind members _ counts there now silent
-    (c.kind_of-kind.ensures (incs_of log) is) (c.lies_at-members.ensures (incs_of log) is) refl c.new.ensures c.new-2.ensures
-    (subst (λ (e : ℕ). IsIntervalsOf enough_of is_by_place (begun (code_of kind) e members) [] c.opening-intervals.result) (c.epoch.ensures (incs_of log) is) c.opening-intervals.ensures) c.new-3.ensures
-    (λ g code_is. c.begin-reckoned.ensures g (c.code.ensures ∙ c.opening-intervals.ensures.code_is ∙ sym code_is))
+returns c = λ log counts is there now silent. c.begin_members.ensures log counts is there now silent (c.lies_at-members.ensures (incs_of log) is)

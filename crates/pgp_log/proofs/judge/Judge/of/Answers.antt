@@ -5,7 +5,7 @@ use Rattle.pgp_ids.specs.declared.entry.Entry.{Entry}
 use Rattle.pgp_log.specs.Fits.{fits}
 use Rattle.pgp_log.specs.Judge.{IsJudgeOf}
 use Rattle.pgp_log.proofs.SharedLemmas.{next-after, next-of-legal}
-use Rattle.pgp_log.proofs.world.judge_of.Goals as goal
+use Rattle.pgp_log.proofs.judge.Judge.of.Goals as goal
 
 pub take-requires : goal.take-requires
 take-requires c =

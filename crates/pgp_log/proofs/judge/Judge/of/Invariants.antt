@@ -1,7 +1,7 @@
 use Rattle.std.proofs.Common.{map, take}
 use Rattle.std.specs.Arc.{arc_value}
 use Rattle.pgp_log.specs.Judge.{IsJudgeOf}
-use Rattle.pgp_log.proofs.world.judge_of.Given as goal
+use Rattle.pgp_log.proofs.judge.Judge.of.Given as goal
 
 abbrev pub invariant-loop-entry : goal.invariant-loop-entry
 invariant-loop-entry l = IsJudgeOf (map arc_value (take l.entry-index l.entries)) l.judge

@@ -1,0 +1,38 @@
+//! How the program ends, and the exit statuses that tell it.
+ghost use Rattle.std.specs.Prelude.{◌≡◌};
+ghost use Rattle.pgp_cli.specs.Status.{ending_status};
+
+/// The script was answered, explained or compacted to its end, or help was shown.
+pub const DONE: u8 = 0;
+/// The command line is wrong, or there was no memory to read it.
+pub const USAGE: u8 = 2;
+/// A read or a write failed, the script is too large, there is no engine to answer it, no such group to explain, or no memory
+/// to explain or compact it.
+pub const FAULT: u8 = 3;
+
+/// How the program ended. Words that are wrong and a lack of memory to read them have one exit status, but aren't the same.
+#[derive(Clone, Copy, Debug)]
+pub enum Ending {
+    /// The script was answered, explained or compacted to its end, or help was shown.
+    Done,
+    /// The command line is wrong.
+    Usage,
+    /// There was no memory to read the command line, or for the text of help.
+    NoMemory,
+    /// A read or a write failed, the script is too large, there is no engine to answer it, no such group to explain, or no
+    /// memory to explain or compact it.
+    Fault,
+}
+
+impl Ending {
+    /// The status to exit with.
+    pub fn status(self) -> u8
+        ensures { result ≡ ending_status self }
+    {
+        match self {
+            Ending::Done => DONE,
+            Ending::Usage | Ending::NoMemory => USAGE,
+            Ending::Fault => FAULT,
+        }
+    }
+}
