@@ -159,9 +159,8 @@ class Program(unittest.TestCase):
 @unittest.skipUnless(HAS_PROGRAM, f"no program {PROGRAM}")
 class Examples(unittest.TestCase):
     def test_the_pictures_say_what_the_program_says(self):
-        for script in sorted((ROOT / "examples").glob("explain_*.jsonl")):
-            if script.name.endswith(".answers.jsonl"):
-                continue
+        for words in sorted(it for it in (ROOT / "examples").glob("explain_*.txt") if not it.name.endswith(".summary.txt")):
+            script = words.with_suffix(".jsonl")
             status, out, err = written(["--program", PROGRAM, str(script), "1.0"])
             self.assertEqual((status, err), (0, ""), script.name)
             self.assertEqual(out, (ROOT / f"docs/{script.stem}.svg").read_text(), script.name)
