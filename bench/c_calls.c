@@ -1,6 +1,6 @@
 // How long calls of the library for C take, for bench/measure_c_calls.py.
 //
-//     c_calls first ROUNDS    where one object of each group of pool 1 lies, for the first time, in so many sessions
+//     c_calls first ROUNDS    where one object of each group of pool 1 lies, for the first time, in this many sessions
 //     c_calls kept COUNT      the same objects by turns, whose groups have been placed before, by pgp_locate
 //     c_calls line COUNT      the same, by pgp_line
 //     c_calls ask COUNT       what is said of group 0 of pool 1, by pgp_ask, after it was asked for once

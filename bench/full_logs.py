@@ -51,8 +51,8 @@ def info(group, osd, stamp, served, last, tail):
 
 
 def rounds(rng, count, pools, acting, number, size, reports):
-    """Gives so many entries in all: the first map, and so many rounds of reports of this size, before each of which a device
-    fell and came back, and small incrementals came."""
+    """Gives this many entries in all: the first map, and this many rounds of reports of this size, before each of which a
+    device fell and came back, and small incrementals came."""
     devices = list(range(DEVICES))
     temps = [[*group, members] for group, members in acting]
     first = {"op": "inc", "epoch": 1, "up": devices, "up_thru": [[osd, 1] for osd in devices], "pools": pools}

@@ -12,7 +12,7 @@ def compact(value):
 
 
 def tree(racks, hosts, devices):
-    """Gives the buckets of a tree of so many racks, hosts in each and devices in each of these, all of one weight."""
+    """Gives the buckets of a tree of this many racks, hosts in each and devices in each of these, all of one weight."""
     rack_ids = [-2 - rack for rack in range(racks)]
     buckets = [bucket(-1, ROOT, rack_ids, hosts * devices)]
     host_ids = [-2 - racks - host for host in range(racks * hosts)]
@@ -25,15 +25,15 @@ def tree(racks, hosts, devices):
 
 
 def bucket(name, kind, items, devices):
-    """Gives a list bucket whose items hold so many devices each."""
+    """Gives a list bucket whose items hold this many devices each."""
     return {"id": name, "type": kind, "alg": "list", "items": items, "weights": [devices * IN] * len(items)}
 
 
 def copies(pool, groups):
-    """Gives a pool of so many groups, with three copies on different hosts."""
+    """Gives a pool of this many groups, with three copies on different hosts."""
     return {"id": pool, "pg_num": groups, "kind": "replicated", "size": 3, "min_size": 2, "leaf": HOST}
 
 
 def told(rng, up, count, epoch):
-    """Gives that so many of the devices that are up are known to have been up through the epoch."""
+    """Gives that this many of the devices that are up are known to have been up through the epoch."""
     return [[osd, epoch] for osd in rng.sample(up, count)]

@@ -31,7 +31,7 @@ NAMES = (
 
 
 class Run(NamedTuple):
-    """What one run took: seconds of the processor, seconds that went by, and MiB of memory at its peak."""
+    """What one run took: seconds of the processor, elapsed seconds, and MiB of memory at its peak."""
 
     cpu: float
     elapsed: float

@@ -9,7 +9,7 @@ script `run` and `compact` run N times each (by default 5), by turns, one at a t
 answers the script, and what `compact` wrote of it, each with a question about group 0 of pool 1 behind it. Prints two
 tables in Markdown. The first has the seconds of the processor, the least and the median, the ratio of `compact` to `run`,
 of the least values and the median of the pairs, and what stays. The second has the seconds of the processor for the script
-and the question, and the milliseconds that went by from the question, which was sent once all lines before it were
+and the question, and the milliseconds from the question, which was sent once all lines before it were
 answered, to its answer, the least and the median. A script is told of and not measured where the two answers differ in more
 than the count, or where what was written is another once it is compacted again. Needs GNU time (Debian: time).
 """
@@ -43,7 +43,7 @@ def append(script, line, target):
 
 
 def first_answer(program, script):
-    """Gives the answer to the question once the script was answered, and the seconds that went by until it came."""
+    """Gives the answer to the question once the script was answered, and the seconds until it came."""
     count = line_count(script)
     with open(script, "rb") as lines:
         text = lines.read()

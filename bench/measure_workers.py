@@ -6,11 +6,11 @@
 PATH is the built program (by default crates/pgpeer/out/pgpeer) and FOLDER what make_inputs.py wrote (by default
 bench/out). NAME is one of those that make_inputs.py names; without one it is ask_heavy and submit_heavy. Each script is
 answered without workers and with each W (by default 1, 2 and 4) and S shards (4), N times each (5), by turns, one at a
-time, and the answers go to nowhere. Prints a table in Markdown: the seconds that went by, the least and the median, and
+time, and the answers go to nowhere. Prints a table in Markdown: the elapsed seconds, the least and the median, and
 their ratio to those without workers. A run whose answers differ from those without workers is told of and not measured.
 Needs GNU time (Debian: time).
 
-Seconds that go by change with what else the machine does, so the ratio has the least times, and the median of the ratios
+Elapsed seconds change with what else the machine does, so the ratio has the least times, and the median of the ratios
 of two runs that stood side by side.
 """
 
@@ -35,7 +35,7 @@ def answers(words, script):
 
 
 def seconds(runs):
-    """Gives the least seconds that went by, and the median."""
+    """Gives the least elapsed seconds, and the median."""
     values = [it.elapsed for it in runs]
     return f"{min(values):.3f} / {statistics.median(values):.3f}"
 

@@ -78,7 +78,7 @@ def text_of(script: Sequence[bytes]) -> bytes:
 
 
 def message(entries: int, kept: int, refused: int) -> bytes:
-    """What is said on standard error: of how many entries so many stay, and how many lines were refused."""
+    """What is said on standard error: of how many entries how many stay, and how many lines were refused."""
     told = f"; {refused} {'line was' if refused == 1 else 'lines were'} refused" if refused else ""
     return f"pgpeer: left out {entries - kept} of {entries} entries{told}\n".encode()
 
@@ -101,7 +101,7 @@ def by_model(text: bytes) -> Tuple[bytes, bytes]:
 class Cut(NamedTuple):
     """A place of a script, and what the model keeps of the lines before it."""
 
-    at: int  # so many lines
+    at: int  # after this many lines
     has_last_feed: bool  # of the last line before it, as it is given
     entries: int  # of the log
     kept: List[bytes]  # lines that stay
@@ -126,7 +126,7 @@ KINDS = {"story": 500, "crowd": 300, "noise": 60, "long": 15, "wide": 10, "full"
 
 
 def places(rng: random.Random, script: fuzz.Script) -> List[int]:
-    """Where the script is cut: behind so many lines each, ascending. Once a log is full it is cut no more."""
+    """Where the script is cut: behind how many lines each, ascending. Once a log is full it is cut no more."""
     full = (at for at, answer in enumerate(script.answers) if answer is not None and answer.code == LOG_FULL)
     last = next(full, len(script.lines))
     found = {rng.randint(0, last) for _ in range(rng.choice((1, 2, 3, 5)))}
@@ -280,8 +280,8 @@ def main() -> int:
     parser.add_argument("--program", default=str(fuzz.PROGRAM), metavar="PATH")
     parser.add_argument("--seed", default="1")
     parser.add_argument("--kinds", nargs="+", choices=KINDS, default=list(KINDS), metavar="KIND", help=", ".join(KINDS))
-    parser.add_argument("--lines", type=float, metavar="N", help="ends once so many lines were tried (by default 100,000)")
-    parser.add_argument("--minutes", type=float, metavar="M", help="ends once so much time has gone by")
+    parser.add_argument("--lines", type=float, metavar="N", help="ends once this many lines were tried (by default 100,000)")
+    parser.add_argument("--minutes", type=float, metavar="M", help="ends after this time")
     parser.add_argument("--seconds", type=int, default=60, metavar="S", help="how long a run may take")
     parser.add_argument("--under", default="", metavar="WORDS")
     parser.add_argument("--keep", default=str(fuzz.HERE / "out"), metavar="FOLDER")

@@ -5,7 +5,7 @@
 
 Which entries of a log have to stay is worked out here once more, by docs/DECISIONS.md ("Compaction"). A generated log is
 compacted at random places. From then on each line goes to both logs, the whole one and the compacted one, and each answer has to
-be the same but for `count`; after each entry the views of the groups that the story is about have to be the same too. A
+be the same except for `count`; after each entry the views of the groups that the story is about have to be the same too. A
 compacted log is compacted once more, and has to stay as it is.
 
 --wrong leaves out a reason for which an entry stays: then a difference has to be found, or the status is 1.

@@ -137,7 +137,7 @@ def most_lines(program: str) -> bool:
 
 
 def streamed(program: str, head: bytes, count: int) -> End:
-    """What the program does with the head and so many bytes `x`."""
+    """What the program does with the head and this many bytes `x`."""
     pipes = {"stdin": subprocess.PIPE, "stdout": subprocess.PIPE, "stderr": subprocess.PIPE}
     with subprocess.Popen([program, "run"], bufsize=0, **pipes) as process:
 

@@ -321,7 +321,7 @@ def main() -> int:
     parser.add_argument("--program", default=str(PROGRAM), metavar="PATH")
     parser.add_argument("--seed", default="1")
     parser.add_argument("--logs", type=int, metavar="N", help="how many logs (by default 40)")
-    parser.add_argument("--minutes", type=float, metavar="M", help="ends once so much time has gone by")
+    parser.add_argument("--minutes", type=float, metavar="M", help="ends after this time")
     parser.add_argument("--most", type=int, default=8, metavar="N", help="how many devices all subsets are tried of")
     parser.add_argument("--keep", default=str(HERE / "out"), metavar="FOLDER")
     parser.add_argument("--run-alone", action="store_true", help="hold `run` against the model, and don't ask `explain`")

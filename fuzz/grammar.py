@@ -64,7 +64,7 @@ def bucket(rng: random.Random, name: int, kind: int, items: List[int]) -> Dict[s
 
 
 def deep_tree(rng: random.Random, levels: int) -> List[Dict[str, Any]]:
-    """A chain of so many buckets."""
+    """A chain of this many buckets."""
     return [bucket(rng, -1 - at, levels - at, [-2 - at] if at + 1 < levels else [0, 1, 2]) for at in range(levels)]
 
 

@@ -63,7 +63,7 @@ def changed(rng: random.Random, old: Any) -> Any:
     if isinstance(old, list) and roll < 0.6:
         new = list(old)
         if new and rng.random() < 0.5:
-            new.insert(rng.randrange(len(new) + 1), rng.choice(new))  # one that stands twice
+            new.insert(rng.randrange(len(new) + 1), rng.choice(new))  # one that is twice in it
         elif new:
             new.pop(rng.randrange(len(new)))
         else:

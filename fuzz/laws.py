@@ -163,7 +163,7 @@ class Watch:
 
 
 def flag_by_first_epoch() -> None:
-    """An interval's flag goes by the map of its first epoch."""
+    """An interval's flag depends on the map of its first epoch."""
     plain = peering.intervals
 
     def wrong(code: codes.Code, begin: int, states: List[peering.State], cleans: Any = ()) -> List[peering.Interval]:

@@ -3,7 +3,7 @@
 
     fuzz/model.py < SCRIPT > ANSWERS
 
-It works by whole lists and shares no code with the program. Want of memory it doesn't know.
+It works by whole lists and shares no code with the program. It is never out of memory.
 """
 
 import json
@@ -17,7 +17,7 @@ import peering
 import placement
 from maps import Group
 
-MOST_TAKEN = 65_535  # entries of the log, but for a Close
+MOST_TAKEN = 65_535  # entries of the log, except a Close
 REPORT_NAMES = {60: "UnknownGroup", 61: "UnknownMember", 62: "FutureStamp", 63: "BadVersion"}
 
 

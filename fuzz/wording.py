@@ -67,7 +67,7 @@ class Beside(NamedTuple):
     size: int
     min_size: int
     best: Any  # the member with the best copy
-    lacks: int  # so many slots of the acting set
+    lacks: int  # this many slots of the acting set
     fallen: List[int]  # who of those that served the group last is down
     missing: List[Shown]  # how the other copies compare with the best one, as `ask` answers
 

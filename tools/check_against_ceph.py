@@ -138,7 +138,7 @@ def tree_text(tree: Dict[str, Tuple[str, str, Dict[str, float]]], rules: List[st
 
 
 def even_tree(hosts: int, racks: int, algs: str, rules: List[str], weight: float = 1.0) -> str:
-    """A tree of all devices in so many hosts, these in racks (none where it is 0), with the kinds of host, rack and root."""
+    """A tree of all devices in this many hosts, these in racks (none where it is 0), with the kinds of host, rack and root."""
     host_alg, rack_alg, root_alg = algs.split()
     share, tree = DEVICES // hosts, {}
     for host in range(hosts):
@@ -267,7 +267,7 @@ def tries(cluster: Cluster) -> None:
 
 
 def own_tries(cluster: Cluster) -> None:
-    """The same map, but for the numbers of tries, which are those of the profile."""
+    """The same map, except for the numbers of tries, which are those of the profile."""
     pools_of_tries(cluster, 1, 51)
 
 

@@ -78,9 +78,9 @@ def wanted_numbers():
         ("pgp_c/src/status.rt", r"Status::(\w+) => (\d+)", None),
         ("pgp_c/src/view.rt", r"Verdict::(\w+) => (\d+)", None),
         ("pgp_c/src/lists.rt", r"PeerState::(\w+)(?:\(_\))? => (\d),\n", None),
-        ("pgp_refusals/src/locate_refusal.rt", r"LocateRefusal::(UnknownPool) => (\d+)", None),
-        ("pgp_refusals/src/text_fault.rt", r"TextFault::(\w+)(?:\(_\))? => (\d+)", "PGP_LINE_MEMORY"),
-        ("pgp_refusals/src/refusal.rt", r"Refusal::(\w+)(?:\(_\))? => (\d+)", "PGP_ENTRY_MEMORY"),
+        ("pgp_ids/src/locate_refusal.rt", r"LocateRefusal::(UnknownPool) => (\d+)", None),
+        ("pgp_ids/src/text_fault.rt", r"TextFault::(\w+)(?:\(_\))? => (\d+)", "PGP_LINE_MEMORY"),
+        ("pgp_ids/src/refusal.rt", r"Refusal::(\w+)(?:\(_\))? => (\d+)", "PGP_ENTRY_MEMORY"),
     ):
         for name, number in numbers_in(source, pattern).items():
             wanted[memory if name == "Memory" else upper(name)] = number

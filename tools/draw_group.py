@@ -13,7 +13,7 @@ ever in up or acting has a row, with a bar where it stood in acting: its colour 
 read-write, a line in it that only a report says so, and the current interval stands apart. Below stand the verdicts, and for
 whom the group waits: devices that are down and block it, and devices that have yet to be heard. At the head and at the foot
 stands what `pgpeer explain` says of the group after the last entry: why it doesn't serve, and what brings it back. The last
-column's marks go by that too. Beyond 200 columns runs of entries that change nothing for the group are folded, and then the
+column's marks follow that too. Beyond 200 columns runs of entries that change nothing for the group are folded, and then the
 oldest, but never the intervals that block the group, the last that may have gone read-write, or (as many as have room) others
 whose members have to be heard.
 
@@ -218,7 +218,7 @@ class Picture:
             at += count
 
     def has_room(self, verdict: str, count: int) -> bool:
-        """Tells whether the verdict's name has room in so many columns."""
+        """Tells whether the verdict's name has room in this many columns."""
         return room_for(verdict) < self.wide * count - 4
 
     def waits(self) -> Iterator[str]:

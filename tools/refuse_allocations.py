@@ -5,7 +5,7 @@
 
 PROGRAM is the built pgpeer and SCRIPT a file of lines. A run without workers and with no allocation refused gives the
 answers. Then, for N = 1, 2, .., until a run meets no Nth, a run in which the Nth is refused has to give those answers; or to
-answer one line with a constant text of want of memory and all others as if that line weren't there; or to end with status
+answer one line with a constant text for out of memory and all others as if that line weren't there; or to end with status
 2 before it reads; or, with workers, to end with status 3 and `pgpeer: no engine` before it reads. Exits with 1 where a run
 did something else, or didn't end in a minute. Which allocation is the Nth differs from run to run where there are workers.
 Needs a C compiler, `cc`.
@@ -41,7 +41,7 @@ def is_entry(line):
 
 
 def met_memory(lines, script, answers_without):
-    """Gives the constant text where the lines are the answers to the script but for one line that met want of memory."""
+    """Gives the constant text where the lines are the answers to the script except for one line that was out of memory."""
     for place, line in enumerate(script):
         before = sum(not is_blank(it) for it in script[:place])
         if before >= len(lines) or lines[before] not in (NO_LINE, NO_ENTRY):

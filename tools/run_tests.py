@@ -5,7 +5,7 @@
 
 In this order, each part with its count and its seconds:
 
-  tests of tools/, tests of fuzz/   unit tests in Python, but for those that need the built program
+  tests of tools/, tests of fuzz/   unit tests in Python, except those that need the built program
   gate                              `rt ci`
   tests of tools/, with the program all unit tests of tools/
   examples                          each example and each line of docs/FORMAT.md has its answer (run_examples.py)
@@ -48,9 +48,9 @@ PROGRAM = ROOT / "crates/pgpeer/out/pgpeer"
 C_LIBRARY = ROOT / "crates/pgp_c/out/c/libpgpeer.so"
 NO_PROGRAM = ROOT / "no program yet"
 SHORT_SCRIPTS = (("first", 1, 0), ("first", 2, 2))  # an example, shards and workers
-FUZZED_LINES = 300_000  # fewer where a minute goes by before
-EXPLAINED_LOGS = 300  # fewer where half a minute goes by before
-COMPACTED_LINES = 100_000  # fewer where half a minute goes by before
+FUZZED_LINES = 300_000  # fewer where a minute passes before
+EXPLAINED_LOGS = 300  # fewer where half a minute passes before
+COMPACTED_LINES = 100_000  # fewer where half a minute passes before
 COMPACTED_KINDS = ("story", "crowd", "noise", "long", "wide")  # without full logs, one of which takes a minute
 REFUSED_SCRIPTS = (  # in which each allocation is refused, with the words before and behind them
     ("an explanation", ("explain", "examples/explain_down.jsonl", "1.0")),
@@ -211,7 +211,7 @@ def end_group(pid: int) -> None:
 
 
 def ended(part: Part, seconds: float) -> Ended:
-    """Runs a part at the top of the tree, for so many seconds at most, with no file of Python's left behind."""
+    """Runs a part at the top of the tree, for this many seconds at most, with no file of Python's left behind."""
     env = {**os.environ, "PYTHONDONTWRITEBYTECODE": "1", "PGPEER": str(part.program)}
     with subprocess.Popen(
         part.words,
@@ -249,7 +249,7 @@ def lacking(part: Part) -> Iterator[object]:
 
 
 def run_part(part: Part, seconds: float) -> Counts:
-    """Runs a part for so many seconds at most, prints its line, and gives its counts."""
+    """Runs a part for this many seconds at most, prints its line, and gives its counts."""
     for lack in lacking(part):
         print(f"{part.name}: skipped, since {lack} isn't there", flush=True)
         return 0, 0

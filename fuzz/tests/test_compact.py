@@ -47,7 +47,7 @@ LOG = b'{"op":"entries","pg":[1,0],"from":[0,0],"stamp":1,"log":[[1,%d,"modify",
 
 
 def cut_at(lines, *places):
-    """A script of these lines, cut behind so many of them each."""
+    """A script of these lines, cut behind this many of them each."""
     script = fuzz.modelled(list(lines))
     with mock.patch.object(compact, "places", lambda rng, script: list(places)):
         return compact.cut(random.Random(1), script)

@@ -46,7 +46,7 @@ def drawn(steps, pool=POOL):
 
 
 def marks(root, kind):
-    """The rectangles of a kind, but for the sample in the legend."""
+    """The rectangles of a kind, except the sample in the legend."""
     return [node for node in root.iter(f"{SVG}rect") if node.get("class") == kind and node.find(f"{SVG}title") is not None]
 
 

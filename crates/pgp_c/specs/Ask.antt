@@ -3,8 +3,8 @@ use Rattle.std.specs.Prelude.{◌≡◌, ◌⊎◌, ℕ, ◌≤◌, List, Option
 use Rattle.pgp_ids.specs.declared.entry.Entry.{Entry}
 use Rattle.pgp_ids.specs.declared.pg_id.PgId.{PgId}
 use Rattle.pgp_ids.specs.declared.view.View.{View}
-use Rattle.pgp_refusals.specs.AskRefusal.{ask_refusal_number}
-use Rattle.pgp_refusals.specs.declared.ask_refusal.AskRefusal.TheVariants.{UnknownGroup}
+use Rattle.pgp_ids.specs.AskRefusal.{ask_refusal_number}
+use Rattle.pgp_ids.specs.declared.ask_refusal.AskRefusal.TheVariants.{UnknownGroup}
 use Rattle.pgp_core.specs.Session.{LogAndAnswer, view_in}
 use Rattle.pgp_c.specs.Locate.{IsPool}
 use Rattle.pgp_c.specs.Status.{status_number}

@@ -15,12 +15,12 @@ put_in text room = if nat_le (length text) (length room) then text ++ drop (leng
 abbrev pub put_status : {A : Type 0} → List A → List A → Status
 put_status text room = if nat_le (length text) (length room) then Done else RoomTooSmall
 
--- what became of a line that met this want of memory, if any
+-- what became of a line, given what there was no memory for, if anything
 abbrev pub line_status : Option Want → List ℕ → List ℕ → Status
 line_status None text room = put_status text room
 line_status (Some want) text room = NoMemory
 
--- A line was told to a session, which goes from `was` to `now`. It met this want of memory, if any.
+-- A line was told to a session, which goes from `was` to `now`. `met` is what there was no memory for, if anything.
 pub record IsTold (was now : LogAndAnswer) (line : List ℕ) (old new : List ℕ) (len : ℕ) (status : ℕ) : Type 0 where
   pub met : Option Want
   pub meets : MayMeet met line

@@ -3,7 +3,7 @@ use Rattle.std.specs.Prelude.{◌≡◌, ◌⊎◌, ℕ, ◌≤◌, Option, Some
 use Rattle.pgp_ids.specs.declared.entry.Entry.{Entry}
 use Rattle.pgp_ids.specs.declared.entry.Entry.TheVariants as entry
 use Rattle.pgp_ids.specs.declared.report.Info.{Info}
-use Rattle.pgp_refusals.specs.Refusal.{refusal_number}
+use Rattle.pgp_ids.specs.Refusal.{refusal_number}
 use Rattle.pgp_lines.specs.declared.command.Command.TheVariants.{Submit}
 use Rattle.pgp_log.specs.Fits.{fits}
 use Rattle.pgp_replies.specs.declared.reply.Reply.{Reply}

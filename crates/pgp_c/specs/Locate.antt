@@ -2,8 +2,8 @@
 use Rattle.std.specs.Prelude.{◌≡◌, ◌⊎◌, ℕ, ◌<◌, ◌≤◌, List, length, Option, Some, None}
 use Rattle.std.specs.Str.{IsUtf8}
 use Rattle.pgp_ids.specs.declared.entry.Entry.{Entry}
-use Rattle.pgp_refusals.specs.LocateRefusal.{locate_refusal_number}
-use Rattle.pgp_refusals.specs.declared.locate_refusal.LocateRefusal.TheVariants.{UnknownPool}
+use Rattle.pgp_ids.specs.LocateRefusal.{locate_refusal_number}
+use Rattle.pgp_ids.specs.declared.locate_refusal.LocateRefusal.TheVariants.{UnknownPool}
 use Rattle.pgp_lines.specs.declared.command.Command.TheVariants.{Locate}
 use Rattle.pgp_replies.specs.declared.reply.Reply.{Reply}
 use Rattle.pgp_replies.specs.declared.reply.Reply.TheVariants.{Accepted, Asked, Located, Traced, Refused}

@@ -8,8 +8,8 @@ use Rattle.pgp_ids.specs.declared.peer.PeerMissing.{PeerMissing}
 use Rattle.pgp_ids.specs.declared.peer.PeerState.{PeerState}
 use Rattle.pgp_ids.specs.declared.peer.PeerState.TheVariants.{Missing, Backfill, Diverged}
 use Rattle.pgp_ids.specs.declared.view.View.{View}
-use Rattle.pgp_refusals.specs.AskRefusal.{ask_refusal_number}
-use Rattle.pgp_refusals.specs.declared.ask_refusal.AskRefusal.TheVariants.{UnknownGroup}
+use Rattle.pgp_ids.specs.AskRefusal.{ask_refusal_number}
+use Rattle.pgp_ids.specs.declared.ask_refusal.AskRefusal.TheVariants.{UnknownGroup}
 use Rattle.pgp_core.specs.Session.{LogAndAnswer, view_in}
 use Rattle.pgp_c.specs.Ask.{IsGroup, group}
 use Rattle.pgp_c.specs.Exports.{put_in, put_status}

@@ -104,7 +104,7 @@ abbrev pub faults_in : List (List ℕ) → Kinds
 faults_in words =
     or_else (fault_of pgpeer_app words) (if is_some (counts_asked words) then [] else ValueValidation ∷ [])
 
--- the words have no fault: they ask for a run of so many shards and workers
+-- the words have no fault: they ask for a run of this many shards and workers
 abbrev pub AsksForRun : List (List ℕ) → Counts → Type 0
 AsksForRun words counts = (faults_in words ≡ []) × (counts_asked words ≡ Some counts)
 

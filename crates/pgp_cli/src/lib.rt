@@ -3,7 +3,7 @@
 //! [`status_of`] does what the words ask for, over any reader and writers: `pgp_core` answers a script on one thread, and
 //! `pgp_run` one with workers; `pgp_explain` explains one, and
 //! `pgp_compact_script` compacts one. [`Watched`] is a stream with an account of whether a call of it
-//! failed, which the contract of a run goes by.
+//! failed, on which the contract of a run depends.
 #![tactic(auto)]
 
 mod commands;

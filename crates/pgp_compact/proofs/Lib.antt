@@ -9,5 +9,7 @@ pub mod GoneOnLemmas
 pub mod LegalLemmas
 pub mod TwiceLemmas
 pub mod OpeningLemmas
+pub mod CourseLemmas
+pub mod CoursesLemmas
 pub mod LaterLemmas
 pub mod WholeLemmas

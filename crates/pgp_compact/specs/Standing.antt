@@ -1,19 +1,11 @@
 -- What the whole log says of a group, as far as it decides which of its reports are needed.
-use Rattle.std.specs.Prelude.{◌≡◌, ℕ, ◌+◌, ◌≤◌, Option, Some, None, nat_le, if◌then◌else◌}
-use Rattle.pgp_ids.specs.declared.view.View.{View}
+use Rattle.std.specs.Prelude.{ℕ, ◌+◌, ◌≤◌, Option, Some, None, nat_le, if◌then◌else◌}
 use Rattle.pgp_interval.specs.History.{last_place}
 use Rattle.pgp_interval.specs.Runs.{current_first}
 use Rattle.pgp_group.specs.GroupLog.{GroupLog}
 use Rattle.pgp_group.specs.Heard.{les}
-use Rattle.pgp_group.specs.Peering.{past}
 use Rattle.pgp_compact.specs.Compacted.{opening_epoch}
 use Rattle.pgp_compact.specs.declared.standing.Standing.{Standing}
-
--- the view says of the group when it began to serve and in which intervals it was
-pub record IsViewOf (g : GroupLog) (view : View) : Type 0 where
-  pub first : view.first ≡ current_first g.history
-  pub les : view.les ≡ les g
-  pub intervals : view.intervals ≡ past g
 
 -- the first epoch of the group's interval that holds this epoch, where the group was there
 abbrev pub opening_in : GroupLog → ℕ → Option ℕ

@@ -3,7 +3,7 @@
 ghost use Rattle.std.specs.Prelude.{◌≡◌, ◌≢◌, ◌≤◌, ◌++◌, List, Some, true, length, option_map};
 ghost use Rattle.pgp_ids.specs.declared.entry.Entry.{Entry};
 ghost use Rattle.pgp_ids.specs.declared.pg_id.PgId.{PgId};
-ghost use Rattle.pgp_refusals.specs.declared.refusal.Refusal.TheVariants.{LogFull};
+ghost use Rattle.pgp_ids.specs.declared.refusal.Refusal.TheVariants.{LogFull};
 ghost use Rattle.pgp_map.specs.Checked.{are_checked};
 ghost use Rattle.pgp_group.specs.Entries.{incs_of};
 ghost use Rattle.pgp_group.specs.Interleaving.{with_count};

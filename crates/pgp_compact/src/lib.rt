@@ -5,10 +5,14 @@
 //! makes needless. Its laws say that every answer stays the same.
 #![tactic(auto)]
 
+mod course;
+mod courses;
 mod greatest;
 mod keys;
 mod later;
 pub mod laws;
+mod lying;
+mod moving;
 mod standing;
 mod walk;
 mod whole;

@@ -31,7 +31,7 @@ pub fn needed(alloc: Global, entries: &[Arc<Entry>]) -> Result<Vec<bool>, AllocE
     requires { is_legal (map arc_value entries.now) ≡ true }
     ensures { IfOk result (λ choices. choices.items ≡ are_needed_in (map arc_value entries.now)) }
 {
-    let mut whole = Whole::of(alloc, entries)?;
+    let whole = Whole::of(alloc, entries)?;
     let mut later = Later::new(alloc);
     let mut choices = Vec::new(alloc);
     for step in 0..entries.len() {

@@ -1,6 +1,7 @@
 //! What a whole log says of its groups.
 
-ghost use Rattle.std.specs.Prelude.{◌≡◌, ◌≤◌, ◌∷◌, List, true, map, option_map, IfOk};
+ghost use Rattle.std.specs.Prelude.{◌≡◌, ◌≤◌, ◌++◌, [], ◌∷◌, List, true, map, option_map, IfOk, OnOk};
+ghost use Rattle.std.specs.List.{Contains};
 ghost use Rattle.std.specs.Arc.{arc_value};
 ghost use Rattle.pgp_ids.specs.declared.entry.Entry.{Entry as AnyEntry};
 ghost use Rattle.pgp_ids.specs.declared.entry.Entry.TheVariants as entry;
@@ -9,50 +10,71 @@ ghost use Rattle.pgp_group.specs.Entries.{incs_of};
 ghost use Rattle.pgp_group.specs.GroupLog.{group_in};
 ghost use Rattle.pgp_log.specs.Log.{is_legal};
 ghost use Rattle.pgp_compact.specs.Compacted.{is_needed};
+ghost use Rattle.pgp_compact.specs.Courses.{HasReport};
 ghost use Rattle.pgp_compact.specs.Later.{IsLater};
 ghost use Rattle.pgp_compact.specs.Standing.{standing_at};
-ghost use Rattle.pgp_compact.specs.Whole.{IsWhole, IsOfSomeLog, IsReached};
+ghost use Rattle.pgp_compact.specs.Whole.{IsWhole, HasRead, CanRead};
 
+use super::courses::Courses;
 use super::later::Later;
-use super::standing::{Standing, standing_of};
-use pgp_ids::{AskRefusal, Entry, Epoch, Info, PgId, Report};
-use pgp_log::{Judge, ShardState};
+use super::standing::Standing;
+use pgp_ids::{Entry, Epoch, Info, PgId, Report};
+use pgp_map::OsdMap;
 use std::alloc::{AllocError, Global};
 use std::sync::Arc;
 
-/// The views of a whole log and its last map.
+/// The last map of a whole log, and the groups of which it has reports.
 pub(crate) struct Whole {
-    /// The only shard of the log.
-    state: ShardState,
-    judge: Judge,
+    map: OsdMap,
+    courses: Courses,
 }
 
 impl Drop for Whole {
     fn drop(self) {
-        let Whole { state: _, judge: _ } = self;
+        let Whole { map: _, courses: _ } = self;
     }
 }
 
 impl Whole {
-    /// All of this log.
+    /// All of this log. It goes twice over the log: once for the groups that have reports, and once for where these lie.
     pub(crate) fn of(alloc: Global, entries: &[Arc<Entry>]) -> Result<Self, AllocError>
         requires { is_legal (map arc_value entries.now) ≡ true }
         ensures { IfOk result (λ whole. IsWhole (map arc_value entries.now) whole) }
     {
-        let mut state = ShardState::start(alloc, 0, 1);
-        state.absorb_all(entries)?;
-        let judge = Judge::of(alloc, entries)?;
-        Ok(Whole { state, judge })
+        let mut whole = Whole {
+            map: OsdMap::empty(alloc),
+            courses: Courses::of(alloc, entries)?,
+        };
+        for entry in entries {
+            whole.read(entry)?;
+        }
+        Ok(whole)
     }
 
-    /// Whether an answer can need the entry, where `later` has taken note of those after it; it takes note of the entry too.
-    pub(crate) fn needs(&mut self, later: &mut Later, entry: &Entry) -> Result<bool, AllocError>
-        requires { IsOfSomeLog self.old }
-        ensures needed { IfOk result (λ needed. (log done : List AnyEntry) → IsWhole log self.old → IsLater log done later.old
-            → IsReached log entry.now → needed ≡ is_needed log done entry.now) }
-        ensures noted { IfOk result (λ needed. (log done : List AnyEntry) → IsWhole log self.old → IsLater log done later.old
-            → IsReached log entry.now → IsLater log (entry.now ∷ done) later.new) }
-        ensures whole { (log : List AnyEntry) → IsWhole log self.old → IsWhole log self.new }
+    /// Reads the next entry of the log, for its map. After an `Err` it is of no further use.
+    fn read(&mut self, entry: &Entry) -> Result<(), AllocError>
+        requires { CanRead self.old entry.now }
+        ensures { OnOk result ((log front : List AnyEntry) → is_legal (front ++ entry.now ∷ []) ≡ true → HasRead log front self.old
+            → HasRead log (front ++ entry.now ∷ []) self.new) }
+    {
+        match entry {
+            Entry::Inc(inc) => {
+                self.map.apply(inc)?;
+                self.courses.absorb(&self.map, inc)
+            }
+            Entry::Info(_) => Ok(()),
+            Entry::Entries(_) => Ok(()),
+            Entry::Close => Ok(()),
+        }
+    }
+
+    /// Whether an answer can need the entry of the log, where `later` has taken note of those after it; it takes note of the entry
+    /// too.
+    pub(crate) fn needs(&self, later: &mut Later, entry: &Entry) -> Result<bool, AllocError>
+        ensures needed { IfOk result (λ needed. (log done : List AnyEntry) → IsWhole log self.now → IsLater log done later.old
+            → Contains log entry.now → needed ≡ is_needed log done entry.now) }
+        ensures noted { IfOk result (λ needed. (log done : List AnyEntry) → IsWhole log self.now → IsLater log done later.old
+            → Contains log entry.now → IsLater log (entry.now ∷ done) later.new) }
     {
         match entry {
             Entry::Inc(_) => Ok(true),
@@ -62,17 +84,15 @@ impl Whole {
         }
     }
 
-    fn needs_info(&mut self, later: &mut Later, info: &Info) -> Result<bool, AllocError>
-        requires { IsOfSomeLog self.old }
-        ensures needed { IfOk result (λ needed. (log done : List AnyEntry) → IsWhole log self.old → IsLater log done later.old
-            → info.now.last_epoch_clean ≤ epoch (incs_of log) → needed ≡ is_needed log done (entry.Info info.now)) }
-        ensures noted { IfOk result (λ needed. (log done : List AnyEntry) → IsWhole log self.old → IsLater log done later.old
-            → info.now.last_epoch_clean ≤ epoch (incs_of log) → IsLater log (entry.Info info.now ∷ done) later.new) }
-        ensures whole { (log : List AnyEntry) → IsWhole log self.old → IsWhole log self.new }
+    fn needs_info(&self, later: &mut Later, info: &Info) -> Result<bool, AllocError>
+        ensures needed { IfOk result (λ needed. (log done : List AnyEntry) → IsWhole log self.now → IsLater log done later.old
+            → Contains log (entry.Info info.now) → needed ≡ is_needed log done (entry.Info info.now)) }
+        ensures noted { IfOk result (λ needed. (log done : List AnyEntry) → IsWhole log self.now → IsLater log done later.old
+            → Contains log (entry.Info info.now) → IsLater log (entry.Info info.now ∷ done) later.new) }
     {
-        match self.standing(&info.pg, info.last_epoch_clean)? {
+        match self.standing(&info.pg, info.last_epoch_clean) {
             Some(standing) => {
-                let needed = later.needs_info(self.judge.map(), &standing, info);
+                let needed = later.needs_info(&self.map, &standing, info);
                 later.note_info(info, standing.opening)?;
                 Ok(needed)
             }
@@ -83,17 +103,15 @@ impl Whole {
         }
     }
 
-    fn needs_report(&mut self, later: &mut Later, report: &Report) -> Result<bool, AllocError>
-        requires { IsOfSomeLog self.old }
-        ensures needed { IfOk result (λ needed. (log done : List AnyEntry) → IsWhole log self.old → IsLater log done later.old
-            → needed ≡ is_needed log done (entry.Entries report.now)) }
-        ensures noted { IfOk result (λ needed. (log done : List AnyEntry) → IsWhole log self.old → IsLater log done later.old
+    fn needs_report(&self, later: &mut Later, report: &Report) -> Result<bool, AllocError>
+        ensures needed { IfOk result (λ needed. (log done : List AnyEntry) → IsWhole log self.now → IsLater log done later.old
+            → Contains log (entry.Entries report.now) → needed ≡ is_needed log done (entry.Entries report.now)) }
+        ensures noted { IfOk result (λ needed. (log done : List AnyEntry) → IsWhole log self.now → IsLater log done later.old
             → IsLater log (entry.Entries report.now ∷ done) later.new) }
-        ensures whole { (log : List AnyEntry) → IsWhole log self.old → IsWhole log self.new }
     {
-        match self.standing(&report.pg, Epoch::new(0))? {
+        match self.standing(&report.pg, Epoch::new(0)) {
             Some(standing) => {
-                let needed = later.needs_report(self.judge.map(), standing.first, report);
+                let needed = later.needs_report(&self.map, standing.first, report);
                 later.note_report(report)?;
                 Ok(needed)
             }
@@ -104,21 +122,13 @@ impl Whole {
         }
     }
 
-    /// What the log says of the group, and to which of its intervals an epoch belongs that the log has reached.
-    fn standing(&mut self, pg: &PgId, clean: Epoch) -> Result<Option<Standing>, AllocError>
-        requires { IsOfSomeLog self.old }
-        ensures standing { IfOk result (λ found. (log : List AnyEntry) → IsWhole log self.old → clean ≤ epoch (incs_of log)
-            → found ≡ option_map (standing_at clean) (group_in log pg.now)) }
-        ensures whole { (log : List AnyEntry) → IsWhole log self.old → IsWhole log self.new }
+    /// What the log says of the group, of which it has a report, and to which of its intervals an epoch belongs that the log has
+    /// reached.
+    fn standing(&self, pg: &PgId, clean: Epoch) -> Option<Standing>
+        ensures { (log : List AnyEntry) → IsWhole log self.now → HasReport log pg.now → clean ≤ epoch (incs_of log)
+            → result ≡ option_map (standing_at clean) (group_in log pg.now) }
     {
-        match self.state.work_out(pg) {
-            Ok(()) => {}
-            Err(AskRefusal::UnknownGroup) => return Ok(None),
-            Err(AskRefusal::Memory) => return Err(AllocError),
-        }
-        match self.state.told(pg) {
-            Some(view) => Ok(Some(standing_of(view, clean))),
-            None => Ok(None),
-        }
+        let course = self.courses.get(pg)?;
+        course.standing(clean)
     }
 }

@@ -3,7 +3,7 @@ use Rattle.std.proofs.Common.{◌≡◌, ℕ, List, [], ◌∷◌, ◌++◌, Boo
 use Rattle.std.specs.Prelude.{is_none, IfSome}
 use Rattle.std.proofs.lemmas.Bool.{cases_Bool}
 use Rattle.pgp_ids.specs.declared.entry.Entry.{Entry}
-use Rattle.pgp_refusals.specs.declared.refusal.Refusal.{Refusal}
+use Rattle.pgp_ids.specs.declared.refusal.Refusal.{Refusal}
 use Rattle.pgp_text.specs.Command.{command_of}
 use Rattle.pgp_text.specs.LineFault.{LineFault}
 use Rattle.pgp_lines.specs.declared.command.Command.{Command}
@@ -19,8 +19,8 @@ use Rattle.pgp_core.specs.declared.want.Want.{Want}
 use Rattle.pgp_core.specs.declared.outcome.LineOutcome.{LineOutcome}
 use Rattle.pgp_core.specs.declared.outcome.LineOutcome.TheVariants.{Blank, Taken, Asked, Refused}
 use Rattle.pgp_replies.specs.declared.reply.refused.Refused.TheVariants as why
-use Rattle.pgp_refusals.specs.declared.text_fault.TextFault.{TextFault}
-use Rattle.pgp_refusals.specs.declared.text_fault.TextFault.TheVariants.{LineTooLong, NotJson, NoOp, UnknownKey, BadField, Memory}
+use Rattle.pgp_ids.specs.declared.text_fault.TextFault.{TextFault}
+use Rattle.pgp_ids.specs.declared.text_fault.TextFault.TheVariants.{LineTooLong, NotJson, NoOp, UnknownKey, BadField, Memory}
 use Rattle.pgp_lines.specs.LineFault.{told}
 use Rattle.pgp_text.specs.Reply.{reply_text}
 
@@ -92,7 +92,7 @@ read-past log (Ok (Locate pool name)) = refl
 read-past log (Ok (Trace code epochs)) = refl
 read-past log (Err fault) = refl
 
--- a line that meets no want adds its entry
+-- a line that isn't out of memory adds its entry
 added-past : (log : List Entry) (line : List ℕ) → log_past log None line ≡ with_added log (added_by log line)
 added-past log line = elim (cases_Bool (is_blank line)) [
   | inl blank ↦ rw blank refl
@@ -105,7 +105,7 @@ added-past log line = elim (cases_Bool (is_blank line)) [
 abbrev no_wants : List (List ℕ) → List (Option Want)
 no_wants lines = map (λ line. None) lines
 
--- lines that meet no want make this log
+-- lines of which none is out of memory make this log
 pub lines-made : (log : List Entry) (lines : List (List ℕ)) → logs log (no_wants lines) lines ≡ log ++ entries_of (entry_lines log lines)
 lines-made log [] = sym (append-nil log)
 lines-made log (line ∷ lines) =

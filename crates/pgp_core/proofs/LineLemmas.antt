@@ -56,7 +56,7 @@ kept-whole buffer P fate there line holds =
     let kept : (buffer.bytes.items ≡ line) × (length line ≤ longest_line) = subst (λ f. KeptBy f buffer.bytes.items line) fate holds.kept in
     (subst (λ l. length l ≤ longest_line → P l) kept.0 there) kept.1
 
--- a line can meet what its command meets
+-- what its command can have no memory for, the line can have none for
 line-meets : (line : List ℕ) (command : Command) → is_blank line ≡ false → length line ≤ longest_line → command_of line ≡ Ok command → MayMeet (Some (want_of command)) line
 line-meets line (Submit entry) some short reads = record { short = short; entry = entry; reads = reads }
 line-meets line (Ask pg) some short reads = (some, short)

@@ -14,7 +14,7 @@ pub by-itself : (alone : Bool) (log : List Entry) → MayAnswerBy alone log log
 by-itself true log = refl
 by-itself false log = record { rest = []; whole = sym (append-nil log) }
 
--- a line that met want of memory has its constant text
+-- a line that was out of memory has its constant text
 pub told-want : (alone : Bool) (before after : List Entry) (line old new : List ℕ) (want : Want) → MayMeet (Some want) line → MayAnswerBy alone before after → new ≡ old
     → PutsLine alone before after line old new (want_text want ++ 10 ∷ [])
 told-want alone before after line old new want meets may same = record {
@@ -50,7 +50,7 @@ told-push alone before mid after (first ∷ lines) line out text told last =
 
 -- ---- where one thread alone adds to the log
 
--- the wants of memory that these lines met, where this was written for them
+-- of each of these lines what there was no memory for, if anything, where this was written for them
 record Meets (log : List Entry) (lines : List (List ℕ)) (out : List ℕ) : Type 0 where
   pub met : List (Option Want)
   pub each : length met ≡ length lines

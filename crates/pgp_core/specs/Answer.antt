@@ -2,14 +2,14 @@
 use Rattle.std.specs.Prelude.{ℕ, ◌+◌, List, [], ◌∷◌, ◌++◌, length, Option, Some, None, Result, Ok, Err}
 use Rattle.pgp_code.specs.AnyCode.{enough_of, is_by_place}
 use Rattle.pgp_code.specs.Pool.{code_of}
-use Rattle.pgp_refusals.specs.declared.ask_refusal.AskRefusal.TheVariants.{UnknownGroup}
+use Rattle.pgp_ids.specs.declared.ask_refusal.AskRefusal.TheVariants.{UnknownGroup}
 use Rattle.pgp_ids.specs.declared.entry.Entry.{Entry}
 use Rattle.pgp_ids.specs.declared.history.EpochState.{EpochState}
-use Rattle.pgp_refusals.specs.declared.locate_refusal.LocateRefusal.TheVariants.{UnknownPool}
+use Rattle.pgp_ids.specs.declared.locate_refusal.LocateRefusal.TheVariants.{UnknownPool}
 use Rattle.pgp_ids.specs.declared.pg_id.PgId.{PgId}
 use Rattle.pgp_ids.specs.declared.pool.PoolKind.{PoolKind}
 use Rattle.pgp_ids.specs.declared.pool.PoolSpec.{PoolSpec}
-use Rattle.pgp_refusals.specs.declared.refusal.Refusal.{Refusal}
+use Rattle.pgp_ids.specs.declared.refusal.Refusal.{Refusal}
 use Rattle.pgp_ids.specs.declared.view.View.{View}
 use Rattle.pgp_interval.specs.Runs.{past_intervals, current_first}
 use Rattle.pgp_map.specs.Pools.{pool}

@@ -2,7 +2,7 @@
 use Rattle.std.specs.Prelude.{ℕ, List, ◌++◌, replicate, codes, Option, None}
 use Rattle.pgp_core.specs.declared.want.Want.{Want}
 
--- none of so many lines met want of memory
+-- none of this many lines was out of memory
 abbrev pub without_want : ℕ → List (Option Want)
 without_want lines = replicate lines None
 

@@ -67,7 +67,7 @@ Stopped bounds from to start now read_failed write_failed =
 
 -- ---- how large a script may be
 
--- at most so many lines, and so many bytes
+-- at most this many lines, and this many bytes
 abbrev pub bounds_of : (lines bytes : ℕ) → Bounds
 bounds_of lines bytes = record { lines = lines; bytes = bytes }
 

@@ -1,9 +1,9 @@
--- The text of a script: what is written for its lines, where some of them may have met want of memory.
+-- The text of a script: what is written for its lines, where some of them may have been out of memory.
 use Rattle.std.specs.Prelude.{◌≡◌, ℕ, ◌≤◌, List, [], ◌∷◌, ◌++◌, Option, Some, None, Ok, false, nat_lt, length, take, flat_map, slice_index_or, if◌then◌else◌}
 use Rattle.std.specs.List.{range_with_len}
 use Rattle.pgp_ids.specs.declared.entry.Entry.{Entry}
-use Rattle.pgp_refusals.specs.declared.refusal.Refusal.TheVariants as refusal
-use Rattle.pgp_refusals.specs.declared.text_fault.TextFault.TheVariants as fault
+use Rattle.pgp_ids.specs.declared.refusal.Refusal.TheVariants as refusal
+use Rattle.pgp_ids.specs.declared.text_fault.TextFault.TheVariants as fault
 use Rattle.pgp_text.specs.Command.{command_of}
 use Rattle.pgp_text.specs.Reply.{reply_text}
 use Rattle.pgp_lines.specs.declared.command.Command.TheVariants.{Submit}
@@ -24,14 +24,14 @@ pub record IsEntryLine (line : List ℕ) : Type 0 where
   pub entry : Entry
   pub reads : command_of line ≡ Ok (Submit entry)
 
--- A line can meet this want of memory: that of a line only where it isn't blank and not too long, that of an entry only where
--- it was read as one. So a blank line never has an answer, and one that is too long always has its own.
+-- What there can be no memory for at a line: for the line itself only where it isn't blank and not too long, for an entry only
+-- where the line was read as one. So a blank line never has an answer, and one that is too long always has its own.
 abbrev pub MayMeet : Option Want → List ℕ → Type 0
 MayMeet None line = Unit {0}
 MayMeet (Some want.Line) line = (is_blank line ≡ false) × (length line ≤ longest_line)
 MayMeet (Some want.Entry) line = IsEntryLine line
 
--- the text for a line that met want of memory
+-- the text for a line that was out of memory
 abbrev pub want_text : Want → List ℕ
 want_text want.Line = reply_text (Refused (why.Line fault.Memory))
 want_text want.Entry = reply_text (Refused (why.Entry refusal.Memory))
@@ -40,8 +40,8 @@ want_text want.Entry = reply_text (Refused (why.Entry refusal.Memory))
 abbrev pub reply_text_of : List Entry → List ℕ → List ℕ
 reply_text_of log line = if nat_lt longest_line (length line) then long_text else line_text log line
 
--- What is written for a line, given the log before it and the want of memory that it met, if any. A line that met one has
--- its constant text; of the others a blank one has nothing, and each other one line.
+-- What is written for a line, given the log before it and what there was no memory for, if anything. A line that was out of
+-- memory has its constant text; of the others a blank one has nothing, and each other one line.
 abbrev pub answer : List Entry → Option Want → List ℕ → List ℕ
 answer log (Some want) line = want_text want ++ 10 ∷ []
 answer log None line = if is_blank line then [] else reply_text_of log line ++ 10 ∷ []
@@ -51,7 +51,7 @@ abbrev pub log_past : List Entry → Option Want → List ℕ → List Entry
 log_past log (Some want) line = log
 log_past log None line = if is_blank line then log else (if nat_lt longest_line (length line) then log else line_log log line)
 
--- the log after lines, given the log before them and of each the want of memory that it met
+-- the log after lines, given the log before them and of each what there was no memory for, if anything
 abbrev pub logs : List Entry → List (Option Want) → List (List ℕ) → List Entry
 logs log [] lines = log
 logs log (met ∷ more) [] = log
@@ -62,25 +62,26 @@ abbrev pub answer_at : List Entry → List (Option Want) → List (List ℕ) →
 answer_at log met lines place =
     answer (logs log (take place met) (take place lines)) (slice_index_or met place None) (slice_index_or lines place [])
 
--- What is written for lines, given the log before them and of each the want of memory that it met: one after the other
--- what is written for each.
+-- What is written for lines, given the log before them and of each what there was no memory for, if anything: one after the
+-- other what is written for each.
 abbrev pub answers : List Entry → List (Option Want) → List (List ℕ) → List ℕ
 answers log met lines = flat_map (answer_at log met lines) (range_with_len 0 (length met))
 
--- each of the first lines can meet its want of memory
+-- each of the first lines can be out of memory as is said of it
 abbrev pub MayMeetEach : List (Option Want) → List (List ℕ) → Type 0
 MayMeetEach [] lines = Unit {0}
 MayMeetEach (met ∷ more) [] = ⊥
 MayMeetEach (met ∷ more) (line ∷ lines) = MayMeet met line × MayMeetEach more lines
 
--- out is the answers to these lines, the log being empty before them, for some wants of memory that they can meet
+-- `out` is the answers to these lines, the log being empty before them. Some of the lines may have been out of memory, each
+-- as it can be.
 pub record Answers (lines : List (List ℕ)) (out : List ℕ) : Type 0 where
   pub met : List (Option Want)
   pub each : length met ≡ length lines
   pub may : MayMeetEach met lines
   pub text : out ≡ answers [] met lines
 
--- bytes with at most so many lines, and at most so many of them
+-- bytes with at most this many lines, and at most this many of them
 pub record Within (lines bytes : ℕ) (script : List ℕ) : Type 0 where
   pub few_lines : length (lines_of script) ≤ lines
   pub few_bytes : length script ≤ bytes
@@ -89,6 +90,6 @@ pub record Within (lines bytes : ℕ) (script : List ℕ) : Type 0 where
 abbrev pub lines_before_cut : ℕ → ℕ → List ℕ → List (List ℕ)
 lines_before_cut lines bytes script = take lines (cut (take bytes script)).whole
 
--- the bytes that are written for a script, where its lines met these wants of memory
+-- the bytes that are written for a script, given of each line what there was no memory for, if anything
 abbrev pub script_text : List (Option Want) → List ℕ → List ℕ
 script_text met script = answers [] met (lines_of script)

@@ -23,7 +23,7 @@ last_text Written text = text
 last_text LineTooLong text = long_text ++ 10 ∷ []
 last_text (NoMemory want) text = want_text want ++ 10 ∷ []
 
--- the want of memory that a line met, if any, where this is the result of its call
+-- what there was no memory for at a line, if anything, where this is the result of its call
 abbrev pub met_by : Result (Unit {0}) Want → Option Want
 met_by (Ok done) = None
 met_by (Err want) = Some want

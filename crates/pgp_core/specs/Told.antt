@@ -41,7 +41,7 @@ pub record IsTold (alone : Bool) (before after : List Entry) (line text : List �
   pub text_is : text ≡ answer by met line
   pub log_is : after ≡ log_past by met line
 
--- what is written for the line was put behind the text, but for `rest`, and the log goes from `before` to `after`
+-- what is written for the line was put behind the text, except for `rest`, and the log goes from `before` to `after`
 pub record PutsLine (alone : Bool) (before after : List Entry) (line old new rest : List ℕ) : Type 0 where
   pub text : List ℕ
   pub told : IsTold alone before after line text

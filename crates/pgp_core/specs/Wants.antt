@@ -1,4 +1,4 @@
--- Which want of memory a command meets, if any, and why it may have no reply.
+-- What a command has no memory for, where it is out of memory, and why it may have no reply.
 use Rattle.std.specs.Prelude.{◌≡◌, ◌⊎◌, List, Bool, false, None}
 use Rattle.pgp_ids.specs.declared.entry.Entry.{Entry}
 use Rattle.pgp_log.specs.Fits.{fits, is_closed}
@@ -10,7 +10,7 @@ use Rattle.pgp_core.specs.declared.want.Want.TheVariants as want
 use Rattle.pgp_core.specs.declared.want.NoAnswer.{NoAnswer}
 use Rattle.pgp_core.specs.declared.want.NoAnswer.TheVariants.{TooLong, Memory, Gone}
 
--- that of an entry where it submits one
+-- an entry where it submits one, else its line
 abbrev pub want_of : Command → Want
 want_of (Submit entry) = want.Entry
 want_of (Ask pg) = want.Line
@@ -25,8 +25,8 @@ MayFindNone log (Ask pg) = Unit {0}
 MayFindNone log (Locate pool name) = ⊥
 MayFindNone log (Trace code epochs) = Unit {0}
 
--- why the command may have no reply: it met its want of memory, or nobody answers any more, which is so only where others
--- add to the log too
+-- why the command may have no reply: there was no memory for what it takes, or nobody answers any more, which is so only
+-- where others add to the log too
 abbrev pub LacksReply : Bool → Command → NoAnswer → Type 0
 LacksReply alone command TooLong = ⊥
 LacksReply alone command (Memory want) = want ≡ want_of command

@@ -92,7 +92,7 @@ fn ask<A: Answerer>(
     Ok(())
 }
 
-/// Which want of memory a command meets, if any.
+/// What a command has no memory for, where it is out of memory.
 fn want_of(command: &Command) -> Want
     ensures { result ≡ want_of command.now }
 {
@@ -163,7 +163,7 @@ pub fn put_reply(
     }
 }
 
-/// Ends the line that stands behind so many bytes of the text. Where there is no memory for that, the line is taken away.
+/// Ends the line that stands behind this many bytes of the text. Where there is no memory for that, the line is taken away.
 fn end_line(text: &mut Vec<u8>, before: usize) -> Result<(), AllocError>
     ensures ok { OnOk result (text.new.items ≡ text.old.items ++ 10 ∷ []) }
     ensures err { OnErr result (text.new.items ≡ take before text.old.items) }

@@ -33,7 +33,7 @@ pub enum Fate {
     Kept,
     /// There are more than [`LONGEST_LINE`], and they are passed over.
     TooLong,
-    /// There was no memory for them, and they are passed over. There are so many, as few as a line may have.
+    /// There was no memory for them, and they are passed over. There are this many, no more than a line may have.
     NoMemory { length: usize },
 }
 
@@ -59,7 +59,7 @@ pub fn long_line() -> &'static [u8]
     LONG_LINE
 }
 
-/// The answer to a line that met want of memory.
+/// The answer to a line that was out of memory.
 pub fn want_line(want: Want) -> &'static [u8]
     ensures { result.now ≡ want_text want ++ 10 ∷ [] }
 {

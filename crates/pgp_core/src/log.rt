@@ -2,7 +2,7 @@
 ghost use Rattle.std.specs.Prelude.{◌≡◌, ◌≢◌, ◌≤◌, ◌+◌, List, [], ◌∷◌, ◌++◌, length, map, false, true, None, Some, Err, IfOk, IsOk, OnOk, OnErr, IfErr};
 ghost use Rattle.std.specs.Arc.{arc_value};
 ghost use Rattle.pgp_ids.specs.declared.entry.Entry.{Entry as AnyEntry};
-ghost use Rattle.pgp_refusals.specs.declared.refusal.Refusal.TheVariants.{Memory};
+ghost use Rattle.pgp_ids.specs.declared.refusal.Refusal.TheVariants.{Memory};
 ghost use Rattle.pgp_map.specs.MapOf.{IsMapOf};
 ghost use Rattle.pgp_map.specs.Pools.{pool};
 ghost use Rattle.pgp_group.specs.Entries.{incs_of};
@@ -136,7 +136,8 @@ impl Log {
         work_out(&mut self.shard, &pg)?;
         let count = self.judge.count();
         let epoch = self.judge.map().epoch();
-        put_told(alloc, writer, pg, self.shard.told(&pg), count, epoch, text)
+        let view = self.shard.view_of(&pg);
+        put_told(alloc, writer, pg, view, count, epoch, text)
     }
 
     /// All that the log says of a group, where its map has it.

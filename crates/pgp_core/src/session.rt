@@ -29,7 +29,7 @@ pub enum LastAnswer {
     Written,
     /// The constant text for a line that is too long.
     LineTooLong,
-    /// The constant text for a line that met this want of memory.
+    /// The constant text for a line where there was no memory for this.
     NoMemory(Want),
 }
 
@@ -70,7 +70,7 @@ impl Session {
     /// Answers a line, given without its line feed: the same bytes as [`run_script`](super::run_script) writes for it, which
     /// [`Session::last_answer`] gives. A line of blanks has none.
     ///
-    /// An error says which want of memory the line met. It then has its constant text, and the log stays as it was.
+    /// An error says what there was no memory for. The line then has its constant text, and the log stays as it was.
     pub fn answer(&mut self, line: &[u8]) -> Result<(), Want>
         ensures may { MayMeet (met_by result) line.now }
         ensures answer { self.new.answer ≡ answer self.old.log (met_by result) line.now }

@@ -88,7 +88,7 @@ fn read_more<R: Source>(
     Ok(count)
 }
 
-/// Whether a script has at most so many lines.
+/// Whether a script has at most this many lines.
 fn has_lines_within(script: &[u8], most: u64) -> bool
     ensures { result ≡ nat_le (length (lines_of script.now)) most }
 {

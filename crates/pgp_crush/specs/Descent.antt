@@ -29,7 +29,7 @@ rank_at (Spread position round n) b =
 abbrev pub level_limit : ℕ
 level_limit = 10
 
--- the first steps of the way down, of at most so many; it ends at a device and at an empty bucket
+-- the first steps of the way down, of at most this many; it ends at a device and at an empty bucket
 unfoldable pub path : List Bucket → ℕ → Rank → ℕ → Option Bucket → List Step
 path tree x rank zero from = []
 path tree x rank (suc levels) None = []

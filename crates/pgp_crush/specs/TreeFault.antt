@@ -17,7 +17,7 @@ items_of tree = flat_map (λ b. b.items) tree
 abbrev pub has_no_root : List Bucket → Bool
 has_no_root tree = not (nat_eq (count_by (λ b. not (is_held tree b.id)) tree) 1)
 
--- a bucket's id stands twice, or an item in two places
+-- a bucket's id is twice in the list, or an item in two places
 abbrev pub has_twice_held : List Bucket → Bool
 has_twice_held tree = has_repeat int_eq (map (λ b. b.id) tree) || has_repeat int_eq (items_of tree)
 
@@ -36,7 +36,7 @@ is_known tree item = if is_device item then int_le item (pos 4095) else is_some 
 abbrev pub has_unknown : List Bucket → Bool
 has_unknown tree = list_any (λ item. not (is_known tree item)) (items_of tree)
 
--- the buckets above which at least so many levels of buckets stand
+-- the buckets above which at least this many levels of buckets stand
 unfoldable pub below_levels : List Bucket → ℕ → List Bucket
 below_levels tree zero = tree
 below_levels tree (suc levels) = filter (λ b. is_held (below_levels tree levels) b.id) tree

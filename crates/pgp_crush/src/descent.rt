@@ -41,7 +41,7 @@ pub enum Descent {
 pub(crate) const LEVELS: u8 = 10;
 
 impl Rank {
-    /// The number with which a bucket of this kind and so many items chooses.
+    /// The number with which a bucket of this kind and number of items chooses.
     pub(crate) fn number_at(self, bucket: &BucketSpec) -> u32
         ensures value { result ≡ rank_at self (bucket_of bucket.now) }
         ensures within { result ≤ rank_limit self }

@@ -12,7 +12,7 @@ use std::fmt;
 pub enum TreeFault {
     /// Not exactly one bucket is an item of none.
     NoRoot,
-    /// A bucket's id stands twice, or an item in two places.
+    /// A bucket's id is twice in the list, or an item in two places.
     TwiceHeld,
     /// A bucket's type is 0, or not above that of each bucket in it.
     WrongType,

@@ -59,7 +59,7 @@ pub(crate) fn fault_below_root(
     Ok(None)
 }
 
-/// A bucket's id stands twice, or an item in two places.
+/// A bucket's id is twice in the list, or an item in two places.
 fn has_twice_held(alloc: Global, buckets: &[BucketSpec], items: &[i32]) -> Result<bool, AllocError>
     requires { items.now ≡ items_of (map bucket_of buckets.now) }
     ensures { IfOk result (λ twice. twice ≡ has_twice_held (map bucket_of buckets.now)) }

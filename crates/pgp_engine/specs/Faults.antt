@@ -1,6 +1,6 @@
 -- The numbers of faults, and which fault a failed read or a refused question is.
 use Rattle.std.specs.Prelude.{ℕ, Option, Some, None}
-use Rattle.pgp_refusals.specs.Refusal.{refusal_number}
+use Rattle.pgp_ids.specs.Refusal.{refusal_number}
 use Rattle.pgp_feed.specs.declared.receipt.Receipt.{Receipt}
 use Rattle.pgp_feed.specs.declared.fault.ReadFault.{ReadFault}
 use Rattle.pgp_feed.specs.declared.fault.ReadFault.TheVariants as read

@@ -1,8 +1,8 @@
 -- What an intake keeps, and what a submit is answered.
 use Rattle.std.specs.Prelude.{◌≡◌, ◌≢◌, ◌<◌, ◌⊎◌, List, [], ◌∷◌, ◌++◌, length, true, Some, None}
 use Rattle.logbook.specs.Pages.{Book}
-use Rattle.pgp_refusals.specs.declared.refusal.Refusal.{Refusal}
-use Rattle.pgp_refusals.specs.declared.refusal.Refusal.TheVariants as refusal
+use Rattle.pgp_ids.specs.declared.refusal.Refusal.{Refusal}
+use Rattle.pgp_ids.specs.declared.refusal.Refusal.TheVariants as refusal
 use Rattle.pgp_ids.specs.declared.entry.Entry.{Entry}
 use Rattle.pgp_log.specs.declared.judge.Judge.{Judge}
 use Rattle.pgp_log.specs.Fits.{fits}
@@ -20,7 +20,7 @@ pub record IsIntake (feed : Book) (told last : Receipt) (judge : Judge) : Type 0
   pub last_is : feed_of last ≡ feed
   pub judge_is : Follows (entries_of told) judge
 
--- the entry doesn't fit the log, for this reason, which is no want of memory; and the receipt names that log
+-- the entry doesn't fit the log, for this reason, which is another than out of memory; and the receipt names that log
 pub record IsRefused (feed : Book) (log : List Entry) (entry : Entry) (why : Refusal) (at : Receipt) : Type 0 where
   pub named : Names feed log at
   pub refused : fits log entry ≡ Some why

@@ -48,7 +48,7 @@ pub record StaysThere (old new : Reader) : Type 0 where
 abbrev pub HadToRead : Reader → Reader → Receipt → Type 0
 HadToRead old new q = (length old.front < length new.seen) ⊎ (length old.front < length (entries_of q))
 
--- the shard has read so many entries more, or all that there were: its tap gave a newest front, and it has read that one so
+-- the shard has read this many entries more, or all that there were: its tap gave a newest front, and it has read that one so
 -- far
 pub record HasAbsorbed (old new : Reader) (max : ℕ) : Type 0 where
   pub newest : List Entry
@@ -56,6 +56,6 @@ pub record HasAbsorbed (old new : Reader) (max : ℕ) : Type 0 where
   pub within : IsFrontOf newest new.seen
   pub front_is : new.front ≡ front (length old.front + max) newest
 
--- where the shard has read no more, so many of its marks are taken away, or all
+-- where the shard has read no more, this many of its marks are taken away, or all
 abbrev pub RenewsIfIdle : Reader → Reader → ℕ → Type 0
 RenewsIfIdle old new max = new.front ≡ old.front → AreUnmarked max (state_of old) (state_of new)

@@ -9,7 +9,7 @@ use pgp_reasons::Reasons;
 use std::alloc::{AllocError, Global};
 
 /// What there is to say of a group.
-#[derive(Debug, Drop)]
+#[derive(Drop)]
 pub struct Explained {
     pub pg: PgId,
     /// Whether each member has a place of its own, so that it is told with its slot.

@@ -11,7 +11,7 @@ use std::marker::Model;
 const DEVICES: usize = 4096;
 
 /// For each device a number of groups.
-#[derive(Debug, Drop)]
+#[derive(Drop)]
 pub(crate) struct GroupCounts {
     /// By the number of the device.
     counts: Vec<usize>,

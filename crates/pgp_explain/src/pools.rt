@@ -6,7 +6,7 @@ use pgp_ids::PoolId;
 use pgp_map::OsdMap;
 
 /// What is told of a group's pool.
-#[derive(Clone, Copy, Debug)]
+#[derive(Clone, Copy)]
 pub struct PoolFacts {
     /// Whether each member has a place of its own.
     pub by_place: bool,

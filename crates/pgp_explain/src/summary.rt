@@ -21,7 +21,7 @@ use std::alloc::{AllocError, Global};
 use std::collections::{HashMap, HashSet};
 
 /// What the groups of a log say together.
-#[derive(Debug, Drop)]
+#[derive(Drop)]
 pub struct Summary {
     pub(crate) epoch: Epoch,
     pub(crate) tally: Tally,

@@ -6,7 +6,7 @@ ghost use Rattle.pgp_explain.specs.Summary.{counted, group_total, one_more, plac
 use pgp_ids::Verdict;
 
 /// How many groups have each verdict.
-#[derive(Debug, Drop)]
+#[derive(Drop)]
 pub(crate) struct Tally {
     /// By the place of the verdict.
     counts: [usize; 8],

@@ -2,7 +2,7 @@ ghost use Rattle.std.specs.Prelude.{◌≡◌};
 ghost use Rattle.pgp_explain.specs.Summary.{waiting};
 
 /// How many groups wait for a device.
-#[derive(Clone, Copy, Debug)]
+#[derive(Clone, Copy)]
 pub(crate) struct Waits {
     /// How many are down and wait for it to come back.
     pub blocks: usize,

@@ -6,7 +6,7 @@ use Rattle.pgp_feed.specs.declared.tap.Tap.{Tap}
 use Rattle.pgp_feed.specs.Receipts.{entries_of}
 use Rattle.pgp_feed.specs.Feeds.{told_of}
 
--- a feed with an empty log, and an empty list with room for so many taps
+-- a feed with an empty log, and an empty list with room for this many taps
 pub record IsSupplied {Z : Type 0} (feed : Feed) (list : Vec Tap Z) (taps : ℕ) : Type 0 where
   pub empty : entries_of (told_of feed) ≡ []
   pub none : list.items ≡ []

@@ -46,8 +46,8 @@ use Rattle.pgp_group.specs.Heard.{les}
 use Rattle.pgp_group.specs.Peering.{past}
 use Rattle.pgp_group.specs.declared.group.Group.{Group}
 use Rattle.pgp_group.specs.declared.infos.Infos.{Infos}
-use Rattle.pgp_group.specs.declared.named.Named.{Named}
-use Rattle.pgp_group.specs.declared.reckoned.Reckoned.{Reckoned}
+use Rattle.pgp_group.specs.declared.named_devices.NamedDevices.{NamedDevices}
+use Rattle.pgp_group.specs.declared.kept_prior.KeptPrior.{KeptPrior}
 use Rattle.pgp_group.specs.declared.reports.Reports.{Reports}
 use Rattle.pgp_group.proofs.GrowthLemmas.{history-begins, history-grows, next_epoch, numbered-more}
 use Rattle.pgp_group.proofs.InfosLemmas.{KeepsInfos-same, KeepsInfos-inc, moves}
@@ -79,7 +79,7 @@ past-grows epochs h members facts = elim (cases_Bool (is_same members h.current)
 ]
 
 -- what an entry that brings no map leaves as it is: the intervals, and whom the group had to hear
-abbrev pub left_alone : Group → Running AnyCode × Reckoned
+abbrev pub left_alone : Group → Running AnyCode × KeptPrior
 left_alone group = (group.intervals, group.reckoned)
 
 -- the epochs in which the group was clean are those of before, where no info of it came
@@ -113,11 +113,11 @@ IsGroupOf-other log new pg old group is none told pg_is left infos' reports' nam
       keeps = record {
         pg_is = pg_is ∙ is.keeps.pg_is;
         intervals_are = intervals-same g after group.intervals told
-            (subst (IsIntervalsOf enough_of is_by_place is.history (cleans g)) (sym (ap (λ (parts : Running AnyCode × Reckoned). parts.0) left)) is.keeps.intervals_are);
+            (subst (IsIntervalsOf enough_of is_by_place is.history (cleans g)) (sym (ap (λ (parts : Running AnyCode × KeptPrior). parts.0) left)) is.keeps.intervals_are);
         infos_are = infos';
         reports_are = reports';
         named_are = named';
-        prior_is = subst (KeepsPrior after) (sym (ap (λ (parts : Running AnyCode × Reckoned). parts.1) left))
+        prior_is = subst (KeepsPrior after) (sym (ap (λ (parts : Running AnyCode × KeptPrior). parts.1) left))
             (KeepsPrior-grown g after old.reckoned [] refl
             (past-same g after refl told ∙ sym (append-nil (past g))) (les-grows log new pg is.history is.history) is.keeps.prior_is);
       };
@@ -165,7 +165,7 @@ reports-kept log new pg h kept none told is =
     KeepsReports-same (group_with log pg h) (group_with (log ++ new ∷ []) pg h) kept told (nothing_new inc_of log new none) refl is
 
 -- the same of the devices of which it speaks
-pub names-kept : (log : List Entry) (new : Entry) (pg : PgId) (h : History AnyCode) (named : Named)
+pub names-kept : (log : List Entry) (new : Entry) (pg : PgId) (h : History AnyCode) (named : NamedDevices)
     → filter (λ (info : Info). is_same_group info.pg pg) (infos_of (log ++ new ∷ [])) ≡ filter (λ (info : Info). is_same_group info.pg pg) (infos_of log)
     → filter (λ (report : Report). is_same_group report.pg pg) (reports_of (log ++ new ∷ [])) ≡ filter (λ (report : Report). is_same_group report.pg pg) (reports_of log)
     → KeepsNames (group_with log pg h) named → KeepsNames (group_with (log ++ new ∷ []) pg h) named
@@ -272,7 +272,7 @@ IsGroupOf-inc log inc pg old group members is fine lies pg_is infos' reports' re
     }
 
 -- the interval goes on
-pub names-stay : (log : List Entry) (inc : Incremental) (pg : PgId) (h : History AnyCode) (facts : PrimaryFacts) (named : Named)
+pub names-stay : (log : List Entry) (inc : Incremental) (pg : PgId) (h : History AnyCode) (facts : PrimaryFacts) (named : NamedDevices)
     → KeepsNames (group_with log pg h) named → KeepsNames (group_with (log ++ entry.Inc inc ∷ []) pg (stepped h h.current facts)) named
 names-stay log inc pg h facts named is =
     KeepsNames-same (group_with log pg h) (group_with (log ++ entry.Inc inc ∷ []) pg (stepped h h.current facts)) named named
@@ -281,7 +281,7 @@ names-stay log inc pg h facts named is =
     (infos-same log (entry.Inc inc) pg refl) (reports-same log (entry.Inc inc) pg refl) refl is
 
 -- the interval ends
-pub names-end : (log : List Entry) (inc : Incremental) (pg : PgId) (h : History AnyCode) (members : Membership) (facts : PrimaryFacts) (old mid new : Named) → members ≢ h.current
+pub names-end : (log : List Entry) (inc : Incremental) (pg : PgId) (h : History AnyCode) (members : Membership) (facts : PrimaryFacts) (old mid new : NamedDevices) → members ≢ h.current
     → ((osd : ℕ) → list_any (nat_eq osd) mid.osds.items ≡ (has_osd osd h.current.up || list_any (nat_eq osd) old.osds.items))
     → ((osd : ℕ) → list_any (nat_eq osd) new.osds.items ≡ (has_osd osd h.current.acting || list_any (nat_eq osd) mid.osds.items))
     → KeepsNames (group_with log pg h) old → KeepsNames (group_with (log ++ entry.Inc inc ∷ []) pg (stepped h members facts)) new
@@ -338,7 +338,7 @@ IsGroupOf-same log pg old group is pg_is intervals infos' reports' named' reckon
 }
 
 -- the same, where a group that keeps its parts elsewhere has reckoned anew whom it has to hear
-pub IsGroupOf-reckoned : (log : List Entry) (pg : PgId) (old group : Group) (new : Reckoned) (is : IsGroupOf log pg old) → Keeps (group_with log pg is.history) group → (KeepsPrior (group_with log pg is.history) group.reckoned → KeepsPrior (group_with log pg is.history) new) → IsGroupOf log pg (record group { reckoned = new })
+pub IsGroupOf-reckoned : (log : List Entry) (pg : PgId) (old group : Group) (new : KeptPrior) (is : IsGroupOf log pg old) → Keeps (group_with log pg is.history) group → (KeepsPrior (group_with log pg is.history) group.reckoned → KeepsPrior (group_with log pg is.history) new) → IsGroupOf log pg (record group { reckoned = new })
 IsGroupOf-reckoned log pg old group new is kept renews = record {
   history = is.history;
   history_is = is.history_is;

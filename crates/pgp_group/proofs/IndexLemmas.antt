@@ -7,7 +7,7 @@ use Rattle.pgp_ids.specs.declared.member.Member.{Member}
 use Rattle.pgp_ids.specs.declared.past.Past.{Past}
 use Rattle.pgp_lists.proofs.Members.{contains-map}
 use Rattle.pgp_prior.specs.IndexOf.{Basis, IsIndexOf}
-use Rattle.pgp_prior.specs.Kept.{past_of}
+use Rattle.pgp_prior.specs.JudgedInterval.{past_of}
 use Rattle.pgp_prior.specs.Members.{members_of}
 use Rattle.pgp_prior.specs.declared.index.PriorIndex.{PriorIndex}
 use Rattle.pgp_prior.proofs.BetterLemmas.{blocks-same}

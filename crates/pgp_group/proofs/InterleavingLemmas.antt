@@ -1,4 +1,4 @@
--- Two logs that tell the same of a group give the same view of it, but for count.
+-- Two logs that tell the same of a group give the same view of it, except for count.
 use Rattle.std.proofs.Common.{◌≡◌, ℕ, ◌≤◌, List, [], ◌∷◌, ◌++◌, Option, Some, None, is_none, is_some, Bool, true, false, not, nat_lt, length, map, fold, max, refl, ap, ap₂, sym, ◌∙◌, subst, inl, inr, arith, if◌then◌else◌}
 use Rattle.std.specs.List.{Contains, filter, filter_map, find, flat_map, last_or, list_any}
 use Rattle.std.specs.Option.{option_and_then, option_map, option_map_or, unwrap_or}

@@ -13,7 +13,7 @@ use Rattle.pgp_group.specs.GroupLog.{GroupLog, infos, reports}
 use Rattle.pgp_group.specs.KeptNames.{KeepsNames}
 use Rattle.pgp_group.specs.Peering.{past}
 use Rattle.pgp_group.specs.Touched.{has_osd, was_member, names}
-use Rattle.pgp_group.specs.declared.named.Named.{Named}
+use Rattle.pgp_group.specs.declared.named_devices.NamedDevices.{NamedDevices}
 use Rattle.pgp_group.proofs.NamedLemmas.{before, or_swap, with_item-has}
 
 -- the device sent one of these
@@ -48,13 +48,13 @@ same_osd a b = grind (arith, nat_tests)
 
 -- ---- what is kept
 
-pub KeepsNames-begun : (g : GroupLog) (kept : Named) → past g ≡ [] → infos g ≡ [] → reports g ≡ [] → kept.osds.items ≡ [] → KeepsNames g kept
+pub KeepsNames-begun : (g : GroupLog) (kept : NamedDevices) → past g ≡ [] → infos g ≡ [] → reports g ≡ [] → kept.osds.items ≡ [] → KeepsNames g kept
 KeepsNames-begun g kept stands told sent none osd = ap (list_any (nat_eq osd)) none ∙ sym (names-by osd g [] [] [] stands told sent)
 
-pub KeepsNames-same : (g after : GroupLog) (old new : Named) → past after ≡ past g → infos after ≡ infos g → reports after ≡ reports g → new.osds.items ≡ old.osds.items → KeepsNames g old → KeepsNames after new
+pub KeepsNames-same : (g after : GroupLog) (old new : NamedDevices) → past after ≡ past g → infos after ≡ infos g → reports after ≡ reports g → new.osds.items ≡ old.osds.items → KeepsNames g old → KeepsNames after new
 KeepsNames-same g after old new stands told sent same is osd = ap (list_any (nat_eq osd)) same ∙ is osd ∙ sym (names-by osd after (past g) (infos g) (reports g) stands told sent)
 
-pub KeepsNames-info : (g after : GroupLog) (old new : Named) (info : Info) → ((osd : ℕ) → list_any (was_member osd) (past after) ≡ list_any (was_member osd) (past g)) → infos after ≡ infos g ++ info ∷ [] → reports after ≡ reports g → new.osds.items ≡ with_item before info.member.osd old.osds.items → KeepsNames g old → KeepsNames after new
+pub KeepsNames-info : (g after : GroupLog) (old new : NamedDevices) (info : Info) → ((osd : ℕ) → list_any (was_member osd) (past after) ≡ list_any (was_member osd) (past g)) → infos after ≡ infos g ++ info ∷ [] → reports after ≡ reports g → new.osds.items ≡ with_item before info.member.osd old.osds.items → KeepsNames g old → KeepsNames after new
 KeepsNames-info g after old new info stands told sent put is osd =
     let sender : Bool = nat_eq info.member.osd osd in
     let there : names osd after ≡ (sender || names osd g) =
@@ -65,7 +65,7 @@ KeepsNames-info g after old new info stands told sent put is osd =
     ap (list_any (nat_eq osd)) put ∙ with_item-has osd info.member.osd old.osds.items
     ∙ (λ i. same_osd osd info.member.osd i || is osd i) ∙ sym there
 
-pub KeepsNames-report : (g after : GroupLog) (old new : Named) (report : Report) → past after ≡ past g → infos after ≡ infos g → reports after ≡ reports g ++ report ∷ [] → new.osds.items ≡ with_item before report.member.osd old.osds.items → KeepsNames g old → KeepsNames after new
+pub KeepsNames-report : (g after : GroupLog) (old new : NamedDevices) (report : Report) → past after ≡ past g → infos after ≡ infos g → reports after ≡ reports g ++ report ∷ [] → new.osds.items ≡ with_item before report.member.osd old.osds.items → KeepsNames g old → KeepsNames after new
 KeepsNames-report g after old new report stands told sent put is osd =
     let sender : Bool = nat_eq report.member.osd osd in
     let there : names osd after ≡ (sender || names osd g) =
@@ -76,7 +76,7 @@ KeepsNames-report g after old new report stands told sent put is osd =
     ∙ (λ i. same_osd osd report.member.osd i || is osd i) ∙ sym there
 
 -- an interval is over: the devices of its up went in, and then those of its acting
-pub KeepsNames-ended : (g after : GroupLog) (old mid new : Named) (ended : Past) → past after ≡ past g ++ ended ∷ [] → infos after ≡ infos g → reports after ≡ reports g
+pub KeepsNames-ended : (g after : GroupLog) (old mid new : NamedDevices) (ended : Past) → past after ≡ past g ++ ended ∷ [] → infos after ≡ infos g → reports after ≡ reports g
     → ((osd : ℕ) → list_any (nat_eq osd) mid.osds.items ≡ (has_osd osd ended.members.up || list_any (nat_eq osd) old.osds.items))
     → ((osd : ℕ) → list_any (nat_eq osd) new.osds.items ≡ (has_osd osd ended.members.acting || list_any (nat_eq osd) mid.osds.items))
     → KeepsNames g old → KeepsNames after new

@@ -12,11 +12,11 @@ use Rattle.pgp_prior.specs.Changes.{is_no_better, IsChange}
 use Rattle.pgp_sets.specs.Status.{held_status}
 use Rattle.pgp_sets.specs.declared.status.Status.{Status}
 use Rattle.pgp_sets.specs.declared.status.Status.TheVariants.{Up, Gone, Lost, Down}
-use Rattle.pgp_group.specs.Noted.{renoted, has_noted, status_noted, up_of, allows, HasEachMember, GivesEach}
-use Rattle.pgp_group.specs.declared.noted.EachUp.{EachUp}
-use Rattle.pgp_group.specs.declared.noted.Noted.{Noted}
-use Rattle.pgp_group.specs.declared.noted.Turn.{Turn}
-use Rattle.pgp_group.specs.declared.noted.Turn.TheVariants as turn
+use Rattle.pgp_group.specs.DeviceFacts.{renoted, has_noted, status_noted, up_of, allows, HasEachMember, GivesEach}
+use Rattle.pgp_group.specs.declared.device_facts.EachUp.{EachUp}
+use Rattle.pgp_group.specs.declared.device_facts.DeviceFacts.{DeviceFacts}
+use Rattle.pgp_group.specs.declared.device_facts.Turn.{Turn}
+use Rattle.pgp_group.specs.declared.device_facts.Turn.TheVariants as turn
 use Rattle.pgp_group.proofs.IndexLemmas.{AgreeOnEach}
 
 -- ---- a status that stays is allowed by any turn
@@ -71,17 +71,17 @@ module _ (by_place : Bool) (osd : ℕ) (told old new : ℕ → ℕ → Status) (
 abbrev pub taken : OsdMap → (ℕ → ℕ → Status) → Bool → ℕ → ℕ → Status
 taken map status renewed q first = if renewed then held_status map q first else status q first
 
-abbrev pub partly : OsdMap → List Noted → (ℕ → ℕ → Status) → ℕ → ℕ → Status
+abbrev pub partly : OsdMap → List DeviceFacts → (ℕ → ℕ → Status) → ℕ → ℕ → Status
 partly map noted status q first = taken map status (has_noted q noted) q first
 
-has-more : (noted : List Noted) (i : ℕ) (entry : Noted) (q : ℕ) → i < length noted → entry ≡ get_or noted i entry
+has-more : (noted : List DeviceFacts) (i : ℕ) (entry : DeviceFacts) (q : ℕ) → i < length noted → entry ≡ get_or noted i entry
     → has_noted q (take (i + 1) noted) ≡ (has_noted q (take i noted) || nat_eq entry.osd q)
 has-more noted i entry q within item =
-    let test : Noted → Bool = λ e. nat_eq e.osd q in
-    ap (list_any test) (take_more noted i entry within ∙ ap (λ (e : Noted). take i noted ++ e ∷ []) (sym item))
+    let test : DeviceFacts → Bool = λ e. nat_eq e.osd q in
+    ap (list_any test) (take_more noted i entry within ∙ ap (λ (e : DeviceFacts). take i noted ++ e ∷ []) (sym item))
     ∙ list_any-append test (take i noted) (entry ∷ []) ∙ ap (λ b. list_any test (take i noted) || b) (or-false (nat_eq entry.osd q))
 
-module _ (map : OsdMap) (noted : List Noted) (i : ℕ) (entry : Noted) (within : i < length noted) (item : entry ≡ get_or noted i entry) (status : ℕ → ℕ → Status) where
+module _ (map : OsdMap) (noted : List DeviceFacts) (i : ℕ) (entry : DeviceFacts) (within : i < length noted) (item : entry ≡ get_or noted i entry) (status : ℕ → ℕ → Status) where
   -- the entry's device has the status of the map, and the others stay
   partly-it : (q first : ℕ) → entry.osd ≡ q → partly map (take (i + 1) noted) status q first ≡ held_status map q first
   partly-it q first same =
@@ -118,7 +118,7 @@ module _ (map : OsdMap) (noted : List Noted) (i : ℕ) (entry : Noted) (within :
         let same : entry.osd ≡ m.osd = eqb-true entry.osd m.osd hit in
         let was : status m.osd interval.first ≡ held_status map m.osd interval.first =
         gives interval m entry there acts (i, within, sym item) same
-        ∙ ap (λ (e : Noted). status_noted e interval.first) (sym as_before)
+        ∙ ap (λ (e : DeviceFacts). status_noted e interval.first) (sym as_before)
         ∙ ap (λ q. held_status map q interval.first) same in
         known (has_noted m.osd (take i noted)) was ∙ sym (partly-it m.osd interval.first same)
     | inr miss ↦ sym (partly-other m.osd interval.first (λ same. differ miss (eq-eqb entry.osd m.osd same)))
@@ -132,12 +132,12 @@ module _ (map : OsdMap) (noted : List Noted) (i : ℕ) (entry : Noted) (within :
       differ fails passes = cc
 
 -- all entries are renewed, and each member has one
-pub partly-all : (map : OsdMap) (noted : List Noted) (i : ℕ) (status : ℕ → ℕ → Status) (by_place : Bool) (past : List Past) → length noted ≡ i → HasEachMember by_place past noted
+pub partly-all : (map : OsdMap) (noted : List DeviceFacts) (i : ℕ) (status : ℕ → ℕ → Status) (by_place : Bool) (past : List Past) → length noted ≡ i → HasEachMember by_place past noted
     → AgreeOnEach by_place (partly map (take i noted) status) (held_status map) past
 partly-all map noted i status by_place past done has interval m there acts =
     let whole : take i noted ≡ noted = subst (λ n. take n noted ≡ noted) done (all noted) in
     ap (λ (b : Bool). taken map status b m.osd interval.first) (ap (has_noted m.osd) whole ∙ has interval m there acts)
   where
-    all : (l : List Noted) → take (length l) l ≡ l
+    all : (l : List DeviceFacts) → take (length l) l ≡ l
     all [] = refl
     all (x ∷ l) = ap (λ rest. x ∷ rest) (all l)

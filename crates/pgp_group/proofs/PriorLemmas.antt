@@ -22,26 +22,26 @@ use Rattle.pgp_sets.specs.declared.status.Status.{Status}
 use Rattle.pgp_group.specs.GroupLog.{GroupLog, incs}
 use Rattle.pgp_group.specs.Heard.{les}
 use Rattle.pgp_group.specs.KeptPrior.{KeepsPrior, IsAbreast, IsReckoned, basis_of, basis_with}
-use Rattle.pgp_group.specs.Noted.{renoted, renoted_all, has_noted, status_noted, HasEachMember, AreOfMap}
+use Rattle.pgp_group.specs.DeviceFacts.{renoted, renoted_all, has_noted, status_noted, HasEachMember, AreOfMap}
 use Rattle.pgp_group.specs.Peering.{past}
-use Rattle.pgp_group.specs.declared.noted.Noted.{Noted}
-use Rattle.pgp_group.specs.declared.reckoned.Reckoned.{Reckoned}
+use Rattle.pgp_group.specs.declared.device_facts.DeviceFacts.{DeviceFacts}
+use Rattle.pgp_group.specs.declared.kept_prior.KeptPrior.{KeptPrior}
 use Rattle.pgp_group.proofs.Lists.{any-mapped}
 
 -- ---- entries that are renewed
 
-pub has-renoted : (map : OsdMap) (noted : List Noted) (osd : ℕ) → has_noted osd (renoted_all map noted) ≡ has_noted osd noted
+pub has-renoted : (map : OsdMap) (noted : List DeviceFacts) (osd : ℕ) → has_noted osd (renoted_all map noted) ≡ has_noted osd noted
 has-renoted map noted osd = any-mapped (renoted map) _ noted
 
-pub renoted-of_map : (map : OsdMap) (noted : List Noted) → AreOfMap map (renoted_all map noted)
+pub renoted-of_map : (map : OsdMap) (noted : List DeviceFacts) → AreOfMap map (renoted_all map noted)
 renoted-of_map map noted entry there =
     let found = map-contains (renoted map) noted entry there in
-    subst (λ (e : Noted). e ≡ renoted map e) found.1.1 refl
+    subst (λ (e : DeviceFacts). e ≡ renoted map e) found.1.1 refl
 
 -- ---- a look
 
 -- after the statuses, the epoch in which the group last began to serve and the current membership were taken
-pub abreast-renewed : (g : GroupLog) (map : OsdMap) (kept : Reckoned) (index : PriorIndex AnyCode) (noted : List Noted) (is : KeepsPrior g kept) (current : Membership) (since : ℕ)
+pub abreast-renewed : (g : GroupLog) (map : OsdMap) (kept : KeptPrior) (index : PriorIndex AnyCode) (noted : List DeviceFacts) (is : KeepsPrior g kept) (current : Membership) (since : ℕ)
     → current ≡ g.history.current → since ≡ les g → noted ≡ renoted_all map kept.noted.items
     → IsIndexOf enough_of is_by_place (record { code = is.basis.code; past = is.basis.past; current = current; les = since; status = held_status map }) index
     → IsAbreast g map kept.added index noted
@@ -57,7 +57,7 @@ abreast-renewed g map kept index noted is current since current_is since_is note
 }
 
 -- more was noted
-pub abreast-noted : (g : GroupLog) (map : OsdMap) (n : ℕ) (index : PriorIndex AnyCode) (old new : List Noted) → ((osd : ℕ) → has_noted osd old ≡ true → has_noted osd new ≡ true) → (AreOfMap map old → AreOfMap map new)
+pub abreast-noted : (g : GroupLog) (map : OsdMap) (n : ℕ) (index : PriorIndex AnyCode) (old new : List DeviceFacts) → ((osd : ℕ) → has_noted osd old ≡ true → has_noted osd new ≡ true) → (AreOfMap map old → AreOfMap map new)
     → IsAbreast g map n index old → IsAbreast g map n index new
 abreast-noted g map n index old new keeps of is = record {
   within = is.within;
@@ -66,7 +66,7 @@ abreast-noted g map n index old new keeps of is = record {
   of_map = of is.of_map;
 }
 
-pub abreast-index : (g : GroupLog) (map : OsdMap) (n : ℕ) (old new : PriorIndex AnyCode) (noted : List Noted) → ((b : Basis AnyCode) → IsIndexOf enough_of is_by_place b old → IsIndexOf enough_of is_by_place b new)
+pub abreast-index : (g : GroupLog) (map : OsdMap) (n : ℕ) (old new : PriorIndex AnyCode) (noted : List DeviceFacts) → ((b : Basis AnyCode) → IsIndexOf enough_of is_by_place b old → IsIndexOf enough_of is_by_place b new)
     → IsAbreast g map n old noted → IsAbreast g map n new noted
 abreast-index g map n old new noted keeps is = record {
   within = is.within;
@@ -80,7 +80,7 @@ take-at {X = X} xs n x at =
     take_more xs n x (slice_get_within xs n x at) ∙ ap (λ (y : X). take n xs ++ y ∷ []) (get_or_from_slice_get xs n x x at)
 
 -- the next past interval was added, each acting member of which is noted
-pub abreast-more : (g : GroupLog) (map : OsdMap) (n : ℕ) (old new : PriorIndex AnyCode) (noted : List Noted) (interval : Past) → slice_get (past g) n ≡ Some interval → IsAbreast g map n old noted
+pub abreast-more : (g : GroupLog) (map : OsdMap) (n : ℕ) (old new : PriorIndex AnyCode) (noted : List DeviceFacts) (interval : Past) → slice_get (past g) n ≡ Some interval → IsAbreast g map n old noted
     → IsIndexOf enough_of is_by_place (basis_with g map (take n (past g) ++ interval ∷ [])) new
     → ((m : Member) → Contains (members_of (is_by_place g.history.code) interval.members.acting) m → has_noted m.osd noted ≡ true)
     → IsAbreast g map (n + 1) new noted
@@ -101,12 +101,12 @@ abreast-more g map n old new noted interval at is added has =
     }
 
 -- all past intervals are added
-pub abreast-all : (g : GroupLog) (map : OsdMap) (n : ℕ) (index : PriorIndex AnyCode) (noted : List Noted) → length (past g) ≤ n → IsAbreast g map n index noted → IsAbreast g map (length (past g)) index noted
+pub abreast-all : (g : GroupLog) (map : OsdMap) (n : ℕ) (index : PriorIndex AnyCode) (noted : List DeviceFacts) → length (past g) ≤ n → IsAbreast g map n index noted → IsAbreast g map (length (past g)) index noted
 abreast-all g map n index noted all is =
     let same : n ≡ length (past g) = let within = is.within in omega arith in
     subst (λ k. IsAbreast g map k index noted) same is
 
-pub reckoned : (g : GroupLog) (map : OsdMap) (index : PriorIndex AnyCode) (noted : List Noted) → IsMapOf (incs g) map → IsAbreast g map (length (past g)) index noted → IsReckoned g index
+pub reckoned : (g : GroupLog) (map : OsdMap) (index : PriorIndex AnyCode) (noted : List DeviceFacts) → IsMapOf (incs g) map → IsAbreast g map (length (past g)) index noted → IsReckoned g index
 reckoned g map index noted at is =
     let whole : take (length (past g)) (past g) ≡ past g = take_all (length (past g)) (past g) (omega arith) in
     subst (λ (b : Basis AnyCode). IsIndexOf enough_of is_by_place b index)
@@ -114,7 +114,7 @@ reckoned g map index noted at is =
 
 -- ---- what is kept
 
-pub KeepsPrior-abreast : (g : GroupLog) (map : OsdMap) (kept : Reckoned) → IsAbreast g map kept.added kept.index kept.noted.items → KeepsPrior g kept
+pub KeepsPrior-abreast : (g : GroupLog) (map : OsdMap) (kept : KeptPrior) → IsAbreast g map kept.added kept.index kept.noted.items → KeepsPrior g kept
 KeepsPrior-abreast g map kept is = record {
   basis = basis_with g map (take kept.added (past g));
   code_is = refl;
@@ -124,11 +124,11 @@ KeepsPrior-abreast g map kept is = record {
   index_is = is.index_is;
   has_each = is.has_each;
   gives_each = λ interval m entry there acts noted same.
-      ap (λ q. held_status map q interval.first) (sym same) ∙ ap (λ (e : Noted). status_noted e interval.first) (sym (is.of_map entry noted));
+      ap (λ q. held_status map q interval.first) (sym same) ∙ ap (λ (e : DeviceFacts). status_noted e interval.first) (sym (is.of_map entry noted));
 }
 
 -- nothing is reckoned with yet
-pub KeepsPrior-begun : (g : GroupLog) (kept : Reckoned) (current : Membership) (since : ℕ) (code : AnyCode) (status : ℕ → ℕ → Status) → code ≡ g.history.code → kept.added ≡ 0 → since ≡ 0
+pub KeepsPrior-begun : (g : GroupLog) (kept : KeptPrior) (current : Membership) (since : ℕ) (code : AnyCode) (status : ℕ → ℕ → Status) → code ≡ g.history.code → kept.added ≡ 0 → since ≡ 0
     → IsIndexOf enough_of is_by_place (record { code = code; past = []; current = current; les = since; status = status }) kept.index → KeepsPrior g kept
 KeepsPrior-begun g kept current since code status code_is none never index_is = record {
   basis = record { code = code; past = []; current = current; les = since; status = status };
@@ -142,7 +142,7 @@ KeepsPrior-begun g kept current since code status code_is none never index_is = 
 }
 
 -- past intervals come behind the others, and the group may have begun to serve again
-pub KeepsPrior-grown : (g after : GroupLog) (kept : Reckoned) (later : List Past) → after.history.code ≡ g.history.code → past after ≡ past g ++ later → les g ≤ les after → KeepsPrior g kept → KeepsPrior after kept
+pub KeepsPrior-grown : (g after : GroupLog) (kept : KeptPrior) (later : List Past) → after.history.code ≡ g.history.code → past after ≡ past g ++ later → les g ≤ les after → KeepsPrior g kept → KeepsPrior after kept
 KeepsPrior-grown g after kept later code grown rises is =
     let within = is.within in
     let since = is.since in
@@ -187,7 +187,7 @@ was_there (suc place) (p ∷ past) interval there = elim (Contains-cases p (rais
 ]
 
 -- the group may have gone read-write in one of its past intervals after all, and the index has taken that
-pub KeepsPrior-raised : (g after : GroupLog) (kept : Reckoned) (index : PriorIndex AnyCode) (place : ℕ) → after.history.code ≡ g.history.code → past after ≡ raised_at place (past g) → les g ≤ les after
+pub KeepsPrior-raised : (g after : GroupLog) (kept : KeptPrior) (index : PriorIndex AnyCode) (place : ℕ) → after.history.code ≡ g.history.code → past after ≡ raised_at place (past g) → les g ≤ les after
     → ((b : Basis AnyCode) → IsIndexOf enough_of is_by_place b kept.index → IsIndexOf enough_of is_by_place (record b { past = raised_at place b.past }) index)
     → KeepsPrior g kept → KeepsPrior after (record kept { index = index })
 KeepsPrior-raised g after kept index place code raised rises takes is =

@@ -277,7 +277,7 @@ KeepsReports-heard g old kept is all ahead seen logs counted =
 
 -- ---- bounds
 
--- what a log says but for its bounds stays
+-- what a log says, except for its bounds, stays
 pub KeepsReports-renewed : (g : GroupLog) (old kept : Reports) → KeepsReports g old → kept.all.items ≡ old.all.items → kept.seen ≡ old.seen → kept.ahead ≡ old.ahead
     → ((test : Member → ℕ → Bool) (member : Member) (reported : List LogEntry) → entries_of member (filter (judged test) old.logs.of_members.items) ≡ by_number reported → entries_of member (filter (judged test) kept.logs.of_members.items) ≡ by_number reported)
     → ((test : Member → ℕ → Bool) → All (λ log. judged test log ≡ true) old.logs.of_members.items → All (λ log. judged test log ≡ true) kept.logs.of_members.items)

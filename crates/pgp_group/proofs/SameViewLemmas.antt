@@ -1,4 +1,4 @@
--- A group whose intervals, reports and devices are the same in two logs has the same view, but for count and epoch.
+-- A group whose intervals, reports and devices are the same in two logs has the same view, except for count and epoch.
 use Rattle.std.proofs.Common.{◌≡◌, ℕ, arith, List, [], ◌++◌, Option, Some, None, is_none, Bool, true, not, ◌&&◌, nat_eq, nat_le, nat_lt, length, map, fold, max, refl, ap, ap₂, ◌∙◌, if◌then◌else◌}
 use Rattle.std.specs.List.{Contains, filter, find, flat_map, list_any, range_with_len, slice_index_or}
 use Rattle.std.specs.Option.{option_and_then, option_map, option_map_or, unwrap_or}

@@ -1,4 +1,4 @@
--- An entry that doesn't touch a group leaves its view as it was, but for count and epoch.
+-- An entry that doesn't touch a group leaves its view as it was, except for count and epoch.
 use Rattle.std.proofs.Common.{◌≡◌, ℕ, List, [], ◌∷◌, ◌++◌, Option, Some, None, is_some, Bool, true, false, ◌||◌, nat_lt, length, map, refl, ap, sym, ◌∙◌}
 use Rattle.std.specs.List.{filter, list_any}
 use Rattle.std.specs.Option.{option_map, option_map_or}
@@ -36,7 +36,7 @@ use Rattle.pgp_group.proofs.SameViewLemmas.{view-same}
 use Rattle.pgp_group.proofs.UntoldLemmas.{DevicesStay, IsLeft, RawSetsStay, leader-same, members-same, pool-same, same_device, ups-stay}
 use Rattle.pgp_group.proofs.ViewLemmas.{history_there}
 
--- the view with the entry is that of the log before, but for count and epoch
+-- the view with the entry is that of the log before, except for count and epoch
 abbrev pub Stays : List Entry → Entry → PgId → Type 0
 Stays log new pg = scratch (log ++ new ∷ []) pg ≡ option_map (told_at (length (log ++ new ∷ [])) (epoch (incs_of (log ++ new ∷ [])))) (scratch log pg)
 

@@ -20,7 +20,7 @@ pub record AreHeard (g : GroupLog) (found : Heard Preference) : Type 0 where
   pub infos : found.infos ≡ heard g
   pub prefer : prefers_by found.prefer ≡ prefers g.history.code (leader g)
 
--- these are the logs of the members by all reports that count, and that of the best info's member goes by this info
+-- these are the logs of the members by all reports that count, and that of the best info's member follows this info
 pub record AreLogsHeard (g : GroupLog) (logs : List CountedLog) : Type 0 where
   pub each : AreLogsOf g (reports g) logs
   pub best_by_info : (info : Info) (log : CountedLog) → best g ≡ Some info → log_of info.member logs ≡ Some log

@@ -9,10 +9,10 @@ use Rattle.pgp_prior.specs.declared.index.PriorIndex.{PriorIndex}
 use Rattle.pgp_sets.specs.Status.{status, held_status}
 use Rattle.pgp_group.specs.GroupLog.{GroupLog, incs}
 use Rattle.pgp_group.specs.Heard.{les}
-use Rattle.pgp_group.specs.Noted.{HasEachMember, GivesEach, AreOfMap}
+use Rattle.pgp_group.specs.DeviceFacts.{HasEachMember, GivesEach, AreOfMap}
 use Rattle.pgp_group.specs.Peering.{past}
-use Rattle.pgp_group.specs.declared.noted.Noted.{Noted}
-use Rattle.pgp_group.specs.declared.reckoned.Reckoned.{Reckoned}
+use Rattle.pgp_group.specs.declared.device_facts.DeviceFacts.{DeviceFacts}
+use Rattle.pgp_group.specs.declared.kept_prior.KeptPrior.{KeptPrior}
 
 -- what the prior set of the group is reckoned from
 abbrev pub basis_of : GroupLog → Basis AnyCode
@@ -29,8 +29,8 @@ basis_of g =
 abbrev pub basis_with : GroupLog → OsdMap → List Past → Basis AnyCode
 basis_with g map intervals = record (basis_of g) { past = intervals; status = held_status map }
 
--- the index is of the group as it is now, but for past intervals that aren't added yet
-pub record IsAbreast (g : GroupLog) (map : OsdMap) (added : ℕ) (index : PriorIndex AnyCode) (noted : List Noted) : Type 0 where
+-- the index is of the group as it is now, except for past intervals that aren't added yet
+pub record IsAbreast (g : GroupLog) (map : OsdMap) (added : ℕ) (index : PriorIndex AnyCode) (noted : List DeviceFacts) : Type 0 where
   pub within : added ≤ length (past g)
   pub index_is : IsIndexOf enough_of is_by_place (basis_with g map (take added (past g))) index
   pub has_each : HasEachMember (is_by_place g.history.code) (take added (past g)) noted
@@ -41,7 +41,7 @@ abbrev pub IsReckoned : GroupLog → PriorIndex AnyCode → Type 0
 IsReckoned g index = IsIndexOf enough_of is_by_place (basis_of g) index
 
 -- the index is of the group as it was once: of its first past intervals, with the statuses that are noted of their devices
-pub record KeepsPrior (g : GroupLog) (kept : Reckoned) : Type 0 where
+pub record KeepsPrior (g : GroupLog) (kept : KeptPrior) : Type 0 where
   pub basis : Basis AnyCode
   pub code_is : basis.code ≡ g.history.code
   pub within : kept.added ≤ length (past g)

@@ -12,7 +12,7 @@ pub mod Present
 pub mod Causes
 pub mod KeptInfos
 pub mod KeptReports
-pub mod Noted
+pub mod DeviceFacts
 pub mod KeptPrior
 pub mod GroupOf
 pub mod Reaching

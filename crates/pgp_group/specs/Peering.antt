@@ -41,7 +41,7 @@ acting_members g = members_of (is_by_place g.history.code) g.history.current.act
 abbrev pub leader : GroupLog → Option Member
 leader g = slice_get (acting_members g) 0
 
--- the info of the member whose copy is the one to go by
+-- the info of the member whose copy is the one to follow
 abbrev pub best : GroupLog → Option Info
 best g = best_info (prefers g.history.code (leader g)) (heard g)
 
@@ -69,7 +69,7 @@ info_of infos member = find (λ info. is_same_member info.member member) infos
 abbrev pub others_heard : List Member → List Info → Info → List Info
 others_heard members heard best = filter_map (info_of heard) (filter (λ member. not (is_same_member member best.member)) members)
 
--- the infos of the members of up and acting that were heard, but for the best one, in ascending order of the members
+-- the infos of the members of up and acting that were heard, except for the best one, in ascending order of the members
 abbrev pub peers : GroupLog → Info → List Info
 peers g best = others_heard (present_members g) (heard g) best
 

@@ -1,4 +1,4 @@
--- What the code of a group goes by: the last map, and the first epoch of the current interval.
+-- What the code of a group depends on: the last map, and the first epoch of the current interval.
 use Rattle.std.specs.Prelude.{◌≡◌, ℕ}
 use Rattle.pgp_interval.specs.Runs.{current_first}
 use Rattle.pgp_map.specs.MapOf.{IsMapOf}

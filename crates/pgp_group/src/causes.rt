@@ -16,7 +16,7 @@ pub(crate) struct Causes {
     pub(crate) down: bool,
     /// A member that has to be heard isn't.
     pub(crate) waiting: bool,
-    /// There is no copy to go by.
+    /// There is no copy to follow.
     pub(crate) incomplete: bool,
     /// Acting has too few members, or their slots aren't enough.
     pub(crate) short: bool,

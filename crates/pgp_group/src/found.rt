@@ -1,4 +1,4 @@
-//! Whose copy of a group is the one to go by, and what the others are like; and whom the group needs.
+//! Whose copy of a group is the one to follow, and what the others are like; and whom the group needs.
 
 use pgp_ids::{Epoch, Member, Past, PeerMissing, Seq};
 use pgp_prior::Prior;

@@ -45,9 +45,9 @@ use super::counted::primary_facts;
 use super::found::{Found, Needs};
 use super::heard::{is_waiting, leader};
 use super::infos::Infos;
-use super::named::Named;
+use super::kept_prior::KeptPrior;
+use super::named_devices::NamedDevices;
 use super::peers::states;
-use super::reckoned::Reckoned;
 use super::reports::Reports;
 use super::standing::{is_short, needs_up_thru};
 use pgp_code::{AnyCode, Recoverable};
@@ -74,9 +74,9 @@ pub struct Group {
     /// All reports of log entries of the group, counted or not, and the logs of its members.
     reports: Reports,
     /// The devices that stand in up or acting of a past interval, or sent a report.
-    named: Named,
+    named: NamedDevices,
     /// Whom it has to hear, as of the last view.
-    reckoned: Reckoned,
+    reckoned: KeptPrior,
 }
 
 // Written out, so that a crate which lets one go has nothing to prove of what lies within.
@@ -202,7 +202,7 @@ impl Group {
         self.view_of_heard(map, count, first, current)
     }
 
-    /// Hears the infos and reports that came since, and no more those that don't count any more. The best member's log goes by
+    /// Hears the infos and reports that came since, and no more those that don't count any more. The best member's log follows
     /// its info.
     fn hear_more(
         &mut self,
@@ -302,7 +302,7 @@ impl Group {
         })
     }
 
-    /// The states of the members of up and acting that were heard, but for the best one, by its log, which is whole.
+    /// The states of the members of up and acting that were heard, except for the best one, by its log, which is whole.
     fn states(
         &self,
         map: &OsdMap,
@@ -386,7 +386,7 @@ fn lies_at(map: &OsdMap, pg: &PgId) -> Membership
     up_acting(map, *pg)
 }
 
-/// There is no copy to go by, or the log of this member isn't whole.
+/// There is no copy to follow, or the log of this member isn't whole.
 fn nothing_to_go_by(alloc: Global, best: Option<Member>) -> Found
     ensures best { result.best ≡ best }
     ensures whole { result.whole ≡ false }

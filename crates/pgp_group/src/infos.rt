@@ -96,7 +96,7 @@ impl Infos {
         let unseen = unseen(self.all.as_slice(), self.seen);
         match hear(&mut self.heard, map, first, unseen) {
             Ok(()) => {
-                self.seen = self.told();
+                self.seen = self.count();
                 Ok(())
             }
             Err(fault) => {
@@ -128,7 +128,7 @@ impl Infos {
     {
         let heard = self.heard_by(alloc, map, first, prefer)?;
         self.heard = heard;
-        self.seen = self.told();
+        self.seen = self.count();
         Ok(())
     }
 
@@ -165,7 +165,7 @@ impl Infos {
     }
 
     /// How many infos there are.
-    fn told(&self) -> usize
+    fn count(&self) -> usize
         ensures { result ≡ length self.now.all.items }
     {
         self.all.len()

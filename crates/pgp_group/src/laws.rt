@@ -71,7 +71,7 @@ pub fn history_has_each_epoch()
         → group_history incs pg ≡ Some h → membership incs pg ≡ Some h.current }
 {}
 
-/// The peers are just the members of up and acting that were heard, but for that of the best info, and their states are in
+/// The peers are just the members of up and acting that were heard, except for that of the best info, and their states are in
 /// ascending order of the members.
 pub fn each_other_heard_member_is_a_peer()
     ensures peers { (g : GroupLog) (best info : Info)
@@ -272,7 +272,7 @@ pub fn incomplete_primary()
         option_map (λ view. view.best) (scratch log copies_group) ≡ Some (Some (in_slot 0 0)) }
 {}
 
-/// A group of shards goes by the one that lacks the last write, and those that have it diverged.
+/// A group of shards follows the one that lacks the last write, and those that have it diverged.
 pub fn shards_that_differ_in_one_write()
     ensures best { let log = maps (shards_on_three ∷ [])
         ++ infos_sent (shard_up_to 0 0 (at 1 2) ∷ shard_up_to 1 1 (at 1 1) ∷ shard_up_to 2 2 (at 1 2) ∷ [])

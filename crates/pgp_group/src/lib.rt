@@ -1,5 +1,5 @@
 //! A placement group as the log of all that monitor and devices told says of it: its history, whom it has heard, whose
-//! copy is the one to go by, and whether it may serve.
+//! copy is the one to follow, and whether it may serve.
 //!
 //! The layers below each say one thing of a group: where it lies, in which intervals, whom it has to hear, which info is
 //! the best, what the others lack. This crate joins them into one view (Ceph's developer documentation on peering).
@@ -8,16 +8,16 @@
 mod causes;
 mod copies;
 mod counted;
+mod device_facts;
 mod found;
 mod group;
 mod heard;
 mod infos;
+mod kept_prior;
 pub mod laws;
 mod logs;
-mod named;
-mod noted;
+mod named_devices;
 mod peers;
-mod reckoned;
 mod reports;
 mod standing;
 

@@ -57,7 +57,7 @@ impl CountedLog {
         add_all(&mut self.log, report.log.as_slice())
     }
 
-    /// Lets the log go by this info, which sets its bounds.
+    /// Lets the log follow this info, which sets its bounds.
     fn renew(&mut self, info: &Info)
         ensures member { self.new.member ≡ self.old.member }
         ensures stamp { self.new.stamp ≡ self.old.stamp }
@@ -134,7 +134,7 @@ impl Logs {
         }
     }
 
-    /// Lets the log of the member with this info go by it: the info sets the bounds.
+    /// Lets the log of the member with this info follow it: the info sets the bounds.
     pub(crate) fn renew(&mut self, info: &Info)
         ensures entries { (test : Sender → ℕ → Bool) (member : Sender) (reported : List Write)
             → entries_of member (filter (λ log. test log.member log.stamp) self.old.of_members.items) ≡ by_number reported

@@ -15,7 +15,7 @@ use pgp_info::{Best, Preference};
 use pgp_missing::MemberLog;
 use std::alloc::{AllocError, Global};
 
-/// The states of those of these members that were heard, but for the best one, by its log, which is whole.
+/// The states of those of these members that were heard, except for the best one, by its log, which is whole.
 pub(crate) fn states(
     alloc: Global,
     log: &MemberLog,

@@ -93,7 +93,7 @@ impl Reports {
         self.hear_unseen(alloc, map, first)
     }
 
-    /// Lets the log of the member with this info go by it: the info sets the bounds.
+    /// Lets the log of the member with this info follow it: the info sets the bounds.
     pub(crate) fn renew(&mut self, info: &Info)
         ensures logs { (g : GroupLog) → AreLogsOf g (reports g) self.old.logs.of_members.items
             → AreLogsOf g (reports g) self.new.logs.of_members.items }
@@ -114,7 +114,7 @@ impl Reports {
         let unseen = unseen(self.all.as_slice(), self.seen);
         match self.logs.hear(alloc, map, first, unseen) {
             Ok(()) => {
-                self.seen = self.told();
+                self.seen = self.count();
                 Ok(())
             }
             Err(fault) => {
@@ -125,7 +125,7 @@ impl Reports {
     }
 
     /// How many reports there are.
-    fn told(&self) -> usize
+    fn count(&self) -> usize
         ensures { result ≡ length self.now.all.items }
     {
         self.all.len()

@@ -9,3 +9,7 @@ pub mod ObjectName
 pub mod Past
 pub mod Parts
 pub mod Pool
+pub mod Refusal
+pub mod AskRefusal
+pub mod LocateRefusal
+pub mod TextFault

@@ -31,7 +31,7 @@ pub struct View {
     /// The devices that have to come back or be given up for lost, in ascending order, each once.
     pub blocked_by: Seq<OsdId>,
     pub verdict: Verdict,
-    /// Whose copy is the one to go by.
+    /// Whose copy is the one to follow.
     pub best: Option<Member>,
     /// The states of the other members that were heard, in ascending order of the members.
     pub missing: Seq<PeerMissing>,

@@ -14,7 +14,7 @@ last_start infos =
     max (fold max 0 (map (λ info. info.history_les) infos))
     (fold max 0 (map (λ info. info.les) (filter (λ info. info.complete) infos)))
 
--- the infos whose copies may be gone by: complete ones that served in that epoch or later
+-- the infos whose copies may be followed: complete ones that served in that epoch or later
 abbrev pub candidates : List Info → List Info
 candidates infos = filter (λ info. info.complete && nat_le (last_start infos) info.les) infos
 

@@ -1,5 +1,5 @@
 -- What is known of the copies of a placement group (Ceph's developer documentation on peering): the last info of each
--- member, and which of two copies its pool would rather go by.
+-- member, and which of two copies its pool would rather follow.
 use Rattle.std.specs.Prelude.{List, [], ◌∷◌, ◌++◌, Bool, not, filter, fold, if◌then◌else◌}
 use Rattle.std.specs.List.{list_any}
 use Rattle.pgp_ids.specs.Member.{is_same_member}

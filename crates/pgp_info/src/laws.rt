@@ -45,7 +45,7 @@ pub fn best_stays_while_others_go()
 {}
 
 /// One info more is compared with the best one alone; and where it tells of a later start than all others, only its own
-/// copy may be gone by.
+/// copy may be followed.
 #[tactic(auto, using(crate::proofs::LeadLemmas::beside_laws))]
 pub fn best_beside_one_more()
     ensures known { (better : Info → Info → Bool) (infos : List Info) (info : Info)
@@ -101,14 +101,14 @@ pub fn copy_that_tells_again()
         best_info (newest_first device_0) (with_info (fresh 0) infos) ≡ Some (fresh 0) }
 {}
 
-/// The last start falls with the one info that told of it, and then a copy may be gone by that was left behind.
+/// The last start falls with the one info that told of it, and then a copy may be followed that was left behind.
 pub fn start_that_falls()
     ensures none { best_info (newest_first device_0) (fresh 0 ∷ record (fresh 1) { history_les = 1 } ∷ []) ≡ None }
     ensures fallen { let told = record (fresh 1) { history_les = 1 } in
         best_info (newest_first device_0) (without told.member (fresh 0 ∷ told ∷ [])) ≡ Some (fresh 0) }
 {}
 
-/// An erasure pool goes by the copy that lacks the last write, a replicated pool by one that has it.
+/// An erasure pool follows the copy that lacks the last write, a replicated pool one that has it.
 pub fn copies_that_differ_in_one_write()
     ensures erasure { let infos = copy_up_to (at 1 2) (in_slot 0 0) ∷ copy_up_to (at 1 1) (in_slot 1 1)
         ∷ copy_up_to (at 1 2) (in_slot 2 2) ∷ [] in

@@ -4,7 +4,7 @@ ghost use Rattle.pgp_info.specs.Preference.{IsPreference};
 
 use pgp_ids::Info;
 
-/// Which of two copies a pool would rather go by, told from their infos.
+/// Which of two copies a pool would rather follow, told from their infos.
 pub trait Prefer {
     /// Whether the first of two infos is preferred to the second.
     ghost better: { Self → Info → Info → Bool };

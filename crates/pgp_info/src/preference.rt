@@ -15,7 +15,7 @@ pub enum Preference {
 }
 
 impl Preference {
-    /// The preference of a pool whose code goes by place or doesn't, where this member leads.
+    /// The preference of a pool in which each member has a place or none has, where this member leads.
     pub fn of_pool(by_place: bool, primary: Option<Member>) -> Self
         ensures { prefers result ≡ (if by_place then oldest_first primary else newest_first primary) }
     {

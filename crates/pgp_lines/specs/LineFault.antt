@@ -1,7 +1,7 @@
 -- What is wrong with a line, with the keys that are named as bytes.
 use Rattle.std.specs.Prelude.{ℕ, List, Option, Some, None, Result, Ok, Err, string_bytes}
-use Rattle.pgp_refusals.specs.declared.text_fault.TextFault.{TextFault}
-use Rattle.pgp_refusals.specs.declared.text_fault.TextFault.TheVariants.{LineTooLong, NotJson, NoOp, UnknownKey, BadField, Memory}
+use Rattle.pgp_ids.specs.declared.text_fault.TextFault.{TextFault}
+use Rattle.pgp_ids.specs.declared.text_fault.TextFault.TheVariants.{LineTooLong, NotJson, NoOp, UnknownKey, BadField, Memory}
 
 -- in the order in which they are told; of several keys the least in byte order is named
 pub data LineFault : Type 0 where
@@ -11,7 +11,7 @@ pub data LineFault : Type 0 where
   unknown_key : List ℕ → LineFault
   bad_field : List ℕ → LineFault
 
--- what a fault says of its line; want of memory says nothing of it
+-- what a fault says of its line; one that is out of memory says nothing of it
 abbrev pub told : TextFault → Option LineFault
 told LineTooLong = Some line_too_long
 told NotJson = Some not_json

@@ -79,8 +79,8 @@ enum Op {
 /// Reads a line, without its line feed, as one JSON text.
 ///
 /// Of several faults the first in the order of [`TextFault`] is told. A text of more than 4,294,967,040 bytes, which no
-/// tape holds, is refused as `Memory`; no other length is judged. `Memory` may come in place of any other answer too, but for
-/// bytes that are no UTF-8.
+/// tape holds, is refused as `Memory`; no other length is judged. `Memory` may come in place of any other answer too, except
+/// for bytes that are no UTF-8.
 pub fn read_line(alloc: Global, line: &[u8]) -> Result<Command, TextFault>
     ensures ok { IfOk result (λ command. command_of line.now ≡ Ok command) }
     ensures err { IfErr result (λ fault. IfSome (told fault) (λ f. command_of line.now ≡ Err f)) }
@@ -178,8 +178,8 @@ fn read_text<'a>(
             Err(TextFault::NotJson)
         },
         Err(Error::Invalid) => Err(TextFault::NotJson),
-        // That a text is too long for a tape counts as want of memory. The last never comes: only a strict reader tells
-        // of a key that stands twice.
+        // That a text is too long for a tape counts as out of memory. The last never comes: only a strict reader tells
+        // of a key that is twice in an object.
         Err(Error::OutOfMemory | Error::TooLong | Error::DuplicateKey) => Err(TextFault::Memory),
     }
 }

@@ -1,4 +1,4 @@
-//! Lists in which an item stands twice.
+//! Lists in which an item is twice.
 
 ghost use Rattle.std.specs.Prelude.{◌≡◌, IfOk};
 ghost use Rattle.pgp_lists.specs.Repeats.{has_repeat};
@@ -7,7 +7,7 @@ use std::alloc::{AllocError, Global};
 use std::collections::HashSet;
 use std::hash::Hash;
 
-/// Some item stands twice.
+/// Some item is twice in the list.
 pub fn has_repeat<T: Copy + Eq + Hash>(alloc: Global, items: &[T]) -> Result<bool, AllocError>
     ensures { IfOk result (λ repeated. repeated ≡ has_repeat T.eq items.now) }
 {

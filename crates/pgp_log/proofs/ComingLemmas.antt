@@ -11,7 +11,7 @@ use Rattle.pgp_ids.specs.declared.member.Member.{Member}
 use Rattle.pgp_ids.specs.declared.pg_id.PgId.{PgId}
 use Rattle.pgp_ids.specs.declared.pool.PoolSizes.{PoolSizes}
 use Rattle.pgp_ids.specs.declared.pool.PoolSpec.{PoolSpec}
-use Rattle.pgp_refusals.specs.declared.refusal.Refusal.{Refusal}
+use Rattle.pgp_ids.specs.declared.refusal.Refusal.{Refusal}
 use Rattle.pgp_map.proofs.CheckedLemmas.{checked-has_group}
 use Rattle.pgp_map.specs.Checked.{are_checked}
 use Rattle.pgp_map.specs.Held.{HasGroup}

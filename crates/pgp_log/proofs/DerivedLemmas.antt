@@ -26,7 +26,7 @@ use Rattle.pgp_group.specs.GroupHistory.{makes}
 use Rattle.pgp_group.specs.View.{scratch}
 use Rattle.pgp_log.specs.Derived.{HasOwn, HasStill, IsDerivedOf, IsKeptIfOwn, IsOwnIfKept, IsStepping, owns}
 use Rattle.pgp_log.specs.Fits.{fits}
-use Rattle.pgp_log.specs.Kept.{AreGroupsOf, IsStep, KeepsAll, ids_of, keeps}
+use Rattle.pgp_log.specs.KeptGroup.{AreGroupsOf, IsStep, KeepsAll, ids_of, keeps}
 use Rattle.pgp_log.specs.Shard.{is_among}
 use Rattle.pgp_log.specs.MapBefore.{IsMapBefore}
 use Rattle.pgp_log.specs.declared.before.MapBefore.{MapBefore}

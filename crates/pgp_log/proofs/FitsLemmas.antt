@@ -9,8 +9,8 @@ use Rattle.pgp_ids.specs.declared.report.Info.{Info}
 use Rattle.pgp_map.specs.Map.{epoch}
 use Rattle.pgp_group.specs.Entries.{incs_of}
 use Rattle.pgp_group.specs.GroupOf.{TellsNothingAhead}
-use Rattle.pgp_refusals.specs.declared.refusal.Refusal.{Refusal}
-use Rattle.pgp_refusals.specs.declared.refusal.Refusal.TheVariants as refusal
+use Rattle.pgp_ids.specs.declared.refusal.Refusal.{Refusal}
+use Rattle.pgp_ids.specs.declared.refusal.Refusal.TheVariants as refusal
 use Rattle.pgp_log.specs.Fits.{fits, entry_fault, full_fault, is_close, is_closed}
 use Rattle.pgp_log.specs.ReportFault.{has_bad_info, has_future_stamp, has_unknown_group, has_unknown_member, info_fault}
 

@@ -21,13 +21,15 @@ use Rattle.pgp_map.specs.declared.map.OsdMap.{OsdMap}
 use Rattle.pgp_group.specs.Entries.{inc_of, incs_of}
 use Rattle.pgp_group.specs.Touched.{is_touched, may_move}
 use Rattle.pgp_log.specs.declared.before.MapBefore.{MapBefore}
-use Rattle.pgp_log.specs.Kept.{AreAllMarked, AreAtPlaces, AreGroupsOf, AreKeptOf, IsKeptOf, IsStep, ids_of, is_marked, keeps}
+use Rattle.pgp_log.specs.KeptGroup.{AreAllMarked, AreAtPlaces, AreGroupsOf, AreKeptOf, AreRowsOf, IsKeptOf, IsRowOf, IsStep, ids_of, is_marked, keeps}
 use Rattle.pgp_log.specs.Shard.{is_among}
 use Rattle.pgp_log.specs.declared.groups.Groups.{Groups}
-use Rattle.pgp_log.specs.declared.kept.Kept.{Kept}
+use Rattle.pgp_log.specs.declared.kept_group.KeptGroup.{KeptGroup}
+use Rattle.pgp_log.specs.declared.row.Row.{Row}
 use Rattle.pgp_log.specs.Log.{HasInc}
 use Rattle.pgp_log.proofs.KeptLemmas.{kept-inc, kept-untold}
 use Rattle.pgp_log.proofs.RawSetLemmas.{same_group}
+use Rattle.pgp_log.proofs.RowLemmas.{rows-push, rows-set}
 use Rattle.pgp_log.proofs.TouchLemmas.{kept-stays, kept-unseen}
 
 -- ---- elements by their places
@@ -42,39 +44,47 @@ each-set P Q xs i x y within holds others j z at = elim (cases_eq j i) [
 ]
 
 -- the groups stay the same ones, where one of them is kept anew
-pub ids-set : (xs : List Kept) (i : ℕ) (old new : Kept) → slice_get xs i ≡ Some old → new.pg ≡ old.pg → ids_of (set xs i new) ≡ ids_of xs
+pub ids-set : (xs : List KeptGroup) (i : ℕ) (old new : KeptGroup) → slice_get xs i ≡ Some old → new.pg ≡ old.pg → ids_of (set xs i new) ≡ ids_of xs
 ids-set xs i old new at same =
-    map-set_same (λ (kept : Kept). kept.pg) xs i new old (same ∙ ap (λ (kept : Kept). kept.pg) (sym (get_or_from_slice_get xs i old old at)))
+    map-set_same (λ (kept : KeptGroup). kept.pg) xs i new old (same ∙ ap (λ (kept : KeptGroup). kept.pg) (sym (get_or_from_slice_get xs i old old at)))
 
 -- ---- the table of places
 
-pub at-places : (old groups : Groups) → groups.places ≡ old.places → ids_of groups.kept.items ≡ ids_of old.kept.items → AreAtPlaces old → AreAtPlaces groups
-at-places old groups same ids are = record {
+pub at-places : (old groups : Groups) → groups.places ≡ old.places → ids_of groups.kept.items ≡ ids_of old.kept.items → AreRowsOf groups.rows.items groups.kept.items → AreAtPlaces old → AreAtPlaces groups
+at-places old groups same ids rows are = record {
   there = λ pg place is. ap (λ (l : List PgId). slice_get l place) ids ∙ are.there pg place (rw same at is);
   found = λ pg place is. rw same (are.found pg place (ap (λ (l : List PgId). slice_get l place) (sym ids) ∙ is));
+  rows = rows;
 }
+
+-- the rows are those of the groups, where the group at this place is another now, and its row is made anew
+rows-anew : (old groups : Groups) (place : ℕ) (row : Row) (after : KeptGroup) → place < length old.kept.items → IsRowOf row after → groups.rows.items ≡ set old.rows.items place row → groups.kept.items ≡ set old.kept.items place after
+    → AreAtPlaces old → AreRowsOf groups.rows.items groups.kept.items
+rows-anew old groups place row after within is rows items are =
+    subst (λ (l : List KeptGroup). AreRowsOf groups.rows.items l) (sym items)
+    (subst (λ (l : List Row). AreRowsOf l (set old.kept.items place after)) (sym rows) (rows-set old.rows.items old.kept.items place row after within is are.rows))
 
 -- the place that the table says is one of the list
 pub place-within : (groups : Groups) (pg : PgId) (place : ℕ) → AreAtPlaces groups → hash.get is_same_group groups.places pg ≡ Some place → place < length groups.kept.items
 place-within groups pg place are is =
-    omega (arith, slice_get_within (ids_of groups.kept.items) place pg (are.there pg place is), length-map groups.kept.items (λ (kept : Kept). kept.pg))
+    omega (arith, slice_get_within (ids_of groups.kept.items) place pg (are.there pg place is), length-map groups.kept.items (λ (kept : KeptGroup). kept.pg))
 
 -- the group that is read there
-pub kept-at : (groups : Groups) (pg : PgId) (place : ℕ) (kept : Kept) → AreAtPlaces groups → hash.get is_same_group groups.places pg ≡ Some place → kept ≡ get_or groups.kept.items place kept → slice_get groups.kept.items place ≡ Some kept
+pub kept-at : (groups : Groups) (pg : PgId) (place : ℕ) (kept : KeptGroup) → AreAtPlaces groups → hash.get is_same_group groups.places pg ≡ Some place → kept ≡ get_or groups.kept.items place kept → slice_get groups.kept.items place ≡ Some kept
 kept-at groups pg place kept are is read = slice_get_read groups.kept.items (length groups.kept.items) place kept refl (place-within groups pg place are is) read
 
 -- and the group there is the one that was looked for
-pub place-holds : (groups : Groups) (pg : PgId) (place : ℕ) (kept : Kept) → AreAtPlaces groups → hash.get is_same_group groups.places pg ≡ Some place → slice_get groups.kept.items place ≡ Some kept → kept.pg ≡ pg
+pub place-holds : (groups : Groups) (pg : PgId) (place : ℕ) (kept : KeptGroup) → AreAtPlaces groups → hash.get is_same_group groups.places pg ≡ Some place → slice_get groups.kept.items place ≡ Some kept → kept.pg ≡ pg
 place-holds groups pg place kept are is at =
-    same_Some kept.pg pg (sym (slice_get-map (λ (k : Kept). k.pg) groups.kept.items place ∙ ap (option_map (λ (k : Kept). k.pg)) at) ∙ are.there pg place is)
+    same_Some kept.pg pg (sym (slice_get-map (λ (k : KeptGroup). k.pg) groups.kept.items place ∙ ap (option_map (λ (k : KeptGroup). k.pg)) at) ∙ are.there pg place is)
 
-id-at : (xs : List Kept) (place : ℕ) (kept : Kept) → slice_get xs place ≡ Some kept → slice_get (ids_of xs) place ≡ Some kept.pg
-id-at xs place kept at = slice_get-map (λ (k : Kept). k.pg) xs place ∙ ap (option_map (λ (k : Kept). k.pg)) at
+id-at : (xs : List KeptGroup) (place : ℕ) (kept : KeptGroup) → slice_get xs place ≡ Some kept → slice_get (ids_of xs) place ≡ Some kept.pg
+id-at xs place kept at = slice_get-map (λ (k : KeptGroup). k.pg) xs place ∙ ap (option_map (λ (k : KeptGroup). k.pg)) at
 
 -- ---- an entry that brings no map
 
 -- it is of no group of the list
-pub groups-untold : (log : List Entry) (new : Entry) (groups : Groups) → inc_of new ≡ None → ((place : ℕ) (kept : Kept) → slice_get groups.kept.items place ≡ Some kept → is_touched log new kept.pg ≡ false)
+pub groups-untold : (log : List Entry) (new : Entry) (groups : Groups) → inc_of new ≡ None → ((place : ℕ) (kept : KeptGroup) → slice_get groups.kept.items place ≡ Some kept → is_touched log new kept.pg ≡ false)
     → AreGroupsOf log groups → AreGroupsOf (log ++ new ∷ []) groups
 groups-untold log new groups none untouched are = record {
   each = record { each = λ place kept at. kept-untold log new kept none (untouched place kept at) (are.each.each place kept at) };
@@ -83,10 +93,10 @@ groups-untold log new groups none untouched are = record {
 }
 
 -- each of a list of marked groups is marked
-marked-there : (xs : List Kept) (place : ℕ) (kept : Kept) → AreAllMarked xs → slice_get xs place ≡ Some kept → is_marked kept ≡ true
+marked-there : (xs : List KeptGroup) (place : ℕ) (kept : KeptGroup) → AreAllMarked xs → slice_get xs place ≡ Some kept → is_marked kept ≡ true
 marked-there xs place kept all at =
-    subst (λ (k : Kept). is_marked k ≡ true) (get_or_from_slice_get xs place kept kept at)
-    (All-get_or (λ (k : Kept). is_marked k ≡ true) xs place kept (slice_get_within xs place kept at) all)
+    subst (λ (k : KeptGroup). is_marked k ≡ true) (get_or_from_slice_get xs place kept kept at)
+    (All-get_or (λ (k : KeptGroup). is_marked k ≡ true) xs place kept (slice_get_within xs place kept at) all)
 
 -- an incremental touches no group
 pub groups-stay : (log : List Entry) (inc : Incremental) (before : MapBefore) (after : OsdMap) (groups : Groups) → IsStep log inc before after → ((pg : PgId) → is_touched log (entry.Inc inc) pg ≡ false)
@@ -109,7 +119,7 @@ groups-sleep log inc before after groups step none still are = record {
 }
 
 -- another group than the one at this place
-pub other-group : (groups : Groups) (pg : PgId) (place j : ℕ) (kept : Kept) → AreAtPlaces groups → hash.get is_same_group groups.places pg ≡ Some place → slice_get groups.kept.items j ≡ Some kept → (j ≡ place → ⊥) → is_same_group pg kept.pg ≡ false
+pub other-group : (groups : Groups) (pg : PgId) (place j : ℕ) (kept : KeptGroup) → AreAtPlaces groups → hash.get is_same_group groups.places pg ≡ Some place → slice_get groups.kept.items j ≡ Some kept → (j ≡ place → ⊥) → is_same_group pg kept.pg ≡ false
 other-group groups pg place j kept are is at other = elim (cases_Bool (is_same_group pg kept.pg)) [
   | inl same ↦
       let e : pg ≡ kept.pg = same_group pg kept.pg same in
@@ -125,16 +135,16 @@ missing-id groups pg other j are none at = elim (cases_Bool (is_same_group pg ot
   | inr differs ↦ differs
 ]
 
-pub missing-group : (groups : Groups) (pg : PgId) (j : ℕ) (kept : Kept) → AreAtPlaces groups → hash.get is_same_group groups.places pg ≡ None → slice_get groups.kept.items j ≡ Some kept → is_same_group pg kept.pg ≡ false
+pub missing-group : (groups : Groups) (pg : PgId) (j : ℕ) (kept : KeptGroup) → AreAtPlaces groups → hash.get is_same_group groups.places pg ≡ None → slice_get groups.kept.items j ≡ Some kept → is_same_group pg kept.pg ≡ false
 missing-group groups pg j kept are none at = missing-id groups pg kept.pg j are none (id-at groups.kept.items j kept at)
 
 -- the group at this place has taken it
-pub groups-told : (log : List Entry) (new : Entry) (old groups : Groups) (pg : PgId) (place : ℕ) (kept after : Kept) → inc_of new ≡ None
+pub groups-told : (log : List Entry) (new : Entry) (old groups : Groups) (pg : PgId) (place : ℕ) (kept after : KeptGroup) (row : Row) → inc_of new ≡ None
     → ((other : PgId) → is_same_group pg other ≡ false → is_touched log new other ≡ false)
     → hash.get is_same_group old.places pg ≡ Some place → slice_get old.kept.items place ≡ Some kept → (IsKeptOf log kept → IsKeptOf (log ++ new ∷ []) after) → after.pg ≡ kept.pg
-    → groups.places ≡ old.places → groups.kept.items ≡ set old.kept.items place after → groups.some_worked_out ≡ old.some_worked_out → is_marked after ≡ true
+    → groups.places ≡ old.places → groups.kept.items ≡ set old.kept.items place after → groups.some_worked_out ≡ old.some_worked_out → is_marked after ≡ true → IsRowOf row after → groups.rows.items ≡ set old.rows.items place row
     → AreGroupsOf log old → AreGroupsOf (log ++ new ∷ []) groups
-groups-told log new old groups pg place kept after none untouched is at takes same places items worked marked are =
+groups-told log new old groups pg place kept after row none untouched is at takes same places items worked marked shown rows are =
     let within : place < length old.kept.items = place-within old pg place are.places_are is in
     let each : AreKeptOf (log ++ new ∷ []) (set old.kept.items place after) = record {
       each = each-set (IsKeptOf log) (IsKeptOf (log ++ new ∷ [])) old.kept.items place kept after within (takes (are.each.each place kept at))
@@ -142,24 +152,25 @@ groups-told log new old groups pg place kept after none untouched is at takes sa
     } in
     record {
       each = subst (AreKeptOf (log ++ new ∷ [])) (sym items) each;
-      places_are = at-places old groups places (ap ids_of items ∙ ids-set old.kept.items place kept after at same) are.places_are;
+      places_are = at-places old groups places (ap ids_of items ∙ ids-set old.kept.items place kept after at same) (rows-anew old groups place row after within shown rows items are.places_are) are.places_are;
       marked_are = λ none. subst AreAllMarked (sym items)
-          (All-set (λ (k : Kept). is_marked k ≡ true) old.kept.items place after marked (are.marked_are (sym worked ∙ none)));
+          (All-set (λ (k : KeptGroup). is_marked k ≡ true) old.kept.items place after marked (are.marked_are (sym worked ∙ none)));
     }
 
 -- each of them is kept, where one is kept anew
-pub each-kept : (log : List Entry) (xs : List Kept) (i : ℕ) (old after : Kept) → i < length xs → IsKeptOf log after → AreKeptOf log xs → AreKeptOf log (set xs i after)
+pub each-kept : (log : List Entry) (xs : List KeptGroup) (i : ℕ) (old after : KeptGroup) → i < length xs → IsKeptOf log after → AreKeptOf log xs → AreKeptOf log (set xs i after)
 each-kept log xs i old after within is are = record { each = each-set (IsKeptOf log) (IsKeptOf log) xs i old after within is (λ j other differs there. are.each j other there) }
 
 -- the group at this place was asked
-pub groups-asked : (log : List Entry) (old groups : Groups) (pg : PgId) (place : ℕ) (kept after : Kept) → hash.get is_same_group old.places pg ≡ Some place → slice_get old.kept.items place ≡ Some kept
-    → (IsKeptOf log kept → IsKeptOf log after) → after.pg ≡ kept.pg → groups.places ≡ old.places → groups.kept.items ≡ set old.kept.items place after → groups.some_worked_out ≡ true → AreGroupsOf log old → AreGroupsOf log groups
-groups-asked log old groups pg place kept after is at stays same places items worked are =
+pub groups-asked : (log : List Entry) (old groups : Groups) (pg : PgId) (place : ℕ) (kept after : KeptGroup) (row : Row) → hash.get is_same_group old.places pg ≡ Some place → slice_get old.kept.items place ≡ Some kept
+    → (IsKeptOf log kept → IsKeptOf log after) → after.pg ≡ kept.pg → groups.places ≡ old.places → groups.kept.items ≡ set old.kept.items place after → groups.some_worked_out ≡ true
+    → IsRowOf row after → groups.rows.items ≡ set old.rows.items place row → AreGroupsOf log old → AreGroupsOf log groups
+groups-asked log old groups pg place kept after row is at stays same places items worked shown rows are =
     let within : place < length old.kept.items = place-within old pg place are.places_are is in
     let each : AreKeptOf log (set old.kept.items place after) = each-kept log old.kept.items place kept after within (stays (are.each.each place kept at)) are.each in
     record {
       each = subst (AreKeptOf log) (sym items) each;
-      places_are = at-places old groups places (ap ids_of items ∙ ids-set old.kept.items place kept after at same) are.places_are;
+      places_are = at-places old groups places (ap ids_of items ∙ ids-set old.kept.items place kept after at same) (rows-anew old groups place row after within shown rows items are.places_are) are.places_are;
       marked_are = λ none. absurd (true≢false (sym worked ∙ none));
     }
 
@@ -179,8 +190,8 @@ each-push Q xs x each last j z at = elim (cases_lt j (length xs)) [
       subst Q (same_Some x z (sym (get-last xs x) ∙ ap (slice_get (xs ++ x ∷ [])) (sym here) ∙ at)) last
 ]
 
-ids-push : (xs : List Kept) (kept : Kept) → ids_of (xs ++ kept ∷ []) ≡ ids_of xs ++ kept.pg ∷ []
-ids-push xs kept = map-append (λ (k : Kept). k.pg) xs (kept ∷ [])
+ids-push : (xs : List KeptGroup) (kept : KeptGroup) → ids_of (xs ++ kept ∷ []) ≡ ids_of xs ++ kept.pg ∷ []
+ids-push xs kept = map-append (λ (k : KeptGroup). k.pg) xs (kept ∷ [])
 
 there-push : (ids : List PgId) (pg : PgId) (old : PgId → Option ℕ) → ((q : PgId) (place : ℕ) → old q ≡ Some place → slice_get ids place ≡ Some q)
     → (q : PgId) (place : ℕ) (same : Bool) → is_same_group pg q ≡ same → cond same (Some (length ids)) (old q) ≡ Some place → slice_get (ids ++ pg ∷ []) place ≡ Some q
@@ -209,18 +220,19 @@ found-push ids pg old absent are q place at = elim (cases_lt place (length ids))
     earlier true same before = lost before (same_group pg q same)
     earlier false same before = ap (λ b. cond b (Some (length ids)) (old q)) same ∙ before
 
-pub groups-more : (later : List Entry) (old groups : Groups) (kept : Kept) → is_some (hash.get is_same_group old.places kept.pg) ≡ false
+pub groups-more : (later : List Entry) (old groups : Groups) (kept : KeptGroup) (row : Row) → is_some (hash.get is_same_group old.places kept.pg) ≡ false
     → ((q : PgId) → hash.get is_same_group groups.places q ≡ cond (is_same_group kept.pg q) (Some (length old.kept.items)) (hash.get is_same_group old.places q))
-    → groups.kept.items ≡ old.kept.items ++ kept ∷ [] → groups.some_worked_out ≡ old.some_worked_out → is_marked kept ≡ true → IsKeptOf later kept → AreGroupsOf later old → AreGroupsOf later groups
-groups-more later old groups kept absent step items worked marked is are =
+    → groups.kept.items ≡ old.kept.items ++ kept ∷ [] → groups.some_worked_out ≡ old.some_worked_out → is_marked kept ≡ true → IsKeptOf later kept
+    → IsRowOf row kept → groups.rows.items ≡ old.rows.items ++ row ∷ [] → AreGroupsOf later old → AreGroupsOf later groups
+groups-more later old groups kept row absent step items worked marked is shown rows are =
     let ids : ids_of groups.kept.items ≡ ids_of old.kept.items ++ kept.pg ∷ [] = ap ids_of items ∙ ids-push old.kept.items kept in
     let places : PgId → Option ℕ = hash.get is_same_group old.places in
-    let long : length (ids_of old.kept.items) ≡ length old.kept.items = length-map old.kept.items (λ (k : Kept). k.pg) in
+    let long : length (ids_of old.kept.items) ≡ length old.kept.items = length-map old.kept.items (λ (k : KeptGroup). k.pg) in
     let grows : (q : PgId) → hash.get is_same_group groups.places q ≡ cond (is_same_group kept.pg q) (Some (length (ids_of old.kept.items))) (places q) =
     λ q. step q ∙ ap (λ n. cond (is_same_group kept.pg q) (Some n) (places q)) (sym long) in
     record {
       each = record {
-        each = subst (λ (l : List Kept). (j : ℕ) (z : Kept) → slice_get l j ≡ Some z → IsKeptOf later z) (sym items)
+        each = subst (λ (l : List KeptGroup). (j : ℕ) (z : KeptGroup) → slice_get l j ≡ Some z → IsKeptOf later z) (sym items)
             (each-push (IsKeptOf later) old.kept.items kept are.each.each is);
       };
       places_are = record {
@@ -228,8 +240,10 @@ groups-more later old groups kept absent step items worked marked is are =
             ∙ there-push (ids_of old.kept.items) kept.pg places are.places_are.there q place (is_same_group kept.pg q) refl (sym (grows q) ∙ found);
         found = λ q place at. grows q
             ∙ found-push (ids_of old.kept.items) kept.pg places absent are.places_are.found q place (ap (λ (l : List PgId). slice_get l place) (sym ids) ∙ at);
+        rows = subst (λ (l : List KeptGroup). AreRowsOf groups.rows.items l) (sym items)
+            (subst (λ (l : List Row). AreRowsOf l (old.kept.items ++ kept ∷ [])) (sym rows) (rows-push old.rows.items old.kept.items row kept shown are.places_are.rows));
       };
-      marked_are = λ none. subst AreAllMarked (sym items) (All-push (λ (k : Kept). is_marked k ≡ true) old.kept.items kept (are.marked_are (sym worked ∙ none)) marked);
+      marked_are = λ none. subst AreAllMarked (sym items) (All-push (λ (k : KeptGroup). is_marked k ≡ true) old.kept.items kept (are.marked_are (sym worked ∙ none)) marked);
     }
 
 -- ---- which groups are kept
@@ -245,13 +259,13 @@ keeps-found groups pg are = at (hash.get is_same_group groups.places pg) refl wh
   ]
 
 -- where one comes, each other is kept where it was before
-pub keeps-others : (xs : List Kept) (kept : Kept) (pg : PgId) → is_same_group pg kept.pg ≡ false → is_among pg (ids_of (xs ++ kept ∷ [])) ≡ is_among pg (ids_of xs)
+pub keeps-others : (xs : List KeptGroup) (kept : KeptGroup) (pg : PgId) → is_same_group pg kept.pg ≡ false → is_among pg (ids_of (xs ++ kept ∷ [])) ≡ is_among pg (ids_of xs)
 keeps-others xs kept pg differs =
     ap (is_among pg) (ids-push xs kept) ∙ list_any-append (is_same_group pg) (ids_of xs) (kept.pg ∷ [])
     ∙ ap (λ b. list_any (is_same_group pg) (ids_of xs) || (b || false)) differs ∙ or-false (list_any (is_same_group pg) (ids_of xs))
 
 -- and that one is
-pub keeps-last : (xs : List Kept) (kept : Kept) → is_among kept.pg (ids_of (xs ++ kept ∷ [])) ≡ true
+pub keeps-last : (xs : List KeptGroup) (kept : KeptGroup) → is_among kept.pg (ids_of (xs ++ kept ∷ [])) ≡ true
 keeps-last xs kept =
     ap (is_among kept.pg) (ids-push xs kept) ∙ list_any-append (is_same_group kept.pg) (ids_of xs) (kept.pg ∷ [])
     ∙ ap (λ b. list_any (is_same_group kept.pg) (ids_of xs) || (b || false)) (same-self kept.pg)
@@ -260,7 +274,7 @@ keeps-last xs kept =
 -- a group is there by an incremental
 pub groups-inc : (log : List Entry) (groups : Groups) (pg : PgId) → is_some (hash.get is_same_group groups.places pg) ≡ true → AreGroupsOf log groups → HasInc log
 groups-inc log groups pg some are = at (hash.get is_same_group groups.places pg) refl some where
-  of-place : (place : ℕ) (found : Option Kept) → slice_get groups.kept.items place ≡ found → option_map (λ (k : Kept). k.pg) found ≡ Some pg → HasInc log
+  of-place : (place : ℕ) (found : Option KeptGroup) → slice_get groups.kept.items place ≡ found → option_map (λ (k : KeptGroup). k.pg) found ≡ Some pg → HasInc log
   of-place place None is same = cc
   of-place place (Some kept) is same = kept-inc log kept (are.each.each place kept is)
 
@@ -268,4 +282,4 @@ groups-inc log groups pg some are = at (hash.get is_same_group groups.places pg)
   at None is some = cc
   at (Some place) is some =
       of-place place (slice_get groups.kept.items place) refl
-      (sym (slice_get-map (λ (k : Kept). k.pg) groups.kept.items place) ∙ are.places_are.there pg place is)
+      (sym (slice_get-map (λ (k : KeptGroup). k.pg) groups.kept.items place) ∙ are.places_are.there pg place is)

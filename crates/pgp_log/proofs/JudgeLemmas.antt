@@ -8,7 +8,7 @@ use Rattle.pgp_crush.specs.declared.fault.TreeFault.TheVariants.{NoRoot, TwiceHe
 use Rattle.pgp_ids.specs.declared.bucket.BucketSpec.{BucketSpec}
 use Rattle.pgp_ids.specs.declared.entry.Entry.{Entry}
 use Rattle.pgp_ids.specs.declared.incremental.Incremental.{Incremental}
-use Rattle.pgp_refusals.specs.declared.refusal.Refusal.TheVariants as refusal
+use Rattle.pgp_ids.specs.declared.refusal.Refusal.TheVariants as refusal
 use Rattle.pgp_map.specs.FaultNumber.{refusal_of, tree_refusal}
 use Rattle.pgp_map.specs.MapFault.{map_fault, given_fault}
 use Rattle.pgp_map.specs.MapOf.{IsMapOf, Says}

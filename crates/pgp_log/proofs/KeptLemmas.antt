@@ -41,10 +41,10 @@ use Rattle.pgp_group.specs.View.{scratch, view_of}
 use Rattle.pgp_group.specs.declared.group.Group.{Group}
 use Rattle.pgp_log.specs.declared.before.MapBefore.{MapBefore}
 use Rattle.pgp_log.specs.Fits.{fits}
-use Rattle.pgp_log.specs.Kept.{IsKeptOf, IsStep, IsViewOf}
+use Rattle.pgp_log.specs.KeptGroup.{IsKeptOf, IsStep, IsViewOf}
 use Rattle.pgp_log.specs.Log.{HasInc, is_legal}
 use Rattle.pgp_log.specs.RawSets.{IsRawSet}
-use Rattle.pgp_log.specs.declared.kept.Kept.{Kept}
+use Rattle.pgp_log.specs.declared.kept_group.KeptGroup.{KeptGroup}
 use Rattle.pgp_log.proofs.LogLemmas.{legal-checked, legal-induction, numbered}
 use Rattle.pgp_log.proofs.RawSetLemmas.{filtered}
 use Rattle.pgp_log.proofs.ComingLemmas.{IsAbsent, absent-other, inc-of-group, made-now, next-follows, silent-inc}
@@ -62,16 +62,16 @@ pub grown : (log : List Entry) (inc : Incremental) → incs_of (log ++ entry.Inc
 grown log inc = incs-inc log (entry.Inc inc) inc refl
 
 -- the group takes the map that comes next
-pub kept-follows : (log : List Entry) (inc : Incremental) (before : MapBefore) (after : OsdMap) (kept : Kept) → IsKeptOf log kept → IsStep log inc before after → Follows (reaching (epoch (incs_of log)) kept.group) after
+pub kept-follows : (log : List Entry) (inc : Incremental) (before : MapBefore) (after : OsdMap) (kept : KeptGroup) → IsKeptOf log kept → IsStep log inc before after → Follows (reaching (epoch (incs_of log)) kept.group) after
 kept-follows log inc before after kept is step =
     next-follows log kept.pg inc (reaching (epoch (incs_of log)) kept.group) after is.group_is (step-fine log inc before after step) (step-checked log inc before after step) step.after_is
 
-pub kept-there : (log : List Entry) (inc : Incremental) (before : MapBefore) (after : OsdMap) (kept : Kept) → IsKeptOf log kept → IsStep log inc before after → HasGroup after kept.pg
+pub kept-there : (log : List Entry) (inc : Incremental) (before : MapBefore) (after : OsdMap) (kept : KeptGroup) → IsKeptOf log kept → IsStep log inc before after → HasGroup after kept.pg
 kept-there log inc before after kept is step =
     subst (HasGroup after) is.group_is.keeps.pg_is (kept-follows log inc before after kept is step).there
 
 -- the raw set stays, where the incremental doesn't move the group
-pub kept_raw-stays : (log : List Entry) (inc : Incremental) (before : MapBefore) (after : OsdMap) (kept : Kept) → IsKeptOf log kept → IsStep log inc before after → moves inc kept.pg.pool ≡ false
+pub kept_raw-stays : (log : List Entry) (inc : Incremental) (before : MapBefore) (after : OsdMap) (kept : KeptGroup) → IsKeptOf log kept → IsStep log inc before after → moves inc kept.pg.pool ≡ false
     → IsRawSet (incs_of (log ++ entry.Inc inc ∷ [])) kept.pg kept.raw
 kept_raw-stays log inc before after kept is step still =
     subst (λ (l : List Incremental). IsRawSet l kept.pg kept.raw) (sym (grown log inc))
@@ -152,7 +152,7 @@ view-now log pg view is =
 
 -- ---- a group comes
 
-pub kept-begun : (log : List Entry) (inc : Incremental) (before : MapBefore) (after : OsdMap) (kept : Kept) (members : Membership) → kept.view ≡ None → IsStep log inc before after → has_group (incs_of log) kept.pg ≡ false → has_group (then_with (incs_of log) inc) kept.pg ≡ true
+pub kept-begun : (log : List Entry) (inc : Incremental) (before : MapBefore) (after : OsdMap) (kept : KeptGroup) (members : Membership) → kept.view ≡ None → IsStep log inc before after → has_group (incs_of log) kept.pg ≡ false → has_group (then_with (incs_of log) inc) kept.pg ≡ true
     → ((l : List Entry) → AreNumbered (incs_of l) → IsMapOf (incs_of l) after → has_group (incs_of l) kept.pg ≡ true → made_at (incs_of l) kept.pg.pool ≡ epoch (incs_of l) → IsSilent l kept.pg → membership (incs_of l) kept.pg ≡ Some members → IsGroupOf l kept.pg kept.group)
     → ((incs : List Incremental) → IsMapOf incs after → raw_set_of incs kept.pg ≡ Some kept.raw)
     → ((incs : List Incremental) → IsMapOf incs after → option_map (λ made. members_from_up incs made kept.pg (without_down incs made kept.raw)) (pool incs kept.pg.pool) ≡ Some members)
@@ -211,7 +211,7 @@ view-untold log new pg none others =
     }))
 
 -- it isn't of the group
-pub kept-untold : (log : List Entry) (new : Entry) (kept : Kept) → inc_of new ≡ None → is_touched log new kept.pg ≡ false → IsKeptOf log kept → IsKeptOf (log ++ new ∷ []) kept
+pub kept-untold : (log : List Entry) (new : Entry) (kept : KeptGroup) → inc_of new ≡ None → is_touched log new kept.pg ≡ false → IsKeptOf log kept → IsKeptOf (log ++ new ∷ []) kept
 kept-untold log new kept none untouched is =
     let others : IsOfOthers log new kept.pg = of-others log new kept.pg none untouched in
     record {
@@ -223,7 +223,7 @@ kept-untold log new kept none untouched is =
     }
 
 -- the group has taken it
-pub kept-told : (log : List Entry) (new : Entry) (old : Kept) (group : Group) → inc_of new ≡ None → IsKeptOf log old → IsGroupOf (log ++ new ∷ []) old.pg group
+pub kept-told : (log : List Entry) (new : Entry) (old : KeptGroup) (group : Group) → inc_of new ≡ None → IsKeptOf log old → IsGroupOf (log ++ new ∷ []) old.pg group
     → IsKeptOf (log ++ new ∷ []) (record old { group = group; view = None })
 kept-told log new old group none is told = record {
   group_is = reached-now (log ++ new ∷ []) old.pg group told;
@@ -233,13 +233,13 @@ kept-told log new old group none is told = record {
 }
 
 -- a group is there by an incremental
-pub kept-inc : (log : List Entry) (kept : Kept) → IsKeptOf log kept → HasInc log
+pub kept-inc : (log : List Entry) (kept : KeptGroup) → IsKeptOf log kept → HasInc log
 kept-inc log kept is = inc-of-group log kept.pg (reaching (epoch (incs_of log)) kept.group) is.group_is
 
 -- ---- an incremental that the group takes
 
 -- where the group lies by the incremental's map
-pub lies-next : (log : List Entry) (inc : Incremental) (before : MapBefore) (after : OsdMap) (old moved : Kept) (members : Membership) → IsStep log inc before after → moved.pg ≡ old.pg
+pub lies-next : (log : List Entry) (inc : Incremental) (before : MapBefore) (after : OsdMap) (old moved : KeptGroup) (members : Membership) → IsStep log inc before after → moved.pg ≡ old.pg
     → IsRawSet (incs_of (log ++ entry.Inc inc ∷ [])) old.pg moved.raw
     → ((incs : List Incremental) → IsMapOf incs after → option_map (λ made. members_from_up incs made moved.pg (without_down incs made moved.raw)) (pool incs moved.pg.pool) ≡ Some members)
     → membership (then_with (incs_of log) inc) moved.pg ≡ Some members
@@ -249,12 +249,12 @@ lies-next log inc before after old moved members step same placed lies =
     filtered (then_with (incs_of log) inc) moved.pg moved.raw members now (lies (then_with (incs_of log) inc) step.after_is)
 
 -- the group, brought to the epoch of the log, is still that of the log
-pub group-still : (log : List Entry) (old : Kept) (pg : PgId) (stood : Group) (at : ℕ) → IsKeptOf log old → pg ≡ old.pg → stood ≡ reaching at old.group → at ≡ epoch (incs_of log) → IsGroupOf log pg stood
+pub group-still : (log : List Entry) (old : KeptGroup) (pg : PgId) (stood : Group) (at : ℕ) → IsKeptOf log old → pg ≡ old.pg → stood ≡ reaching at old.group → at ≡ epoch (incs_of log) → IsGroupOf log pg stood
 group-still log old pg stood at is same stands here =
     subst (λ (id : PgId). IsGroupOf log id stood) (sym same)
     (subst (λ (g : Group). IsGroupOf log old.pg g) (sym (stands ∙ ap (λ (e : ℕ). reaching e old.group) here)) is.group_is)
 
-pub kept-moved : (log : List Entry) (inc : Incremental) (before : MapBefore) (after : OsdMap) (old moved : Kept) (stood group : Group) (members : Membership) (facts : PrimaryFacts) → IsStep log inc before after → IsKeptOf log old
+pub kept-moved : (log : List Entry) (inc : Incremental) (before : MapBefore) (after : OsdMap) (old moved : KeptGroup) (stood group : Group) (members : Membership) (facts : PrimaryFacts) → IsStep log inc before after → IsKeptOf log old
     → moved.pg ≡ old.pg → IsRawSet (incs_of (log ++ entry.Inc inc ∷ [])) old.pg moved.raw → moved.temp ≡ temp (incs_of (log ++ entry.Inc inc ∷ [])) old.pg
     → ((incs : List Incremental) → IsMapOf incs after → option_map (λ made. members_from_up incs made moved.pg (without_down incs made moved.raw)) (pool incs moved.pg.pool) ≡ Some members)
     → IsGroupOf log moved.pg stood → group_facts (incs_of log) moved.pg ≡ Some facts
@@ -274,18 +274,18 @@ kept-moved log inc before after old moved stood group members facts step is same
 -- ---- the group is worked out
 
 -- what it keeps may change, as long as it stands for the same log
-pub kept-anew : (log : List Entry) (old : Kept) (group : Group) → IsKeptOf log old → IsGroupOf log old.pg group → IsKeptOf log (record old { group = group })
+pub kept-anew : (log : List Entry) (old : KeptGroup) (group : Group) → IsKeptOf log old → IsGroupOf log old.pg group → IsKeptOf log (record old { group = group })
 kept-anew log old group is stands = record { group_is = reached-now log old.pg group stands; raw_is = is.raw_is; temp_is = is.temp_is; view_is = is.view_is }
 
-pub kept-worked_out : (log : List Entry) (old : Kept) (group : Group) (view : View) → IsKeptOf log old → IsGroupOf log old.pg group → scratch log old.pg ≡ Some view
+pub kept-worked_out : (log : List Entry) (old : KeptGroup) (group : Group) (view : View) → IsKeptOf log old → IsGroupOf log old.pg group → scratch log old.pg ≡ Some view
     → IsKeptOf log (record old { group = group; view = Some view })
 kept-worked_out log old group view is stands says =
     record { group_is = reached-now log old.pg group stands; raw_is = is.raw_is; temp_is = is.temp_is; view_is = view-now log old.pg view says }
 
 -- ---- the group is told of
 
--- the view that is kept is that of the log, but for count and epoch
-pub view-there : (pg : PgId) (kept : Kept) (P : List Entry → Type 0) (told : Option (Bor View)) → option_copied told ≡ kept.view → kept.pg ≡ pg → ((log : List Entry) → P log → IsKeptOf log kept)
+-- the view that is kept is that of the log, except for count and epoch
+pub view-there : (pg : PgId) (kept : KeptGroup) (P : List Entry → Type 0) (told : Option (Bor View)) → option_copied told ≡ kept.view → kept.pg ≡ pg → ((log : List Entry) → P log → IsKeptOf log kept)
     → IfSome told (λ view. (log : List Entry) → P log → IsViewOf log pg view.now)
 view-there pg kept P None is same each = tt
 view-there pg kept P (Some view) is same each = λ log holds.

@@ -10,7 +10,9 @@ pub mod RawSetLemmas
 pub mod ComingLemmas
 pub mod MapBeforeLemmas
 pub mod KeptLemmas
+pub mod OsdFilterLemmas
 pub mod TouchLemmas
+pub mod RowLemmas
 pub mod GroupsLemmas
 pub mod PassingLemmas
 pub mod MarksLemmas

@@ -18,15 +18,15 @@ use Rattle.pgp_lists.proofs.Lists.{none-each}
 use Rattle.pgp_lists.specs.Repeats.{has_repeat}
 use Rattle.pgp_map.specs.Pools.{is_same_group}
 use Rattle.pgp_group.specs.Touched.{changes_pool, changes_temp, is_touched, moves_all}
-use Rattle.pgp_log.specs.Kept.{AreAllMarked, AreAtPlaces, ids_of, is_marked, marks_in, marks_of}
+use Rattle.pgp_log.specs.KeptGroup.{AreAllMarked, AreAtPlaces, ids_of, is_marked, marks_in, marks_of}
 use Rattle.pgp_log.specs.Shard.{is_among, without}
 use Rattle.pgp_log.specs.declared.groups.Groups.{Groups}
-use Rattle.pgp_log.specs.declared.kept.Kept.{Kept}
+use Rattle.pgp_log.specs.declared.kept_group.KeptGroup.{KeptGroup}
 use Rattle.pgp_log.proofs.GroupsLemmas.{missing-group, other-group, place-holds, same-self}
 use Rattle.pgp_log.proofs.PassingLemmas.{all-other, any-passing, drop-few, drop-more, front-fails, front-passes, passing-fails, passing-once, unmarked}
 use Rattle.pgp_log.proofs.RawSetLemmas.{same_group}
 
-abbrev pg_of : Kept → PgId
+abbrev pg_of : KeptGroup → PgId
 pg_of kept = kept.pg
 
 -- ---- one of the groups changes
@@ -37,7 +37,7 @@ any-set p (x ∷ xs) zero old new at same = let here : x ≡ old = cc in ap (λ 
 any-set p (x ∷ xs) (suc i) old new at same = ap (λ b. p x || b) (any-set p xs i old new at same)
 
 -- another group is marked where it was before
-pub marks-set : (xs : List Kept) (i : ℕ) (old new : Kept) (pg : PgId) → slice_get xs i ≡ Some old → new.pg ≡ old.pg → (is_same_group pg old.pg ≡ true → new.view ≡ old.view)
+pub marks-set : (xs : List KeptGroup) (i : ℕ) (old new : KeptGroup) (pg : PgId) → slice_get xs i ≡ Some old → new.pg ≡ old.pg → (is_same_group pg old.pg ≡ true → new.view ≡ old.view)
     → is_among pg (marks_in (set xs i new)) ≡ is_among pg (marks_in xs)
 marks-set xs i old new pg at same keeps =
     any-passing is_marked pg_of (is_same_group pg) (set xs i new)
@@ -49,7 +49,7 @@ marks-set xs i old new pg at same keeps =
     alike false is = ap (λ b. is_marked new && b) is ∙ and-false (is_marked new) ∙ sym (ap (λ b. is_marked old && b) is ∙ and-false (is_marked old))
 
 -- another group is marked where it was before one comes
-pub marks-push : (xs : List Kept) (kept : Kept) (pg : PgId) → is_same_group pg kept.pg ≡ false → is_among pg (marks_in (xs ++ kept ∷ [])) ≡ is_among pg (marks_in xs)
+pub marks-push : (xs : List KeptGroup) (kept : KeptGroup) (pg : PgId) → is_same_group pg kept.pg ≡ false → is_among pg (marks_in (xs ++ kept ∷ [])) ≡ is_among pg (marks_in xs)
 marks-push xs kept pg differs =
     any-passing is_marked pg_of (is_same_group pg) (xs ++ kept ∷ [])
     ∙ list_any-append (λ k. is_marked k && is_same_group pg k.pg) xs (kept ∷ [])
@@ -71,7 +71,7 @@ pub there-unmarked : (view : Option View) → is_some view ≡ not (is_none view
 there-unmarked None = refl
 there-unmarked (Some x) = refl
 
-pub marks-asked : (old groups : Groups) (pg : PgId) (place : ℕ) (kept after : Kept) → AreAtPlaces old → hash.get is_same_group old.places pg ≡ Some place → slice_get old.kept.items place ≡ Some kept
+pub marks-asked : (old groups : Groups) (pg : PgId) (place : ℕ) (kept after : KeptGroup) → AreAtPlaces old → hash.get is_same_group old.places pg ≡ Some place → slice_get old.kept.items place ≡ Some kept
     → is_some after.view ≡ true → groups.kept.items ≡ set old.kept.items place after → marks_of groups ≡ without pg (marks_of old)
 marks-asked old groups pg place kept after are is at there items =
     ap marks_in items
@@ -82,7 +82,7 @@ marks-asked old groups pg place kept after are is at there items =
 pub marks-elsewhere : (groups : Groups) (pg : PgId) → AreAtPlaces groups → hash.get is_same_group groups.places pg ≡ None → marks_of groups ≡ without pg (marks_of groups)
 marks-elsewhere groups pg are none = all-other is_marked pg_of (is_same_group pg) groups.kept.items (λ j kept at. missing-group groups pg j kept are none at)
 
--- none but the one at this place passes
+-- only the one at this place may pass
 any-of-one : {X : Type 0} (p : X → Bool) (xs : List X) (i : ℕ) (x : X) → slice_get xs i ≡ Some x → ((j : ℕ) (y : X) → (j ≡ i → ⊥) → slice_get xs j ≡ Some y → p y ≡ false)
     → list_any p xs ≡ p x
 any-of-one p [] i x at others = cc
@@ -94,7 +94,7 @@ any-of-one p (y ∷ xs) (suc i) x at others =
     ∙ any-of-one p xs i x at (λ j z differs found. others (suc j) z (λ e. differs (omega (arith, e))) found)
 
 -- a group is among the marks just where what is kept of it is marked
-pub marked-at : (groups : Groups) (pg : PgId) (place : ℕ) (kept : Kept) → AreAtPlaces groups → hash.get is_same_group groups.places pg ≡ Some place → slice_get groups.kept.items place ≡ Some kept
+pub marked-at : (groups : Groups) (pg : PgId) (place : ℕ) (kept : KeptGroup) → AreAtPlaces groups → hash.get is_same_group groups.places pg ≡ Some place → slice_get groups.kept.items place ≡ Some kept
     → is_among pg (marks_of groups) ≡ is_marked kept
 marked-at groups pg place kept are is at =
     any-passing is_marked pg_of (is_same_group pg) groups.kept.items
@@ -105,14 +105,14 @@ marked-at groups pg place kept are is at =
 -- ---- marked groups are worked out, as many as may be
 
 -- the groups before this place: the marked ones but the first are marked still
-pub record IsRenewing (first now : List Kept) (max i more left : ℕ) : Type 0 where
+pub record IsRenewing (first now : List KeptGroup) (max i more left : ℕ) : Type 0 where
   pub marks : marks_in (take i now) ≡ drop max (marks_in (take i first))
   pub room : more ≡ max - length (marks_in (take i first))
   pub still : left ≡ length (marks_in (take i now))
   pub few : left ≤ i
 
 -- a group that isn't marked
-pub renewing-passes : (first now : List Kept) (max i more left : ℕ) (kept : Kept) → slice_get first i ≡ Some kept → slice_get now i ≡ Some kept → is_marked kept ≡ false
+pub renewing-passes : (first now : List KeptGroup) (max i more left : ℕ) (kept : KeptGroup) → slice_get first i ≡ Some kept → slice_get now i ≡ Some kept → is_marked kept ≡ false
     → IsRenewing first now max i more left → IsRenewing first now max (i + 1) more left
 renewing-passes first now max i more left kept was at fails is =
     let before : marks_in (take (i + 1) first) ≡ marks_in (take i first) = front-fails is_marked pg_of first i kept was fails in
@@ -125,7 +125,7 @@ renewing-passes first now max i more left kept was at fails is =
     }
 
 -- a marked group, where no more may be worked out
-pub renewing-leaves : (first now : List Kept) (max i more left : ℕ) (kept : Kept) → slice_get first i ≡ Some kept → slice_get now i ≡ Some kept → is_marked kept ≡ true → more ≡ 0
+pub renewing-leaves : (first now : List KeptGroup) (max i more left : ℕ) (kept : KeptGroup) → slice_get first i ≡ Some kept → slice_get now i ≡ Some kept → is_marked kept ≡ true → more ≡ 0
     → IsRenewing first now max i more left → IsRenewing first now max (i + 1) more (left + 1)
 renewing-leaves first now max i more left kept was at passes none is =
     let before : marks_in (take (i + 1) first) ≡ marks_in (take i first) ++ kept.pg ∷ [] = front-passes is_marked pg_of first i kept was passes in
@@ -142,7 +142,7 @@ renewing-leaves first now max i more left kept was at passes none is =
     }
 
 -- a marked group is worked out
-pub renewing-renews : (first now : List Kept) (max i more left : ℕ) (kept after : Kept) → slice_get first i ≡ Some kept → slice_get now i ≡ Some kept → is_marked kept ≡ true → is_some after.view ≡ true → 0 < more
+pub renewing-renews : (first now : List KeptGroup) (max i more left : ℕ) (kept after : KeptGroup) → slice_get first i ≡ Some kept → slice_get now i ≡ Some kept → is_marked kept ≡ true → is_some after.view ≡ true → 0 < more
     → IsRenewing first now max i more left → IsRenewing first (set now i after) max (i + 1) (more - 1) left
 renewing-renews first now max i more left kept after was at passes there some is =
     let before : marks_in (take (i + 1) first) ≡ marks_in (take i first) ++ kept.pg ∷ [] = front-passes is_marked pg_of first i kept was passes in
@@ -160,7 +160,7 @@ renewing-renews first now max i more left kept after was at passes there some is
     }
 
 -- one that is marked is among the marks
-pub some-marked : (groups : List Kept) (i : ℕ) (kept : Kept) → slice_get groups i ≡ Some kept → is_marked kept ≡ true → 0 < length (marks_in groups)
+pub some-marked : (groups : List KeptGroup) (i : ℕ) (kept : KeptGroup) → slice_get groups i ≡ Some kept → is_marked kept ≡ true → 0 < length (marks_in groups)
 some-marked [] i kept at marked = cc
 some-marked (first ∷ groups) zero kept at marked = let here : first ≡ kept = cc in rw (ap is_marked here ∙ marked) (omega arith)
 some-marked (first ∷ groups) (suc i) kept at marked = by (is_marked first) refl (some-marked groups i kept at marked) where
@@ -170,11 +170,11 @@ some-marked (first ∷ groups) (suc i) kept at marked = by (is_marked first) ref
 
 -- ---- each group is marked
 
-pub all-marks : (groups : List Kept) → AreAllMarked groups → marks_in groups ≡ ids_of groups
+pub all-marks : (groups : List KeptGroup) → AreAllMarked groups → marks_in groups ≡ ids_of groups
 all-marks [] all = refl
 all-marks (kept ∷ groups) all =
-    let here : is_marked kept ≡ true = All-head (λ (k : Kept). is_marked k ≡ true) kept groups all in
-    rw here (ap (λ ids. kept.pg ∷ ids) (all-marks groups (All-tail (λ (k : Kept). is_marked k ≡ true) kept groups all)))
+    let here : is_marked kept ≡ true = All-head (λ (k : KeptGroup). is_marked k ≡ true) kept groups all in
+    rw here (ap (λ ids. kept.pg ∷ ids) (all-marks groups (All-tail (λ (k : KeptGroup). is_marked k ≡ true) kept groups all)))
 
 -- ---- each group once
 
@@ -234,3 +234,8 @@ ok-anyhow (Err e) P holds = tt
 pub ok-two : {T E : Type 0} (r : Result T E) (P Q R : Type 0) → (P → Q → R) → OnOk r P → OnOk r Q → OnOk r R
 ok-two (Ok x) P Q R goes one two = goes one two
 ok-two (Err e) P Q R goes one two = tt
+
+-- and what follows from three
+pub ok-three : {T E : Type 0} (r : Result T E) (P Q R S : Type 0) → (P → Q → R → S) → OnOk r P → OnOk r Q → OnOk r R → OnOk r S
+ok-three (Ok x) P Q R S goes one two three = goes one two three
+ok-three (Err e) P Q R S goes one two three = tt

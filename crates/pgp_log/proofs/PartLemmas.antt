@@ -10,7 +10,7 @@ use Rattle.pgp_group.specs.Entries.{incs_of}
 use Rattle.pgp_group.specs.Touched.{is_touched}
 use Rattle.pgp_log.specs.Derived.{CanAbsorb, IsDerivedOf, IsPartOf, owns, shard_with}
 use Rattle.pgp_log.specs.Fits.{fits}
-use Rattle.pgp_log.specs.Kept.{AreAllMarked, marks_of}
+use Rattle.pgp_log.specs.KeptGroup.{AreAllMarked, marks_of}
 use Rattle.pgp_log.specs.Shard.{AreMarked, MarksOnlyTouched, is_among}
 use Rattle.pgp_log.specs.declared.derived.Derived.{Derived}
 use Rattle.pgp_log.specs.declared.owner.Owner.{Owner}

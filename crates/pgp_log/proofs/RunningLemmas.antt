@@ -8,8 +8,8 @@ use Rattle.std.proofs.lemmas.List.{drop-map, get_or-map, get_or-set_other, get_o
 use Rattle.std.proofs.lemmas.List.FromFn.{get_or-map-range_with_len}
 use Rattle.pgp_lists.proofs.Lists.{take-front}
 use Rattle.pgp_lists.proofs.Ranges.{range_with_len-suc}
-use Rattle.pgp_refusals.specs.declared.ask_refusal.AskRefusal.{AskRefusal}
-use Rattle.pgp_refusals.specs.declared.ask_refusal.AskRefusal.TheVariants.{UnknownGroup, Memory}
+use Rattle.pgp_ids.specs.declared.ask_refusal.AskRefusal.{AskRefusal}
+use Rattle.pgp_ids.specs.declared.ask_refusal.AskRefusal.TheVariants.{UnknownGroup, Memory}
 use Rattle.pgp_ids.specs.declared.entry.Entry.{Entry}
 use Rattle.pgp_ids.specs.declared.pg_id.PgId.{PgId}
 use Rattle.pgp_ids.specs.declared.view.View.{View}
@@ -85,11 +85,11 @@ longer-running log judge new shards entry is judged = record {
 
 -- ---- a shard reads on
 
--- so many entries from a place on
+-- this many entries from a place on
 next-few : {X : Type 0} (f : X → Entry) (xs : List X) (n m : ℕ) → map f (take m (drop n xs)) ≡ take m (drop n (map f xs))
 next-few f xs n m = sym (take-map f m (drop n xs)) ∙ ap (take m) (sym (drop-map f n xs))
 
--- what follows the front in the log, so many entries of it
+-- what follows the front in the log, this many entries of it
 read-on : {X : Type 0} (f : X → Entry) (xs : List X) (front : List Entry) (m : ℕ) → IsFrontOf front (map f xs)
     → front ++ map f (take m (drop (length front) xs)) ≡ take (length front + m) (map f xs)
 read-on f xs front m is =
@@ -106,7 +106,7 @@ read-fewer f xs front m r is fewer =
 few : {X : Type 0} (f : X → Entry) (ys : List X) (m r : ℕ) → r < length (map f (take m ys)) → r < m
 few f ys m r below = omega (arith, below, length-map (take m ys) f, length-take m ys)
 
--- the shard has read so many entries of the log
+-- the shard has read this many entries of the log
 abbrev ReadsTo : List Entry → ℕ → Shard → Shard → Type 0
 ReadsTo log p old new = HasReadSame (record old { front = take p log }) new
 

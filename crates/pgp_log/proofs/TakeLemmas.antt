@@ -8,8 +8,8 @@ use Rattle.pgp_lists.proofs.Options.{if_none}
 use Rattle.pgp_ids.specs.declared.entry.Entry.{Entry}
 use Rattle.pgp_ids.specs.declared.entry.Entry.TheVariants as entry
 use Rattle.pgp_ids.specs.declared.incremental.Incremental.{Incremental}
-use Rattle.pgp_refusals.specs.declared.refusal.Refusal.{Refusal}
-use Rattle.pgp_refusals.specs.declared.refusal.Refusal.TheVariants as refusal
+use Rattle.pgp_ids.specs.declared.refusal.Refusal.{Refusal}
+use Rattle.pgp_ids.specs.declared.refusal.Refusal.TheVariants as refusal
 use Rattle.pgp_map.proofs.CheckedLemmas.{checked-more}
 use Rattle.pgp_map.proofs.FaultLemmas.{no_fault}
 use Rattle.pgp_map.specs.Checked.{are_checked}

@@ -13,8 +13,7 @@ use Rattle.pgp_ids.specs.declared.pg_id.PgId.{PgId}
 use Rattle.pgp_ids.specs.declared.pool.PoolSizes.{PoolSizes}
 use Rattle.pgp_ids.specs.declared.pool.PoolSpec.{PoolSpec}
 use Rattle.pgp_ids.specs.declared.view.View.{View}
-use Rattle.pgp_map.specs.MapFault.{map_fault, then_with}
-use Rattle.pgp_map.specs.MapOf.{IsMapOf}
+use Rattle.pgp_map.specs.MapFault.{map_fault}
 use Rattle.pgp_map.specs.Pools.{temp}
 use Rattle.pgp_map.specs.declared.map.OsdMap.{OsdMap}
 use Rattle.pgp_sets.proofs.RawSetLemmas.{raw_set-stays}
@@ -25,9 +24,9 @@ use Rattle.pgp_group.proofs.UntoldLemmas.{IsLeft, temp-same}
 use Rattle.pgp_group.specs.Entries.{incs_of}
 use Rattle.pgp_group.specs.Touched.{changed_devices, changes_pool, changes_temp, is_touched, may_lie_on, may_move, moves_all, turned_devices}
 use Rattle.pgp_log.specs.declared.before.MapBefore.{MapBefore}
-use Rattle.pgp_log.specs.Kept.{IsKeptOf, IsStep, IsViewOf, is_marked}
-use Rattle.pgp_log.specs.Touch.{changes_no_pool, changes_nothing, moves_none, tells_nothing, turns_none}
-use Rattle.pgp_log.specs.declared.kept.Kept.{Kept}
+use Rattle.pgp_log.specs.KeptGroup.{IsKeptOf, IsStep, IsViewOf, is_marked}
+use Rattle.pgp_log.specs.Touch.{changes_no_pool, changes_nothing, changes_placements, moves_none, tells_nothing, turns_none}
+use Rattle.pgp_log.specs.declared.kept_group.KeptGroup.{KeptGroup}
 use Rattle.pgp_log.proofs.KeptLemmas.{grown, kept_raw-stays, step-fine, untouched-inc, view-stays}
 
 -- ---- an incremental by which the group lies as before
@@ -40,7 +39,7 @@ unmoved inc pg left =
     rw (large.1, large.0, own.1) refl
 
 -- it sleeps on
-kept-lies : (log : List Entry) (inc : Incremental) (before : MapBefore) (after : OsdMap) (old : Kept) (view : Option View) → IsStep log inc before after → IsKeptOf log old → may_move (incs_of log) inc old.pg ≡ false
+kept-lies : (log : List Entry) (inc : Incremental) (before : MapBefore) (after : OsdMap) (old : KeptGroup) (view : Option View) → IsStep log inc before after → IsKeptOf log old → may_move (incs_of log) inc old.pg ≡ false
     → IfSome view (IsViewOf (log ++ entry.Inc inc ∷ []) old.pg) → IsKeptOf (log ++ entry.Inc inc ∷ []) (record old { view = view })
 kept-lies log inc before after old view step is still told =
     let fine : map_fault (incs_of log) inc ≡ None = step-fine log inc before after step in
@@ -53,12 +52,12 @@ kept-lies log inc before after old view step is still told =
     }
 
 -- the view is forgotten
-pub kept-marked : (log : List Entry) (inc : Incremental) (before : MapBefore) (after : OsdMap) (old : Kept) → IsStep log inc before after → IsKeptOf log old → may_move (incs_of log) inc old.pg ≡ false
+pub kept-marked : (log : List Entry) (inc : Incremental) (before : MapBefore) (after : OsdMap) (old : KeptGroup) → IsStep log inc before after → IsKeptOf log old → may_move (incs_of log) inc old.pg ≡ false
     → IsKeptOf (log ++ entry.Inc inc ∷ []) (record old { view = None })
 kept-marked log inc before after old step is still = kept-lies log inc before after old None step is still tt
 
 -- it was already
-pub kept-unseen : (log : List Entry) (inc : Incremental) (before : MapBefore) (after : OsdMap) (old : Kept) → is_marked old ≡ true → IsStep log inc before after → IsKeptOf log old → may_move (incs_of log) inc old.pg ≡ false
+pub kept-unseen : (log : List Entry) (inc : Incremental) (before : MapBefore) (after : OsdMap) (old : KeptGroup) → is_marked old ≡ true → IsStep log inc before after → IsKeptOf log old → may_move (incs_of log) inc old.pg ≡ false
     → IsKeptOf (log ++ entry.Inc inc ∷ []) old
 kept-unseen log inc before after old marked step is still = kept-lies log inc before after old old.view step is still (unseen old.view marked) where
   unseen : (view : Option View) → is_none view ≡ true → IfSome view (IsViewOf (log ++ entry.Inc inc ∷ []) old.pg)
@@ -66,7 +65,7 @@ kept-unseen log inc before after old marked step is still = kept-lies log inc be
   unseen (Some view) none = cc
 
 -- the incremental doesn't touch the group
-pub kept-stays : (log : List Entry) (inc : Incremental) (before : MapBefore) (after : OsdMap) (old : Kept) → IsStep log inc before after → IsKeptOf log old → is_touched log (entry.Inc inc) old.pg ≡ false
+pub kept-stays : (log : List Entry) (inc : Incremental) (before : MapBefore) (after : OsdMap) (old : KeptGroup) → IsStep log inc before after → IsKeptOf log old → is_touched log (entry.Inc inc) old.pg ≡ false
     → IsKeptOf (log ++ entry.Inc inc ∷ []) old
 kept-stays log inc before after old step is untouched =
     kept-lies log inc before after old old.view step is (untouched-unmoved log inc old.pg untouched)
@@ -85,9 +84,13 @@ empty-list : {X : Type 0} (xs : List X) → (length xs == 0) ≡ true → xs ≡
 empty-list [] none = refl
 empty-list (x ∷ xs) none = grind (arith, nat_tests)
 
-not_true : (b : Bool) → not b ≡ true → b ≡ false
+pub not_true : (b : Bool) → not b ≡ true → b ≡ false
 not_true true is = cc
 not_true false is = refl
+
+not_false : (b : Bool) → not b ≡ false → b ≡ true
+not_false true is = refl
+not_false false is = cc
 
 pub nothing-touched : (log : List Entry) (inc : Incremental) (pg : PgId) → changes_nothing inc ≡ true → is_touched log (entry.Inc inc) pg ≡ false
 nothing-touched log inc pg nothing =
@@ -111,6 +114,14 @@ nothing-touched log inc pg nothing =
       empty-list inc.up_thru f.1,
       empty-list inc.lost e.1,
     ) refl
+
+-- an incremental that changes no placement at all changes that of no group
+pub nothing-placed : (inc : Incremental) (pg : PgId) → changes_placements inc ≡ false → (moves_all inc || changes_pool inc pg.pool || changes_temp inc pg) ≡ false
+nothing-placed inc pg none =
+    let a = or_parts (moves_all inc) (not (changes_no_pool inc)) none in
+    let c = and_parts ((length inc.pools == 0) && (length inc.sizes == 0)) (length inc.temp == 0) (not_false (changes_no_pool inc) a.1) in
+    let d = and_parts (length inc.pools == 0) (length inc.sizes == 0) c.0 in
+    rw (a.0, empty-list inc.pools d.0, empty-list inc.sizes d.1, empty-list inc.temp c.1) refl
 
 -- ---- with which devices the group has to do
 

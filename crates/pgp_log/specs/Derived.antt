@@ -9,7 +9,7 @@ use Rattle.pgp_map.specs.MapOf.{IsMapOf}
 use Rattle.pgp_map.specs.Pools.{has_group}
 use Rattle.pgp_group.specs.Entries.{incs_of}
 use Rattle.pgp_log.specs.Fits.{fits}
-use Rattle.pgp_log.specs.Kept.{AreAllMarked, AreGroupsOf, IsStep, KeepsAll, keeps, marks_of}
+use Rattle.pgp_log.specs.KeptGroup.{AreAllMarked, AreGroupsOf, IsStep, KeepsAll, keeps, marks_of}
 use Rattle.pgp_log.specs.Log.{is_legal}
 use Rattle.pgp_log.specs.Shard.{Shard, is_own}
 use Rattle.pgp_log.specs.declared.before.MapBefore.{MapBefore}
@@ -45,8 +45,8 @@ pub record IsDerivedOf (owner : Owner) (log : List Entry) (derived : Derived) : 
   pub groups_are : AreGroupsOf log derived.groups
   pub own_are : HasOwn owner (incs_of log) derived
 
--- the map has an incremental that comes next in the log; the owner's groups that the map before has are kept, and none but the
--- owner's groups that the map after has
+-- the map has an incremental that comes next in the log; the owner's groups that the map before has are kept, and only groups
+-- of the owner that the map after has
 pub record IsStepping (owner : Owner) (log : List Entry) (inc : Incremental) (derived : Derived) : Type 0 where
   pub before : MapBefore
   pub step : IsStep log inc before derived.map

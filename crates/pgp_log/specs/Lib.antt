@@ -10,7 +10,8 @@ pub mod Locate
 pub mod RawSets
 pub mod Touch
 pub mod MapBefore
-pub mod Kept
+pub mod OsdFilter
+pub mod KeptGroup
 pub mod Derived
 pub mod Examples
 pub mod Worked

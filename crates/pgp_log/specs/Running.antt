@@ -6,7 +6,7 @@ use Rattle.pgp_log.specs.Log.{IsFrontOf}
 use Rattle.pgp_log.specs.Shard.{Shard, opening_shard}
 use Rattle.pgp_log.specs.declared.judge.Judge.{Judge}
 
--- the shard of this number, of so many, has read a front of the log
+-- the shard of this number, of this many shards, has read a front of the log
 pub record IsReading (log : List Entry) (shards n : ℕ) (s : Shard) : Type 0 where
   pub front_is : IsFrontOf s.front log
   pub shard_is : s.shard ≡ n

@@ -26,7 +26,7 @@ opening_shard shard shards = record { front = []; shard = shard; shards = shards
 abbrev pub shard_of : ℕ → PgId → ℕ
 shard_of shards pg = (pg.pool + pg.pg) % shards
 
--- the group is one of this shard's, of so many
+-- the group is one of this shard's, where there are this many shards
 abbrev pub is_own : ℕ → ℕ → PgId → Bool
 is_own shard shards pg = nat_eq (shard_of shards pg) shard
 
@@ -76,7 +76,7 @@ pub record AreMarked (s : Shard) (ids : List PgId) : Type 0 where
   pub once : has_repeat is_same_group ids ≡ false
   pub in_order : IfSome s.marks (λ marks. ids ≡ marks)
 
--- the entry marks none but the groups that it touches: each other is marked after it just where it was before; and the marks
+-- the entry marks only groups that it touches: each other is marked after it just where it was before; and the marks
 -- stay there, or stay away
 pub record MarksOnlyTouched (new : Entry) (before after : Shard) : Type 0 where
   pub others : (pg : PgId) → is_touched before.front new pg ≡ false → is_marked after pg ≡ is_marked before pg
@@ -88,7 +88,7 @@ pub record IsUnmarked (pg : PgId) (before after : Shard) : Type 0 where
   pub were : AreMarked before marked
   pub left : after.marks ≡ Some (without pg marked)
 
--- so many marks are taken away, or all; the marks are there
+-- this many marks are taken away, or all; the marks are there
 pub record AreUnmarked (max : ℕ) (before after : Shard) : Type 0 where
   pub marked : List PgId
   pub were : AreMarked before marked

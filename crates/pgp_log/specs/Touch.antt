@@ -1,5 +1,5 @@
 -- What an incremental changes at all (this project's own choice).
-use Rattle.std.specs.Prelude.{length, Bool, ◌&&◌, not, ◌==◌}
+use Rattle.std.specs.Prelude.{length, Bool, ◌&&◌, ◌||◌, not, ◌==◌}
 use Rattle.pgp_ids.specs.declared.incremental.Incremental.{Incremental}
 use Rattle.pgp_group.specs.Touched.{moves_all}
 
@@ -18,6 +18,10 @@ changes_no_pool inc = (length inc.pools == 0) && (length inc.sizes == 0) && (len
 -- the incremental moves no group: it changes no placement, no pool and no pg_temp list, and turns no device
 abbrev pub moves_none : Incremental → Bool
 moves_none inc = not (moves_all inc) && changes_no_pool inc && turns_none inc
+
+-- the incremental may change where some group lies, whatever becomes of devices
+abbrev pub changes_placements : Incremental → Bool
+changes_placements inc = moves_all inc || not (changes_no_pool inc)
 
 -- the incremental changes the epoch alone
 abbrev pub changes_nothing : Incremental → Bool

@@ -2,11 +2,11 @@
 -- project's own choice).
 use Rattle.std.specs.Prelude.{ℕ, ◌+◌, List, [], ◌∷◌, ◌++◌, length, min, replicate, slice_index, slice_set, Option, Some, None, Result, Ok, Err}
 use Rattle.std.specs.declared.alloc.AllocError.{AllocError}
-use Rattle.pgp_refusals.specs.declared.ask_refusal.AskRefusal.{AskRefusal}
-use Rattle.pgp_refusals.specs.declared.ask_refusal.AskRefusal.TheVariants.{UnknownGroup}
+use Rattle.pgp_ids.specs.declared.ask_refusal.AskRefusal.{AskRefusal}
+use Rattle.pgp_ids.specs.declared.ask_refusal.AskRefusal.TheVariants.{UnknownGroup}
 use Rattle.pgp_ids.specs.declared.entry.Entry.{Entry}
 use Rattle.pgp_ids.specs.declared.pg_id.PgId.{PgId}
-use Rattle.pgp_refusals.specs.declared.refusal.Refusal.{Refusal}
+use Rattle.pgp_ids.specs.declared.refusal.Refusal.{Refusal}
 use Rattle.pgp_ids.specs.declared.view.View.{View}
 use Rattle.pgp_group.specs.View.{scratch}
 use Rattle.pgp_log.specs.Fits.{fits}
@@ -18,11 +18,11 @@ pub record World : Type 0 where
   pub log : List Entry
   pub read : List ℕ
 
--- the world of so many shards at its start
+-- the world of this many shards at its start
 abbrev pub opening : ℕ → World
 opening shards = record { log = []; read = replicate shards 0 }
 
--- the world of so many shards with this log, of which no shard has read an entry
+-- the world of this many shards with this log, of which no shard has read an entry
 abbrev pub opening_over : ℕ → List Entry → World
 opening_over shards log = record (opening shards) { log = log }
 
@@ -39,7 +39,7 @@ abbrev pub after_submit : World → Entry → Option Refusal → World
 after_submit w entry None = with_entry w entry
 after_submit w entry (Some refusal) = w
 
--- the world after a shard has read at most so many further entries
+-- the world after a shard has read at most this many further entries
 abbrev pub after_absorb : World → ℕ → ℕ → World
 after_absorb w shard count =
     record w { read = slice_set w.read shard (min (slice_index w.read shard + count) (length w.log)) }

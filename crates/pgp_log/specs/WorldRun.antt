@@ -1,9 +1,9 @@
 -- Runs of a world in which a step may lack memory. Such a step changes nothing, but a shard that was reading may have read
 -- the first few of its entries (this project's own choice). No memory is wanting to answer by a front without an incremental.
 use Rattle.std.specs.Prelude.{◌≡◌, ℕ, ◌<◌, List, [], ◌∷◌, ◌++◌, length, take, drop, slice_index, if◌then◌else◌, ◌⊎◌, Bool, true, false, None, Ok, Err, alloc_error}
-use Rattle.pgp_refusals.specs.declared.ask_refusal.AskRefusal.TheVariants as ask
+use Rattle.pgp_ids.specs.declared.ask_refusal.AskRefusal.TheVariants as ask
 use Rattle.pgp_ids.specs.declared.entry.Entry.{Entry}
-use Rattle.pgp_refusals.specs.declared.refusal.Refusal.TheVariants as refusal
+use Rattle.pgp_ids.specs.declared.refusal.Refusal.TheVariants as refusal
 use Rattle.pgp_log.specs.Fits.{fits, is_closed}
 use Rattle.pgp_log.specs.Judge.{MapMayLack}
 use Rattle.pgp_log.specs.Log.{HasInc}
@@ -44,14 +44,14 @@ MayRun w [] (reply ∷ given) last = ⊥
 MayRun w (step ∷ steps) [] last = ⊥
 MayRun w (step ∷ steps) (reply ∷ given) last = (next : World) × (MayReply w step reply next × MayRun next steps given last)
 
--- the reply is want of memory
+-- the reply is out of memory
 abbrev pub is_want : Reply → Bool
 is_want (Submitted (Err refusal.Memory)) = true
 is_want (Absorbed (Err error)) = true
 is_want (Asked (Err ask.Memory)) = true
 is_want reply = false
 
--- what was done at a step that was answered so: a shard that lacked memory read so many entries, and another step that
+-- what was done at a step that was answered so: a shard that lacked memory read this many entries, and another step that
 -- lacked memory did nothing
 abbrev pub done_at : Step → Reply → ℕ → List Step
 done_at (Absorb shard count) (Absorbed (Err error)) read = Absorb shard read ∷ []

@@ -6,7 +6,7 @@ ghost use Rattle.pgp_group.specs.Touched.{told_at};
 use pgp_ids::{Epoch, MissingObject, Past, PeerMissing, PeerState, Seq, View};
 use std::alloc::{AllocError, Global};
 
-/// A copy of the view, at this epoch and after so many entries.
+/// A copy of the view, at this epoch and after this many entries.
 pub(crate) fn copy_at(
     alloc: Global,
     view: &View,

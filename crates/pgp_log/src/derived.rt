@@ -14,7 +14,7 @@ ghost use Rattle.pgp_group.specs.Entries.{incs_of};
 ghost use Rattle.pgp_group.specs.GroupHistory.{makes};
 ghost use Rattle.pgp_log.specs.Derived.{IsDerivedOf, IsStepping, CanStepOn, CanAbsorb, IsKeptIfOwn, HasOwn, HasStill, owns};
 ghost use Rattle.pgp_log.specs.Fits.{fits};
-ghost use Rattle.pgp_log.specs.Kept.{AreAllMarked, AreAtPlaces, IsViewOf, MarksTouched, marks_of};
+ghost use Rattle.pgp_log.specs.KeptGroup.{AreAllMarked, AreAtPlaces, IsViewOf, MarksTouched, marks_of};
 ghost use Rattle.pgp_log.specs.Log.{HasInc, epoch_of, is_legal};
 ghost use Rattle.pgp_log.specs.Shard.{is_among, without};
 ghost use Rattle.pgp_log.specs.declared.owner.Owner.{Owner as AnyOwner};
@@ -175,15 +175,15 @@ impl Derived {
         self.groups.work_out(&self.map, count, pg)
     }
 
-    /// What the entries say of a group of the owner, but for count and epoch, where the map has it and it isn't marked.
-    pub(crate) fn told(&self, pg: &PgId) -> Option<&View>
+    /// What the entries say of a group of the owner, except for count and epoch, where the map has it and it isn't marked.
+    pub(crate) fn view_of(&self, pg: &PgId) -> Option<&View>
         requires { AreAtPlaces self.now.groups }
         ensures view { IfSome result (λ view. (owner : AnyOwner) (log : List AnyEntry) → IsDerivedOf owner log self.now
             → IsViewOf log pg.now view.now) }
         ensures there { (owner : AnyOwner) (log : List AnyEntry) → IsDerivedOf owner log self.now → owns owner pg.now ≡ true
             → is_some result ≡ (has_group (incs_of log) pg.now && not (is_among pg.now (marks_of self.now.groups))) }
     {
-        self.groups.told(pg)
+        self.groups.view_of(pg)
     }
 
     /// The epoch of the map that the entries make.
@@ -196,6 +196,7 @@ impl Derived {
     /// Works out up to `max` of the groups that are marked. How many are marked still. `count` is the number of the entries.
     /// After an error it stands for the same entries.
     pub(crate) fn renew(&mut self, max: usize, count: usize) -> Result<usize, AllocError>
+        requires { AreAtPlaces self.old.groups }
         ensures is { (owner : AnyOwner) (log : List AnyEntry) → IsDerivedOf owner log self.old → length log ≡ count
             → IsDerivedOf owner log self.new }
         ensures marks { OnOk result (marks_of self.new.groups ≡ drop max (marks_of self.old.groups)) }

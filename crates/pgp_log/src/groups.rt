@@ -14,12 +14,13 @@ ghost use Rattle.pgp_log.specs.declared.before.MapBefore.{MapBefore as AnyBefore
 ghost use Rattle.pgp_group.specs.Entries.{inc_of, incs_of};
 ghost use Rattle.pgp_group.specs.GroupOf.{TellsNothingAhead};
 ghost use Rattle.pgp_group.specs.Touched.{is_touched};
-ghost use Rattle.pgp_log.specs.Kept.{AreKeptOf, AreAtPlaces, AreGroupsOf, IsStep, IsViewOf, CanStepAll, ids_of, marks_in, marks_of, AreAllMarked, keeps, MarksTouched};
+ghost use Rattle.pgp_log.specs.KeptGroup.{AreKeptOf, AreAtPlaces, AreGroupsOf, AreRowsOf, IsStep, IsViewOf, CanStepAll, ids_of, marks_in, marks_of, AreAllMarked, keeps, MarksTouched};
 ghost use Rattle.pgp_log.specs.Shard.{is_among, without};
 ghost use Rattle.pgp_log.specs.Log.{HasInc, epoch_of};
 
 use super::before::MapBefore;
-use super::kept::Kept;
+use super::kept_group::KeptGroup;
+use super::row::{Changes, Row};
 use super::touch::{changes_nothing, moves_none};
 use pgp_ids::{Entry, Epoch, Incremental, PgId, View};
 use pgp_map::OsdMap;
@@ -29,9 +30,11 @@ use std::collections::HashMap;
 /// Groups, each of them once.
 #[derive(Drop)]
 pub(crate) struct Groups {
-    /// At which place of the list each group stands.
+    /// At which place of the lists each group stands.
     places: HashMap<PgId, usize>,
-    kept: Vec<Kept>,
+    /// The row of each group, at its place.
+    rows: Vec<Row>,
+    kept: Vec<KeptGroup>,
     /// Whether one of them was worked out: until then all are marked.
     some_worked_out: bool,
 }
@@ -45,6 +48,7 @@ impl Groups {
     {
         Groups {
             places: HashMap::new(alloc),
+            rows: Vec::new(alloc),
             kept: Vec::new(alloc),
             some_worked_out: false,
         }
@@ -74,7 +78,9 @@ impl Groups {
             return Ok(());
         }
         let place = self.kept.len();
-        self.kept.push(Kept::begin(alloc, after, pg))?;
+        let kept = KeptGroup::begin(alloc, after, pg);
+        self.rows.push(kept.row())?;
+        self.kept.push(kept)?;
         self.places.insert(pg, place)?;
         Ok(())
     }
@@ -87,7 +93,7 @@ impl Groups {
         after: &OsdMap,
         inc: &Incremental,
     ) -> Result<(), AllocError>
-        requires { CanStepAll self.old.kept.items inc.now before.now after.now }
+        requires { CanStepAll self.old.rows.items self.old.kept.items inc.now before.now after.now }
         ensures ok { OnOk result ((log : List AnyEntry) → AreGroupsOf log self.old → IsStep log inc.now before.now after.now
             → AreGroupsOf (log ++ entry.Inc inc.now ∷ []) self.new) }
         ensures marks { OnOk result ((log : List AnyEntry) → AreGroupsOf log self.old → IsStep log inc.now before.now after.now
@@ -101,7 +107,8 @@ impl Groups {
         if !self.some_worked_out && moves_none(inc) {
             return Ok(());
         }
-        absorb_inc(self.kept.as_mut_slice(), before, after, inc)
+        let rows = self.rows.as_mut_slice();
+        absorb_inc(rows, self.kept.as_mut_slice(), before, after, inc)
     }
 
     /// Takes an entry that brings no map, but perhaps a report of this group. `epoch` is the current one. After an `Err` they are
@@ -126,7 +133,9 @@ impl Groups {
         match self.find(pg) {
             Some(place) => {
                 let kept = &mut self.kept[place];
-                kept.absorb_report(entry, epoch)
+                let taken = kept.absorb_report(entry, epoch);
+                self.rows[place] = kept.row();
+                taken
             }
             None => Ok(()),
         }
@@ -154,15 +163,17 @@ impl Groups {
             Some(place) => {
                 self.some_worked_out = true;
                 let found = &mut self.kept[place];
-                found.renew(map, count)?;
+                let done = found.renew(map, count);
+                self.rows[place] = found.row();
+                done?;
                 Ok(true)
             }
             None => Ok(false),
         }
     }
 
-    /// What the entries say of the group, but for count and epoch, where it is one of these and not marked.
-    pub(crate) fn told(&self, pg: &PgId) -> Option<&View>
+    /// What the entries say of the group, except for count and epoch, where it is one of these and not marked.
+    pub(crate) fn view_of(&self, pg: &PgId) -> Option<&View>
         requires { AreAtPlaces self.now }
         ensures view { IfSome result (λ view. (log : List AnyEntry) → AreGroupsOf log self.now → IsViewOf log pg.now view.now) }
         ensures there { is_some result ≡ (keeps pg.now self.now && not (is_among pg.now (marks_of self.now))) }
@@ -184,6 +195,7 @@ impl Groups {
         count: usize,
         max: usize,
     ) -> Result<usize, AllocError>
+        requires { AreAtPlaces self.old }
         ensures are { (log : List AnyEntry) → AreGroupsOf log self.old → IsMapOf (incs_of log) map.now → length log ≡ count
             → AreGroupsOf log self.new }
         ensures ids { ids_of self.new.kept.items ≡ ids_of self.old.kept.items }
@@ -193,18 +205,20 @@ impl Groups {
         ensures wants_marked { OnErr result (0 < min max (length (marks_of self.old))) }
     {
         self.some_worked_out = true;
-        renew(self.kept.as_mut_slice(), map, count, max)
+        let rows = self.rows.as_mut_slice();
+        renew(rows, self.kept.as_mut_slice(), map, count, max)
     }
 }
 
-/// Lets each of the groups take an incremental.
+/// Lets each of the groups take an incremental: those that it can't touch by their rows are passed by.
 fn absorb_inc(
-    groups: &mut [Kept],
+    rows: &mut [Row],
+    groups: &mut [KeptGroup],
     before: &MapBefore,
     after: &OsdMap,
     inc: &Incremental,
 ) -> Result<(), AllocError>
-    requires { CanStepAll groups.old inc.now before.now after.now }
+    requires { CanStepAll rows.old groups.old inc.now before.now after.now }
     ensures ok { OnOk result ((log : List AnyEntry) → AreKeptOf log groups.old → IsStep log inc.now before.now after.now
         → AreKeptOf (log ++ entry.Inc inc.now ∷ []) groups.new) }
     ensures marks { OnOk result ((log : List AnyEntry) → AreKeptOf log groups.old → IsStep log inc.now before.now after.now
@@ -212,15 +226,29 @@ fn absorb_inc(
         → is_among pg (marks_in groups.new) ≡ is_among pg (marks_in groups.old)) }
     ensures marked { OnOk result (AreAllMarked groups.old → AreAllMarked groups.new) }
     ensures ids { ids_of groups.new ≡ ids_of groups.old }
+    ensures rows { OnOk result (AreRowsOf rows.new groups.new) }
 {
-    for kept in groups.iter_mut() {
-        kept.absorb_inc(before, after, inc)?;
+    let changes = Changes::of(inc);
+    for place in 0..rows.len() {
+        if !rows[place].is_passed_by(&changes, inc) {
+            let kept = &mut groups[place];
+            kept.absorb_inc(before, after, inc)?;
+            rows[place] = kept.row();
+        }
     }
     Ok(())
 }
 
 /// Works out up to `max` of the groups that are marked. How many are marked still.
-fn renew(groups: &mut [Kept], map: &OsdMap, count: usize, max: usize) -> Result<usize, AllocError>
+fn renew(
+    rows: &mut [Row],
+    groups: &mut [KeptGroup],
+    map: &OsdMap,
+    count: usize,
+    max: usize,
+) -> Result<usize, AllocError>
+    requires { AreRowsOf rows.old groups.old }
+    ensures rows { AreRowsOf rows.new groups.new }
     ensures are { (log : List AnyEntry) → AreKeptOf log groups.old → IsMapOf (incs_of log) map.now → length log ≡ count
         → AreKeptOf log groups.new }
     ensures ids { ids_of groups.new ≡ ids_of groups.old }
@@ -231,10 +259,13 @@ fn renew(groups: &mut [Kept], map: &OsdMap, count: usize, max: usize) -> Result<
 {
     let mut more = max;
     let mut left = 0;
-    for kept in groups.iter_mut() {
+    for place in 0..groups.len() {
+        let kept = &mut groups[place];
         if kept.is_marked() {
             if more > 0 {
-                kept.renew(map, count)?;
+                let done = kept.renew(map, count);
+                rows[place] = kept.row();
+                done?;
                 more -= 1;
             } else {
                 left += 1;

@@ -4,7 +4,7 @@ ghost use Rattle.std.specs.Prelude.{◌≡◌, ◌≢◌, ◌≤◌, ◌+◌, Li
 ghost use Rattle.std.specs.Arc.{arc_value};
 ghost use Rattle.pgp_ids.specs.declared.entry.Entry.{Entry as AnyEntry};
 ghost use Rattle.pgp_ids.specs.declared.incremental.Incremental.{Incremental as AnyIncremental};
-ghost use Rattle.pgp_refusals.specs.declared.refusal.Refusal.TheVariants.{Memory};
+ghost use Rattle.pgp_ids.specs.declared.refusal.Refusal.TheVariants.{Memory};
 ghost use Rattle.pgp_map.specs.MapFault.{given_fault};
 ghost use Rattle.pgp_map.specs.MapOf.{IsMapOf};
 ghost use Rattle.pgp_group.specs.Entries.{inc_of, incs_of};

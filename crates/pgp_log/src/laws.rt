@@ -4,12 +4,12 @@
 pub mod reckoning;
 
 ghost use Rattle.std.specs.Prelude.{◌≡◌, ℕ, ◌<◌, ◌≤◌, List, [], ◌∷◌, ◌++◌, length, Some, None, true, false, option_map, Ok, Err, codes};
-ghost use Rattle.pgp_refusals.specs.declared.ask_refusal.AskRefusal.TheVariants as ask;
+ghost use Rattle.pgp_ids.specs.declared.ask_refusal.AskRefusal.TheVariants as ask;
 ghost use Rattle.pgp_ids.specs.declared.entry.Entry.{Entry};
 ghost use Rattle.pgp_ids.specs.declared.entry.Entry.TheVariants as entry;
 ghost use Rattle.pgp_ids.specs.declared.pg_id.PgId.{PgId};
-ghost use Rattle.pgp_refusals.specs.declared.refusal.Refusal.{Refusal};
-ghost use Rattle.pgp_refusals.specs.declared.refusal.Refusal.TheVariants as refusal;
+ghost use Rattle.pgp_ids.specs.declared.refusal.Refusal.{Refusal};
+ghost use Rattle.pgp_ids.specs.declared.refusal.Refusal.TheVariants as refusal;
 ghost use Rattle.pgp_map.specs.Examples.{empty_step, boot};
 ghost use Rattle.pgp_sets.specs.Examples.{copies_group, copies_on_three, resize};
 ghost use Rattle.std.specs.List.{list_any};

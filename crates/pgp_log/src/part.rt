@@ -7,7 +7,7 @@ ghost use Rattle.pgp_map.specs.Pools.{has_group};
 ghost use Rattle.pgp_group.specs.Entries.{incs_of};
 ghost use Rattle.pgp_log.specs.Derived.{CanAbsorb, IsDerivedOf, IsPartOf, owns, shard_with};
 ghost use Rattle.pgp_log.specs.Fits.{fits};
-ghost use Rattle.pgp_log.specs.Kept.{AreAtPlaces, IsViewOf, marks_of};
+ghost use Rattle.pgp_log.specs.KeptGroup.{AreAtPlaces, IsViewOf, marks_of};
 ghost use Rattle.pgp_log.specs.Log.{HasInc, epoch_of};
 ghost use Rattle.pgp_log.specs.Shard.{AreMarked, AreUnmarked, IsUnmarked, MarksOnlyTouched, is_marked};
 ghost use Rattle.pgp_log.specs.declared.owner.Owner.{Owner as AnyOwner};
@@ -81,9 +81,9 @@ impl Part {
         there
     }
 
-    /// What the entries say of a group of the owner, but for count and epoch, where it is there, the map has the group, and it
-    /// isn't marked.
-    pub(crate) fn told(&self, pg: &PgId) -> Option<&View>
+    /// What the entries say of a group of the owner, except for count and epoch, where it is there, the map has the group, and
+    /// it isn't marked.
+    pub(crate) fn view_of(&self, pg: &PgId) -> Option<&View>
         requires { IfSome self.now.derived (λ derived. AreAtPlaces derived.groups) }
         ensures view { IfSome result (λ view. (owner : AnyOwner) (log : List AnyEntry) → IsPartOf owner log self.now.derived
             → IsViewOf log pg.now view.now) }
@@ -92,7 +92,7 @@ impl Part {
             → is_some result ≡ (has_group (incs_of log) pg.now && not (is_marked (shard_with owner log self.now.derived) pg.now)) }
     {
         match &self.derived {
-            Some(derived) => derived.told(pg),
+            Some(derived) => derived.view_of(pg),
             None => None,
         }
     }

@@ -70,7 +70,7 @@ fn has_unknown_member(map: &OsdMap, pg: &PgId, member: &Member) -> bool
     !map.exists(member.osd) || !has_slot
 }
 
-/// A slot of a pool that goes by places is below its size, that of any other pool is 0.
+/// A slot of a pool in which each member has a place is below its size, that of any other pool is 0.
 fn is_slot_of(slot: u8, pool: PoolSpec) -> bool
     ensures { result ≡ is_slot_of slot pool }
 {

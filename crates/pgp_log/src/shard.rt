@@ -2,7 +2,7 @@
 
 ghost use Rattle.std.specs.Prelude.{◌≡◌, ◌≢◌, ◌<◌, ◌++◌, min, length, map, is_some, option_copied, option_map, false, true, None, Some, Err, IsOk, IfOk, IfSome, OnOk, OnErr};
 ghost use Rattle.std.specs.Arc.{arc_value};
-ghost use Rattle.pgp_refusals.specs.declared.ask_refusal.AskRefusal.TheVariants.{UnknownGroup, Memory};
+ghost use Rattle.pgp_ids.specs.declared.ask_refusal.AskRefusal.TheVariants.{UnknownGroup, Memory};
 ghost use Rattle.pgp_map.specs.Pools.{has_group};
 ghost use Rattle.pgp_group.specs.Entries.{incs_of};
 ghost use Rattle.pgp_group.specs.Touched.{told_at};
@@ -53,7 +53,7 @@ impl Model for ShardState {
 }
 
 impl ShardState {
-    /// The shard of this number, of so many, that has read nothing. It takes no memory.
+    /// The shard of this number, of this many shards, that has read nothing. It takes no memory.
     pub fn start(alloc: Global, shard: usize, shards: usize) -> Self
         requires { shard < shards }
         ensures { result ≡ opening_shard shard shards }
@@ -89,7 +89,7 @@ impl ShardState {
         }
     }
 
-    /// Reads the next entry. Where what follows from the front is there, it stays there, and the entry marks none but groups
+    /// Reads the next entry. Where what follows from the front is there, it stays there, and the entry marks only groups
     /// that it touches. Without memory for the entry, the shard has read what it had before.
     pub fn absorb(&mut self, entry: &Arc<Entry>) -> Result<(), AllocError>
         requires { fits self.old.front (arc_value entry.now) ≡ None }
@@ -139,15 +139,15 @@ impl ShardState {
         }
     }
 
-    /// What the shard has read says of one of its groups, but for count and epoch. `None` where there is no such group, and where
-    /// it is marked.
-    pub fn told(&self, pg: &PgId) -> Option<&View>
+    /// What the shard has read says of one of its groups, except for count and epoch. `None` where there is no such group, and
+    /// where it is marked.
+    pub fn view_of(&self, pg: &PgId) -> Option<&View>
         requires { is_own self.now.shard self.now.shards pg.now ≡ true }
         ensures is { is_marked self.now pg.now ≡ false → scratch self.now.front pg.now
             ≡ option_map (told_at (length self.now.front) (epoch_of self.now.front)) (option_copied result) }
         ensures marked { is_marked self.now pg.now ≡ true → result ≡ None }
     {
-        self.part.told(pg)
+        self.part.view_of(pg)
     }
 
     /// All that the shard has read says of one of its groups, which needn't be worked out again then. `UnknownGroup`: what was
@@ -175,7 +175,7 @@ impl ShardState {
         ensures ok { IfOk result (λ view. scratch self.now.front pg.now ≡ Some view) }
         ensures err { OnErr result (result ≡ Err Memory) }
     {
-        let Some(view) = self.part.told(pg) else {
+        let Some(view) = self.part.view_of(pg) else {
             unreachable!();
         };
         let count = self.front.len();

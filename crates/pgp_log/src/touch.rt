@@ -2,7 +2,7 @@
 
 ghost use Rattle.std.specs.List.{list_any};
 ghost use Rattle.std.specs.Prelude.{◌≡◌, ◌||◌, nat_eq};
-ghost use Rattle.pgp_log.specs.Touch.{turns_none, tells_nothing, changes_no_pool, moves_none, changes_nothing};
+ghost use Rattle.pgp_log.specs.Touch.{turns_none, tells_nothing, changes_no_pool, changes_placements, moves_none, changes_nothing};
 ghost use Rattle.pgp_group.specs.Touched.{changes_pool, changes_temp, has_osd, moves_all};
 ghost use Rattle.pgp_sets.specs.Sets.{moves};
 
@@ -62,6 +62,13 @@ pub(crate) fn moves_none(inc: &Incremental) -> bool
     ensures { result ≡ moves_none inc.now }
 {
     !moves_all(inc) && changes_no_pool(inc) && turns_none(inc)
+}
+
+/// The incremental may change where some group lies, whatever becomes of devices.
+pub(crate) fn changes_placements(inc: &Incremental) -> bool
+    ensures { result ≡ changes_placements inc.now }
+{
+    moves_all(inc) || !changes_no_pool(inc)
 }
 
 /// The incremental changes the epoch alone: it touches no group.

@@ -52,7 +52,7 @@ impl Model for World {
 }
 
 impl World {
-    /// The world of so many shards at its start.
+    /// The world of this many shards at its start.
     pub fn start(alloc: Global, shards: usize) -> Result<Self, AllocError>
         requires { 0 < shards }
         ensures { IfOk result (λ world. world ≡ opening shards) }
@@ -67,7 +67,7 @@ impl World {
         Ok(world)
     }
 
-    /// The world of so many shards whose log is these entries, of which no shard has read one yet. It shares them.
+    /// The world of this many shards whose log is these entries, of which no shard has read one yet. It shares them.
     pub fn over(alloc: Global, shards: usize, entries: &[Arc<Entry>]) -> Result<Self, AllocError>
         requires some { 0 < shards }
         requires legal { is_legal (map arc_value entries.now) ≡ true }
@@ -108,7 +108,7 @@ impl World {
         Ok(())
     }
 
-    /// Lets a shard read at most so many further entries. Without memory it may have read some of them.
+    /// Lets a shard read at most this many further entries. Without memory it may have read some of them.
     pub fn absorb(&mut self, shard: usize, count: usize) -> Result<(), AllocError>
         requires { shard < length self.old.read }
         ensures reply { MayReply self.old (Absorb shard count) (Absorbed result) self.new }
@@ -143,7 +143,7 @@ fn shared(alloc: Global, entries: &[Arc<Entry>]) -> Result<Vec<Arc<Entry>>, Allo
     Ok(all)
 }
 
-/// The entries after so many that were read, at most this many.
+/// The entries after those that were read, at most `count` of them.
 fn unread(entries: &[Arc<Entry>], read: usize, count: usize) -> &[Arc<Entry>]
     requires { read ≤ length entries.now }
     ensures { result.now ≡ take count (drop read entries.now) }
@@ -156,7 +156,7 @@ fn unread(entries: &[Arc<Entry>], read: usize, count: usize) -> &[Arc<Entry>]
     }
 }
 
-/// So many shards that have read nothing.
+/// This many shards that have read nothing.
 fn opening_shards(alloc: Global, shards: usize) -> Result<Vec<ShardState>, AllocError>
     ensures { IfOk result (λ all. all.items ≡ map (λ n. opening_shard n shards) (range_with_len 0 shards)) }
 {

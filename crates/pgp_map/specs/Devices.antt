@@ -1,6 +1,6 @@
 -- What a list of map incrementals, oldest first, says of a device (Ceph's developer documentation on map epochs: the map
--- of an epoch is what all incrementals up to it say). Each fact is given by the last incremental that tells of it, but for
--- two, which are greatest epochs.
+-- of an epoch is what all incrementals up to it say). Each fact is given by the last incremental that tells of it, except
+-- for two, which are greatest epochs.
 use Rattle.std.specs.Prelude.{ℕ, List, Bool, false, ◌||◌, nat_eq, map, max, fold, filter, flat_map}
 use Rattle.std.specs.List.{range_with_len}
 use Rattle.std.specs.Option.{option_map_or}

@@ -72,7 +72,7 @@ grouped id parts =
 abbrev pub makes : PoolSpec → Incremental
 makes pool = record (empty_step 1) { pools = pool ∷ [] }
 
--- so many pools of 1,024 groups and one copy
+-- this many pools of 1,024 groups and one copy
 abbrev pub large_pools : ℕ → List PoolSpec
 large_pools count =
     map (λ id. record { id = id; pg_num = 1024; kind = Replicated; size = 1; min_size = 1; leaf = 0 }) (range_with_len 1 count)

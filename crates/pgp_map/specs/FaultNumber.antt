@@ -1,8 +1,8 @@
 -- The numbers of the faults of a map incremental, and the refusals of entries that they are.
 use Rattle.std.specs.Prelude.{ℕ, Option, Some, None}
 use Rattle.pgp_crush.specs.TreeFault.{refusal_number, fault_number as tree_fault_number}
-use Rattle.pgp_refusals.specs.declared.refusal.Refusal.{Refusal}
-use Rattle.pgp_refusals.specs.declared.refusal.Refusal.TheVariants as refusal
+use Rattle.pgp_ids.specs.declared.refusal.Refusal.{Refusal}
+use Rattle.pgp_ids.specs.declared.refusal.Refusal.TheVariants as refusal
 use Rattle.pgp_map.specs.declared.fault.MapFault.{MapFault}
 use Rattle.pgp_map.specs.declared.fault.MapFault.TheVariants.{EpochGap, Twice, UnknownDevice, AlreadyUp, AlreadyDown, StillUp, UpThruBack, Ahead, BadPool, PoolKnown, BadTemp, TreeFault, Memory}
 
@@ -22,7 +22,7 @@ fault_number BadTemp = 20
 fault_number (TreeFault fault) = refusal_number fault
 fault_number Memory = 51
 
--- the refusal of a tree's fault, by its number; one without a number is want of memory
+-- the refusal of a tree's fault, by its number; one without a number is out of memory
 abbrev pub tree_refusal : Option ℕ → Refusal
 tree_refusal (Some number) = refusal.TreeFault number
 tree_refusal None = refusal.Memory

@@ -20,7 +20,7 @@ first_of f =
     else (if f.pool_known then Some PoolKnown
     else (if f.bad_temp then Some BadTemp else None)))))))))
 
--- these are the tests that the incremental fails after those before it; that of temp goes by pools that aren't known
+-- these are the tests that the incremental fails after those before it; that of temp depends on the pools that aren't known
 pub record AreFindings (incs : List Incremental) (inc : Incremental) (f : Findings) : Type 0 where
   pub twice_is : f.twice ≡ has_twice inc
   pub unknown_device_is : f.unknown_device ≡ has_unknown_device incs inc

@@ -29,7 +29,7 @@ then_with incs inc = incs ++ inc ∷ []
 abbrev pub has_epoch_gap : List Incremental → Incremental → Bool
 has_epoch_gap incs inc = not (nat_eq inc.epoch (epoch incs + 1))
 
--- a device stands twice in up, down and gone together, or in one of weight, up_thru and lost; or a pool in pools and sizes
+-- a device is twice in up, down and gone together, or in one of weight, up_thru and lost; or a pool in pools and sizes
 -- together; or a group in temp
 abbrev pub has_twice : Incremental → Bool
 has_twice inc =

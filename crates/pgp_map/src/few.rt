@@ -100,7 +100,7 @@ fn share_one(osds: &[OsdId], others: &[OsdId]) -> bool
     osds.iter().any(|osd| is_among(osd, others))
 }
 
-/// A device stands twice in the three lists together.
+/// A device is twice in the three lists together.
 #[tactic(auto, using(crate::proofs::RepeatLemmas::repeat_steps))]
 pub(crate) fn name_twice(up: &[OsdId], down: &[OsdId], gone: &[OsdId]) -> bool
     ensures { result ≡ has_repeat nat_eq (up.now ++ down.now ++ gone.now) }
@@ -120,7 +120,7 @@ fn is_sized(id: PoolId, sizes: &[PoolSizes]) -> bool
     sizes.iter().any(|given| id == given.pool)
 }
 
-/// A pool stands twice among those that are made and those that are given sizes.
+/// A pool is twice among those that are made and those that are given sizes.
 #[tactic(auto, using(crate::proofs::RepeatLemmas::repeat_steps))]
 pub(crate) fn size_twice(made: &[PoolSpec], sizes: &[PoolSizes]) -> bool
     ensures { result ≡ has_repeat nat_eq (map (λ pool. pool.id) made.now ++ map (λ given. given.pool) sizes.now) }

@@ -1,4 +1,4 @@
-//! Lists in which an item stands twice.
+//! Lists in which an item is twice.
 
 ghost use Rattle.std.specs.Prelude.{◌≡◌, ◌++◌, ◌||◌, map, true, nat_eq, IfOk, OnErr};
 ghost use Rattle.pgp_lists.specs.Repeats.{has_repeat};
@@ -11,7 +11,7 @@ use pgp_ids::{DeviceEpoch, DeviceWeight, Incremental, PoolId, PoolSizes, PoolSpe
 use pgp_lists::has_repeat;
 use std::alloc::{AllocError, Global};
 
-/// Something stands twice where it may stand once.
+/// Something is there twice where it may be once.
 pub(crate) fn has_twice(alloc: Global, inc: &Incremental) -> Result<bool, AllocError>
     ensures value { IfOk result (λ twice. twice ≡ has_twice inc.now) }
     ensures wants { OnErr result (has_long_list inc.now ≡ true) }
@@ -26,7 +26,7 @@ pub(crate) fn has_twice(alloc: Global, inc: &Incremental) -> Result<bool, AllocE
     )
 }
 
-/// A device stands twice among those that boot, are taken down or are destroyed.
+/// A device is twice among those that boot, are taken down or are destroyed.
 #[tactic(auto, using(std::proofs::lemmas::Bool::Decides::nat_tests))]
 fn changes_twice(alloc: Global, inc: &Incremental) -> Result<bool, AllocError>
     ensures value { IfOk result (λ twice. twice ≡ has_repeat nat_eq (inc.now.up ++ inc.now.down ++ inc.now.gone)) }
@@ -74,7 +74,7 @@ fn tells_twice(alloc: Global, told: &[DeviceEpoch]) -> Result<bool, AllocError>
     has_repeat(alloc, &osds)
 }
 
-/// A pool stands twice among those that are made or given sizes.
+/// A pool is twice among those that are made or given sizes.
 #[tactic(auto, using(std::proofs::lemmas::Bool::Decides::nat_tests))]
 fn sizes_twice(alloc: Global, made: &[PoolSpec], sizes: &[PoolSizes]) -> Result<bool, AllocError>
     ensures value { IfOk result (λ twice. twice ≡ has_repeat nat_eq (map (λ pool. pool.id) made.now ++ map (λ given. given.pool) sizes.now)) }

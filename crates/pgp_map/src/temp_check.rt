@@ -10,7 +10,7 @@ use super::new_pools::NewPools;
 use pgp_ids::{MAX_OSDS, OsdId, PoolId, PoolSpec, TempList};
 use std::collections::HashMap;
 
-/// A device stands twice among the places.
+/// A device is twice among the places.
 fn has_device_twice(places: &[Option<OsdId>]) -> bool
     ensures { result ≡ has_repeat nat_eq (filter_map (λ place. place) places.now) }
 {

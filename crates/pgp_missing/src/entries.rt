@@ -104,7 +104,7 @@ impl Entries {
         numbers as usize <= self.by_number.len() && self.has_as_many(info, numbers)
     }
 
-    /// There are so many entries within the log of this info.
+    /// There are this many entries within the log of this info.
     fn has_as_many(&self, info: &Info, count: u32) -> bool
         ensures { result ≡ nat_eq (length (within info.now self.now)) count }
     {

@@ -15,7 +15,7 @@ use std::marker::Model;
 /// The log of a member, by its info and the entries that it reported.
 ///
 /// It keeps the last entry of each number that was ever reported, also outside of the log, whose bounds another info may
-/// change. A log may span 2^32 numbers: memory goes by the entries that were reported, and time by those within the log.
+/// change. A log may span 2^32 numbers: memory depends on the entries that were reported, and time on those within the log.
 pub struct MemberLog {
     info: Info,
     /// All entries that were reported, by their numbers.

@@ -12,11 +12,11 @@ use Rattle.pgp_lists.proofs.Members.{any-contains, none-contains}
 use Rattle.pgp_sets.specs.declared.status.Status.{Status}
 use Rattle.pgp_prior.specs.declared.change.Change.{Change}
 use Rattle.pgp_prior.specs.declared.index.PriorIndex.{PriorIndex}
-use Rattle.pgp_prior.specs.declared.kept.Kept.{Kept}
+use Rattle.pgp_prior.specs.declared.judged_interval.JudgedInterval.{JudgedInterval}
 use Rattle.pgp_prior.specs.declared.prior_set.Prior.{Prior}
 use Rattle.pgp_prior.specs.Members.{members_of}
 use Rattle.pgp_prior.specs.Changes.{allows, IsChangeIn, IsChange}
-use Rattle.pgp_prior.specs.Kept.{IsKept, past_of, later_les, EachKept, IsUnderWay}
+use Rattle.pgp_prior.specs.JudgedInterval.{IsKept, past_of, later_les, EachKept, IsUnderWay}
 use Rattle.pgp_prior.specs.KeptLists.{kept_matters, kept_blocks, up_of, down_of}
 use Rattle.pgp_prior.specs.Places.{places_of}
 use Rattle.pgp_ids.specs.Past.{raised_at}
@@ -29,7 +29,7 @@ use Rattle.pgp_prior.proofs.RaisedLemmas.{places-raised}
 use Rattle.pgp_prior.proofs.WayLemmas.{at-contains}
 
 -- an interval in which the device doesn't stand
-untouched : (enough : List ℕ → Bool) (by_place : Bool) (monotone : Law enough) (allowed : Status → Status → Bool) (osd : ℕ) (told old new : ℕ → ℕ → Status) (les : ℕ) (kept : Kept) → IsKept enough by_place old les kept → IsChangeIn allowed by_place osd told old new kept.past → list_any (λ (m : Member). nat_eq m.osd osd) (members_of by_place kept.past.members.acting) ≡ false → IsKept enough by_place new les kept
+untouched : (enough : List ℕ → Bool) (by_place : Bool) (monotone : Law enough) (allowed : Status → Status → Bool) (osd : ℕ) (told old new : ℕ → ℕ → Status) (les : ℕ) (kept : JudgedInterval) → IsKept enough by_place old les kept → IsChangeIn allowed by_place osd told old new kept.past → list_any (λ (m : Member). nat_eq m.osd osd) (members_of by_place kept.past.members.acting) ≡ false → IsKept enough by_place new les kept
 untouched enough by_place monotone allowed osd told old new les kept was is none =
     let members : List Member = members_of by_place kept.past.members.acting in
     let same : (m : Member) → Contains members m → old m.osd kept.past.first ≡ new m.osd kept.past.first = λ m in'.
@@ -60,14 +60,14 @@ module _ {C : Type 0} (enough : C → List ℕ → Bool) (by_place : C → Bool)
   change-here kind osd told status change = rw (is.code_is, is.past_are) change
 
   -- every interval was renewed
-  pub renewed : (status : ℕ → ℕ → Status) (past : Vec Kept Global) → map past_of past.items ≡ map past_of index.past.items
+  pub renewed : (status : ℕ → ℕ → Status) (past : Vec JudgedInterval Global) → map past_of past.items ≡ map past_of index.past.items
       → EachKept (enough index.code) (by_place index.code) status index.les past.items → IsIndexOf enough by_place (record b { status = status }) (record index { past = past })
   renewed status past same each =
       let each' : EachKept (enough b.code) (by_place b.code) status b.les past.items = rw (← is.code_is, ← is.les_is) each in
       assumption (each', same ∙ is.past_are)
 
   -- one interval may have gone read-write after all
-  pub raised : (place : ℕ) (past : Vec Kept Global) → map past_of past.items ≡ raised_at place (map past_of index.past.items)
+  pub raised : (place : ℕ) (past : Vec JudgedInterval Global) → map past_of past.items ≡ raised_at place (map past_of index.past.items)
       → ((status : ℕ → ℕ → Status) → EachKept (enough index.code) (by_place index.code) status index.les index.past.items → EachKept (enough index.code) (by_place index.code) status index.les past.items)
       → IsIndexOf enough by_place (record b { past = raised_at place b.past }) (record index { past = past })
   raised place past now keeps =
@@ -78,7 +78,7 @@ module _ {C : Type 0} (enough : C → List ℕ → Bool) (by_place : C → Bool)
       assumption (each, same, there)
 
   -- the group began to serve later
-  pub later : (les : ℕ) (past : Vec Kept Global) → b.les ≤ les → past.items ≡ map (later_les les) index.past.items
+  pub later : (les : ℕ) (past : Vec JudgedInterval Global) → b.les ≤ les → past.items ≡ map (later_les les) index.past.items
       → IsIndexOf enough by_place (record b { les = les }) (record index { past = past; les = les })
   later les past rises now =
       let each : EachKept (enough b.code) (by_place b.code) b.status les past.items =
@@ -87,7 +87,7 @@ module _ {C : Type 0} (enough : C → List ℕ → Bool) (by_place : C → Bool)
       let the_les : les ≡ les = refl in
       assumption (each, same, the_les)
 
-  module _ (past : Vec Kept Global) (places : HashMap ℕ (List ℕ) (BuildHasherDefault FoldHasher)) (keeps : (q at : ℕ) → Contains (places_of index.places q) at → Contains (places_of places q) at) where
+  module _ (past : Vec JudgedInterval Global) (places : HashMap ℕ (List ℕ) (BuildHasherDefault FoldHasher)) (keeps : (q at : ℕ) → Contains (places_of index.places q) at → Contains (places_of places q) at) where
     -- places were added, and no interval
     pub kept : past.items ≡ index.past.items → IsIndexOf enough by_place b (record index { past = past; places = places })
     kept same =
@@ -96,7 +96,7 @@ module _ {C : Type 0} (enough : C → List ℕ → Bool) (by_place : C → Bool)
         assumption (each, there, ap (map past_of) same ∙ is.past_are)
 
     -- an interval was added, with its place for each device that stands in it
-    pub more : (last : Kept) (interval : Past) → last.past ≡ interval → past.items ≡ index.past.items ++ last ∷ [] → IsKept (enough index.code) (by_place index.code) b.status index.les last
+    pub more : (last : JudgedInterval) (interval : Past) → last.past ≡ interval → past.items ≡ index.past.items ++ last ∷ [] → IsKept (enough index.code) (by_place index.code) b.status index.les last
         → ((member : Member) → Contains (members_of (by_place index.code) interval.members.acting) member → Contains (places_of places member.osd) (length index.past.items))
         → IsIndexOf enough by_place (record b { past = b.past ++ interval ∷ [] }) (record index { past = past; places = places })
     more last interval of items holds added =

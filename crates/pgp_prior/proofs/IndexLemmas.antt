@@ -7,10 +7,10 @@ use Rattle.pgp_ids.specs.declared.member.Member.{Member}
 use Rattle.pgp_ids.specs.declared.past.Past.{Past}
 use Rattle.pgp_lists.proofs.Members.{Contains-here, Contains-later, filter-agree, map-contains}
 use Rattle.pgp_sets.specs.declared.status.Status.{Status}
-use Rattle.pgp_prior.specs.declared.kept.Kept.{Kept}
+use Rattle.pgp_prior.specs.declared.judged_interval.JudgedInterval.{JudgedInterval}
 use Rattle.pgp_prior.specs.Members.{members_of}
 use Rattle.pgp_prior.specs.Blocks.{is_up, is_down, matters, acting_where, down_osds, blocks}
-use Rattle.pgp_prior.specs.Kept.{IsKept, past_of, later_les, EachKept}
+use Rattle.pgp_prior.specs.JudgedInterval.{IsKept, past_of, later_les, EachKept}
 use Rattle.pgp_prior.specs.KeptLists.{kept_status, kept_matters, kept_blocks, up_of, down_of}
 use Rattle.pgp_prior.specs.IndexOf.{HasEachPlace}
 use Rattle.pgp_prior.proofs.ToldLemmas.{told_or_gone-is}
@@ -18,18 +18,18 @@ use Rattle.pgp_prior.proofs.ToldLemmas.{told_or_gone-is}
 -- ---- a later epoch in which the group last began to serve
 
 module _ (enough : List ℕ → Bool) (by_place : Bool) (status : ℕ → ℕ → Status) where
-  kept-later : (les later : ℕ) (kept : Kept) → les ≤ later → IsKept enough by_place status les kept → IsKept enough by_place status later (later_les later kept)
+  kept-later : (les later : ℕ) (kept : JudgedInterval) → les ≤ later → IsKept enough by_place status les kept → IsKept enough by_place status later (later_les later kept)
   kept-later les later kept rises is = grind (arith, nat_tests, is.statuses_are)
 
-  pub each-later : (les later : ℕ) (past : List Kept) → les ≤ later → EachKept enough by_place status les past → EachKept enough by_place status later (map (later_les later) past)
+  pub each-later : (les later : ℕ) (past : List JudgedInterval) → les ≤ later → EachKept enough by_place status les past → EachKept enough by_place status later (map (later_les later) past)
   each-later les later past rises each kept in' =
       let found = map-contains (later_les later) past kept in' in
       subst (IsKept enough by_place status later) found.1.1 (kept-later les later found.0 rises (each found.0 found.1.0))
 
-  pub each-more : (les : ℕ) (past : List Kept) (last : Kept) → EachKept enough by_place status les past → IsKept enough by_place status les last → EachKept enough by_place status les (past ++ last ∷ [])
+  pub each-more : (les : ℕ) (past : List JudgedInterval) (last : JudgedInterval) → EachKept enough by_place status les past → IsKept enough by_place status les last → EachKept enough by_place status les (past ++ last ∷ [])
   each-more les past last each is kept in' = grind (arith, each kept, Contains-push_cases past last kept in', is)
 
-pub pasts-later : (later : ℕ) (past : List Kept) → map past_of (map (later_les later) past) ≡ map past_of past
+pub pasts-later : (later : ℕ) (past : List JudgedInterval) → map past_of (map (later_les later) past) ≡ map past_of past
 pasts-later later [] = refl
 pasts-later later (kept ∷ past) = ap (λ rest. kept.past ∷ rest) (pasts-later later past)
 
@@ -58,17 +58,17 @@ walk-same of test other read reads (x ∷ xs) same alike =
     grind (arith, same x (Contains-here x xs), alike x (Contains-here x xs), rest)
 
 module _ (enough : List ℕ → Bool) (by_place : Bool) (status : ℕ → ℕ → Status) (les : ℕ) where
-  acting-same : (test : Status → Bool) (kept : Kept) → IsKept enough by_place status les kept → acting_where test by_place (kept_status kept) kept.past ≡ acting_where test by_place status kept.past
+  acting-same : (test : Status → Bool) (kept : JudgedInterval) → IsKept enough by_place status les kept → acting_where test by_place (kept_status kept) kept.past ≡ acting_where test by_place status kept.past
   acting-same test kept is =
       filter-agree _ _ (members_of by_place kept.past.members.acting)
       (λ m in'. ap test (told_or_gone-is kept.statuses.known.items m.osd _ (is.statuses_are m in')))
 
-  pub ups-same : (past : List Kept) → EachKept enough by_place status les past → flat_map (up_of by_place) (filter (kept_matters les) past) ≡ flat_map (acting_where is_up by_place status) (filter (matters les) (map past_of past))
+  pub ups-same : (past : List JudgedInterval) → EachKept enough by_place status les past → flat_map (up_of by_place) (filter (kept_matters les) past) ≡ flat_map (acting_where is_up by_place status) (filter (matters les) (map past_of past))
   ups-same past each =
       walk-same past_of (kept_matters les) (matters les) (up_of by_place) (acting_where is_up by_place status) past
       (λ kept in'. refl) (λ kept in'. acting-same is_up kept (each kept in'))
 
-  pub downs-same : (past : List Kept) → EachKept enough by_place status les past → flat_map (down_of by_place) (filter kept_blocks past) ≡ flat_map (down_osds by_place status) (filter (blocks enough by_place status les) (map past_of past))
+  pub downs-same : (past : List JudgedInterval) → EachKept enough by_place status les past → flat_map (down_of by_place) (filter kept_blocks past) ≡ flat_map (down_osds by_place status) (filter (blocks enough by_place status les) (map past_of past))
   downs-same past each =
       walk-same past_of kept_blocks (blocks enough by_place status les) (down_of by_place) (down_osds by_place status) past
       (λ kept in'. (each kept in').blocks_is) (λ kept in'. ap (map (λ (m : Member). m.osd)) (acting-same is_down kept (each kept in')))

@@ -8,14 +8,14 @@ use Rattle.pgp_ids.specs.declared.past.Past.{Past}
 use Rattle.pgp_sets.specs.declared.status.Status.{Status}
 use Rattle.pgp_prior.specs.declared.change.Change.{Change}
 use Rattle.pgp_prior.specs.declared.change.Change.TheVariants as change
-use Rattle.pgp_prior.specs.declared.kept.Kept.{Kept}
+use Rattle.pgp_prior.specs.declared.judged_interval.JudgedInterval.{JudgedInterval}
 use Rattle.pgp_prior.specs.declared.statuses.Known.{Known}
 use Rattle.pgp_prior.specs.declared.statuses.Statuses.{Statuses}
 use Rattle.pgp_prior.specs.Members.{members_of}
 use Rattle.pgp_prior.specs.Blocks.{blocks}
 use Rattle.pgp_prior.specs.Changes.{allows, rechecks, IsChangeIn}
 use Rattle.pgp_prior.specs.Told.{told, told_or_gone, renamed}
-use Rattle.pgp_prior.specs.Kept.{IsKept}
+use Rattle.pgp_prior.specs.JudgedInterval.{IsKept}
 use Rattle.pgp_prior.specs.KeptLists.{kept_status}
 use Rattle.pgp_prior.proofs.BetterLemmas.{no_worse-relieves, no_better-relieves, blocks-before, blocks-same}
 use Rattle.pgp_prior.proofs.ToldLemmas.{told-renamed, told-others, told_or_gone-is}
@@ -44,7 +44,7 @@ module _ (by_place : Bool) (kind : Change) (osd : ℕ) (told' old new : ℕ → 
 
 module _ (by_place : Bool) (enough : List ℕ → Bool) (monotone : Law enough) where
   -- an interval is kept once each status is known and it was judged by them
-  pub judged : (status : ℕ → ℕ → Status) (les : ℕ) (kept : Kept) → ((member : Member) → Contains (members_of by_place kept.past.members.acting) member → told kept.statuses.known.items member.osd ≡ Some (status member.osd kept.past.first)) → kept.blocks ≡ blocks enough by_place (kept_status kept) les kept.past → IsKept enough by_place status les kept
+  pub judged : (status : ℕ → ℕ → Status) (les : ℕ) (kept : JudgedInterval) → ((member : Member) → Contains (members_of by_place kept.past.members.acting) member → told kept.statuses.known.items member.osd ≡ Some (status member.osd kept.past.first)) → kept.blocks ≡ blocks enough by_place (kept_status kept) les kept.past → IsKept enough by_place status les kept
   judged status les kept known is =
       record {
         statuses_are = known;
@@ -65,7 +65,7 @@ module _ (by_place : Bool) (enough : List ℕ → Bool) (monotone : Law enough) 
   blocks-stands change.Gone osd told' old new p is les none = cc
 
   -- the interval with the new status of the device, judged anew, or left as it was where the change can't have turned it
-  pub renewed-kept : (kind : Change) (osd : ℕ) (told' old new : ℕ → ℕ → Status) (les : ℕ) (was : Kept) (statuses : Statuses) (blocked : Bool)
+  pub renewed-kept : (kind : Change) (osd : ℕ) (told' old new : ℕ → ℕ → Status) (les : ℕ) (was : JudgedInterval) (statuses : Statuses) (blocked : Bool)
       → IsKept enough by_place old les was → IsChangeIn (allows kind) by_place osd told' old new was.past
       → statuses.known.items ≡ map (renamed osd (told' osd was.past.first)) was.statuses.known.items
       → (blocked ≡ blocks enough by_place (λ osd first. told_or_gone statuses.known.items osd) les was.past) ⊎ (blocked ≡ was.blocks) × (rechecks kind was.blocks ≡ false)

@@ -5,9 +5,9 @@ use Rattle.std.proofs.lemmas.List.{length-map, with_items_is}
 use Rattle.std.proofs.lemmas.Grind.{common_steps}
 use Rattle.pgp_ids.specs.declared.past.Past.{Past}
 use Rattle.pgp_sets.specs.declared.status.Status.{Status}
-use Rattle.pgp_prior.specs.declared.kept.Kept.{Kept}
+use Rattle.pgp_prior.specs.declared.judged_interval.JudgedInterval.{JudgedInterval}
 use Rattle.pgp_prior.specs.Blocks.{blocks}
-use Rattle.pgp_prior.specs.Kept.{past_of}
+use Rattle.pgp_prior.specs.JudgedInterval.{past_of}
 use Rattle.pgp_prior.specs.IndexOf.{HasEachPlace}
 use Rattle.pgp_prior.specs.Prior.{is_group_down}
 use Rattle.pgp_ids.specs.Past.{with_rw, raised_at}
@@ -18,22 +18,22 @@ length-raised_at zero (p ∷ past) = refl
 length-raised_at (suc place) (p ∷ past) = grind (arith, length-raised_at place past)
 
 -- there is no such place
-pub raised_at-beyond : (place : ℕ) (past : List Kept) → length past ≤ place → map past_of past ≡ raised_at place (map past_of past)
+pub raised_at-beyond : (place : ℕ) (past : List JudgedInterval) → length past ≤ place → map past_of past ≡ raised_at place (map past_of past)
 raised_at-beyond place [] beyond = refl
 raised_at-beyond zero (kept ∷ past) beyond = absurd (omega (arith, beyond))
 raised_at-beyond (suc place) (kept ∷ past) beyond = ap (λ rest. kept.past ∷ rest) (raised_at-beyond place past (omega (arith, beyond)))
 
 -- the interval at the place was raised
-pub raised_at-set : (place : ℕ) (past : List Kept) (was now : Kept) → slice_get past place ≡ Some was → now.past ≡ with_rw was.past → map past_of (set past place now) ≡ raised_at place (map past_of past)
+pub raised_at-set : (place : ℕ) (past : List JudgedInterval) (was now : JudgedInterval) → slice_get past place ≡ Some was → now.past ≡ with_rw was.past → map past_of (set past place now) ≡ raised_at place (map past_of past)
 raised_at-set place [] was now there is = cc
 raised_at-set zero (kept ∷ past) was now there is =
     let same : kept ≡ was = cc in
-    ap (λ p. p ∷ map past_of past) (is ∙ ap (λ (k : Kept). with_rw k.past) (sym same))
+    ap (λ p. p ∷ map past_of past) (is ∙ ap (λ (k : JudgedInterval). with_rw k.past) (sym same))
 raised_at-set (suc place) (kept ∷ past) was now there is =
     ap (λ rest. kept.past ∷ rest) (raised_at-set place past was now (grind (arith, there)) is)
 
 -- intervals of which one was raised take the place of those that were
-pub raised-written : (place : ℕ) (past : Vec Kept Global) (items : List Kept) → map past_of items ≡ raised_at place (map past_of past.items) → (with_items past items).items ≡ items
+pub raised-written : (place : ℕ) (past : Vec JudgedInterval Global) (items : List JudgedInterval) → map past_of items ≡ raised_at place (map past_of past.items) → (with_items past items).items ≡ items
 raised-written place past items raised =
     with_items_is past items
     (omega (arith, ap length raised, length-raised_at place (map past_of past.items), length-map items past_of, length-map past.items past_of, past.ok.0))

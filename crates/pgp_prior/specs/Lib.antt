@@ -5,7 +5,7 @@ pub mod Prior
 pub mod Better
 pub mod Changes
 pub mod Told
-pub mod Kept
+pub mod JudgedInterval
 pub mod KeptLists
 pub mod Places
 pub mod IndexOf

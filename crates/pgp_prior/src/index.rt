@@ -2,13 +2,13 @@ ghost use Rattle.std.specs.Prelude.{◌≡◌, ◌≤◌, ℕ, [], ◌∷◌, �
 ghost use Rattle.pgp_sets.specs.declared.status.Status.{Status};
 ghost use Rattle.pgp_prior.specs.Better.{is_no_worse};
 ghost use Rattle.pgp_prior.specs.Changes.{is_no_better, is_same_or_gone, allows, IsChange};
-ghost use Rattle.pgp_prior.specs.Kept.{AgreeOn};
+ghost use Rattle.pgp_prior.specs.JudgedInterval.{AgreeOn};
 ghost use Rattle.pgp_prior.specs.IndexOf.{Basis, IsIndexOf, prior_by, is_down_by};
 ghost use Rattle.pgp_ids.specs.Past.{raised_at};
 
 use super::change::Change;
 use super::index_lists::{blocked_by, probe};
-use super::kept::Kept;
+use super::judged_interval::JudgedInterval;
 use super::places::add_interval;
 use super::prior_set::Prior;
 use super::renewal::{raise_at, renew_at, set_les_of};
@@ -29,7 +29,7 @@ pub struct PriorIndex<R> {
     alloc: Global,
     code: R,
     /// The past intervals in the order in which they were added.
-    past: Vec<Kept>,
+    past: Vec<JudgedInterval>,
     /// The places in `past` of the intervals in which a device is an acting member, in ascending order.
     places: HashMap<OsdId, Seq<usize>>,
     current: Membership,
@@ -76,7 +76,7 @@ impl<R: Recoverable> PriorIndex<R> {
         ensures err { OnErr result ((b : Basis R) → IsIndexOf R.enough R.by_place b self.old
             → IsIndexOf R.enough R.by_place b self.new) }
     {
-        let kept = Kept::keep(self.alloc, &self.code, self.les, past, statuses)?;
+        let kept = JudgedInterval::keep(self.alloc, &self.code, self.les, past, statuses)?;
         self.past.reserve(1)?;
         let by_place = self.code.by_place();
         let place = self.past.len();

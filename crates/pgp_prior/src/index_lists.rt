@@ -8,7 +8,7 @@ ghost use Rattle.pgp_prior.specs.KeptLists.{kept_matters, kept_blocks, up_of, do
 
 use super::blocked_by::add_down;
 use super::blocking::matters;
-use super::kept::Kept;
+use super::judged_interval::JudgedInterval;
 use super::probe::{add_members, add_up};
 use pgp_ids::{Epoch, Member, Membership, OsdId, Seq};
 use std::alloc::{AllocError, Global};
@@ -18,7 +18,7 @@ pub(crate) fn probe(
     alloc: Global,
     by_place: bool,
     les: Epoch,
-    past: &[Kept],
+    past: &[JudgedInterval],
     current: &Membership,
 ) -> Result<Seq<Member>, AllocError>
     ensures { IfOk result (λ list. list ≡ ascending is_before
@@ -40,7 +40,7 @@ pub(crate) fn probe(
 pub(crate) fn blocked_by(
     alloc: Global,
     by_place: bool,
-    past: &[Kept],
+    past: &[JudgedInterval],
 ) -> Result<Seq<OsdId>, AllocError>
     ensures { IfOk result (λ list. list
         ≡ ascending nat_lt (flat_map (down_of by_place) (filter kept_blocks past.now))) }

@@ -14,7 +14,7 @@ mod blocking;
 mod change;
 mod index;
 mod index_lists;
-mod kept;
+mod judged_interval;
 pub mod laws;
 mod members;
 mod places;

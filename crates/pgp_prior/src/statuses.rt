@@ -49,7 +49,7 @@ impl Statuses {
     }
 
     /// What is known of the device.
-    fn told(&self, osd: OsdId) -> Option<Status>
+    fn find(&self, osd: OsdId) -> Option<Status>
         ensures { result ≡ told self.now.known.items osd }
     {
         for known in &self.known {
@@ -79,7 +79,7 @@ impl StatusOf for Statuses {
     ghost status_of = { λ statuses osd _. told_or_gone statuses.known.items osd };
 
     fn status(&self, osd: OsdId, _first: Epoch) -> Status {
-        match self.told(osd) {
+        match self.find(osd) {
             Some(status) => status,
             None => Status::Gone,
         }

@@ -6,7 +6,7 @@ use Rattle.pgp_reasons.specs.Smallest.{most_sets}
 abbrev pub most_looks : ℕ
 most_looks = 10000
 
--- How many it has to judge at most for the sets of a size, where so many devices are still to be chosen from a rest of so many:
+-- How many it has to judge at most for the sets of a size, where `left` devices are still to be chosen from a rest of `rest`:
 -- a set, and what is left of it without each of its devices; or what was chosen, and then the sets with the first of the rest and
 -- those without it.
 abbrev pub looks_of : ℕ → (left rest : ℕ) → ℕ
@@ -14,7 +14,7 @@ looks_of size zero rest = size + 1
 looks_of size (suc left) zero = 1
 looks_of size (suc left) (suc rest) = looks_of size left rest + looks_of size (suc left) rest + 1
 
--- the same for all sets of so many devices that are smaller than a size
+-- the same for all sets of this many devices that are smaller than a size
 abbrev pub looks_below : ℕ → (size : ℕ) → ℕ
 looks_below count zero = 0
 looks_below count (suc size) = looks_below count size + looks_of size size count

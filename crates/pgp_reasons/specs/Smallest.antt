@@ -53,7 +53,7 @@ pub record IsOneOf (all listed : List (List ℕ)) : Type 0 where
 abbrev pub most_sets : ℕ
 most_sets = 16
 
--- of so many devices all sets are judged, as far as they have to be
+-- of this many devices all sets are judged, as far as they have to be
 abbrev pub few_devices : ℕ
 few_devices = 9
 

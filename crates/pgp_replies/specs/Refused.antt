@@ -1,12 +1,12 @@
 -- Refusals in answers: the number, the name, and the key or the tree's fault where one is named.
 use Rattle.std.specs.Prelude.{ℕ, List, [], ◌∷◌, ◌++◌, codes, Option, Some, None, string_bytes}
 use Rattle.serde_json.specs.Data.{Data, string}
-use Rattle.pgp_refusals.specs.AskRefusal.{ask_refusal_number, ask_refusal_name}
-use Rattle.pgp_refusals.specs.LocateRefusal.{locate_refusal_number, locate_refusal_name}
-use Rattle.pgp_refusals.specs.Refusal.{refusal_number, refusal_name, refusal_tree}
-use Rattle.pgp_refusals.specs.TextFault.{fault_number}
-use Rattle.pgp_refusals.specs.declared.text_fault.TextFault.{TextFault}
-use Rattle.pgp_refusals.specs.declared.text_fault.TextFault.TheVariants.{LineTooLong, NotJson, NoOp, UnknownKey, BadField, Memory}
+use Rattle.pgp_ids.specs.AskRefusal.{ask_refusal_number, ask_refusal_name}
+use Rattle.pgp_ids.specs.LocateRefusal.{locate_refusal_number, locate_refusal_name}
+use Rattle.pgp_ids.specs.Refusal.{refusal_number, refusal_name, refusal_tree}
+use Rattle.pgp_ids.specs.TextFault.{fault_number}
+use Rattle.pgp_ids.specs.declared.text_fault.TextFault.{TextFault}
+use Rattle.pgp_ids.specs.declared.text_fault.TextFault.TheVariants.{LineTooLong, NotJson, NoOp, UnknownKey, BadField, Memory}
 use Rattle.pgp_replies.specs.Json.{Field, object_with, number_data}
 use Rattle.pgp_replies.specs.declared.reply.refused.Refused.{Refused}
 use Rattle.pgp_replies.specs.declared.reply.refused.Refused.TheVariants.{Line, Entry, Ask, Locate}

@@ -2,10 +2,10 @@
 #![tactic(auto, unfolding(crate::specs::WorkedReplies::replies_computed))]
 
 ghost use Rattle.std.specs.Prelude.{◌≡◌, [], ◌∷◌, codes};
-ghost use Rattle.pgp_refusals.specs.declared.ask_refusal.AskRefusal.TheVariants as ask;
-ghost use Rattle.pgp_refusals.specs.declared.locate_refusal.LocateRefusal.TheVariants as locate;
-ghost use Rattle.pgp_refusals.specs.declared.refusal.Refusal.TheVariants as entry;
-ghost use Rattle.pgp_refusals.specs.declared.text_fault.TextFault.TheVariants as line;
+ghost use Rattle.pgp_ids.specs.declared.ask_refusal.AskRefusal.TheVariants as ask;
+ghost use Rattle.pgp_ids.specs.declared.locate_refusal.LocateRefusal.TheVariants as locate;
+ghost use Rattle.pgp_ids.specs.declared.refusal.Refusal.TheVariants as entry;
+ghost use Rattle.pgp_ids.specs.declared.text_fault.TextFault.TheVariants as line;
 ghost use Rattle.pgp_replies.specs.Reply.{reply_text};
 ghost use Rattle.pgp_replies.specs.WorkedReplies.{members_with_holes, interval_with_holes, traced_answer, located_answer, known_view, asked_answer};
 ghost use Rattle.pgp_replies.specs.declared.reply.Reply.TheVariants.{Accepted, Asked, Located, Traced, Refused};

@@ -1,7 +1,7 @@
 -- What an engine answers, as replies to commands by a front that holds the one that was handed in.
 use Rattle.std.proofs.Common.{◌≡◌, ℕ, ◌+◌, ◌<◌, List, [], ◌∷◌, ◌++◌, length, true, false, Some, None, refl, ap, ap₂, sym, ◌∙◌, subst, arith, length-append}
-use Rattle.pgp_refusals.specs.declared.locate_refusal.LocateRefusal.TheVariants.{UnknownPool}
-use Rattle.pgp_refusals.specs.declared.refusal.Refusal.{Refusal}
+use Rattle.pgp_ids.specs.declared.locate_refusal.LocateRefusal.TheVariants.{UnknownPool}
+use Rattle.pgp_ids.specs.declared.refusal.Refusal.{Refusal}
 use Rattle.pgp_ids.specs.declared.entry.Entry.{Entry}
 use Rattle.pgp_ids.specs.declared.membership.Membership.{Membership}
 use Rattle.pgp_ids.specs.declared.pg_id.PgId.{PgId}

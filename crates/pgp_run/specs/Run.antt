@@ -8,7 +8,7 @@ use Rattle.pgp_core.specs.declared.fault.AnswerFault.TheVariants as answer
 use Rattle.pgp_run.specs.declared.fault.RunFault.{RunFault}
 use Rattle.pgp_run.specs.declared.fault.RunFault.TheVariants.{Read, Write, NoEngine}
 
--- The reader gave these bytes and is at its end, and the writer got the answers to their lines. Each goes by a log that holds
+-- The reader gave these bytes and is at its end, and the writer got the answers to their lines. Each is that of a log that holds
 -- the entries of the lines before it, in their order; where others add to the log too, it may hold theirs among them.
 pub record ToldByEngine (from to start now : Option (List ℕ)) : Type 0 where
   pub log : List Entry

@@ -19,7 +19,7 @@ use std::sync::Wait;
 use std::thread;
 use std::thread::Threads;
 
-/// Answers the script that the reader gives over an engine of so many shards and workers: at most a million lines, and 4 GiB.
+/// Answers the script that the reader gives over an engine of this many shards and workers: at most a million lines, and 4 GiB.
 ///
 /// The workers have threads of their own; the lines are answered on this one. At the end, and after a fault, the log is closed
 /// if the script didn't close it, which has no answer, and the workers are waited for. A fault says what it leaves:

@@ -10,8 +10,8 @@ use std::test::Fail;
 /// How many devices there are, each of which has a member in slot 0 and one in slot 1.
 const DEVICES: u16 = 4;
 
-/// A pool that goes by place or doesn't, who leads its group, and all infos that came, of those members that were not
-/// dropped since.
+/// A pool in which each member has a place or none has, who leads its group, and all infos that came, of those members that
+/// were not dropped since.
 #[derive(Drop)]
 struct Came {
     by_place: bool,
@@ -64,7 +64,7 @@ impl Came {
         true
     }
 
-    /// Whether the pool goes by the copy of `a` and not that of `b`.
+    /// Whether the pool follows the copy of `a` and not that of `b`.
     fn prefers(&self, a: &Info, b: &Info) -> bool {
         if a.last_update != b.last_update {
             return self.by_place == (a.last_update < b.last_update);
@@ -112,7 +112,7 @@ fn anyone(dice: &mut Dice) -> Result<Member, Fail> {
     member(osd, dice.below(2) as u8)
 }
 
-/// An info of some member. Many are alike but for the member, and few tell of a start that no copy served in.
+/// An info of some member. Many are alike except for the member, and few tell of a start that no copy served in.
 fn any_info(dice: &mut Dice) -> Result<Info, Fail> {
     let told = if dice.below(6) == 0 { dice.below(5) } else { 0 };
     let tail = dice.below(2) as u32;
@@ -213,7 +213,7 @@ fn follow(
     Ok((best, each))
 }
 
-/// The same of the stream from this seed, in a pool that goes by place or doesn't.
+/// The same of the stream from this seed, in a pool in which each member has a place or none has.
 fn run(alloc: Global, by_place: bool, seed: u64) -> Result<(bool, bool), Fail> {
     let mut heard = heard_of(alloc, Preference::of_pool(by_place, None), &[])?;
     let mut came = Came {

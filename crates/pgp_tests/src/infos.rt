@@ -46,7 +46,7 @@ fn put<P: Prefer + Drop>(heard: &mut Best<P>, infos: &[Told], count: usize) -> R
     Ok(())
 }
 
-/// The device whose copy is the one to go by.
+/// The device whose copy is the one to follow.
 fn leader<P: Prefer>(heard: &Best<P>) -> Option<u16> {
     match heard.best() {
         Some(info) => Some(info.member.osd.number()),

@@ -170,7 +170,7 @@ static PRIOR_SETS: [(Lived, &[Status], &str); 8] = [
     (COPIES, &[UP, UP, UP], "asks 0:0 1:0 2:0, not down"),
 ];
 
-/// The code that so many data shards make, or whole copies.
+/// The code that this many data shards make, or whole copies.
 fn code_of(k: u8) -> AnyCode {
     AnyCode::of_pool(if k == 0 {
         PoolKind::Replicated

@@ -27,7 +27,7 @@ fn holder(number: u16) -> u16 {
     if number <= 4 { 0 } else { 1 + number % 4 }
 }
 
-/// The ids of the buckets that the bucket of this number holds, of so many. The id of number 0 is -1, that of 1 is -2.
+/// The ids of the buckets that the bucket of this number holds, of this many buckets. The id of number 0 is -1, that of 1 is -2.
 fn held(alloc: Global, holding: u16, count: u16) -> Result<Vec<i32>, AllocError> {
     let mut items = Vec::new(alloc);
     for number in 1..count {
@@ -38,7 +38,7 @@ fn held(alloc: Global, holding: u16, count: u16) -> Result<Vec<i32>, AllocError>
     Ok(items)
 }
 
-/// So many buckets in three levels.
+/// This many buckets in three levels.
 fn crowd(alloc: Global, count: u16) -> Result<Vec<BucketSpec>, AllocError> {
     let mut buckets = Vec::new(alloc);
     for number in 0..count {

@@ -61,7 +61,7 @@ fn answer(alloc: Global, world: &mut World, shards: usize, pg: PgId) -> Result<V
     Ok(text_of(alloc, Reply::Asked(pg, view))?)
 }
 
-/// The last answers of a world of so many shards that takes all the steps, one before the other.
+/// The last answers of a world of this many shards that takes all the steps, one before the other.
 fn run(alloc: Global, shards: usize) -> Result<(Vec<u8>, Vec<u8>), Fail>
     requires { 0 < shards }
 {

@@ -1,7 +1,7 @@
 -- What is written of a line's fault.
 use Rattle.std.proofs.Common.{◌≡◌, refl, IfSome}
-use Rattle.pgp_refusals.specs.declared.text_fault.TextFault.{TextFault}
-use Rattle.pgp_refusals.specs.declared.text_fault.TextFault.TheVariants.{LineTooLong, NotJson, NoOp, UnknownKey, BadField, Memory}
+use Rattle.pgp_ids.specs.declared.text_fault.TextFault.{TextFault}
+use Rattle.pgp_ids.specs.declared.text_fault.TextFault.TheVariants.{LineTooLong, NotJson, NoOp, UnknownKey, BadField, Memory}
 use Rattle.pgp_lines.specs.LineFault.{told}
 use Rattle.pgp_replies.specs.Refused.{refused_data}
 use Rattle.pgp_replies.specs.declared.reply.refused.Refused.TheVariants.{Line}

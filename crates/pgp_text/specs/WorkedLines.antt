@@ -25,7 +25,7 @@ unfoldable pub text_computed : ⊤
 unfolding is_utf8 chars digits serde_json_on_literals
 text_computed = tt
 
--- so many lists, each in the one before it, all of them closed
+-- this many lists, each in the one before it, all of them closed
 abbrev pub nested : ℕ → List ℕ
 nested n = replicate n 91 ++ replicate n 93
 

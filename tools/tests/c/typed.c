@@ -159,7 +159,7 @@ static void long_names(void) {
     CHECK(room[1].name_length == 1 && room[1].name[0] == 'z' && room[1].name[1] == 0 && room[1].number == 2);
 }
 
-// An info that the same member tells once more is left out, and the group's view is the same but for its count.
+// An info that the same member tells once more is left out, and the group's view is the same except for its count.
 static void compaction(void) {
     pgp_view before, after;
     pgp_info info = {.pool = 1, .osd = 2, .stamp = 3, .last_update_epoch = 1, .last_update = 1, .complete = true};

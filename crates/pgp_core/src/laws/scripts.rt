@@ -7,7 +7,7 @@ ghost use Rattle.pgp_core.specs.declared.want.Want.TheVariants.{Line, Entry};
 ghost use Rattle.pgp_core.specs.Script.{script_text, answer, answers, log_past, logs};
 ghost use Rattle.pgp_core.specs.Examples.{without_want, copies_line, copies_located, copies_asked};
 
-/// What is written for one line more goes by the log after the lines before it, and so does the log after that line.
+/// What is written for one line more depends on the log after the lines before it, and so does the log after that line.
 pub fn answers_go_by_the_lines_before()
     ensures text { (met : List (Option Want)) (lines : List (List ℕ)) (last : Option Want) (line : List ℕ)
         → length met ≡ length lines
@@ -40,7 +40,7 @@ pub fn scripts_with_faults()
         ≡ codes "{\"code\":31,\"refused\":\"NotJson\"}\n{\"code\":32,\"refused\":\"NoOp\"}\n{\"count\":1,\"epoch\":0,\"ok\":\"close\"}\n" }
 {}
 
-/// A line that met want of memory has one of the two constant texts, and no effect.
+/// A line that was out of memory has one of the two constant texts, and no effect.
 pub fn scripts_that_want_memory()
     ensures entry { script_text (Some Entry ∷ None ∷ []) (codes "{\"op\":\"close\"}\n{\"op\":\"close\"}\n")
         ≡ codes "{\"code\":51,\"refused\":\"Memory\"}\n{\"count\":1,\"epoch\":0,\"ok\":\"close\"}\n" }

@@ -20,7 +20,7 @@ use pgp_ids::Entry;
 use std::alloc::{AllocError, Global};
 use std::sync::{Arc, Condvar, Mutex, Wait};
 
-// So many shards, each with one of the taps, of which the others are left.
+// This many shards, each with one of the taps, of which the others are left.
 fn make_shards<J: Naming>(
     alloc: Global,
     taps: &mut Vec<Tap>,
@@ -80,8 +80,8 @@ fn publish_all<R: Wait>(rt: &R, feed: &mut Feed, entries: &[Arc<Entry>]) -> Resu
 }
 
 impl<J: Naming> Engine<J> {
-    /// The engine over a feed in which nothing was published yet, with so many shards, to be served by so many workers, and a
-    /// client for each tap that neither a shard nor the intake has, with the empty front. Refused, which is for `Memory`
+    /// The engine over a feed in which nothing was published yet, with this many shards, to be served by this many workers, and
+    /// a client for each tap that neither a shard nor the intake has, with the empty front. Refused, which is for `Memory`
     /// alone, the feed is given up.
     pub fn make<R: Wait>(
         rt: &R,

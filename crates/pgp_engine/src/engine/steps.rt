@@ -79,7 +79,7 @@ impl<J: Naming> Engine<J> {
         serving(rt, self.shards.as_slice(), &pg).ask(pg, q)
     }
 
-    /// Lets a shard read at most so many further entries of the log, and answers the receipt of what it has read then.
+    /// Lets a shard read at most this many further entries of the log, and answers the receipt of what it has read then.
     /// Without memory it may have read some of them. Where there is nothing to read, the shard works out anew as many of its
     /// groups.
     pub fn absorb_some<R: Wait>(

@@ -37,8 +37,8 @@ fn read_on<J: Naming>(shard: &mut Shard<J>) -> Result<Stand, AskFault>
 }
 
 impl<J: Naming> Engine<J> {
-    /// Serves the shards of this seat, which are each so many-th one as there are workers, until all of them have read the
-    /// Close, and answers the receipt of the closed log. There is none where no shard is of this seat. `Memory` and
+    /// Serves the shards of this seat, whose numbers divided by the number of workers leave the seat, until all of them have
+    /// read the Close, and answers the receipt of the closed log. There is none where no shard is of this seat. `Memory` and
     /// `NoReader` end the work, and leave the shards as far as they have read.
     ///
     /// In each of its turns a shard reads a few entries, between the gate's two calls, or works out anew a few of its groups

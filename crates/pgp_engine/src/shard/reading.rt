@@ -7,7 +7,7 @@ ghost use Rattle.pgp_feed.specs.Taps.{last_of};
 use pgp_feed::{Receipt, Tap};
 use std::cmp::Ordering;
 
-/// The first so many entries after those that were read, or all that there are.
+/// The front with the next `max` entries after those that were read, or with all that there are.
 pub(super) fn after(newest: &Receipt, read: usize, max: usize) -> Receipt
     requires { read ≤ length (entries_of newest.now) }
     ensures entries { entries_of result ≡ front (read + max) (entries_of newest.now) }

@@ -27,7 +27,7 @@ use std::alloc::{AllocError, Global};
 use std::marker::PhantomData;
 
 impl<J: Naming> Shard<J> {
-    /// The shard of this number, of so many, over a tap. It has read nothing, and takes no memory.
+    /// The shard of this number, of this many shards, over a tap. It has read nothing, and takes no memory.
     pub(crate) fn start(alloc: Global, shard: usize, shards: usize, tap: Tap) -> Shard<J>
         requires tap { feed_of (last_of tap) ≡ J.feed }
         requires within { shard < shards }
@@ -84,7 +84,7 @@ impl<J: Naming> Shard<J> {
         }
     }
 
-    /// Reads at most so many further entries of the log, and answers the receipt of what it has read then. Without memory
+    /// Reads at most this many further entries of the log, and answers the receipt of what it has read then. Without memory
     /// it may have read some of them. Where there is nothing to read, it works out anew as many of its groups: `max` bounds
     /// both. `NoReader`: there was something to read. `Memory`: there was, or the map isn't empty.
     pub fn absorb_some(&mut self, max: usize) -> Result<Receipt, AskFault>
@@ -105,7 +105,7 @@ impl<J: Naming> Shard<J> {
         Ok(front)
     }
 
-    /// Reads at most so many further entries of the log.
+    /// Reads at most this many further entries of the log.
     fn read_some(&mut self, max: usize) -> Result<Receipt, AskFault>
         ensures on { GoesOn self.old self.new }
         ensures absorbed { OnOk result (HasAbsorbed self.old self.new max) }
@@ -120,7 +120,7 @@ impl<J: Naming> Shard<J> {
         Ok(self.front.again())
     }
 
-    /// Works out anew at most so many of its groups that an entry touched, so that the next to ask about them needn't.
+    /// Works out anew at most this many of its groups that an entry touched, so that the next to ask about them needn't.
     fn renew(&mut self, max: usize) -> Result<(), AskFault>
         ensures same { StaysThere self.old self.new }
         ensures marks { OnOk result (AreUnmarked max (state_of self.old) (state_of self.new)) }

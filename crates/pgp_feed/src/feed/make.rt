@@ -96,7 +96,7 @@ impl Feed {
         Ok(taps)
     }
 
-    // All that takes memory: a feed without taps, and a list with room for so many.
+    // All that takes memory: a feed without taps, and a list with room for this many.
     fn supplied<R: Wait>(rt: &R, alloc: Global, taps: usize) -> Result<(Feed, Vec<Tap>), AllocError>
         requires { (1 ≤ taps) × (taps ≤ 129) }
         ensures { IfOk result (λ made. IsSupplied made.0 made.1 taps) }
@@ -131,7 +131,7 @@ impl Feed {
         }
     }
 
-    /// A feed with an empty log, and so many taps, each with the empty front. Both copies have room for the longest log.
+    /// A feed with an empty log, and this many taps, each with the empty front. Both copies have room for the longest log.
     /// Refused by `Memory` where there is no memory for the copies, the writer's queue, the readers' places or the list of
     /// taps; with all of these, by `NoReader` where a tap isn't given its place.
     pub fn make<R: Wait>(rt: &R, alloc: Global, taps: usize) -> Result<(Feed, Vec<Tap>), MakeFault>

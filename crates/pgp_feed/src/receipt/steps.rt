@@ -18,7 +18,7 @@ impl Receipt {
         self.len
     }
 
-    /// A second receipt of the same front.
+    /// A clone of the receipt: it names the same front.
     pub fn again(&self) -> Receipt
         ensures { result ≡ self.now }
     {

@@ -1,6 +1,7 @@
 //! Of which devices a group speaks.
 
-ghost use Rattle.std.specs.Prelude.{◌≡◌, ℕ, List, false};
+ghost use Rattle.std.specs.Prelude.{◌≡◌, ℕ, List, false, nat_eq};
+ghost use Rattle.std.specs.List.{list_any};
 ghost use Rattle.std.specs.Option.{option_map_or};
 ghost use Rattle.pgp_ids.specs.declared.entry.Entry.{Entry as Told};
 ghost use Rattle.pgp_ids.specs.declared.pg_id.PgId.{PgId as Id};
@@ -22,5 +23,15 @@ impl Group {
             → result ≡ option_map_or (names osd) (group_in log pg) false }
     {
         self.named.has(osd)
+    }
+
+    /// The devices of which [`names`](Self::names) says so.
+    pub fn named(&self) -> &[OsdId]
+        ensures later { (log : List Told) (pg : Id) (epoch : ℕ) → IsGroupOf log pg (reaching epoch self.now)
+            → (osd : ℕ) → list_any (nat_eq osd) result.now ≡ option_map_or (names osd) (group_in log pg) false }
+        ensures now { (log : List Told) (pg : Id) → IsGroupOf log pg self.now
+            → (osd : ℕ) → list_any (nat_eq osd) result.now ≡ option_map_or (names osd) (group_in log pg) false }
+    {
+        self.named.as_slice()
     }
 }

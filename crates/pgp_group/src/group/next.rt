@@ -17,7 +17,7 @@ ghost use Rattle.pgp_group.specs.GroupHistory.{AreNumbered, group_facts, group_p
 ghost use Rattle.pgp_group.specs.GroupOf.{IsGroupOf, IsSilent, Follows};
 ghost use Rattle.pgp_group.specs.Reaching.{reaching};
 
-use super::{Group, Infos, Named, Reckoned, Reports, kind_of, opening};
+use super::{Group, Infos, KeptPrior, NamedDevices, Reports, kind_of, opening};
 use pgp_ids::{Epoch, Membership, OsdId, PgId, PrimaryFacts};
 use pgp_map::OsdMap;
 use std::alloc::{AllocError, Global};
@@ -34,14 +34,14 @@ impl Group {
         let kind = kind_of(map, &pg);
         let intervals = opening(alloc, kind, map.epoch(), members);
         let (_, current) = intervals.current();
-        let reckoned = Reckoned::begin(alloc, *intervals.code(), current);
+        let reckoned = KeptPrior::begin(alloc, *intervals.code(), current);
         Group {
             alloc,
             pg,
             intervals,
             infos: Infos::new(alloc),
             reports: Reports::new(alloc),
-            named: Named::new(alloc),
+            named: NamedDevices::new(alloc),
             reckoned,
         }
     }

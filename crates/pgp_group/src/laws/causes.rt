@@ -28,7 +28,7 @@ pub fn short_groups()
         option_map (λ view. view.verdict) (scratch log shards_group) ≡ Some the.Short }
 {}
 
-/// Where no copy that was heard is complete, there is none to go by.
+/// Where no copy that was heard is complete, there is none to follow.
 pub fn no_complete_copy()
     ensures verdict { let log = maps (copies_placed ∷ []) ++ infos_sent (record (copy 0 1) { complete = false } ∷ []) in
         option_map (λ view. view.verdict) (scratch log copies_group) ≡ Some the.Incomplete }

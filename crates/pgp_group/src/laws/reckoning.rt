@@ -48,7 +48,7 @@ pub fn reckoned()
 pub fn relief()
     ensures map { (g after : GroupLog) (inc : Incremental) → IsAfter g (entry.Inc inc ∷ []) after
         → TakesNothingAway (incs g) inc → (prior g).down ≡ false → (prior after).down ≡ false }
-    // Whether it is down then goes by the past intervals of before alone.
+    // Whether it is down then depends on the past intervals of before alone.
     ensures by_past { (g after : GroupLog) (inc : Incremental) → IsAfter g (entry.Inc inc ∷ []) after
         → TakesNothingAway (incs g) inc
         → (prior after).down

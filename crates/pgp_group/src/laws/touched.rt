@@ -48,7 +48,7 @@ pub fn groups_that_an_entry_leaves()
     ensures close { is_touched until_serving entry.Close copies_group ≡ false }
 {}
 
-/// Each that a group goes by, by itself: its pool, sizes and pg_temp, weights, the tree, and its reports.
+/// Each that a group depends on, by itself: its pool, sizes and pg_temp, weights, the tree, and its reports.
 pub fn groups_that_an_entry_touches()
     ensures pool { let made = record (empty_step 1) { pools = copies_on_three.pools } in
         is_touched [] (entry.Inc made) copies_group ≡ true }

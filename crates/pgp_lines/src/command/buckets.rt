@@ -145,7 +145,7 @@ fn bucket_of(
     })
 }
 
-/// How many weights a bucket of so many items has.
+/// How many weights a bucket of this many items has.
 fn weight_count(alg: BucketAlg, items: usize) -> usize
     ensures { result ≡ weight_count alg items }
 {

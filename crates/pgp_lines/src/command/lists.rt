@@ -13,7 +13,7 @@ pub(super) trait Shape {
     /// What the value is, where it has the shape.
     ghost shape: { Data → Option Self };
 
-    /// What the value is, or `None` where it has another shape or is out of range. An `Err` is want of memory.
+    /// What the value is, or `None` where it has another shape or is out of range. An `Err` means out of memory.
     fn read(alloc: Global, value: &Value<'_, '_>) -> Result<Option<Self>, AllocError>
         ensures { IfOk result (λ found. found ≡ shape (view value.now)) };
 }

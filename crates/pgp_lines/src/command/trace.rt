@@ -139,7 +139,7 @@ fn read_facts(value: &Value<'_, '_>) -> Option<PrimaryFacts>
 }
 
 /// The 1 to 4,096 epochs of a trace, the first of which is epoch 1. The bound is judged as the list is walked: a longer
-/// one is refused after its first 4,096 were read. An `Err` is want of memory.
+/// one is refused after its first 4,096 were read. An `Err` means out of memory.
 pub(super) fn read_epochs(
     alloc: Global,
     value: &Value<'_, '_>,

@@ -14,7 +14,7 @@ pub(super) trait Json {
     /// The value.
     ghost value: { Self → Data };
 
-    /// Writes the value. An `Err` is want of memory.
+    /// Writes the value. An `Err` means out of memory.
     fn write(&self, alloc: Global, out: &mut Writer) -> Result<(), AllocError>
         ensures ok { OnOk result (out.new.tokens ≡ out.old.tokens ++ tokens_of (value self.now)) }
         ensures before { out.new.before ≡ out.old.before };

@@ -76,7 +76,7 @@ fn write_objects(
     write_field(alloc, out, "objects", &versions)
 }
 
-/// The versions of objects by their names, in ascending byte order; of a name that stands twice the last.
+/// The versions of objects by their names, in ascending byte order; of a name that is twice in the list the last.
 fn versions_of(
     alloc: Global,
     objects: &[MissingObject],

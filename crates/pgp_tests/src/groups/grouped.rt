@@ -86,7 +86,7 @@ static PLACES: Outage = Outage(&[
         r#"{"op":"info","pg":[1,0],"from":[3,3],"stamp":3,"les":0,"history_les":0,"last_update":[1,2],"log_tail":[0,0],"complete":true}"#,
         r#"{"acting":[null,1,null,3,null],"acting_primary":1,"best":[3,3],"blocked_by":[],"count":7,"epoch":3,"first":3,"intervals":[{"acting":[0,1,2,3,4],"acting_primary":0,"first":1,"last":1,"min_size":2,"rw":false,"size":5,"up":[null,null,null,null,null],"up_primary":null},{"acting":[null,null,2,3,4],"acting_primary":2,"first":2,"last":2,"min_size":2,"rw":false,"size":5,"up":[null,null,null,null,null],"up_primary":null}],"les":0,"missing":[],"ok":"ask","pg":[1,0],"probe":[[1,1],[3,3]],"up":[null,null,null,null,null],"up_primary":null,"verdict":"Waiting"}"#,
     ),
-    // The copy that was written least is the one to go by.
+    // The copy that was written least is the one to follow.
     (
         r#"{"op":"info","pg":[1,0],"from":[1,1],"stamp":3,"les":0,"history_les":0,"last_update":[1,1],"log_tail":[1,1],"complete":true}"#,
         r#"{"acting":[null,1,null,3,null],"acting_primary":1,"best":[1,1],"blocked_by":[],"count":8,"epoch":3,"first":3,"intervals":[{"acting":[0,1,2,3,4],"acting_primary":0,"first":1,"last":1,"min_size":2,"rw":false,"size":5,"up":[null,null,null,null,null],"up_primary":null},{"acting":[null,null,2,3,4],"acting_primary":2,"first":2,"last":2,"min_size":2,"rw":false,"size":5,"up":[null,null,null,null,null],"up_primary":null}],"les":0,"missing":[{"member":[3,3],"state":"diverged"}],"ok":"ask","pg":[1,0],"probe":[[1,1],[3,3]],"up":[null,null,null,null,null],"up_primary":null,"verdict":"NeedUpThru"}"#,

@@ -128,7 +128,7 @@ impl Told {
         Ok(())
     }
 
-    /// Whether just this is answered after each of these lines, which come after so many entries.
+    /// Whether just this is answered after each of these lines, which come after this many entries.
     pub fn answers(
         &mut self,
         alloc: Global,
@@ -149,7 +149,7 @@ impl Told {
         Ok(same)
     }
 
-    /// What is answered of the group after so many entries.
+    /// What is answered of the group after this many entries.
     pub fn answer(&mut self, alloc: Global, count: usize) -> Result<Vec<u8>, Fail>
         requires { AreTold self.old.before self.old.after self.old.group }
         ensures { AreTold self.new.before self.new.after self.new.group }

@@ -35,7 +35,7 @@ fn stops_endless_readers(rt: HostRuntime) {
     }
 }
 
-/// A line of so many of these bytes, and one that asks for nothing.
+/// A line of this many of these bytes, and one that asks for nothing.
 fn long_line(alloc: Global, byte: u8, count: usize) -> Result<Vec<u8>, AllocError> {
     let mut script = vec![in alloc; byte; count]?;
     script.extend_from_slice(b"\n[]\n")?;

@@ -2,7 +2,7 @@
 #![tactic(auto, unfolding(crate::specs::WorkedLines::text_computed))]
 
 ghost use Rattle.std.specs.Prelude.{◌≡◌, codes, IfSome};
-ghost use Rattle.pgp_refusals.specs.declared.text_fault.TextFault.{TextFault};
+ghost use Rattle.pgp_ids.specs.declared.text_fault.TextFault.{TextFault};
 ghost use Rattle.pgp_lines.specs.LineFault.{told, not_json, bad_field};
 ghost use Rattle.pgp_replies.specs.Refused.{refused_data};
 ghost use Rattle.pgp_replies.specs.declared.reply.refused.Refused.TheVariants.{Line};

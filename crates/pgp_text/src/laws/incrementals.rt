@@ -21,7 +21,7 @@ pub fn small_incrementals()
         ≡ Ok (Submit (Inc (record (empty_inc 1) { crush = Some [] }))) }
 {}
 
-/// A key that stands twice has its last value.
+/// A key that is twice in an object has its last value.
 pub fn a_key_twice()
     ensures { command_of (codes "{\"op\":\"inc\",\"epoch\":null,\"epoch\":2}")
         ≡ Ok (Submit (Inc (empty_inc 2))) }

@@ -1,22 +1,18 @@
 use Rattle.std.proofs.Common.{ℕ, ◌-◌, ◌<◌, List, ◌∷◌, Bool, map, drop, length, reverse, ap, ap₂, sym, ◌∙◌, subst, arith}
+use Rattle.std.specs.List.{Contains}
 use Rattle.std.specs.Arc.{arc_value}
 use Rattle.pgp_ids.specs.declared.entry.Entry.{Entry}
 use Rattle.pgp_lists.proofs.Members.{contains-map}
 use Rattle.pgp_compact.specs.Compacted.{is_needed}
 use Rattle.pgp_compact.specs.Later.{IsLater}
 use Rattle.pgp_compact.specs.Needed.{are_needed}
-use Rattle.pgp_compact.specs.Whole.{IsReached}
-use Rattle.pgp_compact.proofs.WholeLemmas.{all-of, nothing-yet, one-earlier, reached-entry, reverse-last}
+use Rattle.pgp_compact.proofs.WholeLemmas.{all-of, nothing-yet, one-earlier, reverse-last}
 use Rattle.pgp_compact.proofs.walk.needed.Goals as goal
-
-pub needs-requires : goal.needs-requires
-needs-requires c = (map arc_value c.args.entries.now, c.loop-step.invariant.whole)
 
 pub loop-step-init : goal.loop-step-init
 loop-step-init c =
     let xs = c.args.entries.now in
     let log : List Entry = map arc_value xs in record {
-      whole = c.in_ok-whole.ensures;
       later = subst (λ l. IsLater log (map arc_value l) c.new-later.result) (sym (nothing-yet xs)) (c.new-later.ensures log);
       choices = ap reverse c.new-choices.ensures.items ∙ sym (ap (λ l. are_needed (is_needed log) (map arc_value l)) (nothing-yet xs));
     }
@@ -30,15 +26,13 @@ loop-step-preserved c =
     let rest : List Entry = map arc_value (drop (length xs - step) xs) in
     let earlier = one-earlier xs step item c.loop-step-test.true c.index-entries-entries.is in
     let place : length xs - 1 - step < length xs = omega (arith, c.loop-step-test.true) in
-    let reached : IsReached log c.deref.result.now =
-    subst (IsReached log) (sym c.deref.ensures)
-    (reached-entry log (arc_value item) c.requires (contains-map arc_value xs item (length xs - 1 - step, place, sym c.index-entries-entries.is))) in
+    let there : Contains log c.deref.result.now =
+    subst (Contains log) (sym c.deref.ensures) (contains-map arc_value xs item (length xs - 1 - step, place, sym c.index-entries-entries.is)) in
     let inv = c.loop-step.invariant in record {
-      whole = c.in_ok-needs.ensures.whole log inv.whole;
       later = subst (λ (l : List Entry). IsLater log l c.needs.new.later) (ap (λ (e : Entry). e ∷ rest) c.deref.ensures ∙ sym (ap (map arc_value) earlier))
-          (c.in_ok-needs.ensures.noted log rest inv.whole inv.later reached);
+          (c.in_ok-needs.ensures.noted log rest c.in_ok-whole.ensures inv.later there);
       choices = ap reverse c.in_ok-push.ensures.items ∙ reverse-last c.loop-step.choices.items c.in_ok-needs.field-0
-          ∙ ap₂ (λ (b : Bool) (l : List Bool). b ∷ l) (c.in_ok-needs.ensures.needed log rest inv.whole inv.later reached ∙ ap (is_needed log rest) c.deref.ensures) inv.choices
+          ∙ ap₂ (λ (b : Bool) (l : List Bool). b ∷ l) (c.in_ok-needs.ensures.needed log rest c.in_ok-whole.ensures inv.later there ∙ ap (is_needed log rest) c.deref.ensures) inv.choices
           ∙ sym (ap (λ l. are_needed (is_needed log) (map arc_value l)) earlier);
     }
 

@@ -4,16 +4,17 @@ use Rattle.pgp_ids.specs.declared.entry.Entry.{Entry}
 use Rattle.pgp_ids.specs.declared.entry.Entry.TheVariants as entry
 use Rattle.pgp_ids.specs.declared.pg_id.PgId.{PgId}
 use Rattle.pgp_group.specs.Touched.{is_touched}
-use Rattle.pgp_log.specs.Kept.{AreAllMarked, AreKeptOf, IsKeptOf, IsStep, ids_of, marks_in}
+use Rattle.pgp_log.specs.KeptGroup.{AreAllMarked, AreKeptOf, AreRowsOf, IsKeptOf, IsStep, ids_of, marks_in}
 use Rattle.pgp_log.specs.Shard.{is_among}
-use Rattle.pgp_log.specs.declared.kept.Kept.{Kept}
+use Rattle.pgp_log.specs.declared.kept_group.KeptGroup.{KeptGroup}
 use Rattle.pgp_log.proofs.groups.absorb_inc.Given as goal
 
-abbrev pub invariant-loop-kept : goal.invariant-loop-kept
-invariant-loop-kept l = record {
+abbrev pub invariant-loop-place : goal.invariant-loop-place
+invariant-loop-place l = record {
+  rows : AreRowsOf l.rows l.groups;
   done : (log : List Entry) → AreKeptOf log l.initial.groups → IsStep log l.inc l.before l.after
-      → (place : ℕ) (kept : Kept) → place < l.kept-index → slice_get l.groups place ≡ Some kept → IsKeptOf (log ++ entry.Inc l.inc ∷ []) kept;
-  rest : (place : ℕ) → l.kept-index ≤ place → slice_get l.groups place ≡ slice_get l.initial.groups place;
+      → (at : ℕ) (kept : KeptGroup) → at < l.place → slice_get l.groups at ≡ Some kept → IsKeptOf (log ++ entry.Inc l.inc ∷ []) kept;
+  rest : (at : ℕ) → l.place ≤ at → slice_get l.groups at ≡ slice_get l.initial.groups at;
   marks : (log : List Entry) → AreKeptOf log l.initial.groups → IsStep log l.inc l.before l.after
       → (pg : PgId) → is_touched log (entry.Inc l.inc) pg ≡ false → is_among pg (marks_in l.groups) ≡ is_among pg (marks_in l.initial.groups);
   marked : AreAllMarked l.initial.groups → AreAllMarked l.groups;

@@ -3,7 +3,7 @@ use Rattle.std.proofs.lemmas.List.{drop_more, drop_all}
 use Rattle.std.proofs.lemmas.Option.{slice_get-get_or}
 use Rattle.std.proofs.Math.Seq.{map-set_same}
 use Rattle.pgp_lists.proofs.Members.{contains-map}
-use Rattle.pgp_prior.specs.Kept.{past_of}
+use Rattle.pgp_prior.specs.JudgedInterval.{past_of}
 use Rattle.pgp_prior.proofs.KeptLemmas.{change-again}
 use Rattle.pgp_prior.proofs.WayLemmas.{at-contains, way-renewed, way-past, way-done}
 use Rattle.pgp_prior.proofs.renewal.renew_at.Goals as goal

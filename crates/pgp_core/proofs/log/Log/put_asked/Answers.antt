@@ -15,7 +15,7 @@ returns-clause-ok c =
     rw (← c.self.view_is)
     (on_ok_weaker c.put_told.result
     (λ put. put ∙ ap (λ r. c.args.text.now.items ++ (reply_text r ++ 10 ∷ []))
-    (told-reply log c.work_out.new.shard.front c.args.pg c.count-count.result c.epoch-epoch.result (option_copied c.told.result)
+    (told-reply log c.work_out.new.shard.front c.args.pg c.count-count.result c.epoch-epoch.result (option_copied c.view_of-view.result)
     (c.in_ok-work_out.ensures.same.front_is ∙ c.in_ok-read_on.ensures.all ∙ ap (map arc_value) c.as_slice.ensures.value) (c.count-count.ensures.count log judge_is)
-    (c.epoch-epoch.ensures (incs_of log) (c.map.ensures log judge_is)) (c.told.ensures.is c.in_ok-work_out.ensures.unmarked)))
+    (c.epoch-epoch.ensures (incs_of log) (c.map.ensures log judge_is)) (c.view_of-view.ensures.is c.in_ok-work_out.ensures.unmarked)))
     c.put_told.ensures.ok)

@@ -9,4 +9,4 @@ returns-clause-ok c = λ g here is. c.in_ok-heard.ensures g here is
 
 pub returns-clause-kept : goal.returns-clause-kept
 returns-clause-kept c = λ g here is.
-    KeepsInfos-heard g c.args.self.now _ is refl refl refl c.told-self.ensures (ap (λ (h : Heard Preference). h.infos) (c.in_ok-heard.ensures g here is))
+    KeepsInfos-heard g c.args.self.now _ is refl refl refl c.count-self.ensures (ap (λ (h : Heard Preference). h.infos) (c.in_ok-heard.ensures g here is))

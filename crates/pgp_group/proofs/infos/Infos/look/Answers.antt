@@ -23,7 +23,7 @@ returns-in-Ok-clause-ok c = λ g here is.
 
 pub returns-in-Ok-clause-kept : goal.returns-in-Ok-clause-kept
 returns-in-Ok-clause-kept c = λ g here is.
-    KeepsInfos-heard g c.args.self.now _ is refl refl refl c.told-self.ensures (ap (λ (h : Heard Preference). h.infos) (returns-in-Ok-clause-ok c g here is))
+    KeepsInfos-heard g c.args.self.now _ is refl refl refl c.count-self.ensures (ap (λ (h : Heard Preference). h.infos) (returns-in-Ok-clause-ok c g here is))
 
 pub returns-in-Err-clause-kept : goal.returns-in-Err-clause-kept
 returns-in-Err-clause-kept c = λ g here is.

@@ -9,7 +9,7 @@ use Rattle.pgp_group.specs.GroupOf.{TellsNothingAhead}
 use Rattle.pgp_group.specs.Touched.{is_touched}
 use Rattle.pgp_log.specs.Derived.{IsDerivedOf}
 use Rattle.pgp_log.specs.Fits.{fits}
-use Rattle.pgp_log.specs.Kept.{AreGroupsOf}
+use Rattle.pgp_log.specs.KeptGroup.{AreGroupsOf}
 use Rattle.pgp_log.specs.Log.{epoch_of}
 use Rattle.pgp_log.specs.declared.derived.Derived.{Derived}
 use Rattle.pgp_log.specs.declared.groups.Groups.{Groups}

@@ -6,7 +6,7 @@ use Rattle.pgp_map.specs.MapFault.{map_fault, then_with}
 use Rattle.pgp_group.specs.Entries.{incs_of}
 use Rattle.pgp_log.specs.Derived.{HasOwn, IsDerivedOf, IsStepping}
 use Rattle.pgp_log.specs.Fits.{fits}
-use Rattle.pgp_log.specs.Kept.{IsStep}
+use Rattle.pgp_log.specs.KeptGroup.{IsStep}
 use Rattle.pgp_log.specs.declared.derived.Derived.{Derived}
 use Rattle.pgp_log.proofs.DerivedLemmas.{groups-step, step-begins, step-ends}
 use Rattle.pgp_log.proofs.MarksLemmas.{ok-two, pool-left}
@@ -22,6 +22,7 @@ absorb_inc-requires c =
     let inc = c.args.inc.now in
     let fine : map_fault (incs_of log) inc ≡ None = faultless-inc log (entry.Inc inc) inc refl (fits-faultless log (entry.Inc inc) c.requires.fits) in
     record {
+      rows_are = c.requires.is.groups_are.places_are.rows;
       log = log;
       are = c.requires.is.groups_are.each;
       step = step-begins c.args.owner log inc c.args.self.now c.in_ok-before.before c.apply.new.self c.requires.is c.requires.fits

@@ -4,7 +4,7 @@ use Rattle.pgp_ids.specs.declared.entry.Entry.{Entry}
 use Rattle.pgp_ids.specs.declared.pg_id.PgId.{PgId}
 use Rattle.pgp_map.specs.MapFault.{then_with}
 use Rattle.pgp_group.specs.Entries.{incs_of}
-use Rattle.pgp_log.specs.Kept.{marks_of}
+use Rattle.pgp_log.specs.KeptGroup.{marks_of}
 use Rattle.pgp_log.specs.Shard.{is_among}
 use Rattle.pgp_log.specs.Derived.{IsKeptIfOwn, HasStill, IsStepping}
 use Rattle.pgp_log.proofs.derived.Derived.add_pool.Given as goal

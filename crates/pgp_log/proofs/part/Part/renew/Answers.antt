@@ -5,7 +5,7 @@ use Rattle.std.proofs.lemmas.Result.{on_err_weaker}
 use Rattle.pgp_lists.proofs.Options.{some-weaker}
 use Rattle.pgp_ids.specs.declared.pg_id.PgId.{PgId}
 use Rattle.pgp_log.specs.Derived.{shard_with}
-use Rattle.pgp_log.specs.Kept.{marks_of}
+use Rattle.pgp_log.specs.KeptGroup.{marks_of}
 use Rattle.pgp_log.proofs.PartLemmas.{if-marks}
 use Rattle.pgp_log.proofs.SharedLemmas.{on_err}
 use Rattle.pgp_log.proofs.part.Part.renew.Goals as goal

@@ -1,6 +1,6 @@
 use Rattle.std.proofs.Common.{◌≡◌, map, ap, ◌∙◌}
 use Rattle.std.specs.Vec.{with_items}
-use Rattle.pgp_prior.specs.Kept.{past_of}
+use Rattle.pgp_prior.specs.JudgedInterval.{past_of}
 use Rattle.pgp_ids.specs.Past.{raised_at}
 use Rattle.pgp_prior.proofs.BasisLemmas.{raised}
 use Rattle.pgp_prior.proofs.RaisedLemmas.{raised-written}

@@ -1,7 +1,7 @@
 use Rattle.std.proofs.Common.{◌≡◌, [], None, nat_eq, unwrap_or, map, rules, refl, sym, ap, ◌∙◌}
 use Rattle.std.specs.HashMap as hash
 use Rattle.std.specs.Vec.{with_items}
-use Rattle.pgp_prior.specs.Kept.{past_of}
+use Rattle.pgp_prior.specs.JudgedInterval.{past_of}
 use Rattle.pgp_prior.specs.Places.{places_of}
 use Rattle.pgp_prior.proofs.BasisLemmas.{way-start, change-here, renewed}
 use Rattle.pgp_prior.proofs.WayLemmas.{written, way-done}

@@ -1,6 +1,6 @@
 use Rattle.std.proofs.Common.{◌≡◌, map, ap, ◌∙◌}
 use Rattle.std.specs.Vec.{with_items}
-use Rattle.pgp_prior.specs.Kept.{past_of, later_les}
+use Rattle.pgp_prior.specs.JudgedInterval.{past_of, later_les}
 use Rattle.pgp_prior.proofs.BasisLemmas.{later}
 use Rattle.pgp_prior.proofs.IndexLemmas.{pasts-later}
 use Rattle.pgp_prior.proofs.WayLemmas.{written}

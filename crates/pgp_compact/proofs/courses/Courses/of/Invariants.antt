@@ -1,0 +1,7 @@
+use Rattle.std.proofs.Common.{[], map, take}
+use Rattle.std.specs.Arc.{arc_value}
+use Rattle.pgp_compact.specs.Courses.{AreCourses}
+use Rattle.pgp_compact.proofs.courses.Courses.of.Given as goal
+
+abbrev pub invariant-loop-entry : goal.invariant-loop-entry
+invariant-loop-entry l = AreCourses [] (map arc_value (take l.entry-index l.entries)) l.courses

@@ -1,0 +1,16 @@
+use Rattle.std.proofs.Common.{◌≡◌, ℕ, ◌<◌, ◌≤◌, List, Some}
+use Rattle.std.specs.Prelude.{slice_get}
+use Rattle.pgp_ids.specs.declared.incremental.Incremental.{Incremental}
+use Rattle.pgp_map.specs.MapFault.{then_with}
+use Rattle.pgp_compact.specs.Course.{IsCourse, IsNext}
+use Rattle.pgp_compact.specs.Courses.{EachIsCourse, IsSameButCourse}
+use Rattle.pgp_compact.specs.declared.course.Course.{Course}
+use Rattle.pgp_compact.proofs.courses.absorb.Given as goal
+
+abbrev pub invariant-loop-course : goal.invariant-loop-course
+invariant-loop-course l = record {
+  done : (incs : List Incremental) → IsNext incs l.inc l.after → EachIsCourse incs l.initial.groups
+      → (place : ℕ) (course : Course) → place < l.course-index → slice_get l.groups place ≡ Some course → IsCourse (then_with incs l.inc) course;
+  rest : (place : ℕ) → l.course-index ≤ place → slice_get l.groups place ≡ slice_get l.initial.groups place;
+  same : IsSameButCourse l.initial.groups l.groups;
+}

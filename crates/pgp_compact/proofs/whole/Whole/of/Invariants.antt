@@ -1,0 +1,7 @@
+use Rattle.std.proofs.Common.{map, take}
+use Rattle.std.specs.Arc.{arc_value}
+use Rattle.pgp_compact.specs.Whole.{HasRead}
+use Rattle.pgp_compact.proofs.whole.Whole.of.Given as goal
+
+abbrev pub invariant-loop-entry : goal.invariant-loop-entry
+invariant-loop-entry l = HasRead (map arc_value l.entries) (map arc_value (take l.entry-index l.entries)) l.whole

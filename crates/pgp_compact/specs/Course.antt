@@ -1,0 +1,69 @@
+-- What is kept of a group as one map follows another: where it lies, and when its intervals began (this project's own choice).
+use Rattle.std.specs.Prelude.{◌≡◌, ℕ, List, [], ◌∷◌, ◌++◌, Bool, ◌||◌, true, false, map, Some, None}
+use Rattle.std.specs.List.{list_any}
+use Rattle.pgp_code.specs.AnyCode.{enough_of, is_by_place}
+use Rattle.pgp_code.specs.declared.any.AnyCode.{AnyCode}
+use Rattle.pgp_ids.specs.declared.incremental.Incremental.{Incremental}
+use Rattle.pgp_ids.specs.declared.pg_id.PgId.{PgId}
+use Rattle.pgp_interval.specs.History.{History}
+use Rattle.pgp_interval.specs.Runs.{current_first, past_intervals}
+use Rattle.pgp_map.specs.Checked.{are_checked}
+use Rattle.pgp_map.specs.MapFault.{then_with}
+use Rattle.pgp_map.specs.MapOf.{IsMapOf}
+use Rattle.pgp_map.specs.Pools.{has_group, temp}
+use Rattle.pgp_map.specs.declared.map.OsdMap.{OsdMap}
+use Rattle.pgp_sets.specs.Sets.{membership, moves}
+use Rattle.pgp_group.specs.GroupHistory.{group_history}
+use Rattle.pgp_group.specs.Touched.{changes_temp, has_osd}
+use Rattle.pgp_log.specs.RawSets.{IsRawSet}
+use Rattle.pgp_compact.specs.declared.course.Course.{Course}
+use Rattle.pgp_compact.specs.declared.lying.Lying.{Lying}
+
+-- ---- where the group lies
+
+-- the map that these incrementals make puts the group there
+pub record LiesAt (incs : List Incremental) (pg : PgId) (lying : Lying) : Type 0 where
+  pub raw_is : IsRawSet incs pg lying.raw
+  pub temp_is : lying.temp ≡ temp incs pg
+  pub members_are : membership incs pg ≡ Some lying.members
+
+-- the device stands in the raw set or in pg_temp
+abbrev pub lies_on : Lying → ℕ → Bool
+lies_on lying osd = has_osd osd lying.raw || has_osd osd lying.temp
+
+-- the group, which lies so, may lie elsewhere by the incremental
+abbrev pub may_leave : Lying → PgId → Incremental → Bool
+may_leave lying pg inc =
+    moves inc pg.pool
+    || changes_temp inc pg
+    || (list_any (lies_on lying) inc.up || list_any (lies_on lying) inc.down || list_any (lies_on lying) inc.gone)
+
+-- ---- the group's intervals
+
+-- the first epochs of the group's intervals, in ascending order
+abbrev pub firsts_of : History AnyCode → List ℕ
+firsts_of h = map (λ p. p.first) (past_intervals enough_of is_by_place [] h) ++ current_first h ∷ []
+
+-- the map of these incrementals has the group, which lies so, and whose intervals began in these epochs
+pub record IsUnderWay (incs : List Incremental) (pg : PgId) (firsts : List ℕ) (lying : Lying) : Type 0 where
+  pub history : History AnyCode
+  pub history_is : group_history incs pg ≡ Some history
+  pub firsts_are : firsts ≡ firsts_of history
+  pub lies : LiesAt incs pg lying
+
+-- what is kept of the group is what these incrementals say of it
+pub record IsCourse (incs : List Incremental) (course : Course) : Type 0 where
+  pub absent : course.lying ≡ None → has_group incs course.pg ≡ false
+  pub unbegun : course.lying ≡ None → course.firsts.items ≡ []
+  pub there : (lying : Lying) → course.lying ≡ Some lying → IsUnderWay incs course.pg course.firsts.items lying
+
+-- the incremental comes next, and this is the map after it
+pub record IsNext (incs : List Incremental) (inc : Incremental) (after : OsdMap) : Type 0 where
+  pub checked : are_checked (then_with incs inc) ≡ true
+  pub after_is : IsMapOf (then_with incs inc) after
+
+-- it does after some incrementals, of which this is kept
+pub record CanGoOn (course : Course) (inc : Incremental) (after : OsdMap) : Type 0 where
+  pub incs : List Incremental
+  pub is : IsCourse incs course
+  pub next : IsNext incs inc after

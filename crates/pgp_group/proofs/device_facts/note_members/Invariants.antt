@@ -1,0 +1,15 @@
+use Rattle.std.proofs.Common.{◌≡◌, ◌⊎◌, ℕ, true}
+use Rattle.std.specs.List.{Contains}
+use Rattle.pgp_ids.specs.declared.member.Member.{Member}
+use Rattle.pgp_prior.specs.Members.{members_of}
+use Rattle.pgp_group.specs.DeviceFacts.{has_noted, AreOfMap}
+use Rattle.pgp_group.proofs.device_facts.note_members.Given as goal
+
+-- each member is left, or noted
+abbrev pub invariant-loop-member : goal.invariant-loop-member
+invariant-loop-member l =
+    (goal.iterator-loop-member).can_next l.member-iterator
+    × (goal.iterator-loop-member).is_finite l.member-iterator
+    × ((member : Member) → Contains (members_of l.by_place l.past.members.acting) member → (has_noted member.osd l.noted.items ≡ true) ⊎ Contains l.member-iterator member)
+    × ((osd : ℕ) → has_noted osd l.initial.noted.items ≡ true → has_noted osd l.noted.items ≡ true)
+    × (AreOfMap l.map l.initial.noted.items → AreOfMap l.map l.noted.items)

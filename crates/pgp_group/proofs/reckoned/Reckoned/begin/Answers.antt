@@ -1,8 +1,0 @@
-use Rattle.std.proofs.Common.{refl}
-use Rattle.pgp_sets.specs.declared.status.Status.TheVariants.{Up}
-use Rattle.pgp_group.proofs.PriorLemmas.{KeepsPrior-begun}
-use Rattle.pgp_group.proofs.reckoned.Reckoned.begin.Goals as goal
-
-pub returns : goal.returns
-returns c = λ g code_is.
-    KeepsPrior-begun g _ c.args.current c.new.result c.args.code (λ osd first. Up) code_is refl c.new.ensures (c.begin.ensures (λ osd first. Up))

@@ -1,0 +1,65 @@
+-- What a map said of the devices of past intervals, and the statuses that this gives (this project's own choice).
+use Rattle.std.specs.Prelude.{◌≡◌, ℕ, List, Bool, true, Contains, nat_eq, map as mapped}
+use Rattle.std.specs.List.{list_any}
+use Rattle.pgp_ids.specs.declared.member.Member.{Member}
+use Rattle.pgp_ids.specs.declared.past.Past.{Past}
+use Rattle.pgp_map.specs.Held.{held_exists, held_up, held_lost_at}
+use Rattle.pgp_map.specs.declared.map.OsdMap.{OsdMap}
+use Rattle.pgp_prior.specs.Better.{is_no_worse}
+use Rattle.pgp_prior.specs.Changes.{is_no_better, is_same_or_gone}
+use Rattle.pgp_prior.specs.Members.{members_of}
+use Rattle.pgp_sets.specs.Status.{status_by}
+use Rattle.pgp_sets.specs.declared.status.Status.{Status}
+use Rattle.pgp_sets.specs.declared.status.Status.TheVariants.{Up}
+use Rattle.pgp_group.specs.declared.device_facts.DeviceFacts.{DeviceFacts}
+use Rattle.pgp_group.specs.declared.device_facts.EachUp.{EachUp}
+use Rattle.pgp_group.specs.declared.device_facts.Turn.{Turn}
+use Rattle.pgp_group.specs.declared.device_facts.Turn.TheVariants as turn
+
+-- what the map says of the device
+abbrev pub noted_of : OsdMap → ℕ → DeviceFacts
+noted_of map osd =
+    record { osd = osd; up = held_up map osd; there = held_exists map osd; lost_at = held_lost_at map osd }
+
+-- what the map says of the device of this entry
+abbrev pub renoted : OsdMap → DeviceFacts → DeviceFacts
+renoted map entry = noted_of map entry.osd
+
+abbrev pub renoted_all : OsdMap → List DeviceFacts → List DeviceFacts
+renoted_all map noted = mapped (renoted map) noted
+
+-- an entry is of the device
+abbrev pub has_noted : ℕ → List DeviceFacts → Bool
+has_noted osd noted = list_any (λ entry. nat_eq entry.osd osd) noted
+
+-- the status of the entry's device, for an interval that began at the epoch `first`
+abbrev pub status_noted : DeviceFacts → ℕ → Status
+status_noted entry first = status_by entry.up entry.there entry.lost_at first
+
+-- each device is up
+abbrev pub up_of : EachUp → ℕ → ℕ → Status
+up_of all osd first = Up
+
+-- a turn of this kind may change the first status to the second
+abbrev pub allows : Turn → Status → Status → Bool
+allows turn.Better = is_no_worse
+allows turn.Worse = is_no_better
+allows turn.Gone = is_same_or_gone
+allows turn.Again = λ old new. true
+
+-- each acting member of these intervals is noted
+abbrev pub HasEachMember : Bool → List Past → List DeviceFacts → Type 0
+HasEachMember by_place past noted =
+    (interval : Past) (member : Member) → Contains past interval
+    → Contains (members_of by_place interval.members.acting) member → has_noted member.osd noted ≡ true
+
+-- the acting members of these intervals have the statuses that their entries give
+abbrev pub GivesEach : Bool → (ℕ → ℕ → Status) → List Past → List DeviceFacts → Type 0
+GivesEach by_place status past noted =
+    (interval : Past) (member : Member) (entry : DeviceFacts) → Contains past interval
+    → Contains (members_of by_place interval.members.acting) member → Contains noted entry → entry.osd ≡ member.osd
+    → status member.osd interval.first ≡ status_noted entry interval.first
+
+-- each entry says what the map says
+abbrev pub AreOfMap : OsdMap → List DeviceFacts → Type 0
+AreOfMap map noted = (entry : DeviceFacts) → Contains noted entry → entry ≡ renoted map entry

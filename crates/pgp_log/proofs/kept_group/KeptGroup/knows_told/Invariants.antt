@@ -1,0 +1,12 @@
+use Rattle.std.proofs.Common.{◌≡◌, List, false, take}
+use Rattle.std.specs.List.{list_any}
+use Rattle.pgp_ids.specs.declared.entry.Entry.{Entry}
+use Rattle.pgp_group.specs.Touched.{has_to_do_with}
+use Rattle.pgp_log.specs.KeptGroup.{IsKeptOf}
+use Rattle.pgp_log.proofs.kept_group.KeptGroup.knows_told.Given as goal
+
+-- none of the devices so far is one with which the group has to do
+abbrev pub invariant-loop-told : goal.invariant-loop-told
+invariant-loop-told l =
+    (log : List Entry) → IsKeptOf log l.self
+    → list_any (λ told. has_to_do_with log l.self.pg told.osd) (take l.told-index l.all) ≡ false

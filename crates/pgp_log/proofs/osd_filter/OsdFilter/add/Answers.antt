@@ -1,0 +1,12 @@
+use Rattle.std.proofs.Common.{ℕ, subst}
+use Rattle.pgp_log.specs.OsdFilter.{Covers}
+use Rattle.pgp_log.proofs.OsdFilterLemmas.{added, still-added, with_osd}
+use Rattle.pgp_log.proofs.osd_filter.OsdFilter.add.Goals as goal
+
+pub returns-clause-there : goal.returns-clause-there
+returns-clause-there c =
+    let number : ℕ = c.number-number.result in
+    subst (Covers (with_osd c.args.self.now number)) c.number-number.ensures.value (added c.args.self.now number c.number-number.ensures.in_range)
+
+pub returns-clause-still : goal.returns-clause-still
+returns-clause-still c = still-added c.args.self.now c.number-number.result

@@ -1,0 +1,10 @@
+use Rattle.std.proofs.Common.{◌≡◌, ℕ, true, take}
+use Rattle.pgp_group.specs.Touched.{has_osd}
+use Rattle.pgp_log.specs.OsdFilter.{Covers, CoversStill}
+use Rattle.pgp_log.proofs.osd_filter.OsdFilter.add_places.Given as goal
+
+abbrev pub invariant-loop-place : goal.invariant-loop-place
+invariant-loop-place l = record {
+  there : (osd : ℕ) → has_osd osd (take l.place-index l.places) ≡ true → Covers l.self osd;
+  still : CoversStill l.initial.self l.self;
+}

@@ -1,0 +1,155 @@
+-- What a shard keeps of its groups, as far as the entries that it has read tell of them.
+use Rattle.std.specs.Prelude.{◌≡◌, ℕ, nat_eq, List, [], ◌∷◌, ◌++◌, length, map, slice_get, Bool, is_none, Some, None, IfSome, true, false}
+use Rattle.std.specs.HashMap as hash
+use Rattle.std.specs.List.{All, filter, list_any}
+use Rattle.pgp_ids.specs.declared.entry.Entry.{Entry}
+use Rattle.pgp_ids.specs.declared.entry.Entry.TheVariants as entry
+use Rattle.pgp_ids.specs.declared.incremental.Incremental.{Incremental}
+use Rattle.pgp_ids.specs.declared.pg_id.PgId.{PgId}
+use Rattle.pgp_ids.specs.declared.view.View.{View}
+use Rattle.pgp_map.specs.Map.{epoch}
+use Rattle.pgp_map.specs.MapFault.{then_with}
+use Rattle.pgp_map.specs.MapOf.{IsMapOf}
+use Rattle.pgp_map.specs.Pools.{is_same_group, temp}
+use Rattle.pgp_map.specs.declared.map.OsdMap.{OsdMap}
+use Rattle.pgp_group.specs.Entries.{incs_of}
+use Rattle.pgp_group.specs.GroupOf.{IsGroupOf}
+use Rattle.pgp_group.specs.Reaching.{reaching}
+use Rattle.pgp_group.specs.Touched.{changed_devices, has_to_do_with, is_touched, may_lie_on, may_move, told_at}
+use Rattle.pgp_group.specs.View.{scratch}
+use Rattle.pgp_log.specs.Fits.{fits}
+use Rattle.pgp_log.specs.Log.{is_legal}
+use Rattle.pgp_log.specs.MapBefore.{IsMapBefore}
+use Rattle.pgp_log.specs.OsdFilter.{Covers}
+use Rattle.pgp_log.specs.RawSets.{IsRawSet}
+use Rattle.pgp_log.specs.Shard.{is_among}
+use Rattle.pgp_log.specs.Touch.{changes_placements}
+use Rattle.pgp_log.specs.declared.before.MapBefore.{MapBefore}
+use Rattle.pgp_log.specs.declared.groups.Groups.{Groups}
+use Rattle.pgp_log.specs.declared.kept_group.KeptGroup.{KeptGroup}
+use Rattle.pgp_log.specs.declared.row.Changes.{Changes}
+use Rattle.pgp_log.specs.declared.row.Row.{Row}
+
+-- the view is what the log says of the group, except for count and epoch
+abbrev pub IsViewOf : List Entry → PgId → View → Type 0
+IsViewOf log pg view = scratch log pg ≡ Some (told_at (length log) (epoch (incs_of log)) view)
+
+-- the group, brought to the epoch of the log, stands for its group of the log: it needn't have been told of maps by which it
+-- lies as before. Its raw set is where the map's tree puts it, its pg_temp list is that of the map, and its view, if it is
+-- there, is that of the log
+pub record IsKeptOf (log : List Entry) (kept : KeptGroup) : Type 0 where
+  pub group_is : IsGroupOf log kept.pg (reaching (epoch (incs_of log)) kept.group)
+  pub raw_is : IsRawSet (incs_of log) kept.pg kept.raw
+  pub temp_is : kept.temp ≡ temp (incs_of log) kept.pg
+  pub view_is : IfSome kept.view (IsViewOf log kept.pg)
+
+-- its view has to be worked out anew
+abbrev pub is_marked : KeptGroup → Bool
+is_marked kept = is_none kept.view
+
+-- the incremental comes next in the log; this is what is kept of the map before it, and this the map after it
+pub record IsStep (log : List Entry) (inc : Incremental) (before : MapBefore) (after : OsdMap) : Type 0 where
+  pub legal : is_legal log ≡ true
+  pub fits : fits log (entry.Inc inc) ≡ None
+  pub before_is : IsMapBefore (incs_of log) inc before
+  pub after_is : IsMapOf (then_with (incs_of log) inc) after
+
+-- where the incremental comes next in the log, what is kept of the group follows the log on
+abbrev pub StepsOn : Incremental → MapBefore → OsdMap → KeptGroup → KeptGroup → Type 0
+StepsOn inc before after old new =
+    (log : List Entry) → IsKeptOf log old → IsStep log inc before after → IsKeptOf (log ++ entry.Inc inc ∷ []) new
+
+-- where it comes next, it touches the group
+abbrev pub IsTouchedBy : Incremental → MapBefore → OsdMap → KeptGroup → Type 0
+IsTouchedBy inc before after kept =
+    (log : List Entry) → IsKeptOf log kept → IsStep log inc before after → is_touched log (entry.Inc inc) kept.pg ≡ true
+
+-- where it comes next and doesn't touch the group, the view that is kept stays as it was
+abbrev pub KeepsView : Incremental → MapBefore → OsdMap → KeptGroup → KeptGroup → Type 0
+KeepsView inc before after old new =
+    (log : List Entry) → IsKeptOf log old → IsStep log inc before after → is_touched log (entry.Inc inc) old.pg ≡ false
+    → new.view ≡ old.view
+
+-- it does in some log of which the group is kept
+pub record CanStep (kept : KeptGroup) (inc : Incremental) (before : MapBefore) (after : OsdMap) : Type 0 where
+  pub log : List Entry
+  pub is : IsKeptOf log kept
+  pub step : IsStep log inc before after
+
+-- the row is that of the group: it has the devices on which the group may lie by each log of which the group is kept, and
+-- where the group isn't marked, those with which it has to do
+pub record IsRowOf (row : Row) (kept : KeptGroup) : Type 0 where
+  pub pg : row.pg ≡ kept.pg
+  pub lies_on : (log : List Entry) → IsKeptOf log kept → (osd : ℕ) → may_lie_on (incs_of log) kept.pg osd ≡ true → Covers row.devices osd
+  pub knows : is_marked kept ≡ false → (log : List Entry) → IsKeptOf log kept → (osd : ℕ) → has_to_do_with log kept.pg osd ≡ true → Covers row.devices osd
+
+-- each row is that of the group at its place
+pub record AreRowsOf (rows : List Row) (groups : List KeptGroup) : Type 0 where
+  pub long : length rows ≡ length groups
+  pub each : (place : ℕ) (row : Row) (kept : KeptGroup) → slice_get rows place ≡ Some row → slice_get groups place ≡ Some kept → IsRowOf row kept
+
+-- this is what the incremental changes
+pub record IsChangesOf (inc : Incremental) (changes : Changes) : Type 0 where
+  pub places : changes.places ≡ changes_placements inc
+  pub devices : (osd : ℕ) → list_any (nat_eq osd) (changed_devices inc) ≡ true → Covers changes.devices osd
+
+-- the incremental doesn't move the group and, where it isn't marked, doesn't touch it
+pub record IsPassedBy (log : List Entry) (inc : Incremental) (kept : KeptGroup) : Type 0 where
+  pub still : may_move (incs_of log) inc kept.pg ≡ false
+  pub untouched : is_marked kept ≡ false → is_touched log (entry.Inc inc) kept.pg ≡ false
+
+-- each group of the list is kept
+pub record AreKeptOf (log : List Entry) (groups : List KeptGroup) : Type 0 where
+  pub each : (place : ℕ) (kept : KeptGroup) → slice_get groups place ≡ Some kept → IsKeptOf log kept
+
+-- each group has its row, and the incremental comes next in some log of which the groups are kept
+pub record CanStepAll (rows : List Row) (groups : List KeptGroup) (inc : Incremental) (before : MapBefore) (after : OsdMap) : Type 0 where
+  pub rows_are : AreRowsOf rows groups
+  pub log : List Entry
+  pub are : AreKeptOf log groups
+  pub step : IsStep log inc before after
+
+-- which groups they are
+abbrev pub ids_of : List KeptGroup → List PgId
+ids_of groups = map (λ kept. kept.pg) groups
+
+-- the groups of the list that are marked, in its order
+abbrev pub marks_in : List KeptGroup → List PgId
+marks_in groups = ids_of (filter is_marked groups)
+
+-- the table says of each group at which place it stands, and of no other; and so stand the rows
+pub record AreAtPlaces (groups : Groups) : Type 0 where
+  pub there : (pg : PgId) (place : ℕ) → hash.get is_same_group groups.places pg ≡ Some place → slice_get (ids_of groups.kept.items) place ≡ Some pg
+  pub found : (pg : PgId) (place : ℕ) → slice_get (ids_of groups.kept.items) place ≡ Some pg → hash.get is_same_group groups.places pg ≡ Some place
+  pub rows : AreRowsOf groups.rows.items groups.kept.items
+
+-- each of the groups is marked
+abbrev pub AreAllMarked : List KeptGroup → Type 0
+AreAllMarked groups = All (λ kept. is_marked kept ≡ true) groups
+
+-- until one of them is worked out, all are marked
+abbrev pub AreMarkedAtFirst : Groups → Type 0
+AreMarkedAtFirst groups = groups.some_worked_out ≡ false → AreAllMarked groups.kept.items
+
+-- the groups are kept, each at its place
+pub record AreGroupsOf (log : List Entry) (groups : Groups) : Type 0 where
+  pub each : AreKeptOf log groups.kept.items
+  pub places_are : AreAtPlaces groups
+  pub marked_are : AreMarkedAtFirst groups
+
+-- the groups that are marked: they have to be worked out anew at the next question
+abbrev pub marks_of : Groups → List PgId
+marks_of groups = marks_in groups.kept.items
+
+-- the group is one of those that are kept
+abbrev pub keeps : PgId → Groups → Bool
+keeps pg groups = is_among pg (ids_of groups.kept.items)
+
+-- each group that was kept is kept still
+abbrev pub KeepsAll : Groups → Groups → Type 0
+KeepsAll before after = (pg : PgId) → keeps pg before ≡ true → keeps pg after ≡ true
+
+-- the entry marks only groups that it touches: each other is marked after it where it was before
+abbrev pub MarksTouched : List Entry → Entry → Groups → Groups → Type 0
+MarksTouched log new before after =
+    (pg : PgId) → is_touched log new pg ≡ false → is_among pg (marks_of after) ≡ is_among pg (marks_of before)

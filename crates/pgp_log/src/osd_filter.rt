@@ -1,0 +1,71 @@
+//! Sets of devices of which two are compared in a few steps.
+
+ghost use Rattle.std.specs.Prelude.{◌≡◌, ℕ, true, nat_eq};
+ghost use Rattle.std.specs.List.{list_any};
+ghost use Rattle.pgp_group.specs.Touched.{has_osd};
+ghost use Rattle.pgp_log.specs.OsdFilter.{Covers, CoversStill};
+
+use pgp_ids::{DeviceEpoch, OsdId};
+
+/// A set of devices, in two words. It may say of a device that it is in the set when it isn't, and never the other way.
+#[derive(Clone, Copy)]
+pub(crate) struct OsdFilter {
+    /// Bit `osd % 64` of each device.
+    low: u64,
+    /// Bit `osd / 64` of each device.
+    high: u64,
+}
+
+impl OsdFilter {
+    pub(crate) fn empty() -> Self {
+        OsdFilter { low: 0, high: 0 }
+    }
+
+    pub(crate) fn add(&mut self, osd: OsdId)
+        ensures there { Covers self.new osd }
+        ensures still { CoversStill self.old self.new }
+    {
+        let number = osd.number();
+        self.low |= 1 << (number % 64);
+        self.high |= 1 << (number / 64);
+    }
+
+    /// Adds each of the devices.
+    pub(crate) fn add_all(&mut self, osds: &[OsdId])
+        ensures there { (osd : ℕ) → list_any (nat_eq osd) osds.now ≡ true → Covers self.new osd }
+        ensures still { CoversStill self.old self.new }
+    {
+        for osd in osds {
+            self.add(*osd);
+        }
+    }
+
+    /// Adds each device of which this is told.
+    pub(crate) fn add_told(&mut self, all: &[DeviceEpoch])
+        ensures there { (osd : ℕ) → list_any (λ told. nat_eq osd told.osd) all.now ≡ true → Covers self.new osd }
+        ensures still { CoversStill self.old self.new }
+    {
+        for told in all {
+            self.add(told.osd);
+        }
+    }
+
+    /// Adds each device that stands on one of the places.
+    pub(crate) fn add_places(&mut self, places: &[Option<OsdId>])
+        ensures there { (osd : ℕ) → has_osd osd places.now ≡ true → Covers self.new osd }
+        ensures still { CoversStill self.old self.new }
+    {
+        for place in places {
+            if let Some(osd) = place {
+                self.add(*osd);
+            }
+        }
+    }
+
+    /// Whether some device may be in both sets.
+    pub(crate) fn shares(self, other: OsdFilter) -> bool
+        ensures { (osd : ℕ) → Covers self osd → Covers other osd → result ≡ true }
+    {
+        self.low & other.low != 0 && self.high & other.high != 0
+    }
+}

@@ -1,4 +1,0 @@
-pub mod Refusal
-pub mod AskRefusal
-pub mod LocateRefusal
-pub mod TextFault

@@ -1,0 +1,17 @@
+//! The engine: which entries a log has after many submits, what threads are answered that submit, ask and read on at once,
+//! where clients find objects, and that a call which lacked memory can be made again.
+
+mod absorbs;
+mod begins;
+mod clients;
+mod closes;
+mod desk;
+mod gates;
+mod growths;
+mod lines;
+mod opened;
+mod races;
+mod refusals;
+mod steps;
+mod submits;
+mod workers;

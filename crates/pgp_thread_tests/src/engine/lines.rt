@@ -1,0 +1,101 @@
+//! What the tests submit and ask, by lines of the project's own format.
+use crate::engine::desk::Placed;
+use pgp_engine::Naming;
+use pgp_ids::{Entry, ObjectName, PgId, PoolId, View};
+use pgp_text::{Command, Reply, read_line, write_reply};
+use std::alloc::{AllocError, Global};
+
+/// Pool 1 of three copies over the devices 0, 1 and 2, of which device 0 alone has weight; pg_temp puts its one group on
+/// all three. The second of two shards answers for the group.
+pub const MAP: &str =
+    r#"{"op":"inc","epoch":1,"up":[0,1,2],"weight":[[1,0],[2,0]],"crush":[{"id":-1,"type":1,"alg":"uniform","items":[0,1,2]}],"pools":[{"id":1,"pg_num":1,"kind":"replicated","size":3,"min_size":2,"leaf":0}],"temp":[[1,0,[0,1,2]]]}"#;
+
+/// The shard that answers for the group.
+pub const SHARD: usize = 1;
+
+/// Puts the group on the same devices in another order.
+pub const MOVE: &str = r#"{"op":"inc","epoch":2,"temp":[[1,0,[2,1,0]]]}"#;
+
+/// An incremental of epoch 1 that changes nothing.
+pub const STEP: &str = r#"{"op":"inc","epoch":1}"#;
+
+/// Infos of the devices 0 and 1, which have no write.
+pub const EMPTY_0: &str =
+    r#"{"op":"info","pg":[1,0],"from":[0,0],"stamp":1,"les":0,"history_les":0,"last_update":[0,0],"log_tail":[0,0],"complete":true}"#;
+
+pub const EMPTY_1: &str =
+    r#"{"op":"info","pg":[1,0],"from":[1,0],"stamp":1,"les":0,"history_les":0,"last_update":[0,0],"log_tail":[0,0],"complete":true}"#;
+
+pub const CLOSE: &str = r#"{"op":"close"}"#;
+
+/// The entries after which the group serves.
+pub static TO_SERVE: [&str; 6] = [
+    MAP,
+    r#"{"op":"info","pg":[1,0],"from":[0,0],"stamp":1,"les":0,"history_les":0,"last_update":[1,2],"log_tail":[0,0],"complete":true}"#,
+    r#"{"op":"info","pg":[1,0],"from":[1,0],"stamp":1,"les":0,"history_les":0,"last_update":[1,1],"log_tail":[0,0],"complete":true}"#,
+    r#"{"op":"info","pg":[1,0],"from":[2,0],"stamp":1,"les":0,"history_les":0,"last_update":[0,0],"log_tail":[0,0],"complete":true}"#,
+    r#"{"op":"entries","pg":[1,0],"from":[0,0],"stamp":1,"log":[[1,1,"modify","a"],[1,2,"modify","b"]]}"#,
+    r#"{"op":"inc","epoch":2,"up_thru":[[0,1]]}"#,
+];
+
+/// What is answered of the group then.
+pub const SERVES: &str =
+    r#"{"acting":[0,1,2],"acting_primary":0,"best":[0,0],"blocked_by":[],"count":6,"epoch":2,"first":1,"intervals":[],"les":0,"missing":[{"member":[1,0],"objects":{"b":[1,2]},"state":"missing"},{"member":[2,0],"objects":{"a":[1,1],"b":[1,2]},"state":"missing"}],"ok":"ask","pg":[1,0],"probe":[[0,0],[1,0],[2,0]],"up":[0],"up_primary":0,"verdict":"Serve"}"#;
+
+/// Where the map puts the object that clients look for.
+pub const PLACE: &str =
+    r#"{"acting":[0,1,2],"acting_primary":0,"epoch":1,"ok":"locate","pg":[1,0],"up":[0],"up_primary":0}"#;
+
+/// Where the map puts it once the group was moved.
+pub const MOVED: &str =
+    r#"{"acting":[2,1,0],"acting_primary":2,"epoch":2,"ok":"locate","pg":[1,0],"up":[0],"up_primary":0}"#;
+
+/// The one group of the pool.
+pub fn group() -> PgId {
+    PgId {
+        pool: PoolId::new(1).unwrap(),
+        pg: 0,
+    }
+}
+
+/// The entry that the line is.
+pub fn entry(alloc: Global, line: &str) -> Option<Entry> {
+    match read_line(alloc, line.as_bytes()) {
+        Ok(Command::Submit(entry)) => Some(entry),
+        _ => None,
+    }
+}
+
+/// The object that clients look for, and its pool.
+pub fn object(alloc: Global) -> Option<(PoolId, ObjectName)> {
+    let name = ObjectName::new(alloc, "a").ok()??;
+    Some((PoolId::new(1)?, name))
+}
+
+/// This is what is answered of the group.
+pub fn is_told(alloc: Global, view: View, answer: &str) -> Result<bool, AllocError> {
+    is_written(alloc, Reply::Asked(group(), view), answer)
+}
+
+/// This is what is answered of an object that lies there.
+pub fn is_placed<J: Naming>(
+    alloc: Global,
+    place: Placed<J>,
+    answer: &str,
+) -> Result<bool, AllocError> {
+    is_written(alloc, place.into_reply(), answer)
+}
+
+// This is the reply's text.
+fn is_written(alloc: Global, reply: Reply, answer: &str) -> Result<bool, AllocError> {
+    let text = text_of(alloc, reply)?;
+    Ok(text.as_slice() == answer.as_bytes())
+}
+
+// The reply's text, for which one allocation may be refused.
+fn text_of(alloc: Global, reply: Reply) -> Result<Vec<u8>, AllocError> {
+    match write_reply(alloc, &reply) {
+        Ok(text) => Ok(text),
+        Err(_) => write_reply(alloc, &reply),
+    }
+}

@@ -1,0 +1,78 @@
+//! A log that gets as long as it may has the same answers over an engine as on one thread.
+//!
+//! Under `rt try --test`, which looks at each access, these tests take minutes: it needs `--seconds`.
+
+ghost use Rattle.std.specs.Prelude.{◌≤◌};
+
+use crate::scripts::runs::{ALL, MIDDLE, SMALL, Size, Trial, alone, over_engine};
+use crate::scripts::script::LINES;
+use std::alloc::{AllocError, Global};
+use std::process::Abort;
+use std::sync::Wait;
+use std::test::Fail;
+use std::thread::Threads;
+
+/// How many entries a log takes before its Close.
+const MOST_ENTRIES: u32 = 65_535;
+
+/// How many entries lie between two questions.
+const BETWEEN: u32 = 4_096;
+
+/// Lines that come when the log is full, and their answers.
+const LAST: &str = concat!(
+    "{\"op\":\"inc\",\"epoch\":65536}\n",
+    "{\"op\":\"close\"}\n",
+    "{\"op\":\"inc\",\"epoch\":65536}\n",
+);
+
+const LAST_ANSWERS: &str = concat!(
+    "{\"count\":65535,\"epoch\":65535,\"ok\":\"inc\"}\n",
+    "{\"code\":50,\"refused\":\"LogFull\"}\n",
+    "{\"count\":65536,\"epoch\":65535,\"ok\":\"close\"}\n",
+    "{\"code\":64,\"refused\":\"Closed\"}\n",
+);
+
+// A map with a pool, incrementals until the log is full, with questions between, and what comes then.
+fn full_log(alloc: Global) -> Result<String, AllocError> {
+    let mut script = String::new(alloc);
+    script.push_str(LINES[1])?;
+    script.push('\n')?;
+    for epoch in 2..=MOST_ENTRIES {
+        write!(script, "{{\"op\":\"inc\",\"epoch\":{epoch}}}\n")?;
+        if epoch % BETWEEN == 0 {
+            script.push_str(
+                "{\"op\":\"ask\",\"pg\":[1,0]}\n{\"op\":\"locate\",\"pool\":1,\"name\":\"a\"}\n",
+            )?;
+        }
+    }
+    script.push_str(LAST)?;
+    Ok(script)
+}
+
+// The full log is answered to its end, as on one thread.
+fn is_same<R: Threads + Wait + Sync + Abort + AllocGlobal>(rt: &R, size: &Size) -> Result<(), Fail>
+    requires shards { (1 ≤ size.now.shards) × (size.now.shards ≤ 64) }
+    requires workers { (1 ≤ size.now.workers) × (size.now.workers ≤ 64) }
+{
+    let script = full_log(rt.alloc())?;
+    let trial = Trial {
+        script: script.as_bytes(),
+        good_reads: ALL,
+        good_writes: ALL,
+    };
+    let expected = alone(rt.alloc(), &trial);
+    assert!(rt; expected.fault.is_none());
+    assert!(rt; expected.bytes.as_slice().ends_with(LAST_ANSWERS.as_bytes()));
+    assert!(rt; over_engine(rt, rt.alloc(), &trial, size) == expected);
+    Ok(())
+}
+
+#[test]
+fn a_full_log_has_the_same_answers_with_one_worker(rt: HostRuntime) -> Result<(), Fail> {
+    is_same(&rt, &SMALL)
+}
+
+#[test]
+fn a_full_log_has_the_same_answers_with_two_workers(rt: HostRuntime) -> Result<(), Fail> {
+    is_same(&rt, &MIDDLE)
+}

@@ -1,0 +1,97 @@
+//! A line that finds no memory is answered so, and has no effect. Under `rt try --test --fail-alloc N` the Nth allocation is
+//! refused; in the gate none is.
+use crate::scripts::runs::{ALL, Size, Trial, alone, over_engine};
+use crate::scripts::script::{LINES, script_of};
+use pgp_run::RunFault;
+use std::alloc::{AllocError, Global};
+use std::process::Abort;
+use std::sync::Wait;
+use std::test::Fail;
+use std::thread::Threads;
+
+const TWO: Size = Size {
+    shards: 2,
+    workers: 2,
+};
+
+/// The answers to a line that found no memory: to one that wasn't read as an entry, and to an entry.
+const LINE_WITHOUT: &[u8] = b"{\"code\":41,\"refused\":\"Memory\"}";
+
+const ENTRY_WITHOUT: &[u8] = b"{\"code\":51,\"refused\":\"Memory\"}";
+
+/// Lines of a script, and their answers.
+#[derive(Drop)]
+struct Answered {
+    script: Vec<u8>,
+    answers: Vec<u8>,
+}
+
+// The lines that found memory, with their answers.
+fn with_memory(alloc: Global, answers: &[u8]) -> Result<Answered, AllocError> {
+    let mut kept = Answered {
+        script: Vec::new(alloc),
+        answers: Vec::new(alloc),
+    };
+    let mut rest = answers;
+    for line in &LINES {
+        let Some(end) = rest.iter().position(|byte| *byte == b'\n') else {
+            return Ok(kept);
+        };
+        let answer = &rest[..end];
+        if answer != LINE_WITHOUT && answer != ENTRY_WITHOUT {
+            kept.script.extend_from_slice(line.as_bytes())?;
+            kept.script.push(b'\n')?;
+            kept.answers.extend_from_slice(&rest[..end + 1])?;
+        }
+        rest = &rest[end + 1..];
+    }
+    Ok(kept)
+}
+
+// The other lines are answered as if those without memory weren't there. The one refused allocation may be one of this check,
+// which is then made once more.
+fn others_are_the_same(alloc: Global, answers: &[u8]) -> Result<bool, AllocError> {
+    let kept = match with_memory(alloc, answers) {
+        Ok(kept) => kept,
+        Err(_) => with_memory(alloc, answers)?,
+    };
+    let trial = Trial {
+        script: kept.script.as_slice(),
+        good_reads: ALL,
+        good_writes: ALL,
+    };
+    Ok(alone(alloc, &trial).bytes == kept.answers || alone(alloc, &trial).bytes == kept.answers)
+}
+
+fn one_is_refused<R: Threads + Wait + Sync + Abort + AllocGlobal>(
+    rt: &R,
+    script: &[u8],
+) -> Result<(), Fail> {
+    let trial = Trial {
+        script,
+        good_reads: ALL,
+        good_writes: ALL,
+    };
+    let ended = over_engine(rt, rt.alloc(), &trial, &TWO);
+    match ended.fault {
+        None => {
+            assert!(rt; others_are_the_same(rt.alloc(), ended.bytes.as_slice())?);
+            Ok(())
+        }
+        Some(RunFault::NoEngine) => {
+            assert!(rt; ended.bytes.is_empty());
+            Ok(())
+        }
+        // The writer of the tests had no room.
+        Some(RunFault::Write) => Ok(()),
+        Some(RunFault::Read) => Err(Fail::new("a read failed")),
+    }
+}
+
+#[test]
+fn a_run_goes_on_after_a_refused_allocation(rt: HostRuntime) -> Result<(), Fail> {
+    match script_of(rt.alloc(), &LINES) {
+        Ok(script) => one_is_refused(&rt, script.as_slice()),
+        Err(_) => Ok(()),
+    }
+}

@@ -1,0 +1,91 @@
+//! Runs of one script, on one thread and over an engine.
+ghost use Rattle.std.specs.Prelude.{◌≤◌};
+
+use crate::scripts::streams::{Given, Taken};
+use pgp_core::{ScriptFault, run_script};
+use pgp_run::{RunFault, run_engine};
+use std::alloc::Global;
+use std::sync::Wait;
+use std::thread::Threads;
+
+/// More calls than a run makes.
+pub const ALL: usize = 1_000_000;
+
+/// A script, and how many reads and writes of a run over it go well before one fails.
+#[derive(Clone, Copy)]
+pub struct Trial<'a> {
+    pub script: &'a [u8],
+    pub good_reads: usize,
+    pub good_writes: usize,
+}
+
+/// How large an engine is.
+#[derive(Clone, Copy)]
+pub struct Size {
+    pub shards: usize,
+    pub workers: usize,
+}
+
+/// The smallest engine, one of several shards and workers, and the largest.
+pub const SMALL: Size = Size {
+    shards: 1,
+    workers: 1,
+};
+
+pub const MIDDLE: Size = Size {
+    shards: 3,
+    workers: 2,
+};
+
+pub const LARGE: Size = Size {
+    shards: 64,
+    workers: 64,
+};
+
+/// How a run ended, and what it wrote.
+#[derive(Debug, Drop, PartialEq)]
+pub struct Ended {
+    pub fault: Option<RunFault>,
+    pub bytes: Vec<u8>,
+}
+
+/// Answers the script on this thread alone.
+pub fn alone(alloc: Global, trial: &Trial) -> Ended {
+    let mut reader = Given::new(trial.script, trial.good_reads);
+    let mut writer = Taken::new(alloc, trial.good_writes);
+    let fault = match run_script(alloc, &mut reader, &mut writer) {
+        Ok(()) => None,
+        Err(ScriptFault::Read) => Some(RunFault::Read),
+        Err(ScriptFault::Write) => Some(RunFault::Write),
+    };
+    Ended {
+        fault,
+        bytes: writer.bytes,
+    }
+}
+
+/// Answers the script over an engine.
+pub fn over_engine<R: Threads + Wait + Sync>(
+    rt: &R,
+    alloc: Global,
+    trial: &Trial,
+    size: &Size,
+) -> Ended
+    requires shards { (1 ≤ size.now.shards) × (size.now.shards ≤ 64) }
+    requires workers { (1 ≤ size.now.workers) × (size.now.workers ≤ 64) }
+{
+    let mut reader = Given::new(trial.script, trial.good_reads);
+    let mut writer = Taken::new(alloc, trial.good_writes);
+    let ended = run_engine(
+        rt,
+        alloc,
+        &mut reader,
+        &mut writer,
+        size.shards,
+        size.workers,
+    );
+    Ended {
+        fault: ended.err(),
+        bytes: writer.bytes,
+    }
+}
