@@ -2,7 +2,7 @@
 """Tries the wrong bodies that stand outside the gate: the prover, or with --tests a test, has to refuse each.
 
     tools/try_plants.py [NAME...]
-    tools/try_plants.py --tests [--seconds S] [NAME...]
+    tools/try_plants.py --tests [--seconds S] [--jobs N] [NAME...]
 
 NAME is a crate; without one all crates that have a folder `plants` are tried. The files `crates/NAME/plants/*.edit` have
 the form of must-fail edits. The tree is copied, the plants take the place of the edits in the copy, and `rt must-fail`
@@ -18,15 +18,18 @@ of tests; the files are `crates/NAME/refused_by_tests/*.edit`, each of lines
     old: a text of one line that stands once in that file
     new: a text of one line in its place
 
-with further file, old and new lines after them. First each test has to pass on a copy of the tree that isn't changed. Then
-for each file its change is made in the copy, the test alone is run by `rt try --test`, which proves nothing, and the change is
-taken back. A test has S seconds, 60 if not said; one that doesn't end has failed. Prints a table of what the tests said, and
-exits with 1 where one passed, or where an edit can't be tried.
+with further file, old and new lines after them. First each test has to pass on a copy of the tree that isn't changed: there all
+tests of the crate are run. Then for each file its change is made in the copy, the test alone is run by `rt try --test`, which
+proves nothing, and the change is taken back. A test has S seconds, 60 if not said; one that doesn't end has failed. N edits are
+tried at a time, one if not said, each on a copy of its own; one takes three minutes of the processor and 4 GB. Prints a table of
+what the tests said, and exits with 1 where one passed, or where an edit can't be tried.
 """
 
 import argparse
+import concurrent.futures
 import contextlib
 import pathlib
+import queue
 import re
 import shutil
 import subprocess
@@ -170,11 +173,11 @@ def made(texts: Dict[pathlib.Path, str]) -> Iterator[None]:
             file.write_bytes(content)
 
 
-def test_run(tree: Tree, crate: str, test: str) -> Tuple[Optional[str], str]:
-    """Runs a test of a crate without a proof: how it ended, `ok` or `FAILED`, or None where it didn't run, and what was said."""
-    words = ["rt", "try", "--test", "--seconds", str(tree.seconds), "--", test]
-    run = subprocess.run(words, cwd=tree.crates / crate, stdout=subprocess.PIPE, stderr=subprocess.STDOUT, text=True)
-    return {found[1]: found[2] for found in ENDED.finditer(run.stdout)}.get(test), run.stdout
+def tests_run(folder: pathlib.Path, seconds: int, test: Optional[str] = None) -> Tuple[Dict[str, str], str]:
+    """Runs a test of the crate in the folder, or all, without a proof: how each ended, `ok` or `FAILED`, and what was said."""
+    words = ["rt", "try", "--test", "--seconds", str(seconds)] + (["--", test] if test else [])
+    run = subprocess.run(words, cwd=folder, stdout=subprocess.PIPE, stderr=subprocess.STDOUT, text=True)
+    return {found[1]: found[2] for found in ENDED.finditer(run.stdout)}, run.stdout
 
 
 def told_by(said: str, test: str) -> str:
@@ -191,7 +194,8 @@ def verdict(tree: Tree, edit: Edit) -> Tuple[bool, str]:
     except BadEdit as why:
         return False, f"BAD EDIT: {why}"
     with made(texts):
-        ended, said = test_run(tree, edit.tests, edit.test)
+        results, said = tests_run(tree.crates / edit.tests, tree.seconds, edit.test)
+    ended = results.get(edit.test)
     if ended == "FAILED":
         return True, f"failed: {told_by(said, edit.test)}"
     if ended == "ok":
@@ -203,12 +207,14 @@ def verdict(tree: Tree, edit: Edit) -> Tuple[bool, str]:
 def failing_unchanged(tree: Tree, edits: List[Edit]) -> List[str]:
     """The tests that don't pass where nothing is changed."""
     failing = []
-    for crate, test in sorted({(edit.tests, edit.test) for edit in edits}):
-        ended, said = test_run(tree, crate, test)
-        print(f"{crate}, unchanged: {test} {ended or 'did not run'}", flush=True)
-        if ended != "ok":
+    for crate in sorted({edit.tests for edit in edits}):
+        tests = sorted({edit.test for edit in edits if edit.tests == crate})
+        results, said = tests_run(tree.crates / crate, tree.seconds * len(tests))
+        for test in tests:
+            print(f"{crate}, unchanged: {test} {results.get(test, 'did not run')}", flush=True)
+        failing += [f"{crate}: {test}" for test in tests if results.get(test) != "ok"]
+        if not all(test in results for test in tests):
             print(said[-2000:], end="", flush=True)
-            failing.append(f"{crate}: {test}")
     return failing
 
 
@@ -224,21 +230,38 @@ def read_edits(names: List[str]) -> Tuple[List[Edit], List[str]]:
     return edits, rows
 
 
-def by_tests(names: List[str], seconds: int) -> bool:
-    """Tries the bodies that only tests refuse, and tells whether each was refused."""
+def unproved_copy(top: pathlib.Path) -> pathlib.Path:
+    """Copies the tree to the folder without what was built in it, and gives its folder of crates."""
+    shutil.copytree(ROOT, top, ignore=shutil.ignore_patterns(".git", "out"), symlinks=True)
+    (top / ".git").mkdir()
+    return top / "crates"
+
+
+def by_tests(names: List[str], seconds: int, jobs: int) -> bool:
+    """Tries the bodies that only tests refuse, this many at a time, and tells whether each was refused."""
     edits, rows = read_edits(names)
     is_well = not rows and bool(edits)
     with tempfile.TemporaryDirectory(prefix="plants-") as room:
-        top = pathlib.Path(room) / "tree"
-        shutil.copytree(ROOT, top, ignore=shutil.ignore_patterns(".git", "out"), symlinks=True)
-        (top / ".git").mkdir()
-        tree = Tree(top / "crates", seconds)
-        failing = failing_unchanged(tree, edits)
-        for edit in edits:
-            refused, what = verdict(tree, edit)
+        trees: "queue.Queue[Tree]" = queue.Queue()
+        for job in range(jobs):
+            trees.put(Tree(unproved_copy(pathlib.Path(room) / f"tree{job}"), seconds))
+
+        def tried_on_a_copy(edit: Edit) -> Tuple[bool, str]:
+            tree = trees.get()
+            try:
+                refused, what = verdict(tree, edit)
+            finally:
+                trees.put(tree)
             print(f"{edit.tests}/{edit.file.name}: {what}", flush=True)
-            is_well = is_well and refused
-            rows.append(f"| {edit.tests} | {edit.file.stem} | {edit.crate} | {edit.test} | {what} |")
+            return refused, what
+
+        first = trees.get()
+        failing = failing_unchanged(first, edits)
+        trees.put(first)
+        with concurrent.futures.ThreadPoolExecutor(jobs) as pool:
+            for edit, (refused, what) in zip(edits, pool.map(tried_on_a_copy, edits)):
+                is_well = is_well and refused
+                rows.append(f"| {edit.tests} | {edit.file.stem} | {edit.crate} | {edit.test} | {what} |")
     print("| Tests | Body | Of | Test | With it |\n|---|---|---|---|---|", *rows, sep="\n")
     for it in failing:
         print(f"fails where nothing is changed: {it}")
@@ -249,10 +272,13 @@ def main(words: Optional[List[str]] = None) -> int:
     parser = argparse.ArgumentParser(description=__doc__, formatter_class=argparse.RawDescriptionHelpFormatter)
     parser.add_argument("--tests", action="store_true", help="try the bodies that only tests refuse")
     parser.add_argument("--seconds", type=int, default=60, metavar="S", help="how long a test may take")
+    parser.add_argument("--jobs", type=int, default=1, metavar="N", help="how many edits are tried at a time by tests")
     parser.add_argument("names", metavar="NAME", nargs="*", help="a crate")
     options = parser.parse_args(words)
+    if options.jobs < 1:
+        parser.error("--jobs wants a number from 1 on")
     if options.tests:
-        return 0 if by_tests(options.names or crates_with("refused_by_tests"), options.seconds) else 1
+        return 0 if by_tests(options.names or crates_with("refused_by_tests"), options.seconds, options.jobs) else 1
     return 0 if by_prover(options.names or crates_with("plants")) else 1
 
 

@@ -24,13 +24,13 @@ if words[0] == "must-fail":
         what = "refused, as it must be" if "wrong" in file.read_text() else "NOT REFUSED"
         print(f"rt: must-fail {{words[1]}}/{{file.name}}: {{what}}")
     sys.exit(0)
-assert words[:3] == ["try", "--test", "--seconds"] and words[4] == "--" and len(words) == 6, words
+assert words[:3] == ["try", "--test", "--seconds"] and (len(words) == 4 or words[4] == "--" and len(words) == 6), words
 text = pathlib.Path("../low/src/lib.rt").read_text()
 if "unreadable" in text:
     print("src/lib.rt:1:1: error\\nrun=none proved=no")
     sys.exit(1)
 for name in ("adds", "counts", "stops"):
-    if words[5] in name:
+    if words[4:] == [] or words[5] in name:
         fails = name == "stops" or name == "adds" and "two = 2" not in text
         print(f"test sums::{{name}} ... " + ("FAILED\\n    left: 1\\n    right: 3" if fails else "ok"))
 """
@@ -87,6 +87,15 @@ class RefusedByTests(WithTree):
         self.assertEqual(status, 1)
         self.assertIn("| low_tests | counts_wrong | low | counts | NOT REFUSED |", out)
         self.assertEqual(out.count("| failed: left: 1"), 2)
+
+    def test_several_are_tried_at_a_time(self):
+        for name in "abcde":
+            self.edit(name)
+        self.edit("f_counts", test="counts")
+        status, out = self.run_tool("--tests", "--jobs", "3")
+        self.assertEqual(status, 1)
+        self.assertEqual(out.count("| low | adds | failed: left: 1; right: 3 |"), 5)
+        self.assertIn("| low_tests | f_counts | low | counts | NOT REFUSED |", out)
 
     def test_several_changes_are_made_and_taken_back(self):
         self.edit("both", old="one = 1", new="one = 0", more="old: one = 0\nnew: one = 5\nfile: src/lib.rt\nold: two = 2\nnew:\n")
