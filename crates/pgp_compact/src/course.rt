@@ -6,8 +6,6 @@ ghost use Rattle.pgp_ids.specs.declared.incremental.Incremental.{Incremental as 
 ghost use Rattle.pgp_interval.specs.SameMembers.{is_same};
 ghost use Rattle.pgp_map.specs.Map.{epoch};
 ghost use Rattle.pgp_map.specs.MapFault.{then_with};
-ghost use Rattle.pgp_map.specs.MapOf.{IsMapOf};
-ghost use Rattle.pgp_map.specs.Pools.{has_group};
 ghost use Rattle.pgp_group.specs.Entries.{incs_of};
 ghost use Rattle.pgp_group.specs.GroupLog.{GroupLog, group_in};
 ghost use Rattle.pgp_log.specs.Locate.{IsCheckedMap};
@@ -19,6 +17,7 @@ ghost use Rattle.pgp_compact.specs.Standing.{HasReached, opening_in, standing_at
 use super::lying::Lying;
 use super::standing::Standing;
 use pgp_ids::{Epoch, Incremental, Membership, PgId};
+use pgp_log::has_group;
 use pgp_map::OsdMap;
 use std::alloc::{AllocError, Global};
 
@@ -131,13 +130,4 @@ fn is_same(a: &Membership, b: &Membership) -> bool
     ensures { result ≡ is_same a.now b.now }
 {
     a == b
-}
-
-fn has_group(map: &OsdMap, pg: &PgId) -> bool
-    ensures { (incs : List AnyIncremental) → IsMapOf incs map.now → result ≡ has_group incs pg.now }
-{
-    match map.pool(pg.pool) {
-        Some(pool) => pg.pg < pool.pg_num,
-        None => false,
-    }
 }

@@ -12,8 +12,8 @@ ghost use Rattle.pgp_compact.specs.Course.{IsNext};
 ghost use Rattle.pgp_compact.specs.Courses.{AreCourses, AreSomeCourses, CanAllGoOn, EachIsCourse, IsCourseIn, IsReportOf, IsSameButCourse};
 
 use super::course::Course;
-use super::moving::moves_none;
 use pgp_ids::{Entry, Epoch, Incremental, PgId};
+use pgp_log::moves_none;
 use pgp_map::OsdMap;
 use std::alloc::{AllocError, Global};
 use std::collections::HashMap;

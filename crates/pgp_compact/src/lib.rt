@@ -12,7 +12,6 @@ mod keys;
 mod later;
 pub mod laws;
 mod lying;
-mod moving;
 mod standing;
 mod walk;
 mod whole;

@@ -6,13 +6,11 @@ ghost use Rattle.pgp_ids.specs.declared.incremental.Incremental.{Incremental as 
 ghost use Rattle.pgp_map.specs.Held.{HasGroup};
 ghost use Rattle.pgp_map.specs.MapFault.{map_fault, then_with};
 ghost use Rattle.pgp_map.specs.MapOf.{IsMapOf};
-ghost use Rattle.pgp_map.specs.Pools.{temp};
-ghost use Rattle.pgp_group.specs.Touched.{has_osd};
 ghost use Rattle.pgp_log.specs.RawSets.{IsRawSet};
 ghost use Rattle.pgp_compact.specs.Course.{LiesAt, IsNext, lies_on, may_leave};
 
-use super::moving::{changes_temp, moves};
 use pgp_ids::{Incremental, Membership, OsdId, Osds, PgId};
+use pgp_log::{changes_temp, has_osd, moves, temp_of};
 use pgp_map::OsdMap;
 use pgp_sets::{filter, raw};
 
@@ -91,22 +89,4 @@ impl Lying {
     {
         has_osd(self.raw.as_slice(), osd) || has_osd(self.temp.as_slice(), osd)
     }
-}
-
-/// The device stands in the list.
-fn has_osd(places: &[Option<OsdId>], osd: OsdId) -> bool
-    ensures { result ≡ has_osd osd places.now }
-{
-    places.iter().any(|place| Some(osd) == *place)
-}
-
-/// The group's pg_temp list by the map, as a copy, which takes no memory.
-fn temp_of(map: &OsdMap, pg: PgId) -> Osds
-    ensures { (incs : List AnyIncremental) → IsMapOf incs map.now → result ≡ temp incs pg }
-{
-    let mut copy = Osds::new();
-    for place in map.temp(pg) {
-        copy.push(*place);
-    }
-    copy
 }

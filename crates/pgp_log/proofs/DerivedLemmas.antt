@@ -1,8 +1,9 @@
 -- What a shard keeps beside its entries, as the log grows.
-use Rattle.std.proofs.Common.{◌≡◌, ℕ, List, [], ◌∷◌, ◌++◌, Option, Some, None, is_some, Bool, true, false, ◌&&◌, ◌||◌, IfSome, ◌+◌, ◌<◌, length, take, get_or, nat_eq, nat_lt, eq-eqb, inl, inr, arith, refl, sym, ap, ◌∙◌, subst}
+use Rattle.std.proofs.Common.{◌≡◌, ℕ, List, [], ◌∷◌, ◌++◌, Bor, Option, Some, None, is_some, option_map, Bool, true, false, not, ◌&&◌, ◌||◌, IfSome, ◌+◌, ◌<◌, length, take, get_or, nat_eq, nat_lt, eq-eqb, inl, inr, arith, refl, sym, ap, ◌∙◌, subst}
 use Rattle.std.specs.List.{list_any}
-use Rattle.std.specs.Option.{option_map_or}
+use Rattle.std.specs.Option.{option_copied, option_map_or}
 use Rattle.std.specs.Prelude.{slice_get}
+use Rattle.std.proofs.Math.Bool.{and-true}
 use Rattle.std.proofs.lemmas.Bool.{and_from, and_parts, cases_Bool, cases_lt, eqb-true, true≢false}
 use Rattle.std.proofs.lemmas.List.Folds.{list_any_more}
 use Rattle.pgp_lists.proofs.Bools.{same_tests}
@@ -23,10 +24,12 @@ use Rattle.pgp_group.proofs.GrowthLemmas.{unmade}
 use Rattle.pgp_group.proofs.ViewLemmas.{scratch_there}
 use Rattle.pgp_group.specs.Entries.{inc_of, incs_of}
 use Rattle.pgp_group.specs.GroupHistory.{makes}
+use Rattle.pgp_group.specs.Touched.{told_at}
 use Rattle.pgp_group.specs.View.{scratch}
 use Rattle.pgp_log.specs.Derived.{HasOwn, HasStill, IsDerivedOf, IsKeptIfOwn, IsOwnIfKept, IsStepping, owns}
 use Rattle.pgp_log.specs.Fits.{fits}
-use Rattle.pgp_log.specs.KeptGroup.{AreGroupsOf, IsStep, KeepsAll, ids_of, keeps}
+use Rattle.pgp_log.specs.KeptGroup.{AreGroupsOf, IsStep, IsViewOf, KeepsAll, ids_of, keeps, marks_of}
+use Rattle.pgp_log.specs.Log.{epoch_of}
 use Rattle.pgp_log.specs.Shard.{is_among}
 use Rattle.pgp_log.specs.MapBefore.{IsMapBefore}
 use Rattle.pgp_log.specs.declared.before.MapBefore.{MapBefore}
@@ -185,12 +188,9 @@ pools-more owner incs inc before after i new still within item has next pg made 
       next pg here
 ]
 
--- a group of the owner that isn't kept isn't in the map, and has no view
-no-own-view : (owner : Owner) (log : List Entry) (derived : Derived) (pg : PgId) → IsDerivedOf owner log derived → owns owner pg ≡ true → false ≡ keeps pg derived.groups → None ≡ scratch log pg
-no-own-view owner log derived pg is own gone = no-view log pg (ap (λ b. b && has_group (incs_of log) pg) (sym own) ∙ sym (is.own_are pg) ∙ sym gone)
-
--- what a shard answers for one of its groups: the view that the log says, or none where the group isn't kept
-pub own-view : (owner : Owner) (log : List Entry) (derived : Derived) (pg : PgId) (view : Option View) → IsDerivedOf owner log derived → owns owner pg ≡ true
-    → is_some view ≡ keeps pg derived.groups → IfSome view (λ told. scratch log pg ≡ Some told) → view ≡ scratch log pg
-own-view owner log derived pg None is own there says = no-own-view owner log derived pg is own there
-own-view owner log derived pg (Some told) is own there says = sym says
+-- the view of a group that isn't marked, except for count and epoch, is there where the map has the group
+pub view-told : (log : List Entry) (derived : Derived) (pg : PgId) (told : Option (Bor View)) → is_some told ≡ (has_group (incs_of log) pg && not (is_among pg (marks_of derived.groups)))
+    → IfSome told (λ view. IsViewOf log pg view.now) → is_among pg (marks_of derived.groups) ≡ false → scratch log pg ≡ option_map (told_at (length log) (epoch_of log)) (option_copied told)
+view-told log derived pg None there says unmarked =
+    sym (no-view log pg (sym (there ∙ ap (λ b. has_group (incs_of log) pg && not b) unmarked ∙ and-true (has_group (incs_of log) pg))))
+view-told log derived pg (Some view) there says unmarked = says

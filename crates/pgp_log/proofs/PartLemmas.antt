@@ -1,6 +1,6 @@
 -- What follows from the entries that a shard has read, or that it isn't there, and the marks.
-use Rattle.std.proofs.Common.{◌≡◌, List, [], ◌∷◌, ◌++◌, Option, Some, None, IfSome, is_some, true, false, ◌&&◌, Result, Ok, Err, is_err, OnOk, refl, sym, ap, ◌∙◌, subst}
-use Rattle.std.proofs.lemmas.Bool.{true≢false}
+use Rattle.std.proofs.Common.{◌≡◌, List, [], ◌∷◌, ◌++◌, Option, Some, None, IfSome, true, false, ◌&&◌, map, refl, sym, ap, ◌∙◌, subst}
+use Rattle.std.proofs.lemmas.List.{map-append}
 use Rattle.pgp_ids.specs.declared.entry.Entry.{Entry}
 use Rattle.pgp_ids.specs.declared.entry.Entry.TheVariants as entry
 use Rattle.pgp_ids.specs.declared.pg_id.PgId.{PgId}
@@ -8,9 +8,10 @@ use Rattle.pgp_ids.specs.declared.incremental.Incremental.{Incremental}
 use Rattle.pgp_map.specs.Pools.{has_group}
 use Rattle.pgp_group.specs.Entries.{incs_of}
 use Rattle.pgp_group.specs.Touched.{is_touched}
-use Rattle.pgp_log.specs.Derived.{CanAbsorb, IsDerivedOf, IsPartOf, owns, shard_with}
+use Rattle.pgp_log.specs.Derived.{IsDerivedOf, IsKeptBeside, owns, shard_with}
 use Rattle.pgp_log.specs.Fits.{fits}
 use Rattle.pgp_log.specs.KeptGroup.{AreAllMarked, marks_of}
+use Rattle.pgp_log.specs.Log.{is_legal}
 use Rattle.pgp_log.specs.Shard.{AreMarked, MarksOnlyTouched, is_among}
 use Rattle.pgp_log.specs.declared.derived.Derived.{Derived}
 use Rattle.pgp_log.specs.declared.owner.Owner.{Owner}
@@ -20,18 +21,26 @@ use Rattle.pgp_log.proofs.MarksLemmas.{all-marks, marks-once, pool-left}
 use Rattle.pgp_log.proofs.TakeLemmas.{incs-inc, incs-other}
 
 -- what is there follows from the log
-pub derived-there : (owner : Owner) (log : List Entry) (found : Option Derived) (derived : Derived) → IsPartOf owner log found → found ≡ Some derived → IsDerivedOf owner log derived
+pub derived-there : (owner : Owner) (log : List Entry) (found : Option Derived) (derived : Derived) → IsKeptBeside owner log found → found ≡ Some derived → IsDerivedOf owner log derived
 derived-there owner log found derived is there = subst (λ (o : Option Derived). IfSome o (IsDerivedOf owner log)) there is.derived_is
 
 -- ---- an entry comes
 
-pub can-absorb : (owner : Owner) (log : List Entry) (new : Entry) (found : Option Derived) → IsPartOf owner log found → fits log new ≡ None → IfSome found (λ derived. CanAbsorb owner derived new)
-can-absorb owner log new None is fit = tt
-can-absorb owner log new (Some derived) is fit = record { log = log; is = is.derived_is; fits = fit }
+-- the front with one entry more
+pub front-longer : {X : Type 0} (f : X → Entry) (before after : List X) (copy : X) (new : Entry) → after ≡ before ++ copy ∷ [] → f copy ≡ new → map f after ≡ map f before ++ new ∷ []
+front-longer f before after copy new longer same = ap (map f) longer ∙ map-append f before (copy ∷ []) ∙ ap (λ (e : Entry). map f before ++ e ∷ []) same
 
 -- nothing is there
-pub part-away : (owner : Owner) (log : List Entry) (new : Entry) (found : Option Derived) → IsPartOf owner log found → fits log new ≡ None → IsPartOf owner (log ++ new ∷ []) None
-part-away owner log new found is fit = record { legal = legal-snoc log new is.legal fit; derived_is = tt }
+pub part-away : (owner : Owner) (log longer : List Entry) (new : Entry) (found left : Option Derived) → IsKeptBeside owner log found → fits log new ≡ None → longer ≡ log ++ new ∷ [] → left ≡ None → IsKeptBeside owner longer left
+part-away owner log longer new found left is fit more away =
+    subst (λ (l : List Entry). IsKeptBeside owner l left) (sym more)
+    (subst (IsKeptBeside owner (log ++ new ∷ [])) (sym away) (record { legal = legal-snoc log new is.legal fit; derived_is = tt }))
+
+-- what is there takes the entry
+pub part-read : (owner : Owner) (log longer : List Entry) (new : Entry) (after : Derived) → is_legal log ≡ true → fits log new ≡ None → longer ≡ log ++ new ∷ [] → IsDerivedOf owner (log ++ new ∷ []) after
+    → IsKeptBeside owner longer (Some after)
+part-read owner log longer new after legal fit more is =
+    subst (λ (l : List Entry). IsKeptBeside owner l (Some after)) (sym more) (record { legal = legal-snoc log new legal fit; derived_is = is })
 
 -- an entry that doesn't touch a group leaves the map the group, or without it
 has-untouched : (log : List Entry) (new : Entry) (pg : PgId) → is_touched log new pg ≡ false → has_group (incs_of (log ++ new ∷ [])) pg ≡ has_group (incs_of log) pg
@@ -41,13 +50,15 @@ has-untouched log (entry.Info info) pg untouched = ap (λ (l : List Incremental)
 has-untouched log (entry.Entries report) pg untouched = ap (λ (l : List Incremental). has_group l pg) (incs-other log (entry.Entries report) refl)
 has-untouched log entry.Close pg untouched = ap (λ (l : List Incremental). has_group l pg) (incs-other log entry.Close refl)
 
-pub marks-away : (owner : Owner) (log : List Entry) (new : Entry) (found : Option Derived) → found ≡ None
-    → MarksOnlyTouched new (shard_with owner log found) (shard_with owner (log ++ new ∷ []) None)
-marks-away owner log new found none =
-    subst (λ (o : Option Derived). MarksOnlyTouched new (shard_with owner log o) (shard_with owner (log ++ new ∷ []) None)) (sym none) (record {
+pub marks-away : (owner : Owner) (log longer : List Entry) (new : Entry) (found left : Option Derived) → found ≡ None → longer ≡ log ++ new ∷ [] → left ≡ None
+    → MarksOnlyTouched new (shard_with owner log found) (shard_with owner longer left)
+marks-away owner log longer new found left none more away =
+    subst (λ (o : Option Derived). MarksOnlyTouched new (shard_with owner log o) (shard_with owner longer left)) (sym none)
+    (subst (λ (o : Option Derived). MarksOnlyTouched new (shard_with owner log None) (shard_with owner longer o)) (sym away)
+    (subst (λ (l : List Entry). MarksOnlyTouched new (shard_with owner log None) (shard_with owner l None)) (sym more) (record {
       others = λ pg untouched. ap (λ b. owns owner pg && b) (has-untouched log new pg untouched);
       there = refl;
-    })
+    })))
 
 -- ---- the marks
 
@@ -67,15 +78,3 @@ pub marked-there : (owner : Owner) (log : List Entry) (derived : Derived) (found
 marked-there owner log derived found there is =
     subst (λ (o : Option Derived). AreMarked (shard_with owner log o) (marks_of derived.groups)) (sym there)
     (record { each = λ pg. refl; once = marks-once derived.groups is.groups_are.places_are; in_order = refl })
-
--- where nothing is kept, the marks aren't there
-pub no-marks : {P : Type 0} (owner : Owner) (log : List Entry) (found : Option Derived) → found ≡ None → is_some (shard_with owner log found).marks ≡ true → P
-no-marks owner log found none there = absurd (true≢false (sym there ∙ ap (λ (o : Option Derived). is_some (shard_with owner log o).marks) none))
-
-pub if-marks : (owner : Owner) (log : List Entry) (found : Option Derived) (P : List PgId → Type 0) → found ≡ None → IfSome (shard_with owner log found).marks P
-if-marks owner log found P none = subst (λ (o : Option Derived). IfSome (shard_with owner log o).marks P) (sym none) tt
-
--- what holds where a call succeeds
-pub ok-holds : {T E : Type 0} (r : Result T E) (P : Type 0) → is_err r ≡ false → OnOk r P → P
-ok-holds (Ok x) P fine holds = holds
-ok-holds (Err e) P fine holds = cc

@@ -1,5 +1,5 @@
 -- Rows of groups, and the incrementals by which they are passed by.
-use Rattle.std.proofs.Common.{◌≡◌, ℕ, ◌+◌, ◌<◌, List, [], ◌∷◌, ◌++◌, Bool, true, false, ◌||◌, Option, Some, None, length, map, set, nat_eq, refl, sym, ap, ◌∙◌, subst, inl, inr, arith, eq-eqb, length-append}
+use Rattle.std.proofs.Common.{◌≡◌, ℕ, ◌+◌, ◌<◌, List, [], ◌∷◌, ◌++◌, Bool, true, false, cond, ◌||◌, Option, Some, None, length, map, set, nat_eq, refl, sym, ap, ◌∙◌, subst, inl, inr, arith, eq-eqb, length-append}
 use Rattle.std.specs.List.{list_any}
 use Rattle.std.specs.Option.{option_map, option_map_or}
 use Rattle.std.specs.Prelude.{slice_get}
@@ -20,7 +20,7 @@ use Rattle.pgp_group.specs.Entries.{incs_of}
 use Rattle.pgp_group.specs.GroupLog.{group_in}
 use Rattle.pgp_group.specs.Touched.{changed_devices, changes_pool, changes_temp, has_osd, has_to_do_with, may_lie_on, moves_all, names, turned_devices}
 use Rattle.pgp_log.specs.declared.before.MapBefore.{MapBefore}
-use Rattle.pgp_log.specs.KeptGroup.{AreAtPlaces, AreRowsOf, IsChangesOf, IsKeptOf, IsPassedBy, IsRowOf, IsStep, is_marked}
+use Rattle.pgp_log.specs.KeptGroup.{AreAtPlaces, AreRowsOf, IsChangesOf, IsKeptOf, IsPassedBy, IsRowOf, IsStep, devices_for, is_marked}
 use Rattle.pgp_log.specs.OsdFilter.{Covers, CoversStill}
 use Rattle.pgp_log.specs.Touch.{changes_placements}
 use Rattle.pgp_log.specs.declared.groups.Groups.{Groups}
@@ -28,7 +28,7 @@ use Rattle.pgp_log.specs.declared.kept_group.KeptGroup.{KeptGroup}
 use Rattle.pgp_log.specs.declared.osd_filter.OsdFilter.{OsdFilter}
 use Rattle.pgp_log.specs.declared.row.Changes.{Changes}
 use Rattle.pgp_log.specs.declared.row.Row.{Row}
-use Rattle.pgp_log.proofs.TouchLemmas.{changed-parts, kept-stays, kept-unseen}
+use Rattle.pgp_log.proofs.TouchLemmas.{changed-parts, kept-stays, kept-unseen, turned-parts}
 
 -- ---- rows by their places
 
@@ -82,11 +82,12 @@ one-of true b is here there = here refl
 one-of false b is here there = there is
 
 -- sets that the devices of the lists were put in, one list after the other
-pub row-is : (kept : KeptGroup) (one two all : OsdFilter) → ((osd : ℕ) → has_osd osd kept.raw ≡ true → Covers one osd) → CoversStill one two → ((osd : ℕ) → has_osd osd kept.temp ≡ true → Covers two osd) → CoversStill two all
+pub row-is : (kept : KeptGroup) (marked : Bool) (one two all : OsdFilter) → marked ≡ is_marked kept → ((osd : ℕ) → has_osd osd kept.raw ≡ true → Covers one osd) → CoversStill one two → ((osd : ℕ) → has_osd osd kept.temp ≡ true → Covers two osd) → CoversStill two all
     → (is_marked kept ≡ false → (log : List Entry) → IsKeptOf log kept → (osd : ℕ) → option_map_or (names osd) (group_in log kept.pg) false ≡ true → Covers all osd)
-    → IsRowOf (record { pg = kept.pg; devices = all }) kept
-row-is kept one two all raw second temp_list third named = record {
+    → IsRowOf (record { pg = kept.pg; marked = marked; devices = all }) kept
+row-is kept marked one two all same raw second temp_list third named = record {
   pg = refl;
+  marked = same;
   lies_on = lies;
   knows = λ worked_out log is osd knows. one-of (may_lie_on (incs_of log) kept.pg osd) (option_map_or (names osd) (group_in log kept.pg) false) knows
       (lies log is osd) (named worked_out log is osd);
@@ -108,9 +109,13 @@ pub changes-are : (inc : Incremental) (places : Bool) (f1 f2 f3 f4 f5 : OsdFilte
     → ((osd : ℕ) → list_any (nat_eq osd) inc.gone ≡ true → Covers f3 osd) → CoversStill f3 f4
     → ((osd : ℕ) → list_any (λ (told : DeviceEpoch). nat_eq osd told.osd) inc.up_thru ≡ true → Covers f4 osd) → CoversStill f4 f5
     → ((osd : ℕ) → list_any (λ (told : DeviceEpoch). nat_eq osd told.osd) inc.lost ≡ true → Covers f5 osd)
-    → IsChangesOf inc (record { places = places; devices = f5 })
+    → IsChangesOf inc (record { places = places; turned = f3; devices = f5 })
 changes-are inc places f1 f2 f3 f4 f5 same up s2 down s3 gone s4 told s5 lost = record {
   places = same;
+  turned = λ osd there. one-of (list_any (nat_eq osd) inc.up || list_any (nat_eq osd) inc.down) (list_any (nat_eq osd) inc.gone)
+      (turned-parts (nat_eq osd) inc ∙ there)
+      (λ early. one-of (list_any (nat_eq osd) inc.up) (list_any (nat_eq osd) inc.down) early (λ has. s3 osd (s2 osd (up osd has))) (λ has. s3 osd (down osd has)))
+      (gone osd);
   devices = λ osd there. five (list_any (nat_eq osd) inc.up) (list_any (nat_eq osd) inc.down) (list_any (nat_eq osd) inc.gone)
       (list_any (λ (t : DeviceEpoch). nat_eq osd t.osd) inc.up_thru) (list_any (λ (t : DeviceEpoch). nat_eq osd t.osd) inc.lost)
       (changed-parts (nat_eq osd) inc ∙ there)
@@ -139,17 +144,25 @@ turned-changed inc osd turned =
     ∙ ap (λ b. b || list_any (nat_eq osd) (map osd_of inc.lost)) (list_any-append (nat_eq osd) (turned_devices inc) (map osd_of inc.up_thru))
     ∙ ap (λ b. (b || list_any (nat_eq osd) (map osd_of inc.up_thru)) || list_any (nat_eq osd) (map osd_of inc.lost)) turned
 
+-- a device that is turned concerns the group, marked or not
+turned-for : (row : Row) (changes : Changes) (inc : Incremental) (osd : ℕ) → IsChangesOf inc changes → list_any (nat_eq osd) (turned_devices inc) ≡ true → Covers (devices_for row changes) osd
+turned-for row changes inc osd says there = at row.marked where
+  at : (b : Bool) → Covers (cond b changes.turned changes.devices) osd
+  at true = says.turned osd there
+  at false = says.devices osd (turned-changed inc osd there)
+
 pub passed-by : (log : List Entry) (inc : Incremental) (changes : Changes) (row : Row) (kept : KeptGroup) → IsChangesOf inc changes → IsRowOf row kept → IsKeptOf log kept
-    → (moves_all inc || changes_pool inc kept.pg.pool || changes_temp inc kept.pg) ≡ false → ((osd : ℕ) → Covers row.devices osd → Covers changes.devices osd → ⊥)
+    → (moves_all inc || changes_pool inc kept.pg.pool || changes_temp inc kept.pg) ≡ false → ((osd : ℕ) → Covers row.devices osd → Covers (devices_for row changes) osd → ⊥)
     → IsPassedBy log inc kept
 passed-by log inc changes row kept says is holds placed apart = record {
   still =
       let none = none-passes (may_lie_on (incs_of log) kept.pg) (turned_devices inc)
-      (λ osd lies there. apart osd (is.lies_on log holds osd lies) (says.devices osd (turned-changed inc osd there))) in
+      (λ osd lies there. apart osd (is.lies_on log holds osd lies) (turned-for row changes inc osd says there)) in
       ap (λ b. b || list_any (may_lie_on (incs_of log) kept.pg) (turned_devices inc)) placed ∙ none;
   untouched = λ worked_out.
       let none = none-passes (has_to_do_with log kept.pg) (changed_devices inc)
-      (λ osd knows there. apart osd (is.knows worked_out log holds osd knows) (says.devices osd there)) in
+      (λ osd knows there. apart osd (is.knows worked_out log holds osd knows)
+      (subst (λ b. Covers (cond b changes.turned changes.devices) osd) (sym (is.marked ∙ worked_out)) (says.devices osd there))) in
       ap (λ b. b || list_any (has_to_do_with log kept.pg) (changed_devices inc)) placed ∙ none;
 }
 

@@ -65,8 +65,8 @@ pub record CanAbsorb (owner : Owner) (derived : Derived) (new : Entry) : Type 0 
   pub is : IsDerivedOf owner log derived
   pub fits : fits log new ≡ None
 
--- the log is legal, and what is kept, if it is there, follows from the log
-pub record IsPartOf (owner : Owner) (log : List Entry) (derived : Option Derived) : Type 0 where
+-- the log is legal, and what a shard keeps beside it, if anything, follows from it
+pub record IsKeptBeside (owner : Owner) (log : List Entry) (derived : Option Derived) : Type 0 where
   pub legal : is_legal log ≡ true
   pub derived_is : IfSome derived (IsDerivedOf owner log)
 

@@ -1,5 +1,5 @@
 -- What a shard keeps of its groups, as far as the entries that it has read tell of them.
-use Rattle.std.specs.Prelude.{◌≡◌, ℕ, nat_eq, List, [], ◌∷◌, ◌++◌, length, map, slice_get, Bool, is_none, Some, None, IfSome, true, false}
+use Rattle.std.specs.Prelude.{◌≡◌, ℕ, nat_eq, List, [], ◌∷◌, ◌++◌, length, map, slice_get, Bool, is_none, Some, None, IfSome, true, false, if◌then◌else◌}
 use Rattle.std.specs.HashMap as hash
 use Rattle.std.specs.List.{All, filter, list_any}
 use Rattle.pgp_ids.specs.declared.entry.Entry.{Entry}
@@ -15,7 +15,7 @@ use Rattle.pgp_map.specs.declared.map.OsdMap.{OsdMap}
 use Rattle.pgp_group.specs.Entries.{incs_of}
 use Rattle.pgp_group.specs.GroupOf.{IsGroupOf}
 use Rattle.pgp_group.specs.Reaching.{reaching}
-use Rattle.pgp_group.specs.Touched.{changed_devices, has_to_do_with, is_touched, may_lie_on, may_move, told_at}
+use Rattle.pgp_group.specs.Touched.{changed_devices, has_to_do_with, is_touched, may_lie_on, may_move, told_at, turned_devices}
 use Rattle.pgp_group.specs.View.{scratch}
 use Rattle.pgp_log.specs.Fits.{fits}
 use Rattle.pgp_log.specs.Log.{is_legal}
@@ -27,6 +27,7 @@ use Rattle.pgp_log.specs.Touch.{changes_placements}
 use Rattle.pgp_log.specs.declared.before.MapBefore.{MapBefore}
 use Rattle.pgp_log.specs.declared.groups.Groups.{Groups}
 use Rattle.pgp_log.specs.declared.kept_group.KeptGroup.{KeptGroup}
+use Rattle.pgp_log.specs.declared.osd_filter.OsdFilter.{OsdFilter}
 use Rattle.pgp_log.specs.declared.row.Changes.{Changes}
 use Rattle.pgp_log.specs.declared.row.Row.{Row}
 
@@ -76,10 +77,11 @@ pub record CanStep (kept : KeptGroup) (inc : Incremental) (before : MapBefore) (
   pub is : IsKeptOf log kept
   pub step : IsStep log inc before after
 
--- the row is that of the group: it has the devices on which the group may lie by each log of which the group is kept, and
--- where the group isn't marked, those with which it has to do
+-- the row is that of the group: it says whether the group is marked, and has the devices on which the group may lie by each log
+-- of which the group is kept, and where the group isn't marked, those with which it has to do
 pub record IsRowOf (row : Row) (kept : KeptGroup) : Type 0 where
   pub pg : row.pg ≡ kept.pg
+  pub marked : row.marked ≡ is_marked kept
   pub lies_on : (log : List Entry) → IsKeptOf log kept → (osd : ℕ) → may_lie_on (incs_of log) kept.pg osd ≡ true → Covers row.devices osd
   pub knows : is_marked kept ≡ false → (log : List Entry) → IsKeptOf log kept → (osd : ℕ) → has_to_do_with log kept.pg osd ≡ true → Covers row.devices osd
 
@@ -91,7 +93,12 @@ pub record AreRowsOf (rows : List Row) (groups : List KeptGroup) : Type 0 where
 -- this is what the incremental changes
 pub record IsChangesOf (inc : Incremental) (changes : Changes) : Type 0 where
   pub places : changes.places ≡ changes_placements inc
+  pub turned : (osd : ℕ) → list_any (nat_eq osd) (turned_devices inc) ≡ true → Covers changes.turned osd
   pub devices : (osd : ℕ) → list_any (nat_eq osd) (changed_devices inc) ≡ true → Covers changes.devices osd
+
+-- the devices of the changes that concern the group of the row: all, or where it is marked those that may move it
+abbrev pub devices_for : Row → Changes → OsdFilter
+devices_for row changes = if row.marked then changes.turned else changes.devices
 
 -- the incremental doesn't move the group and, where it isn't marked, doesn't touch it
 pub record IsPassedBy (log : List Entry) (inc : Incremental) (kept : KeptGroup) : Type 0 where

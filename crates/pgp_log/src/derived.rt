@@ -22,6 +22,7 @@ ghost use Rattle.pgp_log.specs.declared.owner.Owner.{Owner as AnyOwner};
 use super::before::MapBefore;
 use super::groups::Groups;
 use super::owner::Owner;
+use super::place::has_group;
 use pgp_ids::{Entry, Epoch, Incremental, PgId, PoolId, View};
 use pgp_map::OsdMap;
 use std::alloc::{AllocError, Global};
@@ -205,15 +206,5 @@ impl Derived {
         ensures wants_marked { OnErr result (0 < min max (length (marks_of self.old.groups))) }
     {
         self.groups.renew(&self.map, count, max)
-    }
-}
-
-/// Whether the map has the group.
-fn has_group(map: &OsdMap, pg: &PgId) -> bool
-    ensures { (incs : List AnyIncremental) → IsMapOf incs map.now → result ≡ has_group incs pg.now }
-{
-    match map.pool(pg.pool) {
-        Some(pool) => pg.pg < pool.pg_num,
-        None => false,
     }
 }

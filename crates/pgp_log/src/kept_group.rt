@@ -20,6 +20,7 @@ ghost use Rattle.pgp_log.specs.declared.before.MapBefore.{MapBefore as AnyBefore
 
 use super::before::MapBefore;
 use super::osd_filter::OsdFilter;
+use super::place::temp_of;
 use super::row::Row;
 use super::touch::{changes_placement, has_osd, moves};
 use pgp_group::Group;
@@ -80,11 +81,13 @@ impl KeptGroup {
         let mut devices = OsdFilter::empty();
         devices.add_places(self.raw.as_slice());
         devices.add_places(self.temp.as_slice());
-        if !self.is_marked() {
+        let marked = self.is_marked();
+        if !marked {
             devices.add_all(self.group.named());
         }
         Row {
             pg: self.pg,
+            marked,
             devices,
         }
     }
@@ -292,15 +295,4 @@ impl KeptGroup {
         }
         Ok(())
     }
-}
-
-/// The group's pg_temp list by the map, as a copy, which takes no memory.
-fn temp_of(map: &OsdMap, pg: PgId) -> Osds
-    ensures { (incs : List AnyIncremental) → IsMapOf incs map.now → result ≡ temp incs pg }
-{
-    let mut copy = Osds::new();
-    for place in map.temp(pg) {
-        copy.push(*place);
-    }
-    copy
 }

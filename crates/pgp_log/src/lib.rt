@@ -12,7 +12,6 @@ mod kept_group;
 pub mod laws;
 mod osd_filter;
 mod owner;
-mod part;
 mod place;
 mod raw_sets;
 mod report;
@@ -23,8 +22,9 @@ mod world;
 
 pub use entry::{inc_of, is_close};
 pub use judge::{Judge, LONGEST_LOG};
-pub use place::{Place, group_of, locate};
+pub use place::{Place, group_of, has_group, locate, temp_of};
 pub use raw_sets::RawSets;
 pub use report::{entries_fault, info_fault};
 pub use shard::{ShardState, shard_of};
+pub use touch::{changes_temp, has_osd, moves, moves_none};
 pub use world::World;

@@ -3,9 +3,9 @@ ghost use Rattle.std.specs.Prelude.{◌≡◌, ◌≢◌, ◌||◌, List, Some};
 ghost use Rattle.std.specs.List.{list_any};
 ghost use Rattle.pgp_ids.specs.declared.incremental.Incremental.{Incremental as AnyIncremental};
 ghost use Rattle.pgp_map.specs.MapOf.{IsMapOf};
-ghost use Rattle.pgp_map.specs.Pools.{has_group};
 ghost use Rattle.pgp_log.specs.ReportFault.{is_slot_of, has_unknown_member, is_half, is_bad_version, are_bad_ends, is_zero, has_bad_info, has_bad_entries, report_fault, info_fault, entries_fault};
 
+use super::place::has_group;
 use pgp_ids::{Epoch, Info, LogEntry, Member, PgId, PoolSpec, Refusal, Report, Version};
 use pgp_map::OsdMap;
 
@@ -47,15 +47,6 @@ fn report_fault(
         Some(Refusal::BadVersion)
     } else {
         None
-    }
-}
-
-fn has_group(map: &OsdMap, pg: &PgId) -> bool
-    ensures { (incs : List AnyIncremental) → IsMapOf incs map.now → result ≡ has_group incs pg.now }
-{
-    match map.pool(pg.pool) {
-        Some(pool) => pg.pg < pool.pg_num,
-        None => false,
     }
 }
 

@@ -2,7 +2,7 @@
 
 ghost use Rattle.std.specs.Prelude.{◌≡◌, ◌||◌, List, true};
 ghost use Rattle.pgp_ids.specs.declared.entry.Entry.{Entry as AnyEntry};
-ghost use Rattle.pgp_log.specs.KeptGroup.{IsChangesOf, IsKeptOf, IsPassedBy, IsRowOf};
+ghost use Rattle.pgp_log.specs.KeptGroup.{IsChangesOf, IsKeptOf, IsPassedBy, IsRowOf, devices_for};
 ghost use Rattle.pgp_log.specs.declared.kept_group.KeptGroup.{KeptGroup as AnyKept};
 
 use super::osd_filter::OsdFilter;
@@ -14,6 +14,8 @@ use pgp_ids::{Incremental, PgId};
 #[derive(Clone, Copy)]
 pub(crate) struct Row {
     pub(crate) pg: PgId,
+    /// The group has to be worked out: nothing but a move concerns it.
+    pub(crate) marked: bool,
     /// The devices on which the group may lie and, where it isn't marked, those with which it has to do.
     pub(crate) devices: OsdFilter,
 }
@@ -27,7 +29,7 @@ impl Row {
         if changes.places && changes_placement(inc, &self.pg) {
             return false;
         }
-        !self.devices.shares(changes.devices)
+        !self.devices.shares(changes.devices_for(self))
     }
 }
 
@@ -36,6 +38,8 @@ impl Row {
 pub(crate) struct Changes {
     /// It may change where some group lies, whatever becomes of devices.
     places: bool,
+    /// The devices that it boots, takes down or destroys: only they can move a group that lies on them.
+    turned: OsdFilter,
     /// The devices whose state it changes.
     devices: OsdFilter,
 }
@@ -44,15 +48,28 @@ impl Changes {
     pub(crate) fn of(inc: &Incremental) -> Self
         ensures { IsChangesOf inc.now result }
     {
-        let mut devices = OsdFilter::empty();
-        devices.add_all(inc.up.as_slice());
-        devices.add_all(inc.down.as_slice());
-        devices.add_all(inc.gone.as_slice());
+        let mut turned = OsdFilter::empty();
+        turned.add_all(inc.up.as_slice());
+        turned.add_all(inc.down.as_slice());
+        turned.add_all(inc.gone.as_slice());
+        let mut devices = turned;
         devices.add_told(inc.up_thru.as_slice());
         devices.add_told(inc.lost.as_slice());
         Changes {
             places: changes_placements(inc),
+            turned,
             devices,
+        }
+    }
+
+    /// The devices that concern the group of the row.
+    fn devices_for(&self, row: &Row) -> OsdFilter
+        ensures { result ≡ devices_for row.now self.now }
+    {
+        if row.marked {
+            self.turned
+        } else {
+            self.devices
         }
     }
 }

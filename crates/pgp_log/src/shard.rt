@@ -7,14 +7,16 @@ ghost use Rattle.pgp_map.specs.Pools.{has_group};
 ghost use Rattle.pgp_group.specs.Entries.{incs_of};
 ghost use Rattle.pgp_group.specs.Touched.{told_at};
 ghost use Rattle.pgp_group.specs.View.{scratch};
+ghost use Rattle.pgp_log.specs.Derived.{IsDerivedOf, IsKeptBeside, shard_with};
 ghost use Rattle.pgp_log.specs.Fits.{is_closed, fits};
+ghost use Rattle.pgp_log.specs.KeptGroup.{marks_of};
 ghost use Rattle.pgp_log.specs.Log.{HasInc, epoch_of, is_legal};
-ghost use Rattle.pgp_log.specs.Shard.{opening_shard, having_read, having_read_all, HasReadSame, HasReadSome, shard_of, is_own, is_marked, MarksOnlyTouched, IsUnmarked, AreUnmarked};
+ghost use Rattle.pgp_log.specs.Shard.{opening_shard, having_read, having_read_all, HasReadSame, HasReadSome, shard_of, is_own, is_marked, AreMarked, MarksOnlyTouched, IsUnmarked, AreUnmarked};
 
 use super::copies::copy_at;
+use super::derived::Derived;
 use super::entry::is_close;
 use super::owner::Owner;
-use super::part::Part;
 use pgp_ids::{AskRefusal, Entry, PgId, View};
 use std::alloc::{AllocError, Global};
 use std::marker::Model;
@@ -22,19 +24,22 @@ use std::sync::Arc;
 
 /// The front of the log that one of several shards has read. It answers for its own groups alone.
 pub struct ShardState {
+    alloc: Global,
     owner: Owner,
     front: Vec<Arc<Entry>>,
-    /// What follows from the front, for the owner's groups.
-    part: Part,
+    /// What follows from the front, for the owner's groups. It isn't there until the first question or the first `renew` makes it,
+    /// and again from an entry for which it found no memory until the next of these.
+    derived: Option<Derived>,
 }
 
 // Written out, so that a crate which lets one go has nothing to prove of what lies within.
 impl Drop for ShardState {
     fn drop(self) {
         let ShardState {
+            alloc: _,
             owner: _,
             front: _,
-            part: _,
+            derived: _,
         } = self;
     }
 }
@@ -42,14 +47,14 @@ impl Drop for ShardState {
 impl Model for ShardState {
     ghost use Rattle.std.specs.Prelude.{map};
     ghost use Rattle.std.specs.Arc.{arc_value};
-    ghost use Rattle.pgp_log.specs.Derived.{IsPartOf, shard_with};
+    ghost use Rattle.pgp_log.specs.Derived.{IsKeptBeside, shard_with};
     ghost use Rattle.pgp_log.specs.Shard.{Shard};
 
     ghost Value = { Shard };
 
-    ghost view = { λ s. shard_with s.owner (map arc_value s.front.items) s.part.derived };
+    ghost view = { λ s. shard_with s.owner (map arc_value s.front.items) s.derived };
 
-    ghost invariant = { λ s. IsPartOf s.owner (map arc_value s.front.items) s.part.derived };
+    ghost invariant = { λ s. IsKeptBeside s.owner (map arc_value s.front.items) s.derived };
 }
 
 impl ShardState {
@@ -59,9 +64,10 @@ impl ShardState {
         ensures { result ≡ opening_shard shard shards }
     {
         ShardState {
+            alloc,
             owner: Owner { shard, shards },
             front: Vec::new(alloc),
-            part: Part::new(alloc),
+            derived: None,
         }
     }
 
@@ -98,11 +104,19 @@ impl ShardState {
         ensures err { OnErr result (HasReadSame self.old self.new) }
     {
         self.front.push(Arc::try_clone(entry)?)?;
-        let followed = self.part.absorb(self.owner, entry);
-        if followed.is_err() {
-            self.front.pop();
+        let Some(mut derived) = self.derived.take() else {
+            return Ok(());
+        };
+        match derived.absorb(self.owner, entry) {
+            Ok(()) => {
+                self.derived = Some(derived);
+                Ok(())
+            }
+            Err(error) => {
+                self.front.pop();
+                Err(error)
+            }
         }
-        followed
     }
 
     /// Reads these entries, which come next. Without memory for one of them, the shard has read those before it.
@@ -132,7 +146,15 @@ impl ShardState {
         ensures same { HasReadSame self.old self.new }
         ensures marks { result ≢ Err Memory → IsUnmarked pg.now self.old self.new }
     {
-        if self.part.work_out(self.owner, self.front.as_slice(), pg)? {
+        let mut derived = taken(
+            self.alloc,
+            self.owner,
+            self.front.as_slice(),
+            &mut self.derived,
+        )?;
+        let there = derived.work_out(pg, self.front.len());
+        self.derived = Some(derived);
+        if there? {
             Ok(())
         } else {
             Err(AskRefusal::UnknownGroup)
@@ -147,7 +169,10 @@ impl ShardState {
             ≡ option_map (told_at (length self.now.front) (epoch_of self.now.front)) (option_copied result) }
         ensures marked { is_marked self.now pg.now ≡ true → result ≡ None }
     {
-        self.part.view_of(pg)
+        match &self.derived {
+            Some(derived) => derived.view_of(pg),
+            None => None,
+        }
     }
 
     /// All that the shard has read says of one of its groups, which needn't be worked out again then. `UnknownGroup`: what was
@@ -175,11 +200,13 @@ impl ShardState {
         ensures ok { IfOk result (λ view. scratch self.now.front pg.now ≡ Some view) }
         ensures err { OnErr result (result ≡ Err Memory) }
     {
-        let Some(view) = self.part.view_of(pg) else {
+        let Some(derived) = &self.derived else {
             unreachable!();
         };
-        let count = self.front.len();
-        let copy = copy_at(self.part.alloc, view, self.part.epoch(), count)?;
+        let Some(view) = derived.view_of(pg) else {
+            unreachable!();
+        };
+        let copy = copy_at(self.alloc, view, derived.epoch(), self.front.len())?;
         Ok(copy)
     }
 
@@ -194,7 +221,37 @@ impl ShardState {
         ensures wants { OnErr result (HasInc self.old.front) }
         ensures wants_marked { OnErr result (IfSome self.old.marks (λ marks. 0 < min max (length marks))) }
     {
-        self.part.renew(self.owner, self.front.as_slice(), max)
+        let count = self.front.len();
+        let mut derived = taken(
+            self.alloc,
+            self.owner,
+            self.front.as_slice(),
+            &mut self.derived,
+        )?;
+        let left = derived.renew(max, count);
+        self.derived = Some(derived);
+        left
+    }
+}
+
+/// Takes out what is kept beside the entries, or makes it of them where nothing is.
+fn taken(
+    alloc: Global,
+    owner: Owner,
+    entries: &[Arc<Entry>],
+    kept: &mut Option<Derived>,
+) -> Result<Derived, AllocError>
+    requires { IsKeptBeside owner (map arc_value entries.now) kept.old }
+    ensures is { IfOk result (IsDerivedOf owner (map arc_value entries.now)) }
+    ensures marks { IfOk result (λ derived. AreMarked (shard_with owner (map arc_value entries.now) kept.old)
+        (marks_of derived.groups)) }
+    ensures taken { kept.new ≡ None }
+    ensures wants { OnErr result (HasInc (map arc_value entries.now)) }
+    ensures wants_away { OnErr result (kept.old ≡ None) }
+{
+    match kept.take() {
+        Some(derived) => Ok(derived),
+        None => Derived::of(alloc, owner, entries),
     }
 }
 

@@ -23,7 +23,7 @@ fn moves_all(inc: &Incremental) -> bool
 }
 
 /// The incremental may move groups of the pool: it gives a tree, weights, or sizes of the pool.
-pub(crate) fn moves(inc: &Incremental, id: PoolId) -> bool
+pub fn moves(inc: &Incremental, id: PoolId) -> bool
     ensures { result ≡ moves inc.now id }
 {
     moves_all(inc) || has_sizes(inc.sizes.as_slice(), id)
@@ -51,14 +51,14 @@ fn has_sizes(sizes: &[PoolSizes], id: PoolId) -> bool
 }
 
 /// The incremental gives the group a pg_temp list, or takes it away.
-fn changes_temp(inc: &Incremental, pg: &PgId) -> bool
+pub fn changes_temp(inc: &Incremental, pg: &PgId) -> bool
     ensures { result ≡ changes_temp inc.now pg.now }
 {
     inc.temp.as_slice().iter().any(|given| given.pg == *pg)
 }
 
 /// The incremental moves no group: it changes no placement, and turns no device.
-pub(crate) fn moves_none(inc: &Incremental) -> bool
+pub fn moves_none(inc: &Incremental) -> bool
     ensures { result ≡ moves_none inc.now }
 {
     !moves_all(inc) && changes_no_pool(inc) && turns_none(inc)
@@ -100,7 +100,7 @@ pub(crate) fn turns_none(inc: &Incremental) -> bool
 }
 
 /// The device stands in the list.
-pub(crate) fn has_osd(places: &[Option<OsdId>], osd: OsdId) -> bool
+pub fn has_osd(places: &[Option<OsdId>], osd: OsdId) -> bool
     ensures { result ≡ has_osd osd places.now }
 {
     places.iter().any(|place| Some(osd) == *place)

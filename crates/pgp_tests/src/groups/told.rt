@@ -5,7 +5,6 @@ ghost use Rattle.std.specs.Prelude.{◌≡◌, [], ◌∷◌, List, None, IfOk, 
 ghost use Rattle.pgp_ids.specs.declared.incremental.Incremental.{Incremental as AnyIncremental};
 ghost use Rattle.pgp_map.specs.MapFault.{map_fault, given_fault, then_with};
 ghost use Rattle.pgp_map.specs.MapOf.{IsMapOf, Says};
-ghost use Rattle.pgp_map.specs.Pools.{has_group};
 ghost use Rattle.pgp_group.specs.Entries.{inc_of};
 ghost use Rattle.pgp_group.specs.GroupHistory.{makes};
 ghost use Rattle.pgp_tests.specs.Told.{AreTold, IsNext, TakesMap, TakesReport, tells_ahead};
@@ -16,6 +15,7 @@ use pgp_group::laws::growth::{
     checked_incrementals_are_numbered, history_begins_with_its_pool, the_next_map_follows,
 };
 use pgp_ids::{Entry, Epoch, Incremental, PgId, View};
+use pgp_log::has_group;
 use pgp_map::laws::{checked_lists_grow_by_incrementals_without_fault, pools_of_checked_lists};
 use pgp_map::{MapFault, OsdMap};
 use pgp_text::Reply;
@@ -236,14 +236,4 @@ fn makes(inc: &Incremental, pg: &PgId) -> bool
     ensures { result ≡ makes pg.now.pool inc.now }
 {
     inc.pools.as_slice().iter().any(|made| made.id == pg.pool)
-}
-
-/// The map has the group.
-fn has_group(map: &OsdMap, pg: &PgId) -> bool
-    ensures { (incs : List AnyIncremental) → IsMapOf incs map.now → result ≡ has_group incs pg.now }
-{
-    match map.pool(pg.pool) {
-        Some(pool) => pg.pg < pool.pg_num,
-        None => false,
-    }
 }

@@ -1,0 +1,20 @@
+use Rattle.std.proofs.Common.{map, arith, subst}
+use Rattle.std.specs.Arc.{arc_value}
+use Rattle.std.proofs.lemmas.List.{length-map}
+use Rattle.std.proofs.lemmas.Result.{on_err_weaker}
+use Rattle.pgp_log.specs.Log.{HasInc}
+use Rattle.pgp_log.specs.Shard.{Shard}
+use Rattle.pgp_log.proofs.shard.ShardState.renew.Goals as goal
+
+pub invariant_of-self-2 : goal.invariant_of-self-2
+invariant_of-self-2 c =
+    let front = map arc_value c.self.inside.front.items in
+    record {
+      legal = c.self.invariant.legal;
+      derived_is = c.renew-left.ensures.is c.self.inside.owner front (rw (← c.as_slice.ensures.value) c.in_ok-derived.ensures.is) (omega (arith, c.len-count.ensures, length-map c.self.inside.front.items arc_value));
+    }
+
+pub returns-clause-wants : goal.returns-clause-wants
+returns-clause-wants c =
+    on_err_weaker c.renew-left.result (λ given. subst (λ (s : Shard). HasInc s.front) c.self.view_is
+    (given c.self.inside.owner (map arc_value c.self.inside.front.items) (rw (← c.as_slice.ensures.value) c.in_ok-derived.ensures.is))) c.renew-left.ensures.wants
