@@ -85,3 +85,5 @@ gaps-apart info reported = range-apart (λ v. not (has_number v reported)) (info
 pub in-gaps : (info : Info) (reported : List LogEntry) (v : ℕ) → list_any (is_in_gap v) (gaps_in info reported) ≡ (is_in_log info v && not (has_number v reported))
 in-gaps info reported v =
     in-range (λ w. not (has_number w reported)) v (info.log_tail.v + 1) (info.last_update.v - info.log_tail.v) ∙ grind (arith, nat_tests)
+
+pub ruleset gap_laws = (gaps-apart, in-gaps)

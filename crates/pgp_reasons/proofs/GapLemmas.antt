@@ -4,14 +4,16 @@ use Rattle.std.specs.List.{Contains, list_any, range_with_len}
 use Rattle.std.proofs.lemmas.Bool.{cases_Bool, eq-eqb, eqb-true, ltb-true}
 use Rattle.std.proofs.lemmas.Bool.Decides.{nat_tests}
 use Rattle.std.proofs.lemmas.List.Elements.{filter-append, All-contains}
+use Rattle.std.proofs.lemmas.List.Folds.{list_any_none}
 use Rattle.std.proofs.lemmas.List.FromFn.{length-range_with_len, get_or-range_with_len}
 use Rattle.pgp_lists.specs.Ordered.{IsAscending, ascending}
 use Rattle.pgp_lists.proofs.Bools.{same_tests}
 use Rattle.pgp_lists.proofs.Ordered.{ascending-contains, contains-ascending, nat_order}
-use Rattle.pgp_lists.proofs.Members.{Contains-here, Contains-later, any-contains, contains-any, contains-map, filter-contains, filter-agree, map-contains}
+use Rattle.pgp_lists.proofs.Members.{All-members, Contains-nil, Contains-here, any-contains, contains-any, contains-map, filter-contains, filter-agree, map-contains}
 use Rattle.pgp_lists.proofs.Pairs.{AllPairs-first, AllPairs-rest}
 use Rattle.pgp_ids.specs.declared.log_entry.LogEntry.{LogEntry}
 use Rattle.pgp_missing.specs.Log.{has_number, number_of}
+use Rattle.pgp_group.proofs.Lists.{filter-each}
 use Rattle.pgp_reasons.specs.Gaps.{from_to, then_runs, runs_of, numbers_above, runs_lacked}
 use Rattle.pgp_reasons.specs.declared.gap.Gap.{Gap}
 
@@ -71,22 +73,20 @@ runs-front a (suc k) vs above =
     let next : nat_eq (a + 1) (a + 1) ≡ true = grind (arith, nat_tests) in
     ap (then_runs a) rest ∙ rw next (ap (λ last. from_to a last ∷ runs_of vs) (omega arith))
 
+runs-alone : (a k : ℕ) → runs_of (range_with_len a (suc k)) ≡ from_to a (a + k) ∷ []
+runs-alone a k =
+    ap runs_of (sym (append-nil (range_with_len a (suc k)))) ∙ runs-front a k [] (λ v in'. absurd (Contains-nil v in'))
+
 pub run-of-above : (tail last : ℕ) → tail < last → runs_of (numbers_above tail last) ≡ from_to (tail + 1) last ∷ []
 run-of-above tail last low =
     let k : ℕ = last - tail - 1 in
     let sized : last - tail ≡ suc k = omega arith in
     let ends : (tail + 1) + k ≡ last = omega arith in
-    ap (λ n. runs_of (range_with_len (tail + 1) n)) sized
-    ∙ ap runs_of (sym (append-nil (range_with_len (tail + 1) (suc k))))
-    ∙ runs-front (tail + 1) k [] (λ v in'. let none : in'.0 < 0 = in'.1 in omega arith)
-    ∙ ap (λ l. from_to (tail + 1) l ∷ []) ends
+    ap (λ n. runs_of (range_with_len (tail + 1) n)) sized ∙ runs-alone (tail + 1) k ∙ ap (λ l. from_to (tail + 1) l ∷ []) ends
 
 runs-join : (a k : ℕ) (vs : List ℕ) → ((v : ℕ) → Contains vs v → a + k < v) → runs_of (range_with_len a k ++ vs) ≡ runs_of (range_with_len a k) ++ runs_of vs
 runs-join a zero vs above = refl
-runs-join a (suc k) vs above =
-    let alone : runs_of (range_with_len a (suc k)) ≡ from_to a (a + k) ∷ [] =
-    ap runs_of (sym (append-nil (range_with_len a (suc k)))) ∙ runs-front a k [] (λ v in'. let none : in'.0 < 0 = in'.1 in omega arith) in
-    runs-front a k vs above ∙ ap (λ runs. runs ++ runs_of vs) (sym alone)
+runs-join a (suc k) vs above = runs-front a k vs above ∙ ap (λ runs. runs ++ runs_of vs) (sym (runs-alone a k))
 
 -- ---- a walk over ascending numbers
 
@@ -98,20 +98,12 @@ left_above reached (n ∷ ns) last =
     else left_above reached ns last
 
 absent : (v : ℕ) (ns : List ℕ) → ((n : ℕ) → Contains ns n → v < n) → list_any (nat_eq v) ns ≡ false
-absent v [] above = refl
-absent v (n ∷ ns) above =
-    let far : v < n = above n (Contains-here n ns) in
-    let other : nat_eq v n ≡ false = grind (arith, nat_tests) in
-    rw other (absent v ns (λ m in'. above m (Contains-later n ns m in')))
+absent v ns above = list_any_none (nat_eq v) ns (All-members (λ n. nat_eq v n ≡ false) ns (λ n in'.
+    let far : v < n = above n in' in grind (arith, nat_tests)))
 
 above-first : (n : ℕ) (ns : List ℕ) → IsAscending nat_lt (n ∷ ns) → (m : ℕ) → Contains ns m → n < m
 above-first n ns up m in' =
     ltb-true n m (All-contains (λ y. nat_lt n y ≡ true) ns m (AllPairs-first (λ x y. nat_lt x y ≡ true) n ns up) in')
-
-each-kept : (test : ℕ → Bool) (vs : List ℕ) → ((v : ℕ) → Contains vs v → test v ≡ true) → filter test vs ≡ vs
-each-kept test [] each = refl
-each-kept test (v ∷ vs) each =
-    rw (each v (Contains-here v vs)) (ap (λ ws. v ∷ ws) (each-kept test vs (λ w in'. each w (Contains-later v vs w in'))))
 
 abbrev lacks : List ℕ → ℕ → Bool
 lacks ns v = not (list_any (nat_eq v) ns)
@@ -125,7 +117,7 @@ passes-one reached n last ns up low high =
     let whole : filter (lacks (n ∷ ns)) (numbers_above reached last) ≡ filter (lacks (n ∷ ns)) front ++ filter (lacks (n ∷ ns)) (n ∷ back) =
     ap (filter (lacks (n ∷ ns))) (above-split reached n last low high) ∙ filter-append (lacks (n ∷ ns)) front (n ∷ back) in
     let before : filter (lacks (n ∷ ns)) front ≡ front =
-    each-kept (lacks (n ∷ ns)) front (λ v in'.
+    filter-each (lacks (n ∷ ns)) front (λ v in'.
     let within = above-contains reached (n - 1) v in' in
     let below : v < n = omega (arith, within.1) in
     let other : nat_eq v n ≡ false = grind (arith, nat_tests) in
@@ -155,7 +147,7 @@ passes-over reached n last ns outside =
     rw other refl))
 
 pub left-is : (reached last : ℕ) (ns : List ℕ) → IsAscending nat_lt ns → left_above reached ns last ≡ runs_lacked (λ v. list_any (nat_eq v) ns) reached last
-left-is reached last [] up = ap runs_of (sym (each-kept (lacks []) (numbers_above reached last) (λ v in'. refl)))
+left-is reached last [] up = ap runs_of (sym (filter-each (lacks []) (numbers_above reached last) (λ v in'. refl)))
 left-is reached last (n ∷ ns) up =
     let rest : IsAscending nat_lt ns = AllPairs-rest (λ x y. nat_lt x y ≡ true) n ns up in
     elim (cases_Bool (nat_lt reached n && nat_le n last)) [

@@ -5,15 +5,10 @@ use Rattle.pgp_reasons.specs.Looks.{looks_of, looks_below, most_looks, HasStoppe
 
 -- ---- how many sets are judged
 
-pub some-looks : (size left rest : ℕ) → 0 < looks_of size left rest
-some-looks size zero rest = omega arith
-some-looks size (suc left) zero = omega arith
-some-looks size (suc left) (suc rest) = omega arith
-
--- no device is left to choose
-pub looks-none : (chosen left rest : ℕ) → left ≡ 0 → looks_of (chosen + left) left rest ≡ chosen + 1
-looks-none chosen zero rest none = omega arith
-looks-none chosen (suc left) rest none = absurd (omega (arith, none))
+pub some_looks : (size left rest : ℕ) → 0 < looks_of size left rest
+some_looks size zero rest = omega arith
+some_looks size (suc left) zero = omega arith
+some_looks size (suc left) (suc rest) = omega arith
 
 -- the sets with the first of the rest, and those without it
 looks-some : (size left others : ℕ) → 0 < left → looks_of size left (suc others) ≡ looks_of size (left - 1) others + looks_of size left others + 1
@@ -68,16 +63,9 @@ module _ (chosen pushed popped : List ℕ) (left osd : ℕ) (rest others : List 
       ∙ looks-some (length chosen + left) left (length others) some
       ∙ (λ i. looks_of (sym size i) (left - 1) (length others) + looks_of (sym same i) left (length others) + 1)
 
-  pub counted-first : (old between : ℕ) → old ≤ between + looks_of (length pushed + (left - 1)) (left - 1) (length others) → old + 1 ≤ between + looks_of (length chosen + left) left (length rest)
-  counted-first old between first = omega (arith, first, with-first)
-
   pub counted-look : (old between after : ℕ) → old ≤ between + looks_of (length pushed + (left - 1)) (left - 1) (length others) → between ≤ after + 1
       → old + 1 ≤ after + looks_of (length chosen + left) left (length rest)
-  counted-look old between after first look = omega (arith, first, look, with-first, some-looks (length popped + left) left (length others))
-
-  pub counted-both : (old between after new : ℕ) → old ≤ between + looks_of (length pushed + (left - 1)) (left - 1) (length others) → between ≤ after + 1
-      → after + 1 ≤ new + looks_of (length popped + left) left (length others) → old + 1 ≤ new + looks_of (length chosen + left) left (length rest)
-  counted-both old between after new first look then' = omega (arith, first, look, then', with-first)
+  counted-look old between after first look = omega (arith, first, look, with-first, some_looks (length popped + left) left (length others))
 
 -- ---- why a walk stopped
 

@@ -1,10 +1,11 @@
 -- What is reckoned from a view and the log is what the group's log says.
-use Rattle.std.proofs.Common.{◌≡◌, ◌≢◌, ℕ, List, [], ◌∷◌, Option, Some, None, Bool, true, false, not, length, ◌==◌, if◌then◌else◌, map as mapped, option_map, option_and_then, refl, ap, sym, ◌∙◌, subst, inl, inr, arith}
+use Rattle.std.proofs.Common.{◌≡◌, ◌≢◌, ℕ, List, [], ◌∷◌, Option, Some, None, Bool, true, false, not, length, ◌==◌, if◌then◌else◌, option_map, option_and_then, refl, ap, sym, ◌∙◌, subst, inl, inr, arith}
 use Rattle.std.specs.List.{Contains, All}
 use Rattle.std.specs.Option.{option_map_or}
-use Rattle.std.proofs.lemmas.Bool.{cases_Bool, true≢false}
+use Rattle.std.proofs.lemmas.Bool.{cases_Bool, false_from_ne_true}
 use Rattle.std.proofs.lemmas.Bool.Decides.{nat_tests}
 use Rattle.std.proofs.lemmas.List.Elements.{All-contains}
+use Rattle.std.proofs.lemmas.Option.{same_Some}
 use Rattle.pgp_ids.specs.Member.{is_same_member}
 use Rattle.pgp_ids.specs.declared.entry.Entry.{Entry}
 use Rattle.pgp_ids.specs.declared.member.Member.{Member}
@@ -23,6 +24,7 @@ use Rattle.pgp_map.specs.declared.map.OsdMap.{OsdMap}
 use Rattle.pgp_prior.specs.declared.prior_set.Prior.{Prior}
 use Rattle.pgp_prior.proofs.PriorLemmas.{prior-by_lists}
 use Rattle.pgp_sets.specs.Status.{held_status, status}
+use Rattle.pgp_sets.specs.declared.status.Status.{Status}
 use Rattle.pgp_sets.specs.StatusLaws.{held_status-is}
 use Rattle.pgp_info.specs.Best.{HasDistinctMembers, candidates, is_unbeaten}
 use Rattle.pgp_group.specs.Entries.{incs_of}
@@ -35,25 +37,20 @@ use Rattle.pgp_group.specs.Present.{IsPresent}
 use Rattle.pgp_group.specs.View.{view_of}
 use Rattle.pgp_group.proofs.HeardLemmas.{HasDistinctMembers-last_of}
 use Rattle.pgp_group.proofs.PeerLemmas.{same_member}
-use Rattle.pgp_reasons.specs.Blocking.{blocking_of}
 use Rattle.pgp_reasons.specs.Gaps.{gaps_in}
 use Rattle.pgp_reasons.specs.GroupWays.{brings_back, ways}
 use Rattle.pgp_reasons.specs.Smallest.{AreSome, smallest}
 use Rattle.pgp_reasons.specs.Ways.{is_relieved}
 use Rattle.pgp_reasons.specs.declared.ways.Way.{Way}
-use Rattle.pgp_reasons.specs.Reasons.{blocking, gaps, short, IsViewed, IsAskedOf}
-use Rattle.pgp_reasons.specs.Short.{short_of}
+use Rattle.pgp_reasons.specs.Reasons.{gaps, IsViewed, IsAskedOf}
 use Rattle.pgp_reasons.specs.Told.{infos_in}
 
 -- ---- the group of a view
 
-some_is : {X : Type 0} (a b : X) → Some a ≡ Some b → a ≡ b
-some_is a b same = cc
-
 group-with : (log : List Entry) (pg : PgId) (g : GroupLog) (spec : PoolSpec) → pool (incs_of log) pg.pool ≡ Some spec → group_in log pg ≡ Some g
     → group_with log pg (history_of (incs_of log) pg spec) ≡ g
 group-with log pg g spec found is = elim (cases_Bool (has_group (incs_of log) pg)) [
-  | inl there ↦ some_is (group_with log pg (history_of (incs_of log) pg spec)) g (rw (there, found) at is)
+  | inl there ↦ same_Some (group_with log pg (history_of (incs_of log) pg spec)) g (rw (there, found) at is)
   | inr absent ↦ let none : None ≡ Some g = rw absent at is in cc
 ]
 
@@ -61,7 +58,7 @@ pub viewed-asked : (log : List Entry) (map : OsdMap) (pg : PgId) (view : View) (
     → IsViewed log map pg view g → IsAskedOf log (code_of spec.kind) map pg view g
 viewed-asked log map pg view g spec found is =
     let with' : group_with log pg (history_of (incs_of log) pg spec) ≡ g = group-with log pg g spec found is.group_is in
-    let seen : view_of g ≡ view = some_is (view_of g) view (sym (ap (option_map view_of) is.group_is) ∙ is.view_is) in
+    let seen : view_of g ≡ view = same_Some (view_of g) view (sym (ap (option_map view_of) is.group_is) ∙ is.view_is) in
     record {
       log_is = ap (λ (h : GroupLog). h.log) (sym with');
       pg_is = ap (λ (h : GroupLog). h.pg) (sym with');
@@ -85,31 +82,27 @@ module _ {log : List Entry} {code : AnyCode} {map : OsdMap} {pg : PgId} {view : 
   pub asked-infos : infos_in pg log ≡ infos g
   asked-infos = λ i. infos_in (sym is.pg_is i) (sym is.log_is i)
 
-pub blocking-asked : (g : GroupLog) (code : AnyCode) (map : OsdMap) (view : View) (list : List Info) → g.history.code ≡ code → IsMapOf (incs g) map → view ≡ view_of g → list ≡ infos g
-    → blocking_of code (held_status map) (mapped (λ (info : Info). info.last_epoch_clean) list) view.les view.intervals ≡ blocking g
-blocking-asked g code map view list of_code of_map of_view told = λ i.
-    blocking_of (sym of_code i) (λ osd first. held_status-is (incs g) map of_map osd first i)
-    (mapped (λ (info : Info). info.last_epoch_clean) (told i)) (of_view i).les (of_view i).intervals
+-- what is reckoned from a code, the statuses of a map and a view is what the group's log says
+pub asked-is {ℓ} : {X : Type ℓ} (f : AnyCode → (ℕ → ℕ → Status) → View → X) (g : GroupLog) (code : AnyCode) (map : OsdMap) (view : View)
+    → g.history.code ≡ code → IsMapOf (incs g) map → view ≡ view_of g
+    → f code (held_status map) view ≡ f g.history.code (status (incs g)) (view_of g)
+asked-is f g code map view of_code of_map of_view = λ i.
+    f (sym of_code i) (λ osd first. held_status-is (incs g) map of_map osd first i) (of_view i)
 
 -- ---- the best info
-
-same_member_itself : (a : Member) → is_same_member a a ≡ true
-same_member_itself a = grind (arith, nat_tests)
 
 found-of : (list : List Info) → HasDistinctMembers list → (info : Info) → Contains list info → info_of list info.member ≡ Some info
 found-of [] distinct info in' = absurd (Contains-nil info in')
 found-of (x ∷ list) distinct info in' =
     let differ : All (λ (y : Info). x.member ≢ y.member) list = AllPairs-first (λ (y z : Info). y.member ≢ z.member) x list distinct in
-    let rest : HasDistinctMembers list = AllPairs-rest (λ (y z : Info). y.member ≢ z.member) x list distinct in
-    elim (cases_Bool (is_same_member x.member info.member)) [
-      | inl same ↦ elim (Contains-cases x list info in') [
-        | inl here ↦ rw same (ap Some here)
-        | inr later ↦ absurd (All-contains (λ (y : Info). x.member ≢ y.member) list info differ later (same_member x.member info.member same))
-      ]
-      | inr other ↦ elim (Contains-cases x list info in') [
-        | inl here ↦ absurd (true≢false (sym (same_member_itself info.member) ∙ ap (λ (y : Info). is_same_member y.member info.member) (sym here) ∙ other))
-        | inr later ↦ rw other (found-of list rest info later)
-      ]
+    elim (Contains-cases x list info in') [
+      | inl here ↦
+          let itself : is_same_member info.member info.member ≡ true = grind (arith, nat_tests) in
+          rw (ap (λ (y : Info). is_same_member y.member info.member) here ∙ itself) (ap Some here)
+      | inr later ↦
+          let other : is_same_member x.member info.member ≡ false = false_from_ne_true _ (λ same.
+          All-contains (λ (y : Info). x.member ≢ y.member) list info differ later (same_member x.member info.member same)) in
+          rw other (found-of list (AllPairs-rest (λ (y z : Info). y.member ≢ z.member) x list distinct) info later)
     ]
 
 best-heard : (g : GroupLog) (info : Info) → best g ≡ Some info → Contains (heard g) info
@@ -122,15 +115,11 @@ best-of : (g : GroupLog) (found : Option Info) → best g ≡ found → option_a
 best-of g None is = refl
 best-of g (Some info) is = found-of (heard g) (HasDistinctMembers-last_of (counted_infos g)) info (best-heard g info is)
 
--- the best info is found by its member
-best-by_member : (g : GroupLog) → option_and_then (info_of (heard g)) (option_map (λ info. info.member) (best g)) ≡ best g
-best-by_member g = best-of g (best g) refl
-
 -- the gaps of the info that was found
 pub gaps-found : (g : GroupLog) (list : List Info) (member : Option Member) (found : Option Info) → member ≡ option_map (λ info. info.member) (best g) → list ≡ heard g
     → found ≡ option_and_then (info_of list) member → option_map_or (λ info. gaps_in info (reported g info.member)) found [] ≡ gaps g
 gaps-found g list member found of_best of_heard is =
-    let same : found ≡ best g = is ∙ (λ i. option_and_then (info_of (of_heard i)) (of_best i)) ∙ best-by_member g in
+    let same : found ≡ best g = is ∙ (λ i. option_and_then (info_of (of_heard i)) (of_best i)) ∙ best-of g (best g) refl in
     ap (λ (one : Option Info). option_map_or (λ (info : Info). gaps_in info (reported g info.member)) one []) same
 
 -- ---- what brings the group back
@@ -156,24 +145,7 @@ pub ways-asked : (way : Way) (g : GroupLog) (code : AnyCode) (map : OsdMap) (vie
     → AreSome (prior g).blocked_by (ways way g) sets more
 ways-asked way g code map view sets more of_code of_map of_view some are =
     ways-some way g sets more (ap (λ (v : View). length v.blocked_by == 0) (sym of_view) ∙ some)
-    (subst (λ (v : View). AreSome v.blocked_by (smallest (brings_back way g) v.blocked_by) sets more) of_view
-    (subst (λ (l : List (List ℕ)). AreSome view.blocked_by l sets more)
-    (λ i.
-    smallest (is_relieved (enough_of (sym of_code i)) (is_by_place (sym of_code i)) (λ osd first. held_status-is (incs g) map of_map osd first i)
-    (of_view i).les (of_view i).intervals way) view.blocked_by)
-    are))
-
--- ---- what the acting set lacks
-
-pub short-asked : (g : GroupLog) (code : AnyCode) (map : OsdMap) (view : View) → g.history.code ≡ code → IsMapOf (incs g) map → view ≡ view_of g
-    → short_of code (held_status map) view.les view.intervals view.acting ≡ short g
-short-asked g code map view of_code of_map of_view = λ i.
-    short_of (sym of_code i) (λ osd first. held_status-is (incs g) map of_map osd first i) (of_view i).les (of_view i).intervals (of_view i).acting
-
--- ---- whether devices bring it back
-
-pub unblocks-asked : (way : Way) (osds : List ℕ) (g : GroupLog) (code : AnyCode) (map : OsdMap) (view : View) → g.history.code ≡ code → IsMapOf (incs g) map → view ≡ view_of g
-    → is_relieved (enough_of code) (is_by_place code) (held_status map) view.les view.intervals way osds ≡ brings_back way g osds
-unblocks-asked way osds g code map view of_code of_map of_view = λ i.
-    is_relieved (enough_of (sym of_code i)) (is_by_place (sym of_code i)) (λ osd first. held_status-is (incs g) map of_map osd first i)
-    (of_view i).les (of_view i).intervals way osds
+    (subst (λ (P : Type 0). P)
+    (asked-is (λ c s v. AreSome v.blocked_by (smallest (is_relieved (enough_of c) (is_by_place c) s v.les v.intervals way) v.blocked_by) sets more)
+    g code map view of_code of_map of_view)
+    are)

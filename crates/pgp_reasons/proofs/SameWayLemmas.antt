@@ -1,15 +1,11 @@
 -- Devices that a group waits for bring it back by booting just where they do so by being declared lost.
-use Rattle.std.proofs.Common.{◌≡◌, ℕ, List, [], ◌∷◌, Bool, true, false, not, cond, ◌&&◌, map, nat_eq, refl, ap, sym, ◌∙◌, subst, inl, inr}
-use Rattle.std.specs.List.{Contains, filter, list_any}
+use Rattle.std.proofs.Common.{◌≡◌, ℕ, List, [], ◌∷◌, Bool, true, false, not, cond, ◌&&◌, map, nat_eq, refl, ap, sym, subst, inl, inr, arith}
+use Rattle.std.specs.List.{Contains, list_any}
 use Rattle.std.proofs.lemmas.Bool.{cases_Bool, eqb-true}
-use Rattle.pgp_code.specs.AnyCode.{enough_of, is_by_place}
-use Rattle.pgp_ids.specs.declared.member.Member.{Member}
-use Rattle.pgp_ids.specs.declared.past.Past.{Past}
+use Rattle.pgp_code.specs.AnyCode.{enough_of, enough_of-mono, is_by_place}
 use Rattle.pgp_lists.proofs.Members.{Contains-nil, Contains-first, Contains-later, Contains-cases, any-contains, filter-agree, map-contains}
 use Rattle.pgp_map.specs.Devices.{exists, is_up, lost_at}
-use Rattle.pgp_prior.specs.Blocks.{is_down, is_settled, matters}
-use Rattle.pgp_prior.specs.Members.{members_of, slots_of}
-use Rattle.pgp_prior.specs.Prior.{is_group_down}
+use Rattle.pgp_prior.proofs.BetterLemmas.{Relieves, not_down-relieved, same-relieves}
 use Rattle.pgp_prior.proofs.PriorLemmas.{blocked_by-IsBlocking}
 use Rattle.pgp_sets.specs.Status.{status, status_by}
 use Rattle.pgp_sets.specs.declared.status.Status.{Status}
@@ -17,53 +13,32 @@ use Rattle.pgp_sets.specs.declared.status.Status.TheVariants.{Lost, Down}
 use Rattle.pgp_group.specs.GroupLog.{GroupLog, incs}
 use Rattle.pgp_group.specs.Heard.{les}
 use Rattle.pgp_group.specs.Peering.{past, prior}
+use Rattle.pgp_group.proofs.Lists.{any-agree}
 use Rattle.pgp_reasons.specs.declared.ways.Way.TheVariants.{Start, GiveUp}
 use Rattle.pgp_reasons.specs.GroupWays.{is_down_with, brings_back, ways}
 use Rattle.pgp_reasons.specs.Smallest.{each_but_one, all_sets, is_smallest, smallest, IsPartOf}
 use Rattle.pgp_reasons.specs.Ways.{becomes, status_after}
 use Rattle.pgp_reasons.proofs.SetLemmas.{all-part}
-use Rattle.pgp_reasons.proofs.WayLemmas.{any-agree}
 
 -- ---- a device that is down for one interval is down or lost for each
 
--- it counts as much once it booted as once it was declared lost
+-- it relieves as much once it booted as once it was declared lost
 abbrev AreAlike : Status → Type 0
-AreAlike status = (is_settled (becomes Start status) ≡ is_settled (becomes GiveUp status)) × (is_down (becomes Start status) ≡ is_down (becomes GiveUp status))
+AreAlike status = Relieves (becomes Start status) (becomes GiveUp status) × Relieves (becomes GiveUp status) (becomes Start status)
 
 alike-lost : (lost : Bool) → AreAlike (cond lost Lost Down)
-alike-lost true = (refl, refl)
-alike-lost false = (refl, refl)
+alike-lost true = (record { settled = λ s. s; down = λ d. d }, record { settled = λ s. s; down = λ d. d })
+alike-lost false = (record { settled = λ s. s; down = λ d. d }, record { settled = λ s. s; down = λ d. d })
 
 alike : (up there : Bool) (lost first at : ℕ) → status_by up there lost at ≡ Down → AreAlike (status_by up there lost first)
 alike true there lost first at is = cc
 alike false false lost first at is = cc
 alike false true lost first at is = alike-lost _
 
--- ---- what counts of the statuses
-
--- whether an interval blocks, by which devices count towards enough and which are down
-blocks_by : (List ℕ → Bool) → Bool → ℕ → (settled down : ℕ → ℕ → Bool) → Past → Bool
-blocks_by enough by_place les settled down p =
-    matters les p && not (enough (slots_of (filter (λ (m : Member). settled m.osd p.first) (members_of by_place p.members.acting))))
-    && list_any (λ (m : Member). down m.osd p.first) (members_of by_place p.members.acting)
-
-down_by : (List ℕ → Bool) → Bool → ℕ → List Past → (settled down : ℕ → ℕ → Bool) → Bool
-down_by enough by_place les past settled down = list_any (blocks_by enough by_place les settled down) past
-
-is-down_by : (enough : List ℕ → Bool) (by_place : Bool) (status : ℕ → ℕ → Status) (les : ℕ) (past : List Past)
-    → is_group_down enough by_place status les past ≡ down_by enough by_place les past (λ osd first. is_settled (status osd first)) (λ osd first. is_down (status osd first))
-unfolding blocks_by down_by
-is-down_by enough by_place status les past = refl
-
-by-counts : (enough : List ℕ → Bool) (by_place : Bool) (one other : ℕ → ℕ → Status) (les : ℕ) (past : List Past)
-    → ((osd first : ℕ) → is_settled (one osd first) ≡ is_settled (other osd first)) → ((osd first : ℕ) → is_down (one osd first) ≡ is_down (other osd first))
-    → is_group_down enough by_place one les past ≡ is_group_down enough by_place other les past
-by-counts enough by_place one other les past settled down =
-    is-down_by enough by_place one les past
-    ∙ (λ i. down_by enough by_place les past (λ osd first. settled osd first i) (λ osd first. down osd first i))
-    ∙ sym (is-down_by enough by_place other les past)
-
 -- ---- devices that are waited for
+
+same_falses : (a b : Bool) → (a ≡ false → b ≡ false) → (b ≡ false → a ≡ false) → a ≡ b
+same_falses a b one other = grind (arith, one, other)
 
 -- these are devices that the group waits for
 abbrev AreAwaited : GroupLog → List ℕ → Type 0
@@ -77,17 +52,21 @@ alike-awaited g osds are osd first one =
     let down : status (incs g) osd blocking.0.first ≡ Down = subst (λ (o : ℕ). status (incs g) o blocking.0.first ≡ Down) blocking.1.1.1 blocking.1.1.0.down in
     alike (is_up (incs g) osd) (exists (incs g) osd) (lost_at (incs g) osd) first blocking.0.first down
 
-pub same-down : (g : GroupLog) (osds : List ℕ) → IsPartOf osds (prior g).blocked_by → is_down_with Start osds g ≡ is_down_with GiveUp osds g
-same-down g osds are =
-    by-counts (enough_of g.history.code) (is_by_place g.history.code) (status_after Start osds (status (incs g))) (status_after GiveUp osds (status (incs g))) (les g) (past g)
-    (λ osd first. elim (cases_Bool (list_any (nat_eq osd) osds)) [
-      | inl one ↦ rw one (alike-awaited g osds are osd first one).0
-      | inr none ↦ rw none refl
-    ])
-    (λ osd first. elim (cases_Bool (list_any (nat_eq osd) osds)) [
-      | inl one ↦ rw one (alike-awaited g osds are osd first one).1
-      | inr none ↦ rw none refl
-    ])
+module _ (g : GroupLog) (osds : List ℕ) (are : AreAwaited g osds) where
+  after-alike : (osd first : ℕ) → Relieves (status_after Start osds (status (incs g)) osd first) (status_after GiveUp osds (status (incs g)) osd first)
+      × Relieves (status_after GiveUp osds (status (incs g)) osd first) (status_after Start osds (status (incs g)) osd first)
+  after-alike osd first = elim (cases_Bool (list_any (nat_eq osd) osds)) [
+    | inl one ↦ rw one (alike-awaited g osds are osd first one)
+    | inr none ↦ rw none (same-relieves _ _ refl, same-relieves _ _ refl)
+  ]
+
+  pub same-down : is_down_with Start osds g ≡ is_down_with GiveUp osds g
+  same-down =
+      let up = not_down-relieved (is_by_place g.history.code) (enough_of g.history.code) (enough_of-mono g.history.code) (les g) in
+      let start : ℕ → ℕ → Status = status_after Start osds (status (incs g)) in
+      let lost : ℕ → ℕ → Status = status_after GiveUp osds (status (incs g)) in
+      same_falses _ _ (up start lost (past g) (λ p in' m acts. (after-alike m.osd p.first).0))
+      (up lost start (past g) (λ p in' m acts. (after-alike m.osd p.first).1))
 
 -- ---- the smallest sets of them
 
@@ -111,8 +90,8 @@ same-smallest one other osds agree = filter-agree (is_smallest one) (is_smallest
     any-agree one other (each_but_one set) (λ part there. agree part (λ o o-in. of_them o (each-part set part there o o-in))) in
     λ i. agree set of_them i && not (parts i))
 
-pub same-ways : (g : GroupLog) → ways Start g ≡ ways GiveUp g
-same-ways g =
+pub same_ways : (g : GroupLog) → ways Start g ≡ ways GiveUp g
+same_ways g =
     let osds : List ℕ = (prior g).blocked_by in
     let same : smallest (brings_back Start g) osds ≡ smallest (brings_back GiveUp g) osds =
     same-smallest (brings_back Start g) (brings_back GiveUp g) osds (λ set are. ap not (same-down g set are)) in

@@ -1,7 +1,7 @@
 -- Sets of devices, their parts, and the smallest of them that are enough.
 use Rattle.std.proofs.Common.{◌≡◌, ◌⊎◌, ℕ, zero, suc, ◌+◌, ◌<◌, ◌≤◌, List, [], ◌∷◌, ◌++◌, Bool, true, false, not, length, map, take, drop, get_or, append-nil, append_assoc, add-one, zero-add, nat_eq, nat_lt, if◌then◌else◌, refl, ap, sym, ◌∙◌, subst, inl, inr, arith}
 use Rattle.std.specs.List.{Contains, filter, list_any, range_with_len}
-use Rattle.std.proofs.lemmas.Bool.{and_parts, cases_Bool, true≢false, false_from_ne_true, eqb-true, eq-eqb}
+use Rattle.std.proofs.lemmas.Bool.{and_parts, cases_Bool, true≢false, false_from_ne_true, eqb-true, eq-eqb, not-true}
 use Rattle.std.proofs.lemmas.List.{length-map, get_or-map, take_all}
 use Rattle.std.proofs.lemmas.List.Elements.{Contains-get_or}
 use Rattle.std.proofs.lemmas.List.Folds.{list_any_more}
@@ -23,9 +23,7 @@ get-each [] k below = absurd (omega arith)
 get-each (osd ∷ osds) zero below = refl
 get-each (osd ∷ osds) (suc k) below =
     get_or-map (λ set. osd ∷ set) (each_but_one osds) k [] [] (omega (arith, length-each osds))
-    ∙ ap (λ set. osd ∷ set) (get-each osds k (omega arith))
-    ∙ ap (λ n. osd ∷ (take k osds ++ drop n osds)) (add-one k)
-    ∙ ap (λ n. osd ∷ (take k osds ++ drop n (osd ∷ osds))) (sym (add-one (suc k)))
+    ∙ ap (λ set. osd ∷ set) (get-each osds k (omega arith)) ∙ rw (add-one k, add-one (suc k)) refl
 
 -- one that is enough is found at its place
 pub found-at : (enough : List ℕ → Bool) (set : List ℕ) (k : ℕ) → k < length set → enough (take k set ++ drop (k + 1) set) ≡ true → list_any enough (each_but_one set) ≡ true
@@ -57,6 +55,21 @@ too_few zero osds few = absurd (omega arith)
 too_few (suc n) [] few = refl
 too_few (suc n) (osd ∷ osds) few = rw (too_few n osds (omega arith), too_few (suc n) osds (omega arith)) refl
 
+-- such a set has the first device, or it hasn't
+set-cases : (n osd : ℕ) (osds set : List ℕ) → Contains (sets_of (suc n) (osd ∷ osds)) set
+    → ((part : List ℕ) × (Contains (sets_of n osds) part × (osd ∷ part ≡ set))) ⊎ Contains (sets_of (suc n) osds) set
+set-cases n osd osds set in' = elim (append-contains (map (λ set. osd ∷ set) (sets_of n osds)) (sets_of (suc n) osds) set in') [
+  | inl with' ↦ inl (map-contains (λ set. osd ∷ set) (sets_of n osds) set with')
+  | inr without ↦ inr without
+]
+
+with-first : (n osd : ℕ) (osds part : List ℕ) → Contains (sets_of n osds) part → Contains (sets_of (suc n) (osd ∷ osds)) (osd ∷ part)
+with-first n osd osds part in' = contains-append _ (sets_of (suc n) osds) _ (inl (contains-map (λ set. osd ∷ set) (sets_of n osds) part in'))
+
+without-first : (n osd : ℕ) (osds set : List ℕ) → Contains (sets_of n osds) set → Contains (sets_of n (osd ∷ osds)) set
+without-first zero osd osds set in' = in'
+without-first (suc n) osd osds set in' = contains-append (map (λ set. osd ∷ set) (sets_of n osds)) (sets_of (suc n) osds) set (inr in')
+
 -- a device of the first or of the others
 later-part : (part osds : List ℕ) (osd : ℕ) → IsPartOf part osds → IsPartOf part (osd ∷ osds)
 later-part part osds osd is = λ o in'. Contains-later osd osds o (is o in')
@@ -73,18 +86,16 @@ set-part zero osds set in' = λ o there. elim (Contains-cases [] [] set in') [
   | inr none ↦ absurd (Contains-nil set none)
 ]
 set-part (suc n) [] set in' = absurd (Contains-nil set in')
-set-part (suc n) (osd ∷ osds) set in' = elim (append-contains (map (λ set. osd ∷ set) (sets_of n osds)) (sets_of (suc n) osds) set in') [
-  | inl with' ↦
-      let found = map-contains (λ set. osd ∷ set) (sets_of n osds) set with' in
-      subst (λ (s : List ℕ). IsPartOf s (osd ∷ osds)) found.1.1 (both-part found.0 osds osd (set-part n osds found.0 found.1.0))
+set-part (suc n) (osd ∷ osds) set in' = elim (set-cases n osd osds set in') [
+  | inl p ↦ subst (λ (s : List ℕ). IsPartOf s (osd ∷ osds)) p.1.1 (both-part p.0 osds osd (set-part n osds p.0 p.1.0))
   | inr without ↦ later-part set osds osd (set-part (suc n) osds set without)
 ]
 
 -- a set of one device or more has a first
 pub first-of : (n : ℕ) (osds set : List ℕ) → Contains (sets_of (suc n) osds) set → (osd : ℕ) × ((rest : List ℕ) × (set ≡ osd ∷ rest))
 first-of n [] set in' = absurd (Contains-nil set in')
-first-of n (osd ∷ osds) set in' = elim (append-contains (map (λ set. osd ∷ set) (sets_of n osds)) (sets_of (suc n) osds) set in') [
-  | inl with' ↦ let found = map-contains (λ set. osd ∷ set) (sets_of n osds) set with' in (osd, (found.0, sym found.1.1))
+first-of n (osd ∷ osds) set in' = elim (set-cases n osd osds set in') [
+  | inl p ↦ (osd, (p.0, sym p.1.1))
   | inr without ↦ first-of n osds set without
 ]
 
@@ -126,10 +137,6 @@ abbrev pub lean : (List ℕ → Bool) → List ℕ → List ℕ → List ℕ
 lean enough kept [] = kept
 lean enough kept (osd ∷ osds) = if enough (kept ++ osds) then lean enough kept osds else lean enough (kept ++ osd ∷ []) osds
 
-without-first : (n osd : ℕ) (osds set : List ℕ) → Contains (sets_of n osds) set → Contains (sets_of n (osd ∷ osds)) set
-without-first zero osd osds set in' = in'
-without-first (suc n) osd osds set in' = contains-append (map (λ set. osd ∷ set) (sets_of n osds)) (sets_of (suc n) osds) set (inr in')
-
 -- a set of some number of devices is one of all
 pub in-all : (n : ℕ) (osds set : List ℕ) → Contains (sets_of n osds) set → Contains (all_sets osds) set
 in-all n osds set in' =
@@ -147,16 +154,8 @@ lean-set enough kept (osd ∷ osds) = elim (cases_Bool (enough (kept ++ osds))) 
       let more = lean-set enough kept osds in
       (more.0, (more.1.0, (without-first more.0 osd osds more.1.0 more.1.1.0, rw still more.1.1.1)))
   | inr short ↦
-      let more = lean-set enough (kept ++ osd ∷ []) osds in (
-        suc more.0,
-        (
-          osd ∷ more.1.0,
-          (
-            contains-append (map (λ set. osd ∷ set) (sets_of more.0 osds)) (sets_of (suc more.0) osds) (osd ∷ more.1.0) (inl (contains-map (λ set. osd ∷ set) (sets_of more.0 osds) more.1.0 more.1.1.0)),
-            rw short (more.1.1.1 ∙ append_assoc kept (osd ∷ []) more.1.0),
-          ),
-        ),
-      )
+      let more = lean-set enough (kept ++ osd ∷ []) osds in
+      (suc more.0, (osd ∷ more.1.0, (with-first more.0 osd osds more.1.0 more.1.1.0, rw short (more.1.1.1 ∙ append_assoc kept (osd ∷ []) more.1.0))))
 ]
 
 pub lean-enough : (enough : List ℕ → Bool) (kept rest : List ℕ) → enough (kept ++ rest) ≡ true → enough (lean enough kept rest) ≡ true
@@ -220,15 +219,10 @@ filtered-set : (test : ℕ → Bool) (n : ℕ) (osds set : List ℕ) → Contain
 filtered-set test n [] set in' = in'
 filtered-set test zero (osd ∷ osds) set in' = in'
 filtered-set test (suc n) (osd ∷ osds) set in' = elim (cases_Bool (test osd)) [
-  | inl passes ↦
-      let kept : Contains (map (λ set. osd ∷ set) (sets_of n (filter test osds)) ++ sets_of (suc n) (filter test osds)) set = rw passes at in' in
-      elim (append-contains (map (λ set. osd ∷ set) (sets_of n (filter test osds))) (sets_of (suc n) (filter test osds)) set kept) [
-        | inl with' ↦
-            let found = map-contains (λ set. osd ∷ set) (sets_of n (filter test osds)) set with' in
-            contains-append (map (λ set. osd ∷ set) (sets_of n osds)) (sets_of (suc n) osds) set
-            (inl (subst (Contains (map (λ set. osd ∷ set) (sets_of n osds))) found.1.1 (contains-map (λ set. osd ∷ set) (sets_of n osds) found.0 (filtered-set test n osds found.0 found.1.0))))
-        | inr without ↦ without-first (suc n) osd osds set (filtered-set test (suc n) osds set without)
-      ]
+  | inl passes ↦ elim (set-cases n osd (filter test osds) set (rw passes at in')) [
+    | inl p ↦ subst (Contains (sets_of (suc n) (osd ∷ osds))) p.1.1 (with-first n osd osds p.0 (filtered-set test n osds p.0 p.1.0))
+    | inr without ↦ without-first (suc n) osd osds set (filtered-set test (suc n) osds set without)
+  ]
   | inr fails ↦ without-first (suc n) osd osds set (filtered-set test (suc n) osds set (rw fails at in'))
 ]
 
@@ -245,9 +239,6 @@ pub smallest-enough : (enough : List ℕ → Bool) (osds set : List ℕ) → Con
 smallest-enough enough osds set in' =
     let is = filter-contains (is_smallest enough) (all_sets osds) set in' in
     ((and_parts (enough set) (not (list_any enough (each_but_one set))) is.1).0, all-part osds set is.0)
-
-not-true : (b : Bool) → not b ≡ true → b ≡ false
-not-true b is = grind arith
 
 module _ (enough : List ℕ → Bool) (monotone : IsMonotone enough) where
   -- no part of it that lacks one of its devices is

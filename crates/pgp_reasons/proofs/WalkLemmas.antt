@@ -1,9 +1,10 @@
 -- A walk over sets of devices, by their size and from the first device to the last, and what it has listed.
-use Rattle.std.proofs.Common.{◌≡◌, ◌==◌, ℕ, zero, suc, ◌+◌, ◌-◌, ◌<◌, ◌≤◌, nat_lt, List, [], ◌∷◌, ◌++◌, Bool, true, false, not, ◌&&◌, length, map, append-nil, append_assoc, add-one, zero-add, suc-add, refl, ap, sym, ◌∙◌, subst, inl, inr, arith}
-use Rattle.std.specs.List.{Contains, filter, flat_map, list_any, range_with_len}
+use Rattle.std.proofs.Common.{◌≡◌, ℕ, zero, suc, ◌+◌, ◌-◌, ◌<◌, ◌≤◌, nat_lt, List, [], ◌∷◌, ◌++◌, Bool, true, false, length, map, append-nil, append_assoc, add-one, zero-add, suc-add, refl, ap, sym, ◌∙◌, subst, inl, inr, arith}
+use Rattle.std.specs.List.{filter, flat_map, list_any, range_with_len}
 use Rattle.std.proofs.lemmas.Bool.{cases_Bool, true≢false}
 use Rattle.std.proofs.lemmas.Bool.Decides.{nat_tests}
-use Rattle.std.proofs.lemmas.List.{length-append, map-append}
+use Rattle.std.proofs.Math.Bool.{and-false}
+use Rattle.std.proofs.lemmas.List.{length-append, map-append, map-id}
 use Rattle.std.proofs.lemmas.List.Elements.{filter-append}
 use Rattle.pgp_lists.proofs.Lists.{flat_map-push}
 use Rattle.pgp_lists.proofs.Ranges.{range_with_len-suc}
@@ -15,9 +16,6 @@ use Rattle.pgp_reasons.proofs.SetLemmas.{too_few, set-part, first-of, each-appen
 
 -- ---- the smallest of the sets with the chosen devices
 
-not_smallest : (is some : Bool) → some ≡ true → is && not some ≡ false
-not_smallest is some more = grind arith
-
 module _ (enough : List ℕ → Bool) (monotone : IsMonotone enough) where
   -- where all of them aren't enough, none is
   pub none-short : (chosen rest : List ℕ) (n : ℕ) → enough (chosen ++ rest) ≡ false → smallest_with enough chosen n rest ≡ []
@@ -27,19 +25,16 @@ module _ (enough : List ℕ → Bool) (monotone : IsMonotone enough) where
       ap (is_smallest enough) (sym found.1.1) ∙ rw few refl)
 
   -- where the chosen ones are enough, none with others is one of the smallest
-  none-more_than : (chosen rest : List ℕ) (n : ℕ) → enough chosen ≡ true → smallest_with enough chosen (suc n) rest ≡ []
-  none-more_than chosen rest n is = filter-none (is_smallest enough) (map (λ set. chosen ++ set) (sets_of (suc n) rest)) (λ set in'.
+  pub none-past : (chosen rest : List ℕ) (n : ℕ) → 0 < n → enough chosen ≡ true → smallest_with enough chosen n rest ≡ []
+  none-past chosen rest zero more is = absurd (omega arith)
+  none-past chosen rest (suc n) more is = filter-none (is_smallest enough) (map (λ set. chosen ++ set) (sets_of (suc n) rest)) (λ set in'.
       let found = map-contains (λ set. chosen ++ set) (sets_of (suc n) rest) set in' in
       let first = first-of n rest found.0 found.1.0 in
       let whole : chosen ++ first.0 ∷ first.1.0 ≡ set = ap (λ s. chosen ++ s) (sym first.1.1) ∙ found.1.1 in
       let part : enough (chosen ++ first.1.0) ≡ true = monotone chosen (chosen ++ first.1.0) (λ o there. contains-append chosen first.1.0 o (inl there)) is in
       let some : list_any enough (each_but_one (chosen ++ first.0 ∷ first.1.0)) ≡ true =
       contains-any enough (each_but_one (chosen ++ first.0 ∷ first.1.0)) (chosen ++ first.1.0) (each-append chosen first.0 first.1.0) part in
-      ap (is_smallest enough) (sym whole) ∙ not_smallest (enough (chosen ++ first.0 ∷ first.1.0)) (list_any enough (each_but_one (chosen ++ first.0 ∷ first.1.0))) some)
-
-  pub none-past : (chosen rest : List ℕ) (n : ℕ) → 0 < n → enough chosen ≡ true → smallest_with enough chosen n rest ≡ []
-  none-past chosen rest zero some is = absurd (omega arith)
-  none-past chosen rest (suc n) some is = none-more_than chosen rest n is
+      ap (is_smallest enough) (sym whole) ∙ rw some (and-false (enough (chosen ++ first.0 ∷ first.1.0))))
 
 -- ---- with the first of the rest, and without it
 
@@ -47,23 +42,15 @@ map-chosen : (chosen : List ℕ) (osd : ℕ) (sets : List (List ℕ)) → map (�
 map-chosen chosen osd [] = refl
 map-chosen chosen osd (set ∷ sets) = λ i. sym (append_assoc chosen (osd ∷ []) set) i ∷ map-chosen chosen osd sets i
 
-with-one : (enough : List ℕ → Bool) (chosen : List ℕ) (n osd : ℕ) (osds : List ℕ) → smallest_with enough chosen (suc n) (osd ∷ osds)
-    ≡ smallest_with enough (chosen ++ osd ∷ []) n osds ++ smallest_with enough chosen (suc n) osds
-with-one enough chosen n osd osds =
-    ap (filter (is_smallest enough)) (map-append (λ set. chosen ++ set) (map (λ set. osd ∷ set) (sets_of n osds)) (sets_of (suc n) osds))
-    ∙ filter-append (is_smallest enough) (map (λ set. chosen ++ set) (map (λ set. osd ∷ set) (sets_of n osds))) (map (λ set. chosen ++ set) (sets_of (suc n) osds))
-    ∙ ap (λ (sets : List (List ℕ)). filter (is_smallest enough) sets ++ smallest_with enough chosen (suc n) osds) (map-chosen chosen osd (sets_of n osds))
-
 pub with-first : (enough : List ℕ → Bool) (chosen : List ℕ) (n osd : ℕ) (osds : List ℕ) → 0 < n → smallest_with enough chosen n (osd ∷ osds)
     ≡ smallest_with enough (chosen ++ osd ∷ []) (n - 1) osds ++ smallest_with enough chosen n osds
 with-first enough chosen zero osd osds some = absurd (omega arith)
 with-first enough chosen (suc n) osd osds some =
     let less : n ≡ suc n - 1 = omega arith in
-    with-one enough chosen n osd osds ∙ ap (λ m. smallest_with enough (chosen ++ osd ∷ []) m osds ++ smallest_with enough chosen (suc n) osds) less
-
--- no device is left to add
-pub with-none : (enough : List ℕ → Bool) (chosen rest : List ℕ) → smallest_with enough chosen 0 rest ≡ filter (is_smallest enough) (chosen ∷ [])
-with-none enough chosen rest = ap (λ set. filter (is_smallest enough) (set ∷ [])) (append-nil chosen)
+    ap (filter (is_smallest enough)) (map-append (λ set. chosen ++ set) (map (λ set. osd ∷ set) (sets_of n osds)) (sets_of (suc n) osds))
+    ∙ filter-append (is_smallest enough) (map (λ set. chosen ++ set) (map (λ set. osd ∷ set) (sets_of n osds))) (map (λ set. chosen ++ set) (sets_of (suc n) osds))
+    ∙ ap (λ (sets : List (List ℕ)). filter (is_smallest enough) sets ++ smallest_with enough chosen (suc n) osds) (map-chosen chosen osd (sets_of n osds))
+    ∙ ap (λ m. smallest_with enough (chosen ++ osd ∷ []) m osds ++ smallest_with enough chosen (suc n) osds) less
 
 pub none-too_few : (enough : List ℕ → Bool) (chosen : List ℕ) (n : ℕ) (rest : List ℕ) → length rest < n → smallest_with enough chosen n rest ≡ []
 none-too_few enough chosen n rest few = ap (λ sets. filter (is_smallest enough) (map (λ set. chosen ++ set) sets)) (too_few n rest few)
@@ -145,10 +132,6 @@ module _ (enough : List ℕ → Bool) (chosen pushed popped : List ℕ) (n osd :
 abbrev pub smallest_below : (List ℕ → Bool) → List ℕ → ℕ → List (List ℕ)
 smallest_below enough osds n = filter (is_smallest enough) (flat_map (λ k. sets_of k osds) (range_with_len 0 n))
 
-map-same : (sets : List (List ℕ)) → map (λ set. [] ++ set) sets ≡ sets
-map-same [] = refl
-map-same (set ∷ sets) = ap (λ l. set ∷ l) (map-same sets)
-
 one-more : (enough : List ℕ → Bool) (osds : List ℕ) (n : ℕ) → smallest_below enough osds (suc n) ≡ smallest_below enough osds n ++ filter (is_smallest enough) (sets_of n osds)
 one-more enough osds n =
     ap (λ sizes. filter (is_smallest enough) (flat_map (λ k. sets_of k osds) sizes)) (range_with_len-suc 0 n)
@@ -157,11 +140,10 @@ one-more enough osds n =
     ∙ ap (λ k. smallest_below enough osds n ++ filter (is_smallest enough) (sets_of k osds)) (zero-add n)
 
 -- the next size, with nothing chosen yet
-pub size-more : (enough : List ℕ → Bool) (chosen osds : List ℕ) (n : ℕ) → chosen ≡ [] → smallest_below enough osds (n + 1) ≡ smallest_below enough osds n ++ smallest_with enough chosen n osds
-size-more enough chosen osds n none =
+size-more : (enough : List ℕ → Bool) (osds : List ℕ) (n : ℕ) → smallest_below enough osds (n + 1) ≡ smallest_below enough osds n ++ smallest_with enough [] n osds
+size-more enough osds n =
     ap (smallest_below enough osds) (add-one n) ∙ one-more enough osds n
-    ∙ ap (λ sets. smallest_below enough osds n ++ filter (is_smallest enough) sets) (sym (map-same (sets_of n osds)))
-    ∙ ap (λ (c : List ℕ). smallest_below enough osds n ++ smallest_with enough c n osds) (sym none)
+    ∙ ap (λ sets. smallest_below enough osds n ++ filter (is_smallest enough) sets) (sym (map-id (sets_of n osds)))
 
 -- those of smaller sizes come first
 below-first : (enough : List ℕ → Bool) (osds : List ℕ) (n more : ℕ) → (others : List (List ℕ)) × (smallest_below enough osds (more + n) ≡ smallest_below enough osds n ++ others)
@@ -184,7 +166,7 @@ stopped-at enough osds n listed below is =
 
 -- the walk of one size begins where that of smaller ones ended
 pub size-begins : (enough : List ℕ → Bool) (chosen osds : List ℕ) (n : ℕ) (found : List (List ℕ)) → found ≡ smallest_below enough osds n → chosen ≡ [] → found ++ smallest_with enough chosen n osds ≡ smallest_below enough osds (n + 1)
-size-begins enough chosen osds n found is none = ap (λ l. l ++ smallest_with enough chosen n osds) is ∙ sym (size-more enough chosen osds n none)
+size-begins enough chosen osds n found is none = (λ i. is i ++ smallest_with enough (none i) n osds) ∙ sym (size-more enough osds n)
 
 -- ---- what is said of a set
 
@@ -203,36 +185,9 @@ listed-all osds all listed same few =
       word = λ no. absurd (true≢false (sym no));
     }
 
--- none was listed before the walk stopped, and now one is
-pub listed-one : (osds : List ℕ) (all : List (List ℕ)) (set : List ℕ) (before listed : List (List ℕ)) → length before ≡ 0 → AreMany osds all before → listed ≡ set ∷ [] → Contains all set → AreSome osds all listed true
-listed-one osds all set before listed none (inl many) is there = absurd (omega (arith, none, many.0))
-listed-one osds all set before listed none (inr many) is there =
-    record {
-      each = λ no. absurd (true≢false no);
-      some = inr (record { set = set; is = is; there = there });
-      none = λ e. absurd (omega (arith, e, ap length is));
-      bound = omega (arith, ap length is);
-      word = λ _. inr many;
-    }
-
--- some were listed before the walk stopped
-pub listed-some : (osds : List ℕ) (all listed : List (List ℕ)) → (length listed == 0) ≡ false → AreFirstOf false all listed → length listed ≤ most_sets → AreMany osds all listed → AreSome osds all listed true
-listed-some osds all listed some first few many =
-    record {
-      each = λ no. absurd (true≢false no);
-      some = inl first;
-      none = λ e. absurd (grind (arith, nat_tests));
-      bound = few;
-      word = λ _. many;
-    }
-
 -- a walk of one size that went through all
 pub listed-more : {whole : Bool} (old here all listed : List (List ℕ)) → whole ≡ true → old ++ here ≡ all → AreFirstOf whole (old ++ here) listed → listed ≡ all
 listed-more old here all listed went is first = sym (append-nil listed) ∙ ap (λ l. listed ++ l) (sym (first.none_other went)) ∙ sym first.are ∙ is
-
--- after all sizes
-pub sizes-done : (enough : List ℕ → Bool) (osds : List ℕ) (n : ℕ) (listed : List (List ℕ)) → n ≡ length osds + 1 → listed ≡ smallest_below enough osds n → length listed ≤ most_sets → AreSome osds (smallest enough osds) listed false
-sizes-done enough osds n listed size is few = listed-all osds (smallest enough osds) listed (is ∙ ap (smallest_below enough osds) size) few
 
 -- why a walk stopped at this size
 pub many-at : (enough : List ℕ → Bool) (osds : List ℕ) (n looks : ℕ) (all listed : List (List ℕ)) → n < length osds + 1 → all ≡ smallest_below enough osds (n + 1) → most_looks ≤ looks + looks_below (length osds) (n + 1)

@@ -1,16 +1,16 @@
 -- What an incremental that boots devices, or gives them up for lost, makes of their statuses.
-use Rattle.std.proofs.Common.{◌≡◌, ℕ, ◌+◌, ◌<◌, ◌≤◌, List, [], ◌∷◌, ◌++◌, Option, None, Bool, true, false, not, cond, ◌||◌, nat_eq, nat_lt, refl, ap, sym, ◌∙◌, subst, inl, inr, append-nil, arith}
+use Rattle.std.proofs.Common.{◌≡◌, ℕ, ◌+◌, ◌<◌, ◌≤◌, List, [], ◌∷◌, ◌++◌, Option, None, Bool, true, false, not, cond, nat_eq, nat_lt, refl, ap, sym, ◌∙◌, subst, inl, inr, append-nil, arith}
 use Rattle.std.specs.List.{Contains, list_any, flat_map}
 use Rattle.std.specs.Option.{option_map_or}
-use Rattle.std.proofs.lemmas.Bool.{cases_Bool}
+use Rattle.std.proofs.lemmas.Bool.{cases_Bool, not-false, not-true}
 use Rattle.std.proofs.lemmas.Bool.Decides.{nat_tests}
 use Rattle.pgp_code.specs.AnyCode.{enough_of, enough_of-mono, is_by_place}
 use Rattle.pgp_ids.specs.declared.entry.Entry.TheVariants as entry
 use Rattle.pgp_ids.specs.declared.incremental.DeviceEpoch.{DeviceEpoch}
 use Rattle.pgp_ids.specs.declared.incremental.Incremental.{Incremental}
 use Rattle.pgp_lists.proofs.Last.{last_where-found, last_where-some}
-use Rattle.pgp_lists.proofs.Lists.{any-mapped, flat_map-push}
-use Rattle.pgp_lists.proofs.Members.{Contains-nil, Contains-here, Contains-later, none-contains, map-contains, contains-append}
+use Rattle.pgp_lists.proofs.Lists.{any-mapped, any-same, flat_map-push, none-each}
+use Rattle.pgp_lists.proofs.Members.{Contains-nil, none-contains, map-contains, contains-append}
 use Rattle.pgp_lists.proofs.Options.{if_none, none_is, some_is}
 use Rattle.pgp_lists.proofs.Taken.{taken-induction}
 use Rattle.pgp_lists.specs.Last.{last_where}
@@ -29,7 +29,7 @@ use Rattle.pgp_group.specs.Reckoning.{TakesNothingAway}
 use Rattle.pgp_group.proofs.DeviceLemmas.{checked-front, checked-last, last_where-later}
 use Rattle.pgp_group.proofs.GrowthLemmas.{epoch-snoc, next_epoch}
 use Rattle.pgp_group.proofs.LaterLemmas.{histories}
-use Rattle.pgp_group.proofs.Lists.{last_where-none}
+use Rattle.pgp_group.proofs.Lists.{any-agree, last_where-none}
 use Rattle.pgp_group.proofs.OpeningLemmas.{opened}
 use Rattle.pgp_group.proofs.ReliefLemmas.{down_by, down-after, up-still, exists-still, up-booted}
 use Rattle.pgp_reasons.specs.declared.ways.Way.{Way}
@@ -86,18 +86,9 @@ lost_at-within osd =
 
 -- ---- tests of lists
 
-none-ever : {X : Type 0} (test : X → Bool) (xs : List X) → ((x : X) → test x ≡ false) → list_any test xs ≡ false
-none-ever test [] none = refl
-none-ever test (x ∷ xs) none = rw (none x) (none-ever test xs none)
-
-pub any-agree : {X : Type 0} (f g : X → Bool) (xs : List X) → ((x : X) → Contains xs x → f x ≡ g x) → list_any f xs ≡ list_any g xs
-any-agree f g [] same = refl
-any-agree f g (x ∷ xs) same = λ i. same x (Contains-here x xs) i || any-agree f g xs (λ y in'. same y (Contains-later x xs y in')) i
-
 -- a device is one of a list, from either side
 any-other : (osd : ℕ) (osds : List ℕ) → list_any (nat_eq osd) osds ≡ list_any (λ o. nat_eq o osd) osds
-any-other osd [] = refl
-any-other osd (o ∷ osds) = let same : nat_eq osd o ≡ nat_eq o osd = grind (arith, nat_tests) in λ i. same i || any-other osd osds i
+any-other osd osds = any-same (nat_eq osd) (λ o. nat_eq o osd) osds (λ o. grind (arith, nat_tests))
 
 -- ---- the statuses after the incremental
 
@@ -112,13 +103,12 @@ given-up false true old new first later = elim (cases_Bool (nat_lt first old)) [
 
 nothing-away : (way : Way) (osds : List ℕ) (incs : List Incremental) (inc : Incremental) → GoesWay way osds inc → map_fault incs inc ≡ None → are_checked incs ≡ true → TakesNothingAway incs inc
 nothing-away way osds incs inc goes fine checked =
-    let below : (osd : ℕ) → nat_lt inc.epoch (lost_at incs osd) ≡ false = λ osd. not_below osd in
     record {
       down = goes.down;
       gone = goes.gone;
       lost = ap (list_any (λ (told : DeviceEpoch). nat_lt told.epoch (lost_at incs told.osd))) goes.lost
           ∙ any-mapped (lost_at_epoch inc.epoch) (λ (told : DeviceEpoch). nat_lt told.epoch (lost_at incs told.osd)) (given_up way osds)
-          ∙ none-ever (λ (osd : ℕ). nat_lt inc.epoch (lost_at incs osd)) (given_up way osds) below;
+          ∙ none-each (λ (osd : ℕ). nat_lt inc.epoch (lost_at incs osd)) (given_up way osds) (λ n osd is. not_below osd);
     }
   where
     not_below : (osd : ℕ) → nat_lt inc.epoch (lost_at incs osd) ≡ false
@@ -171,8 +161,8 @@ after-way GiveUp osds incs inc osd first goes nothing later = after-loss osds in
 
 -- ---- the law
 
-pub brings-back : (way : Way) (osds : List ℕ) (g after : GroupLog) (inc : Incremental) → IsAfter g (entry.Inc inc ∷ []) after → GoesWay way osds inc → (prior after).down ≡ is_down_with way osds g
-brings-back way osds g after inc is goes =
+pub brought_back : (way : Way) (osds : List ℕ) (g after : GroupLog) (inc : Incremental) → IsAfter g (entry.Inc inc ∷ []) after → GoesWay way osds inc → (prior after).down ≡ is_down_with way osds g
+brought_back way osds g after inc is goes =
     let hs = histories g (entry.Inc inc ∷ []) after is in
     let fine = checked-last (incs g) inc hs.checked in
     let checked = checked-front (incs g) (inc ∷ []) hs.checked in
@@ -191,14 +181,11 @@ brings-back way osds g after inc is goes =
 
 -- ---- more devices
 
-is-true : (b : Bool) → not b ≡ true → b ≡ false
-is-true b is = grind arith
-
 pub IsMonotone-brings_back : (way : Way) (g : GroupLog) → (part set : List ℕ) → IsPartOf part set → brings_back way g part ≡ true → brings_back way g set ≡ true
 IsMonotone-brings_back way g = relieved-more (enough_of g.history.code) (is_by_place g.history.code) (enough_of-mono g.history.code) (status (incs g)) (les g) (past g) way
 
 pub more-helps : (way : Way) (g : GroupLog) (part set : List ℕ) → IsPartOf part set → is_down_with way part g ≡ false → is_down_with way set g ≡ false
-more-helps way g part set is up = is-true (is_down_with way set g) (IsMonotone-brings_back way g part set is (ap not up))
+more-helps way g part set is up = not-true (is_down_with way set g) (IsMonotone-brings_back way g part set is (ap not up))
 
 -- ---- the smallest sets tell all
 
@@ -209,17 +196,14 @@ in-ways way g set in' = elim (cases_Bool (prior g).down) [
 ]
 
 pub ways-enough : (way : Way) (g : GroupLog) (set : List ℕ) → Contains (ways way g) set → is_down_with way set g ≡ false
-ways-enough way g set in' = is-true (is_down_with way set g) (smallest-enough (brings_back way g) (prior g).blocked_by set (in-ways way g set in')).0
+ways-enough way g set in' = not-true (is_down_with way set g) (smallest-enough (brings_back way g) (prior g).blocked_by set (in-ways way g set in')).0
 
 pub ways-of_them : (way : Way) (g : GroupLog) (set : List ℕ) → Contains (ways way g) set → IsPartOf set (prior g).blocked_by
 ways-of_them way g set in' = (smallest-enough (brings_back way g) (prior g).blocked_by set (in-ways way g set in')).1
 
-is-false : (b : Bool) → not b ≡ false → b ≡ true
-is-false b is = grind arith
-
 pub ways-no_part : (way : Way) (g : GroupLog) (set part : List ℕ) (osd : ℕ) → Contains (ways way g) set → IsPartOf part set → Contains set osd → (Contains part osd → ⊥) → is_down_with way part g ≡ true
 ways-no_part way g set part osd in' is there lacks =
-    is-false (is_down_with way part g) (smallest-no_part (brings_back way g) (IsMonotone-brings_back way g) (prior g).blocked_by set part osd (in-ways way g set in') is there lacks)
+    not-false (is_down_with way part g) (smallest-no_part (brings_back way g) (IsMonotone-brings_back way g) (prior g).blocked_by set part osd (in-ways way g set in') is there lacks)
 
 pub ways-each : (way : Way) (g : GroupLog) (osds : List ℕ) → (prior g).down ≡ true → IsPartOf osds (prior g).blocked_by → is_down_with way osds g ≡ false → (set : List ℕ) × (Contains (ways way g) set × IsPartOf set osds)
 ways-each way g osds down is up =

@@ -103,6 +103,7 @@ impl Found {
     /// Lists the smallest sets that are the chosen devices and `left` of the rest. It says whether it went through all of
     /// them: it stops where no more sets may be judged or listed.
     #[cycle(walk)]
+    #[tactic(auto, using(crate::proofs::LookLemmas::some_looks))]
     pub(crate) fn walk<E: Enough>(
         &mut self,
         alloc: Global,
@@ -134,6 +135,7 @@ impl Found {
     /// The same where at least one of the rest is to be added: first the sets with the first of the rest, then those
     /// without it.
     #[cycle(walk)]
+    #[tactic(auto, using(crate::proofs::LookLemmas::some_looks))]
     fn walk_on<E: Enough>(
         &mut self,
         alloc: Global,

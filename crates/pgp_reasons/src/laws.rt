@@ -13,6 +13,7 @@ ghost use Rattle.pgp_reasons.specs.Smallest.{smallest, holds, IsPartOf};
 
 /// A group is down after the next map just where this layer says so, whatever the map says beside which devices boot, or are
 /// given up for lost.
+#[tactic(auto, using(crate::proofs::WayLemmas::brought_back))]
 pub fn brings_back()
     ensures { (way : Way) (osds : List ℕ) (g after : GroupLog) (inc : Incremental)
         → IsAfter g (entry.Inc inc ∷ []) after → GoesWay way osds inc → (prior after).down ≡ is_down_with way osds g }
@@ -39,6 +40,7 @@ pub fn smallest_are_all()
 
 /// To start devices and to declare them lost come to the same: the devices that a group waits for bring it back by the one
 /// just where they do so by the other, so the smallest sets that do are the same. What is lost is what those devices hold.
+#[tactic(auto, using(crate::proofs::SameWayLemmas::same_ways))]
 pub fn starts_and_losses_are_the_same_sets()
     ensures each { (g : GroupLog) (osds : List ℕ) → IsPartOf osds (prior g).blocked_by
         → is_down_with Start osds g ≡ is_down_with GiveUp osds g }

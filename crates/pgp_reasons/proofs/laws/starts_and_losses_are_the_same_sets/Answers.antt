@@ -1,8 +1,5 @@
-use Rattle.pgp_reasons.proofs.SameWayLemmas.{same-down, same-ways}
+use Rattle.pgp_reasons.proofs.SameWayLemmas.{same-down}
 use Rattle.pgp_reasons.proofs.laws.starts_and_losses_are_the_same_sets.Goals as goal
 
 pub returns-clause-each : goal.returns-clause-each
 returns-clause-each c = same-down
-
-pub returns-clause-sets : goal.returns-clause-sets
-returns-clause-sets c = same-ways

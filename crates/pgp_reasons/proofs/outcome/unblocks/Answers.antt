@@ -1,32 +1,30 @@
-use Rattle.std.proofs.Common.{List, not, ap, sym, ◌∙◌}
+use Rattle.std.proofs.Common.{◌≡◌, List, not, ap, sym, ◌∙◌}
 use Rattle.pgp_code.specs.AnyCode.{enough_of, is_by_place}
-use Rattle.pgp_ids.specs.declared.past.Past.{Past}
+use Rattle.pgp_ids.specs.declared.entry.Entry.{Entry}
 use Rattle.pgp_group.specs.Entries.{incs_of}
-use Rattle.pgp_sets.specs.Status.{held_status}
+use Rattle.pgp_group.specs.GroupLog.{GroupLog}
+use Rattle.pgp_reasons.specs.GroupWays.{brings_back}
+use Rattle.pgp_reasons.specs.Reasons.{IsViewed}
 use Rattle.pgp_reasons.specs.Ways.{is_relieved}
-use Rattle.pgp_reasons.proofs.ReasonsLemmas.{viewed-asked, unviewed, unblocks-asked}
-use Rattle.pgp_reasons.proofs.WayLemmas.{brings-back}
+use Rattle.pgp_reasons.proofs.ReasonsLemmas.{asked-is, viewed-asked, unviewed}
+use Rattle.pgp_reasons.proofs.WayLemmas.{brought_back}
 use Rattle.pgp_reasons.proofs.outcome.unblocks.Goals as goal
 
-pub returns-in-Some-clause-as_defined : goal.returns-in-Some-clause-as_defined
-returns-in-Some-clause-as_defined c = λ log g is.
+pub returns-in-Some : goal.returns-in-Some
+returns-in-Some c =
+    let each : (log : List Entry) (g : GroupLog) → IsViewed log c.args.map.now c.args.pg c.args.view.now g
+    → c.is_relieved.result ≡ brings_back c.args.way g c.args.osds.now = λ log g is.
     let asked = viewed-asked log c.args.map.now c.args.pg c.args.view.now g c.in-Some.pool (sym (c.in-Some.ensures.value (incs_of log) is.map_is)) is in
-    c.is_relieved.ensures
-    ∙ ap (λ (past : List Past). is_relieved (enough_of c.of_pool-code.result) (is_by_place c.of_pool-code.result) (held_status c.args.map.now) c.args.view.now.les past c.args.way c.args.osds.now) c.as_slice.ensures
-    ∙ unblocks-asked c.args.way c.args.osds.now g c.of_pool-code.result c.args.map.now c.args.view.now (asked.code_is ∙ sym c.of_pool-code.ensures) asked.map_is asked.view_is
+    c.is_relieved.ensures ∙ rw c.as_slice.ensures
+    (asked-is (λ code status view. is_relieved (enough_of code) (is_by_place code) status view.les view.intervals c.args.way c.args.osds.now)
+    g c.of_pool-code.result c.args.map.now c.args.view.now (asked.code_is ∙ sym c.of_pool-code.ensures) asked.map_is asked.view_is) in
+    record {
+      as_defined = each;
+      by_next_map = λ log g after inc is next goes. each log g is ∙ ap not (sym (brought_back c.args.way c.args.osds.now g after inc next goes));
+    }
 
-pub returns-in-Some-clause-by_next_map : goal.returns-in-Some-clause-by_next_map
-returns-in-Some-clause-by_next_map c = λ log g after inc is next goes.
-    let asked = viewed-asked log c.args.map.now c.args.pg c.args.view.now g c.in-Some.pool (sym (c.in-Some.ensures.value (incs_of log) is.map_is)) is in
-    c.is_relieved.ensures
-    ∙ ap (λ (past : List Past). is_relieved (enough_of c.of_pool-code.result) (is_by_place c.of_pool-code.result) (held_status c.args.map.now) c.args.view.now.les past c.args.way c.args.osds.now) c.as_slice.ensures
-    ∙ unblocks-asked c.args.way c.args.osds.now g c.of_pool-code.result c.args.map.now c.args.view.now (asked.code_is ∙ sym c.of_pool-code.ensures) asked.map_is asked.view_is
-    ∙ ap not (sym (brings-back c.args.way c.args.osds.now g after inc next goes))
-
-pub returns-in-None-clause-as_defined : goal.returns-in-None-clause-as_defined
-returns-in-None-clause-as_defined c = λ log g is.
-    absurd (unviewed log c.args.map.now c.args.pg c.args.view.now g (sym (c.in-None.ensures.value (incs_of log) is.map_is)) is)
-
-pub returns-in-None-clause-by_next_map : goal.returns-in-None-clause-by_next_map
-returns-in-None-clause-by_next_map c = λ log g after inc is next goes.
-    absurd (unviewed log c.args.map.now c.args.pg c.args.view.now g (sym (c.in-None.ensures.value (incs_of log) is.map_is)) is)
+pub returns-in-None : goal.returns-in-None
+returns-in-None c =
+    let none = λ (log : List Entry) (g : GroupLog) (is : IsViewed log c.args.map.now c.args.pg c.args.view.now g).
+    unviewed log c.args.map.now c.args.pg c.args.view.now g (sym (c.in-None.ensures.value (incs_of log) is.map_is)) is in
+    record { as_defined = λ log g is. absurd (none log g is); by_next_map = λ log g after inc is next goes. absurd (none log g is) }

@@ -1,7 +1,8 @@
 use Rattle.std.proofs.Common.{◌≡◌, ap, ◌∙◌}
 use Rattle.pgp_ids.specs.declared.view.View.{View}
 use Rattle.pgp_group.specs.GroupLog.{infos}
-use Rattle.pgp_reasons.proofs.ReasonsLemmas.{asked-present, asked-infos, short-asked}
+use Rattle.pgp_reasons.specs.Short.{short_of}
+use Rattle.pgp_reasons.proofs.ReasonsLemmas.{asked-is, asked-present, asked-infos}
 use Rattle.pgp_reasons.proofs.reasons.reasons_by.Goals as goal
 
 pub returns : goal.returns
@@ -9,5 +10,6 @@ returns c = λ g is.
     let told : c.as_slice-infos.result.now ≡ infos g = c.as_slice-infos.ensures ∙ c.in_ok-infos.ensures ∙ asked-infos is in
     let heard = c.in_ok-heard.ensures g (asked-present is) told in
     c.joined.ensures g heard (c.in_ok-waits.ensures g is.code_is is.map_is is.view_is told)
-    (c.in_ok-short.ensures ∙ short-asked g c.args.code.now c.args.map.now c.args.view.now is.code_is is.map_is is.view_is)
+    (c.in_ok-short.ensures
+    ∙ asked-is (λ code status view. short_of code status view.les view.intervals view.acting) g c.args.code.now c.args.map.now c.args.view.now is.code_is is.map_is is.view_is)
     (c.in_ok-gaps.ensures g is.log_is is.pg_is (asked-present is) (ap (λ (v : View). v.best) is.view_is) (c.as_slice.ensures ∙ heard))

@@ -1,17 +1,17 @@
-use Rattle.std.proofs.Common.{◌≡◌, ◌+◌, [], ◌++◌, true, false, length, ap, sym, ◌∙◌, subst, arith, append-nil}
-use Rattle.pgp_reasons.specs.Smallest.{smallest, smallest_with, AreFirstOf}
+use Rattle.std.proofs.Common.{◌≡◌, ◌+◌, [], ◌++◌, true, false, length, ap, sym, ◌∙◌, arith, append-nil}
+use Rattle.pgp_reasons.specs.Smallest.{smallest, smallest_with}
 use Rattle.pgp_reasons.proofs.LookLemmas.{next-size}
 use Rattle.pgp_reasons.proofs.SetLemmas.{none-enough}
-use Rattle.pgp_reasons.proofs.WalkLemmas.{said-is, size-begins, sizes-done, none-again, stopped-at, many-at, smallest_below, listed-all, listed-more}
+use Rattle.pgp_reasons.proofs.WalkLemmas.{said-is, size-begins, none-again, stopped-at, many-at, smallest_below, listed-all, listed-more}
 use Rattle.pgp_reasons.proofs.search.smallest_of.Goals as goal
 
 pub returns-then-not-is_enough : goal.returns-then-not-is_enough
 returns-then-not-is_enough g c =
     let enough = g.E.Enough.enough c.args.judge.now in
     let short : enough c.args.among.now ≡ false = said-is enough (c.args.among.now ++ []) c.args.among.now c.is_enough.result false (append-nil c.args.among.now) c.is_enough.ensures c.if-not-is_enough.true in
-    let none : c.new-found.result.sets ≡ smallest enough c.args.among.now =
-    c.new-found.ensures.sets ∙ sym (none-enough enough (g.met.E.Enough.monotone c.args.judge.now) c.args.among.now short) in
-    listed-all c.args.among.now (smallest enough c.args.among.now) c.new-found.result.sets none (omega (arith, ap length c.new-found.ensures.sets))
+    listed-all c.args.among.now (smallest enough c.args.among.now) c.new-found.result.sets
+    (c.new-found.ensures.sets ∙ sym (none-enough enough (g.met.E.Enough.monotone c.args.judge.now) c.args.among.now short))
+    (omega (arith, ap length c.new-found.ensures.sets))
 
 pub or_one-requires-clause-enough : goal.or_one-requires-clause-enough
 or_one-requires-clause-enough g c =
@@ -20,19 +20,15 @@ or_one-requires-clause-enough g c =
 pub or_one-requires-clause-first : goal.or_one-requires-clause-first
 or_one-requires-clause-first g c =
     let enough = g.E.Enough.enough c.args.judge.now in
-    let was = c.loop-size.found.sets in
-    let size : was ++ smallest_with enough c.loop-size.chosen.items c.loop-size.size c.args.among.now ≡ smallest_below enough c.args.among.now (c.loop-size.size + 1) =
-    size-begins enough c.loop-size.chosen.items c.args.among.now c.loop-size.size was c.loop-size.invariant.found c.loop-size.invariant.none in
     stopped-at enough c.args.among.now c.loop-size.size c.walk.new.self.sets {whole = c.in_ok-walk.field-0} c.loop-size-test.true
-    (subst (λ l. AreFirstOf c.in_ok-walk.field-0 l c.walk.new.self.sets) size c.in_ok-walk.ensures.found)
+    (rw (← size-begins enough c.loop-size.chosen.items c.args.among.now c.loop-size.size c.loop-size.found.sets c.loop-size.invariant.found c.loop-size.invariant.none) c.in_ok-walk.ensures.found)
 
 pub or_one-requires-clause-many : goal.or_one-requires-clause-many
 or_one-requires-clause-many g c =
     let enough = g.E.Enough.enough c.args.judge.now in
-    let was = c.loop-size.found.sets in
-    many-at enough c.args.among.now c.loop-size.size c.walk.new.self.looks (was ++ smallest_with enough c.loop-size.chosen.items c.loop-size.size c.args.among.now) c.walk.new.self.sets
+    many-at enough c.args.among.now c.loop-size.size c.walk.new.self.looks (c.loop-size.found.sets ++ smallest_with enough c.loop-size.chosen.items c.loop-size.size c.args.among.now) c.walk.new.self.sets
     c.loop-size-test.true
-    (size-begins enough c.loop-size.chosen.items c.args.among.now c.loop-size.size was c.loop-size.invariant.found c.loop-size.invariant.none)
+    (size-begins enough c.loop-size.chosen.items c.args.among.now c.loop-size.size c.loop-size.found.sets c.loop-size.invariant.found c.loop-size.invariant.none)
     (next-size (length c.args.among.now) c.loop-size.size (length c.loop-size.chosen.items) c.loop-size.found.looks c.walk.new.self.looks
     (ap length c.loop-size.invariant.none) c.loop-size.invariant.counted c.in_ok-walk.ensures.counted)
     (c.in_ok-walk.ensures.stopped c.if-not-branch.true)
@@ -52,4 +48,7 @@ loop-size-preserved g c =
 
 pub returns : goal.returns
 returns g c =
-    sizes-done (g.E.Enough.enough c.args.judge.now) c.args.among.now c.loop-size.size c.loop-size.found.sets (omega arith) c.loop-size.invariant.found c.loop-size.invariant.few
+    let enough = g.E.Enough.enough c.args.judge.now in
+    let done : c.loop-size.size ≡ length c.args.among.now + 1 = omega arith in
+    listed-all c.args.among.now (smallest enough c.args.among.now) c.loop-size.found.sets
+    (c.loop-size.invariant.found ∙ ap (smallest_below enough c.args.among.now) done) c.loop-size.invariant.few
