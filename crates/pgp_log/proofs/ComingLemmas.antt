@@ -2,7 +2,7 @@
 use Rattle.std.proofs.Common.{◌≡◌, ℕ, ◌<◌, List, [], ◌∷◌, ◌++◌, Option, Some, None, Bool, true, false, nat_eq, nat_lt, option_map, length, length-append, refl, ap, sym, ◌∙◌, subst, inl, inr, arith}
 use Rattle.std.specs.List.{flat_map}
 use Rattle.std.specs.Option.{option_map_or}
-use Rattle.std.proofs.lemmas.Bool.{cases_Bool, true≢false}
+use Rattle.std.proofs.lemmas.Bool.{false_from_ne_true, true_from_ne_false, true≢false}
 use Rattle.std.proofs.lemmas.List.Elements.{filter_map-append}
 use Rattle.pgp_ids.specs.declared.entry.Entry.{Entry}
 use Rattle.pgp_ids.specs.declared.entry.Entry.TheVariants as entry
@@ -55,10 +55,8 @@ has_group-same incs inc pg unmade =
 
 -- the incremental with which a group comes makes its pool
 pub comes-with_pool : (incs : List Incremental) (inc : Incremental) (pg : PgId) → has_group incs pg ≡ false → has_group (then_with incs inc) pg ≡ true → makes pg.pool inc ≡ true
-comes-with_pool incs inc pg absent there = elim (cases_Bool (makes pg.pool inc)) [
-  | inl makes' ↦ makes'
-  | inr unmade ↦ absurd (true≢false (sym there ∙ has_group-same incs inc pg unmade ∙ absent))
-]
+comes-with_pool incs inc pg absent there =
+    true_from_ne_false (makes pg.pool inc) (λ unmade. true≢false (sym there ∙ has_group-same incs inc pg unmade ∙ absent))
 
 pub made-now : (incs : List Incremental) (inc : Incremental) (pg : PgId) → has_group incs pg ≡ false → has_group (then_with incs inc) pg ≡ true → made_at (then_with incs inc) pg.pool ≡ epoch (then_with incs inc)
 made-now incs inc pg absent there = made_at-made incs inc pg.pool (comes-with_pool incs inc pg absent there) ∙ sym (epoch-snoc incs inc)
@@ -78,46 +76,34 @@ silent-inc log inc pg silent = record {
 }
 
 known-group : (incs : List Incremental) (pg : PgId) (member : Member) (stamp : ℕ) (bad : Bool) → report_fault incs pg member stamp bad ≡ None → has_group incs pg ≡ true
-known-group incs pg member stamp bad none = elim (cases_Bool (has_group incs pg)) [
-  | inl there ↦ there
-  | inr absent ↦ let unknown : has_unknown_group incs pg ≡ true = rw absent refl in absurd (refused (rw unknown at none))
-]
+known-group incs pg member stamp bad none =
+    true_from_ne_false (has_group incs pg) (λ absent. let unknown : has_unknown_group incs pg ≡ true = rw absent refl in refused (rw unknown at none))
   where
     refused : {why : Refusal} → Some why ≡ None → ⊥
     refused same = cc
 
 -- a report that isn't refused is of another group than one that is absent
 of-another : (incs : List Incremental) (told pg : PgId) → has_group incs told ≡ true → has_group incs pg ≡ false → is_same_group told pg ≡ false
-of-another incs told pg there absent = elim (cases_Bool (is_same_group told pg)) [
-  | inl same ↦ absurd (true≢false (sym there ∙ ap (has_group incs) (same_group told pg same) ∙ absent))
-  | inr other ↦ other
-]
-
-absent-more : (log : List Entry) (new : Entry) (pg : PgId) → inc_of new ≡ None → IsAbsent log pg → IsSilent (log ++ new ∷ []) pg → IsAbsent (log ++ new ∷ []) pg
-absent-more log new pg none absent silent = record {
-  absent = ap (λ (l : List Incremental). has_group l pg) (incs-other log new none) ∙ absent.absent;
-  silent = silent;
-}
+of-another incs told pg there absent =
+    false_from_ne_true (is_same_group told pg) (λ same. true≢false (sym there ∙ ap (has_group incs) (same_group told pg same) ∙ absent))
 
 pub absent-other : (log : List Entry) (new : Entry) (pg : PgId) → inc_of new ≡ None → entry_fault log new ≡ None → IsAbsent log pg → IsAbsent (log ++ new ∷ []) pg
-absent-other log (entry.Inc inc) pg none fine absent = cc
-absent-other log (entry.Info info) pg none fine absent =
-    let other = of-another (incs_of log) info.pg pg (known-group (incs_of log) info.pg info.member info.stamp _ fine) absent.absent in
-    absent-more log (entry.Info info) pg none absent (record {
-      infos = infos-other log info pg other ∙ absent.silent.infos;
+absent-other log new pg none fine absent = record {
+  absent = ap (λ (l : List Incremental). has_group l pg) (incs-other log new none) ∙ absent.absent;
+  silent = silent new none fine;
+}
+  where
+    silent : (e : Entry) → inc_of e ≡ None → entry_fault log e ≡ None → IsSilent (log ++ e ∷ []) pg
+    silent (entry.Inc inc) none fine = cc
+    silent (entry.Info info) none fine = record {
+      infos = infos-other log info pg (of-another (incs_of log) info.pg pg (known-group (incs_of log) info.pg info.member info.stamp _ fine) absent.absent) ∙ absent.silent.infos;
       reports = reports-same log (entry.Info info) pg refl ∙ absent.silent.reports;
-    })
-absent-other log (entry.Entries report) pg none fine absent =
-    let other = of-another (incs_of log) report.pg pg (known-group (incs_of log) report.pg report.member report.stamp _ fine) absent.absent in
-    absent-more log (entry.Entries report) pg none absent (record {
+    }
+    silent (entry.Entries report) none fine = record {
       infos = infos-same log (entry.Entries report) pg refl ∙ absent.silent.infos;
-      reports = reports-other log report pg other ∙ absent.silent.reports;
-    })
-absent-other log entry.Close pg none fine absent =
-    absent-more log entry.Close pg none absent (record {
-      infos = infos-same log entry.Close pg refl ∙ absent.silent.infos;
-      reports = reports-same log entry.Close pg refl ∙ absent.silent.reports;
-    })
+      reports = reports-other log report pg (of-another (incs_of log) report.pg pg (known-group (incs_of log) report.pg report.member report.stamp _ fine) absent.absent) ∙ absent.silent.reports;
+    }
+    silent entry.Close none fine = record { infos = infos-same log entry.Close pg refl ∙ absent.silent.infos; reports = reports-same log entry.Close pg refl ∙ absent.silent.reports }
 
 -- ---- the group is there
 

@@ -4,7 +4,7 @@ use Rattle.std.specs.List.{list_any}
 use Rattle.std.specs.Option.{option_copied, option_map_or}
 use Rattle.std.specs.Prelude.{slice_get}
 use Rattle.std.proofs.Math.Bool.{and-true}
-use Rattle.std.proofs.lemmas.Bool.{and_from, and_parts, cases_Bool, cases_lt, eqb-true, true≢false}
+use Rattle.std.proofs.lemmas.Bool.{and_from, and_parts, cases_Bool, cases_lt, eqb-true, false_from_ne_true, true_from_ne_false, true≢false}
 use Rattle.std.proofs.lemmas.List.Folds.{list_any_more}
 use Rattle.pgp_lists.proofs.Bools.{same_tests}
 use Rattle.pgp_lists.proofs.Lists.{none-at}
@@ -40,12 +40,18 @@ use Rattle.pgp_log.proofs.KeptLemmas.{grown, step-checked, step-fine, still-ther
 use Rattle.pgp_log.proofs.LogLemmas.{legal-snoc}
 use Rattle.pgp_log.proofs.RawSetLemmas.{same_group}
 use Rattle.pgp_log.proofs.ComingLemmas.{comes-with_pool}
-use Rattle.pgp_log.proofs.TakeLemmas.{incs-other}
+use Rattle.pgp_log.proofs.TakeLemmas.{faultless-inc, fits-faultless, incs-other}
 
 -- the map has taken an incremental
 pub step-begins : (owner : Owner) (log : List Entry) (inc : Incremental) (old : Derived) (before : MapBefore) (after : OsdMap) → IsDerivedOf owner log old → fits log (entry.Inc inc) ≡ None
-    → IsMapBefore (incs_of log) inc before → IsMapOf (then_with (incs_of log) inc) after → IsStep log inc before after
-step-begins owner log inc old before after is fit told made = record { legal = is.legal; fits = fit; before_is = told; after_is = made }
+    → ((incs : List Incremental) → IsMapOf incs old.map → IsMapBefore incs inc before)
+    → ((incs : List Incremental) → IsMapOf incs old.map → map_fault incs inc ≡ None → IsMapOf (then_with incs inc) after) → IsStep log inc before after
+step-begins owner log inc old before after is fit told made = record {
+  legal = is.legal;
+  fits = fit;
+  before_is = told (incs_of log) is.map_is;
+  after_is = made (incs_of log) is.map_is (faultless-inc log (entry.Inc inc) inc refl (fits-faultless log (entry.Inc inc) fit));
+}
 
 -- and so have the groups
 pub groups-step : (owner : Owner) (log : List Entry) (inc : Incremental) (old : Derived) (before : MapBefore) (after : OsdMap) (groups : Groups) → IsDerivedOf owner log old → IsStep log inc before after
@@ -94,10 +100,8 @@ asked-on owner log old groups is are ids =
 
 -- a group of a pool that the incremental makes isn't there before
 pub absent-before : (log : List Entry) (inc : Incremental) (pg : PgId) → map_fault (incs_of log) inc ≡ None → makes pg.pool inc ≡ true → has_group (incs_of log) pg ≡ false
-absent-before log inc pg fine made = elim (cases_Bool (has_group (incs_of log) pg)) [
-  | inl there ↦ absurd (true≢false (sym made ∙ unmade (incs_of log) inc pg.pool fine (of_pool (pool (incs_of log) pg.pool) there)))
-  | inr absent ↦ absent
-]
+absent-before log inc pg fine made = false_from_ne_true (has_group (incs_of log) pg) (λ there.
+    true≢false (sym made ∙ unmade (incs_of log) inc pg.pool fine (of_pool (pool (incs_of log) pg.pool) there)))
   where
     of_pool : (found : Option PoolSpec) → option_map_or (λ made'. nat_lt pg.pg made'.pg_num) found false ≡ true → is_some found ≡ true
     of_pool None there = there
@@ -105,17 +109,14 @@ absent-before log inc pg fine made = elim (cases_Bool (has_group (incs_of log) p
 
 -- a pool of its list is one that the incremental makes
 pub made-here : (inc : Incremental) (i : ℕ) (made : PoolSpec) → slice_get inc.pools i ≡ Some made → makes made.id inc ≡ true
-made-here inc i made at = elim (cases_Bool (makes made.id inc)) [
-  | inl is ↦ is
-  | inr none ↦ absurd (true≢false (sym (eq-eqb made.id made.id refl) ∙ none-at (λ (p : PoolSpec). nat_eq p.id made.id) inc.pools i made none at))
-]
+made-here inc i made at = true_from_ne_false (makes made.id inc) (λ none.
+    true≢false (sym (eq-eqb made.id made.id refl) ∙ none-at (λ (p : PoolSpec). nat_eq p.id made.id) inc.pools i made none at))
 
 -- a group that the last map doesn't have has no view
 pub no-view : (log : List Entry) (pg : PgId) → has_group (incs_of log) pg ≡ false → None ≡ scratch log pg
 no-view log pg absent = none-there (scratch log pg) (scratch_there log pg ∙ absent) where
   none-there : {X : Type 0} (found : Option X) → is_some found ≡ false → None ≡ found
-  none-there None none = refl
-  none-there (Some x) none = cc
+  none-there found none = grind arith
 
 -- ---- the shard's groups
 

@@ -1,6 +1,7 @@
 -- In which order an entry is refused.
 use Rattle.std.proofs.Common.{◌≡◌, ◌<◌, ◌≤◌, List, Option, Some, None, Bool, true, false, length, nat_le, nat_lt, refl, subst, arith, if◌then◌else◌}
 use Rattle.std.specs.Option.{option_or}
+use Rattle.std.proofs.lemmas.Bool.{cases_Bool}
 use Rattle.std.proofs.lemmas.Bool.Decides.{nat_tests}
 use Rattle.pgp_ids.specs.declared.entry.Entry.{Entry}
 use Rattle.pgp_ids.specs.declared.entry.Entry.TheVariants as entry
@@ -26,10 +27,7 @@ fits-full log new open' own other full =
     rw (open', own, other, tested) refl
 
 room_for : (b : Bool) (log : List Entry) → length log < 65535 → (if b then None else (if nat_le 65535 (length log) then Some refusal.LogFull else None)) ≡ None
-room_for true log room = refl
-room_for false log room =
-    let tested : nat_le 65535 (length log) ≡ false = grind (arith, nat_tests) in
-    rw tested refl
+room_for b log room = grind (arith, nat_tests, cases_Bool b)
 
 pub fits-room : (log : List Entry) (new : Entry) → is_closed log ≡ false → entry_fault log new ≡ None → length log < 65535 → fits log new ≡ None
 fits-room log new open' own room = rw (open', own) (room_for (is_close new) log room)
@@ -42,16 +40,10 @@ fits-close log open' = rw open' refl
 -- a report that isn't refused has neither a stamp that is still to come nor a bad version
 unrefused : (group member future bad : Bool) → (if group then Some refusal.UnknownGroup else (if member then Some refusal.UnknownMember else (if future then Some refusal.FutureStamp else (if bad then Some refusal.BadVersion else None)))) ≡ None
     → (future ≡ false) × (bad ≡ false)
-unrefused false false false false fine = (refl, refl)
-unrefused false false false true fine = cc
-unrefused false false true bad fine = cc
-unrefused false true future bad fine = cc
-unrefused true member future bad fine = cc
+unrefused group member future bad fine = grind (arith, nat_tests, cases_Bool group, cases_Bool member, cases_Bool future, cases_Bool bad)
 
 own-fine : (closed : Bool) (own full : Option Refusal) → (if closed then Some refusal.Closed else option_or own full) ≡ None → own ≡ None
-own-fine true own full fine = cc
-own-fine false None full fine = refl
-own-fine false (Some why) full fine = cc
+own-fine closed own full fine = grind (arith, nat_tests, cases_Bool closed)
 
 -- it says nothing of an epoch that is still to come
 pub nothing_ahead : (log : List Entry) (pg : PgId) (new : Entry) → fits log new ≡ None → TellsNothingAhead log pg new
@@ -63,6 +55,4 @@ nothing_ahead log pg (entry.Info sent) fine info is here =
     let known : nat_lt sent.stamp sent.last_epoch_clean ≡ false = grind arith in
     let same : sent ≡ info = cc in
     subst (λ (i : Info). i.last_epoch_clean ≤ epoch (incs_of log)) same (grind (arith, nat_tests))
-nothing_ahead log pg (entry.Inc inc) fine info is here = cc
-nothing_ahead log pg (entry.Entries report) fine info is here = cc
-nothing_ahead log pg entry.Close fine info is here = cc
+nothing_ahead log pg new fine info is here = cc

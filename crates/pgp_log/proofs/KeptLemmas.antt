@@ -1,8 +1,8 @@
 -- What a shard keeps of its groups, as the log grows.
-use Rattle.std.proofs.Common.{◌≡◌, ℕ, List, [], ◌∷◌, ◌++◌, true, false, Bor, Option, Some, None, IfSome, is_some, length, option_map, refl, sym, ap, ◌∙◌, subst, inl, inr}
+use Rattle.std.proofs.Common.{◌≡◌, ℕ, List, [], ◌∷◌, ◌++◌, true, false, Bor, Option, Some, None, IfSome, is_none, is_some, not, length, option_map, refl, sym, ap, ◌∙◌, subst, inl, inr}
 use Rattle.std.specs.List.{filter}
 use Rattle.std.specs.Option.{option_copied}
-use Rattle.std.proofs.lemmas.Bool.{cases_Bool, true≢false}
+use Rattle.std.proofs.lemmas.Bool.{false_from_ne_true, true≢false}
 use Rattle.pgp_lists.proofs.Options.{some_is}
 use Rattle.pgp_ids.specs.declared.entry.Entry.{Entry}
 use Rattle.pgp_ids.specs.declared.entry.Entry.TheVariants as entry
@@ -98,10 +98,7 @@ still-there incs inc pg fine there =
 
 -- one that is absent after it was absent before
 absent-before : (incs : List Incremental) (inc : Incremental) (pg : PgId) → map_fault incs inc ≡ None → has_group (then_with incs inc) pg ≡ false → has_group incs pg ≡ false
-absent-before incs inc pg fine absent = elim (cases_Bool (has_group incs pg)) [
-  | inl there ↦ absurd (true≢false (sym (still-there incs inc pg fine there) ∙ absent))
-  | inr none ↦ none
-]
+absent-before incs inc pg fine absent = false_from_ne_true (has_group incs pg) (λ there. true≢false (sym (still-there incs inc pg fine there) ∙ absent))
 
 absent-more : (log : List Entry) (new : Entry) → fits log new ≡ None → ((pg : PgId) → has_group (incs_of log) pg ≡ false → IsAbsent log pg)
     → (pg : PgId) → has_group (incs_of (log ++ new ∷ [])) pg ≡ false → IsAbsent (log ++ new ∷ []) pg
@@ -109,15 +106,8 @@ absent-more log (entry.Inc inc) fit each pg absent =
     let fine : map_fault (incs_of log) inc ≡ None = faultless-inc log (entry.Inc inc) inc refl (fits-faultless log (entry.Inc inc) fit) in
     let before : has_group (incs_of log) pg ≡ false = absent-before (incs_of log) inc pg fine (sym (ap (λ (l : List Incremental). has_group l pg) (grown log inc)) ∙ absent) in
     record { absent = absent; silent = silent-inc log inc pg (each pg before).silent }
-absent-more log (entry.Info info) fit each pg absent =
-    absent-other log (entry.Info info) pg refl (fits-faultless log (entry.Info info) fit)
-    (each pg (sym (ap (λ (l : List Incremental). has_group l pg) (incs-other log (entry.Info info) refl)) ∙ absent))
-absent-more log (entry.Entries report) fit each pg absent =
-    absent-other log (entry.Entries report) pg refl (fits-faultless log (entry.Entries report) fit)
-    (each pg (sym (ap (λ (l : List Incremental). has_group l pg) (incs-other log (entry.Entries report) refl)) ∙ absent))
-absent-more log entry.Close fit each pg absent =
-    absent-other log entry.Close pg refl (fits-faultless log entry.Close fit)
-    (each pg (sym (ap (λ (l : List Incremental). has_group l pg) (incs-other log entry.Close refl)) ∙ absent))
+absent-more log new fit each pg absent =
+    absent-other log new pg refl (fits-faultless log new fit) (each pg (sym (ap (λ (l : List Incremental). has_group l pg) (incs-other log new refl)) ∙ absent))
 
 pub legal-absent : (log : List Entry) → is_legal log ≡ true → (pg : PgId) → has_group (incs_of log) pg ≡ false → IsAbsent log pg
 legal-absent = legal-induction (λ log. (pg : PgId) → has_group (incs_of log) pg ≡ false → IsAbsent log pg)
@@ -291,6 +281,6 @@ view-there pg kept P None is same each = tt
 view-there pg kept P (Some view) is same each = λ log holds.
     subst (λ (id : PgId). IsViewOf log id view.now) same (subst (λ (o : Option View). IfSome o (IsViewOf log kept.pg)) (sym is) (each log holds).view_is)
 
-pub there-copied : {X : Type 0} (told : Option (Bor X)) → is_some told ≡ is_some (option_copied told)
+pub there-copied : {X : Type 0} (told : Option (Bor X)) → is_some told ≡ not (is_none (option_copied told))
 there-copied None = refl
 there-copied (Some x) = refl

@@ -82,10 +82,8 @@ open-short log legal = (legal_short log legal).room
 -- ---- its end
 
 closes : (new : Entry) → is_close new ≡ true → new ≡ entry.Close
-closes (entry.Inc inc) is = cc
-closes (entry.Info info) is = cc
-closes (entry.Entries report) is = cc
 closes entry.Close is = refl
+closes new is = cc
 
 end-push : (log : List Entry) (new : Entry) → fits log new ≡ None → is_closed (log ++ new ∷ []) ≡ true → EndsWithClose (log ++ new ∷ [])
 end-push log new fit closed =

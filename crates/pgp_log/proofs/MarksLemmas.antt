@@ -3,7 +3,8 @@ use Rattle.std.proofs.Common.{◌≡◌, ℕ, zero, suc, ◌+◌, ◌-◌, ◌<�
 use Rattle.std.specs.HashMap as hash
 use Rattle.std.specs.List.{list_any}
 use Rattle.std.specs.Prelude.{nat_eq}
-use Rattle.std.proofs.lemmas.Bool.{cases_Bool, or_parts, true≢false}
+use Rattle.std.proofs.lemmas.Bool.{cases_Bool, false_from_ne_true, or_parts, true≢false}
+use Rattle.std.proofs.lemmas.Bool.Decides.{nat_tests}
 use Rattle.std.proofs.lemmas.List.{take_more_set}
 use Rattle.std.proofs.lemmas.List.Elements.{All-head, All-tail}
 use Rattle.std.proofs.lemmas.List.Folds.{list_any-append}
@@ -14,6 +15,7 @@ use Rattle.pgp_ids.specs.declared.entry.Entry.TheVariants as entry
 use Rattle.pgp_ids.specs.declared.incremental.Incremental.{Incremental}
 use Rattle.pgp_ids.specs.declared.view.View.{View}
 use Rattle.pgp_ids.specs.declared.pg_id.PgId.{PgId}
+use Rattle.pgp_lists.proofs.Bools.{or3_parts}
 use Rattle.pgp_lists.proofs.Lists.{none-each}
 use Rattle.pgp_lists.specs.Repeats.{has_repeat}
 use Rattle.pgp_map.specs.Pools.{is_same_group}
@@ -26,15 +28,15 @@ use Rattle.pgp_log.proofs.GroupsLemmas.{missing-group, other-group, place-holds,
 use Rattle.pgp_log.proofs.PassingLemmas.{all-other, any-passing, drop-few, drop-more, front-fails, front-passes, passing-fails, passing-once, unmarked}
 use Rattle.pgp_log.proofs.RawSetLemmas.{same_group}
 
-abbrev pg_of : KeptGroup → PgId
+abbrev pub pg_of : KeptGroup → PgId
 pg_of kept = kept.pg
 
 -- ---- one of the groups changes
 
 any-set : {X : Type 0} (p : X → Bool) (xs : List X) (i : ℕ) (old new : X) → slice_get xs i ≡ Some old → p new ≡ p old → list_any p (set xs i new) ≡ list_any p xs
 any-set p [] i old new at same = refl
-any-set p (x ∷ xs) zero old new at same = let here : x ≡ old = cc in ap (λ b. b || list_any p xs) (same ∙ ap p (sym here))
-any-set p (x ∷ xs) (suc i) old new at same = ap (λ b. p x || b) (any-set p xs i old new at same)
+any-set p (x ∷ xs) zero old new at same = grind (arith, nat_tests)
+any-set p (x ∷ xs) (suc i) old new at same = grind (arith, nat_tests, any-set p xs i old new at same)
 
 -- another group is marked where it was before
 pub marks-set : (xs : List KeptGroup) (i : ℕ) (old new : KeptGroup) (pg : PgId) → slice_get xs i ≡ Some old → new.pg ≡ old.pg → (is_same_group pg old.pg ≡ true → new.view ≡ old.view)
@@ -56,26 +58,16 @@ marks-push xs kept pg differs =
     ∙ ap (λ b. list_any (λ k. is_marked k && is_same_group pg k.pg) xs || (b || false)) (ap (λ b. is_marked kept && b) differs ∙ and-false (is_marked kept))
     ∙ or-false (list_any (λ k. is_marked k && is_same_group pg k.pg) xs)
     ∙ sym (any-passing is_marked pg_of (is_same_group pg) xs)
-  where
-    or-false : (b : Bool) → (b || (false || false)) ≡ b
-    or-false true = refl
-    or-false false = refl
 
 -- ---- a group is asked
 
-unmarked_by : (view : Option View) → is_some view ≡ true → is_none view ≡ false
-unmarked_by None is = cc
-unmarked_by (Some x) is = refl
+pub unmarked_by : (view : Option View) → is_some view ≡ true → is_none view ≡ false
+unmarked_by view is = grind arith
 
-pub there-unmarked : (view : Option View) → is_some view ≡ not (is_none view)
-there-unmarked None = refl
-there-unmarked (Some x) = refl
-
-pub marks-asked : (old groups : Groups) (pg : PgId) (place : ℕ) (kept after : KeptGroup) → AreAtPlaces old → hash.get is_same_group old.places pg ≡ Some place → slice_get old.kept.items place ≡ Some kept
-    → is_some after.view ≡ true → groups.kept.items ≡ set old.kept.items place after → marks_of groups ≡ without pg (marks_of old)
-marks-asked old groups pg place kept after are is at there items =
-    ap marks_in items
-    ∙ unmarked is_marked pg_of (is_same_group pg) old.kept.items place kept after at
+pub marks-asked : (old : Groups) (pg : PgId) (place : ℕ) (kept after : KeptGroup) → AreAtPlaces old → hash.get is_same_group old.places pg ≡ Some place → slice_get old.kept.items place ≡ Some kept
+    → is_some after.view ≡ true → marks_in (set old.kept.items place after) ≡ without pg (marks_of old)
+marks-asked old pg place kept after are is at there =
+    unmarked is_marked pg_of (is_same_group pg) old.kept.items place kept after at
     (ap (is_same_group pg) (place-holds old pg place kept are is at) ∙ same-self pg) (unmarked_by after.view there)
     (λ j other differs found. other-group old pg place j other are is found differs)
 
@@ -104,69 +96,40 @@ marked-at groups pg place kept are is at =
 
 -- ---- marked groups are worked out, as many as may be
 
--- the groups before this place: the marked ones but the first are marked still
-pub record IsRenewing (first now : List KeptGroup) (max i more left : ℕ) : Type 0 where
-  pub marks : marks_in (take i now) ≡ drop max (marks_in (take i first))
-  pub room : more ≡ max - length (marks_in (take i first))
-  pub still : left ≡ length (marks_in (take i now))
+-- of these groups, which were marked, all but the first are marked still
+pub record IsRenewing (max i more left : ℕ) (was now : List PgId) : Type 0 where
+  pub marks : now ≡ drop max was
+  pub room : more ≡ max - length was
+  pub still : left ≡ length now
   pub few : left ≤ i
 
 -- a group that isn't marked
-pub renewing-passes : (first now : List KeptGroup) (max i more left : ℕ) (kept : KeptGroup) → slice_get first i ≡ Some kept → slice_get now i ≡ Some kept → is_marked kept ≡ false
-    → IsRenewing first now max i more left → IsRenewing first now max (i + 1) more left
-renewing-passes first now max i more left kept was at fails is =
-    let before : marks_in (take (i + 1) first) ≡ marks_in (take i first) = front-fails is_marked pg_of first i kept was fails in
-    let after : marks_in (take (i + 1) now) ≡ marks_in (take i now) = front-fails is_marked pg_of now i kept at fails in
-    record {
-      marks = after ∙ is.marks ∙ ap (drop max) (sym before);
-      room = is.room ∙ ap (λ (l : List PgId). max - length l) (sym before);
-      still = is.still ∙ ap length (sym after);
-      few = omega (arith, is.few);
-    }
+pub renewing-passes : (max i more left : ℕ) (was now : List PgId) → IsRenewing max i more left was now → IsRenewing max (i + 1) more left was now
+renewing-passes max i more left was now is = record { marks = is.marks; room = is.room; still = is.still; few = omega (arith, is.few) }
 
 -- a marked group, where no more may be worked out
-pub renewing-leaves : (first now : List KeptGroup) (max i more left : ℕ) (kept : KeptGroup) → slice_get first i ≡ Some kept → slice_get now i ≡ Some kept → is_marked kept ≡ true → more ≡ 0
-    → IsRenewing first now max i more left → IsRenewing first now max (i + 1) more (left + 1)
-renewing-leaves first now max i more left kept was at passes none is =
-    let before : marks_in (take (i + 1) first) ≡ marks_in (take i first) ++ kept.pg ∷ [] = front-passes is_marked pg_of first i kept was passes in
-    let after : marks_in (take (i + 1) now) ≡ marks_in (take i now) ++ kept.pg ∷ [] = front-passes is_marked pg_of now i kept at passes in
-    let long : length (marks_in (take i first) ++ kept.pg ∷ []) ≡ length (marks_in (take i first)) + 1 = length-append (marks_in (take i first)) (kept.pg ∷ []) in
-    let longer : length (marks_in (take i now) ++ kept.pg ∷ []) ≡ length (marks_in (take i now)) + 1 = length-append (marks_in (take i now)) (kept.pg ∷ []) in
-    let past : max ≤ length (marks_in (take i first)) = omega (arith, none, is.room) in
-    let out : 0 ≡ max - length (marks_in (take i first) ++ kept.pg ∷ []) = omega (arith, past, long) in
-    record {
-      marks = after ∙ ap (λ (l : List PgId). l ++ kept.pg ∷ []) is.marks ∙ sym (drop-more max (marks_in (take i first)) kept.pg past) ∙ ap (drop max) (sym before);
-      room = none ∙ out ∙ ap (λ (l : List PgId). max - length l) (sym before);
-      still = ap (λ n. n + 1) is.still ∙ sym longer ∙ ap length (sym after);
-      few = omega (arith, is.few);
-    }
+pub renewing-leaves : (max i more left : ℕ) (was now : List PgId) (pg : PgId) → more ≡ 0 → IsRenewing max i more left was now → IsRenewing max (i + 1) more (left + 1) (was ++ pg ∷ []) (now ++ pg ∷ [])
+renewing-leaves max i more left was now pg none is = record {
+  marks = ap (λ (l : List PgId). l ++ pg ∷ []) is.marks ∙ sym (drop-more max was pg (omega (arith, none, is.room)));
+  room = omega (arith, none, is.room, length-append was (pg ∷ []));
+  still = omega (arith, is.still, length-append now (pg ∷ []));
+  few = omega (arith, is.few);
+}
 
 -- a marked group is worked out
-pub renewing-renews : (first now : List KeptGroup) (max i more left : ℕ) (kept after : KeptGroup) → slice_get first i ≡ Some kept → slice_get now i ≡ Some kept → is_marked kept ≡ true → is_some after.view ≡ true → 0 < more
-    → IsRenewing first now max i more left → IsRenewing first (set now i after) max (i + 1) (more - 1) left
-renewing-renews first now max i more left kept after was at passes there some is =
-    let before : marks_in (take (i + 1) first) ≡ marks_in (take i first) ++ kept.pg ∷ [] = front-passes is_marked pg_of first i kept was passes in
-    let long : length (marks_in (take i first) ++ kept.pg ∷ []) ≡ length (marks_in (take i first)) + 1 = length-append (marks_in (take i first)) (kept.pg ∷ []) in
-    let within : i < length now = slice_get_within now i kept at in
-    let same : marks_in (take (i + 1) (set now i after)) ≡ marks_in (take i now) =
-    ap marks_in (take_more_set now i after within) ∙ passing-fails is_marked pg_of (take i now) after (unmarked_by after.view there) in
-    let room : length (marks_in (take i first)) < max = omega (arith, some, is.room) in
-    let fewer : more - 1 ≡ max - length (marks_in (take i first) ++ kept.pg ∷ []) = omega (arith, some, is.room, long) in
-    record {
-      marks = same ∙ is.marks ∙ sym (drop-few max (marks_in (take i first)) kept.pg room) ∙ ap (drop max) (sym before);
-      room = fewer ∙ ap (λ (l : List PgId). max - length l) (sym before);
-      still = is.still ∙ ap length (sym same);
-      few = omega (arith, is.few);
-    }
+pub renewing-renews : (max i more left : ℕ) (was now : List PgId) (pg : PgId) → 0 < more → IsRenewing max i more left was now → IsRenewing max (i + 1) (more - 1) left (was ++ pg ∷ []) now
+renewing-renews max i more left was now pg some is = record {
+  marks = is.marks ∙ sym (drop-few max was pg (omega (arith, some, is.room)));
+  room = omega (arith, some, is.room, length-append was (pg ∷ []));
+  still = is.still;
+  few = omega (arith, is.few);
+}
 
 -- one that is marked is among the marks
 pub some-marked : (groups : List KeptGroup) (i : ℕ) (kept : KeptGroup) → slice_get groups i ≡ Some kept → is_marked kept ≡ true → 0 < length (marks_in groups)
 some-marked [] i kept at marked = cc
 some-marked (first ∷ groups) zero kept at marked = let here : first ≡ kept = cc in rw (ap is_marked here ∙ marked) (omega arith)
-some-marked (first ∷ groups) (suc i) kept at marked = by (is_marked first) refl (some-marked groups i kept at marked) where
-  by : (b : Bool) → is_marked first ≡ b → 0 < length (marks_in groups) → 0 < length (marks_in (first ∷ groups))
-  by true is rest = rw is (omega arith)
-  by false is rest = rw is rest
+some-marked (first ∷ groups) (suc i) kept at marked = grind (arith, nat_tests, some-marked groups i kept at marked, cases_Bool (is_marked first))
 
 -- ---- each group is marked
 
@@ -182,14 +145,9 @@ all-marks (kept ∷ groups) all =
 no-repeat : {X : Type 0} (same : X → X → Bool) (xs : List X) → ((i j : ℕ) (x y : X) → slice_get xs i ≡ Some x → slice_get xs j ≡ Some y → same x y ≡ true → i ≡ j)
     → has_repeat same xs ≡ false
 no-repeat same [] apart = refl
-no-repeat {X = X} same (x ∷ xs) apart =
-    rw (none-each (same x) xs other) (no-repeat same xs (λ i j y z one two is. omega (arith, apart (suc i) (suc j) y z one two is)))
-  where
-    other : (j : ℕ) (y : X) → slice_get xs j ≡ Some y → same x y ≡ false
-    other j y there = elim (cases_Bool (same x y)) [
-      | inl is ↦ absurd (omega (arith, apart 0 (suc j) x y refl there is))
-      | inr differs ↦ differs
-    ]
+no-repeat same (x ∷ xs) apart =
+    rw (none-each (same x) xs (λ j y there. false_from_ne_true (same x y) (λ is. omega (arith, apart 0 (suc j) x y refl there is))))
+    (no-repeat same xs (λ i j y z one two is. omega (arith, apart (suc i) (suc j) y z one two is)))
 
 -- the table says of each group one place
 ids-once : (groups : Groups) → AreAtPlaces groups → has_repeat is_same_group (ids_of groups.kept.items) ≡ false
@@ -210,20 +168,14 @@ another pg here other same differs is =
 
 -- groups of different pools are different
 pub other-pool : (pg other : PgId) → nat_eq pg.pool other.pool ≡ false → is_same_group other pg ≡ false
-other-pool pg other differs = elim (cases_Bool (is_same_group other pg)) [
-  | inl same ↦
-      let e : other ≡ pg = same_group other pg same in
-      absurd (true≢false (sym (ap (λ (p : PgId). nat_eq pg.pool p.pool) e ∙ eq-eqb pg.pool pg.pool refl) ∙ differs))
-  | inr not ↦ not
-]
+other-pool pg other differs = false_from_ne_true (is_same_group other pg) (λ same.
+    true≢false (sym (ap (λ (p : PgId). nat_eq pg.pool p.pool) (same_group other pg same) ∙ eq-eqb pg.pool pg.pool refl) ∙ differs))
 
 -- an incremental that doesn't touch a group doesn't make its pool
 pub pool-left : (log : List Entry) (inc : Incremental) (pg : PgId) → is_touched log (entry.Inc inc) pg ≡ false → list_any (λ made. nat_eq made.id pg.pool) inc.pools ≡ false
 pool-left log inc pg untouched =
-    let most = or_parts (moves_all inc || changes_pool inc pg.pool || changes_temp inc pg) _ untouched in
-    let some = or_parts (moves_all inc || changes_pool inc pg.pool) _ most.0 in
-    let pool = or_parts (moves_all inc) _ some.0 in
-    (or_parts (list_any (λ made. nat_eq made.id pg.pool) inc.pools) _ pool.1).0
+    let placed = or3_parts (moves_all inc) (changes_pool inc pg.pool) (changes_temp inc pg) (or_parts (moves_all inc || changes_pool inc pg.pool || changes_temp inc pg) _ untouched).0 in
+    (or_parts (list_any (λ made. nat_eq made.id pg.pool) inc.pools) _ placed.1).0
 
 -- what holds anyhow holds where a call succeeds
 pub ok-anyhow : {T E : Type 0} (r : Result T E) (P : Type 0) → P → OnOk r P

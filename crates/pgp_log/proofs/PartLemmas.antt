@@ -46,9 +46,7 @@ part-read owner log longer new after legal fit more is =
 has-untouched : (log : List Entry) (new : Entry) (pg : PgId) → is_touched log new pg ≡ false → has_group (incs_of (log ++ new ∷ [])) pg ≡ has_group (incs_of log) pg
 has-untouched log (entry.Inc inc) pg untouched =
     ap (λ (l : List Incremental). has_group l pg) (incs-inc log (entry.Inc inc) inc refl) ∙ has_group-same (incs_of log) inc pg (pool-left log inc pg untouched)
-has-untouched log (entry.Info info) pg untouched = ap (λ (l : List Incremental). has_group l pg) (incs-other log (entry.Info info) refl)
-has-untouched log (entry.Entries report) pg untouched = ap (λ (l : List Incremental). has_group l pg) (incs-other log (entry.Entries report) refl)
-has-untouched log entry.Close pg untouched = ap (λ (l : List Incremental). has_group l pg) (incs-other log entry.Close refl)
+has-untouched log new pg untouched = ap (λ (l : List Incremental). has_group l pg) (incs-other log new refl)
 
 pub marks-away : (owner : Owner) (log longer : List Entry) (new : Entry) (found left : Option Derived) → found ≡ None → longer ≡ log ++ new ∷ [] → left ≡ None
     → MarksOnlyTouched new (shard_with owner log found) (shard_with owner longer left)

@@ -1,7 +1,8 @@
 -- The names of the elements that pass a test, as one of the elements comes to fail it.
 use Rattle.std.proofs.Common.{◌≡◌, ℕ, zero, suc, ◌+◌, ◌<◌, ◌≤◌, List, [], ◌∷◌, ◌++◌, Bool, true, false, not, ◌&&◌, ◌||◌, cond, Some, map, length, take, drop, set, slice_get, append-nil, length-append, refl, sym, ap, ◌∙◌, arith}
 use Rattle.std.specs.List.{filter, list_any}
-use Rattle.std.proofs.lemmas.Bool.{or_parts}
+use Rattle.std.proofs.lemmas.Bool.{cases_Bool, or_parts}
+use Rattle.std.proofs.lemmas.Bool.Decides.{nat_tests}
 use Rattle.std.proofs.lemmas.List.{map-append, drop-append-le}
 use Rattle.std.proofs.lemmas.List.Elements.{filter-append, filter_more}
 use Rattle.std.proofs.lemmas.Option.{get_or_from_slice_get, slice_get_within}
@@ -11,41 +12,27 @@ use Rattle.pgp_lists.specs.Repeats.{has_repeat}
 -- a name of one that passes, found from the elements
 pub any-passing : {X Y : Type 0} (m : X → Bool) (f : X → Y) (q : Y → Bool) (xs : List X) → list_any q (map f (filter m xs)) ≡ list_any (λ x. m x && q (f x)) xs
 any-passing m f q [] = refl
-any-passing m f q (x ∷ xs) = at (m x) refl (any-passing m f q xs) where
-  at : (b : Bool) → m x ≡ b → list_any q (map f (filter m xs)) ≡ list_any (λ x. m x && q (f x)) xs → list_any q (map f (cond (m x) (x ∷ filter m xs) (filter m xs))) ≡ ((m x && q (f x)) || list_any (λ x. m x && q (f x)) xs)
-  at true is rest = rw is (ap (λ b. q (f x) || b) rest)
-  at false is rest = rw is rest
+any-passing m f q (x ∷ xs) = grind (arith, nat_tests, any-passing m f q xs, cases_Bool (m x))
 
 -- none of them has such a name
 pub all-other : {X Y : Type 0} (m : X → Bool) (f : X → Y) (q : Y → Bool) (xs : List X) → ((j : ℕ) (x : X) → slice_get xs j ≡ Some x → q (f x) ≡ false)
     → map f (filter m xs) ≡ filter (λ y. not (q y)) (map f (filter m xs))
 all-other m f q [] other = refl
-all-other m f q (x ∷ xs) other = at (m x) refl (all-other m f q xs (λ j y is. other (suc j) y is)) where
-  at : (b : Bool) → m x ≡ b → map f (filter m xs) ≡ filter (λ y. not (q y)) (map f (filter m xs)) → map f (cond (m x) (x ∷ filter m xs) (filter m xs)) ≡ filter (λ y. not (q y)) (map f (cond (m x) (x ∷ filter m xs) (filter m xs)))
-  at true is rest = rw is (rw (other 0 x refl) (ap (λ l. f x ∷ l) rest))
-  at false is rest = rw is rest
+all-other m f q (x ∷ xs) other = grind (arith, nat_tests, other 0 x refl, all-other m f q xs (λ j y is. other (suc j) y is), cases_Bool (m x))
 
 -- the one at this place, which alone has such a name, fails the test now
 pub unmarked : {X Y : Type 0} (m : X → Bool) (f : X → Y) (q : Y → Bool) (xs : List X) (i : ℕ) (old after : X) → slice_get xs i ≡ Some old → q (f old) ≡ true → m after ≡ false
     → ((j : ℕ) (x : X) → (j ≡ i → ⊥) → slice_get xs j ≡ Some x → q (f x) ≡ false)
     → map f (filter m (set xs i after)) ≡ filter (λ y. not (q y)) (map f (filter m xs))
 unmarked m f q [] i old after is name fails other = cc
-unmarked m f q (x ∷ xs) zero old after is name fails other = at (m x) refl where
-  first : q (f x) ≡ true
-  first = let same : x ≡ old = cc in ap (λ z. q (f z)) same ∙ name
-
-  rest : map f (filter m xs) ≡ filter (λ y. not (q y)) (map f (filter m xs))
-  rest = all-other m f q xs (λ j y there. other (suc j) y (λ e. absurd (omega (arith, e))) there)
-
-  at : (b : Bool) → m x ≡ b → map f (cond (m after) (after ∷ filter m xs) (filter m xs)) ≡ filter (λ y. not (q y)) (map f (cond (m x) (x ∷ filter m xs) (filter m xs)))
-  at true is = rw (fails, is) (rw first rest)
-  at false is = rw (fails, is) rest
+unmarked m f q (x ∷ xs) zero old after is name fails other =
+    let same : x ≡ old = cc in
+    let first : q (f x) ≡ true = ap (λ z. q (f z)) same ∙ name in
+    let rest = all-other m f q xs (λ j y there. other (suc j) y (λ e. absurd (omega (arith, e))) there) in
+    grind (arith, nat_tests, fails, first, rest, cases_Bool (m x))
 unmarked m f q (x ∷ xs) (suc i) old after is name fails other =
-    at (m x) refl (unmarked m f q xs i old after is name fails (λ j y differs there. other (suc j) y (λ e. differs (omega (arith, e))) there)) where
-      at : (b : Bool) → m x ≡ b → map f (filter m (set xs i after)) ≡ filter (λ y. not (q y)) (map f (filter m xs))
-          → map f (cond (m x) (x ∷ filter m (set xs i after)) (filter m (set xs i after))) ≡ filter (λ y. not (q y)) (map f (cond (m x) (x ∷ filter m xs) (filter m xs)))
-      at true is rest = rw is (rw (other 0 x (λ e. absurd (omega (arith, e))) refl) (ap (λ l. f x ∷ l) rest))
-      at false is rest = rw is rest
+    let rest = unmarked m f q xs i old after is name fails (λ j y differs there. other (suc j) y (λ e. differs (omega (arith, e))) there) in
+    grind (arith, nat_tests, rest, other 0 x (λ e. absurd (omega (arith, e))) refl, cases_Bool (m x))
 
 -- ---- up to a place
 
@@ -77,21 +64,13 @@ passing-fails m f xs x fails = ap (map f) (filter-append m xs (x ∷ []) ∙ rw 
 -- a name that none has, none of those that pass has
 none-passing : {X Y : Type 0} (m : X → Bool) (f : X → Y) (q : Y → Bool) (xs : List X) → list_any q (map f xs) ≡ false → list_any q (map f (filter m xs)) ≡ false
 none-passing m f q [] none = refl
-none-passing m f q (x ∷ xs) none = at (m x) refl (none-passing m f q xs parts.1) where
-  parts : (q (f x) ≡ false) × (list_any q (map f xs) ≡ false)
-  parts = or_parts (q (f x)) (list_any q (map f xs)) none
-
-  at : (b : Bool) → m x ≡ b → list_any q (map f (filter m xs)) ≡ false → list_any q (map f (cond (m x) (x ∷ filter m xs) (filter m xs))) ≡ false
-  at true is rest = rw is (rw parts.0 rest)
-  at false is rest = rw is rest
+none-passing m f q (x ∷ xs) none =
+    let parts = or_parts (q (f x)) (list_any q (map f xs)) none in
+    grind (arith, nat_tests, parts.0, none-passing m f q xs parts.1, cases_Bool (m x))
 
 -- where no name is twice in the list, none is among those that pass
 pub passing-once : {X Y : Type 0} (m : X → Bool) (f : X → Y) (same : Y → Y → Bool) (xs : List X) → has_repeat same (map f xs) ≡ false → has_repeat same (map f (filter m xs)) ≡ false
 passing-once m f same [] once = refl
-passing-once m f same (x ∷ xs) once = at (m x) refl (passing-once m f same xs parts.1) where
-  parts : (list_any (same (f x)) (map f xs) ≡ false) × (has_repeat same (map f xs) ≡ false)
-  parts = or_parts (list_any (same (f x)) (map f xs)) (has_repeat same (map f xs)) once
-
-  at : (b : Bool) → m x ≡ b → has_repeat same (map f (filter m xs)) ≡ false → has_repeat same (map f (cond (m x) (x ∷ filter m xs) (filter m xs))) ≡ false
-  at true is rest = rw is (rw (none-passing m f (same (f x)) xs parts.0) rest)
-  at false is rest = rw is rest
+passing-once m f same (x ∷ xs) once =
+    let parts = or_parts (list_any (same (f x)) (map f xs)) (has_repeat same (map f xs)) once in
+    grind (arith, nat_tests, passing-once m f same xs parts.1, none-passing m f (same (f x)) xs parts.0, cases_Bool (m x))

@@ -79,9 +79,7 @@ sets-stay log (entry.Inc inc) sets fit still are =
       each = λ pg. some-weaker (hash.get is_same_group sets.known pg) (IsRawSet (incs_of log) pg) (IsRawSet (then_with (incs_of log) inc) pg)
           (λ places is. raw_set-stays (incs_of log) inc pg places fine (moves_none inc pg.pool still) is) (are.each pg);
     })
-sets-stay log (entry.Info info) sets fit still are = rw (incs-other log (entry.Info info) refl) are
-sets-stay log (entry.Entries report) sets fit still are = rw (incs-other log (entry.Entries report) refl) are
-sets-stay log entry.Close sets fit still are = rw (incs-other log entry.Close refl) are
+sets-stay log new sets fit still are = rw (incs-other log new refl) are
 
 -- what follows from each of a call's ends
 pub either-way : {X Y : Type 0} (r : Result X Y) (P Q G : Type 0) → OnOk r P → OnErr r Q → (P → G) → (Q → G) → G

@@ -20,56 +20,56 @@ use Rattle.pgp_group.specs.Entries.{incs_of}
 use Rattle.pgp_group.specs.GroupLog.{group_in}
 use Rattle.pgp_group.specs.Touched.{changed_devices, changes_pool, changes_temp, has_osd, has_to_do_with, may_lie_on, moves_all, names, turned_devices}
 use Rattle.pgp_log.specs.declared.before.MapBefore.{MapBefore}
-use Rattle.pgp_log.specs.KeptGroup.{AreAtPlaces, AreRowsOf, IsChangesOf, IsKeptOf, IsPassedBy, IsRowOf, IsStep, devices_for, is_marked}
+use Rattle.pgp_log.specs.KeptGroup.{AreRowsOf, IsChangesOf, IsKeptOf, IsPassedBy, IsRowOf, IsStep, devices_for, is_marked}
 use Rattle.pgp_log.specs.OsdFilter.{Covers, CoversStill}
-use Rattle.pgp_log.specs.Touch.{changes_placements}
-use Rattle.pgp_log.specs.declared.groups.Groups.{Groups}
 use Rattle.pgp_log.specs.declared.kept_group.KeptGroup.{KeptGroup}
 use Rattle.pgp_log.specs.declared.osd_filter.OsdFilter.{OsdFilter}
 use Rattle.pgp_log.specs.declared.row.Changes.{Changes}
 use Rattle.pgp_log.specs.declared.row.Row.{Row}
-use Rattle.pgp_log.proofs.TouchLemmas.{changed-parts, kept-stays, kept-unseen, turned-parts}
+use Rattle.pgp_log.proofs.TouchLemmas.{kept-stays, kept-unseen}
 
 -- ---- rows by their places
+
+-- what holds of the elements and their places, where one of them is another now
+pub each-set : {X : Type 0} (Q : ℕ → X → Type 0) (xs : List X) (i : ℕ) (y : X) → i < length xs → Q i y → ((j : ℕ) (z : X) → (j ≡ i → ⊥) → slice_get xs j ≡ Some z → Q j z)
+    → (j : ℕ) (z : X) → slice_get (set xs i y) j ≡ Some z → Q j z
+each-set Q xs i y within holds others j z at = elim (cases_eq j i) [
+  | inl here ↦ subst (λ n. Q n z) (sym here) (subst (Q i) (same_Some y z (sym (get-set_same xs i y within) ∙ ap (slice_get (set xs i y)) (sym here) ∙ at)) holds)
+  | inr other ↦ others j z other (sym (get-set_other xs i j y other) ∙ at)
+]
+
+-- or where one comes
+pub each-push : {X : Type 0} (Q : ℕ → X → Type 0) (xs : List X) (x : X) → ((j : ℕ) (z : X) → slice_get xs j ≡ Some z → Q j z) → Q (length xs) x
+    → (j : ℕ) (z : X) → slice_get (xs ++ x ∷ []) j ≡ Some z → Q j z
+each-push Q xs x each last j z at = elim (cases_lt j (length xs)) [
+  | inl below ↦ each j z (sym (get-append xs (x ∷ []) j below) ∙ at)
+  | inr past ↦
+      let here : j ≡ length xs = omega (arith, past, slice_get_within (xs ++ x ∷ []) j z at, length-append xs (x ∷ [])) in
+      subst (λ n. Q n z) (sym here) (subst (Q (length xs)) (same_Some x z (sym (get-last xs x) ∙ ap (slice_get (xs ++ x ∷ [])) (sym here) ∙ at)) last)
+]
 
 -- where a group is another now, and its row is made anew
 pub rows-set : (rows : List Row) (groups : List KeptGroup) (i : ℕ) (row : Row) (kept : KeptGroup) → i < length groups → IsRowOf row kept → AreRowsOf rows groups → AreRowsOf (set rows i row) (set groups i kept)
 rows-set rows groups i row kept within is are = record {
   long = length-set rows i row ∙ are.long ∙ sym (length-set groups i kept);
-  each = λ j r k at there. elim (cases_eq j i) [
-    | inl here ↦
-        let same_row : row ≡ r = same_Some row r (sym (get-set_same rows i row (omega (arith, within, are.long))) ∙ ap (slice_get (set rows i row)) (sym here) ∙ at) in
-        let same_kept : kept ≡ k = same_Some kept k (sym (get-set_same groups i kept within) ∙ ap (slice_get (set groups i kept)) (sym here) ∙ there) in
-        subst (λ (x : Row). IsRowOf x k) same_row (subst (IsRowOf row) same_kept is)
-    | inr other ↦ are.each j r k (sym (get-set_other rows i j row other) ∙ at) (sym (get-set_other groups i j kept other) ∙ there)
-  ];
+  each = λ j r k at. each-set (λ n x. slice_get (set groups i kept) n ≡ Some k → IsRowOf x k) rows i row (omega (arith, within, are.long))
+      (λ there. subst (IsRowOf row) (same_Some kept k (sym (get-set_same groups i kept within) ∙ there)) is)
+      (λ n x other was there. are.each n x k was (sym (get-set_other groups i n kept other) ∙ there)) j r at;
 }
 
 -- where one comes
 pub rows-push : (rows : List Row) (groups : List KeptGroup) (row : Row) (kept : KeptGroup) → IsRowOf row kept → AreRowsOf rows groups → AreRowsOf (rows ++ row ∷ []) (groups ++ kept ∷ [])
 rows-push rows groups row kept is are = record {
   long = length-append rows (row ∷ []) ∙ ap (λ n. n + 1) are.long ∙ sym (length-append groups (kept ∷ []));
-  each = λ j r k at there. elim (cases_lt j (length groups)) [
-    | inl below ↦ are.each j r k (sym (get-append rows (row ∷ []) j (omega (arith, below, are.long))) ∙ at) (sym (get-append groups (kept ∷ []) j below) ∙ there)
-    | inr past ↦
-        let within : j < length (groups ++ kept ∷ []) = slice_get_within (groups ++ kept ∷ []) j k there in
-        let here : j ≡ length groups = omega (arith, within, past, length-append groups (kept ∷ [])) in
-        let here_too : j ≡ length rows = here ∙ sym are.long in
-        let same_row : row ≡ r = same_Some row r (sym (get-last rows row) ∙ ap (slice_get (rows ++ row ∷ [])) (sym here_too) ∙ at) in
-        let same_kept : kept ≡ k = same_Some kept k (sym (get-last groups kept) ∙ ap (slice_get (groups ++ kept ∷ [])) (sym here) ∙ there) in
-        subst (λ (x : Row). IsRowOf x k) same_row (subst (IsRowOf row) same_kept is)
-  ];
+  each = λ j r k at. each-push (λ n x. slice_get (groups ++ kept ∷ []) n ≡ Some k → IsRowOf x k) rows row
+      (λ n x was there. are.each n x k was (sym (get-append groups (kept ∷ []) n (omega (arith, slice_get_within rows n x was, are.long))) ∙ there))
+      (λ there. subst (IsRowOf row) (same_Some kept k (sym (get-last groups kept) ∙ ap (slice_get (groups ++ kept ∷ [])) (sym are.long) ∙ there)) is) j r at;
 }
-
--- the place of a group is one of the rows
-pub row-within : (groups : Groups) (place : ℕ) → AreAtPlaces groups → place < length groups.kept.items → place < length groups.rows.items
-row-within groups place are within = omega (arith, within, are.rows.long)
 
 -- ---- the row of a group
 
 placed-by : {X Y : Type 0} (f : X → Y) (test : Y → Bool) (found : Option X) (y : Y) → option_map f found ≡ Some y → option_map_or (λ x. test (f x)) found false ≡ test y
-placed-by f test None y is = cc
-placed-by f test (Some x) y is = ap test (same_Some (f x) y is)
+placed-by f test found y is = grind arith
 
 -- the group may lie on the devices of its raw set and of its pg_temp list
 lies-there : (log : List Entry) (kept : KeptGroup) (osd : ℕ) → IsKeptOf log kept → may_lie_on (incs_of log) kept.pg osd ≡ (has_osd osd kept.raw || has_osd osd kept.temp)
@@ -80,6 +80,11 @@ lies-there log kept osd is =
 one-of : {P : Type 0} (a b : Bool) → (a || b) ≡ true → (a ≡ true → P) → (b ≡ true → P) → P
 one-of true b is here there = here refl
 one-of false b is here there = there is
+
+-- a set that the devices which pass one test were put in, and then those which pass another
+pub either-in : (p q : ℕ → Bool) (one two : OsdFilter) → ((osd : ℕ) → p osd ≡ true → Covers one osd) → CoversStill one two → ((osd : ℕ) → q osd ≡ true → Covers two osd)
+    → (osd : ℕ) → (p osd || q osd) ≡ true → Covers two osd
+either-in p q one two first still second osd is = one-of (p osd) (q osd) is (λ has. still osd (first osd has)) (second osd)
 
 -- sets that the devices of the lists were put in, one list after the other
 pub row-is : (kept : KeptGroup) (marked : Bool) (one two all : OsdFilter) → marked ≡ is_marked kept → ((osd : ℕ) → has_osd osd kept.raw ≡ true → Covers one osd) → CoversStill one two → ((osd : ℕ) → has_osd osd kept.temp ≡ true → Covers two osd) → CoversStill two all
@@ -94,37 +99,8 @@ row-is kept marked one two all same raw second temp_list third named = record {
 }
   where
     lies : (log : List Entry) → IsKeptOf log kept → (osd : ℕ) → may_lie_on (incs_of log) kept.pg osd ≡ true → Covers all osd
-    lies log is osd lies_on = one-of (has_osd osd kept.raw) (has_osd osd kept.temp) (sym (lies-there log kept osd is) ∙ lies_on)
-        (λ has. third osd (second osd (raw osd has))) (λ has. third osd (temp_list osd has))
-
--- ---- what an incremental changes
-
-five : {P : Type 0} (a b c d e : Bool) → (a || b || c || d || e) ≡ true → (a ≡ true → P) → (b ≡ true → P) → (c ≡ true → P) → (d ≡ true → P) → (e ≡ true → P) → P
-five a b c d e is one two three four last =
-    one-of (a || b || c || d) e is (λ is4. one-of (a || b || c) d is4 (λ is3. one-of (a || b) c is3 (λ is2. one-of a b is2 one two) three) four) last
-
-pub changes-are : (inc : Incremental) (places : Bool) (f1 f2 f3 f4 f5 : OsdFilter) → places ≡ changes_placements inc
-    → ((osd : ℕ) → list_any (nat_eq osd) inc.up ≡ true → Covers f1 osd) → CoversStill f1 f2
-    → ((osd : ℕ) → list_any (nat_eq osd) inc.down ≡ true → Covers f2 osd) → CoversStill f2 f3
-    → ((osd : ℕ) → list_any (nat_eq osd) inc.gone ≡ true → Covers f3 osd) → CoversStill f3 f4
-    → ((osd : ℕ) → list_any (λ (told : DeviceEpoch). nat_eq osd told.osd) inc.up_thru ≡ true → Covers f4 osd) → CoversStill f4 f5
-    → ((osd : ℕ) → list_any (λ (told : DeviceEpoch). nat_eq osd told.osd) inc.lost ≡ true → Covers f5 osd)
-    → IsChangesOf inc (record { places = places; turned = f3; devices = f5 })
-changes-are inc places f1 f2 f3 f4 f5 same up s2 down s3 gone s4 told s5 lost = record {
-  places = same;
-  turned = λ osd there. one-of (list_any (nat_eq osd) inc.up || list_any (nat_eq osd) inc.down) (list_any (nat_eq osd) inc.gone)
-      (turned-parts (nat_eq osd) inc ∙ there)
-      (λ early. one-of (list_any (nat_eq osd) inc.up) (list_any (nat_eq osd) inc.down) early (λ has. s3 osd (s2 osd (up osd has))) (λ has. s3 osd (down osd has)))
-      (gone osd);
-  devices = λ osd there. five (list_any (nat_eq osd) inc.up) (list_any (nat_eq osd) inc.down) (list_any (nat_eq osd) inc.gone)
-      (list_any (λ (t : DeviceEpoch). nat_eq osd t.osd) inc.up_thru) (list_any (λ (t : DeviceEpoch). nat_eq osd t.osd) inc.lost)
-      (changed-parts (nat_eq osd) inc ∙ there)
-      (λ has. s5 osd (s4 osd (s3 osd (s2 osd (up osd has)))))
-      (λ has. s5 osd (s4 osd (s3 osd (down osd has))))
-      (λ has. s5 osd (s4 osd (gone osd has)))
-      (λ has. s5 osd (told osd has))
-      (lost osd);
-}
+    lies log is osd lies_on =
+        third osd (either-in (λ o. has_osd o kept.raw) (λ o. has_osd o kept.temp) one two raw second temp_list osd (sym (lies-there log kept osd is) ∙ lies_on))
 
 -- ---- a group that is passed by
 

@@ -4,7 +4,7 @@ use Rattle.std.specs.List.{range_with_len}
 use Rattle.std.specs.declared.alloc.AllocError.{AllocError}
 use Rattle.std.proofs.Math.Seq.{drop-append_seam, map-set_same, take-append-add}
 use Rattle.std.proofs.lemmas.Bool.{cases_eq}
-use Rattle.std.proofs.lemmas.List.{drop-map, get_or-map, get_or-set_other, get_or-set_same, length-map, length-set, length-take, map-append, map-set, take-append-drop, take-map, take-take}
+use Rattle.std.proofs.lemmas.List.{drop-map, get_or-map, get_or_default, get_or-set_other, get_or-set_same, length-map, length-set, length-take, map-append, map-set, take-append-drop, take-map, take-take}
 use Rattle.std.proofs.lemmas.List.FromFn.{get_or-map-range_with_len}
 use Rattle.pgp_lists.proofs.Lists.{take-front}
 use Rattle.pgp_lists.proofs.Ranges.{range_with_len-suc}
@@ -110,143 +110,116 @@ few f ys m r below = omega (arith, below, length-map (take m ys) f, length-take 
 abbrev ReadsTo : List Entry → ℕ → Shard → Shard → Type 0
 ReadsTo log p old new = HasReadSame (record old { front = take p log }) new
 
-reading-on : (log : List Entry) (count i p : ℕ) (old new : Shard) → IsReading log count i old → ReadsTo log p old new → IsReading log count i new
-reading-on log count i p old new is reads = record {
-  front_is = record { rest = drop p log; whole = sym (take-append-drop p log) ∙ ap (λ (l : List Entry). l ++ drop p log) (sym reads.front_is) };
-  shard_is = reads.shard_is ∙ is.shard_is;
-  shards_are = reads.shards_are ∙ is.shards_are;
-}
+-- the shard is that of the world at this place
+pub record IsShardAt (log : List Entry) (judge : Judge) (shards : List Shard) (i : ℕ) (s : Shard) : Type 0 where
+  pub running : IsRunning log judge shards
+  pub there : i < length shards
+  pub here : s ≡ get_or shards i s
 
-still-running : (log : List Entry) (judge : Judge) (shards : List Shard) (i : ℕ) (new : Shard) → IsRunning log judge shards → i < length shards
-    → IsReading log (length shards) i new → IsRunning log judge (set shards i new)
-still-running log judge shards i new is there reads = record {
-  judge_is = is.judge_is;
-  some = omega (arith, is.some, length-set shards i new);
-  each = λ n below. subst (λ k. IsReading log k n (get_or (set shards i new) n (opening_shard 0 0))) (sym (length-set shards i new)) (at n (omega (arith, below, length-set shards i new)) (cases_eq n i));
-}
-  where
-    at : (n : ℕ) → n < length shards → (n ≡ i) ⊎ (n ≡ i → ⊥) → IsReading log (length shards) n (get_or (set shards i new) n (opening_shard 0 0))
-    at n below (inl here) =
-        subst (λ k. IsReading log (length shards) k (get_or (set shards i new) k (opening_shard 0 0))) (sym here)
-        (subst (IsReading log (length shards) i) (sym (get_or-set_same shards i new (opening_shard 0 0) there)) reads)
-    at n below (inr other) =
-        subst (IsReading log (length shards) n) (sym (get_or-set_other shards i n new (opening_shard 0 0) other)) (is.each n below)
+reading-at : {log : List Entry} {judge : Judge} {shards : List Shard} {i : ℕ} {s : Shard} → IsShardAt log judge shards i s → IsReading log (length shards) i s
+reading-at {log = log} {shards = shards} {i = i} {s = s} at =
+    subst (IsReading log (length shards) i) (sym (at.here ∙ get_or_default shards i s (opening_shard 0 0) at.there)) (at.running.each i at.there)
 
--- what each shard has read
-read-set : (log : List Entry) (shards : List Shard) (i p : ℕ) (s new : Shard) → ReadsTo log p s new
-    → map (λ s. length s.front) (set shards i new) ≡ set (map (λ s. length s.front) shards) i (min p (length log))
-read-set log shards i p s new reads =
+-- how many entries it has read
+read-at : {log : List Entry} {judge : Judge} {shards : List Shard} {i : ℕ} {s : Shard} → IsShardAt log judge shards i s → length s.front ≡ get_or (map (λ s. length s.front) shards) i 0
+read-at {shards = shards} {i = i} {s = s} at = ap (λ (o : Shard). length o.front) at.here ∙ sym (get_or-map (λ (o : Shard). length o.front) shards i s 0 at.there)
+
+-- it is another now, whose front is one of the log too
+still-running : {log : List Entry} {judge : Judge} {shards : List Shard} {i : ℕ} {s : Shard} → IsShardAt log judge shards i s → (new : Shard) → IsFrontOf new.front log → new.shard ≡ s.shard → new.shards ≡ s.shards
+    → IsRunning log judge (set shards i new)
+still-running {log = log} {shards = shards} {i = i} at new front shard all =
+    let was = reading-at at in
+    let reads : IsReading log (length shards) i new = record { front_is = front; shard_is = shard ∙ was.shard_is; shards_are = all ∙ was.shards_are } in
+    record {
+      judge_is = at.running.judge_is;
+      some = omega (arith, at.running.some, length-set shards i new);
+      each = λ n below. subst (λ k. IsReading log k n (get_or (set shards i new) n (opening_shard 0 0))) (sym (length-set shards i new)) (elim (cases_eq n i) [
+        | inl here ↦ rw (here, get_or-set_same shards i new (opening_shard 0 0) at.there) reads
+        | inr other ↦ rw (get_or-set_other shards i n new (opening_shard 0 0) other) (at.running.each n (omega (arith, below, length-set shards i new)))
+      ]);
+    }
+
+-- what the shards have read then
+next-read : {log : List Entry} {judge : Judge} {shards : List Shard} {i : ℕ} {s : Shard} → IsShardAt log judge shards i s → (new : Shard) (n : ℕ) → ReadsTo log (length s.front + n) s new
+    → map (λ s. length s.front) (set shards i new) ≡ set (map (λ s. length s.front) shards) i (min (get_or (map (λ s. length s.front) shards) i 0 + n) (length log))
+next-read {log = log} {shards = shards} {i = i} {s = s} at new n reads =
     map-set (λ (s : Shard). length s.front) shards i new
-    ∙ ap (set (map (λ (s : Shard). length s.front) shards) i) (ap length reads.front_is ∙ length-take p log)
+    ∙ ap (set (map (λ (s : Shard). length s.front) shards) i)
+    (ap length reads.front_is ∙ length-take (length s.front + n) log ∙ ap (λ m. min (m + n) (length log)) (read-at at))
 
--- the shard at this place is reading
-reading-at : (log : List Entry) (judge : Judge) (shards : List Shard) (i : ℕ) (s : Shard) → IsRunning log judge shards → i < length shards → s ≡ get_or shards i (opening_shard 0 0) → IsReading log (length shards) i s
-reading-at log judge shards i s is there here = subst (IsReading log (length shards) i) (sym here) (is.each i there)
-
--- its front
-front-at : (log : List Entry) (judge : Judge) (shards : List Shard) (i : ℕ) (s : Shard) → IsRunning log judge shards → i < length shards → s ≡ get_or shards i (opening_shard 0 0) → IsFrontOf s.front log
-front-at log judge shards i s is there here = (reading-at log judge shards i s is there here).front_is
-
--- so it is by a call that reads
+-- a call that reads all that it is given, and one that reads some of it
 reads-all : {X : Type 0} (f : X → Entry) (xs : List X) (count : ℕ) (s new : Shard) → IsFrontOf s.front (map f xs)
     → HasReadSame (having_read_all s (map f (take count (drop (length s.front) xs)))) new → ReadsTo (map f xs) (length s.front + count) s new
 reads-all f xs count s new is reads =
     record { front_is = reads.front_is ∙ read-on f xs s.front count is; shard_is = reads.shard_is; shards_are = reads.shards_are }
 
--- or that reads some of them
 reads-fewer : {X : Type 0} (f : X → Entry) (xs : List X) (count : ℕ) (s new : Shard) → IsFrontOf s.front (map f xs)
     → (some : HasReadSome s (map f (take count (drop (length s.front) xs))) new) → ReadsTo (map f xs) (length s.front + some.read) s new
 reads-fewer f xs count s new is some =
     let fewer : some.read < count = few f (drop (length s.front) xs) count some.read some.fewer in
     record { front_is = some.after_is.front_is ∙ read-fewer f xs s.front count some.read is (omega arith); shard_is = some.after_is.shard_is; shards_are = some.after_is.shards_are }
 
+has-read : {log : List Entry} {judge : Judge} {shards : List Shard} {i : ℕ} {s : Shard} → IsShardAt log judge shards i s → (new : Shard) (p : ℕ) → ReadsTo log p s new → IsRunning log judge (set shards i new)
+has-read {log = log} at new p reads =
+    still-running at new (record { rest = drop p log; whole = sym (take-append-drop p log) ∙ ap (λ (l : List Entry). l ++ drop p log) (sym reads.front_is) }) reads.shard_is reads.shards_are
+
 -- a call that reads, as far as it came
-pub absorbed : {X E : Type 0} (f : X → Entry) (xs : List X) (judge : Judge) (shards : List Shard) (i count : ℕ) (s new : Shard) (r : Result (Unit {0}) E)
-    → IsRunning (map f xs) judge shards → i < length shards → s ≡ get_or shards i (opening_shard 0 0)
+pub absorbed : {X E : Type 0} (f : X → Entry) (xs : List X) (judge : Judge) (shards : List Shard) (i count : ℕ) (s new : Shard) (r : Result (Unit {0}) E) → IsShardAt (map f xs) judge shards i s
     → OnOk r (HasReadSame (having_read_all s (map f (take count (drop (length s.front) xs)))) new)
     → OnErr r (HasReadSome s (map f (take count (drop (length s.front) xs))) new)
     → IsRunning (map f xs) judge (set shards i new)
-absorbed f xs judge shards i count s new (Ok x) is there here ok err =
-    let reads : ReadsTo (map f xs) (length s.front + count) s new = reads-all f xs count s new (front-at (map f xs) judge shards i s is there here) ok in
-    still-running (map f xs) judge shards i new is there
-    (reading-on (map f xs) (length shards) i (length s.front + count) s new (reading-at (map f xs) judge shards i s is there here) reads)
-absorbed f xs judge shards i count s new (Err e) is there here ok err =
-    let reads : ReadsTo (map f xs) (length s.front + err.read) s new = reads-fewer f xs count s new (front-at (map f xs) judge shards i s is there here) err in
-    still-running (map f xs) judge shards i new is there
-    (reading-on (map f xs) (length shards) i (length s.front + err.read) s new (reading-at (map f xs) judge shards i s is there here) reads)
+absorbed f xs judge shards i count s new (Ok x) at ok err = has-read at new (length s.front + count) (reads-all f xs count s new (reading-at at).front_is ok)
+absorbed f xs judge shards i count s new (Err e) at ok err = has-read at new (length s.front + err.read) (reads-fewer f xs count s new (reading-at at).front_is err)
 
--- how many entries a shard has read
-read-at : (shards : List Shard) (i : ℕ) (s : Shard) → i < length shards → s ≡ get_or shards i (opening_shard 0 0) → length s.front ≡ get_or (map (λ s. length s.front) shards) i 0
-read-at shards i s there here = ap (λ (o : Shard). length o.front) here ∙ sym (get_or-map (λ (o : Shard). length o.front) shards i (opening_shard 0 0) 0 there)
-
-pub absorbed-reply : {X : Type 0} (f : X → Entry) (xs : List X) (judge : Judge) (shards : List Shard) (i count : ℕ) (s new : Shard) (r : Result (Unit {0}) AllocError)
-    → IsRunning (map f xs) judge shards → i < length shards → s ≡ get_or shards i (opening_shard 0 0)
+pub absorbed-reply : {X : Type 0} (f : X → Entry) (xs : List X) (judge : Judge) (shards : List Shard) (i count : ℕ) (s new : Shard) (r : Result (Unit {0}) AllocError) → IsShardAt (map f xs) judge shards i s
     → OnOk r (HasReadSame (having_read_all s (map f (take count (drop (length s.front) xs)))) new)
     → OnErr r (HasReadSome s (map f (take count (drop (length s.front) xs))) new)
     → MayReply (record { log = map f xs; read = map (λ s. length s.front) shards }) (Absorb i count) (Absorbed r) (record { log = map f xs; read = map (λ s. length s.front) (set shards i new) })
-absorbed-reply f xs judge shards i count s new (Ok x) is there here ok err =
-    let reads : ReadsTo (map f xs) (length s.front + count) s new = reads-all f xs count s new (front-at (map f xs) judge shards i s is there here) ok in
-    inl (record {
-      reply_is = refl;
-      next_is = ap (λ (l : List ℕ). record { log = map f xs; read = l }) (read-set (map f xs) shards i (length s.front + count) s new reads
-          ∙ ap (λ n. set (map (λ (s : Shard). length s.front) shards) i (min (n + count) (length (map f xs)))) (read-at shards i s there here));
-    })
-absorbed-reply f xs judge shards i count s new (Err e) is there here ok err =
-    let reads : ReadsTo (map f xs) (length s.front + err.read) s new = reads-fewer f xs count s new (front-at (map f xs) judge shards i s is there here) err in
+absorbed-reply f xs judge shards i count s new (Ok x) at ok err =
+    inl (record { reply_is = refl; next_is = ap (λ (l : List ℕ). record { log = map f xs; read = l }) (next-read at new count (reads-all f xs count s new (reading-at at).front_is ok)) })
+absorbed-reply f xs judge shards i count s new (Err e) at ok err =
     inr (
       refl,
       record {
         read = err.read;
-        fewer = subst (λ n. err.read < n)
-            (ap length (next-few f xs (length s.front) count ∙ ap (λ n. take count (drop n (map f xs))) (read-at shards i s there here))) err.fewer;
-        next_is = ap (λ (l : List ℕ). record { log = map f xs; read = l }) (read-set (map f xs) shards i (length s.front + err.read) s new reads
-            ∙ ap (λ n. set (map (λ (s : Shard). length s.front) shards) i (min (n + err.read) (length (map f xs)))) (read-at shards i s there here));
+        fewer = subst (λ n. err.read < n) (ap length (next-few f xs (length s.front) count ∙ ap (λ n. take count (drop n (map f xs))) (read-at at))) err.fewer;
+        next_is = ap (λ (l : List ℕ). record { log = map f xs; read = l }) (next-read at new err.read (reads-fewer f xs count s new (reading-at at).front_is err));
       },
     )
 
 -- a shard has read no more than there is
-pub reads-within : {X : Type 0} (f : X → Entry) (xs : List X) (judge : Judge) (shards : List Shard) (i : ℕ) (s : Shard) → IsRunning (map f xs) judge shards → i < length shards
-    → s ≡ get_or shards i (opening_shard 0 0) → length s.front ≤ length xs
-reads-within f xs judge shards i s is there here =
-    let front = front-at (map f xs) judge shards i s is there here in
+pub reads-within : {X : Type 0} (f : X → Entry) (xs : List X) (judge : Judge) (shards : List Shard) (i : ℕ) (s : Shard) → IsShardAt (map f xs) judge shards i s → length s.front ≤ length xs
+reads-within f xs judge shards i s at =
+    let front = (reading-at at).front_is in
     omega (arith, ap length front.whole, length-append s.front front.rest, length-map xs f)
 
 -- the entries that a shard is to read come next in the log
-pub next-legal : {X : Type 0} (f : X → Entry) (xs : List X) (judge : Judge) (shards : List Shard) (i count : ℕ) (s : Shard)
-    → IsRunning (map f xs) judge shards → i < length shards → s ≡ get_or shards i (opening_shard 0 0)
+pub next-legal : {X : Type 0} (f : X → Entry) (xs : List X) (judge : Judge) (shards : List Shard) (i count : ℕ) (s : Shard) → IsShardAt (map f xs) judge shards i s
     → is_legal (s.front ++ map f (take count (drop (length s.front) xs))) ≡ true
-next-legal f xs judge shards i count s is there here =
-    ap is_legal (read-on f xs s.front count (front-at (map f xs) judge shards i s is there here))
-    ∙ legal-take (length s.front + count) (map f xs) is.judge_is.legal
+next-legal f xs judge shards i count s at =
+    ap is_legal (read-on f xs s.front count (reading-at at).front_is) ∙ legal-take (length s.front + count) (map f xs) at.running.judge_is.legal
 
 -- ---- a shard is asked
 
 -- the group is one of the shard's own
-pub own-at : (log : List Entry) (judge : Judge) (shards : List Shard) (pg : PgId) (k : ℕ) (s : Shard) → IsRunning log judge shards → k ≡ shard_of (length shards) pg → k < length shards
-    → s ≡ get_or shards k (opening_shard 0 0) → is_own s.shard s.shards pg ≡ true
-own-at log judge shards pg k s is number there here =
-    let reads : IsReading log (length shards) k s = reading-at log judge shards k s is there here in
+pub own-at : {log : List Entry} {judge : Judge} {shards : List Shard} {k : ℕ} {s : Shard} → IsShardAt log judge shards k s → (pg : PgId) → k ≡ shard_of (length shards) pg → is_own s.shard s.shards pg ≡ true
+own-at {s = s} at pg number =
+    let reads = reading-at at in
     eq-eqb (shard_of s.shards pg) s.shard (ap (λ n. shard_of n pg) reads.shards_are ∙ sym number ∙ sym reads.shard_is)
 
 -- it has read the same
-pub still-asked : (log : List Entry) (judge : Judge) (shards : List Shard) (k : ℕ) (s new : Shard) → IsRunning log judge shards → k < length shards → s ≡ get_or shards k (opening_shard 0 0)
-    → HasReadSame s new → IsRunning log judge (set shards k new)
-still-asked log judge shards k s new is there here same =
-    let reads : IsReading log (length shards) k s = reading-at log judge shards k s is there here in
-    still-running log judge shards k new is there (record {
-      front_is = subst (λ (front : List Entry). IsFrontOf front log) (sym same.front_is) reads.front_is;
-      shard_is = same.shard_is ∙ reads.shard_is;
-      shards_are = same.shards_are ∙ reads.shards_are;
-    })
+pub still-asked : {log : List Entry} {judge : Judge} {shards : List Shard} {k : ℕ} {s : Shard} → IsShardAt log judge shards k s → (new : Shard) → HasReadSame s new → IsRunning log judge (set shards k new)
+still-asked {log = log} at new same =
+    still-running at new (subst (λ (front : List Entry). IsFrontOf front log) (sym same.front_is) (reading-at at).front_is) same.shard_is same.shards_are
 
 -- what the group's shard has read
-asked-front : (log : List Entry) (judge : Judge) (shards : List Shard) (pg : PgId) (k : ℕ) (s : Shard) → IsRunning log judge shards → k ≡ shard_of (length shards) pg → k < length shards
-    → s ≡ get_or shards k (opening_shard 0 0) → front_of (record { log = log; read = map (λ s. length s.front) shards }) pg ≡ s.front
-asked-front log judge shards pg k s is number there here =
-    let front = front-at log judge shards k s is there here in
+asked-front : (log : List Entry) (judge : Judge) (shards : List Shard) (pg : PgId) (k : ℕ) (s : Shard) → IsShardAt log judge shards k s → k ≡ shard_of (length shards) pg
+    → front_of (record { log = log; read = map (λ s. length s.front) shards }) pg ≡ s.front
+asked-front log judge shards pg k s at number =
+    let front = (reading-at at).front_is in
     ap (λ n. take (get_or (map (λ (s : Shard). length s.front) shards) (shard_of n pg) 0) log) (length-map shards (λ (s : Shard). length s.front))
     ∙ ap (λ j. take (get_or (map (λ (s : Shard). length s.front) shards) j 0) log) (sym number)
-    ∙ ap (λ n. take n log) (sym (read-at shards k s there here))
+    ∙ ap (λ n. take n log) (sym (read-at at))
     ∙ ap (take (length s.front)) front.whole ∙ take-front s.front front.rest
 
 asked : (w : World) (pg : PgId) (front : List Entry) (r : Result View AskRefusal) → front_of w pg ≡ front → IfOk r (λ view. scratch front pg ≡ Some view)
@@ -258,11 +231,10 @@ asked w pg front (Err UnknownGroup) is ok unknown wants =
     inl (record { reply_is = ap Asked (sym (ap (λ (l : List Entry). view_reply (scratch l pg)) is ∙ ap view_reply none)); next_is = refl })
 asked w pg front (Err Memory) is ok unknown wants = inr (refl, (refl, subst HasInc (sym is) (wants refl)))
 
-pub asked-reply : (log : List Entry) (judge : Judge) (shards : List Shard) (pg : PgId) (k : ℕ) (s new : Shard) (r : Result View AskRefusal) → IsRunning log judge shards
-    → k ≡ shard_of (length shards) pg → k < length shards → s ≡ get_or shards k (opening_shard 0 0) → HasReadSame s new
+pub asked-reply : (log : List Entry) (judge : Judge) (shards : List Shard) (pg : PgId) (k : ℕ) (s new : Shard) (r : Result View AskRefusal) → IsShardAt log judge shards k s → k ≡ shard_of (length shards) pg → HasReadSame s new
     → IfOk r (λ view. scratch s.front pg ≡ Some view) → (r ≡ Err UnknownGroup → has_group (incs_of s.front) pg ≡ false) → (r ≡ Err Memory → HasInc s.front)
     → MayReply (record { log = log; read = map (λ s. length s.front) shards }) (Ask pg) (Asked r) (record { log = log; read = map (λ s. length s.front) (set shards k new) })
-asked-reply log judge shards pg k s new r is number there here same ok unknown wants =
+asked-reply log judge shards pg k s new r at number same ok unknown wants =
     let kept : map (λ (s : Shard). length s.front) (set shards k new) ≡ map (λ (s : Shard). length s.front) shards =
-    map-set_same (λ (s : Shard). length s.front) shards k new (opening_shard 0 0) (ap length (same.front_is ∙ ap (λ (o : Shard). o.front) here)) in
-    rw kept (asked (record { log = log; read = map (λ s. length s.front) shards }) pg s.front r (asked-front log judge shards pg k s is number there here) ok unknown wants)
+    map-set_same (λ (s : Shard). length s.front) shards k new s (ap length (same.front_is ∙ ap (λ (o : Shard). o.front) at.here)) in
+    rw kept (asked (record { log = log; read = map (λ s. length s.front) shards }) pg s.front r (asked-front log judge shards pg k s at number) ok unknown wants)

@@ -2,6 +2,8 @@
 use Rattle.std.proofs.Common.{◌≡◌, ℕ, ◌+◌, ◌<◌, List, [], ◌∷◌, ◌++◌, Bool, true, false, not, cond, Option, length, get_or, map, take, refl, ap, sym, ◌∙◌, arith}
 use Rattle.std.specs.List.{filter, list_any}
 use Rattle.std.specs.Option.{option_map_or}
+use Rattle.std.proofs.lemmas.Bool.{cases_Bool}
+use Rattle.std.proofs.lemmas.Bool.Decides.{nat_tests}
 use Rattle.std.proofs.lemmas.List.{length-map, take-map}
 use Rattle.pgp_ids.specs.declared.entry.Entry.{Entry}
 use Rattle.pgp_ids.specs.declared.pg_id.PgId.{PgId}
@@ -34,10 +36,7 @@ read-some s before after f xs i within was same = record {
 -- of those that fail the test none passes
 none-left : {X : Type 0} (p : X → Bool) (xs : List X) → list_any p (filter (λ x. not (p x)) xs) ≡ false
 none-left p [] = refl
-none-left p (x ∷ xs) = at (p x) refl (none-left p xs) where
-  at : (b : Bool) → p x ≡ b → list_any p (filter (λ y. not (p y)) xs) ≡ false → list_any p (cond (not (p x)) (x ∷ filter (λ y. not (p y)) xs) (filter (λ y. not (p y)) xs)) ≡ false
-  at true is rest = rw is rest
-  at false is rest = rw is (rw is rest)
+none-left p (x ∷ xs) = grind (arith, nat_tests, none-left p xs, cases_Bool (p x))
 
 -- a group whose mark was taken away isn't marked
 pub unmarked-now : (pg : PgId) (before after : Shard) → IsUnmarked pg before after → is_marked after pg ≡ false

@@ -1,7 +1,8 @@
 -- What one entry more does to a log.
 use Rattle.std.proofs.Common.{◌≡◌, ◌<◌, ◌≤◌, inl, inr, length-append, append-nil, List, [], ◌∷◌, ◌++◌, Bool, true, false, Option, Some, None, IfSome, length, nat_le, if◌then◌else◌, refl, sym, ap, ◌∙◌, arith}
 use Rattle.std.specs.Option.{option_map, option_or}
-use Rattle.std.proofs.lemmas.Bool.Decides.{leb_tells}
+use Rattle.std.proofs.lemmas.Bool.{cases_Bool}
+use Rattle.std.proofs.lemmas.Bool.Decides.{leb_tells, nat_tests}
 use Rattle.std.proofs.lemmas.List.Elements.{filter_map-append}
 use Rattle.std.proofs.Math.Bool.{or-false}
 use Rattle.pgp_lists.proofs.Options.{if_none}
@@ -39,12 +40,10 @@ epoch-other log new none = ap epoch (incs-other log new none)
 -- ---- what fits
 
 none_left : (a b : Option Refusal) → option_or a b ≡ None → a ≡ None
-none_left None b none = refl
-none_left (Some r) b none = cc
+none_left a b none = grind arith
 
 none_right : (a b : Option Refusal) → option_or a b ≡ None → b ≡ None
-none_right None b none = none
-none_right (Some r) b none = cc
+none_right a b none = grind arith
 
 pub fits-open_log : (log : List Entry) (new : Entry) → fits log new ≡ None → is_closed log ≡ false
 fits-open_log log new fit = (if_none (is_closed log) refusal.Closed _ fit).0
@@ -56,32 +55,25 @@ pub fits-faultless : (log : List Entry) (new : Entry) → fits log new ≡ None 
 fits-faultless log new fit = none_left (entry_fault log new) (full_fault log new) (open_fits log new fit)
 
 no_map_fault : (fault : Option MapFault) → option_map refusal_of fault ≡ None → fault ≡ None
-no_map_fault None none = refl
-no_map_fault (Some fault) none = cc
+no_map_fault fault none = grind arith
 
 pub faultless-inc : (log : List Entry) (new : Entry) (inc : Incremental) → inc_of new ≡ Some inc → entry_fault log new ≡ None → map_fault (incs_of log) inc ≡ None
 faultless-inc log (entry.Inc other) inc some none =
     let same : other ≡ inc = cc in
     no_map_fault (map_fault (incs_of log) inc) (ap (λ inc. option_map refusal_of (map_fault (incs_of log) inc)) (sym same) ∙ none)
-faultless-inc log (entry.Info info) inc some none = cc
-faultless-inc log (entry.Entries report) inc some none = cc
-faultless-inc log entry.Close inc some none = cc
+faultless-inc log new inc some none = cc
 
 -- ---- a log that takes an entry
 
 pub closed-push : (log : List Entry) (new : Entry) → is_closed log ≡ false → is_closed (log ++ new ∷ []) ≡ is_close new
 closed-push [] new opened = or-false (is_close new)
-closed-push (entry.Inc inc ∷ log) new opened = closed-push log new opened
-closed-push (entry.Info info ∷ log) new opened = closed-push log new opened
-closed-push (entry.Entries report ∷ log) new opened = closed-push log new opened
 closed-push (entry.Close ∷ log) new opened = cc
+closed-push (other ∷ log) new opened = closed-push log new opened
 
 not_full : (log : List Entry) (new : Entry) → full_fault log new ≡ None → is_close new ≡ false → nat_le 65535 (length log) ≡ false
 not_full log new none other = at (is_close new) (nat_le 65535 (length log)) other none where
   at : (close full : Bool) → close ≡ false → (if close then None else (if full then Some refusal.LogFull else None)) ≡ None → full ≡ false
-  at true full other none = cc
-  at false true other none = cc
-  at false false other none = refl
+  at close full other none = grind (arith, nat_tests, cases_Bool full)
 
 pub room-push : (log : List Entry) (new : Entry) → fits log new ≡ None → is_close new ≡ false → length (log ++ new ∷ []) ≤ 65535
 room-push log new fit other =
@@ -94,13 +86,9 @@ pub checked-push : (log : List Entry) (new : Entry) → are_checked (incs_of log
     → are_checked (incs_of (log ++ new ∷ [])) ≡ true
 checked-push log (entry.Inc inc) checked none =
     ap are_checked (incs-inc log (entry.Inc inc) inc refl) ∙ checked-more (incs_of log) inc checked (faultless-inc log (entry.Inc inc) inc refl none)
-checked-push log (entry.Info info) checked none = ap are_checked (incs-other log (entry.Info info) refl) ∙ checked
-checked-push log (entry.Entries report) checked none = ap are_checked (incs-other log (entry.Entries report) refl) ∙ checked
-checked-push log entry.Close checked none = ap are_checked (incs-other log entry.Close refl) ∙ checked
+checked-push log new checked none = ap are_checked (incs-other log new refl) ∙ checked
 
 -- the tree that the entry gives, if it is an incremental that gives one, has no fault
 pub faultless-tree : (log : List Entry) (new : Entry) → entry_fault log new ≡ None → IfSome (inc_of new) (λ inc. given_fault inc.crush ≡ None)
 faultless-tree log (entry.Inc inc) none = (no_fault (incs_of log) inc (faultless-inc log (entry.Inc inc) inc refl none)).tree
-faultless-tree log (entry.Info info) none = tt
-faultless-tree log (entry.Entries report) none = tt
-faultless-tree log entry.Close none = tt
+faultless-tree log new none = tt

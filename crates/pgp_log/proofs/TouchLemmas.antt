@@ -2,9 +2,10 @@
 use Rattle.std.proofs.Common.{◌≡◌, ℕ, List, [], ◌∷◌, ◌++◌, inl, inr, Bool, true, false, not, ◌||◌, ◌&&◌, Option, Some, None, IfSome, is_some, map, length, refl, sym, ap, ◌∙◌, arith}
 use Rattle.std.specs.List.{list_any}
 use Rattle.std.specs.Prelude.{nat_eq, nat_lt, is_none, ◌==◌}
-use Rattle.std.proofs.lemmas.Bool.{and_parts, cases_Bool, or_parts, true≢false}
+use Rattle.std.proofs.lemmas.Bool.{not-false, not-true, or_parts, true_from_ne_false, true≢false}
 use Rattle.std.proofs.lemmas.Bool.Decides.{nat_tests}
 use Rattle.std.proofs.lemmas.List.Folds.{list_any-append}
+use Rattle.pgp_lists.proofs.Bools.{and3_parts}
 use Rattle.pgp_ids.specs.declared.entry.Entry.{Entry}
 use Rattle.pgp_ids.specs.declared.entry.Entry.TheVariants as entry
 use Rattle.pgp_ids.specs.declared.incremental.DeviceEpoch.{DeviceEpoch}
@@ -73,10 +74,8 @@ kept-stays log inc before after old step is untouched =
 
 -- one that may move the group touches it
 pub moves-touches : (log : List Entry) (inc : Incremental) (pg : PgId) → may_move (incs_of log) inc pg ≡ true → is_touched log (entry.Inc inc) pg ≡ true
-moves-touches log inc pg moved = elim (cases_Bool (is_touched log (entry.Inc inc) pg)) [
-  | inl touched ↦ touched
-  | inr untouched ↦ absurd (true≢false (sym moved ∙ untouched-unmoved log inc pg untouched))
-]
+moves-touches log inc pg moved =
+    true_from_ne_false (is_touched log (entry.Inc inc) pg) (λ untouched. true≢false (sym moved ∙ untouched-unmoved log inc pg untouched))
 
 -- ---- an incremental that changes the epoch alone
 
@@ -84,44 +83,32 @@ empty-list : {X : Type 0} (xs : List X) → (length xs == 0) ≡ true → xs ≡
 empty-list [] none = refl
 empty-list (x ∷ xs) none = grind (arith, nat_tests)
 
-pub not_true : (b : Bool) → not b ≡ true → b ≡ false
-not_true true is = cc
-not_true false is = refl
+-- an incremental that makes no pool and changes none
+no-pools : (inc : Incremental) → changes_no_pool inc ≡ true → (inc.pools ≡ []) × (inc.sizes ≡ []) × (inc.temp ≡ [])
+no-pools inc none =
+    let parts = and3_parts (length inc.pools == 0) (length inc.sizes == 0) (length inc.temp == 0) none in
+    (empty-list inc.pools parts.0, empty-list inc.sizes parts.1, empty-list inc.temp parts.2)
 
-not_false : (b : Bool) → not b ≡ false → b ≡ true
-not_false true is = refl
-not_false false is = cc
+-- or that turns no device
+none-turned : (inc : Incremental) → turns_none inc ≡ true → (inc.up ≡ []) × (inc.down ≡ []) × (inc.gone ≡ [])
+none-turned inc none =
+    let parts = and3_parts (length inc.up == 0) (length inc.down == 0) (length inc.gone == 0) none in
+    (empty-list inc.up parts.0, empty-list inc.down parts.1, empty-list inc.gone parts.2)
 
 pub nothing-touched : (log : List Entry) (inc : Incremental) (pg : PgId) → changes_nothing inc ≡ true → is_touched log (entry.Inc inc) pg ≡ false
 nothing-touched log inc pg nothing =
-    let a = and_parts (not (moves_all inc) && changes_no_pool inc) (tells_nothing inc) nothing in
-    let b = and_parts (not (moves_all inc)) (changes_no_pool inc) a.0 in
-    let large : moves_all inc ≡ false = not_true (moves_all inc) b.0 in
-    let c = and_parts ((length inc.pools == 0) && (length inc.sizes == 0)) (length inc.temp == 0) b.1 in
-    let d = and_parts (length inc.pools == 0) (length inc.sizes == 0) c.0 in
-    let e = and_parts (turns_none inc && (length inc.up_thru == 0)) (length inc.lost == 0) a.1 in
-    let f = and_parts (turns_none inc) (length inc.up_thru == 0) e.0 in
-    let g = and_parts ((length inc.up == 0) && (length inc.down == 0)) (length inc.gone == 0) f.0 in
-    let h = and_parts (length inc.up == 0) (length inc.down == 0) g.0 in
-    rw (
-      large,
-      empty-list inc.pools d.0,
-      empty-list inc.sizes d.1,
-      empty-list inc.temp c.1,
-      empty-list inc.up h.0,
-      empty-list inc.down h.1,
-      empty-list inc.gone g.1,
-      empty-list inc.up_thru f.1,
-      empty-list inc.lost e.1,
-    ) refl
+    let all = and3_parts (not (moves_all inc)) (changes_no_pool inc) (tells_nothing inc) nothing in
+    let told = and3_parts (turns_none inc) (length inc.up_thru == 0) (length inc.lost == 0) all.2 in
+    let pools = no-pools inc all.1 in
+    let turned = none-turned inc told.0 in
+    rw (not-true (moves_all inc) all.0, pools.0, pools.1, pools.2, turned.0, turned.1, turned.2, empty-list inc.up_thru told.1, empty-list inc.lost told.2) refl
 
 -- an incremental that changes no placement at all changes that of no group
 pub nothing-placed : (inc : Incremental) (pg : PgId) → changes_placements inc ≡ false → (moves_all inc || changes_pool inc pg.pool || changes_temp inc pg) ≡ false
 nothing-placed inc pg none =
-    let a = or_parts (moves_all inc) (not (changes_no_pool inc)) none in
-    let c = and_parts ((length inc.pools == 0) && (length inc.sizes == 0)) (length inc.temp == 0) (not_false (changes_no_pool inc) a.1) in
-    let d = and_parts (length inc.pools == 0) (length inc.sizes == 0) c.0 in
-    rw (a.0, empty-list inc.pools d.0, empty-list inc.sizes d.1, empty-list inc.temp c.1) refl
+    let both = or_parts (moves_all inc) (not (changes_no_pool inc)) none in
+    let pools = no-pools inc (not-false (changes_no_pool inc) both.1) in
+    rw (both.0, pools.0, pools.1, pools.2) refl
 
 -- ---- with which devices the group has to do
 
@@ -143,19 +130,11 @@ pub turned-parts : (test : ℕ → Bool) (inc : Incremental) → (list_any test 
 turned-parts test inc =
     sym (list_any-append test (inc.up ++ inc.down) inc.gone ∙ ap (λ b. b || list_any test inc.gone) (list_any-append test inc.up inc.down))
 
-turned-none : (test : ℕ → Bool) (inc : Incremental) → turns_none inc ≡ true → list_any test (turned_devices inc) ≡ false
-turned-none test inc none =
-    let a = and_parts ((length inc.up == 0) && (length inc.down == 0)) (length inc.gone == 0) none in
-    let b = and_parts (length inc.up == 0) (length inc.down == 0) a.0 in
-    rw (empty-list inc.up b.0, empty-list inc.down b.1, empty-list inc.gone a.1) refl
-
 -- ---- an incremental that moves no group
 
 pub none-moved : (incs : List Incremental) (inc : Incremental) (pg : PgId) → moves_none inc ≡ true → may_move incs inc pg ≡ false
 none-moved incs inc pg none =
-    let a = and_parts (not (moves_all inc) && changes_no_pool inc) (turns_none inc) none in
-    let b = and_parts (not (moves_all inc)) (changes_no_pool inc) a.0 in
-    let large : moves_all inc ≡ false = not_true (moves_all inc) b.0 in
-    let c = and_parts ((length inc.pools == 0) && (length inc.sizes == 0)) (length inc.temp == 0) b.1 in
-    let d = and_parts (length inc.pools == 0) (length inc.sizes == 0) c.0 in
-    rw (large, turned-none (may_lie_on incs pg) inc a.1, empty-list inc.pools d.0, empty-list inc.sizes d.1, empty-list inc.temp c.1) refl
+    let all = and3_parts (not (moves_all inc)) (changes_no_pool inc) (turns_none inc) none in
+    let pools = no-pools inc all.1 in
+    let turned = none-turned inc all.2 in
+    rw (not-true (moves_all inc) all.0, pools.0, pools.1, pools.2, turned.0, turned.1, turned.2) refl

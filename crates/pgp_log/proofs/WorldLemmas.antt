@@ -22,15 +22,13 @@ submit-legal w new (Some refused) fit legal = legal
 
 pub step-legal : (w : World) (step : Step) → is_legal w.log ≡ true → is_legal (after w step).log ≡ true
 step-legal w (Submit new) legal = submit-legal w new (fits w.log new) refl legal
-step-legal w (Absorb shard count) legal = legal
-step-legal w (Ask pg) legal = legal
+step-legal w step legal = legal
 
 -- ---- a step that may want memory
 
 wanting-legal : (w next : World) (step : Step) (reply : Reply) → IsWanting w step reply next → is_legal w.log ≡ true → is_legal next.log ≡ true
-wanting-legal w next (Submit new) reply is legal = ap (λ (v : World). is_legal v.log) is.1.0 ∙ legal
 wanting-legal w next (Absorb shard count) reply is legal = ap (λ (v : World). is_legal v.log) is.1.next_is ∙ legal
-wanting-legal w next (Ask pg) reply is legal = ap (λ (v : World). is_legal v.log) is.1.0 ∙ legal
+wanting-legal w next step reply is legal = ap (λ (v : World). is_legal v.log) is.1.0 ∙ legal
 
 reply-legal : (w next : World) (step : Step) (reply : Reply) → MayReply w step reply next → is_legal w.log ≡ true → is_legal next.log ≡ true
 reply-legal w next step reply (inl is) legal = ap (λ (v : World). is_legal v.log) is.next_is ∙ step-legal w step legal
@@ -39,8 +37,7 @@ reply-legal w next step reply (inr is) legal = wanting-legal w next step reply i
 -- what it wants of memory, it says
 wanting-says : (w next : World) (step : Step) (reply : Reply) → IsWanting w step reply next → is_want reply ≡ true
 wanting-says w next (Submit new) reply is = ap is_want is.0
-wanting-says w next (Absorb shard count) reply is = ap is_want is.0
-wanting-says w next (Ask pg) reply is = ap is_want is.0
+wanting-says w next step reply is = ap is_want is.0
 
 -- the log grows by what it says to have taken
 submit-log : (w : World) (new : Entry) (why : Option Refusal) → (after_submit w new why).log ≡ w.log ++ taken_at (Submit new) (Submitted (submit_reply w why))
@@ -49,8 +46,7 @@ submit-log w new (Some refused) = sym (append-nil w.log)
 
 step-log : (w : World) (step : Step) → (after w step).log ≡ w.log ++ taken_at step (reply_to w step)
 step-log w (Submit new) = submit-log w new (fits w.log new)
-step-log w (Absorb shard count) = sym (append-nil w.log)
-step-log w (Ask pg) = sym (append-nil w.log)
+step-log w step = sym (append-nil w.log)
 
 wanting-log : (w next : World) (step : Step) (reply : Reply) → IsWanting w step reply next → next.log ≡ w.log ++ taken_at step reply
 wanting-log w next (Submit new) reply is = ap (λ (v : World). v.log) is.1.0 ∙ sym (append-nil w.log) ∙ ap (λ r. w.log ++ taken_at (Submit new) r) (sym is.0)
@@ -65,17 +61,15 @@ reply-log w next step reply (inr is) = wanting-log w next step reply is
 
 pub run-legal : (w last : World) (steps : List Step) (given : List Reply) → MayRun w steps given last → is_legal w.log ≡ true → is_legal last.log ≡ true
 run-legal w last [] [] is legal = ap (λ (v : World). is_legal v.log) is ∙ legal
-run-legal w last [] (reply ∷ given) is legal = absurd is
-run-legal w last (step ∷ steps) [] is legal = absurd is
 run-legal w last (step ∷ steps) (reply ∷ given) is legal = run-legal is.0 last steps given is.1.1 (reply-legal w is.0 step reply is.1.0 legal)
+run-legal w last steps given is legal = absurd is
 
 pub run-log : (w last : World) (steps : List Step) (given : List Reply) → MayRun w steps given last → last.log ≡ w.log ++ taken_of steps given
 run-log w last [] [] is = ap (λ (v : World). v.log) is ∙ sym (append-nil w.log)
-run-log w last [] (reply ∷ given) is = absurd is
-run-log w last (step ∷ steps) [] is = absurd is
 run-log w last (step ∷ steps) (reply ∷ given) is =
     run-log is.0 last steps given is.1.1 ∙ ap (λ l. l ++ taken_of steps given) (reply-log w is.0 step reply is.1.0)
     ∙ append_assoc w.log (taken_at step reply) (taken_of steps given)
+run-log w last steps given is = absurd is
 
 taken_if : (w next : World) (step : Step) (reply : Reply) → MayReply w step reply next → is_want reply ≡ false → IsTaken w step reply next
 taken_if w next step reply (inl is) other = is
@@ -84,8 +78,6 @@ taken_if w next step reply (inr is) other = absurd (true≢false (sym (wanting-s
 pub run-answers : (w last : World) (steps : List Step) (given : List Reply) → MayRun w steps given last → list_any is_want given ≡ false
     → (given ≡ replies w steps) × (last ≡ after_all w steps)
 run-answers w last [] [] is other = (refl, is)
-run-answers w last [] (reply ∷ given) is other = absurd is
-run-answers w last (step ∷ steps) [] is other = absurd is
 run-answers w last (step ∷ steps) (reply ∷ given) is other =
     let parts = or_parts (is_want reply) (list_any is_want given) other in
     let first : IsTaken w step reply is.0 = taken_if w is.0 step reply is.1.0 parts.0 in
@@ -93,6 +85,7 @@ run-answers w last (step ∷ steps) (reply ∷ given) is other =
       ap₂ (λ (r : Reply) (l : List Reply). r ∷ l) first.reply_is (rest.0 ∙ ap (λ (v : World). replies v steps) first.next_is),
       rest.1 ∙ ap (λ (v : World). after_all v steps) first.next_is,
     )
+run-answers w last steps given is other = absurd is
 
 -- ---- what was done in a run
 
@@ -160,8 +153,6 @@ reply_does w next step reply (inr is) = wanting_does w next step reply is
 
 pub run-done : (w last : World) (steps : List Step) (given : List Reply) → MayRun w steps given last → IsDone w steps given last
 run-done w last [] [] is = record { reads = []; each = refl; fewer = tt; replies_are = refl; last_is = is }
-run-done w last [] (reply ∷ given) is = absurd is
-run-done w last (step ∷ steps) [] is = absurd is
 run-done w last (step ∷ steps) (reply ∷ given) is =
     let does = reply_does w is.0 step reply is.1.0 in
     let rest = run-done is.0 last steps given is.1.1 in
@@ -174,3 +165,4 @@ run-done w last (step ∷ steps) (reply ∷ given) is =
       replies_are = ap₂ (λ (a b : List Reply). a ++ b) does.told (rest.replies_are ∙ ap (λ (v : World). replies v later) does.next_is) ∙ sym (replies-append w first later);
       last_is = rest.last_is ∙ ap (λ (v : World). after_all v later) does.next_is ∙ sym (after_all-append w first later);
     }
+run-done w last steps given is = absurd is

@@ -1,4 +1,4 @@
-use Rattle.std.proofs.Common.{◌≡◌, ◌<◌, List, [], ◌∷◌, ◌++◌, Some, true, set, length, refl, sym, ap, ◌∙◌, subst, inl, inr, arith}
+use Rattle.std.proofs.Common.{◌≡◌, ◌+◌, ◌<◌, List, [], ◌∷◌, ◌++◌, Some, true, set, length, refl, sym, ap, ◌∙◌, subst, inl, inr, arith}
 use Rattle.std.specs.Prelude.{slice_get}
 use Rattle.std.proofs.lemmas.Bool.{cases_lt}
 use Rattle.std.proofs.lemmas.List.Elements.{All-get_or, All-set}
@@ -12,7 +12,7 @@ use Rattle.pgp_log.specs.declared.row.Row.{Row}
 use Rattle.pgp_log.proofs.GroupsLemmas.{ids-set}
 use Rattle.pgp_log.proofs.MarksLemmas.{marks-set}
 use Rattle.pgp_log.proofs.RawSetLemmas.{same_group}
-use Rattle.pgp_log.proofs.RowLemmas.{passed-stays, rows-set}
+use Rattle.pgp_log.proofs.RowLemmas.{each-set, passed-stays, rows-set}
 use Rattle.pgp_log.proofs.groups.absorb_inc.Goals as goal
 use Rattle.pgp_log.proofs.groups.absorb_inc.Goals.{then-not-is_passed_by+in_ok-absorb_inc, else-not-is_passed_by}
 
@@ -46,14 +46,10 @@ loop-place-preserved c =
           let same_pg : new.pg ≡ item.pg = w.absorb_inc.ensures.pg ∙ ap (λ (k : KeptGroup). k.pg) (sym w.index-groups-place.is) in
           rw (w.groups-is, w.rows-is) (record {
             rows = rows-set rows groups i w.row.result new within w.row.ensures c.loop-place.invariant.rows;
-            done = λ log are step place kept below there. elim (cases_lt place i) [
-              | inl earlier ↦ c.loop-place.invariant.done log are step place kept earlier (sym (get-set_other groups i place new (λ same. omega arith)) ∙ there)
-              | inr past ↦
-                  let here : place ≡ i = omega arith in
-                  let same : new ≡ kept = same_Some new kept (sym (get-set_same groups i new within) ∙ ap (slice_get (set groups i new)) (sym here) ∙ there) in
-                  subst (IsKeptOf (log ++ entry.Inc c.args.inc.now ∷ [])) same
-                  (w.in_ok-absorb_inc.ensures.ok log (subst (IsKeptOf log) w.index-groups-place.is (are.each i item first)) step)
-            ];
+            done = λ log are step place kept below there.
+                each-set (λ j k. j < i + 1 → IsKeptOf (log ++ entry.Inc c.args.inc.now ∷ []) k) groups i new within
+                (λ here. w.in_ok-absorb_inc.ensures.ok log (subst (IsKeptOf log) w.index-groups-place.is (are.each i item first)) step)
+                (λ j k other at below. c.loop-place.invariant.done log are step j k (omega (arith, below, other)) at) place kept there below;
             marks = λ log are step pg untouched.
                 marks-set groups i item new pg at same_pg
                 (λ same. w.in_ok-absorb_inc.ensures.marks log (subst (IsKeptOf log) w.index-groups-place.is (are.each i item first)) step

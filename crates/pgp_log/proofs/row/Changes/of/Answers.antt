@@ -1,13 +1,21 @@
-use Rattle.std.proofs.Common.{nat_eq, ap, ◌∙◌}
-use Rattle.std.specs.List.{list_any}
-use Rattle.pgp_log.proofs.RowLemmas.{changes-are}
+use Rattle.std.proofs.Common.{nat_eq, ◌∙◌}
+use Rattle.pgp_log.proofs.RowLemmas.{either-in}
+use Rattle.pgp_log.proofs.TouchLemmas.{changed-parts, turned-parts}
 use Rattle.pgp_log.proofs.row.Changes.of.Goals as goal
 
 pub returns : goal.returns
-returns c =
-    changes-are c.args.inc.now c.changes_placements.result c.add_all.new.self c.add_all-2.new.self c.add_all-3.new.self c.add_told.new.self c.add_told-2.new.self c.changes_placements.ensures
-    (λ osd has. c.add_all.ensures.there osd (ap (list_any (nat_eq osd)) c.as_slice.ensures ∙ has)) c.add_all-2.ensures.still
-    (λ osd has. c.add_all-2.ensures.there osd (ap (list_any (nat_eq osd)) c.as_slice-2.ensures ∙ has)) c.add_all-3.ensures.still
-    (λ osd has. c.add_all-3.ensures.there osd (ap (list_any (nat_eq osd)) c.as_slice-3.ensures ∙ has)) c.add_told.ensures.still
-    (λ osd has. c.add_told.ensures.there osd (ap (list_any (λ told. nat_eq osd told.osd)) c.as_slice-4.ensures ∙ has)) c.add_told-2.ensures.still
-    (λ osd has. c.add_told-2.ensures.there osd (ap (list_any (λ told. nat_eq osd told.osd)) c.as_slice-5.ensures ∙ has))
+returns c = record {
+  places = c.changes_placements.ensures;
+  turned = λ osd there.
+      either-in _ _ _ _ (either-in _ _ _ _
+      (rw c.as_slice.ensures at c.add_all.ensures.there) c.add_all-2.ensures.still
+      (rw c.as_slice-2.ensures at c.add_all-2.ensures.there)) c.add_all-3.ensures.still
+      (rw c.as_slice-3.ensures at c.add_all-3.ensures.there) osd (turned-parts (nat_eq osd) c.args.inc.now ∙ there);
+  devices = λ osd there.
+      either-in _ _ _ _ (either-in _ _ _ _ (either-in _ _ _ _ (either-in _ _ _ _
+      (rw c.as_slice.ensures at c.add_all.ensures.there) c.add_all-2.ensures.still
+      (rw c.as_slice-2.ensures at c.add_all-2.ensures.there)) c.add_all-3.ensures.still
+      (rw c.as_slice-3.ensures at c.add_all-3.ensures.there)) c.add_told.ensures.still
+      (rw c.as_slice-4.ensures at c.add_told.ensures.there)) c.add_told-2.ensures.still
+      (rw c.as_slice-5.ensures at c.add_told-2.ensures.there) osd (changed-parts (nat_eq osd) c.args.inc.now ∙ there);
+}

@@ -1,50 +1,41 @@
-use Rattle.std.proofs.Common.{◌≡◌, ◌<◌, ◌≤◌, List, length, take, drop, get_or, ap, ap₂, ◌∙◌, arith}
-use Rattle.std.proofs.lemmas.List.{get_or_default, length-map}
+use Rattle.std.proofs.Common.{◌≡◌, length, map, take, drop, ap, ap₂, ◌∙◌, arith}
+use Rattle.std.proofs.lemmas.List.{length-map}
 use Rattle.std.specs.Arc.{arc_value}
-use Rattle.pgp_log.specs.Shard.{Shard, opening_shard}
+use Rattle.pgp_log.specs.Shard.{Shard}
 use Rattle.pgp_log.specs.World.{World}
-use Rattle.pgp_log.proofs.RunningLemmas.{absorbed, absorbed-reply, next-legal, reads-within}
+use Rattle.pgp_log.proofs.RunningLemmas.{IsShardAt, absorbed, absorbed-reply, next-legal, reads-within}
 use Rattle.pgp_log.proofs.world.World.absorb.Goals as goal
+use Rattle.pgp_log.proofs.world.World.absorb.Goals.{After-index_mut-state, After-unread-next}
+
+here : (c : After-index_mut-state) → IsShardAt (map arc_value c.self.inside.entries.items) c.self.inside.judge c.self.inside.shards.items c.args.shard c.index_mut-state.result.now
+here c = record {
+  running = c.self.invariant;
+  there = omega (arith, c.requires, ap (λ (w : World). length w.read) c.self.view_is, length-map c.self.inside.shards.items (λ (s : Shard). length s.front));
+  here = c.index_mut-state.ensures.value;
+}
+
+news : (c : After-unread-next) → c.unread-next.result.now ≡ take c.args.count (drop (length c.index_mut-state.result.now.front) c.self.inside.entries.items)
+news c = c.unread-next.ensures ∙ ap₂ (λ n l. take c.args.count (drop n l)) c.count-read.ensures c.as_slice.ensures.value
 
 pub unread-next-requires : goal.unread-next-requires
 unread-next-requires c =
-    let items = c.self.inside.entries.items in
-    let shards : List Shard = c.self.inside.shards.items in
-    let state : Shard = c.index_mut-state.result.now in
-    let there : c.args.shard < length shards = omega (arith, c.requires, ap (λ (w : World). length w.read) c.self.view_is, length-map shards (λ (s : Shard). length s.front)) in
-    let here : state ≡ get_or shards c.args.shard (opening_shard 0 0) = c.index_mut-state.ensures.value ∙ get_or_default shards c.args.shard state (opening_shard 0 0) there in
-    let within : length state.front ≤ length items = reads-within arc_value items c.self.inside.judge shards c.args.shard state c.self.invariant there here in
+    let within = reads-within arc_value c.self.inside.entries.items _ _ _ _ (here (goal.at.unread-next-requires c).After-index_mut-state) in
     omega (arith, within, c.count-read.ensures, ap length c.as_slice.ensures.value)
 
 pub absorb_all-requires : goal.absorb_all-requires
 absorb_all-requires c =
-    let items = c.self.inside.entries.items in
-    let shards : List Shard = c.self.inside.shards.items in
-    let state : Shard = c.index_mut-state.result.now in
-    let there : c.args.shard < length shards = omega (arith, c.requires, ap (λ (w : World). length w.read) c.self.view_is, length-map shards (λ (s : Shard). length s.front)) in
-    let here : state ≡ get_or shards c.args.shard (opening_shard 0 0) = c.index_mut-state.ensures.value ∙ get_or_default shards c.args.shard state (opening_shard 0 0) there in
-    let news : c.unread-next.result.now ≡ take c.args.count (drop (length state.front) items) = c.unread-next.ensures ∙ ap₂ (λ n l. take c.args.count (drop n l)) c.count-read.ensures c.as_slice.ensures.value in
-    rw news (next-legal arc_value items c.self.inside.judge shards c.args.shard c.args.count state c.self.invariant there here)
+    rw (news (goal.at.absorb_all-requires c).After-unread-next)
+    (next-legal arc_value c.self.inside.entries.items _ _ _ c.args.count _ (here (goal.at.absorb_all-requires c).After-index_mut-state))
 
 pub invariant_of-self : goal.invariant_of-self
 invariant_of-self c =
-    let items = c.self.inside.entries.items in
-    let shards : List Shard = c.self.inside.shards.items in
-    let state : Shard = c.index_mut-state.result.now in
-    let there : c.args.shard < length shards = omega (arith, c.requires, ap (λ (w : World). length w.read) c.self.view_is, length-map shards (λ (s : Shard). length s.front)) in
-    let here : state ≡ get_or shards c.args.shard (opening_shard 0 0) = c.index_mut-state.ensures.value ∙ get_or_default shards c.args.shard state (opening_shard 0 0) there in
-    let news : c.unread-next.result.now ≡ take c.args.count (drop (length state.front) items) = c.unread-next.ensures ∙ ap₂ (λ n l. take c.args.count (drop n l)) c.count-read.ensures c.as_slice.ensures.value in
-    absorbed arc_value items c.self.inside.judge shards c.args.shard c.args.count state c.absorb_all.new.self c.absorb_all.result c.self.invariant there here
-    (rw news at c.absorb_all.ensures.ok) (rw news at c.absorb_all.ensures.err)
+    let read = news (goal.at.invariant_of-self c).After-unread-next in
+    absorbed arc_value c.self.inside.entries.items _ _ c.args.shard c.args.count _ c.absorb_all.new.self c.absorb_all.result (here (goal.at.invariant_of-self c).After-index_mut-state)
+    (rw read at c.absorb_all.ensures.ok) (rw read at c.absorb_all.ensures.err)
 
 pub returns-clause-reply : goal.returns-clause-reply
 returns-clause-reply c =
-    let items = c.self.inside.entries.items in
-    let shards : List Shard = c.self.inside.shards.items in
-    let state : Shard = c.index_mut-state.result.now in
-    let there : c.args.shard < length shards = omega (arith, c.requires, ap (λ (w : World). length w.read) c.self.view_is, length-map shards (λ (s : Shard). length s.front)) in
-    let here : state ≡ get_or shards c.args.shard (opening_shard 0 0) = c.index_mut-state.ensures.value ∙ get_or_default shards c.args.shard state (opening_shard 0 0) there in
-    let news : c.unread-next.result.now ≡ take c.args.count (drop (length state.front) items) = c.unread-next.ensures ∙ ap₂ (λ n l. take c.args.count (drop n l)) c.count-read.ensures c.as_slice.ensures.value in
+    let read = news (goal.at.returns-clause-reply c).After-unread-next in
     rw (← c.self.view_is)
-    (absorbed-reply arc_value items c.self.inside.judge shards c.args.shard c.args.count state c.absorb_all.new.self c.absorb_all.result c.self.invariant there here
-    (rw news at c.absorb_all.ensures.ok) (rw news at c.absorb_all.ensures.err))
+    (absorbed-reply arc_value c.self.inside.entries.items _ _ c.args.shard c.args.count _ c.absorb_all.new.self c.absorb_all.result (here (goal.at.returns-clause-reply c).After-index_mut-state)
+    (rw read at c.absorb_all.ensures.ok) (rw read at c.absorb_all.ensures.err))

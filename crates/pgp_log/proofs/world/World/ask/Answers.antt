@@ -1,39 +1,27 @@
-use Rattle.std.proofs.Common.{◌≡◌, ◌<◌, List, length, map, get_or, ap, ◌∙◌, arith}
-use Rattle.std.proofs.lemmas.List.{get_or_default}
+use Rattle.std.proofs.Common.{◌≡◌, length, map, ap, ◌∙◌, arith}
 use Rattle.std.specs.Arc.{arc_value}
-use Rattle.pgp_log.specs.Shard.{Shard, opening_shard, shard_of}
-use Rattle.pgp_log.proofs.RunningLemmas.{asked-reply, own-at, still-asked}
+use Rattle.pgp_log.specs.Shard.{shard_of}
+use Rattle.pgp_log.proofs.RunningLemmas.{IsShardAt, asked-reply, own-at, still-asked}
 use Rattle.pgp_log.proofs.world.World.ask.Goals as goal
+use Rattle.pgp_log.proofs.world.World.ask.Goals.{After-index_mut-state}
+
+here : (c : After-index_mut-state) → IsShardAt (map arc_value c.self.inside.entries.items) c.self.inside.judge c.self.inside.shards.items c.shard_of-shard.result c.index_mut-state.result.now
+here c = record { running = c.self.invariant; there = omega (arith, c.shard_of-shard.ensures.within, c.len.ensures); here = c.index_mut-state.ensures.value }
+
+number : (c : After-index_mut-state) → c.shard_of-shard.result ≡ shard_of (length c.self.inside.shards.items) c.args.pg
+number c =
+    let many : c.len.result ≡ length c.self.inside.shards.items = omega (arith, c.len.ensures) in
+    c.shard_of-shard.ensures.number ∙ ap (λ n. shard_of n c.args.pg) many
 
 pub ask-requires : goal.ask-requires
-ask-requires c =
-    let shards : List Shard = c.self.inside.shards.items in
-    let k = c.shard_of-shard.result in
-    let state : Shard = c.index_mut-state.result.now in
-    let there : k < length shards = omega (arith, c.shard_of-shard.ensures.within, c.len.ensures) in
-    let here : state ≡ get_or shards k (opening_shard 0 0) = c.index_mut-state.ensures.value ∙ get_or_default shards k state (opening_shard 0 0) there in
-    let many : c.len.result ≡ length shards = omega (arith, c.len.ensures) in
-    let number : k ≡ shard_of (length shards) c.args.pg = c.shard_of-shard.ensures.number ∙ ap (λ n. shard_of n c.args.pg) many in
-    own-at (map arc_value c.self.inside.entries.items) c.self.inside.judge shards c.args.pg k state c.self.invariant number there here
+ask-requires c = let known = (goal.at.ask-requires c).After-index_mut-state in own-at (here known) c.args.pg (number known)
 
 pub invariant_of-self : goal.invariant_of-self
-invariant_of-self c =
-    let shards : List Shard = c.self.inside.shards.items in
-    let k = c.shard_of-shard.result in
-    let state : Shard = c.index_mut-state.result.now in
-    let there : k < length shards = omega (arith, c.shard_of-shard.ensures.within, c.len.ensures) in
-    let here : state ≡ get_or shards k (opening_shard 0 0) = c.index_mut-state.ensures.value ∙ get_or_default shards k state (opening_shard 0 0) there in
-    still-asked (map arc_value c.self.inside.entries.items) c.self.inside.judge shards k state c.ask.new.self c.self.invariant there here c.ask.ensures.same
+invariant_of-self c = still-asked (here (goal.at.invariant_of-self c).After-index_mut-state) c.ask.new.self c.ask.ensures.same
 
 pub returns-clause-reply : goal.returns-clause-reply
 returns-clause-reply c =
-    let shards : List Shard = c.self.inside.shards.items in
-    let k = c.shard_of-shard.result in
-    let state : Shard = c.index_mut-state.result.now in
-    let there : k < length shards = omega (arith, c.shard_of-shard.ensures.within, c.len.ensures) in
-    let here : state ≡ get_or shards k (opening_shard 0 0) = c.index_mut-state.ensures.value ∙ get_or_default shards k state (opening_shard 0 0) there in
-    let many : c.len.result ≡ length shards = omega (arith, c.len.ensures) in
-    let number : k ≡ shard_of (length shards) c.args.pg = c.shard_of-shard.ensures.number ∙ ap (λ n. shard_of n c.args.pg) many in
+    let known = (goal.at.returns-clause-reply c).After-index_mut-state in
     rw (← c.self.view_is)
-    (asked-reply (map arc_value c.self.inside.entries.items) c.self.inside.judge shards c.args.pg k state c.ask.new.self c.ask.result c.self.invariant number there here
+    (asked-reply (map arc_value c.self.inside.entries.items) _ c.self.inside.shards.items c.args.pg c.shard_of-shard.result _ c.ask.new.self c.ask.result (here known) (number known)
     c.ask.ensures.same c.ask.ensures.ok c.ask.ensures.unknown c.ask.ensures.wants)
