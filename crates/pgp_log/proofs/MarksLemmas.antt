@@ -1,14 +1,13 @@
 -- Which groups have to be worked out anew, as the groups change.
-use Rattle.std.proofs.Common.{◌≡◌, ℕ, zero, suc, ◌+◌, ◌-◌, ◌<◌, ◌≤◌, List, [], ◌∷◌, ◌++◌, Bool, true, false, not, ◌&&◌, ◌||◌, Option, Some, None, is_some, is_none, Result, Ok, Err, OnOk, length, take, drop, set, slice_get, inl, inr, refl, sym, ap, ◌∙◌, arith, eq-eqb, length-append}
+use Rattle.std.proofs.Common.{◌≡◌, ℕ, zero, suc, ◌+◌, ◌-◌, ◌<◌, ◌≤◌, List, [], ◌∷◌, ◌++◌, Bool, true, false, ◌&&◌, ◌||◌, Option, Some, None, is_some, is_none, Result, Ok, Err, OnOk, length, drop, set, slice_get, refl, sym, ap, ◌∙◌, arith, eq-eqb, length-append}
 use Rattle.std.specs.HashMap as hash
 use Rattle.std.specs.List.{list_any}
 use Rattle.std.specs.Prelude.{nat_eq}
 use Rattle.std.proofs.lemmas.Bool.{cases_Bool, false_from_ne_true, or_parts, true≢false}
 use Rattle.std.proofs.lemmas.Bool.Decides.{nat_tests}
-use Rattle.std.proofs.lemmas.List.{take_more_set}
 use Rattle.std.proofs.lemmas.List.Elements.{All-head, All-tail}
 use Rattle.std.proofs.lemmas.List.Folds.{list_any-append}
-use Rattle.std.proofs.lemmas.Option.{same_Some, slice_get_within}
+use Rattle.std.proofs.lemmas.Option.{same_Some}
 use Rattle.std.proofs.Math.Bool.{and-false, and-true, or-false}
 use Rattle.pgp_ids.specs.declared.entry.Entry.{Entry}
 use Rattle.pgp_ids.specs.declared.entry.Entry.TheVariants as entry
@@ -25,7 +24,7 @@ use Rattle.pgp_log.specs.Shard.{is_among, without}
 use Rattle.pgp_log.specs.declared.groups.Groups.{Groups}
 use Rattle.pgp_log.specs.declared.kept_group.KeptGroup.{KeptGroup}
 use Rattle.pgp_log.proofs.GroupsLemmas.{missing-group, other-group, place-holds, same-self}
-use Rattle.pgp_log.proofs.PassingLemmas.{all-other, any-passing, drop-few, drop-more, front-fails, front-passes, passing-fails, passing-once, unmarked}
+use Rattle.pgp_log.proofs.PassingLemmas.{all-other, any-passing, drop-few, drop-more, passing-once, unmarked}
 use Rattle.pgp_log.proofs.RawSetLemmas.{same_group}
 
 abbrev pub pg_of : KeptGroup → PgId

@@ -1,5 +1,5 @@
 -- What the code of a world keeps of it.
-use Rattle.std.proofs.Common.{◌≡◌, ℕ, zero, suc, ◌+◌, ◌<◌, ◌≤◌, List, [], ◌∷◌, ◌++◌, ◌⊎◌, inl, inr, Result, Ok, Err, OnOk, OnErr, IfOk, Some, None, true, false, length, map, min, take, drop, get_or, set, replicate, refl, ap, sym, ◌∙◌, subst, append_assoc, add-one, zero-add, arith, eq-eqb, length-append}
+use Rattle.std.proofs.Common.{◌≡◌, ℕ, zero, suc, ◌+◌, ◌<◌, ◌≤◌, List, [], ◌∷◌, ◌++◌, inl, inr, Result, Ok, Err, OnOk, OnErr, IfOk, Some, None, true, false, length, map, min, take, drop, get_or, set, replicate, refl, ap, sym, ◌∙◌, subst, append_assoc, add-one, zero-add, arith, eq-eqb, length-append}
 use Rattle.std.specs.List.{range_with_len}
 use Rattle.std.specs.declared.alloc.AllocError.{AllocError}
 use Rattle.std.proofs.Math.Seq.{drop-append_seam, map-set_same, take-append-add}

@@ -1,5 +1,5 @@
 -- A group that an incremental doesn't touch, and the devices with which a group has to do.
-use Rattle.std.proofs.Common.{◌≡◌, ℕ, List, [], ◌∷◌, ◌++◌, inl, inr, Bool, true, false, not, ◌||◌, ◌&&◌, Option, Some, None, IfSome, is_some, map, length, refl, sym, ap, ◌∙◌, arith}
+use Rattle.std.proofs.Common.{◌≡◌, ℕ, List, [], ◌∷◌, ◌++◌, Bool, true, false, not, ◌||◌, Option, Some, None, IfSome, is_some, map, length, refl, sym, ap, ◌∙◌, arith}
 use Rattle.std.specs.List.{list_any}
 use Rattle.std.specs.Prelude.{nat_eq, nat_lt, is_none, ◌==◌}
 use Rattle.std.proofs.lemmas.Bool.{not-false, not-true, or_parts, true_from_ne_false, true≢false}
@@ -23,7 +23,7 @@ use Rattle.pgp_group.proofs.Lists.{any-mapped}
 use Rattle.pgp_group.proofs.ReachingLemmas.{left-unmoved, lies-as-before, reaches-next, untouched-unmoved}
 use Rattle.pgp_group.proofs.UntoldLemmas.{IsLeft, temp-same}
 use Rattle.pgp_group.specs.Entries.{incs_of}
-use Rattle.pgp_group.specs.Touched.{changed_devices, changes_pool, changes_temp, is_touched, may_lie_on, may_move, moves_all, turned_devices}
+use Rattle.pgp_group.specs.Touched.{changed_devices, changes_pool, changes_temp, is_touched, may_move, moves_all, turned_devices}
 use Rattle.pgp_log.specs.declared.before.MapBefore.{MapBefore}
 use Rattle.pgp_log.specs.KeptGroup.{IsKeptOf, IsStep, IsViewOf, is_marked}
 use Rattle.pgp_log.specs.Touch.{changes_no_pool, changes_nothing, changes_placements, moves_none, tells_nothing, turns_none}
