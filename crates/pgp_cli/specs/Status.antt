@@ -1,12 +1,13 @@
 -- What the program does beyond answering a script, how its runs and explanations end, and its exit statuses.
-use Rattle.std.specs.Prelude.{◌≡◌, ◌⊎◌, ℕ, ◌≤◌, List, Bool, true, Option}
+use Rattle.std.specs.Prelude.{◌≡◌, ℕ, ◌≤◌, List, Option}
 use Rattle.std.specs.Io.KnownBytes.{Appends}
 use Rattle.pgp_compact_script.specs.Compaction.{IsCompacted}
 use Rattle.pgp_compact_script.specs.declared.compact.Compaction.{Compaction}
+use Rattle.pgp_core.specs.Account.{Account}
 use Rattle.pgp_core.specs.Run.{AllAnswered, Stopped, script_bounds}
+use Rattle.pgp_core.specs.declared.fault.ScriptFault.{ScriptFault}
 use Rattle.pgp_explain.specs.Explanation.{IsCutShort, IsExplained}
 use Rattle.pgp_run.specs.Run.{ToldByEngine, StoppedByEngine}
-use Rattle.pgp_run.specs.declared.fault.RunFault.TheVariants.{Read, Write, NoEngine}
 use Rattle.pgp_cli.specs.declared.ending.Ending.{Ending}
 use Rattle.pgp_cli.specs.declared.ending.Ending.TheVariants.{Done, Usage, NoMemory, Fault}
 use Rattle.pgp_cli.specs.declared.explain_options.ExplainOptions.{ExplainOptions}
@@ -24,22 +25,17 @@ pub record Grows (old new : Option (List ℕ)) : Type 0 where
   pub text : List ℕ
   pub went : Appends old new text
 
--- The script was answered to its end: without workers on one thread, with them over an engine.
-pub record RunIsDone (counts : Counts) (from to start now : Option (List ℕ)) : Type 0 where
-  pub alone : counts.workers ≡ 0 → AllAnswered script_bounds from to start now
-  pub shared : 1 ≤ counts.workers → ToldByEngine from to start now
+-- The script was answered to its end, and no call failed: without workers on one thread, with them over an engine.
+pub record RunIsDone (counts : Counts) (before after : Account) : Type 0 where
+  pub alone : counts.workers ≡ 0 → AllAnswered script_bounds before after
+  pub shared : 1 ≤ counts.workers → ToldByEngine before after
 
--- A fault stopped a run over an engine: a read or a write failed, or the engine answered no more.
-abbrev pub EngineIsStopped : (from to start now : Option (List ℕ)) → (read_failed write_failed : Bool) → Type 0
-EngineIsStopped from to start now read_failed write_failed =
-    StoppedByEngine Read from to start now read_failed
-    ⊎ (StoppedByEngine Write from to start now read_failed × (write_failed ≡ true))
-    ⊎ StoppedByEngine NoEngine from to start now read_failed
-
--- A fault stopped the run, and what had been answered by then stands.
-pub record RunIsStopped (counts : Counts) (from to start now : Option (List ℕ)) (read_failed write_failed : Bool) : Type 0 where
-  pub alone : counts.workers ≡ 0 → Stopped script_bounds from to start now read_failed write_failed
-  pub shared : 1 ≤ counts.workers → EngineIsStopped from to start now read_failed write_failed
+-- A fault stopped the run, and what had been answered by then stands: a read or a write failed, the script is too large, or,
+-- with workers, the engine answered no more.
+pub record RunIsStopped (counts : Counts) (before after : Account) : Type 0 where
+  pub fault : ScriptFault
+  pub alone : counts.workers ≡ 0 → Stopped script_bounds before after fault
+  pub shared : 1 ≤ counts.workers → StoppedByEngine before after fault
 
 -- The reader is at its end, and the writer got what the options ask for, by the log that the reader's script makes.
 abbrev pub ExplainIsDone : ExplainOptions → (from to start now : Option (List ℕ)) → Type 0

@@ -2,12 +2,14 @@
 
 ghost use Rattle.std.specs.Prelude.{◌≡◌, ◌⊎◌, ◌≤◌, true, map, string_bytes};
 ghost use Rattle.pgp_cli.specs.Options.{Counts, counts_of, AreWrong, AsksForRun, AsksForWorkers, AsksForCompact, AsksForExplain, AsksForHelp, AsksForSomeExplain};
-ghost use Rattle.pgp_cli.specs.Status.{CompactIsDone, EngineIsStopped, ExplainIsCutShort, ExplainIsDone, Grows, RunIsDone, RunIsStopped};
+ghost use Rattle.pgp_cli.specs.Status.{CompactIsDone, ExplainIsCutShort, ExplainIsDone, Grows, RunIsDone, RunIsStopped};
 ghost use Rattle.pgp_cli.specs.declared.explain_options.ExplainOptions.{ExplainOptions as TheOptions};
 ghost use Rattle.pgp_compact_script.specs.Compaction.{IsCutShort};
+ghost use Rattle.pgp_core.specs.Account.{account};
 ghost use Rattle.pgp_core.specs.Run.{AllAnswered, Stopped, script_bounds};
+ghost use Rattle.pgp_core.specs.declared.fault.ScriptFault.{ScriptFault as TheFault};
 ghost use Rattle.pgp_explain.specs.Reading.{IsRefusedInPart};
-ghost use Rattle.pgp_run.specs.Run.{ToldByEngine};
+ghost use Rattle.pgp_run.specs.Run.{StoppedByEngine, ToldByEngine};
 
 use super::ending::Ending;
 use super::explain_options::ExplainOptions;
@@ -18,7 +20,7 @@ use super::tell::{fault, help_or_usage, left_out};
 use pgp_compact_script::{CompactFault, compact_script};
 use pgp_core::{ScriptFault, Sink, Source, run_script};
 use pgp_explain::{ExplainFault, explain};
-use pgp_run::{RunFault, run_engine};
+use pgp_run::run_engine;
 use std::alloc::Global;
 use std::io::Write;
 use std::sync::Wait;
@@ -40,8 +42,9 @@ pub fn status_of<R: Source, W: Sink, E: Write, T: Threads + Wait + Sync>(
     // The script was answered to its end, or help was asked for and nothing was read, or the script was explained as asked, or
     // what remains of it was written.
     ensures done { result ≡ Ending.Done
-        → ((counts : Counts) × (AsksForRun (map string_bytes words.now) counts × RunIsDone counts (R.remaining reader.old)
-        (R.remaining reader.new) (W.contents writer.old) (W.contents writer.new)))
+        → ((counts : Counts) × (AsksForRun (map string_bytes words.now) counts × RunIsDone counts
+        (account (R.remaining reader.old) (W.contents writer.old) (R.failed reader.old) (W.failed writer.old))
+        (account (R.remaining reader.new) (W.contents writer.new) (R.failed reader.new) (W.failed writer.new))))
         ⊎ (AsksForHelp (map string_bytes words.now) × (reader.new ≡ reader.old)
         × Grows (W.contents writer.old) (W.contents writer.new))
         ⊎ ((options : TheOptions) × (AsksForExplain (map string_bytes words.now) options
@@ -63,8 +66,9 @@ pub fn status_of<R: Source, W: Sink, E: Write, T: Threads + Wait + Sync>(
     // there was no engine, and nothing was read; or help could not be shown; or an explanation or a compaction was asked for, and
     // none of it was written, or a front of it, where a write failed.
     ensures fault { result ≡ Ending.Fault
-        → ((counts : Counts) × (AsksForRun (map string_bytes words.now) counts × RunIsStopped counts (R.remaining reader.old)
-        (R.remaining reader.new) (W.contents writer.old) (W.contents writer.new) (R.failed reader.new) (W.failed writer.new)))
+        → ((counts : Counts) × (AsksForRun (map string_bytes words.now) counts × RunIsStopped counts
+        (account (R.remaining reader.old) (W.contents writer.old) (R.failed reader.old) (W.failed writer.old))
+        (account (R.remaining reader.new) (W.contents writer.new) (R.failed reader.new) (W.failed writer.new))))
         ⊎ (AsksForWorkers (map string_bytes words.now) × (reader.new ≡ reader.old) × (writer.new ≡ writer.old))
         ⊎ (AsksForHelp (map string_bytes words.now) × (reader.new ≡ reader.old) × (W.failed writer.new ≡ true))
         ⊎ ((options : TheOptions) × (AsksForExplain (map string_bytes words.now) options × ((writer.new ≡ writer.old)
@@ -91,14 +95,15 @@ fn run<R: Source, W: Sink, E: Write, T: Threads + Wait + Sync>(
     writer: &mut W,
     errors: &mut E,
 ) -> Ending
-    ensures done { result ≡ Ending.Done → RunIsDone (counts_of options) (R.remaining reader.old) (R.remaining reader.new)
-        (W.contents writer.old) (W.contents writer.new) }
-    ensures kept { result ≡ Ending.Done → (R.failed reader.new ≡ R.failed reader.old) × (W.failed writer.new ≡ W.failed writer.old) }
+    ensures done { result ≡ Ending.Done → RunIsDone (counts_of options)
+        (account (R.remaining reader.old) (W.contents writer.old) (R.failed reader.old) (W.failed writer.old))
+        (account (R.remaining reader.new) (W.contents writer.new) (R.failed reader.new) (W.failed writer.new)) }
     ensures quiet { result ≡ Ending.Done → errors.new ≡ errors.old }
     ensures only { (result ≡ Ending.Done) ⊎ (result ≡ Ending.Fault) }
     ensures fault { result ≡ Ending.Fault
-        → RunIsStopped (counts_of options) (R.remaining reader.old) (R.remaining reader.new) (W.contents writer.old)
-        (W.contents writer.new) (R.failed reader.new) (W.failed writer.new)
+        → RunIsStopped (counts_of options)
+        (account (R.remaining reader.old) (W.contents writer.old) (R.failed reader.old) (W.failed writer.old))
+        (account (R.remaining reader.new) (W.contents writer.new) (R.failed reader.new) (W.failed writer.new))
         ⊎ ((1 ≤ options.workers) × (reader.new ≡ reader.old) × (writer.new ≡ writer.old)) }
 {
     if options.workers == 0 {
@@ -115,19 +120,18 @@ fn run_alone<R: Source, W: Sink, E: Write>(
     writer: &mut W,
     errors: &mut E,
 ) -> Ending
-    ensures done { result ≡ Ending.Done → AllAnswered script_bounds (R.remaining reader.old) (R.remaining reader.new)
-        (W.contents writer.old) (W.contents writer.new) }
-    ensures kept { result ≡ Ending.Done → (R.failed reader.new ≡ R.failed reader.old) × (W.failed writer.new ≡ W.failed writer.old) }
+    ensures done { result ≡ Ending.Done → AllAnswered script_bounds
+        (account (R.remaining reader.old) (W.contents writer.old) (R.failed reader.old) (W.failed writer.old))
+        (account (R.remaining reader.new) (W.contents writer.new) (R.failed reader.new) (W.failed writer.new)) }
     ensures quiet { result ≡ Ending.Done → errors.new ≡ errors.old }
     ensures only { (result ≡ Ending.Done) ⊎ (result ≡ Ending.Fault) }
-    ensures fault { result ≡ Ending.Fault
-        → Stopped script_bounds (R.remaining reader.old) (R.remaining reader.new) (W.contents writer.old) (W.contents writer.new)
-        (R.failed reader.new) (W.failed writer.new) }
+    ensures fault { result ≡ Ending.Fault → (why : TheFault) × Stopped script_bounds
+        (account (R.remaining reader.old) (W.contents writer.old) (R.failed reader.old) (W.failed writer.old))
+        (account (R.remaining reader.new) (W.contents writer.new) (R.failed reader.new) (W.failed writer.new)) why }
 {
     match run_script(alloc, reader, writer) {
         Ok(()) => Ending::Done,
-        Err(ScriptFault::Read) => fault(Fault::of_reader(reader), errors),
-        Err(ScriptFault::Write) => fault(Fault::Write, errors),
+        Err(why) => fault(script_fault(why, reader), errors),
     }
 }
 
@@ -141,23 +145,30 @@ fn run_shared<R: Source, W: Sink, E: Write, T: Threads + Wait + Sync>(
     errors: &mut E,
 ) -> Ending
     requires { 1 ≤ options.workers }
-    ensures done { result ≡ Ending.Done → ToldByEngine (R.remaining reader.old) (R.remaining reader.new) (W.contents writer.old)
-        (W.contents writer.new) }
-    ensures kept { result ≡ Ending.Done → (R.failed reader.new ≡ R.failed reader.old) × (W.failed writer.new ≡ W.failed writer.old) }
+    ensures done { result ≡ Ending.Done → ToldByEngine
+        (account (R.remaining reader.old) (W.contents writer.old) (R.failed reader.old) (W.failed writer.old))
+        (account (R.remaining reader.new) (W.contents writer.new) (R.failed reader.new) (W.failed writer.new)) }
     ensures quiet { result ≡ Ending.Done → errors.new ≡ errors.old }
     ensures only { (result ≡ Ending.Done) ⊎ (result ≡ Ending.Fault) }
-    ensures fault { result ≡ Ending.Fault
-        → EngineIsStopped (R.remaining reader.old) (R.remaining reader.new) (W.contents writer.old) (W.contents writer.new)
-        (R.failed reader.new) (W.failed writer.new)
-        ⊎ ((reader.new ≡ reader.old) × (writer.new ≡ writer.old)) }
+    ensures fault { result ≡ Ending.Fault → ((reader.new ≡ reader.old) × (writer.new ≡ writer.old))
+        ⊎ ((why : TheFault) × StoppedByEngine
+        (account (R.remaining reader.old) (W.contents writer.old) (R.failed reader.old) (W.failed writer.old))
+        (account (R.remaining reader.new) (W.contents writer.new) (R.failed reader.new) (W.failed writer.new)) why) }
 {
     let shards = usize::from(options.shards);
     let workers = usize::from(options.workers);
     match run_engine(rt, alloc, reader, writer, shards, workers) {
         Ok(()) => Ending::Done,
-        Err(RunFault::Read) => fault(Fault::of_reader(reader), errors),
-        Err(RunFault::Write) => fault(Fault::Write, errors),
-        Err(RunFault::NoEngine) => fault(Fault::NoEngine, errors),
+        Err(why) => fault(script_fault(why, reader), errors),
+    }
+}
+
+/// The fault that stopped a script.
+fn script_fault<R: Source>(why: ScriptFault, reader: &R) -> Fault {
+    match why {
+        ScriptFault::Read => Fault::of_reader(reader),
+        ScriptFault::Write => Fault::Write,
+        ScriptFault::Gone => Fault::NoEngine,
     }
 }
 

@@ -4,8 +4,8 @@ use Rattle.std.specs.Io.KnownBytes.{Appends}
 use Rattle.std.proofs.KnownBytes.{Appends-trans}
 use Rattle.pgp_core.specs.Output.{Went, FrontWent}
 use Rattle.pgp_core.specs.Telling.{WentBy}
-use Rattle.pgp_core.specs.declared.fault.AnswerFault.{AnswerFault}
-use Rattle.pgp_core.specs.declared.fault.AnswerFault.TheVariants.{Read, Write, Gone}
+use Rattle.pgp_core.specs.declared.fault.ScriptFault.{ScriptFault}
+use Rattle.pgp_core.specs.declared.fault.ScriptFault.TheVariants.{Read, Write, Gone}
 
 -- a front of what was pending went out
 Went-on : (a b c : Option (List ℕ)) (text pending still : List ℕ) → Went a b text pending → Went b c pending still → Went a c text still
@@ -61,7 +61,7 @@ Went-direct a b c pending text still none first then =
     rw none (Went-none a c (pending ++ text) (Appends-trans a b c pending text first then))
 
 -- what was pending went out as far as the fault let it
-pub WentBy-pending : (fault : AnswerFault) (a b c : Option (List ℕ)) (text pending : List ℕ) → Went a b text pending → WentBy fault b c pending → WentBy fault a c text
+pub WentBy-pending : (fault : ScriptFault) (a b c : Option (List ℕ)) (text pending : List ℕ) → Went a b text pending → WentBy fault b c pending → WentBy fault a c text
 WentBy-pending Read a b c text pending before rest = Went-flushed a b c text pending before rest
 WentBy-pending Write a b c text pending before front = FrontWent-pending a b c text pending before front
 WentBy-pending Gone a b c text pending before rest = Went-flushed a b c text pending before rest

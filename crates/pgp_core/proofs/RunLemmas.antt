@@ -1,7 +1,6 @@
 -- How an answering goes on, and how it stops.
 use Rattle.std.proofs.Common.{◌≡◌, ◌≢◌, ℕ, ◌+◌, ◌-◌, ◌<◌, ◌≤◌, List, [], ◌∷◌, ◌++◌, Bool, true, false, Option, length, take, refl, sym, ap, ◌∙◌, append_assoc, append-nil, arith, take_all, nat_lt, inl, inr, subst, Result, Ok, Err}
-use Rattle.std.specs.Prelude.{IfErr}
-use Rattle.std.specs.Result.{IsErrAnd}
+use Rattle.std.specs.Result.{IsErrAnd, MatchResult}
 use Rattle.std.proofs.lemmas.Bool.{cases_eq}
 use Rattle.std.proofs.lemmas.Bool.Decides.{nat_tests}
 use Rattle.std.proofs.Math.Seq.{take-append-add}
@@ -16,12 +15,12 @@ use Rattle.pgp_core.specs.Output.{Went, FrontWent}
 use Rattle.pgp_core.specs.Script.{Within}
 use Rattle.pgp_core.specs.Run.{IsBeyond}
 use Rattle.pgp_core.specs.Told.{AreTold}
-use Rattle.pgp_core.specs.Telling.{Began, Puts, StopsAt, IsAfter, IsDone, WentBy, IsStopped, StoppedAtLast, whole_lines, Taken}
+use Rattle.pgp_core.specs.Telling.{Began, Puts, StopsAt, IsAfter, IsDone, WentBy, IsStopped, StoppedAtLast, StopsIn, whole_lines, Taken}
 use Rattle.pgp_core.specs.declared.input.Bounds.{Bounds}
 use Rattle.pgp_core.specs.declared.input.Input.{Input}
 use Rattle.pgp_core.specs.declared.script.Script.{Script}
-use Rattle.pgp_core.specs.declared.fault.AnswerFault.{AnswerFault}
-use Rattle.pgp_core.specs.declared.fault.AnswerFault.TheVariants.{Read, Write, Gone}
+use Rattle.pgp_core.specs.declared.fault.ScriptFault.{ScriptFault}
+use Rattle.pgp_core.specs.declared.fault.ScriptFault.TheVariants.{Read, Write, Gone}
 use Rattle.pgp_core.proofs.OutputLemmas.{Went-none, Went-then, FrontWent-then, FrontWent-pending, Went-flushed, WentBy-pending}
 use Rattle.pgp_core.proofs.CutLemmas.{lines_after, cut-goes, lines-closed, some-line}
 use Rattle.pgp_core.proofs.InputLemmas.{whole-piece, whole-line}
@@ -31,14 +30,10 @@ use Rattle.pgp_core.proofs.ToldLemmas.{told-push}
 -- ---- a fault
 
 -- it is passed on
-pub passed_on : {T : Type 0} (r : Result T AnswerFault) (fault : AnswerFault) (P : AnswerFault → Type 0) → IsErrAnd r (λ f. f ≡ fault) → P fault → IfErr r P
-passed_on (Ok x) fault P is holds = tt
-passed_on (Err f) fault P is holds = subst P (sym is) holds
-
--- it is no read fault
-pub other_fault : {T : Type 0} (r : Result T AnswerFault) (P Q : AnswerFault → Type 0) → r ≢ Err Read → ((fault : AnswerFault) → fault ≢ Read → P fault → Q fault) → IfErr r P → IfErr r Q
-other_fault (Ok x) P Q other goes holds = tt
-other_fault (Err fault) P Q other goes holds = goes fault (λ read. other (ap Err read)) holds
+pub passed_on : {T : Type 0} (r : Result T ScriptFault) (fault : ScriptFault) (P : T → Type 0) (Q : ScriptFault → Type 0)
+    → IsErrAnd r (λ f. f ≡ fault) → Q fault → MatchResult r P Q
+passed_on (Ok x) fault P Q is holds = absurd is
+passed_on (Err f) fault P Q is holds = subst Q (sym is) holds
 
 -- ---- the lines that have ended are the first ones, whatever follows
 
@@ -100,11 +95,17 @@ after-line alone began script next before after now new bytes piece none step pu
   text = Went-then began.written now new _ _ _ _ so_far.text puts.went;
 }
 
+-- no read fault stops the answering at a line
+unread : (fault : ScriptFault) (alone : Bool) (before after : List Entry) (line : List ℕ) (now new : Option (List ℕ)) (pending : List ℕ)
+    → StopsAt alone fault before after line now new pending → fault ≢ Read
+unread fault alone before after line now new pending (inl put) = λ read. cc (put.0)
+unread fault alone before after line now new pending (inr left) = left.other
+
 -- the answering stops at a line: a write failed as the answer to it was put, or nobody answers it any more
-at_line : (fault : AnswerFault) (alone : Bool) (began : Began) (before after : List Entry) (now new : Option (List ℕ)) (pending out : List ℕ) (done others lines : List (List ℕ))
-    (line : List ℕ) → fault ≢ Read → lines ≡ (done ++ line ∷ []) ++ others → AreTold alone began.log done before out → Went began.written now out pending
+at_line : (fault : ScriptFault) (alone : Bool) (began : Began) (before after : List Entry) (now new : Option (List ℕ)) (pending out : List ℕ) (done others lines : List (List ℕ))
+    (line : List ℕ) → lines ≡ (done ++ line ∷ []) ++ others → AreTold alone began.log done before out → Went began.written now out pending
     → StopsAt alone fault before after line now new pending → IsStopped alone began fault new lines
-at_line fault alone began before after now new pending out done others lines line other parts told went (inl put) = record {
+at_line fault alone began before after now new pending out done others lines line parts told went (inl put) = record {
   done = done ++ line ∷ [];
   others = others;
   parts = parts;
@@ -112,10 +113,10 @@ at_line fault alone began before after now new pending out done others lines lin
   out = out ++ put.1.text;
   told = told-push alone began.log before after done line out put.1.text told put.1.told;
   went = subst (λ f. WentBy f began.written new (out ++ put.1.text)) (sym put.0) (FrontWent-then began.written now new out pending put.1.text went put.1.front);
-  all = λ read. absurd (other read);
+  all = λ read. absurd (cc (put.0));
   left = λ gone. absurd (cc (put.0));
 }
-at_line fault alone began before after now new pending out done others lines line other parts told went (inr left) = record {
+at_line fault alone began before after now new pending out done others lines line parts told went (inr left) = record {
   done = done;
   others = line ∷ others;
   parts = parts ∙ append_assoc done (line ∷ []) others;
@@ -123,7 +124,7 @@ at_line fault alone began before after now new pending out done others lines lin
   out = out;
   told = told;
   went = WentBy-pending fault began.written now new out pending went left.went;
-  all = λ read. absurd (other read);
+  all = λ read. absurd (left.other read);
   left = λ gone. left.left;
 }
 
@@ -140,16 +141,20 @@ line_of_cut began input bytes piece more none room fits read =
     let parts : bytes ++ (piece ++ 10 ∷ more) ≡ (bytes ++ line) ++ more = simp append_assoc in
     ap (whole_lines began) parts ∙ front_of_cut began (bytes ++ line) more few_bytes few_lines ∙ ap (λ w. w ++ later_lines began (bytes ++ line) more) whole
 
-pub stopped-at-line : (fault : AnswerFault) (alone : Bool) (script : Script) (before after : List Entry) (now new : Option (List ℕ)) (piece : List ℕ)
-    → list_any is_line_feed piece ≡ false → 0 < script.input.left.lines → length piece < script.input.left.bytes → fault ≢ Read
+pub stopped-at-line : (fault : ScriptFault) (alone : Bool) (script : Script) (before after : List Entry) (now new : Option (List ℕ)) (piece : List ℕ)
+    → list_any is_line_feed piece ≡ false → 0 < script.input.left.lines → length piece < script.input.left.bytes
     → ((line : List ℕ) → Holds script.input.line line → StopsAt alone fault before after (line ++ piece) now new script.output.pending.items)
-    → (began : Began) (bytes more : List ℕ) → IsAfter alone began script before now bytes → IsStopped alone began fault new (whole_lines began (bytes ++ (piece ++ 10 ∷ more)))
-stopped-at-line fault alone script before after now new piece none room fits other stops began bytes more so_far =
+    → (began : Began) (bytes more : List ℕ) → IsAfter alone began script before now bytes → StopsIn alone began fault new (bytes ++ (piece ++ 10 ∷ more))
+stopped-at-line fault alone script before after now new piece none room fits stops began bytes more so_far =
     let parts = line_of_cut began script.input bytes piece more none room fits so_far.read in
-    at_line fault alone began before after now new _ so_far.out (cut bytes).whole _ _ ((cut bytes).rest ++ piece) other parts so_far.told so_far.text (stops (cut bytes).rest so_far.read.line)
+    let at = stops (cut bytes).rest so_far.read.line in
+    record {
+      stopped = at_line fault alone began before after now new _ so_far.out (cut bytes).whole _ _ ((cut bytes).rest ++ piece) parts so_far.told so_far.text at;
+      beyond = λ read. absurd (unread fault alone before after _ now new _ at read);
+    }
 
 -- what is pending was written, or a write of it failed
-pub stopped : (fault : AnswerFault) (alone : Bool) (began : Began) (script : Script) (log : List Entry) (now new : Option (List ℕ)) (bytes more : List ℕ)
+pub stopped : (fault : ScriptFault) (alone : Bool) (began : Began) (script : Script) (log : List Entry) (now new : Option (List ℕ)) (bytes more : List ℕ)
     → IsAfter alone began script log now bytes → fault ≢ Gone → WentBy fault now new script.output.pending.items
     → (fault ≡ Read → later_lines began bytes more ≡ []) → IsStopped alone began fault new (whole_lines began (bytes ++ more))
 stopped fault alone began script log now new bytes more after known went all = record {
@@ -251,15 +256,17 @@ done_ended alone script log now none began bytes after =
       text = after.text;
     }
 
-pub stopped-at-last : (fault : AnswerFault) (alone : Bool) (script : Script) (before after : List Entry) (now new : Option (List ℕ)) → script.input.line.started ≡ true → fault ≢ Read
+pub stopped-at-last : (fault : ScriptFault) (alone : Bool) (script : Script) (before after : List Entry) (now new : Option (List ℕ)) → script.input.line.started ≡ true
     → ((line : List ℕ) → Holds script.input.line line → StopsAt alone fault before after (line ++ []) now new script.output.pending.items)
     → (began : Began) (bytes : List ℕ) → IsAfter alone began script before now bytes → StoppedAtLast alone began fault new bytes
-stopped-at-last fault alone script before after now new started other stops began bytes so_far =
+stopped-at-last fault alone script before after now new started stops began bytes so_far =
     let begun = sym so_far.read.line.started ∙ started in
+    let at = stops (cut bytes).rest so_far.read.line in
     record {
+      other = unread fault alone before after _ now new _ at;
       within = within_started began.bounds script.input bytes begun so_far.read;
-      stopped = at_line fault alone began before after now new _ so_far.out (cut bytes).whole [] _ ((cut bytes).rest ++ []) other (started_line bytes begun ∙ sym (append-nil _))
-          so_far.told so_far.text (stops (cut bytes).rest so_far.read.line);
+      stopped = at_line fault alone began before after now new _ so_far.out (cut bytes).whole [] _ ((cut bytes).rest ++ []) (started_line bytes begun ∙ sym (append-nil _))
+          so_far.told so_far.text at;
     }
 
 -- what was pending at the end was written, or a write of it failed
@@ -275,6 +282,7 @@ done_closed alone log now new pending wrote began bytes done = record {
 pub broken_close : (alone : Bool) (log : List Entry) (now new : Option (List ℕ)) (pending : List ℕ) → FrontWent now new pending
     → (began : Began) (bytes : List ℕ) → IsDone alone began log now pending bytes → StoppedAtLast alone began Write new bytes
 broken_close alone log now new pending front began bytes done = record {
+  other = λ read. cc;
   within = done.within;
   stopped = record {
     done = lines_of bytes;

@@ -1,21 +1,22 @@
 -- One turn of the loop over the reader, and the ways in which it stops.
 use Rattle.std.proofs.Common.{◌≡◌, ◌≢◌, ℕ, List, [], ◌++◌, Bool, true, false, ◌∷◌, Option, refl, sym, ap, ◌∙◌, append-nil, subst, inl, inr, Result, Ok, Err}
-use Rattle.std.specs.Prelude.{OnOk, IsOk}
+use Rattle.std.specs.Prelude.{OnOk, IfErr}
 use Rattle.std.specs.Io.KnownBytes.{Appends, Consumes, Keeps, IsAtEnd}
 use Rattle.std.proofs.KnownBytes.{Consumes-trans, Consumes-kept}
 use Rattle.pgp_ids.specs.declared.entry.Entry.{Entry}
 use Rattle.pgp_core.specs.Output.{FrontWent}
-use Rattle.pgp_core.specs.Run.{AllAnswered, ReadStopped, WriteStopped}
+use Rattle.pgp_core.specs.Account.{Account, ReadFailedBy, FailedBy, WritesFailed}
+use Rattle.pgp_core.specs.Run.{AllAnswered, ReadStopped, WriteStopped, Stopped}
 use Rattle.pgp_core.specs.Script.{lines_before_cut, answers, MayMeetEach}
 use Rattle.pgp_core.specs.Lines.{lines_of}
 use Rattle.pgp_core.specs.Told.{StartsLeft}
-use Rattle.pgp_core.specs.Telling.{Began, began_at, IsAfter, IsDone, IsStopped, WentBy, StopsIn, StoppedAtLast, whole_lines, Reads, AllTold, Stops}
+use Rattle.pgp_core.specs.Telling.{Began, began_at, IsAfter, IsDone, IsStopped, WentBy, StopsIn, StoppedAtLast, whole_lines, Reads, AllTold, Stops, RanToEnd, WasStopped}
 use Rattle.pgp_core.specs.declared.input.Bounds.{Bounds}
 use Rattle.pgp_core.specs.declared.output.Output.{Output}
 use Rattle.pgp_core.specs.declared.want.Want.{Want}
 use Rattle.pgp_core.specs.declared.script.Script.{Script}
-use Rattle.pgp_core.specs.declared.fault.AnswerFault.{AnswerFault}
-use Rattle.pgp_core.specs.declared.fault.AnswerFault.TheVariants.{Read, Write, Gone}
+use Rattle.pgp_core.specs.declared.fault.ScriptFault.{ScriptFault}
+use Rattle.pgp_core.specs.declared.fault.ScriptFault.TheVariants.{Read, Write, Gone}
 use Rattle.pgp_core.proofs.OutputLemmas.{Went-none, Went-flushed, Went-all}
 use Rattle.pgp_core.proofs.RunLemmas.{stopped, all_read}
 use Rattle.pgp_core.proofs.ScriptLemmas.{answers-front, may-front}
@@ -43,7 +44,7 @@ turn alone began script new output before after from mid to now flushed then chu
 }
 
 -- before a chunk was read: what was pending was written, or a write of it failed
-pub stops_at_read : (fault : AnswerFault) (alone : Bool) (began : Began) (script : Script) (log : List Entry) (from mid to now new : Option (List ℕ)) (read_failed : Bool)
+pub stops_at_read : (fault : ScriptFault) (alone : Bool) (began : Began) (script : Script) (log : List Entry) (from mid to now new : Option (List ℕ)) (read_failed : Bool)
     → fault ≢ Gone → Reads alone began script log from mid now → WentBy fault now new script.output.pending.items → Keeps mid to → (fault ≡ Read → read_failed ≡ true)
     → Stops alone began fault from to new read_failed
 stops_at_read fault alone began script log from mid to now new read_failed known reads went kept failed = record {
@@ -54,7 +55,7 @@ stops_at_read fault alone began script log from mid to now new read_failed known
   cause = λ read. inl (failed read);
 }
 
-pub stops_in_chunk : (alone : Bool) (began : Began) (fault : AnswerFault) (script : Script) (output : Output) (log : List Entry) (from mid to now flushed then : Option (List ℕ)) (chunk : List ℕ) (read_failed : Bool)
+pub stops_in_chunk : (alone : Bool) (began : Began) (fault : ScriptFault) (script : Script) (output : Output) (log : List Entry) (from mid to now flushed then : Option (List ℕ)) (chunk : List ℕ) (read_failed : Bool)
     → Reads alone began script log from mid now → Appends now flushed script.output.pending.items → output.pending.items ≡ [] → Consumes mid to chunk
     → ((began : Began) (bytes : List ℕ) → IsAfter alone began (record script { output = output }) log flushed bytes → StopsIn alone began fault then (bytes ++ chunk))
     → Stops alone began fault from to then read_failed
@@ -83,39 +84,68 @@ ends alone began script before after from to now then reads end finish =
       went = Went-all began.written then done.out [] done.text refl;
     }
 
-pub stops_at_end : (fault : AnswerFault) (alone : Bool) (began : Began) (script : Script) (log : List Entry) (from to now then : Option (List ℕ)) (read_failed : Bool)
-    → Reads alone began script log from to now → IsAtEnd to → fault ≢ Read
+pub stops_at_end : (fault : ScriptFault) (alone : Bool) (began : Began) (script : Script) (log : List Entry) (from to now then : Option (List ℕ)) (read_failed : Bool)
+    → Reads alone began script log from to now → IsAtEnd to
     → ((began : Began) (bytes : List ℕ) → IsAfter alone began script log now bytes → StoppedAtLast alone began fault then bytes)
     → Stops alone began fault from to then read_failed
-stops_at_end fault alone began script log from to now then read_failed reads end other stop = record {
-  script = reads.bytes;
-  consumed = reads.consumed;
-  answered = inr (end, other, stop began reads.bytes reads.after);
-  cause = λ read. absurd (other read);
-}
+stops_at_end fault alone began script log from to now then read_failed reads end stop =
+    let last = stop began reads.bytes reads.after in
+    record {
+      script = reads.bytes;
+      consumed = reads.consumed;
+      answered = inr (end, last);
+      cause = λ read. absurd (last.other read);
+    }
+
+-- ---- with the calls that failed
+
+-- no read failed
+pub no_read_failed : (fault : ScriptFault) (before after : Bool) → after ≡ before → ReadFailedBy fault before after
+no_read_failed Read before after kept = tt
+no_read_failed Write before after kept = kept
+no_read_failed Gone before after kept = kept
+
+pub ran_to_end : {T : Type 0} (result : Result T ScriptFault) (alone : Bool) (bounds : Bounds) (log_before log_after : List Entry) (before after : Account)
+    → OnOk result (AllTold alone (began_at log_before bounds before.contents) log_after before.remaining after.remaining after.contents)
+    → after.read_failed ≡ before.read_failed → WritesFailed result before.write_failed after.write_failed
+    → OnOk result (RanToEnd alone bounds log_before log_after before after)
+ran_to_end (Ok x) alone bounds log_before log_after before after told unread unwritten = record { told = told; quiet = (unread, unwritten) }
+ran_to_end (Err fault) alone bounds log_before log_after before after told unread unwritten = tt
+
+pub was_stopped : {T : Type 0} (result : Result T ScriptFault) (alone : Bool) (bounds : Bounds) (log_before : List Entry) (before after : Account)
+    → IfErr result (λ fault. Stops alone (began_at log_before bounds before.contents) fault before.remaining after.remaining after.contents after.read_failed)
+    → after.read_failed ≡ before.read_failed → WritesFailed result before.write_failed after.write_failed
+    → IfErr result (WasStopped alone bounds log_before before after)
+was_stopped (Ok x) alone bounds log_before before after stops unread wrote = tt
+was_stopped (Err fault) alone bounds log_before before after stops unread wrote =
+    record { stopped = stops; failed = (no_read_failed fault before.read_failed after.read_failed unread, wrote) }
 
 -- ---- where one thread alone adds to a log that is empty at first
 
-pub all_answered : (bounds : Bounds) (after : List Entry) (from to start now : Option (List ℕ)) → AllTold true (began_at [] bounds start) after from to now → AllAnswered bounds from to start now
-all_answered bounds after from to start now told = record {
-  script = told.script;
-  consumed = told.consumed;
-  ended = told.ended;
-  answered = record { within = told.within; out = told.out; all = answers-told after (lines_of told.script) told.out told.told; went = told.went };
-}
+pub all_answered : (bounds : Bounds) (log : List Entry) (before after : Account) → RanToEnd true bounds [] log before after → AllAnswered bounds before after
+all_answered bounds log before after ran =
+    let told = ran.told in
+    record {
+      script = told.script;
+      consumed = told.consumed;
+      ended = told.ended;
+      answered = record { within = told.within; out = told.out; all = answers-told log (lines_of told.script) told.out told.told; went = told.went };
+      quiet = ran.quiet;
+    }
 
-pub read_stopped : (bounds : Bounds) (from to start now : Option (List ℕ)) (read_failed : Bool) → Stops true (began_at [] bounds start) Read from to now read_failed
-    → ReadStopped bounds from to start now read_failed
-read_stopped bounds from to start now read_failed stops = record {
+read_stopped : (bounds : Bounds) (before after : Account) → Stops true (began_at [] bounds before.contents) Read before.remaining after.remaining after.contents after.read_failed
+    → FailedBy Read before after → ReadStopped bounds before after
+read_stopped bounds before after stops failed = record {
   script = stops.script;
   consumed = stops.consumed;
   cause = stops.cause refl;
+  failed = failed;
   answered = elim stops.answered [
     | inl within ↦
         let lines : lines_before_cut bounds.lines bounds.bytes stops.script ≡ within.done =
         within.parts ∙ ap (λ l. within.done ++ l) (within.all refl) ∙ append-nil within.done in
         record { out = within.out; all = rw lines (answers-told within.log within.done within.out within.told); went = within.went }
-    | inr ended ↦ absurd (ended.1 refl)
+    | inr ended ↦ absurd (ended.1.other refl)
   ];
 }
 
@@ -135,19 +165,19 @@ front-told bounds start now lines stopped =
       front = subst (FrontWent start now) text stopped.went;
     }
 
-pub write_stopped : (bounds : Bounds) (from to start now : Option (List ℕ)) (read_failed write_failed : Bool) → Stops true (began_at [] bounds start) Write from to now read_failed
-    → write_failed ≡ true → WriteStopped bounds from to start now write_failed
-write_stopped bounds from to start now read_failed write_failed stops failed = record {
+write_stopped : (bounds : Bounds) (before after : Account) → Stops true (began_at [] bounds before.contents) Write before.remaining after.remaining after.contents after.read_failed
+    → FailedBy Write before after → WriteStopped bounds before after
+write_stopped bounds before after stops failed = record {
   script = stops.script;
   consumed = stops.consumed;
-  cause = failed;
+  failed = failed;
   answered = elim stops.answered [
     | inl within ↦
-        let told = front-told bounds start now (lines_before_cut bounds.lines bounds.bytes stops.script) within in
+        let told = front-told bounds before.contents after.contents (lines_before_cut bounds.lines bounds.bytes stops.script) within in
         inl (record { met = told.met; may = told.may; front = told.front })
     | inr ended ↦
-        let told = front-told bounds start now (lines_of stops.script) ended.2.stopped in
-        inr (ended.0, record { within = ended.2.within; met = told.met; may = told.may; front = told.front })
+        let told = front-told bounds before.contents after.contents (lines_of stops.script) ended.1.stopped in
+        inr (ended.0, record { within = ended.1.within; met = told.met; may = told.may; front = told.front })
   ];
 }
 
@@ -156,14 +186,13 @@ never_left : (lines : List (List ℕ)) → StartsLeft true lines → ⊥
 never_left [] left = left
 never_left (line ∷ lines) left = let no : true ≡ false = left.shared in cc
 
-pub never_gone : (began : Began) (from to now : Option (List ℕ)) (read_failed : Bool) → Stops true began Gone from to now read_failed → ⊥
+never_gone : (began : Began) (from to now : Option (List ℕ)) (read_failed : Bool) → Stops true began Gone from to now read_failed → ⊥
 never_gone began from to now read_failed stops = elim stops.answered [
   | inl within ↦ never_left within.others (within.left refl)
-  | inr ended ↦ never_left ended.2.stopped.others (ended.2.stopped.left refl)
+  | inr ended ↦ never_left ended.1.stopped.others (ended.1.stopped.left refl)
 ]
 
--- what an end without a fault tells
-pub ok_at : {T E F : Type 0} {P Q : Type 0} (r : Result T E) (ended : Result T F) → (P → Q) → OnOk r (IsOk ended) → OnOk ended P → OnOk r Q
-ok_at (Err e) ended goes is told = tt
-ok_at (Ok x) (Ok y) goes is told = goes told
-ok_at (Ok x) (Err f) goes is told = let no : false ≡ true = is in absurd (cc)
+pub stopped_alone : (bounds : Bounds) (before after : Account) (fault : ScriptFault) → WasStopped true bounds [] before after fault → Stopped bounds before after fault
+stopped_alone bounds before after Read was = read_stopped bounds before after was.stopped was.failed
+stopped_alone bounds before after Write was = write_stopped bounds before after was.stopped was.failed
+stopped_alone bounds before after Gone was = never_gone _ _ _ _ _ was.stopped

@@ -8,6 +8,7 @@ pub mod Input
 pub mod Output
 pub mod Wants
 pub mod Told
+pub mod Account
 pub mod Run
 pub mod Whole
 pub mod Added

@@ -1,9 +1,12 @@
 -- What a run did to its reader and writer, where one thread alone adds to the log.
-use Rattle.std.specs.Prelude.{◌≡◌, ◌⊎◌, ℕ, List, [], Bool, true, Option}
+use Rattle.std.specs.Prelude.{◌≡◌, ◌⊎◌, ℕ, List, [], true, Option}
 use Rattle.std.specs.Io.KnownBytes.{Appends, Consumes, IsAtEnd}
 use Rattle.pgp_core.specs.Lines.{lines_of}
 use Rattle.pgp_core.specs.Script.{MayMeetEach, answers, Within, Answers, lines_before_cut}
 use Rattle.pgp_core.specs.Output.{FrontWent}
+use Rattle.pgp_core.specs.Account.{Account, NoCallFailed, FailedBy}
+use Rattle.pgp_core.specs.declared.fault.ScriptFault.{ScriptFault}
+use Rattle.pgp_core.specs.declared.fault.ScriptFault.TheVariants.{Read, Write, Gone}
 use Rattle.pgp_core.specs.declared.input.Bounds.{Bounds}
 use Rattle.pgp_core.specs.declared.want.Want.{Want}
 
@@ -37,33 +40,37 @@ pub record BrokenAtEnd (bounds : Bounds) (start now : Option (List ℕ)) (bytes 
 abbrev pub IsBeyond : Bounds → List ℕ → Type 0
 IsBeyond bounds script = Within bounds.lines bounds.bytes script → ⊥
 
--- The reader gave these bytes and is at its end, and the writer got the answers to their lines.
-pub record AllAnswered (bounds : Bounds) (from to start now : Option (List ℕ)) : Type 0 where
+-- The reader gave these bytes and is at its end, and the writer got the answers to their lines. No call failed.
+pub record AllAnswered (bounds : Bounds) (before after : Account) : Type 0 where
   pub script : List ℕ
-  pub consumed : Consumes from to script
-  pub ended : IsAtEnd to
-  pub answered : Answered bounds start now script
+  pub consumed : Consumes before.remaining after.remaining script
+  pub ended : IsAtEnd after.remaining
+  pub answered : Answered bounds before.contents after.contents script
+  pub quiet : NoCallFailed before after
 
 -- The reader gave these bytes, and the writer got the answers to the lines that were read whole. A read failed, or the
--- script is too large.
-pub record ReadStopped (bounds : Bounds) (from to start now : Option (List ℕ)) (read_failed : Bool) : Type 0 where
+-- script is too large, and no write failed.
+pub record ReadStopped (bounds : Bounds) (before after : Account) : Type 0 where
   pub script : List ℕ
-  pub consumed : Consumes from to script
-  pub answered : CutOff bounds start now script
-  pub cause : (read_failed ≡ true) ⊎ IsBeyond bounds script
+  pub consumed : Consumes before.remaining after.remaining script
+  pub answered : CutOff bounds before.contents after.contents script
+  pub cause : (after.read_failed ≡ true) ⊎ IsBeyond bounds script
+  pub failed : FailedBy Read before after
 
 -- The reader gave these bytes, and the writer got a front of the answers to the lines that were read whole, or, at the
--- reader's end, to all lines. A write failed.
-pub record WriteStopped (bounds : Bounds) (from to start now : Option (List ℕ)) (write_failed : Bool) : Type 0 where
+-- reader's end, to all lines. A write failed, and no read.
+pub record WriteStopped (bounds : Bounds) (before after : Account) : Type 0 where
   pub script : List ℕ
-  pub consumed : Consumes from to script
-  pub answered : BrokenOff bounds start now script ⊎ (IsAtEnd to × BrokenAtEnd bounds start now script)
-  pub cause : write_failed ≡ true
+  pub consumed : Consumes before.remaining after.remaining script
+  pub answered : BrokenOff bounds before.contents after.contents script
+      ⊎ (IsAtEnd after.remaining × BrokenAtEnd bounds before.contents after.contents script)
+  pub failed : FailedBy Write before after
 
--- one of the two
-abbrev pub Stopped : Bounds → Option (List ℕ) → Option (List ℕ) → Option (List ℕ) → Option (List ℕ) → Bool → Bool → Type 0
-Stopped bounds from to start now read_failed write_failed =
-    ReadStopped bounds from to start now read_failed ⊎ WriteStopped bounds from to start now write_failed
+-- this fault stopped the answering
+abbrev pub Stopped : Bounds → (before after : Account) → ScriptFault → Type 0
+Stopped bounds before after Read = ReadStopped bounds before after
+Stopped bounds before after Write = WriteStopped bounds before after
+Stopped bounds before after Gone = ⊥
 
 -- ---- how large a script may be
 

@@ -24,7 +24,7 @@ mod want;
 mod whole;
 
 pub use answerer::{Answerer, NoReply};
-pub use fault::{AnswerFault, ScriptFault};
+pub use fault::ScriptFault;
 pub use input::{Bounds, SCRIPT_BOUNDS, split_line};
 pub use line::{LONGEST_LINE, all_blank};
 pub use log::Log;

@@ -1,17 +1,18 @@
 //! Answering a script: its lines are read, and the answer to each is written.
 
-ghost use Rattle.std.specs.Prelude.{◌≡◌, ◌≢◌, ℕ, ◌+◌, ◌<◌, ◌≤◌, List, [], ◌∷◌, ◌++◌, Bool, true, false, Option, OnOk, OnErr, IfOk, IsOk, IfErr, length};
+ghost use Rattle.std.specs.Prelude.{◌≡◌, ◌≢◌, ℕ, ◌+◌, ◌<◌, ◌≤◌, List, [], ◌∷◌, ◌++◌, Bool, false, Option, OnOk, IfOk, IfErr, length};
 ghost use Rattle.std.specs.List.{list_any};
-ghost use Rattle.std.specs.Io.KnownBytes.{Appends, IsAtEnd};
+ghost use Rattle.std.specs.Io.KnownBytes.{IsAtEnd};
 ghost use Rattle.pgp_ids.specs.declared.entry.Entry.{Entry};
 ghost use Rattle.pgp_core.specs.Lines.{is_line_feed};
 ghost use Rattle.pgp_core.specs.Line.{Holds};
-ghost use Rattle.pgp_core.specs.Run.{AllAnswered, ReadStopped, WriteStopped, bounds_of, script_bounds};
-ghost use Rattle.pgp_core.specs.Telling.{Began, Puts, StopsAt, IsAfter, IsDone, StoppedAtLast, WentBy, IsStopped, StopsIn, Reads, AllTold, Stops, whole_lines, began_at};
+ghost use Rattle.pgp_core.specs.Account.{account, ReadsFailed, WritesFailed, WriteFailedBy};
+ghost use Rattle.pgp_core.specs.Run.{AllAnswered, Stopped, bounds_of, script_bounds};
+ghost use Rattle.pgp_core.specs.Telling.{Began, Puts, StopsAt, IsAfter, IsDone, StoppedAtLast, WentBy, StopsIn, Reads, Stops, RanToEnd, WasStopped, began_at};
 
 use super::answerer::Answerer;
 use super::codec::Codec;
-use super::fault::{AnswerFault, ScriptFault};
+use super::fault::ScriptFault;
 use super::input::{Bounds, Input, SCRIPT_BOUNDS, split_line};
 use super::line::Unanswered;
 use super::log::Log;
@@ -73,17 +74,14 @@ impl Script {
         piece: &[u8],
         answerer: &mut A,
         writer: &mut W,
-    ) -> Result<(), AnswerFault>
+    ) -> Result<(), ScriptFault>
         ensures ok { OnOk result ((line : List ℕ) → Holds self.old.input.line line
             → Puts A.alone (A.log answerer.old) (A.log answerer.new) (line ++ piece.now) (W.contents writer.old) (W.contents writer.new)
             self.old.output.pending.items self.new.output.pending.items) }
         ensures err { IfErr result (λ fault. (line : List ℕ) → Holds self.old.input.line line
             → StopsAt A.alone fault (A.log answerer.old) (A.log answerer.new) (line ++ piece.now) (W.contents writer.old) (W.contents writer.new)
             self.old.output.pending.items) }
-        ensures not_read { result ≢ Err AnswerFault.Read }
-        ensures told { result ≡ Err AnswerFault.Write → W.failed writer.new ≡ true }
-        ensures kept { OnOk result (W.failed writer.new ≡ W.failed writer.old) }
-        ensures kept_at_gone { result ≡ Err AnswerFault.Gone → W.failed writer.new ≡ W.failed writer.old }
+        ensures failed { WritesFailed result (W.failed writer.old) (W.failed writer.new) }
         ensures left { self.new.input.left ≡ self.old.input.left }
     {
         let answer = self.input.line.answer(
@@ -100,21 +98,20 @@ impl Script {
             }
             Err(Unanswered) => {
                 self.output.close(writer)?;
-                Err(AnswerFault::Gone)
+                Err(ScriptFault::Gone)
             }
         }
     }
 
     /// Writes what is pending, and says which fault ends the script: that of the write comes first.
-    fn stop_reading<W: Sink>(&mut self, writer: &mut W) -> AnswerFault
+    fn stop_reading<W: Sink>(&mut self, writer: &mut W) -> ScriptFault
         ensures went { WentBy result (W.contents writer.old) (W.contents writer.new) self.old.output.pending.items }
-        ensures not_gone { result ≢ AnswerFault.Gone }
-        ensures told { result ≡ AnswerFault.Write → W.failed writer.new ≡ true }
-        ensures kept { result ≡ AnswerFault.Read → W.failed writer.new ≡ W.failed writer.old }
+        ensures not_gone { result ≢ ScriptFault.Gone }
+        ensures failed { WriteFailedBy result (W.failed writer.old) (W.failed writer.new) }
     {
         match self.output.close(writer) {
-            Ok(()) => AnswerFault::Read,
-            Err(_) => AnswerFault::Write,
+            Ok(()) => ScriptFault::Read,
+            Err(_) => ScriptFault::Write,
         }
     }
 
@@ -125,7 +122,7 @@ impl Script {
         piece: &[u8],
         answerer: &mut A,
         writer: &mut W,
-    ) -> Result<(), AnswerFault>
+    ) -> Result<(), ScriptFault>
         requires one_line { list_any is_line_feed piece.now ≡ false }
         requires room { 0 < self.old.input.left.lines }
         requires fits { length piece.now < self.old.input.left.bytes }
@@ -135,11 +132,8 @@ impl Script {
             → IsAfter A.alone began self.new (A.log answerer.new) (W.contents writer.new) (bytes ++ (piece.now ++ 10 ∷ []))) }
         ensures err { IfErr result (λ fault. (began : Began) (bytes more : List ℕ)
             → IsAfter A.alone began self.old (A.log answerer.old) (W.contents writer.old) bytes
-            → IsStopped A.alone began fault (W.contents writer.new) (whole_lines began (bytes ++ (piece.now ++ 10 ∷ more)))) }
-        ensures not_read { result ≢ Err AnswerFault.Read }
-        ensures told { result ≡ Err AnswerFault.Write → W.failed writer.new ≡ true }
-        ensures kept { OnOk result (W.failed writer.new ≡ W.failed writer.old) }
-        ensures kept_at_gone { result ≡ Err AnswerFault.Gone → W.failed writer.new ≡ W.failed writer.old }
+            → StopsIn A.alone began fault (W.contents writer.new) (bytes ++ (piece.now ++ 10 ∷ more))) }
+        ensures failed { WritesFailed result (W.failed writer.old) (W.failed writer.new) }
     {
         self.put_answer(alloc, piece, answerer, writer)?;
         self.input.end_line(piece);
@@ -155,7 +149,7 @@ impl Script {
         chunk: &[u8],
         answerer: &mut A,
         writer: &mut W,
-    ) -> Result<(), AnswerFault>
+    ) -> Result<(), ScriptFault>
         requires fits { length chunk.now ≤ self.old.input.left.bytes }
         ensures left { OnOk result (self.new.input.left.bytes + length chunk.now ≡ self.old.input.left.bytes) }
         ensures ok { OnOk result ((began : Began) (bytes : List ℕ)
@@ -164,10 +158,7 @@ impl Script {
         ensures err { IfErr result (λ fault. (began : Began) (bytes more : List ℕ)
             → IsAfter A.alone began self.old (A.log answerer.old) (W.contents writer.old) bytes
             → StopsIn A.alone began fault (W.contents writer.new) (bytes ++ (chunk.now ++ more))) }
-        ensures told { result ≡ Err AnswerFault.Write → W.failed writer.new ≡ true }
-        ensures kept { OnOk result (W.failed writer.new ≡ W.failed writer.old) }
-        ensures kept_at_read { result ≡ Err AnswerFault.Read → W.failed writer.new ≡ W.failed writer.old }
-        ensures kept_at_gone { result ≡ Err AnswerFault.Gone → W.failed writer.new ≡ W.failed writer.old }
+        ensures failed { WritesFailed result (W.failed writer.old) (W.failed writer.new) }
     {
         let mut rest = chunk;
         while !rest.is_empty() {
@@ -195,7 +186,7 @@ impl Script {
         chunk: &[u8],
         answerer: &mut A,
         writer: &mut W,
-    ) -> Result<(), AnswerFault>
+    ) -> Result<(), ScriptFault>
         ensures left { OnOk result (self.new.input.left.bytes + length chunk.now ≡ self.old.input.left.bytes) }
         ensures ok { OnOk result ((began : Began) (bytes : List ℕ)
             → IsAfter A.alone began self.old (A.log answerer.old) (W.contents writer.old) bytes
@@ -203,10 +194,7 @@ impl Script {
         ensures err { IfErr result (λ fault. (began : Began) (bytes : List ℕ)
             → IsAfter A.alone began self.old (A.log answerer.old) (W.contents writer.old) bytes
             → StopsIn A.alone began fault (W.contents writer.new) (bytes ++ chunk.now)) }
-        ensures told { result ≡ Err AnswerFault.Write → W.failed writer.new ≡ true }
-        ensures kept { OnOk result (W.failed writer.new ≡ W.failed writer.old) }
-        ensures kept_at_read { result ≡ Err AnswerFault.Read → W.failed writer.new ≡ W.failed writer.old }
-        ensures kept_at_gone { result ≡ Err AnswerFault.Gone → W.failed writer.new ≡ W.failed writer.old }
+        ensures failed { WritesFailed result (W.failed writer.old) (W.failed writer.new) }
     {
         if chunk.len() as u64 <= self.input.left.bytes {
             return self.take_allowed(alloc, chunk, answerer, writer);
@@ -224,17 +212,14 @@ impl Script {
         alloc: Global,
         answerer: &mut A,
         writer: &mut W,
-    ) -> Result<(), AnswerFault>
+    ) -> Result<(), ScriptFault>
         ensures ok { OnOk result ((began : Began) (bytes : List ℕ)
             → IsAfter A.alone began self.old (A.log answerer.old) (W.contents writer.old) bytes
             → IsDone A.alone began (A.log answerer.new) (W.contents writer.new) self.new.output.pending.items bytes) }
         ensures err { IfErr result (λ fault. (began : Began) (bytes : List ℕ)
             → IsAfter A.alone began self.old (A.log answerer.old) (W.contents writer.old) bytes
             → StoppedAtLast A.alone began fault (W.contents writer.new) bytes) }
-        ensures not_read { result ≢ Err AnswerFault.Read }
-        ensures told { result ≡ Err AnswerFault.Write → W.failed writer.new ≡ true }
-        ensures kept { OnOk result (W.failed writer.new ≡ W.failed writer.old) }
-        ensures kept_at_gone { result ≡ Err AnswerFault.Gone → W.failed writer.new ≡ W.failed writer.old }
+        ensures failed { WritesFailed result (W.failed writer.old) (W.failed writer.new) }
     {
         if self.input.line.started {
             self.put_answer(alloc, &[], answerer, writer)
@@ -249,17 +234,14 @@ impl Script {
         alloc: Global,
         answerer: &mut A,
         writer: &mut W,
-    ) -> Result<(), AnswerFault>
+    ) -> Result<(), ScriptFault>
         ensures ok { OnOk result ((began : Began) (bytes : List ℕ)
             → IsAfter A.alone began self.old (A.log answerer.old) (W.contents writer.old) bytes
             → IsDone A.alone began (A.log answerer.new) (W.contents writer.new) [] bytes) }
         ensures err { IfErr result (λ fault. (began : Began) (bytes : List ℕ)
             → IsAfter A.alone began self.old (A.log answerer.old) (W.contents writer.old) bytes
             → StoppedAtLast A.alone began fault (W.contents writer.new) bytes) }
-        ensures not_read { result ≢ Err AnswerFault.Read }
-        ensures told { result ≡ Err AnswerFault.Write → W.failed writer.new ≡ true }
-        ensures kept { OnOk result (W.failed writer.new ≡ W.failed writer.old) }
-        ensures kept_at_gone { result ≡ Err AnswerFault.Gone → W.failed writer.new ≡ W.failed writer.old }
+        ensures failed { WritesFailed result (W.failed writer.old) (W.failed writer.new) }
     {
         self.put_last(alloc, answerer, writer)?;
         self.output.close(writer)?;
@@ -277,7 +259,7 @@ impl Script {
         answerer: &mut A,
         reader: &mut R,
         writer: &mut W,
-    ) -> Result<usize, AnswerFault>
+    ) -> Result<usize, ScriptFault>
         ensures ok { OnOk result ((began : Began) (from : Option (List ℕ))
             → Reads A.alone began self.old (A.log answerer.old) from (R.remaining reader.old) (W.contents writer.old)
             → Reads A.alone began self.new (A.log answerer.new) from (R.remaining reader.new) (W.contents writer.new)) }
@@ -286,17 +268,13 @@ impl Script {
         ensures err { IfErr result (λ fault. (began : Began) (from : Option (List ℕ))
             → Reads A.alone began self.old (A.log answerer.old) from (R.remaining reader.old) (W.contents writer.old)
             → Stops A.alone began fault from (R.remaining reader.new) (W.contents writer.new) (R.failed reader.new)) }
-        ensures told { result ≡ Err AnswerFault.Write → W.failed writer.new ≡ true }
-        ensures kept { OnOk result ((R.failed reader.new ≡ R.failed reader.old) × (W.failed writer.new ≡ W.failed writer.old)) }
-        ensures kept_at_read { result ≡ Err AnswerFault.Read → W.failed writer.new ≡ W.failed writer.old }
-        ensures kept_at_write { result ≡ Err AnswerFault.Write → R.failed reader.new ≡ R.failed reader.old }
-        ensures kept_at_gone { result ≡ Err AnswerFault.Gone
-            → (R.failed reader.new ≡ R.failed reader.old) × (W.failed writer.new ≡ W.failed writer.old) }
+        ensures reads { ReadsFailed result (R.failed reader.old) (R.failed reader.new) }
+        ensures writes { WritesFailed result (W.failed writer.old) (W.failed writer.new) }
     {
         self.output.close(writer)?;
         let count = match reader.read(chunk) {
             Ok(count) => count,
-            Err(_) => return Err(AnswerFault::Read),
+            Err(_) => return Err(ScriptFault::Read),
         };
         if let Err(fault) = self.take(alloc, &chunk[..count], answerer, writer) {
             return Err(fault);
@@ -311,15 +289,13 @@ pub fn run_script<R: Source, W: Sink>(
     reader: &mut R,
     writer: &mut W,
 ) -> Result<(), ScriptFault>
-    ensures ok { OnOk result (AllAnswered script_bounds (R.remaining reader.old) (R.remaining reader.new)
-        (W.contents writer.old) (W.contents writer.new)) }
-    ensures read { result ≡ Err ScriptFault.Read → ReadStopped script_bounds (R.remaining reader.old) (R.remaining reader.new)
-        (W.contents writer.old) (W.contents writer.new) (R.failed reader.new) }
-    ensures write { result ≡ Err ScriptFault.Write → WriteStopped script_bounds (R.remaining reader.old) (R.remaining reader.new)
-        (W.contents writer.old) (W.contents writer.new) (W.failed writer.new) }
-    ensures kept { OnOk result ((R.failed reader.new ≡ R.failed reader.old) × (W.failed writer.new ≡ W.failed writer.old)) }
-    ensures kept_at_read { result ≡ Err ScriptFault.Read → W.failed writer.new ≡ W.failed writer.old }
-    ensures kept_at_write { result ≡ Err ScriptFault.Write → R.failed reader.new ≡ R.failed reader.old }
+    ensures ok { OnOk result (AllAnswered script_bounds
+        (account (R.remaining reader.old) (W.contents writer.old) (R.failed reader.old) (W.failed writer.old))
+        (account (R.remaining reader.new) (W.contents writer.new) (R.failed reader.new) (W.failed writer.new))) }
+    ensures err { IfErr result (Stopped script_bounds
+        (account (R.remaining reader.old) (W.contents writer.old) (R.failed reader.old) (W.failed writer.old))
+        (account (R.remaining reader.new) (W.contents writer.new) (R.failed reader.new) (W.failed writer.new))) }
+    ensures never_gone { result ≢ Err ScriptFault.Gone }
 {
     run_script_within(
         alloc,
@@ -334,7 +310,8 @@ pub fn run_script<R: Source, W: Sink>(
 ///
 /// What was read is answered to its end, and a fault says what it leaves: after [`ScriptFault::Read`] the lines that
 /// were read whole within the bounds are answered, and after [`ScriptFault::Write`] a front of the answers went out. A
-/// fault is told only where a read or a write failed, or the script is larger than its bounds.
+/// fault is told only where a read or a write failed, or the script is larger than its bounds: it is never
+/// [`ScriptFault::Gone`].
 pub fn run_script_within<R: Source, W: Sink>(
     alloc: Global,
     reader: &mut R,
@@ -342,42 +319,24 @@ pub fn run_script_within<R: Source, W: Sink>(
     max_lines: u64,
     max_bytes: u64,
 ) -> Result<(), ScriptFault>
-    ensures ok { OnOk result (AllAnswered (bounds_of max_lines max_bytes) (R.remaining reader.old) (R.remaining reader.new)
-        (W.contents writer.old) (W.contents writer.new)) }
-    ensures read { result ≡ Err ScriptFault.Read → ReadStopped (bounds_of max_lines max_bytes) (R.remaining reader.old)
-        (R.remaining reader.new) (W.contents writer.old) (W.contents writer.new) (R.failed reader.new) }
-    ensures write { result ≡ Err ScriptFault.Write → WriteStopped (bounds_of max_lines max_bytes) (R.remaining reader.old)
-        (R.remaining reader.new) (W.contents writer.old) (W.contents writer.new) (W.failed writer.new) }
-    ensures kept { OnOk result ((R.failed reader.new ≡ R.failed reader.old) × (W.failed writer.new ≡ W.failed writer.old)) }
-    ensures kept_at_read { result ≡ Err ScriptFault.Read → W.failed writer.new ≡ W.failed writer.old }
-    ensures kept_at_write { result ≡ Err ScriptFault.Write → R.failed reader.new ≡ R.failed reader.old }
+    ensures ok { OnOk result (AllAnswered (bounds_of max_lines max_bytes)
+        (account (R.remaining reader.old) (W.contents writer.old) (R.failed reader.old) (W.failed writer.old))
+        (account (R.remaining reader.new) (W.contents writer.new) (R.failed reader.new) (W.failed writer.new))) }
+    ensures err { IfErr result (Stopped (bounds_of max_lines max_bytes)
+        (account (R.remaining reader.old) (W.contents writer.old) (R.failed reader.old) (W.failed writer.old))
+        (account (R.remaining reader.new) (W.contents writer.new) (R.failed reader.new) (W.failed writer.new))) }
+    ensures never_gone { result ≢ Err ScriptFault.Gone }
 {
     let bounds = Bounds {
         lines: max_lines,
         bytes: max_bytes,
     };
-    let ended = answer_script(alloc, &mut Log::new(alloc), reader, writer, bounds);
-    of_streams(ended)
-}
-
-/// How a script ended whose answerer is never gone.
-fn of_streams(ended: Result<(), AnswerFault>) -> Result<(), ScriptFault>
-    requires { ended ≢ Err AnswerFault.Gone }
-    ensures ok { OnOk result (IsOk ended) }
-    ensures read { result ≡ Err ScriptFault.Read → ended ≡ Err AnswerFault.Read }
-    ensures write { result ≡ Err ScriptFault.Write → ended ≡ Err AnswerFault.Write }
-{
-    match ended {
-        Ok(()) => Ok(()),
-        Err(AnswerFault::Read) => Err(ScriptFault::Read),
-        Err(AnswerFault::Write) => Err(ScriptFault::Write),
-        Err(AnswerFault::Gone) => unreachable!(),
-    }
+    answer_script(alloc, &mut Log::new(alloc), reader, writer, bounds)
 }
 
 /// Has the answerer answer the script that the reader gives, within bounds.
 ///
-/// A fault says what it leaves, as at [`run_script_within`]. After [`AnswerFault::Gone`] the lines before the first one that
+/// A fault says what it leaves, as at [`run_script_within`]. After [`ScriptFault::Gone`] the lines before the first one that
 /// nobody answers are answered, and no line from there on.
 pub fn answer_script<A: Answerer, R: Source, W: Sink>(
     alloc: Global,
@@ -385,17 +344,13 @@ pub fn answer_script<A: Answerer, R: Source, W: Sink>(
     reader: &mut R,
     writer: &mut W,
     bounds: Bounds,
-) -> Result<(), AnswerFault>
-    ensures ok { OnOk result (AllTold A.alone (began_at (A.log answerer.old) bounds (W.contents writer.old)) (A.log answerer.new)
-        (R.remaining reader.old) (R.remaining reader.new) (W.contents writer.new)) }
-    ensures err { IfErr result (λ fault. Stops A.alone (began_at (A.log answerer.old) bounds (W.contents writer.old)) fault
-        (R.remaining reader.old) (R.remaining reader.new) (W.contents writer.new) (R.failed reader.new)) }
-    ensures told { result ≡ Err AnswerFault.Write → W.failed writer.new ≡ true }
-    ensures kept { OnOk result ((R.failed reader.new ≡ R.failed reader.old) × (W.failed writer.new ≡ W.failed writer.old)) }
-    ensures kept_at_read { result ≡ Err AnswerFault.Read → W.failed writer.new ≡ W.failed writer.old }
-    ensures kept_at_write { result ≡ Err AnswerFault.Write → R.failed reader.new ≡ R.failed reader.old }
-    ensures kept_at_gone { result ≡ Err AnswerFault.Gone
-        → (R.failed reader.new ≡ R.failed reader.old) × (W.failed writer.new ≡ W.failed writer.old) }
+) -> Result<(), ScriptFault>
+    ensures ok { OnOk result (RanToEnd A.alone bounds (A.log answerer.old) (A.log answerer.new)
+        (account (R.remaining reader.old) (W.contents writer.old) (R.failed reader.old) (W.failed writer.old))
+        (account (R.remaining reader.new) (W.contents writer.new) (R.failed reader.new) (W.failed writer.new))) }
+    ensures err { IfErr result (WasStopped A.alone bounds (A.log answerer.old)
+        (account (R.remaining reader.old) (W.contents writer.old) (R.failed reader.old) (W.failed writer.old))
+        (account (R.remaining reader.new) (W.contents writer.new) (R.failed reader.new) (W.failed writer.new))) }
 {
     let mut chunk = [0u8; CHUNK];
     let mut script = Script::new(alloc, bounds);

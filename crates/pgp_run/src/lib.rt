@@ -6,9 +6,7 @@
 #![tactic(auto)]
 
 mod answerer;
-mod fault;
 mod run;
 mod workers;
 
-pub use fault::RunFault;
 pub use run::run_engine;

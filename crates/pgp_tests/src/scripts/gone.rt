@@ -1,7 +1,7 @@
 //! A script whose answerer goes away.
 
 use super::fakes::{Giver, NEVER, Taker};
-use pgp_core::{AnswerFault, Answerer, Bounds, NoReply, answer_script};
+use pgp_core::{Answerer, Bounds, NoReply, ScriptFault, answer_script};
 use pgp_ids::LocateRefusal;
 use pgp_text::{Command, Refused, Reply};
 use std::alloc::Global;
@@ -37,7 +37,7 @@ const ANSWERS: &[u8] =
     b"{\"code\":42,\"refused\":\"UnknownPool\"}\n{\"code\":31,\"refused\":\"NotJson\"}\n";
 
 /// The fault that ended the script, and its answers, where the call `fails_at` of the writer fails.
-fn given(alloc: Global, script: &[u8], fails_at: usize) -> (Option<AnswerFault>, Vec<u8>) {
+fn given(alloc: Global, script: &[u8], fails_at: usize) -> (Option<ScriptFault>, Vec<u8>) {
     let bounds = Bounds {
         lines: 100,
         bytes: 1000,
@@ -52,7 +52,7 @@ fn given(alloc: Global, script: &[u8], fails_at: usize) -> (Option<AnswerFault>,
 fn answers_the_lines_before(rt: HostRuntime) {
     for script in &SCRIPTS {
         let (fault, out) = given(rt.alloc(), script, NEVER);
-        assert!(rt; fault == Some(AnswerFault::Gone) && out.as_slice() == ANSWERS);
+        assert!(rt; fault == Some(ScriptFault::Gone) && out.as_slice() == ANSWERS);
     }
 }
 
@@ -61,7 +61,7 @@ fn tells_a_failed_write_first(rt: HostRuntime) {
     for script in &SCRIPTS {
         for fails_at in 0..7 {
             let (fault, out) = given(rt.alloc(), script, fails_at);
-            assert!(rt; fault == Some(AnswerFault::Write), "call {fails_at}");
+            assert!(rt; fault == Some(ScriptFault::Write), "call {fails_at}");
             assert!(rt; ANSWERS.starts_with(out.as_slice()));
         }
     }

@@ -61,7 +61,7 @@ fn is_left(fault: Option<ScriptFault>, out: &[u8]) -> bool {
     match fault {
         None => out == ANSWERS,
         Some(ScriptFault::Write) => ANSWERS.starts_with(out),
-        Some(ScriptFault::Read) => false,
+        Some(ScriptFault::Read | ScriptFault::Gone) => false,
     }
 }
 

@@ -1,7 +1,7 @@
 //! A read or a write that fails ends a run over an engine as it ends one on one thread: with the same fault and the same bytes.
 use crate::scripts::runs::{ALL, MIDDLE, Trial, alone, over_engine};
 use crate::scripts::script::closed_script;
-use pgp_run::RunFault;
+use pgp_core::ScriptFault;
 use std::process::Abort;
 use std::sync::Wait;
 use std::test::Fail;
@@ -14,7 +14,7 @@ const CALLS: usize = 100;
 fn both_end<R: Threads + Wait + Sync + Abort + AllocGlobal>(
     rt: &R,
     trial: &Trial,
-) -> Option<RunFault> {
+) -> Option<ScriptFault> {
     let ended = over_engine(rt, rt.alloc(), trial, &MIDDLE);
     assert!(rt; ended == alone(rt.alloc(), trial));
     ended.fault
@@ -40,7 +40,7 @@ fn failing_write(script: &[u8], good_writes: usize) -> Trial<'_> {
 fn each_read_may_fail(rt: HostRuntime) -> Result<(), Fail> {
     let script = closed_script(rt.alloc())?;
     let first = both_end(&rt, &failing_read(script.as_slice(), 0));
-    assert!(&rt; first == Some(RunFault::Read));
+    assert!(&rt; first == Some(ScriptFault::Read));
     for good_reads in 1..CALLS {
         both_end(&rt, &failing_read(script.as_slice(), good_reads));
     }
@@ -53,7 +53,7 @@ fn each_read_may_fail(rt: HostRuntime) -> Result<(), Fail> {
 fn each_write_may_fail(rt: HostRuntime) -> Result<(), Fail> {
     let script = closed_script(rt.alloc())?;
     let first = both_end(&rt, &failing_write(script.as_slice(), 0));
-    assert!(&rt; first == Some(RunFault::Write));
+    assert!(&rt; first == Some(ScriptFault::Write));
     for good_writes in 1..CALLS {
         both_end(&rt, &failing_write(script.as_slice(), good_writes));
     }

@@ -2,7 +2,7 @@
 //! refused; in the gate none is.
 use crate::scripts::runs::{ALL, Size, Trial, alone, over_engine};
 use crate::scripts::script::{LINES, script_of};
-use pgp_run::RunFault;
+use pgp_core::ScriptFault;
 use std::alloc::{AllocError, Global};
 use std::process::Abort;
 use std::sync::Wait;
@@ -78,13 +78,13 @@ fn one_is_refused<R: Threads + Wait + Sync + Abort + AllocGlobal>(
             assert!(rt; others_are_the_same(rt.alloc(), ended.bytes.as_slice())?);
             Ok(())
         }
-        Some(RunFault::NoEngine) => {
+        Some(ScriptFault::Gone) => {
             assert!(rt; ended.bytes.is_empty());
             Ok(())
         }
         // The writer of the tests had no room.
-        Some(RunFault::Write) => Ok(()),
-        Some(RunFault::Read) => Err(Fail::new("a read failed")),
+        Some(ScriptFault::Write) => Ok(()),
+        Some(ScriptFault::Read) => Err(Fail::new("a read failed")),
     }
 }
 

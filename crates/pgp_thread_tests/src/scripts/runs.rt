@@ -3,7 +3,7 @@ ghost use Rattle.std.specs.Prelude.{◌≤◌};
 
 use crate::scripts::streams::{Given, Taken};
 use pgp_core::{ScriptFault, run_script};
-use pgp_run::{RunFault, run_engine};
+use pgp_run::run_engine;
 use std::alloc::Global;
 use std::sync::Wait;
 use std::thread::Threads;
@@ -45,7 +45,7 @@ pub const LARGE: Size = Size {
 /// How a run ended, and what it wrote.
 #[derive(Debug, Drop, PartialEq)]
 pub struct Ended {
-    pub fault: Option<RunFault>,
+    pub fault: Option<ScriptFault>,
     pub bytes: Vec<u8>,
 }
 
@@ -53,13 +53,9 @@ pub struct Ended {
 pub fn alone(alloc: Global, trial: &Trial) -> Ended {
     let mut reader = Given::new(trial.script, trial.good_reads);
     let mut writer = Taken::new(alloc, trial.good_writes);
-    let fault = match run_script(alloc, &mut reader, &mut writer) {
-        Ok(()) => None,
-        Err(ScriptFault::Read) => Some(RunFault::Read),
-        Err(ScriptFault::Write) => Some(RunFault::Write),
-    };
+    let ended = run_script(alloc, &mut reader, &mut writer);
     Ended {
-        fault,
+        fault: ended.err(),
         bytes: writer.bytes,
     }
 }

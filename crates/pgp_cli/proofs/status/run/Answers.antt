@@ -8,10 +8,13 @@ returns-then-options-eq0-clause-done g c done = record {
 }
 
 pub returns-then-options-eq0-clause-fault : goal.returns-then-options-eq0-clause-fault
-returns-then-options-eq0-clause-fault g c fault = inl (record {
-  alone = λ _. c.run_alone.ensures.fault fault;
-  shared = λ many. absurd (omega (arith, many, c.if-options-eq0.true));
-})
+returns-then-options-eq0-clause-fault g c fault =
+    let stopped = c.run_alone.ensures.fault fault in
+    inl (record {
+      fault = stopped.0;
+      alone = λ _. stopped.1;
+      shared = λ many. absurd (omega (arith, many, c.if-options-eq0.true));
+    })
 
 pub returns-else-options-eq0-clause-done : goal.returns-else-options-eq0-clause-done
 returns-else-options-eq0-clause-done g c done = record {
@@ -21,9 +24,10 @@ returns-else-options-eq0-clause-done g c done = record {
 
 pub returns-else-options-eq0-clause-fault : goal.returns-else-options-eq0-clause-fault
 returns-else-options-eq0-clause-fault g c fault = elim (c.run_shared.ensures.fault fault) [
-  | inl is ↦ inl (record {
+  | inl untouched ↦ inr (omega (arith, c.if-options-eq0.false), untouched.0, untouched.1)
+  | inr stopped ↦ inl (record {
+    fault = stopped.0;
     alone = λ none. absurd (c.if-options-eq0.false none);
-    shared = λ _. is;
+    shared = λ _. stopped.1;
   })
-  | inr untouched ↦ inr (omega (arith, c.if-options-eq0.false), untouched.0, untouched.1)
 ]

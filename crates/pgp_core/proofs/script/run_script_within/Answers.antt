@@ -1,18 +1,12 @@
-use Rattle.std.proofs.lemmas.Result.{IfErr-at_err}
-use Rattle.pgp_core.proofs.TurnLemmas.{all_answered, ok_at, never_gone, read_stopped, write_stopped}
+use Rattle.std.proofs.lemmas.Result.{on_ok_weaker, IfErr-weaker, IfErr-at_err}
+use Rattle.pgp_core.proofs.TurnLemmas.{all_answered, stopped_alone}
 use Rattle.pgp_core.proofs.script.run_script_within.Goals as goal
 
-pub of_streams-requires : goal.of_streams-requires
-of_streams-requires g c = λ is. never_gone _ _ _ _ _ (IfErr-at_err _ is (rw c.new.ensures at c.answer_script-ended.ensures.err))
-
 pub returns-clause-ok : goal.returns-clause-ok
-returns-clause-ok g c = ok_at _ _ (all_answered _ _ _ _ _ _) c.of_streams.ensures.ok (rw c.new.ensures at c.answer_script-ended.ensures.ok)
+returns-clause-ok g c = on_ok_weaker _ (all_answered _ _ _ _) (rw c.new.ensures at c.answer_script.ensures.ok)
 
-pub returns-clause-read : goal.returns-clause-read
-returns-clause-read g c is =
-    read_stopped _ _ _ _ _ _ (IfErr-at_err _ (c.of_streams.ensures.read is) (rw c.new.ensures at c.answer_script-ended.ensures.err))
+pub returns-clause-err : goal.returns-clause-err
+returns-clause-err g c = IfErr-weaker c.answer_script.result _ _ (stopped_alone _ _ _) (rw c.new.ensures at c.answer_script.ensures.err)
 
-pub returns-clause-write : goal.returns-clause-write
-returns-clause-write g c is =
-    write_stopped _ _ _ _ _ _ _ (IfErr-at_err _ (c.of_streams.ensures.write is) (rw c.new.ensures at c.answer_script-ended.ensures.err))
-    (c.answer_script-ended.ensures.told (c.of_streams.ensures.write is))
+pub returns-clause-never_gone : goal.returns-clause-never_gone
+returns-clause-never_gone g c gone = stopped_alone _ _ _ _ (IfErr-at_err _ gone (rw c.new.ensures at c.answer_script.ensures.err))

@@ -1,12 +1,12 @@
-use Rattle.std.proofs.Common.{sym, ap, Err}
+use Rattle.std.proofs.Common.{sym}
 use Rattle.pgp_core.proofs.RunLemmas.{passed_on, after-line, stopped-at-line}
 use Rattle.pgp_core.proofs.script.Script.end_line.Goals as goal
 
 pub returns-in_err-put_answer-clause-err : goal.returns-in_err-put_answer-clause-err
 returns-in_err-put_answer-clause-err g c =
-    passed_on _ _ _ c.from_residual.ensures.1
+    passed_on _ _ _ _ c.from_residual.ensures.1
     (stopped-at-line _ g.A.Answerer.alone c.args.self.now _ _ _ _ c.args.piece.now c.requires.one_line c.requires.room c.requires.fits
-    (λ read. c.in_err-put_answer.ensures.not_read (ap Err read)) c.in_err-put_answer.ensures.err)
+    c.in_err-put_answer.ensures.err)
 
 pub returns-clause-ok : goal.returns-clause-ok
 returns-clause-ok g c began bytes so_far =

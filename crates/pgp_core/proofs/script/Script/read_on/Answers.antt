@@ -1,12 +1,12 @@
 use Rattle.std.proofs.KnownBytes.{Keeps-refl}
-use Rattle.pgp_core.specs.declared.fault.AnswerFault.TheVariants.{Read, Write}
+use Rattle.pgp_core.specs.declared.fault.ScriptFault.TheVariants.{Read, Write}
 use Rattle.pgp_core.proofs.RunLemmas.{passed_on}
 use Rattle.pgp_core.proofs.TurnLemmas.{turn, stops_at_read, stops_in_chunk}
 use Rattle.pgp_core.proofs.script.Script.read_on.Goals as goal
 
 pub returns-in_err-close-clause-err : goal.returns-in_err-close-clause-err
 returns-in_err-close-clause-err g c =
-    passed_on _ _ _ c.from_residual.ensures.1
+    passed_on _ _ _ _ c.from_residual.ensures.1
     (λ began from reads. stops_at_read Write g.A.Answerer.alone began c.args.self.now _ _ _ _ _ _ _ (λ gone. cc) reads c.in_err-close.ensures.err (Keeps-refl _) (λ read. cc))
 
 pub returns-in-Err-clause-err : goal.returns-in-Err-clause-err

@@ -1,4 +1,4 @@
-use Rattle.std.proofs.Common.{◌<◌, [], ◌∷◌, ◌++◌, length, sym, ◌∙◌, ap, Err, subst, append-nil, append_assoc, arith, length-append}
+use Rattle.std.proofs.Common.{◌<◌, [], ◌∷◌, ◌++◌, length, sym, ◌∙◌, ap, subst, append-nil, append_assoc, arith, length-append}
 use Rattle.std.proofs.lemmas.Bool.Decides.{nat_tests}
 use Rattle.pgp_core.specs.Telling.{StopsIn}
 use Rattle.pgp_core.proofs.RunLemmas.{passed_on, stopped, all_lines, beyond_lines, taken-more, regroup, regroup_line}
@@ -20,16 +20,13 @@ returns-then-self-eq0-clause-err g c began bytes more so_far =
 
 pub returns-in_err-end_line-in-Some-clause-err : goal.returns-in_err-end_line-in-Some-clause-err
 returns-in_err-end_line-in-Some-clause-err g c =
-    passed_on _ _ _ c.from_residual.ensures.1
+    passed_on _ _ _ _ c.from_residual.ensures.1
     (λ began bytes more so_far.
     let taken = c.loop-rest.invariant.taken in
     let here = taken.goes began bytes so_far in
     subst (StopsIn g.A.Answerer.alone began c.in_err-end_line-in-Some.field-0.0 (g.W.Sink.contents c.end_line.new.writer))
     (regroup_line bytes taken.done c.loop-rest.rest.now c.args.chunk.now c.in-Some.piece.now c.in-Some.others.now more taken.whole c.in-Some.ensures.whole)
-    (record {
-      stopped = c.in_err-end_line-in-Some.ensures.err began (bytes ++ taken.done) (c.in-Some.others.now ++ more) here;
-      beyond = λ read. absurd (c.in_err-end_line-in-Some.ensures.not_read (ap Err read));
-    }))
+    (c.in_err-end_line-in-Some.ensures.err began (bytes ++ taken.done) (c.in-Some.others.now ++ more) here))
 
 pub loop-rest-preserved-in-Some : goal.loop-rest-preserved-in-Some
 loop-rest-preserved-in-Some g c =
@@ -41,7 +38,7 @@ loop-rest-preserved-in-Some g c =
     record {
       fits = omega (arith, parts, long, after_end, invariant.fits);
       left = omega (arith, parts, long, after_end, invariant.fits, invariant.left);
-      kept = c.in_ok-end_line-in-Some.ensures.kept ∙ invariant.kept;
+      kept = c.in_ok-end_line-in-Some.ensures.failed ∙ invariant.kept;
       taken = taken-more _ _ _ _ _ _ _ _ _ _ _ _ (c.in-Some.piece.now ++ 10 ∷ []) c.in-Some.others.now invariant.taken (c.in-Some.ensures.whole ∙ ended) c.in_ok-end_line-in-Some.ensures.ok;
     }
 
