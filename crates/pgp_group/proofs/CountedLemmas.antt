@@ -1,11 +1,9 @@
 -- Infos of distinct members, of which those that don't count are dropped one after another.
 use Rattle.std.proofs.Common.{◌≡◌, ◌≢◌, ◌<◌, List, Bool, true, false, not, ◌&&◌, length, get_or, refl, ap, sym, ◌∙◌, inl, inr, arith}
 use Rattle.std.specs.List.{Contains, filter}
-use Rattle.std.proofs.lemmas.Bool.{cases_Bool, cases_order}
+use Rattle.std.proofs.lemmas.Bool.{cases_Bool}
 use Rattle.std.proofs.lemmas.Bool.Decides.{nat_tests}
-use Rattle.std.proofs.lemmas.List.{get_or_default}
 use Rattle.std.proofs.lemmas.List.Filters.{length-filter_both}
-use Rattle.std.proofs.lemmas.List.Kept.{AllPairs-filter}
 use Rattle.pgp_ids.specs.Member.{is_same_member}
 use Rattle.pgp_ids.specs.declared.member.Member.{Member}
 use Rattle.pgp_ids.specs.declared.report.Info.{Info}
@@ -13,7 +11,7 @@ use Rattle.pgp_info.specs.Best.{HasDistinctMembers}
 use Rattle.pgp_info.specs.Heard.{without}
 use Rattle.pgp_lists.proofs.Members.{contains-filter, filter-agree}
 use Rattle.pgp_group.proofs.Lists.{filter-both}
-use Rattle.pgp_group.proofs.PeerLemmas.{same_member}
+use Rattle.pgp_group.proofs.PeerLemmas.{same_member, one_of_member}
 
 abbrev of_member : Member → Info → Bool
 of_member member info = is_same_member info.member member
@@ -28,18 +26,6 @@ shorter-without infos info there =
     let some : its.0 < length (filter (of_member info.member) infos) = its.1 in
     omega (arith, some, length-filter_both (of_member info.member) (λ x. not (of_member info.member x)) (λ x. refl) infos)
 
-pub distinct-without : (member : Member) (infos : List Info) → HasDistinctMembers infos → HasDistinctMembers (without member infos)
-distinct-without member infos distinct = AllPairs-filter (λ a b. a.member ≢ b.member) (λ x. not (of_member member x)) infos distinct
-
--- two infos of one member are the same
-one-of-member : (infos : List Info) → HasDistinctMembers infos → (a b : Info) → Contains infos a → Contains infos b → a.member ≡ b.member → a ≡ b
-one-of-member infos distinct a b in_a in_b same =
-    let at_b : get_or infos in_b.0 a ≡ b = get_or_default infos in_b.0 a b in_b.1 ∙ in_b.2 in
-    elim (cases_order in_a.0 in_b.0) [
-      | inl here ↦ sym in_a.2 ∙ ap (λ k. get_or infos k a) here ∙ at_b
-      | inr apart ↦ absurd (grind (arith, distinct in_a.0 in_b.0 a, distinct in_b.0 in_a.0 a, at_b, in_a.2, same))
-    ]
-
 -- those that pass a test are the same without the member of one that fails it
 pub passing-without : (test : Info → Bool) (infos : List Info) (info : Info) → HasDistinctMembers infos → Contains infos info → test info ≡ false
     → filter test (without info.member infos) ≡ filter test infos
@@ -50,7 +36,7 @@ passing-without test infos info distinct there fails =
     agree : (x : Info) → Contains infos x → (not (of_member info.member x) && test x) ≡ test x
     agree x in_x = elim (cases_Bool (of_member info.member x)) [
       | inl its ↦
-          let same : x ≡ info = one-of-member infos distinct x info in_x there (same_member x.member info.member its) in
+          let same : x ≡ info = one_of_member infos distinct x info in_x there (same_member x.member info.member its) in
           rw its (sym (ap test same ∙ fails))
       | inr other ↦ rw other refl
     ]

@@ -1,28 +1,26 @@
 -- Lists that grow, ranges, and last elements that pass a test.
-use Rattle.std.proofs.Common.{◌≡◌, ℕ, zero, suc, ◌+◌, ◌-◌, ◌<◌, List, [], ◌∷◌, ◌++◌, Option, Some, None, Bool, true, false, ◌&&◌, ◌||◌, length, map, refl, ap, ap₂, sym, ◌∙◌, inl, inr, arith, append-nil, append_assoc, drop, get_or, take}
-use Rattle.std.specs.List.{All, Contains, cons_option, filter, filter_map, flat_map, last_or, list_any, range_with_len, slice_index_or}
-use Rattle.std.proofs.lemmas.Bool.{cases_Bool, or_parts, true≢false}
-use Rattle.std.proofs.lemmas.List.{get_or-append_right, get_or-drop, length-map, length-take-le, take_more}
+use Rattle.std.proofs.Common.{◌≡◌, ℕ, zero, suc, ◌+◌, ◌-◌, ◌<◌, List, [], ◌∷◌, ◌++◌, Option, Some, None, Bool, true, false, ◌&&◌, ◌||◌, length, map, refl, ap, ap₂, sym, ◌∙◌, inl, inr, arith, append-nil, append_assoc, drop, get_or, take, is_some}
+use Rattle.std.specs.List.{All, Contains, cons_option, filter, filter_map, flat_map, last_or, list_any, range_with_len, slice_index_or, find}
+use Rattle.std.proofs.lemmas.Bool.{or_parts}
+use Rattle.std.proofs.lemmas.List.{take_more}
 use Rattle.std.proofs.lemmas.List.Elements.{filter-append, filter_map-append, All-head, All-tail}
 use Rattle.std.proofs.lemmas.List.Folds.{list_any-append}
 use Rattle.pgp_lists.proofs.Members.{Contains-nil, Contains-here, Contains-later, Contains-first, Contains-cases}
 pub use Rattle.pgp_lists.proofs.Lists.{any-mapped}
 pub use Rattle.pgp_lists.proofs.Members.{filter-agree, map-agree}
 use Rattle.pgp_map.specs.Last.{last_where}
+use Rattle.std.proofs.lemmas.Grind.{common_steps, elements}
 
 -- ---- elements that don't pass
 
 -- where no element passes a test, none passes a narrower one
 pub none-narrower : {X : Type 0} (narrow wide : X → Bool) → ((x : X) → narrow x ≡ true → wide x ≡ true) → (xs : List X) → list_any wide xs ≡ false → list_any narrow xs ≡ false
 none-narrower narrow wide each [] none = refl
-none-narrower narrow wide each (x ∷ xs) none = elim (cases_Bool (narrow x)) [
-  | inl passes ↦ absurd (true≢false (sym (each x passes) ∙ (or_parts (wide x) _ none).0))
-  | inr fails ↦ rw fails (none-narrower narrow wide each xs (or_parts (wide x) _ none).1)
-]
+none-narrower narrow wide each (x ∷ xs) none = grind (arith, each x, none-narrower narrow wide each xs)
 
 pub filter-none : {X : Type 0} (test : X → Bool) (xs : List X) → list_any test xs ≡ false → filter test xs ≡ []
 filter-none test [] none = refl
-filter-none test (x ∷ xs) none = rw ((or_parts (test x) _ none).0) (filter-none test xs (or_parts (test x) _ none).1)
+filter-none test (x ∷ xs) none = grind (arith, filter-none test xs)
 
 pub filter-fail : {X : Type 0} (test : X → Bool) (xs : List X) → All (λ x. test x ≡ false) xs → filter test xs ≡ []
 filter-fail test [] each = refl
@@ -31,18 +29,11 @@ filter-fail test (x ∷ xs) each = let here : test x ≡ false = All-head (λ x.
 -- the elements that pass two tests
 pub filter-both : {X : Type 0} (p q : X → Bool) (xs : List X) → filter (λ x. p x && q x) xs ≡ filter q (filter p xs)
 filter-both p q [] = refl
-filter-both p q (x ∷ xs) = elim (cases_Bool (p x)) [
-  | inl passes ↦ elim (cases_Bool (q x)) [
-    | inl both ↦ rw (passes, both) (ap (λ l. x ∷ l) (filter-both p q xs))
-    | inr one ↦ rw (passes, one) (filter-both p q xs)
-  ]
-  | inr fails ↦ rw fails (filter-both p q xs)
-]
+filter-both p q (x ∷ xs) = grind (arith, filter-both p q xs)
 
 pub filter-each : {X : Type 0} (p : X → Bool) (xs : List X) → ((x : X) → Contains xs x → p x ≡ true) → filter p xs ≡ xs
 filter-each p [] each = refl
-filter-each {X = X} p (x ∷ xs) each =
-    rw (each x (Contains-here x xs)) (ap (λ (l : List X). x ∷ l) (filter-each p xs (λ y there. each y (Contains-later x xs y there))))
+filter-each p (x ∷ xs) each = grind (arith, each x (Contains-here x xs), filter-each p xs (λ y there. each y (Contains-later x xs y there)))
 
 -- ---- lists that grow by one
 
@@ -50,36 +41,25 @@ pub last_or-snoc : {X : Type 0} (o : Option X) (xs : List X) (x : X) → last_or
 last_or-snoc o [] x = refl
 last_or-snoc o (y ∷ xs) x = last_or-snoc (Some y) xs x
 
--- the last element that passes is the new one, or as before
-pub last_where-passes : {X : Type 0} (test : X → Bool) (xs : List X) (x : X) → test x ≡ true → last_where test (xs ++ x ∷ []) ≡ Some x
-last_where-passes {X = X} test xs x passes =
-    let new : filter test (x ∷ []) ≡ x ∷ [] = rw passes refl in
-    ap (last_or None) (filter-append test xs (x ∷ []) ∙ ap (λ (l : List X). filter test xs ++ l) new) ∙ last_or-snoc None (filter test xs) x
-
 pub last_where-none : {X : Type 0} (test : X → Bool) (xs ys : List X) → list_any test ys ≡ false → last_where test (xs ++ ys) ≡ last_where test xs
-last_where-none {X = X} test xs ys none =
-    ap (last_or None) (filter-append test xs ys ∙ ap (λ (l : List X). filter test xs ++ l) (filter-none test ys none) ∙ append-nil (filter test xs))
+last_where-none test xs ys none = grind (arith, filter-append test xs ys, filter-none test ys none, append-nil (filter test xs))
 
 -- what is kept of a list, with one element more
 pub nothing_new : {X Y : Type 0} (f : X → Option Y) (xs : List X) (x : X) → f x ≡ None → filter_map f (xs ++ x ∷ []) ≡ filter_map f xs
-nothing_new {X = X} {Y = Y} f xs x none =
-    let new : filter_map f (x ∷ []) ≡ [] = rw none refl in
-    filter_map-append f xs (x ∷ []) ∙ ap (λ (l : List Y). filter_map f xs ++ l) new ∙ append-nil (filter_map f xs)
+nothing_new f xs x none = grind (arith, filter_map-append f xs (x ∷ []), append-nil (filter_map f xs))
 
 pub one_new : {X Y : Type 0} (f : X → Option Y) (xs : List X) (x : X) (y : Y) → f x ≡ Some y → filter_map f (xs ++ x ∷ []) ≡ filter_map f xs ++ y ∷ []
-one_new {X = X} {Y = Y} f xs x y is =
-    let new : filter_map f (x ∷ []) ≡ y ∷ [] = rw is refl in
-    filter_map-append f xs (x ∷ []) ∙ ap (λ (l : List Y). filter_map f xs ++ l) new
+one_new f xs x y is = grind (arith, filter_map-append f xs (x ∷ []))
 
 pub kept_new : {X : Type 0} (test : X → Bool) (xs : List X) (x : X) → test x ≡ true → filter test (xs ++ x ∷ []) ≡ filter test xs ++ x ∷ []
-kept_new {X = X} test xs x passes =
-    let new : filter test (x ∷ []) ≡ x ∷ [] = rw passes refl in
-    filter-append test xs (x ∷ []) ∙ ap (λ (l : List X). filter test xs ++ l) new
+kept_new test xs x passes = grind (arith, filter-append test xs (x ∷ []))
 
 pub left_new : {X : Type 0} (test : X → Bool) (xs : List X) (x : X) → test x ≡ false → filter test (xs ++ x ∷ []) ≡ filter test xs
-left_new {X = X} test xs x fails =
-    let new : filter test (x ∷ []) ≡ [] = rw fails refl in
-    filter-append test xs (x ∷ []) ∙ ap (λ (l : List X). filter test xs ++ l) new ∙ append-nil (filter test xs)
+left_new test xs x fails = grind (arith, filter-append test xs (x ∷ []), append-nil (filter test xs))
+
+-- the last element that passes is the new one, or as before
+pub last_where-passes : {X : Type 0} (test : X → Bool) (xs : List X) (x : X) → test x ≡ true → last_where test (xs ++ x ∷ []) ≡ Some x
+last_where-passes test xs x passes = ap (last_or None) (kept_new test xs x passes) ∙ last_or-snoc None (filter test xs) x
 
 -- ---- ranges
 
@@ -100,21 +80,29 @@ any-agree f g [] same = refl
 any-agree f g (x ∷ xs) same =
     ap₂ (λ a b. a || b) (same x (Contains-here x xs)) (any-agree f g xs (λ y there. same y (Contains-later x xs y there)))
 
+pub any-found : {X : Type 0} (test : X → Bool) (xs : List X) → list_any test xs ≡ is_some (find test xs)
+any-found test [] = refl
+any-found test (x ∷ xs) = grind (arith, any-found test xs)
+
 -- ---- elements of lists that are made of others
 
 pub none-append : {X : Type 0} (test : X → Bool) (xs ys : List X) → list_any test (xs ++ ys) ≡ false → (list_any test xs ≡ false) × (list_any test ys ≡ false)
 none-append test xs ys none = or_parts (list_any test xs) (list_any test ys) (sym (list_any-append test xs ys) ∙ none)
 
-pub filter_map-contains : {X Y : Type 0} (f : X → Option Y) (xs : List X) (y : Y) → Contains (filter_map f xs) y → (x : X) × (f x ≡ Some y)
-filter_map-contains f [] y there = absurd (Contains-nil y there)
-filter_map-contains {X = X} {Y = Y} f (x ∷ xs) y there = by_found (f x) refl there (filter_map-contains f xs y)
+pub filter_map-from : {X Y : Type 0} (f : X → Option Y) (xs : List X) (y : Y) → Contains (filter_map f xs) y → (x : X) × Contains xs x × (f x ≡ Some y)
+filter_map-from f [] y there = absurd (Contains-nil y there)
+filter_map-from {X = X} {Y = Y} f (x ∷ xs) y there =
+    by_found (f x) refl there (λ later. let from = filter_map-from f xs y later in (from.0, Contains-later x xs from.0 from.1, from.2))
   where
-    by_found : (found : Option Y) → f x ≡ found → Contains (cons_option found (filter_map f xs)) y → (Contains (filter_map f xs) y → (x : X) × (f x ≡ Some y)) → (x : X) × (f x ≡ Some y)
+    by_found : (found : Option Y) → f x ≡ found → Contains (cons_option found (filter_map f xs)) y → (Contains (filter_map f xs) y → (z : X) × Contains (x ∷ xs) z × (f z ≡ Some y)) → (z : X) × Contains (x ∷ xs) z × (f z ≡ Some y)
     by_found None is there' later = later there'
     by_found (Some z) is there' later = elim (Contains-cases z (filter_map f xs) y there') [
-      | inl here ↦ (x, is ∙ ap Some here)
+      | inl here ↦ (x, Contains-here x xs, is ∙ ap Some here)
       | inr rest ↦ later rest
     ]
+
+pub filter_map-contains : {X Y : Type 0} (f : X → Option Y) (xs : List X) (y : Y) → Contains (filter_map f xs) y → (x : X) × (f x ≡ Some y)
+filter_map-contains f xs y there = let from = filter_map-from f xs y there in (from.0, from.2)
 
 pub index-contains : {X : Type 0} (places : List (Option X)) (k : ℕ) (x : X) → slice_index_or places k None ≡ Some x → Contains places (Some x)
 index-contains [] k x is = cc
@@ -124,27 +112,19 @@ index-contains (place ∷ places) (suc k) x is = Contains-later place places (So
 -- ---- parts of a list, up to one more element
 
 take-next : {X : Type 0} (xs : List X) (i : ℕ) (x : X) → i < length xs → x ≡ get_or xs i x → take (i + 1) xs ≡ take i xs ++ x ∷ []
-take-next {X = X} xs i x within item = take_more xs i x within ∙ ap (λ (y : X). take i xs ++ y ∷ []) (sym item)
+take-next xs i x within item = grind (arith, take_more xs i x within)
 
 pub append-next : {X : Type 0} (before xs : List X) (i : ℕ) (x : X) → i < length xs → x ≡ get_or xs i x → before ++ take (i + 1) xs ≡ (before ++ take i xs) ++ x ∷ []
 append-next before xs i x within item = ap (λ l. before ++ l) (take-next xs i x within item) ∙ sym (append_assoc before (take i xs) (x ∷ []))
 
 pub filter-passes : {X : Type 0} (test : X → Bool) (xs : List X) (i : ℕ) (x : X) → i < length xs → x ≡ get_or xs i x → test x ≡ true → filter test (take (i + 1) xs) ≡ filter test (take i xs) ++ x ∷ []
-filter-passes {X = X} test xs i x within item passes =
-    let new : filter test (x ∷ []) ≡ x ∷ [] = rw passes refl in
-    ap (filter test) (take-next xs i x within item) ∙ filter-append test (take i xs) (x ∷ []) ∙ ap (λ (l : List X). filter test (take i xs) ++ l) new
+filter-passes test xs i x within item passes = ap (filter test) (take-next xs i x within item) ∙ kept_new test (take i xs) x passes
 
 pub filter-fails : {X : Type 0} (test : X → Bool) (xs : List X) (i : ℕ) (x : X) → i < length xs → x ≡ get_or xs i x → test x ≡ false → filter test (take (i + 1) xs) ≡ filter test (take i xs)
-filter-fails {X = X} test xs i x within item fails =
-    let new : filter test (x ∷ []) ≡ [] = rw fails refl in
-    ap (filter test) (take-next xs i x within item) ∙ filter-append test (take i xs) (x ∷ []) ∙ ap (λ (l : List X). filter test (take i xs) ++ l) new ∙ append-nil (filter test (take i xs))
+filter-fails test xs i x within item fails = ap (filter test) (take-next xs i x within item) ∙ left_new test (take i xs) x fails
 
 -- ---- a list that is written over
 
 -- what is left of a list that is written over is as it was
 pub under_way : {X : Type 0} (f : X → X) (xs ys : List X) (i : ℕ) (x : X) → i < length xs → ys ≡ map f (take i xs) ++ drop i xs → get_or ys i x ≡ get_or xs i x
-under_way f xs ys i x within so_far =
-    let sized : length (map f (take i xs)) ≡ i = length-map (take i xs) f ∙ length-take-le i xs (omega arith) in
-    let here : i + (i - i) ≡ i = omega arith in
-    ap (λ l. get_or l i x) so_far ∙ get_or-append_right (map f (take i xs)) (drop i xs) i i x sized (omega arith)
-    ∙ get_or-drop i xs (i - i) x ∙ ap (λ k. get_or xs k x) here
+under_way f xs ys i x within so_far = grind (arith, common_steps, elements)

@@ -34,7 +34,7 @@ use Rattle.pgp_group.specs.GroupHistory.{makes, primary_facts, group_history}
 use Rattle.pgp_group.proofs.DeviceLemmas.{checked-front, checked-last, up_from-stays, up_from-within}
 use Rattle.pgp_group.proofs.GrowthLemmas.{checked-numbered, epoch-snoc, has_group-unmade, history-begins-made, history-grows, history-last, next_epoch}
 use Rattle.pgp_group.proofs.HistoryLemmas.{history-current}
-use Rattle.pgp_group.proofs.PeerLemmas.{filter_map-contains}
+use Rattle.pgp_group.proofs.Lists.{filter_map-from}
 use Rattle.pgp_group.proofs.ViewLemmas.{history_there}
 
 -- the past intervals by the code of the pool, where the group was clean in these epochs
@@ -136,9 +136,9 @@ primary-up incs pg h osd is leads =
 pub acting-up : (incs : List Incremental) (pg : PgId) (h : History AnyCode) (member : Member) → group_history incs pg ≡ Some h → Contains (members_of (is_by_place h.code) h.current.acting) member → is_up incs member.osd ≡ true
 acting-up incs pg h member is acts =
     let all = acting-are_up incs pg h.current (history-current incs pg h is) in
-    let from = filter_map-contains (held_member (is_by_place h.code) h.current.acting) (range_with_len 0 (length h.current.acting)) member acts in
-    let held = map_some (λ (osd : ℕ). record { osd = osd; slot = if is_by_place h.code then from.from else 0 }) (slice_index_or h.current.acting from.from None) member from.is in
-    up-at incs h.current.acting from.from member.osd all (held.1 ∙ ap (λ (m : Member). Some m.osd) held.2)
+    let from = filter_map-from (held_member (is_by_place h.code) h.current.acting) (range_with_len 0 (length h.current.acting)) member acts in
+    let held = map_some (λ (osd : ℕ). record { osd = osd; slot = if is_by_place h.code then from.0 else 0 }) (slice_index_or h.current.acting from.0 None) member from.2 in
+    up-at incs h.current.acting from.0 member.osd all (held.1 ∙ ap (λ (m : Member). Some m.osd) held.2)
 
 -- ---- each interval was opened so
 

@@ -3,7 +3,7 @@ use Rattle.std.proofs.Common.{◌≡◌, ◌≢◌, ℕ, ◌+◌, ◌<◌, List,
 use Rattle.std.specs.List.{Contains, All, cons_option, filter, filter_map, list_any}
 use Rattle.std.specs.Option.{option_map_or}
 use Rattle.std.specs.Ordering.{on}
-use Rattle.std.proofs.lemmas.Bool.{and_parts, cases_Bool, eqb-true, true≢false}
+use Rattle.std.proofs.lemmas.Bool.{and_parts, cases_Bool, eqb-true, true≢false, cases_order}
 use Rattle.std.proofs.lemmas.Bool.Decides.{nat_tests}
 use Rattle.std.proofs.lemmas.List.Elements.{All-contains, All-contains_itself, All-weaker, filter_map-append}
 use Rattle.std.proofs.lemmas.List.Kept.{AllPairs-cons, AllPairs-filter}
@@ -22,8 +22,9 @@ use Rattle.pgp_group.specs.GroupLog.{GroupLog}
 use Rattle.pgp_info.specs.Best.{HasDistinctMembers}
 use Rattle.pgp_group.specs.Heard.{counted_infos, heard}
 use Rattle.pgp_group.proofs.HeardLemmas.{HasDistinctMembers-last_of}
-use Rattle.pgp_group.proofs.Lists.{filter-passes, filter-fails}
+use Rattle.pgp_group.proofs.Lists.{filter-passes, filter-fails, filter_map-from}
 use Rattle.pgp_group.specs.Peering.{up_members, acting_members, present_members, info_of, others_heard, is_peer, peers, peer_missing, peer_states, whole_best}
+use Rattle.std.proofs.lemmas.List.{get_or_default}
 
 -- ---- members
 
@@ -36,20 +37,12 @@ same_member_as : (a b : Member) → a ≡ b → is_same_member a b ≡ true
 same_member_as a b same = subst (λ m. is_same_member a m ≡ true) same (grind (arith, nat_tests))
 
 -- infos of distinct members that are of one member are the same
-one_of_member : (infos : List Info) → HasDistinctMembers infos → (a b : Info) → Contains infos a → Contains infos b → a.member ≡ b.member → a ≡ b
-one_of_member [] distinct a b in_a in_b same = absurd (Contains-nil a in_a)
-one_of_member (x ∷ infos) distinct a b in_a in_b same =
-    let differ : All (λ (y : Info). x.member ≢ y.member) infos = AllPairs-first (λ (y z : Info). y.member ≢ z.member) x infos distinct in
-    let rest : HasDistinctMembers infos = AllPairs-rest (λ (y z : Info). y.member ≢ z.member) x infos distinct in
-    elim (Contains-cases x infos a in_a) [
-      | inl is_a ↦ elim (Contains-cases x infos b in_b) [
-        | inl is_b ↦ sym is_a ∙ is_b
-        | inr later_b ↦ absurd (All-contains (λ (y : Info). x.member ≢ y.member) infos b differ later_b (ap (λ (i : Info). i.member) is_a ∙ same))
-      ]
-      | inr later_a ↦ elim (Contains-cases x infos b in_b) [
-        | inl is_b ↦ absurd (All-contains (λ (y : Info). x.member ≢ y.member) infos a differ later_a (ap (λ (i : Info). i.member) is_b ∙ sym same))
-        | inr later_b ↦ one_of_member infos rest a b later_a later_b same
-      ]
+pub one_of_member : (infos : List Info) → HasDistinctMembers infos → (a b : Info) → Contains infos a → Contains infos b → a.member ≡ b.member → a ≡ b
+one_of_member infos distinct a b in_a in_b same =
+    let at_b : get_or infos in_b.0 a ≡ b = get_or_default infos in_b.0 a b in_b.1 ∙ in_b.2 in
+    elim (cases_order in_a.0 in_b.0) [
+      | inl here ↦ sym in_a.2 ∙ ap (λ k. get_or infos k a) here ∙ at_b
+      | inr apart ↦ absurd (grind (arith, distinct in_a.0 in_b.0 a, distinct in_b.0 in_a.0 a, at_b, in_a.2, same))
     ]
 
 -- ---- the info of a member
@@ -78,24 +71,6 @@ info_of-is infos distinct info there =
 
 -- ---- a list of what is found
 
-pub record Mapped {X Y : Type 0} (f : X → Option Y) (xs : List X) (y : Y) : Type 0 where
-  pub from : X
-  pub there : Contains xs from
-  pub is : f from ≡ Some y
-
-cons_option-contains : {X Y : Type 0} (f : X → Option Y) (x : X) (xs : List X) (o : Option Y) (ys : List Y) (y : Y) → f x ≡ o → (Contains ys y → Mapped f (x ∷ xs) y) → Contains (cons_option o ys) y → Mapped f (x ∷ xs) y
-cons_option-contains f x xs None ys y is rest there = rest there
-cons_option-contains f x xs (Some z) ys y is rest there = elim (Contains-cases z ys y there) [
-  | inl here ↦ record { from = x; there = Contains-first x xs x refl; is = is ∙ ap Some here }
-  | inr later ↦ rest later
-]
-
-pub filter_map-contains : {X Y : Type 0} (f : X → Option Y) (xs : List X) (y : Y) → Contains (filter_map f xs) y → Mapped f xs y
-filter_map-contains f [] y there = absurd (Contains-nil y there)
-filter_map-contains f (x ∷ xs) y there =
-    cons_option-contains f x xs (f x) (filter_map f xs) y refl
-    (λ later. let rest = filter_map-contains f xs y later in record { from = rest.from; there = Contains-later x xs rest.from rest.there; is = rest.is }) there
-
 contains-cons_option : {Y : Type 0} (o : Option Y) (ys : List Y) (y : Y) → Contains ys y → Contains (cons_option o ys) y
 contains-cons_option None ys y there = there
 contains-cons_option (Some z) ys y there = Contains-later z ys y there
@@ -115,10 +90,10 @@ ascend_found f law (m ∷ members) ascend =
   where
     behind : (info other : Info) → f m ≡ Some info → Contains (filter_map f members) other → is_before info.member other.member ≡ true
     behind info other is there =
-        let from = filter_map-contains f members other there in
-        let before : is_before m from.from ≡ true = All-contains (λ (y : Member). is_before m y ≡ true) members from.from (AllPairs-first (λ (x y : Member). is_before x y ≡ true) m members ascend) from.there in
+        let from = filter_map-from f members other there in
+        let before : is_before m from.0 ≡ true = All-contains (λ (y : Member). is_before m y ≡ true) members from.0 (AllPairs-first (λ (x y : Member). is_before x y ≡ true) m members ascend) from.1 in
         subst (λ (k : Member). is_before k other.member ≡ true) (sym (law m info is))
-        (subst (λ (k : Member). is_before m k ≡ true) (sym (law from.from other from.is)) before)
+        (subst (λ (k : Member). is_before m k ≡ true) (sym (law from.0 other from.2)) before)
 
     with_first : IsAscending (on (λ (info : Info). info.member) is_before) (filter_map f members) → (o : Option Info) → f m ≡ o → IsAscending (on (λ (info : Info). info.member) is_before) (cons_option o (filter_map f members))
     with_first rest None is = rest
@@ -139,12 +114,12 @@ standing g = up_members g ++ acting_members g
 pub peers-contains : (g : GroupLog) (best info : Info) → Contains (peers g best) info → Contains (heard g) info × (is_peer g best info.member ≡ true)
 unfolding is_other standing
 peers-contains g best info in' =
-    let from = filter_map-contains (info_of (heard g)) (filter (is_other best) (present_members g)) info in' in
-    let found = found_of (heard g) from.from info from.is in
-    let kept = filter-contains (is_other best) (present_members g) from.from from.there in
-    let stands : Contains (standing g) from.from = ascending-contains is_before (standing g) from.from kept.0 in
-    let any : list_any (is_same_member from.from) (standing g) ≡ true = contains-any (is_same_member from.from) (standing g) from.from stands (same_member_as from.from from.from refl) in
-    let peer : is_peer g best from.from ≡ true = rw any kept.1 in
+    let from = filter_map-from (info_of (heard g)) (filter (is_other best) (present_members g)) info in' in
+    let found = found_of (heard g) from.0 info from.2 in
+    let kept = filter-contains (is_other best) (present_members g) from.0 from.1 in
+    let stands : Contains (standing g) from.0 = ascending-contains is_before (standing g) from.0 kept.0 in
+    let any : list_any (is_same_member from.0) (standing g) ≡ true = contains-any (is_same_member from.0) (standing g) from.0 stands (same_member_as from.0 from.0 refl) in
+    let peer : is_peer g best from.0 ≡ true = rw any kept.1 in
     (found.there, subst (λ m. is_peer g best m ≡ true) (sym found.of_member) peer)
 
 pub contains-peers : (g : GroupLog) (best info : Info) → Contains (heard g) info → is_peer g best info.member ≡ true → Contains (peers g best) info

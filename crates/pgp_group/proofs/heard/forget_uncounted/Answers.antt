@@ -3,9 +3,10 @@ use Rattle.std.specs.List.{Contains, filter}
 use Rattle.pgp_ids.specs.declared.report.Info.{Info}
 use Rattle.pgp_info.specs.Best.{HasDistinctMembers}
 use Rattle.pgp_info.specs.Heard.{Heard}
+use Rattle.pgp_info.proofs.BestLemmas.{distinct_without}
 use Rattle.pgp_info.specs.declared.preference.Preference.{Preference}
 use Rattle.pgp_group.specs.KeptInfos.{counts}
-use Rattle.pgp_group.proofs.CountedLemmas.{distinct-without, passing-without, shorter-without}
+use Rattle.pgp_group.proofs.CountedLemmas.{passing-without, shorter-without}
 use Rattle.pgp_group.proofs.heard.forget_uncounted.Goals as goal
 
 pub loop-info-preserved : goal.loop-info-preserved
@@ -18,7 +19,7 @@ loop-info-preserved c =
       left = λ g here distinct.
           let was = c.loop-info.invariant.left g here distinct in
           let fails = c.in-Some.ensures.uncounted g here in (
-            subst (λ (h : Heard Preference). HasDistinctMembers h.infos) (sym c.drop_member.ensures) (distinct-without info.member now.infos was.0),
+            subst (λ (h : Heard Preference). HasDistinctMembers h.infos) (sym c.drop_member.ensures) (distinct_without info.member now.infos was.0),
             ap (λ (h : Heard Preference). filter (counts g) h.infos) c.drop_member.ensures
                 ∙ passing-without (counts g) now.infos info was.0 there fails
                 ∙ was.1,
