@@ -9,23 +9,16 @@ use Rattle.pgp_ids.specs.declared.incremental.Incremental.{Incremental}
 use Rattle.pgp_lists.proofs.Last.{last_found, last_where-append, last_where-some}
 use Rattle.pgp_lists.proofs.Lists.{flat_map-push}
 use Rattle.pgp_lists.proofs.Options.{if_none, none_is, some_is}
-use Rattle.pgp_lists.proofs.Taken.{taken-front, taken-induction, taken-last}
+use Rattle.pgp_lists.proofs.Taken.{taken-induction}
 use Rattle.pgp_map.specs.Checked.{are_checked, is_faultless}
 use Rattle.pgp_map.specs.Devices.{boots, is_up, up_from, lost_at, told_epoch, greatest_epoch}
 use Rattle.pgp_map.specs.Last.{last_where}
 use Rattle.pgp_map.specs.Map.{epoch}
 use Rattle.pgp_map.specs.MapFault.{map_fault, then_with, has_already_up}
-use Rattle.pgp_group.proofs.GrowthLemmas.{Shortens, EndsWell, epoch-snoc, next_epoch}
+pub use Rattle.pgp_group.proofs.GrowthLemmas.{checked-front, checked-last}
+use Rattle.pgp_group.proofs.GrowthLemmas.{epoch-snoc, next_epoch}
 use Rattle.pgp_group.proofs.LaterLemmas.{up_from-snoc}
-use Rattle.pgp_group.proofs.Lists.{last_where-none, left_new, none-narrower}
-
--- ---- lists that were checked
-
-pub checked-front : Shortens
-checked-front = λ incs later checked. taken-front is_faultless incs later checked
-
-pub checked-last : EndsWell
-checked-last = λ incs inc checked. none_is (map_fault incs inc) (taken-last is_faultless incs inc checked)
+use Rattle.pgp_group.proofs.Lists.{last_where-none, left_new, none-narrower, last_or-any}
 
 -- ---- since when a device is up
 
@@ -59,16 +52,8 @@ up_from-within osd =
 
 -- ---- epochs that are told of a device
 
--- with elements of the second list that pass, the last that passes is one of these
-last_or-later : {X : Type 0} (test : X → Bool) (o : Option X) (ys : List X) → list_any test ys ≡ true → last_or o (filter test ys) ≡ last_or None (filter test ys)
-last_or-later test o [] some = cc
-last_or-later test o (y ∷ ys) some = elim (cases_Bool (test y)) [
-  | inl passes ↦ rw passes refl
-  | inr fails ↦ rw fails (last_or-later test o ys (rw fails at some))
-]
-
 pub last_where-later : {X : Type 0} (test : X → Bool) (xs ys : List X) → list_any test ys ≡ true → last_where test (xs ++ ys) ≡ last_where test ys
-last_where-later test xs ys some = last_where-append test xs ys ∙ last_or-later test (last_where test xs) ys some
+last_where-later test xs ys some = last_where-append test xs ys ∙ last_or-any test (last_where test xs) None ys some
 
 -- an epoch that is told of a device doesn't fall, where none that is told is below the one before
 told_epoch-rises : (old new : List DeviceEpoch) (osd : ℕ) → list_any (λ told. nat_lt told.epoch (told_epoch old told.osd)) new ≡ false → told_epoch old osd ≤ told_epoch (old ++ new) osd

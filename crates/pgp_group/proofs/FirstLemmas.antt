@@ -1,5 +1,5 @@
 -- How the first epoch of the current interval moves with each incremental.
-use Rattle.std.proofs.Common.{◌≡◌, ◌≢◌, ℕ, ◌+◌, ◌≤◌, List, [], ◌∷◌, ◌++◌, Some, true, append-nil, append_assoc, ap, sym, ◌∙◌, subst, inl, inr, arith}
+use Rattle.std.proofs.Common.{◌≡◌, ◌≢◌, ℕ, ◌+◌, ◌≤◌, List, [], ◌∷◌, ◌++◌, Some, true, ap, sym, ◌∙◌, subst, inl, inr, arith}
 use Rattle.std.specs.Prelude.{◌↔◌, IsTrue}
 use Rattle.std.proofs.lemmas.Bool.{cases_Bool, true≢false}
 use Rattle.std.proofs.lemmas.Option.{same_Some}
@@ -13,39 +13,44 @@ use Rattle.pgp_interval.specs.Interval.{IsInterval}
 use Rattle.pgp_interval.specs.Runs.{current_first}
 use Rattle.pgp_interval.specs.SameMembers.{is_same}
 use Rattle.pgp_lists.proofs.Options.{map_some, some_is}
-use Rattle.pgp_map.specs.Checked.{are_checked}
+use Rattle.pgp_map.specs.Checked.{are_checked, is_faultless}
 use Rattle.pgp_map.specs.Map.{epoch}
 use Rattle.pgp_map.specs.MapFault.{then_with}
 use Rattle.pgp_sets.specs.Sets.{membership}
 use Rattle.pgp_group.specs.GroupHistory.{primary_facts, group_history}
 use Rattle.pgp_group.proofs.GrowthLemmas.{Shortens, EndsWell, checked-numbered, has_group-grows, history-grows, history-last, next_epoch}
 use Rattle.pgp_group.proofs.ViewLemmas.{history_there}
+use Rattle.pgp_lists.proofs.Taken.{taken-along, taken-more}
+use Rattle.pgp_interval.proofs.StepLemmas.{current_first-continues, current_first-ends}
 
 -- what a step does to the first epoch of the current interval
 pub record Steps : Type 0 where
   pub goes_on : (h : History AnyCode) (facts : PrimaryFacts) → current_first (stepped h h.current facts) ≡ current_first h
   pub opens : (h : History AnyCode) (members : Membership) (facts : PrimaryFacts) → members ≢ h.current → current_first (stepped h members facts) ≡ h.first + last_place h + 1
 
--- one more incremental without fault makes the new history of the old one
-record Grown (incs : List Incremental) (inc : Incremental) (h after : History AnyCode) : Type 0 where
-  members : Membership
-  facts : PrimaryFacts
-  is : stepped h members facts ≡ after
+pub steps : Steps
+steps = record { goes_on = λ h facts. current_first-continues h facts; opens = λ h members facts new. current_first-ends h members facts new }
 
-grown : Shortens → EndsWell → (incs : List Incremental) (inc : Incremental) (pg : PgId) (h after : History AnyCode) → are_checked (then_with incs inc) ≡ true
-    → group_history incs pg ≡ Some h → group_history (then_with incs inc) pg ≡ Some after → Grown incs inc h after
+-- one more incremental without fault makes the new history of the old one
+pub record Grown (incs : List Incremental) (h after : History AnyCode) : Type 0 where
+  pub members : Membership
+  pub is : stepped h members (primary_facts incs h.current.acting_primary) ≡ after
+
+pub grown : Shortens → EndsWell → (incs : List Incremental) (inc : Incremental) (pg : PgId) (h after : History AnyCode) → are_checked (then_with incs inc) ≡ true
+    → group_history incs pg ≡ Some h → group_history (then_with incs inc) pg ≡ Some after → Grown incs h after
 grown shorten fine incs inc pg h after checked is then' =
     let facts : PrimaryFacts = primary_facts incs h.current.acting_primary in
     let grows = history-grows incs inc pg h (checked-numbered shorten fine incs (shorten incs (inc ∷ []) checked)) (fine incs inc checked) is in
     let m = map_some (λ members. stepped h members facts) (membership (then_with incs inc) pg) after (sym grows ∙ then') in
-    record { members = m.0; facts = facts; is = m.2 }
+    record { members = m.0; is = m.2 }
 
 pub first-goes_on : Shortens → EndsWell → Steps → (incs : List Incremental) (inc : Incremental) (pg : PgId) (h after : History AnyCode) → are_checked (then_with incs inc) ≡ true
     → group_history incs pg ≡ Some h → group_history (then_with incs inc) pg ≡ Some after → after.current ≡ h.current → current_first after ≡ current_first h
 first-goes_on shorten fine steps incs inc pg h after checked is then' same =
     let g = grown shorten fine incs inc pg h after checked is then' in
     let stays : g.members ≡ h.current = ap (λ (t : History AnyCode). t.current) g.is ∙ same in
-    ap current_first (sym g.is) ∙ ap (λ (m : Membership). current_first (stepped h m g.facts)) stays ∙ steps.goes_on h g.facts
+    let facts : PrimaryFacts = primary_facts incs h.current.acting_primary in
+    ap current_first (sym g.is) ∙ ap (λ (m : Membership). current_first (stepped h m facts)) stays ∙ steps.goes_on h facts
 
 pub first-opens : Shortens → EndsWell → Steps → (incs : List Incremental) (inc : Incremental) (pg : PgId) (h after : History AnyCode) → are_checked (then_with incs inc) ≡ true
     → group_history incs pg ≡ Some h → group_history (then_with incs inc) pg ≡ Some after → after.current ≢ h.current → current_first after ≡ inc.epoch
@@ -53,7 +58,7 @@ first-opens shorten fine steps incs inc pg h after checked is then' differ =
     let g = grown shorten fine incs inc pg h after checked is then' in
     let moves : g.members ≢ h.current = λ same. differ (ap (λ (t : History AnyCode). t.current) (sym g.is) ∙ same) in
     let counts = checked-numbered shorten fine incs (shorten incs (inc ∷ []) checked) in
-    let opened : current_first after ≡ h.first + last_place h + 1 = ap current_first (sym g.is) ∙ steps.opens h g.members g.facts moves in
+    let opened : current_first after ≡ h.first + last_place h + 1 = ap current_first (sym g.is) ∙ steps.opens h g.members _ moves in
     omega (arith, opened, history-last incs pg h counts is, next_epoch incs inc (fine incs inc checked))
 
 -- ---- along a list
@@ -91,17 +96,16 @@ history-goes_on shorten fine incs inc pg h checked is =
 pub along : Shortens → EndsWell → (pg : PgId) (Kept : List Incremental → History AnyCode → Type 0)
     → ((incs : List Incremental) (inc : Incremental) (h after : History AnyCode) → are_checked (then_with incs inc) ≡ true → group_history incs pg ≡ Some h → group_history (then_with incs inc) pg ≡ Some after → Kept incs h → Kept (then_with incs inc) after)
     → (later incs : List Incremental) (h after : History AnyCode) → are_checked (incs ++ later) ≡ true → group_history incs pg ≡ Some h → group_history (incs ++ later) pg ≡ Some after → Kept incs h → Kept (incs ++ later) after
-along shorten fine pg Kept step [] incs h after checked is then' kept =
-    let all : incs ++ [] ≡ incs = append-nil incs in
-    let same : h ≡ after = same_Some h after (sym is ∙ ap (λ l. group_history l pg) (sym all) ∙ then') in
-    subst (λ l. Kept l after) (sym all) (subst (Kept incs) same kept)
-along shorten fine pg Kept step (inc ∷ later) incs h after checked is then' kept =
-    let all : incs ++ inc ∷ later ≡ then_with incs inc ++ later = sym (append_assoc incs (inc ∷ []) later) in
-    let checked' : are_checked (then_with incs inc ++ later) ≡ true = ap are_checked (sym all) ∙ checked in
-    let one : are_checked (then_with incs inc) ≡ true = shorten (then_with incs inc) later checked' in
-    let next = history-goes_on shorten fine incs inc pg h one is in
-    subst (λ l. Kept l after) (sym all)
-    (along shorten fine pg Kept step later (then_with incs inc) next.0 after checked' next.1 (ap (λ l. group_history l pg) (sym all) ∙ then') (step incs inc h next.0 one is next.1 kept))
+along shorten fine pg Kept step later incs h after checked is then' kept =
+    let last = taken-along is_faultless (λ (l : List Incremental). (now : History AnyCode) × (group_history l pg ≡ Some now) × Kept l now) next incs later checked (h, is, kept) in
+    subst (Kept (incs ++ later)) (same_Some last.0 after (sym last.1 ∙ then')) last.2
+  where
+    next : (l : List Incremental) (inc : Incremental) → are_checked l ≡ true → is_faultless l inc ≡ true → (now : History AnyCode) × (group_history l pg ≡ Some now) × Kept l now
+        → (now : History AnyCode) × (group_history (then_with l inc) pg ≡ Some now) × Kept (then_with l inc) now
+    next l inc checked' faultless so_far =
+        let one = taken-more is_faultless l inc checked' faultless in
+        let goes = history-goes_on shorten fine l inc pg so_far.0 one so_far.1 in
+        (goes.0, goes.1, step l inc so_far.0 goes.0 one so_far.1 goes.1 so_far.2)
 
 pub first-never_falls : Shortens → EndsWell → Steps → Decides → Opens → (incs later : List Incremental) (pg : PgId) (h after : History AnyCode) → are_checked (incs ++ later) ≡ true
     → group_history incs pg ≡ Some h → group_history (incs ++ later) pg ≡ Some after → current_first h ≤ current_first after

@@ -50,11 +50,12 @@ use Rattle.pgp_group.specs.declared.named_devices.NamedDevices.{NamedDevices}
 use Rattle.pgp_group.specs.declared.kept_prior.KeptPrior.{KeptPrior}
 use Rattle.pgp_group.specs.declared.reports.Reports.{Reports}
 use Rattle.pgp_group.proofs.GrowthLemmas.{history-begins, history-grows, next_epoch, numbered-more}
-use Rattle.pgp_group.proofs.InfosLemmas.{KeepsInfos-same, KeepsInfos-inc, moves}
+use Rattle.pgp_group.proofs.InfosLemmas.{moves, KeepsInfos-on}
+use Rattle.pgp_group.proofs.LaterLemmas.{outlasts-same, outlasts-inc}
 use Rattle.pgp_group.proofs.Lists.{any-mapped, nothing_new, one_new, kept_new, left_new}
 use Rattle.pgp_group.proofs.NamesLemmas.{KeepsNames-begun, KeepsNames-same, KeepsNames-ended}
 use Rattle.pgp_group.proofs.PriorLemmas.{KeepsPrior-grown}
-use Rattle.pgp_group.proofs.ReportsLemmas.{KeepsReports-same, KeepsReports-inc}
+use Rattle.pgp_group.proofs.ReportsLemmas.{KeepsReports-on}
 use Rattle.pgp_group.proofs.RiseLemmas.{les-later}
 
 -- ---- an entry that brings no map
@@ -94,7 +95,18 @@ past-same g after same told = λ i. past_intervals enough_of is_by_place (cleans
 intervals-same : (g after : GroupLog) (intervals : Running AnyCode) → infos after ≡ infos g → IsIntervalsOf enough_of is_by_place after.history (cleans g) intervals → IsIntervalsOf enough_of is_by_place after.history (cleans after) intervals
 intervals-same g after intervals told is = subst (λ (epochs : List ℕ). IsIntervalsOf enough_of is_by_place after.history epochs intervals) (sym (cleans-same g after told)) is
 
--- what a group has, after an entry that brings neither a map nor an info of the group
+-- what a group has, after an entry that brings no map
+pub IsGroupOf-report : (log : List Entry) (new : Entry) (pg : PgId) (old group : Group) (is : IsGroupOf log pg old) → inc_of new ≡ None → Keeps (group_with (log ++ new ∷ []) pg is.history) group → IsGroupOf (log ++ new ∷ []) pg group
+IsGroupOf-report log new pg old group is none kept =
+    let incs : incs_of (log ++ new ∷ []) ≡ incs_of log = nothing_new inc_of log new none in
+    record {
+      history = is.history;
+      history_is = ap (λ (l : List Incremental). group_history l pg) incs ∙ is.history_is;
+      numbered = subst AreNumbered (sym incs) is.numbered;
+      keeps = kept;
+    }
+
+-- the same, where it brings no info of the group either
 pub IsGroupOf-other : (log : List Entry) (new : Entry) (pg : PgId) (old group : Group) (is : IsGroupOf log pg old) → inc_of new ≡ None
     → filter (λ (i : Info). is_same_group i.pg pg) (infos_of (log ++ new ∷ [])) ≡ filter (λ (i : Info). is_same_group i.pg pg) (infos_of log)
     → group.pg ≡ old.pg → left_alone group ≡ left_alone old
@@ -105,23 +117,17 @@ pub IsGroupOf-other : (log : List Entry) (new : Entry) (pg : PgId) (old group : 
 IsGroupOf-other log new pg old group is none told pg_is left infos' reports' named' =
     let g : GroupLog = group_with log pg is.history in
     let after : GroupLog = group_with (log ++ new ∷ []) pg is.history in
-    let incs : incs_of (log ++ new ∷ []) ≡ incs_of log = nothing_new inc_of log new none in
-    record {
-      history = is.history;
-      history_is = ap (λ (l : List Incremental). group_history l pg) incs ∙ is.history_is;
-      numbered = subst AreNumbered (sym incs) is.numbered;
-      keeps = record {
-        pg_is = pg_is ∙ is.keeps.pg_is;
-        intervals_are = intervals-same g after group.intervals told
-            (subst (IsIntervalsOf enough_of is_by_place is.history (cleans g)) (sym (ap (λ (parts : Running AnyCode × KeptPrior). parts.0) left)) is.keeps.intervals_are);
-        infos_are = infos';
-        reports_are = reports';
-        named_are = named';
-        prior_is = subst (KeepsPrior after) (sym (ap (λ (parts : Running AnyCode × KeptPrior). parts.1) left))
-            (KeepsPrior-grown g after old.reckoned [] refl
-            (past-same g after refl told ∙ sym (append-nil (past g))) (les-grows log new pg is.history is.history) is.keeps.prior_is);
-      };
-    }
+    IsGroupOf-report log new pg old group is none (record {
+      pg_is = pg_is ∙ is.keeps.pg_is;
+      intervals_are = intervals-same g after group.intervals told
+          (subst (IsIntervalsOf enough_of is_by_place is.history (cleans g)) (sym (ap (λ (parts : Running AnyCode × KeptPrior). parts.0) left)) is.keeps.intervals_are);
+      infos_are = infos';
+      reports_are = reports';
+      named_are = named';
+      prior_is = subst (KeepsPrior after) (sym (ap (λ (parts : Running AnyCode × KeptPrior). parts.1) left))
+          (KeepsPrior-grown g after old.reckoned [] refl
+          (past-same g after refl told ∙ sym (append-nil (past g))) (les-grows log new pg is.history is.history) is.keeps.prior_is);
+    })
 
 -- an info of the group, and one of another
 pub infos-new : (log : List Entry) (info : Info) (pg : PgId) → is_same_group info.pg pg ≡ true
@@ -155,14 +161,14 @@ pub infos-kept : (log : List Entry) (new : Entry) (pg : PgId) (h : History AnyCo
     → filter (λ (info : Info). is_same_group info.pg pg) (infos_of (log ++ new ∷ [])) ≡ filter (λ (info : Info). is_same_group info.pg pg) (infos_of log)
     → KeepsInfos (group_with log pg h) kept → KeepsInfos (group_with (log ++ new ∷ []) pg h) kept
 infos-kept log new pg h kept none told is =
-    KeepsInfos-same (group_with log pg h) (group_with (log ++ new ∷ []) pg h) kept told (nothing_new inc_of log new none) refl is
+    KeepsInfos-on (group_with log pg h) (group_with (log ++ new ∷ []) pg h) kept kept (outlasts-same _ _ (nothing_new inc_of log new none) refl) told is refl refl refl refl refl
 
 -- the same of reports of log entries
 pub reports-kept : (log : List Entry) (new : Entry) (pg : PgId) (h : History AnyCode) (kept : Reports) → inc_of new ≡ None
     → filter (λ (report : Report). is_same_group report.pg pg) (reports_of (log ++ new ∷ [])) ≡ filter (λ (report : Report). is_same_group report.pg pg) (reports_of log)
     → KeepsReports (group_with log pg h) kept → KeepsReports (group_with (log ++ new ∷ []) pg h) kept
 reports-kept log new pg h kept none told is =
-    KeepsReports-same (group_with log pg h) (group_with (log ++ new ∷ []) pg h) kept told (nothing_new inc_of log new none) refl is
+    KeepsReports-on (group_with log pg h) (group_with (log ++ new ∷ []) pg h) kept kept (outlasts-same _ _ (nothing_new inc_of log new none) refl) told is refl refl refl refl
 
 -- the same of the devices of which it speaks
 pub names-kept : (log : List Entry) (new : Entry) (pg : PgId) (h : History AnyCode) (named : NamedDevices)
@@ -208,30 +214,6 @@ stood-told log info pg h same osd =
     ∙ ap (list_any (was_member osd)) (past_intervals-more enough_of is_by_place epochs more h)
     ∙ any-mapped (raised (enough_of h.code) (is_by_place h.code) more) (was_member osd) (past_intervals enough_of is_by_place epochs h)
 
--- what a group has, after an info of it
-pub IsGroupOf-told : (log : List Entry) (info : Info) (pg : PgId) (old group : Group) (is : IsGroupOf log pg old) → group.pg ≡ old.pg
-    → IsIntervalsOf enough_of is_by_place is.history (cleans (group_with (log ++ entry.Info info ∷ []) pg is.history)) group.intervals
-    → KeepsInfos (group_with (log ++ entry.Info info ∷ []) pg is.history) group.infos
-    → KeepsReports (group_with (log ++ entry.Info info ∷ []) pg is.history) group.reports
-    → KeepsNames (group_with (log ++ entry.Info info ∷ []) pg is.history) group.named
-    → KeepsPrior (group_with (log ++ entry.Info info ∷ []) pg is.history) group.reckoned
-    → IsGroupOf (log ++ entry.Info info ∷ []) pg group
-IsGroupOf-told log info pg old group is pg_is intervals infos' reports' named' prior' =
-    let incs : incs_of (log ++ entry.Info info ∷ []) ≡ incs_of log = nothing_new inc_of log (entry.Info info) refl in
-    record {
-      history = is.history;
-      history_is = ap (λ (l : List Incremental). group_history l pg) incs ∙ is.history_is;
-      numbered = subst AreNumbered (sym incs) is.numbered;
-      keeps = record {
-        pg_is = pg_is ∙ is.keeps.pg_is;
-        intervals_are = intervals;
-        infos_are = infos';
-        reports_are = reports';
-        named_are = named';
-        prior_is = prior';
-      };
-    }
-
 -- ---- an incremental
 
 pub IsGroupOf-inc : (log : List Entry) (inc : Incremental) (pg : PgId) (old group : Group) (members : Membership) (is : IsGroupOf log pg old) → map_fault (incs_of log) inc ≡ None
@@ -244,6 +226,8 @@ IsGroupOf-inc log inc pg old group members is fine lies pg_is infos' reports' re
     let incs : incs_of (log ++ entry.Inc inc ∷ []) ≡ then_with (incs_of log) inc = one_new inc_of log (entry.Inc inc) inc refl in
     let after : History AnyCode = stepped is.history members (primary_facts (incs_of log) is.history.current.acting_primary) in
     let told = infos-same log (entry.Inc inc) pg refl in
+    let on = outlasts-inc (group_with log pg is.history) (group_with (log ++ entry.Inc inc ∷ []) pg after) inc incs (next_epoch (incs_of log) inc fine)
+    (moves (incs_of log) pg is.history members (primary_facts (incs_of log) is.history.current.acting_primary) is.numbered is.history_is) in
     let grown = past-grows (cleans (group_with log pg is.history)) is.history members (primary_facts (incs_of log) is.history.current.acting_primary) in
     record {
       history = after;
@@ -255,15 +239,9 @@ IsGroupOf-inc log inc pg old group members is fine lies pg_is infos' reports' re
         pg_is = pg_is ∙ is.keeps.pg_is;
         intervals_are = intervals-same (group_with log pg is.history) (group_with (log ++ entry.Inc inc ∷ []) pg after) group.intervals told intervals;
         infos_are = subst (KeepsInfos (group_with (log ++ entry.Inc inc ∷ []) pg after)) (sym infos')
-            (KeepsInfos-inc (group_with log pg is.history) (group_with (log ++ entry.Inc inc ∷ []) pg after) inc old.infos
-            told incs (next_epoch (incs_of log) inc fine)
-            (moves (incs_of log) pg is.history members (primary_facts (incs_of log) is.history.current.acting_primary) is.numbered is.history_is)
-            is.keeps.infos_are);
+            (KeepsInfos-on (group_with log pg is.history) (group_with (log ++ entry.Inc inc ∷ []) pg after) old.infos old.infos on told is.keeps.infos_are refl refl refl refl refl);
         reports_are = subst (KeepsReports (group_with (log ++ entry.Inc inc ∷ []) pg after)) (sym reports')
-            (KeepsReports-inc (group_with log pg is.history) (group_with (log ++ entry.Inc inc ∷ []) pg after) inc old.reports
-            (reports-same log (entry.Inc inc) pg refl) incs (next_epoch (incs_of log) inc fine)
-            (moves (incs_of log) pg is.history members (primary_facts (incs_of log) is.history.current.acting_primary) is.numbered is.history_is)
-            is.keeps.reports_are);
+            (KeepsReports-on (group_with log pg is.history) (group_with (log ++ entry.Inc inc ∷ []) pg after) old.reports old.reports on (reports-same log (entry.Inc inc) pg refl) is.keeps.reports_are refl refl refl refl);
         named_are = named';
         prior_is = subst (KeepsPrior (group_with (log ++ entry.Inc inc ∷ []) pg after)) (sym reckoned')
             (KeepsPrior-grown (group_with log pg is.history) (group_with (log ++ entry.Inc inc ∷ []) pg after) old.reckoned grown.0 refl
@@ -321,53 +299,31 @@ IsGroupOf-begun log pg kind members group counts there now silent is lies pg_is 
   };
 }
 
--- the group stands for the log, also where its parts are kept elsewhere
+-- the group stands for the log, where it keeps what the other one does
+pub IsGroupOf-kept : (log : List Entry) (pg : PgId) (old group : Group) (is : IsGroupOf log pg old) → Keeps (group_with log pg is.history) group → IsGroupOf log pg group
+IsGroupOf-kept log pg old group is kept = record { history = is.history; history_is = is.history_is; numbered = is.numbered; keeps = kept }
+
+-- so it is also where its parts are kept elsewhere
 pub IsGroupOf-same : (log : List Entry) (pg : PgId) (old group : Group) → IsGroupOf log pg old → group.pg ≡ old.pg → group.intervals ≡ old.intervals → ((g : GroupLog) → KeepsInfos g old.infos → KeepsInfos g group.infos) → ((g : GroupLog) → KeepsReports g old.reports → KeepsReports g group.reports) → group.named.osds.items ≡ old.named.osds.items → group.reckoned ≡ old.reckoned → IsGroupOf log pg group
-IsGroupOf-same log pg old group is pg_is intervals infos' reports' named' reckoned' = record {
-  history = is.history;
-  history_is = is.history_is;
-  numbered = is.numbered;
-  keeps = record {
-    pg_is = pg_is ∙ is.keeps.pg_is;
-    intervals_are = subst (IsIntervalsOf enough_of is_by_place is.history (cleans (group_with log pg is.history))) (sym intervals) is.keeps.intervals_are;
-    infos_are = infos' (group_with log pg is.history) is.keeps.infos_are;
-    reports_are = reports' (group_with log pg is.history) is.keeps.reports_are;
-    named_are = KeepsNames-same (group_with log pg is.history) (group_with log pg is.history) old.named group.named refl refl refl named' is.keeps.named_are;
-    prior_is = subst (KeepsPrior (group_with log pg is.history)) (sym reckoned') is.keeps.prior_is;
-  };
-}
+IsGroupOf-same log pg old group is pg_is intervals infos' reports' named' reckoned' = IsGroupOf-kept log pg old group is (record {
+  pg_is = pg_is ∙ is.keeps.pg_is;
+  intervals_are = subst (IsIntervalsOf enough_of is_by_place is.history (cleans (group_with log pg is.history))) (sym intervals) is.keeps.intervals_are;
+  infos_are = infos' (group_with log pg is.history) is.keeps.infos_are;
+  reports_are = reports' (group_with log pg is.history) is.keeps.reports_are;
+  named_are = KeepsNames-same (group_with log pg is.history) (group_with log pg is.history) old.named group.named refl refl refl named' is.keeps.named_are;
+  prior_is = subst (KeepsPrior (group_with log pg is.history)) (sym reckoned') is.keeps.prior_is;
+})
 
 -- the same, where a group that keeps its parts elsewhere has reckoned anew whom it has to hear
 pub IsGroupOf-reckoned : (log : List Entry) (pg : PgId) (old group : Group) (new : KeptPrior) (is : IsGroupOf log pg old) → Keeps (group_with log pg is.history) group → (KeepsPrior (group_with log pg is.history) group.reckoned → KeepsPrior (group_with log pg is.history) new) → IsGroupOf log pg (record group { reckoned = new })
-IsGroupOf-reckoned log pg old group new is kept renews = record {
-  history = is.history;
-  history_is = is.history_is;
-  numbered = is.numbered;
-  keeps = record {
-    pg_is = kept.pg_is;
-    intervals_are = kept.intervals_are;
-    infos_are = kept.infos_are;
-    reports_are = kept.reports_are;
-    named_are = kept.named_are;
-    prior_is = renews kept.prior_is;
-  };
-}
-
--- the second group stands for each log for which the first does
-abbrev pub StandsLike : Group → Group → Type 0
-StandsLike old group = (log : List Entry) (pg : PgId) → IsGroupOf log pg old → IsGroupOf log pg group
-
--- the second group stands for each log for which the first does, with the entry too
-abbrev pub StandsWith : Entry → Group → Group → Type 0
-StandsWith new old group = (log : List Entry) (pg : PgId) → IsGroupOf log pg old → IsGroupOf (log ++ new ∷ []) pg group
-
--- the same of an info, which names no epoch that is still to come as one in which the group was clean
-abbrev pub TakesInfo : Info → Group → Group → Type 0
-TakesInfo info old group = (log : List Entry) (pg : PgId) → (is_same_group info.pg pg ≡ true → info.last_epoch_clean ≤ epoch (incs_of log)) → IsGroupOf log pg old → IsGroupOf (log ++ entry.Info info ∷ []) pg group
-
--- the same, where the entry brings no map
-abbrev pub TakesReport : Entry → Group → Group → Type 0
-TakesReport new old group = (log : List Entry) (pg : PgId) → inc_of new ≡ None → TellsNothingAhead log pg new → IsGroupOf log pg old → IsGroupOf (log ++ new ∷ []) pg group
+IsGroupOf-reckoned log pg old group new is kept renews = IsGroupOf-kept log pg old (record group { reckoned = new }) is (record {
+  pg_is = kept.pg_is;
+  intervals_are = kept.intervals_are;
+  infos_are = kept.infos_are;
+  reports_are = kept.reports_are;
+  named_are = kept.named_are;
+  prior_is = renews kept.prior_is;
+})
 
 -- ---- what holds of a result
 

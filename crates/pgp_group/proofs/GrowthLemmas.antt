@@ -1,8 +1,8 @@
 -- How a list of incrementals is numbered, and how the history of a group grows by an incremental that isn't refused.
-use Rattle.std.proofs.Common.{◌≡◌, ℕ, zero, suc, ◌+◌, ◌-◌, ◌<◌, ◌≤◌, List, [], ◌∷◌, ◌++◌, Option, Some, None, is_some, Bool, true, false, nat_eq, nat_lt, nat_le, length, map, refl, ap, ap₂, sym, ◌∙◌, subst, inl, inr, arith, drop, if◌then◌else◌}
+use Rattle.std.proofs.Common.{◌≡◌, ℕ, zero, suc, ◌+◌, ◌-◌, ◌<◌, ◌≤◌, List, [], ◌∷◌, ◌++◌, Option, Some, None, is_some, Bool, true, false, nat_eq, nat_lt, nat_le, length, map, refl, ap, ap₂, sym, ◌∙◌, subst, arith, drop, if◌then◌else◌}
 use Rattle.std.specs.List.{Contains, filter_map, flat_map, last_or, list_any, range_with_len, slice_index_or}
 use Rattle.std.specs.Option.{option_map, option_map_or}
-use Rattle.std.proofs.lemmas.Bool.{cases_Bool, eqb-true}
+use Rattle.std.proofs.lemmas.Bool.{eqb-true}
 use Rattle.std.proofs.lemmas.Bool.Decides.{nat_tests}
 use Rattle.std.proofs.lemmas.List.{length_push, map_push}
 use Rattle.std.proofs.lemmas.List.Elements.{filter_map-append}
@@ -14,7 +14,7 @@ use Rattle.pgp_ids.specs.declared.pg_id.PgId.{PgId}
 use Rattle.pgp_ids.specs.declared.pool.PoolSizes.{PoolSizes}
 use Rattle.pgp_ids.specs.declared.pool.PoolSpec.{PoolSpec}
 use Rattle.pgp_interval.specs.History.{History, begun, stepped}
-use Rattle.pgp_map.specs.Checked.{are_checked}
+use Rattle.pgp_map.specs.Checked.{are_checked, is_faultless}
 use Rattle.pgp_map.specs.Last.{last_where}
 use Rattle.pgp_map.specs.Map.{epoch, up_to}
 use Rattle.pgp_map.specs.MapFault.{map_fault, then_with, has_epoch_gap}
@@ -28,6 +28,8 @@ use Rattle.pgp_lists.proofs.Ranges.{range_with_len-suc}
 use Rattle.pgp_group.specs.GroupHistory.{makes, made_at, AreNumbered, primary_facts, state_with, state_at_epoch, states_from, history_of, group_history}
 use Rattle.pgp_group.proofs.HistoryLemmas.{maker_of, history_if, history-length}
 use Rattle.pgp_group.proofs.Lists.{none-narrower, last_where-passes, last_where-none, filter_map-agree}
+use Rattle.pgp_lists.proofs.Taken.{taken-induction, taken-front, taken-last}
+use Rattle.pgp_lists.proofs.Options.{none_is}
 
 -- ---- an incremental that isn't refused
 
@@ -53,15 +55,6 @@ numbered-more incs inc counts fine =
     map_push (λ (i : Incremental). i.epoch) incs inc
     ∙ ap₂ (λ l k. l ++ k ∷ []) counts last ∙ sym (range_with_len-suc 1 (length incs)) ∙ ap (range_with_len 1) (sym long)
 
-record Ended (incs : List Incremental) : Type 0 where
-  front : List Incremental
-  last : Incremental
-  is : incs ≡ front ++ last ∷ []
-
-ended : (inc : Incremental) (incs : List Incremental) → Ended (inc ∷ incs)
-ended inc [] = record { front = []; last = inc; is = refl }
-ended inc (next ∷ incs) = let rest = ended next incs in record { front = inc ∷ rest.front; last = rest.last; is = ap (λ l. inc ∷ l) rest.is }
-
 -- fronts of checked lists are checked, and the last incremental of one has no fault
 abbrev pub Shortens : Type 0
 Shortens = (incs later : List Incremental) → are_checked (incs ++ later) ≡ true → are_checked incs ≡ true
@@ -69,18 +62,15 @@ Shortens = (incs later : List Incremental) → are_checked (incs ++ later) ≡ t
 abbrev pub EndsWell : Type 0
 EndsWell = (incs : List Incremental) (inc : Incremental) → are_checked (then_with incs inc) ≡ true → map_fault incs inc ≡ None
 
-numbered-long : Shortens → EndsWell → (n : ℕ) (incs : List Incremental) → length incs ≡ n → are_checked incs ≡ true → AreNumbered incs
-numbered-long shorten fine n [] long checked = refl
-numbered-long shorten fine zero (inc ∷ incs) long checked = absurd (omega (arith, long))
-numbered-long shorten fine (suc n) (inc ∷ incs) long checked =
-    let end = ended inc incs in
-    let whole : are_checked (end.front ++ end.last ∷ []) ≡ true = ap are_checked (sym end.is) ∙ checked in
-    let shorter : length end.front ≡ n = omega (arith, long, ap length end.is, length_push end.front end.last) in
-    let before : AreNumbered end.front = numbered-long shorten fine n end.front shorter (shorten end.front (end.last ∷ []) whole) in
-    subst AreNumbered (sym end.is) (numbered-more end.front end.last before (fine end.front end.last whole))
+pub checked-front : Shortens
+checked-front = λ incs later checked. taken-front is_faultless incs later checked
+
+pub checked-last : EndsWell
+checked-last = λ incs inc checked. none_is (map_fault incs inc) (taken-last is_faultless incs inc checked)
 
 pub checked-numbered : Shortens → EndsWell → (incs : List Incremental) → are_checked incs ≡ true → AreNumbered incs
-checked-numbered shorten fine incs = numbered-long shorten fine (length incs) incs refl
+checked-numbered shorten fine =
+    taken-induction is_faultless AreNumbered refl (λ incs inc checked faultless counts. numbered-more incs inc counts (none_is (map_fault incs inc) faultless))
 
 -- ---- the map of an epoch
 
@@ -98,11 +88,8 @@ up_to-epoch incs counts = up_to-all incs 1 (epoch incs) counts (omega (arith, nu
 
 -- maps of earlier epochs stay
 up_to-earlier : (at : ℕ) (incs : List Incremental) (inc : Incremental) → at < inc.epoch → up_to at (then_with incs inc) ≡ up_to at incs
-up_to-earlier at [] inc later = let no : nat_le inc.epoch at ≡ false = grind (arith, nat_tests) in rw no refl
-up_to-earlier at (first ∷ incs) inc later = elim (cases_Bool (nat_le first.epoch at)) [
-  | inl kept ↦ rw kept (ap (λ l. first ∷ l) (up_to-earlier at incs inc later))
-  | inr left ↦ rw left (up_to-earlier at incs inc later)
-]
+up_to-earlier at [] inc later = grind (arith, nat_tests)
+up_to-earlier at (first ∷ incs) inc later = grind (arith, up_to-earlier at incs inc later)
 
 -- ---- the pool
 
@@ -297,13 +284,10 @@ history-begins-made incs inc pg making there =
 
 -- ---- the last epoch
 
-lasts_to : (incs : List Incremental) (pg : PgId) (made : PoolSpec) → AreNumbered incs → pool incs pg.pool ≡ Some made → made_at incs pg.pool ≤ epoch incs
-lasts_to incs pg made counts is = made_at-before incs pg.pool counts (ap is_some is)
-
 -- the history reaches the last epoch
 pub history-last : (incs : List Incremental) (pg : PgId) (h : History AnyCode) → AreNumbered incs → group_history incs pg ≡ Some h → h.first + length h.lived ≡ epoch incs
 history-last incs pg h counts is =
     let from = history_if incs pg (pool incs pg.pool) h (has_group incs pg) is in
     let first : made_at incs pg.pool ≡ h.first = ap (λ (g : History AnyCode). g.first) from.1.1 in
-    let within : made_at incs pg.pool ≤ epoch incs = lasts_to incs pg from.0 counts from.1.0 in
+    let within : made_at incs pg.pool ≤ epoch incs = made_at-before incs pg.pool counts (ap is_some from.1.0) in
     omega (arith, history-length incs pg h is)

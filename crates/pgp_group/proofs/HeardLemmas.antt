@@ -5,7 +5,6 @@ use Rattle.std.proofs.lemmas.Bool.{cases_Bool, true≢false}
 use Rattle.std.proofs.lemmas.Bool.Decides.{nat_tests}
 use Rattle.std.proofs.lemmas.List.Elements.{All-contains_itself, All-weaker}
 use Rattle.std.proofs.lemmas.List.Kept.{AllPairs-cons}
-use Rattle.std.proofs.Math.Bool.{or-false}
 use Rattle.pgp_ids.specs.Member.{is_same_member}
 use Rattle.pgp_ids.specs.declared.member.Member.{Member}
 use Rattle.pgp_ids.specs.declared.report.Info.{Info}
@@ -69,17 +68,12 @@ last_of-IsLastOfMember (first ∷ later) info in' = elim (cases_Bool (has_member
   ]
 ]
 
-kept_last : (info : Info) (after : List Info) → has_member info.member after ≡ false → Contains (last_of_each_member (info ∷ after)) info
-kept_last info after last = rw last (Contains-here info (last_of_each_member after))
-
 kept_behind : (before : List Info) (info : Info) (after : List Info) → has_member info.member after ≡ false → Contains (last_of_each_member (before ++ info ∷ after)) info
-kept_behind [] info after last = kept_last info after last
-kept_behind (first ∷ before) info after last =
-    let rest : Contains (last_of_each_member (before ++ info ∷ after)) info = kept_behind before info after last in
-    elim (cases_Bool (has_member first.member (before ++ info ∷ after))) [
-      | inl again ↦ rw again rest
-      | inr once ↦ rw once (Contains-later first (last_of_each_member (before ++ info ∷ after)) info rest)
-    ]
+kept_behind [] info after last = rw last (Contains-here info (last_of_each_member after))
+kept_behind (first ∷ before) info after last = elim (cases_Bool (has_member first.member (before ++ info ∷ after))) [
+  | inl again ↦ rw again (kept_behind before info after last)
+  | inr once ↦ rw once (Contains-later first (last_of_each_member (before ++ info ∷ after)) info (kept_behind before info after last))
+]
 
 pub IsLastOfMember-last_of : (infos : List Info) (info : Info) → IsLastOfMember infos info → Contains (last_of_each_member infos) info
 IsLastOfMember-last_of infos info is =
@@ -88,38 +82,13 @@ IsLastOfMember-last_of infos info is =
 -- ---- one more info
 
 has_member-snoc : (member : Member) (infos : List Info) (info : Info) → has_member member (infos ++ info ∷ []) ≡ (has_member member infos || is_same_member info.member member)
-has_member-snoc member [] info = or-false (is_same_member info.member member)
-has_member-snoc member (first ∷ infos) info = elim (cases_Bool (is_same_member first.member member)) [
-  | inl here ↦ rw here refl
-  | inr other ↦ rw other (has_member-snoc member infos info)
-]
+has_member-snoc member [] info = grind arith
+has_member-snoc member (first ∷ infos) info = grind (arith, has_member-snoc member infos info)
 
-same_back : (a b : Member) → is_same_member a b ≡ true → is_same_member b a ≡ true
-same_back a b same = grind (arith, nat_tests)
-
-differ_back : (a b : Member) → is_same_member a b ≡ false → is_same_member b a ≡ false
-differ_back a b differ = elim (cases_Bool (is_same_member b a)) [
-  | inl same ↦ absurd (true≢false (sym (same_back b a same) ∙ differ))
-  | inr other ↦ other
-]
+same_back : (a b : Member) → is_same_member a b ≡ is_same_member b a
+same_back a b = grind (arith, nat_tests)
 
 -- the last infos of the members with one more info: those of the others, and then this one
 pub last_of-snoc : (infos : List Info) (info : Info) → last_of_each_member (infos ++ info ∷ []) ≡ with_info info (last_of_each_member infos)
 last_of-snoc [] info = refl
-last_of-snoc (first ∷ infos) info =
-    let rest : last_of_each_member (infos ++ info ∷ []) ≡ with_info info (last_of_each_member infos) = last_of-snoc infos info in
-    elim (cases_Bool (has_member first.member infos)) [
-      | inl again ↦
-          let again_then : has_member first.member (infos ++ info ∷ []) ≡ true = rw (has_member-snoc first.member infos info, again) refl in
-          rw (again_then, again) rest
-      | inr once ↦ elim (cases_Bool (is_same_member info.member first.member)) [
-        | inl same ↦
-            let again_then : has_member first.member (infos ++ info ∷ []) ≡ true = rw (has_member-snoc first.member infos info, once) same in
-            let back : is_same_member first.member info.member ≡ true = same_back info.member first.member same in
-            rw (again_then, once, back) rest
-        | inr differ ↦
-            let once_then : has_member first.member (infos ++ info ∷ []) ≡ false = rw (has_member-snoc first.member infos info, once) differ in
-            let back : is_same_member first.member info.member ≡ false = differ_back info.member first.member differ in
-            rw (once_then, once, back) (ap (λ l. first ∷ l) rest)
-      ]
-    ]
+last_of-snoc (first ∷ infos) info = grind (arith, last_of-snoc infos info, has_member-snoc first.member infos info, same_back info.member first.member)

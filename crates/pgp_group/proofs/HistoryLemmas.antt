@@ -70,9 +70,7 @@ state-since incs pg at there since =
 
 length-kept : {Y : Type 0} (f : ℕ → Option Y) (a n : ℕ) → ((k : ℕ) → a ≤ k → is_some (f k) ≡ true) → length (filter_map f (range_with_len a n)) ≡ n
 length-kept f a zero each = refl
-length-kept f a (suc n) each =
-    let first = some_is (f a) (each a (omega arith)) in
-    rw first.1 (ap suc (length-kept f (a + 1) n (λ k from. each k (omega arith))))
+length-kept f a (suc n) each = grind (arith, each a, length-kept f (a + 1) n (λ k from. each k (omega arith)))
 
 get-kept : {Y : Type 0} (f : ℕ → Option Y) (a n k : ℕ) → ((k : ℕ) → a ≤ k → is_some (f k) ≡ true) → k < n → slice_get (filter_map f (range_with_len a n)) k ≡ f (a + k)
 get-kept f a zero k each below = absurd (omega arith)

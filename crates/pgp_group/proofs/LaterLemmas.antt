@@ -130,26 +130,17 @@ up_from-snoc incs inc osd =
     ∙ fold-append max 0 (map (λ (i : Incremental). i.epoch) (filter (boots osd) incs)) (map (λ (i : Incremental). i.epoch) (filter (boots osd) (inc ∷ [])))
 
 up_from-rises : (incs : List Incremental) (inc : Incremental) (osd : ℕ) → up_from incs osd ≤ up_from (then_with incs inc) osd
-up_from-rises incs inc osd = subst (λ n. up_from incs osd ≤ n) (sym (up_from-snoc incs inc osd)) (fold_max-least (up_from incs osd) (map (λ (i : Incremental). i.epoch) (filter (boots osd) (inc ∷ []))))
+up_from-rises incs inc osd = grind (arith, up_from-snoc incs inc osd)
 
 up_from-boots : (incs : List Incremental) (inc : Incremental) (osd : ℕ) → boots osd inc ≡ true → inc.epoch ≤ up_from (then_with incs inc) osd
-up_from-boots incs inc osd booting =
-    let last : up_from (then_with incs inc) osd ≡ max (up_from incs osd) inc.epoch = up_from-snoc incs inc osd ∙ rw booting refl in
-    omega (arith, last)
+up_from-boots incs inc osd booting = grind (arith, up_from-snoc incs inc osd)
 
 -- a device that doesn't boot is up only if it was
-tells_of : ℕ → Incremental → Bool
+abbrev tells_of : ℕ → Incremental → Bool
 tells_of osd inc = boots osd inc || takes_down osd inc || destroys osd inc
 
 is_up-before : (incs : List Incremental) (inc : Incremental) (osd : ℕ) → boots osd inc ≡ false → is_up (then_with incs inc) osd ≡ true → is_up incs osd ≡ true
-unfolding tells_of
-is_up-before incs inc osd still up = elim (cases_Bool (tells_of osd inc)) [
-  | inl told ↦
-      absurd (true≢false (sym up ∙ ap (λ (o : Option Incremental). option_map_or (boots osd) o false) (last_where-passes (tells_of osd) incs inc told) ∙ still))
-  | inr silent ↦
-      let none : list_any (tells_of osd) (inc ∷ []) ≡ false = rw silent refl in
-      sym (ap (λ (o : Option Incremental). option_map_or (boots osd) o false) (last_where-none (tells_of osd) incs (inc ∷ []) none)) ∙ up
-]
+is_up-before incs inc osd still up = grind (arith, last_where-passes (tells_of osd) incs inc, last_where-none (tells_of osd) incs (inc ∷ []))
 
 -- a report of this member and stamp counts by this history and map
 abbrev pub counts_by : List Incremental → History AnyCode → Member → ℕ → Bool
@@ -158,37 +149,17 @@ counts_by incs h member stamp = nat_le (current_first h) stamp && is_up incs mem
 counted-before : (incs : List Incremental) (inc : Incremental) (h after : History AnyCode) (member : Member) (stamp : ℕ) → current_first h ≤ current_first after → stamp < inc.epoch
     → counts_by (then_with incs inc) after member stamp ≡ true → counts_by incs h member stamp ≡ true
 counted-before incs inc h after member stamp rises early counts =
-    let a = and_parts (nat_le (current_first after) stamp && is_up (then_with incs inc) member.osd) (nat_le (up_from (then_with incs inc) member.osd) stamp) counts in
-    let b = and_parts (nat_le (current_first after) stamp) (is_up (then_with incs inc) member.osd) a.0 in
-    let from : up_from (then_with incs inc) member.osd ≤ stamp = let le : nat_le (up_from (then_with incs inc) member.osd) stamp ≡ true = a.1 in grind (arith, nat_tests) in
-    let first : nat_le (current_first h) stamp ≡ true = let le : nat_le (current_first after) stamp ≡ true = b.0 in grind (arith, nat_tests) in
-    let since : nat_le (up_from incs member.osd) stamp ≡ true = let le : up_from incs member.osd ≤ up_from (then_with incs inc) member.osd = up_from-rises incs inc member.osd in grind (arith, nat_tests) in
-    let up : is_up incs member.osd ≡ true = elim (cases_Bool (boots member.osd inc)) [
-      | inl booting ↦ absurd (omega (arith, up_from-boots incs inc member.osd booting, from, early))
-      | inr still ↦ is_up-before incs inc member.osd still b.1
-    ] in
-    rw (first, up, since) refl
+    grind (arith, nat_tests, up_from-rises incs inc member.osd, up_from-boots incs inc member.osd, is_up-before incs inc member.osd)
 
 -- ---- what counted before and still counts
 
 -- a device of which the incremental tells counts no more by what it sent before
 told_off : (incs : List Incremental) (inc : Incremental) (osd stamp : ℕ) (first : Bool) → stamp < inc.epoch → tells_of osd inc ≡ true
     → (first && is_up (then_with incs inc) osd && nat_le (up_from (then_with incs inc) osd) stamp) ≡ false
-unfolding tells_of
-told_off incs inc osd stamp first early told = elim (cases_Bool (boots osd inc)) [
-  | inl booting ↦
-      let from : inc.epoch ≤ up_from (then_with incs inc) osd = up_from-boots incs inc osd booting in
-      let later : nat_le (up_from (then_with incs inc) osd) stamp ≡ false = grind (arith, nat_tests) in
-      ap (λ (b : Bool). first && is_up (then_with incs inc) osd && b) later ∙ and-false (first && is_up (then_with incs inc) osd)
-  | inr still ↦
-      let down : is_up (then_with incs inc) osd ≡ false = ap (λ (o : Option Incremental). option_map_or (boots osd) o false) (last_where-passes (tells_of osd) incs inc told) ∙ still in
-      ap (λ (b : Bool). first && b && nat_le (up_from (then_with incs inc) osd) stamp) down
-      ∙ ap (λ (b : Bool). b && nat_le (up_from (then_with incs inc) osd) stamp) (and-false first)
-]
+told_off incs inc osd stamp first early told = grind (arith, nat_tests, up_from-boots incs inc osd, last_where-passes (tells_of osd) incs inc told)
 
 -- a device of which it tells nothing stays up or down
 still_up : (incs : List Incremental) (inc : Incremental) (osd : ℕ) → tells_of osd inc ≡ false → (is_up (then_with incs inc) osd ≡ is_up incs osd) × (up_from (then_with incs inc) osd ≡ up_from incs osd)
-unfolding tells_of
 still_up incs inc osd silent =
     let none : list_any (tells_of osd) (inc ∷ []) ≡ false = rw silent refl in
     let boots' : boots osd inc ≡ false = (or_parts (boots osd inc) (takes_down osd inc) (or_parts (boots osd inc || takes_down osd inc) (destroys osd inc) silent).0).0 in (
@@ -232,6 +203,28 @@ counts-after incs inc h after member stamp next sent (inl on) = elim (cases_Bool
       ∙ sym (ap (λ (b : Bool). counts_by incs h member stamp && (nat_le (current_first after) (epoch incs) && not b)) silent
       ∙ ap (λ (b : Bool). counts_by incs h member stamp && (b && true)) lasts ∙ and-true (counts_by incs h member stamp))
 ]
+
+-- of all that was sent until the first group's last epoch, what counts in the second group is what counted in the first and is
+-- of a device that lasts
+pub record Outlasts (g after : GroupLog) : Type 0 where
+  pub lasts : ℕ → Bool
+  pub rises : epoch (incs g) ≤ epoch (incs after)
+  pub counts : (member : Member) (stamp : ℕ) → stamp ≤ epoch (incs g) → is_counted after member stamp ≡ (is_counted g member stamp && lasts member.osd)
+
+-- so it is by the same map and history, and by the next map
+pub outlasts-same : (g after : GroupLog) → incs after ≡ incs g → after.history ≡ g.history → Outlasts g after
+outlasts-same g after incs_is history_is = record {
+  lasts = λ _. true;
+  rises = omega (arith, ap epoch incs_is);
+  counts = λ member stamp sent. (λ i. counts_by (incs_is i) (history_is i) member stamp) ∙ sym (and-true (is_counted g member stamp));
+}
+
+pub outlasts-inc : (g after : GroupLog) (inc : Incremental) → incs after ≡ then_with (incs g) inc → inc.epoch ≡ epoch (incs g) + 1 → Moves (incs g) g.history after.history → Outlasts g after
+outlasts-inc g after inc incs_is next moved = record {
+  lasts = outlasts (incs g) inc (current_first after.history);
+  rises = omega (arith, ap epoch incs_is, epoch-snoc (incs g) inc, next);
+  counts = λ member stamp sent. ap (λ (l : List Incremental). counts_by l after.history member stamp) incs_is ∙ counts-after (incs g) inc g.history after.history member stamp next sent moved;
+}
 
 -- a report of this stamp was sent, and doesn't count
 abbrev Silent : Member → ℕ → List Incremental → History AnyCode → Type 0

@@ -1,11 +1,11 @@
 -- Lists that grow, ranges, and last elements that pass a test.
-use Rattle.std.proofs.Common.{◌≡◌, ℕ, zero, suc, ◌+◌, ◌-◌, ◌<◌, List, [], ◌∷◌, ◌++◌, Option, Some, None, Bool, true, false, ◌&&◌, ◌||◌, length, map, refl, ap, ap₂, sym, ◌∙◌, inl, inr, arith, append-nil, append_assoc, drop, get_or, take, is_some}
+use Rattle.std.proofs.Common.{◌≡◌, ℕ, zero, suc, ◌+◌, ◌-◌, ◌<◌, List, [], ◌∷◌, ◌++◌, Option, Some, None, Bool, true, false, ◌&&◌, ◌||◌, length, map, refl, ap, ap₂, sym, ◌∙◌, inl, inr, arith, append-nil, append_assoc, drop, get_or, take, is_some, ◌⊎◌}
 use Rattle.std.specs.List.{All, Contains, cons_option, filter, filter_map, flat_map, last_or, list_any, range_with_len, slice_index_or, find}
 use Rattle.std.proofs.lemmas.Bool.{or_parts}
 use Rattle.std.proofs.lemmas.List.{take_more}
 use Rattle.std.proofs.lemmas.List.Elements.{filter-append, filter_map-append, All-head, All-tail}
 use Rattle.std.proofs.lemmas.List.Folds.{list_any-append}
-use Rattle.pgp_lists.proofs.Members.{Contains-nil, Contains-here, Contains-later, Contains-first, Contains-cases}
+use Rattle.pgp_lists.proofs.Members.{Contains-nil, Contains-here, Contains-later, Contains-first, Contains-cases, append-contains}
 pub use Rattle.pgp_lists.proofs.Lists.{any-mapped}
 pub use Rattle.pgp_lists.proofs.Members.{filter-agree, map-agree}
 use Rattle.pgp_map.specs.Last.{last_where}
@@ -40,6 +40,11 @@ filter-each p (x ∷ xs) each = grind (arith, each x (Contains-here x xs), filte
 pub last_or-snoc : {X : Type 0} (o : Option X) (xs : List X) (x : X) → last_or o (xs ++ x ∷ []) ≡ Some x
 last_or-snoc o [] x = refl
 last_or-snoc o (y ∷ xs) x = last_or-snoc (Some y) xs x
+
+-- where an element passes, the last one that does is the same after whatever came before
+pub last_or-any : {X : Type 0} (test : X → Bool) (before other : Option X) (xs : List X) → list_any test xs ≡ true → last_or before (filter test xs) ≡ last_or other (filter test xs)
+last_or-any test before other [] any = cc
+last_or-any test before other (x ∷ xs) any = grind (arith, last_or-any test before other xs)
 
 pub last_where-none : {X : Type 0} (test : X → Bool) (xs ys : List X) → list_any test ys ≡ false → last_where test (xs ++ ys) ≡ last_where test xs
 last_where-none test xs ys none = grind (arith, filter-append test xs ys, filter-none test ys none, append-nil (filter test xs))
@@ -88,6 +93,12 @@ any-found test (x ∷ xs) = grind (arith, any-found test xs)
 
 pub none-append : {X : Type 0} (test : X → Bool) (xs ys : List X) → list_any test (xs ++ ys) ≡ false → (list_any test xs ≡ false) × (list_any test ys ≡ false)
 none-append test xs ys none = or_parts (list_any test xs) (list_any test ys) (sym (list_any-append test xs ys) ∙ none)
+
+pub contains-push : {X : Type 0} (xs : List X) (x y : X) → Contains (xs ++ x ∷ []) y → Contains xs y ⊎ (x ≡ y)
+contains-push xs x y there = elim (append-contains xs (x ∷ []) y there) [
+  | inl before ↦ inl before
+  | inr last ↦ elim (Contains-cases x [] y last) [ inl here ↦ inr here | inr none ↦ absurd (Contains-nil y none) ]
+]
 
 pub filter_map-from : {X Y : Type 0} (f : X → Option Y) (xs : List X) (y : Y) → Contains (filter_map f xs) y → (x : X) × Contains xs x × (f x ≡ Some y)
 filter_map-from f [] y there = absurd (Contains-nil y there)

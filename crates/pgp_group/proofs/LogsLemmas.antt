@@ -28,20 +28,14 @@ use Rattle.pgp_lists.proofs.Lists.{flat_map-push}
 -- ---- the first place of a test
 
 first-at : {X : Type 0} (p : X → Bool) (xs : List X) (i : ℕ) → position p xs ≡ Some i → i ≡ position_or_len p xs
-first-at {X = X} p xs i is = elim (cases_Bool (nat_lt (position_or_len p xs) (length xs))) [
-  | inl within ↦ let at : Some (position_or_len p xs) ≡ Some i = sym (ap (λ (b : Bool). cond b (Some (position_or_len p xs)) None) within) ∙ is in cc
-  | inr past ↦ let at : None ≡ Some i = sym (ap (λ (b : Bool). cond b (Some (position_or_len p xs)) None) past) ∙ is in cc
-]
+first-at p xs i is = grind arith
 
 pub found-at : {X : Type 0} (p : X → Bool) (xs : List X) (i : ℕ) (d : X) → position p xs ≡ Some i → find p xs ≡ Some (get_or xs i d)
 found-at p xs i d is = find_at p xs ∙ ap (slice_get xs) (sym (first-at p xs i is)) ∙ slice_get-get_or xs i d (position-Some p xs i d is).0
 
 none_from : {X : Type 0} (p : X → Bool) (i : ℕ) (xs : List X) → position_from p i xs ≡ None → find p xs ≡ None
 none_from p i [] none = refl
-none_from {X = X} p i (x ∷ xs) none = elim (cases_Bool (p x)) [
-  | inl passes ↦ let at : Some i ≡ None = sym (ap (λ (b : Bool). cond b (Some i) (position_from p (i + 1) xs)) passes) ∙ none in cc
-  | inr fails ↦ rw fails (none_from p (i + 1) xs (sym (ap (λ (b : Bool). cond b (Some i) (position_from p (i + 1) xs)) fails) ∙ none))
-]
+none_from p i (x ∷ xs) none = grind (arith, none_from p (i + 1) xs)
 
 pub found-none : {X : Type 0} (p : X → Bool) (xs : List X) → position p xs ≡ None → find p xs ≡ None
 found-none p xs none = none_from p 0 xs (sym (position_from-zero p xs) ∙ none)
@@ -104,20 +98,11 @@ judged test log = test log.member log.stamp
 
 pub head-found : (test : CountedLog → Bool) (member : Member) (x : CountedLog) (xs : List CountedLog)
     → log_of member (filter test (x ∷ xs)) ≡ cond (test x && is_of member x) (Some x) (log_of member (filter test xs))
-head-found test member x xs = elim (cases_Bool (test x)) [
-  | inl passes ↦ elim (cases_Bool (is_of member x)) [
-    | inl it ↦ rw (passes, it) refl
-    | inr other ↦ rw (passes, other) refl
-  ]
-  | inr fails ↦ rw fails refl
-]
+head-found test member x xs = grind arith
 
 head-entries : (test : CountedLog → Bool) (member : Member) (x : CountedLog) (xs : List CountedLog)
     → entries_of member (filter test (x ∷ xs)) ≡ cond (test x && is_of member x) x.log.entries (entries_of member (filter test xs))
-head-entries test member x xs = ap entries_from (head-found test member x xs) ∙ (elim (cases_Bool (test x && is_of member x)) [
-  | inl it ↦ rw it refl
-  | inr other ↦ rw other refl
-])
+head-entries test member x xs = grind arith
 
 -- a log with other bounds, among those that pass a test
 pub renewed : (test : Member → ℕ → Bool) (member : Member) (logs : List CountedLog) (i : ℕ) (d y : CountedLog) (reported : List LogEntry) → i < length logs → d ≡ get_or logs i d → y.member ≡ d.member → y.stamp ≡ d.stamp
@@ -175,12 +160,7 @@ reported_in-more g told x member =
 -- one that counts, and one that doesn't
 pub told-counted : (g : GroupLog) (told : List Report) (x : Report) (member : Member) → is_counted g x.member x.stamp ≡ true
     → reported_in g (told ++ x ∷ []) member ≡ reported_in g told member ++ (if is_same_member x.member member then x.log else [])
-told-counted g told x member counted = reported_in-more g told x member ∙ (elim (cases_Bool (is_same_member x.member member)) [
-  | inl same ↦ rw (same, counted) refl
-  | inr other ↦ rw other refl
-])
+told-counted g told x member counted = grind (arith, reported_in-more g told x member)
 
 pub told-other : (g : GroupLog) (told : List Report) (x : Report) (member : Member) → is_counted g x.member x.stamp ≡ false → reported_in g (told ++ x ∷ []) member ≡ reported_in g told member
-told-other g told x member silent =
-    let none : (is_same_member x.member member && is_counted g x.member x.stamp) ≡ false = and_right (is_same_member x.member member) (is_counted g x.member x.stamp) silent in
-    reported_in-more g told x member ∙ ap (λ (b : Bool). reported_in g told member ++ cond b x.log []) none ∙ append-nil (reported_in g told member)
+told-other g told x member silent = grind (arith, reported_in-more g told x member, append-nil (reported_in g told member))

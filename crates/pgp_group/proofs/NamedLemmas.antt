@@ -27,14 +27,10 @@ before a b = is_lt (nat_cmp a b)
 -- ---- the order
 
 is_less : (r : Ordering) → is_lt r ≡ true → r ≡ Less
-is_less Less is = refl
-is_less Equal is = cc
-is_less Greater is = cc
+is_less r is = grind arith
 
 is_equal : (r : Ordering) → is_lt r ≡ false → is_lt (ordering_reverse r) ≡ false → r ≡ Equal
-is_equal Less is back = cc
-is_equal Equal is back = refl
-is_equal Greater is back = cc
+is_equal r is back = grind arith
 
 connected : (x y : ℕ) → before x y ≡ false → before y x ≡ false → x ≡ y
 connected x y xy yx = exact_unsigned x y (is_equal (nat_cmp x y) xy (sym (ap is_lt (nat_cmp_total.antisymm y x)) ∙ yx))
@@ -45,9 +41,7 @@ transitive x y z xy yz = ap is_lt (nat_cmp_total.trans x y z (is_less _ xy) (is_
 -- ---- a device more
 
 pub or_swap : (a b c : Bool) → (a || (b || c)) ≡ (b || (a || c))
-or_swap true true c = refl
-or_swap true false c = refl
-or_swap false b c = refl
+or_swap a b c = grind arith
 
 pub with_item-ascends : (x : ℕ) (xs : List ℕ) → IsAscending before xs → IsAscending before (with_item before x xs)
 with_item-ascends = IsAscending-with_item before transitive
@@ -55,13 +49,7 @@ with_item-ascends = IsAscending-with_item before transitive
 -- a list with one device more has that one, and what it had
 pub with_item-has : (q x : ℕ) (xs : List ℕ) → list_any (nat_eq q) (with_item before x xs) ≡ (nat_eq q x || list_any (nat_eq q) xs)
 with_item-has q x [] = refl
-with_item-has q x (y ∷ xs) = elim (cases_Bool (before x y)) [
-  | inl first ↦ rw first refl
-  | inr after ↦ elim (cases_Bool (before y x)) [
-    | inl later ↦ rw (after, later) (ap (λ b. nat_eq q y || b) (with_item-has q x xs) ∙ or_swap (nat_eq q y) (nat_eq q x) (list_any (nat_eq q) xs))
-    | inr same ↦ rw (after, same) (sym (or_self_left (nat_eq q y) (list_any (nat_eq q) xs)) ∙ ap (λ z. nat_eq q z || (nat_eq q y || list_any (nat_eq q) xs)) (sym (connected x y after same)))
-  ]
-]
+with_item-has q x (y ∷ xs) = grind (arith, with_item-has q x xs, connected x y)
 
 -- what an insert for which there is room leaves
 pub inserted : {T E : Type 0} (r : Result T E) (new old : List ℕ) (place x : ℕ) → IsOk r → new ≡ (if is_ok r then insert old place x else old) → insert old place x ≡ with_item before x old → new ≡ with_item before x old

@@ -3,7 +3,7 @@ use Rattle.std.proofs.Common.{arith, ◌≡◌, ℕ, ◌+◌, ◌<◌, List, [],
 use Rattle.std.specs.List.{list_any}
 use Rattle.std.proofs.Math.Bool.{or-false, or-true}
 use Rattle.std.proofs.lemmas.Bool.{cases_Bool, false_from_ne_true}
-use Rattle.std.proofs.lemmas.List.{take_more}
+use Rattle.std.proofs.lemmas.List.{take_more, take_all}
 use Rattle.std.proofs.lemmas.List.Folds.{list_any-append}
 use Rattle.pgp_ids.specs.declared.past.Past.{Past}
 use Rattle.pgp_map.specs.declared.map.OsdMap.{OsdMap}
@@ -38,16 +38,10 @@ raised-other osd q status first apart =
     ap (λ (b : Bool). if b then Up else status q first) (false_from_ne_true (nat_eq q osd) (λ hit. apart (eqb-true q osd hit)))
 
 pub to_up : (old : Status) → is_no_worse old Up ≡ true
-to_up Up = refl
-to_up Gone = refl
-to_up Lost = refl
-to_up Down = refl
+to_up old = grind arith
 
 from_up : (new : Status) → is_no_better Up new ≡ true
-from_up Up = refl
-from_up Gone = refl
-from_up Lost = refl
-from_up Down = refl
+from_up new = grind arith
 
 module _ (by_place : Bool) (osd : ℕ) (told old new : ℕ → ℕ → Status) (past : List Past) (change : IsChange (allows turn.Again) by_place osd told old new past) where
   pub change-up : (all : EachUp) → IsChange is_no_worse by_place osd (up_of all) old (raised osd old) past
@@ -135,9 +129,4 @@ module _ (map : OsdMap) (noted : List DeviceFacts) (i : ℕ) (entry : DeviceFact
 pub partly-all : (map : OsdMap) (noted : List DeviceFacts) (i : ℕ) (status : ℕ → ℕ → Status) (by_place : Bool) (past : List Past) → length noted ≡ i → HasEachMember by_place past noted
     → AgreeOnEach by_place (partly map (take i noted) status) (held_status map) past
 partly-all map noted i status by_place past done has interval m there acts =
-    let whole : take i noted ≡ noted = subst (λ n. take n noted ≡ noted) done (all noted) in
-    ap (λ (b : Bool). taken map status b m.osd interval.first) (ap (has_noted m.osd) whole ∙ has interval m there acts)
-  where
-    all : (l : List DeviceFacts) → take (length l) l ≡ l
-    all [] = refl
-    all (x ∷ l) = ap (λ rest. x ∷ rest) (all l)
+    ap (λ (b : Bool). taken map status b m.osd interval.first) (ap (has_noted m.osd) (take_all i noted (omega (arith, done))) ∙ has interval m there acts)

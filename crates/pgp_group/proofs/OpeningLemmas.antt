@@ -19,7 +19,7 @@ use Rattle.pgp_interval.specs.Runs.{current_first, current_ending, past_interval
 use Rattle.pgp_interval.specs.SameMembers.{is_same}
 use Rattle.pgp_interval.proofs.Same.{is_same-eq, eq-is_same}
 use Rattle.pgp_interval.proofs.StepLemmas.{past_intervals-continues, past_intervals-ends, current_first-continues, current_first-ends}
-use Rattle.pgp_lists.proofs.Members.{append-contains, Contains-cases, Contains-nil}
+use Rattle.pgp_lists.proofs.Members.{Contains-nil}
 use Rattle.pgp_lists.proofs.Options.{map_some, some_is}
 use Rattle.pgp_lists.proofs.Taken.{taken-induction, taken-more}
 use Rattle.pgp_map.specs.Checked.{are_checked, is_faultless}
@@ -32,9 +32,10 @@ use Rattle.pgp_sets.proofs.UpLemmas.{acting-are_up}
 use Rattle.pgp_sets.specs.Sets.{are_up, membership, pool_membership}
 use Rattle.pgp_group.specs.GroupHistory.{makes, primary_facts, group_history}
 use Rattle.pgp_group.proofs.DeviceLemmas.{checked-front, checked-last, up_from-stays, up_from-within}
-use Rattle.pgp_group.proofs.GrowthLemmas.{checked-numbered, epoch-snoc, has_group-unmade, history-begins-made, history-grows, history-last, next_epoch}
+use Rattle.pgp_group.proofs.FirstLemmas.{grown}
+use Rattle.pgp_group.proofs.GrowthLemmas.{checked-numbered, epoch-snoc, has_group-unmade, history-begins-made, history-last, next_epoch}
 use Rattle.pgp_group.proofs.HistoryLemmas.{history-current}
-use Rattle.pgp_group.proofs.Lists.{filter_map-from}
+use Rattle.pgp_group.proofs.Lists.{filter_map-from, contains-push}
 use Rattle.pgp_group.proofs.ViewLemmas.{history_there}
 
 -- the past intervals by the code of the pool, where the group was clean in these epochs
@@ -42,19 +43,6 @@ abbrev pub past_of : List ℕ → History AnyCode → List Past
 past_of cleans h = past_intervals enough_of is_by_place cleans h
 
 -- ---- one incremental more
-
--- what an incremental without fault makes of the history
-pub record Grows (incs : List Incremental) (h after : History AnyCode) : Type 0 where
-  pub members : Membership
-  pub is : stepped h members (primary_facts incs h.current.acting_primary) ≡ after
-
-pub grows : (incs : List Incremental) (inc : Incremental) (pg : PgId) (h after : History AnyCode) → are_checked (then_with incs inc) ≡ true
-    → group_history incs pg ≡ Some h → group_history (then_with incs inc) pg ≡ Some after → Grows incs h after
-grows incs inc pg h after checked is then' =
-    let counts = checked-numbered checked-front checked-last incs (checked-front incs (inc ∷ []) checked) in
-    let grown = history-grows incs inc pg h counts (checked-last incs inc checked) is in
-    let m = map_some (λ members. stepped h members (primary_facts incs h.current.acting_primary)) (membership (then_with incs inc) pg) after (sym grown ∙ then') in
-    record { members = m.0; is = m.2 }
 
 -- the current interval goes on
 pub record GoesOn (h after : History AnyCode) : Type 0 where
@@ -75,7 +63,7 @@ pub moves : (incs : List Incremental) (inc : Incremental) (pg : PgId) (h after :
     → group_history incs pg ≡ Some h → group_history (then_with incs inc) pg ≡ Some after → Moves incs inc h after
 moves incs inc pg h after checked is then' =
     let facts : PrimaryFacts = primary_facts incs h.current.acting_primary in
-    let g = grows incs inc pg h after checked is then' in
+    let g = grown checked-front checked-last incs inc pg h after checked is then' in
     let code : after.code ≡ h.code = sym (ap (λ (t : History AnyCode). t.code) g.is) in
     elim (cases_Bool (is_same g.members h.current)) [
       | inl same ↦
@@ -177,14 +165,11 @@ opened-next incs inc pg h after checked is then' opened =
       | ends code over ↦ record {
         since = λ osd leads. omega (arith, up_from-within osd (then_with incs inc) checked, epoch-snoc incs inc, over.first);
         later = λ cleans interval in'.
-            elim (append-contains (past_of cleans h) _ interval (subst (λ (l : List Past). Contains l interval) (over.past cleans) in')) [
+            elim (contains-push (past_of cleans h) _ interval (subst (λ (l : List Past). Contains l interval) (over.past cleans) in')) [
               | inl before ↦ omega (arith, opened.later cleans interval before, within, over.first, next_epoch incs inc fine)
-              | inr last ↦ elim (Contains-cases _ [] interval last) [
-                | inl here ↦
-                    let first : current_first h ≡ interval.first = ap (λ (p : Past). p.first) here in
-                    omega (arith, first, within, over.first, next_epoch incs inc fine)
-                | inr none ↦ absurd (Contains-nil interval none)
-              ]
+              | inr here ↦
+                  let first : current_first h ≡ interval.first = ap (λ (p : Past). p.first) here in
+                  omega (arith, first, within, over.first, next_epoch incs inc fine)
             ];
         within = omega (arith, over.first, epoch-snoc incs inc);
       }

@@ -149,29 +149,15 @@ peer_states-ascend g = states-ascend g (whole_best g)
 
 -- ---- one more member
 
-others-same : (all : List Member) (kept : List Info) (info : Info) (i : ℕ) (x : Member) → i < length all → x ≡ get_or all i x → is_same_member x info.member ≡ true → others_heard (take (i + 1) all) kept info ≡ others_heard (take i all) kept info
-others-same all kept info i x within item same =
-    let fails : not (is_same_member x info.member) ≡ false = rw same refl in
-    ap (filter_map (info_of kept)) (filter-fails (λ (m : Member). not (is_same_member m info.member)) all i x within item fails)
-
-others-next : (all : List Member) (kept : List Info) (info : Info) (i : ℕ) (x : Member) (found : Option Info) → i < length all → x ≡ get_or all i x → is_same_member x info.member ≡ false → info_of kept x ≡ found → others_heard (take (i + 1) all) kept info ≡ others_heard (take i all) kept info ++ cons_option found []
-others-next all kept info i x found within item other is =
-    let passes : not (is_same_member x info.member) ≡ true = rw other refl in
-    ap (filter_map (info_of kept)) (filter-passes (λ (m : Member). not (is_same_member m info.member)) all i x within item passes)
-    ∙ filter_map-append (info_of kept) (filter (λ (m : Member). not (is_same_member m info.member)) (take i all)) (x ∷ [])
-    ∙ ap (λ (o : Option Info). others_heard (take i all) kept info ++ cons_option o []) is
-
 pub others-one : (all : List Member) (kept : List Info) (info : Info) (i : ℕ) (x : Member) → i < length all → x ≡ get_or all i x → (peer : Info) → Some peer ≡ (if is_same_member x info.member then None else info_of kept x) → others_heard (take (i + 1) all) kept info ≡ others_heard (take i all) kept info ++ peer ∷ []
-others-one all kept info i x within item peer found = elim (cases_Bool (is_same_member x info.member)) [
-  | inl same ↦ let none : Some peer ≡ None = rw same at found in cc
-  | inr other ↦ others-next all kept info i x (Some peer) within item other (sym (rw other at found))
-]
+others-one all kept info i x within item peer found =
+    let other : Member → Bool = λ m. not (is_same_member m info.member) in
+    grind (arith, filter-passes other all i x within item, filter_map-append (info_of kept) (filter other (take i all)) (x ∷ []))
 
 pub others-none : (all : List Member) (kept : List Info) (info : Info) (i : ℕ) (x : Member) → i < length all → x ≡ get_or all i x → None ≡ (if is_same_member x info.member then None else info_of kept x) → others_heard (take (i + 1) all) kept info ≡ others_heard (take i all) kept info
-others-none all kept info i x within item found = elim (cases_Bool (is_same_member x info.member)) [
-  | inl same ↦ others-same all kept info i x within item same
-  | inr other ↦ others-next all kept info i x None within item other (sym (rw other at found)) ∙ append-nil (others_heard (take i all) kept info)
-]
+others-none all kept info i x within item found =
+    let other : Member → Bool = λ m. not (is_same_member m info.member) in
+    grind (arith, filter-passes other all i x within item, filter-fails other all i x within item, filter_map-append (info_of kept) (filter other (take i all)) (x ∷ []), append-nil (others_heard (take i all) kept info))
 
 -- how the copy of a peer compares with the best one, whose member reported this log
 abbrev pub compared : List LogEntry → Info → Info → PeerMissing

@@ -9,7 +9,7 @@ use Rattle.pgp_ids.specs.Past.{raised_at}
 use Rattle.pgp_ids.specs.declared.member.Member.{Member}
 use Rattle.pgp_ids.specs.declared.membership.Membership.{Membership}
 use Rattle.pgp_ids.specs.declared.past.Past.{Past}
-use Rattle.pgp_lists.proofs.Members.{append-contains, map-contains, Contains-cases, Contains-here, Contains-later, Contains-nil}
+use Rattle.pgp_lists.proofs.Members.{map-contains, Contains-cases, Contains-here, Contains-later, Contains-nil}
 use Rattle.pgp_map.specs.MapOf.{IsMapOf}
 use Rattle.pgp_map.specs.declared.map.OsdMap.{OsdMap}
 use Rattle.pgp_prior.specs.IndexOf.{Basis, IsIndexOf}
@@ -26,7 +26,7 @@ use Rattle.pgp_group.specs.DeviceFacts.{renoted, renoted_all, has_noted, status_
 use Rattle.pgp_group.specs.Peering.{past}
 use Rattle.pgp_group.specs.declared.device_facts.DeviceFacts.{DeviceFacts}
 use Rattle.pgp_group.specs.declared.kept_prior.KeptPrior.{KeptPrior}
-use Rattle.pgp_group.proofs.Lists.{any-mapped}
+use Rattle.pgp_group.proofs.Lists.{any-mapped, contains-push}
 
 -- ---- entries that are renewed
 
@@ -90,12 +90,9 @@ abreast-more g map n old new noted interval at is added has =
       within = omega arith;
       index_is = subst (λ (l : List Past). IsIndexOf enough_of is_by_place (basis_with g map l) new) (sym (take-at (past g) n interval at)) added;
       has_each = subst (λ (l : List Past). HasEachMember (is_by_place g.history.code) l noted) (sym (take-at (past g) n interval at))
-          (λ p m there acts. elim (append-contains (take n (past g)) (interval ∷ []) p there) [
+          (λ p m there acts. elim (contains-push (take n (past g)) interval p there) [
             | inl before ↦ is.has_each p m before acts
-            | inr last ↦ elim (Contains-cases interval [] p last) [
-              | inl here ↦ has m (subst (λ (q : Past). Contains (members_of (is_by_place g.history.code) q.members.acting) m) (sym here) acts)
-              | inr none ↦ absurd (Contains-nil p none)
-            ]
+            | inr here ↦ has m (subst (λ (q : Past). Contains (members_of (is_by_place g.history.code) q.members.acting) m) (sym here) acts)
           ]);
       of_map = is.of_map;
     }

@@ -1,8 +1,7 @@
 -- A group that needn't be told of each epoch: what it is by later maps, as long as it lies as before.
-use Rattle.std.proofs.Common.{◌≡◌, ℕ, List, [], ◌∷◌, ◌++◌, Option, Some, None, Bool, true, false, ◌||◌, ◌+◌, map, refl, ap, sym, ◌∙◌, subst}
+use Rattle.std.proofs.Common.{◌≡◌, ℕ, List, [], ◌∷◌, ◌++◌, Option, Some, None, Bool, true, false, ◌||◌, ◌+◌, map, refl, ap, sym, ◌∙◌, subst, arith}
 use Rattle.std.specs.List.{list_any}
 use Rattle.std.specs.Option.{option_map, option_map_or}
-use Rattle.std.proofs.Math.Bool.{or-true}
 use Rattle.std.proofs.lemmas.Bool.{or_parts}
 use Rattle.pgp_code.specs.AnyCode.{enough_of, is_by_place}
 use Rattle.pgp_code.specs.declared.any.AnyCode.{AnyCode}
@@ -70,20 +69,14 @@ unmoved incs inc pg still =
 pub left-unmoved : (incs : List Incremental) (inc : Incremental) (pg : PgId) → may_move incs inc pg ≡ false → IsLeft inc pg
 left-unmoved incs inc pg still = (unmoved incs inc pg still).left
 
-either-first : (a b : Bool) → a ≡ true → (a || b) ≡ true
-either-first a b passes = rw passes refl
-
-either-second : (a b : Bool) → b ≡ true → (a || b) ≡ true
-either-second a b passes = rw (passes, or-true) refl
-
 -- the devices on which it lies are up where they were
 ups : (incs : List Incremental) (inc : Incremental) (pg : PgId) (made : PoolSpec) → IsUnmoved incs inc pg → pool incs pg.pool ≡ Some made → UpsStay incs inc pg made
 ups incs inc pg made is there = record {
   placed = λ osd stands.
       let placed : is_placed incs pg osd ≡ true = ap (λ (o : Option PoolSpec). option_map_or (λ p. has_osd osd (raw_set incs p pg)) o false) there ∙ stands in
-      same_up (may_lie_on incs pg) incs inc osd is.devices (either-first (is_placed incs pg osd) (has_osd osd (temp incs pg)) placed);
+      same_up (may_lie_on incs pg) incs inc osd is.devices (grind arith);
   given = λ osd stands.
-      same_up (may_lie_on incs pg) incs inc osd is.devices (either-second (is_placed incs pg osd) (has_osd osd (temp incs pg)) stands);
+      same_up (may_lie_on incs pg) incs inc osd is.devices (grind arith);
 }
 
 pub lies-as-before : RawSetsStay → (incs : List Incremental) (inc : Incremental) (pg : PgId) → map_fault incs inc ≡ None → may_move incs inc pg ≡ false → membership (then_with incs inc) pg ≡ membership incs pg
@@ -110,5 +103,5 @@ untouched-unmoved log inc pg untouched =
     (none-append (has_to_do_with log pg) (turned_devices inc) thru (none-append (has_to_do_with log pg) (turned_devices inc ++ thru) lost is.devices).0).0 in
     let none : list_any (may_lie_on (incs_of log) pg) (turned_devices inc) ≡ false =
     none-narrower (may_lie_on (incs_of log) pg) (has_to_do_with log pg)
-    (λ osd lies. either-first (may_lie_on (incs_of log) pg osd) (option_map_or (names osd) (group_in log pg) false) lies) (turned_devices inc) turned in
+    (λ osd lies. grind arith) (turned_devices inc) turned in
     rw (is.left.still, is.left.pool, is.left.temp, none) refl

@@ -26,7 +26,7 @@ use Rattle.pgp_group.specs.Later.{IsAfter}
 use Rattle.pgp_group.specs.Peering.{past, prior}
 use Rattle.pgp_group.specs.Reckoning.{is_lost, acting_of, heard_or_lost, IsAccountedFor, IsReckonedWith}
 use Rattle.pgp_group.specs.Verdict.{verdict}
-use Rattle.pgp_group.proofs.ServedLemmas.{no_cause, remembered, remembered-each}
+use Rattle.pgp_group.proofs.ServedLemmas.{no_cause, remembered, remembered-each, not_false}
 
 settled_is : (s : Status) → is_settled s ≡ true → (s ≡ the.Up) ⊎ (is_lost s ≡ true)
 settled_is the.Up is = inl refl
@@ -34,15 +34,9 @@ settled_is the.Lost is = inr refl
 settled_is the.Gone is = cc
 settled_is the.Down is = cc
 
-not_false : (b : Bool) → not b ≡ false → b ≡ true
-not_false true is = refl
-not_false false is = cc
-
 -- an interval that matters and doesn't block has enough members that are settled, or none that is down
 unblocked : (late suffices down : Bool) → late ≡ true → late && not suffices && down ≡ false → (suffices ≡ true) ⊎ (down ≡ false)
-unblocked late true down matters' free = inl refl
-unblocked late false true matters' free = cc
-unblocked late false false matters' free = inr refl
+unblocked late suffices down matters' free = grind arith
 
 -- whoever is up was heard
 heard-up : (g : GroupLog) (interval : Past) (member : Member) → verdict g ≡ Serve → Contains (past g) interval → matters (les g) interval ≡ true → Contains (acting_of g interval) member

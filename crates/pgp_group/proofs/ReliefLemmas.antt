@@ -64,15 +64,7 @@ up-booted incs inc osd booting =
 
 -- a later loss makes no status worse
 lost-no_worse : (up there : Bool) (old new first : ℕ) → old ≤ new → is_no_worse (status_by up there old first) (status_by up there new first) ≡ true
-lost-no_worse true there old new first rises = refl
-lost-no_worse false false old new first rises = refl
-lost-no_worse false true old new first rises = elim (cases_Bool (nat_lt first old)) [
-  | inl lost ↦ let still : nat_lt first new ≡ true = grind (arith, nat_tests) in rw (lost, still) refl
-  | inr down ↦ elim (cases_Bool (nat_lt first new)) [
-    | inl lost ↦ rw (down, lost) refl
-    | inr still ↦ rw (down, still) refl
-  ]
-]
+lost-no_worse up there old new first rises = grind (arith, nat_tests)
 
 no_worse : (incs : List Incremental) (inc : Incremental) (osd first : ℕ) → TakesNothingAway incs inc → is_no_worse (status incs osd first) (status (then_with incs inc) osd first) ≡ true
 no_worse incs inc osd first nothing = elim (cases_Bool (boots osd inc)) [

@@ -16,7 +16,7 @@ use Rattle.pgp_group.specs.Heard.{les}
 
 pub fold_max-least : (a : ℕ) (xs : List ℕ) → a ≤ fold max a xs
 fold_max-least a [] = omega arith
-fold_max-least a (x ∷ xs) = let rest : max a x ≤ fold max (max a x) xs = fold_max-least (max a x) xs in omega arith
+fold_max-least a (x ∷ xs) = grind (arith, fold_max-least (max a x) xs)
 
 -- the history_les of the infos of the group
 abbrev pub told_les : PgId → List Entry → List ℕ

@@ -1,10 +1,10 @@
 -- A group whose intervals, reports and devices are the same in two logs has the same view, except for count and epoch.
-use Rattle.std.proofs.Common.{◌≡◌, ℕ, arith, List, [], ◌++◌, Option, Some, None, is_none, Bool, true, not, ◌&&◌, nat_eq, nat_le, nat_lt, length, map, fold, max, refl, ap, ap₂, ◌∙◌, if◌then◌else◌}
-use Rattle.std.specs.List.{Contains, filter, find, flat_map, list_any, range_with_len, slice_index_or}
+use Rattle.std.proofs.Common.{◌≡◌, ℕ, arith, List, [], ◌++◌, Option, Some, None, is_none, Bool, true, not, ◌&&◌, nat_eq, nat_le, nat_lt, length, map, fold, max, refl, ap, ap₂, ◌∙◌, if◌then◌else◌, is_some, sym}
+use Rattle.std.specs.List.{Contains, filter, find, flat_map, list_any, range_with_len, slice_index_or, filter_map}
 use Rattle.std.specs.Option.{option_and_then, option_map, option_map_or, unwrap_or}
 use Rattle.std.proofs.Math.Bool.{or-true}
 use Rattle.std.proofs.lemmas.Bool.Decides.{nat_tests}
-use Rattle.pgp_code.specs.AnyCode.{enough_of, is_by_place}
+use Rattle.pgp_code.specs.AnyCode.{enough_of, is_by_place, enough_of-mono}
 use Rattle.pgp_code.specs.declared.any.AnyCode.{AnyCode}
 use Rattle.pgp_ids.specs.Member.{is_same_member}
 use Rattle.pgp_ids.specs.declared.entry.Entry.{Entry}
@@ -26,52 +26,107 @@ use Rattle.pgp_map.specs.Devices.{device, up_thru}
 use Rattle.pgp_map.specs.Map.{epoch}
 use Rattle.pgp_missing.specs.Log.{is_whole}
 use Rattle.pgp_prior.specs.Blocks as block
-use Rattle.pgp_prior.specs.Members.{held_member, members_of, slots_of}
+use Rattle.pgp_prior.specs.Members.{held_member, members_of}
 use Rattle.pgp_prior.specs.Prior.{prior_set}
-use Rattle.pgp_prior.specs.declared.prior_set.Prior.{Prior}
+use Rattle.pgp_prior.proofs.BetterLemmas.{blocks-same}
 use Rattle.pgp_lists.specs.Ordered.{ascending}
 use Rattle.pgp_ids.specs.Member.{is_before}
 use Rattle.pgp_sets.specs.Status.{status, status_by}
 use Rattle.pgp_sets.specs.declared.status.Status.{Status}
 use Rattle.pgp_group.specs.Entries.{incs_of}
-use Rattle.pgp_group.specs.GroupLog.{GroupLog, group_with, infos, reports}
+use Rattle.pgp_group.specs.GroupLog.{GroupLog, group_with, infos, reports, incs}
 use Rattle.pgp_group.specs.Heard.{has_member, is_counted, heard, last_of_each_member, les, reported}
-use Rattle.pgp_group.specs.Peering.{past, prior, leader, best, whole_best, others_heard, peer_states, present_members}
+use Rattle.pgp_group.specs.Peering.{past, prior, leader, best, whole_best, peer_states, info_of}
 use Rattle.pgp_group.specs.Prefers.{prefers}
 use Rattle.pgp_group.specs.Touched.{has_osd, was_member, names, told_at}
-use Rattle.pgp_group.specs.Verdict.{holds, in_order, needs_up_thru}
+use Rattle.pgp_group.specs.Verdict.{holds, in_order, needs_up_thru, is_short}
 use Rattle.pgp_group.specs.View.{view_of}
-use Rattle.pgp_group.proofs.Lists.{filter-agree, flat_map-agree, any-agree, filter_map-contains, index-contains}
+use Rattle.pgp_group.proofs.Lists.{filter-agree, flat_map-agree, any-agree, filter_map-contains, index-contains, any-found}
 use Rattle.pgp_group.proofs.PeerLemmas.{compared}
 use Rattle.pgp_group.proofs.UntoldLemmas.{osd-there}
+use Rattle.pgp_group.proofs.FoundLemmas.{present-is}
+
+-- ---- a group that is alike in two logs
+
+-- both have the same code, membership and intervals, and the same is known of their members
+pub record AreAlike (g after : GroupLog) : Type 0 where
+  pub code : after.history.code ≡ g.history.code
+  pub current : after.history.current ≡ g.history.current
+  pub first : current_first after.history ≡ current_first g.history
+  pub past : past after ≡ past g
+  pub les : les after ≡ les g
+  pub prior : prior after ≡ prior g
+  pub heard : (member : Member) → info_of (heard after) member ≡ info_of (heard g) member
+  pub best : best after ≡ best g
+  pub reported : (member : Member) → reported after member ≡ reported g member
+  pub thru : needs_up_thru after ≡ needs_up_thru g
+
+module _ (g after : GroupLog) (same : AreAlike g after) where
+  has_member-same : (member : Member) → has_member member (heard after) ≡ has_member member (heard g)
+  has_member-same member =
+      any-found (λ (info : Info). is_same_member info.member member) (heard after) ∙ ap is_some (same.heard member)
+      ∙ sym (any-found (λ (info : Info). is_same_member info.member member) (heard g))
+
+  whole_best-same : whole_best after ≡ whole_best g
+  whole_best-same = λ i. option_and_then (λ info. if is_whole info (same.reported info.member i) then Some info else None) (same.best i)
+
+  states-same : peer_states after ≡ peer_states g
+  states-same =
+      let present = present-is g after.history.code after.history.current same.code same.current in
+      λ i. option_map_or (λ best. map (compared (same.reported best.member i) best)
+      (filter_map (λ member. same.heard member i) (filter (λ member. not (is_same_member member best.member)) (present i)))) (whole_best-same i) []
+
+  holds-same : (v : Verdict) → holds after v ≡ holds g v
+  holds-same the.NoPrimary = λ i. is_none (same.current i).acting_primary
+  holds-same the.Down = λ i. (same.prior i).down
+  holds-same the.Waiting = λ i. list_any (λ member. not (has_member-same member i)) (same.prior i).probe
+  holds-same the.Incomplete = λ i. is_none (same.best i)
+  holds-same the.Short = λ i. is_short (record g { history = record g.history { code = same.code i; current = same.current i } })
+  holds-same the.NeedLog = λ i. is_none (whole_best-same i)
+  holds-same the.NeedUpThru = same.thru
+  holds-same the.Serve = refl
+
+  -- so its views differ in count and epoch alone
+  pub view-alike : view_of after ≡ told_at (length after.log) (epoch (incs after)) (view_of g)
+  view-alike = λ i. record {
+    count = length after.log;
+    epoch = epoch (incs after);
+    up = (same.current i).up;
+    up_primary = (same.current i).up_primary;
+    acting = (same.current i).acting;
+    acting_primary = (same.current i).acting_primary;
+    first = same.first i;
+    intervals = same.past i;
+    les = same.les i;
+    probe = (same.prior i).probe;
+    blocked_by = (same.prior i).blocked_by;
+    verdict = unwrap_or (find (λ v. holds-same v i) in_order) the.Serve;
+    best = option_map (λ info. info.member) (same.best i);
+    missing = states-same i;
+  }
 
 -- ---- prior sets by statuses that agree on the members of the past intervals
 
-Agrees : Bool → (ℕ → ℕ → Status) → (ℕ → ℕ → Status) → Past → Type 0
+abbrev Agrees : Bool → (ℕ → ℕ → Status) → (ℕ → ℕ → Status) → Past → Type 0
 Agrees by_place old now p = (member : Member) → Contains (members_of by_place p.members.acting) member → now member.osd p.first ≡ old member.osd p.first
 
 where-same : (test : Status → Bool) (by_place : Bool) (old now : ℕ → ℕ → Status) (p : Past) → Agrees by_place old now p → block.acting_where test by_place now p ≡ block.acting_where test by_place old p
-unfolding Agrees
 where-same test by_place old now p agree =
     filter-agree (λ (m : Member). test (now m.osd p.first)) (λ (m : Member). test (old m.osd p.first)) (members_of by_place p.members.acting) (λ m there. ap test (agree m there))
 
-blocks-same : (enough : List ℕ → Bool) (by_place : Bool) (old now : ℕ → ℕ → Status) (les : ℕ) (p : Past) → Agrees by_place old now p → block.blocks enough by_place now les p ≡ block.blocks enough by_place old les p
-unfolding Agrees
-blocks-same enough by_place old now les p agree =
-    let settled = where-same block.is_settled by_place old now p agree in
-    let down = any-agree (λ (m : Member). block.is_down (now m.osd p.first)) (λ (m : Member). block.is_down (old m.osd p.first)) (members_of by_place p.members.acting) (λ m there. ap block.is_down (agree m there)) in
-    ap₂ (λ (l : List Member) (d : Bool). block.matters les p && not (enough (slots_of l)) && d) settled down
-
-prior-same : (enough : List ℕ → Bool) (by_place : Bool) (old now : ℕ → ℕ → Status) (les : ℕ) (past : List Past) (current : Membership) → ((p : Past) → Contains past p → Agrees by_place old now p)
-    → prior_set enough by_place now les past current ≡ prior_set enough by_place old les past current
-prior-same enough by_place old now les past current agree =
+prior-same : (code : AnyCode) (old now : ℕ → ℕ → Status) (les : ℕ) (past : List Past) (current : Membership) → ((p : Past) → Contains past p → Agrees (is_by_place code) old now p)
+    → prior_set (enough_of code) (is_by_place code) now les past current ≡ prior_set (enough_of code) (is_by_place code) old les past current
+prior-same code old now les past current agree =
+    let by_place : Bool = is_by_place code in
+    let was : Past → Bool = block.blocks (enough_of code) by_place old les in
+    let is : Past → Bool = block.blocks (enough_of code) by_place now les in
+    let blocked : (p : Past) → Contains past p → is p ≡ was p = λ p there. blocks-same by_place (enough_of code) (enough_of-mono code) les now old p (agree p there) in
     let ups = flat_map-agree (block.acting_where block.is_up by_place now) (block.acting_where block.is_up by_place old) (filter (block.matters les) past)
     (λ p there. where-same block.is_up by_place old now p (agree p ((filter-contains (block.matters les) past p there).0))) in
-    let blocking = filter-agree (block.blocks enough by_place now les) (block.blocks enough by_place old les) past (λ p there. blocks-same enough by_place old now les p (agree p there)) in
-    let downs = ap (flat_map (block.down_osds by_place now)) blocking
-    ∙ flat_map-agree (block.down_osds by_place now) (block.down_osds by_place old) (filter (block.blocks enough by_place old les) past)
-    (λ p there. ap (map (λ (m : Member). m.osd)) (where-same block.is_down by_place old now p (agree p ((filter-contains (block.blocks enough by_place old les) past p there).0)))) in
-    let any = any-agree (block.blocks enough by_place now les) (block.blocks enough by_place old les) past (λ p there. blocks-same enough by_place old now les p (agree p there)) in
+    let downs = ap (flat_map (block.down_osds by_place now)) (filter-agree is was past blocked)
+    ∙ flat_map-agree (block.down_osds by_place now) (block.down_osds by_place old) (filter was past)
+    (λ p there. ap (map (λ (m : Member). m.osd)) (where-same block.is_down by_place old now p (agree p ((filter-contains was past p there).0)))) in
+    let any = any-agree is was past blocked in
     λ i. record {
       probe = ascending is_before (members_of by_place current.up ++ members_of by_place current.acting ++ ups i);
       blocked_by = ascending nat_lt (downs i);
@@ -148,77 +203,30 @@ reported-same log after pg h lived same member =
 -- what it finds out
 
 prior_set-same : (log after : List Entry) (pg : PgId) (h : History AnyCode) (lived : List EpochState) → IsSame log after pg h lived → prior (lives after pg h lived) ≡ prior (group_with log pg h)
-unfolding Agrees
 prior_set-same log after pg h lived same =
     let g : GroupLog = group_with log pg h in
     ap₂ (λ (told : List Info) (intervals : List Past). prior_set (enough_of h.code) (is_by_place h.code) (status (incs_of after)) (fold max 0 (map (λ info. info.history_les) told)) intervals h.current) same.infos same.past
-    ∙ prior-same (enough_of h.code) (is_by_place h.code) (status (incs_of log)) (status (incs_of after)) (les g) (past g) h.current
+    ∙ prior-same h.code (status (incs_of log)) (status (incs_of after)) (les g) (past g) h.current
     (λ p there member stood. let dev = same.named member.osd (named_past log pg h p member there stood) in λ i. status_by (dev i).is_up (dev i).exists (dev i).lost_at p.first)
-
-best-same : (log after : List Entry) (pg : PgId) (h : History AnyCode) (lived : List EpochState) → IsSame log after pg h lived → best (lives after pg h lived) ≡ best (group_with log pg h)
-best-same log after pg h lived same = ap (best_info (prefers h.code (leader (group_with log pg h)))) (heard-same log after pg h lived same)
-
-whole_best-same : (log after : List Entry) (pg : PgId) (h : History AnyCode) (lived : List EpochState) → IsSame log after pg h lived → whole_best (lives after pg h lived) ≡ whole_best (group_with log pg h)
-whole_best-same log after pg h lived same =
-    let told = reported-same log after pg h lived same in
-    let by = best-same log after pg h lived same in
-    λ i. option_and_then (λ info. if is_whole info (told info.member i) then Some info else None) (by i)
-
-states-same : (log after : List Entry) (pg : PgId) (h : History AnyCode) (lived : List EpochState) → IsSame log after pg h lived → peer_states (lives after pg h lived) ≡ peer_states (group_with log pg h)
-states-same log after pg h lived same =
-    let told = reported-same log after pg h lived same in
-    let heard' = heard-same log after pg h lived same in
-    let by = whole_best-same log after pg h lived same in
-    λ i. option_map_or (λ best. map (compared (told best.member i) best) (others_heard (present_members (group_with log pg h)) (heard' i) best)) (by i) []
-
--- ---- its verdict
 
 led-same : (test now : ℕ → Bool) (leads : Option ℕ) → ((osd : ℕ) → leads ≡ Some osd → now osd ≡ test osd) → option_map_or now leads true ≡ option_map_or test leads true
 led-same test now None same = refl
 led-same test now (Some osd) same = same osd refl
 
-up_thru-same : (log after : List Entry) (pg : PgId) (h : History AnyCode) (lived : List EpochState) → IsSame log after pg h lived → needs_up_thru (lives after pg h lived) ≡ needs_up_thru (group_with log pg h)
-up_thru-same log after pg h lived same =
-    let first : current_first (record h { lived = lived }) ≡ current_first h = same.first in
-    led-same (λ osd. nat_lt (up_thru (incs_of log) osd) (current_first h)) (λ osd. nat_lt (up_thru (incs_of after) osd) (current_first (record h { lived = lived }))) h.current.acting_primary
-    (λ osd leads. let dev = same.leads osd leads in λ i. nat_lt (dev i).up_thru (first i))
-
-holds-same : (log after : List Entry) (pg : PgId) (h : History AnyCode) (lived : List EpochState) → IsSame log after pg h lived → (v : Verdict) → holds (lives after pg h lived) v ≡ holds (group_with log pg h) v
-holds-same log after pg h lived same the.NoPrimary = refl
-holds-same log after pg h lived same the.Down = ap (λ (p : Prior). p.down) (prior_set-same log after pg h lived same)
-holds-same log after pg h lived same the.Waiting =
-    ap₂ (λ (p : Prior) (told : List Info). list_any (λ member. not (has_member member told)) p.probe) (prior_set-same log after pg h lived same) (heard-same log after pg h lived same)
-holds-same log after pg h lived same the.Incomplete = ap is_none (best-same log after pg h lived same)
-holds-same log after pg h lived same the.Short = refl
-holds-same log after pg h lived same the.NeedLog = ap is_none (whole_best-same log after pg h lived same)
-holds-same log after pg h lived same the.NeedUpThru = up_thru-same log after pg h lived same
-holds-same log after pg h lived same the.Serve = refl
-
--- ---- its view
-
 pub view-same : (log after : List Entry) (pg : PgId) (h : History AnyCode) (lived : List EpochState) → IsSame log after pg h lived
     → view_of (lives after pg h lived) ≡ told_at (length after) (epoch (incs_of after)) (view_of (group_with log pg h))
 view-same log after pg h lived same =
-    let first : current_first (record h { lived = lived }) ≡ current_first h = same.first in
-    let intervals : past (lives after pg h lived) ≡ past (group_with log pg h) = same.past in
-    let started = ap (λ (told : List Info). fold max 0 (map (λ info. info.history_les) told)) same.infos in
-    let needs = prior_set-same log after pg h lived same in
-    let by = best-same log after pg h lived same in
-    let others = states-same log after pg h lived same in
-    let cause = holds-same log after pg h lived same in
-    λ i. record {
-      count = length after;
-      epoch = epoch (incs_of after);
-      up = h.current.up;
-      up_primary = h.current.up_primary;
-      acting = h.current.acting;
-      acting_primary = h.current.acting_primary;
-      first = first i;
-      intervals = intervals i;
-      les = started i;
-      probe = (needs i).probe;
-      blocked_by = (needs i).blocked_by;
-      verdict = unwrap_or (find (λ v. cause v i) in_order) the.Serve;
-      best = option_map (λ info. info.member) (by i);
-      missing = others i;
-    }
+    let heard' = heard-same log after pg h lived same in
+    view-alike (group_with log pg h) (lives after pg h lived) (record {
+      code = refl;
+      current = refl;
+      first = same.first;
+      past = same.past;
+      les = ap (λ (told : List Info). fold max 0 (map (λ info. info.history_les) told)) same.infos;
+      prior = prior_set-same log after pg h lived same;
+      heard = λ member. ap (λ (l : List Info). info_of l member) heard';
+      best = ap (best_info (prefers h.code (leader (group_with log pg h)))) heard';
+      reported = reported-same log after pg h lived same;
+      thru = led-same (λ osd. nat_lt (up_thru (incs_of log) osd) (current_first h)) (λ osd. nat_lt (up_thru (incs_of after) osd) (current_first (record h { lived = lived }))) h.current.acting_primary
+          (λ osd leads. let dev = same.leads osd leads in λ i. nat_lt (dev i).up_thru (same.first i));
+    })

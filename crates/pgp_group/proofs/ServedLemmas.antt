@@ -19,7 +19,7 @@ use Rattle.pgp_ids.specs.declared.verdict.Verdict.TheVariants.{NoPrimary, Short,
 use Rattle.pgp_interval.specs.History.{History}
 use Rattle.pgp_interval.specs.ReadWrite.{acting_slots, may_have_gone_rw}
 use Rattle.pgp_interval.specs.Runs.{current_first, current_ending}
-use Rattle.pgp_lists.proofs.Members.{append-contains, contains-append, Contains-cases, Contains-here, Contains-nil}
+use Rattle.pgp_lists.proofs.Members.{contains-append, Contains-here}
 use Rattle.pgp_lists.proofs.Options.{none_is, some_is, some_mapped}
 use Rattle.pgp_lists.proofs.Taken.{taken-along}
 use Rattle.pgp_map.specs.Checked.{are_checked, is_faultless}
@@ -38,6 +38,7 @@ use Rattle.pgp_group.proofs.DeviceLemmas.{checked-front, checked-last, up_from-s
 use Rattle.pgp_group.proofs.FirstLemmas.{along}
 use Rattle.pgp_group.proofs.GrowthLemmas.{has_group-grows, next_epoch}
 use Rattle.pgp_group.proofs.LaterLemmas.{histories}
+use Rattle.pgp_group.proofs.Lists.{contains-push}
 use Rattle.pgp_group.proofs.OpeningLemmas.{IsOpened, Ends, Moves, moves, opened, past_of, primary-up}
 use Rattle.pgp_group.proofs.OpeningLemmas.Moves.{on, ends}
 use Rattle.pgp_group.proofs.VerdictLemmas.{IsFirstCause-verdict}
@@ -60,6 +61,9 @@ pub no_cause : (g : GroupLog) (cause : Verdict) → verdict g ≡ Serve → plac
 no_cause g cause serves before =
     (IsFirstCause-verdict g).none_before cause (subst (λ (v : Verdict). place_of cause < place_of v) (sym serves) before)
 
+pub not_false : (b : Bool) → not b ≡ false → b ≡ true
+not_false b is = grind arith
+
 serving : (g : GroupLog) → verdict g ≡ Serve → (osd : ℕ) × IsServing g osd
 serving g serves =
     let leader : is_none g.history.current.acting_primary ≡ false = no_cause g NoPrimary serves (omega arith) in
@@ -79,10 +83,6 @@ serving g serves =
     some_of : (found : Option ℕ) → is_none found ≡ false → (osd : ℕ) × (found ≡ Some osd)
     some_of (Some osd) there = (osd, refl)
     some_of None there = cc
-
-    not_false : (b : Bool) → not b ≡ false → b ≡ true
-    not_false true is = refl
-    not_false false is = cc
 
 -- ---- how its interval stands later
 
@@ -123,12 +123,9 @@ stands-ended cleans first osd incs inc h after next opened over runs =
         opened = is;
         rw = rw';
       };
-      each = λ interval in' same. elim (append-contains (past_of cleans h) (ending ∷ []) interval (subst (λ (l : List Past). Contains l interval) (over.past cleans) in')) [
+      each = λ interval in' same. elim (contains-push (past_of cleans h) ending interval (subst (λ (l : List Past). Contains l interval) (over.past cleans) in')) [
         | inl before ↦ absurd (omega (arith, opened.later cleans interval before, is, same))
-        | inr last ↦ elim (Contains-cases ending [] interval last) [
-          | inl here ↦ ap (λ (p : Past). p.rw) (sym here) ∙ rw'
-          | inr none ↦ absurd (Contains-nil interval none)
-        ]
+        | inr here ↦ ap (λ (p : Past). p.rw) (sym here) ∙ rw'
       ];
       later = omega (arith, opened.within, is, over.first, next);
     }
@@ -144,14 +141,11 @@ over-ended cleans first incs inc h after next opened ended over =
         opened = over.went.opened;
         rw = over.went.rw;
       };
-      each = λ interval in' same. elim (append-contains (past_of cleans h) (ending ∷ []) interval (subst (λ (l : List Past). Contains l interval) (ended.past cleans) in')) [
+      each = λ interval in' same. elim (contains-push (past_of cleans h) ending interval (subst (λ (l : List Past). Contains l interval) (ended.past cleans) in')) [
         | inl before ↦ over.each interval before same
-        | inr last ↦ elim (Contains-cases ending [] interval last) [
-          | inl here ↦
-              let at : current_first h ≡ interval.first = ap (λ (p : Past). p.first) here in
-              absurd (omega (arith, at, same, over.later))
-          | inr none ↦ absurd (Contains-nil interval none)
-        ]
+        | inr here ↦
+            let at : current_first h ≡ interval.first = ap (λ (p : Past). p.first) here in
+            absurd (omega (arith, at, same, over.later))
       ];
       later = omega (arith, over.later, opened.within, ended.first, next);
     }

@@ -35,26 +35,26 @@ record IsUntold (inc : Incremental) (osd : ℕ) : Type 0 where
   thru : list_any (λ told. nat_eq told.osd osd) inc.up_thru ≡ false
   lost : list_any (λ told. nat_eq told.osd osd) inc.lost ≡ false
 
+-- no device that the incremental boots, takes down or destroys passes the test, but this one does
+unturned : (test : ℕ → Bool) (inc : Incremental) (osd : ℕ) → list_any test (turned_devices inc) ≡ false → test osd ≡ true → (boots osd inc ≡ false) × (takes_down osd inc ≡ false) × (destroys osd inc ≡ false)
+unturned test inc osd none passes =
+    let a = none-append test (inc.up ++ inc.down) inc.gone none in
+    let b = none-append test inc.up inc.down a.0 in
+    let is : (x : ℕ) → nat_eq osd x ≡ true → test x ≡ true = λ x same. ap test (sym (eqb-true osd x same)) ∙ passes in
+    (none-narrower (nat_eq osd) test is inc.up b.0, none-narrower (nat_eq osd) test is inc.down b.1, none-narrower (nat_eq osd) test is inc.gone a.1)
+
 -- no device of the incremental passes the test, but this one does
 untold : (test : ℕ → Bool) (inc : Incremental) (osd : ℕ) → list_any test (changed_devices inc) ≡ false → test osd ≡ true → IsUntold inc osd
 untold test inc osd none passes =
     let thru : List ℕ = map (λ (told : DeviceEpoch). told.osd) inc.up_thru in
     let lost : List ℕ = map (λ (told : DeviceEpoch). told.osd) inc.lost in
-    let a = none-append test (inc.up ++ inc.down ++ inc.gone ++ thru) lost none in
-    let b = none-append test (inc.up ++ inc.down ++ inc.gone) thru a.0 in
-    let c = none-append test (inc.up ++ inc.down) inc.gone b.0 in
-    let d = none-append test inc.up inc.down c.0 in
-    let is : (x : ℕ) → nat_eq osd x ≡ true → test x ≡ true = λ x same. ap test (sym (eqb-true osd x same)) ∙ passes in
+    let a = none-append test (turned_devices inc ++ thru) lost none in
+    let b = none-append test (turned_devices inc) thru a.0 in
+    let silent = unturned test inc osd b.0 passes in
     let told_is : (told : DeviceEpoch) → nat_eq told.osd osd ≡ true → test told.osd ≡ true = λ told same. ap test (eqb-true told.osd osd same) ∙ passes in
     let each : (told : List DeviceEpoch) → list_any test (map (λ t. t.osd) told) ≡ false → list_any (λ t. nat_eq t.osd osd) told ≡ false =
     λ told silent. none-narrower (λ (t : DeviceEpoch). nat_eq t.osd osd) (λ (t : DeviceEpoch). test t.osd) told_is told (sym (any-mapped (λ (t : DeviceEpoch). t.osd) test told) ∙ silent) in
-    record {
-      booted = none-narrower (nat_eq osd) test is inc.up d.0;
-      downed = none-narrower (nat_eq osd) test is inc.down d.1;
-      gone = none-narrower (nat_eq osd) test is inc.gone c.1;
-      thru = each inc.up_thru b.1;
-      lost = each inc.lost a.1;
-    }
+    record { booted = silent.0; downed = silent.1; gone = silent.2; thru = each inc.up_thru b.1; lost = each inc.lost a.1 }
 
 -- such a device stays as it was
 device-stays : (incs : List Incremental) (inc : Incremental) (osd : ℕ) → IsUntold inc osd → device (then_with incs inc) osd ≡ device incs osd
@@ -119,20 +119,16 @@ without up by_place places =
     if by_place then map (λ place. if option_map_or up place false then place else None) places else filter (λ place. option_map_or up place false) places
 
 -- it is the same by another test that agrees on the devices of the list
+up-same : (up now : ℕ → Bool) (places : List (Option ℕ)) → ((osd : ℕ) → Contains places (Some osd) → now osd ≡ up osd) → (place : Option ℕ) → Contains places place → option_map_or now place false ≡ option_map_or up place false
+up-same up now places same None there = refl
+up-same up now places same (Some osd) there = same osd there
+
 without-same : (up now : ℕ → Bool) (by_place : Bool) (places : List (Option ℕ)) → ((osd : ℕ) → Contains places (Some osd) → now osd ≡ up osd) → without now by_place places ≡ without up by_place places
 unfolding without
 without-same up now true places same =
     map-agree (λ (place : Option ℕ). if option_map_or now place false then place else None) (λ (place : Option ℕ). if option_map_or up place false then place else None) places
-    (λ place there. ap (λ (b : Bool). if b then place else None) (tests place there))
-  where
-    tests : (place : Option ℕ) → Contains places place → option_map_or now place false ≡ option_map_or up place false
-    tests None there = refl
-    tests (Some osd) there = same osd there
-without-same up now false places same = filter-agree (λ (place : Option ℕ). option_map_or now place false) (λ (place : Option ℕ). option_map_or up place false) places tests
-  where
-    tests : (place : Option ℕ) → Contains places place → option_map_or now place false ≡ option_map_or up place false
-    tests None there = refl
-    tests (Some osd) there = same osd there
+    (λ place there. ap (λ (b : Bool). if b then place else None) (up-same up now places same place there))
+without-same up now false places same = filter-agree (λ (place : Option ℕ). option_map_or now place false) (λ (place : Option ℕ). option_map_or up place false) places (up-same up now places same)
 
 -- its devices are those of the list
 without-there : (up : ℕ → Bool) (by_place : Bool) (places : List (Option ℕ)) (osd : ℕ) → Contains (without up by_place places) (Some osd) → Contains places (Some osd)
@@ -209,13 +205,8 @@ ups-stay incs inc pg made stay = record {
 -- a device that passes the test, while none does that the incremental boots, takes down or destroys
 pub same_up : (test : ℕ → Bool) (incs : List Incremental) (inc : Incremental) (osd : ℕ) → list_any test (turned_devices inc) ≡ false → test osd ≡ true → is_up (then_with incs inc) osd ≡ is_up incs osd
 same_up test incs inc osd none passes =
-    let a = none-append test (inc.up ++ inc.down) inc.gone none in
-    let b = none-append test inc.up inc.down a.0 in
-    let is : (x : ℕ) → nat_eq osd x ≡ true → test x ≡ true = λ x same. ap test (sym (eqb-true osd x same)) ∙ passes in
-    let booted : boots osd inc ≡ false = none-narrower (nat_eq osd) test is inc.up b.0 in
-    let downed : takes_down osd inc ≡ false = none-narrower (nat_eq osd) test is inc.down b.1 in
-    let gone : destroys osd inc ≡ false = none-narrower (nat_eq osd) test is inc.gone a.1 in
-    let moves' : list_any (λ i. boots osd i || takes_down osd i || destroys osd i) (inc ∷ []) ≡ false = rw (booted, downed, gone) refl in
+    let silent = unturned test inc osd none passes in
+    let moves' : list_any (λ i. boots osd i || takes_down osd i || destroys osd i) (inc ∷ []) ≡ false = rw (silent.0, silent.1, silent.2) refl in
     ap (λ (last : Option Incremental). option_map_or (boots osd) last false) (last_where-none (λ (i : Incremental). boots osd i || takes_down osd i || destroys osd i) incs (inc ∷ []) moves')
 
 pub members-same : RawSetsStay → (incs : List Incremental) (inc : Incremental) (pg : PgId) (made : PoolSpec) → map_fault incs inc ≡ None → IsLeft inc pg → pool incs pg.pool ≡ Some made → UpsStay incs inc pg made

@@ -1,8 +1,7 @@
 -- An entry that doesn't touch a group leaves its view as it was, except for count and epoch.
-use Rattle.std.proofs.Common.{◌≡◌, ℕ, List, [], ◌∷◌, ◌++◌, Option, Some, None, is_some, Bool, true, false, ◌||◌, nat_lt, length, map, refl, ap, sym, ◌∙◌}
+use Rattle.std.proofs.Common.{◌≡◌, ℕ, List, [], ◌∷◌, ◌++◌, Option, Some, None, is_some, Bool, true, false, ◌||◌, nat_lt, length, map, refl, ap, sym, ◌∙◌, arith}
 use Rattle.std.specs.List.{filter, list_any}
 use Rattle.std.specs.Option.{option_map, option_map_or}
-use Rattle.std.proofs.Math.Bool.{or-true}
 use Rattle.std.proofs.lemmas.Bool.{or_parts}
 use Rattle.pgp_code.specs.AnyCode.{enough_of, is_by_place}
 use Rattle.pgp_code.specs.declared.any.AnyCode.{AnyCode}
@@ -81,25 +80,15 @@ apart log inc pg untouched =
     let c = or_parts (moves_all inc) (changes_pool inc pg.pool) b.0 in
     record { left = record { still = c.0; pool = c.1; temp = b.1 }; devices = a.1 }
 
--- one of three tests passes
-first_of_three : (a b c : Bool) → a ≡ true → (a || b || c) ≡ true
-first_of_three a b c passes = rw passes refl
-
-second_of_three : (a b c : Bool) → b ≡ true → (a || b || c) ≡ true
-second_of_three a b c passes = rw (passes, or-true) refl
-
-third_of_three : (a b c : Bool) → c ≡ true → (a || b || c) ≡ true
-third_of_three a b c passes = rw (passes, or-true) refl
-
 -- the devices on which the group lies, or may lie by pg_temp, stay as they were
 pub devices-stay : (log : List Entry) (inc : Incremental) (pg : PgId) (made : PoolSpec) → IsApart log inc pg → pool (incs_of log) pg.pool ≡ Some made → DevicesStay (incs_of log) inc pg made
 devices-stay log inc pg made is there = record {
   placed = λ osd stands.
       let placed : is_placed (incs_of log) pg osd ≡ true = ap (λ (o : Option PoolSpec). option_map_or (λ p. has_osd osd (raw_set (incs_of log) p pg)) o false) there ∙ stands in
-      let near : has_to_do_with log pg osd ≡ true = first_of_three (is_placed (incs_of log) pg osd) (has_osd osd (temp (incs_of log) pg)) (option_map_or (names osd) (group_in log pg) false) placed in
+      let near : has_to_do_with log pg osd ≡ true = grind arith in
       same_device (has_to_do_with log pg) (incs_of log) inc osd is.devices near;
   given = λ osd stands.
-      let near : has_to_do_with log pg osd ≡ true = second_of_three (is_placed (incs_of log) pg osd) (has_osd osd (temp (incs_of log) pg)) (option_map_or (names osd) (group_in log pg) false) stands in
+      let near : has_to_do_with log pg osd ≡ true = grind arith in
       same_device (has_to_do_with log pg) (incs_of log) inc osd is.devices near;
 }
 
@@ -107,7 +96,7 @@ devices-stay log inc pg made is there = record {
 named-stay : (log : List Entry) (inc : Incremental) (pg : PgId) (h : History AnyCode) (osd : ℕ) → IsApart log inc pg → group_history (incs_of log) pg ≡ Some h → names osd (group_with log pg h) ≡ true → device (then_with (incs_of log) inc) osd ≡ device (incs_of log) osd
 named-stay log inc pg h osd is there named =
     let near' : option_map_or (names osd) (group_in log pg) false ≡ true = ap (λ (o : Option (History AnyCode)). option_map_or (names osd) (option_map (group_with log pg) o) false) there ∙ named in
-    let near : has_to_do_with log pg osd ≡ true = third_of_three (is_placed (incs_of log) pg osd) (has_osd osd (temp (incs_of log) pg)) (option_map_or (names osd) (group_in log pg) false) near' in
+    let near : has_to_do_with log pg osd ≡ true = grind arith in
     same_device (has_to_do_with log pg) (incs_of log) inc osd is.devices near
 
 -- the current interval goes on

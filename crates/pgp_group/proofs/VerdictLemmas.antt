@@ -11,14 +11,7 @@ use Rattle.pgp_group.specs.Verdict.{holds, verdict, in_order, place_of, IsFirstC
 -- ---- places tell verdicts apart
 
 at_its_place : (v : Verdict) → slice_index_or in_order (place_of v) Serve ≡ v
-at_its_place NoPrimary = refl
-at_its_place Down = refl
-at_its_place Waiting = refl
-at_its_place Incomplete = refl
-at_its_place Short = refl
-at_its_place NeedLog = refl
-at_its_place NeedUpThru = refl
-at_its_place Serve = refl
+at_its_place v = grind arith
 
 same_place : (v w : Verdict) → place_of v ≡ place_of w → v ≡ w
 same_place v w same = sym (at_its_place v) ∙ ap (λ (n : ℕ). slice_index_or in_order n Serve) same ∙ at_its_place w

@@ -1,26 +1,16 @@
-use Rattle.std.proofs.Common.{subst}
 use Rattle.pgp_code.specs.AnyCode.{is_by_place}
-use Rattle.pgp_prior.specs.Changes.{IsChange}
 use Rattle.pgp_sets.specs.Status.{held_status}
-use Rattle.pgp_group.specs.DeviceFacts.{allows}
-use Rattle.pgp_group.specs.declared.device_facts.Turn.{Turn}
 use Rattle.pgp_group.proofs.NotedLemmas.{raised, change-up, change-from_up}
 use Rattle.pgp_group.proofs.device_facts.renew.Goals as goal
 
 pub returns-in-Better : goal.returns-in-Better
-returns-in-Better c = λ b status is change.
-    c.device_better.ensures.kept b status is
-    (subst (λ (t : Turn). IsChange (allows t) (is_by_place b.code) c.args.osd (held_status c.args.map.now) b.status status b.past) c.in-Better.is change)
+returns-in-Better c = λ b status is change. c.device_better.ensures.kept b status is (rw c.in-Better.is at change)
 
 pub returns-in-Worse : goal.returns-in-Worse
-returns-in-Worse c = λ b status is change.
-    c.device_worse.ensures b status is
-    (subst (λ (t : Turn). IsChange (allows t) (is_by_place b.code) c.args.osd (held_status c.args.map.now) b.status status b.past) c.in-Worse.is change)
+returns-in-Worse c = λ b status is change. c.device_worse.ensures b status is (rw c.in-Worse.is at change)
 
 pub returns-in-Gone : goal.returns-in-Gone
-returns-in-Gone c = λ b status is change.
-    c.device_gone.ensures b status is
-    (subst (λ (t : Turn). IsChange (allows t) (is_by_place b.code) c.args.osd (held_status c.args.map.now) b.status status b.past) c.in-Gone.is change)
+returns-in-Gone c = λ b status is change. c.device_gone.ensures b status is (rw c.in-Gone.is at change)
 
 pub returns-in-Again : goal.returns-in-Again
 returns-in-Again c = λ b status is change.
@@ -28,7 +18,7 @@ returns-in-Again c = λ b status is change.
     let osd = c.args.osd in
     let told = held_status c.args.map.now in
     let up = raised osd b.status in
-    let again = subst (λ (t : Turn). IsChange (allows t) by_place osd told b.status status b.past) c.in-Again.is change in
+    let again = rw c.in-Again.is at change in
     c.device_worse-in-Again.ensures (record b { status = up }) status
     (c.device_better-in-Again.ensures.kept b up is (change-up by_place osd told b.status status b.past again _))
     (change-from_up by_place osd told b.status status b.past again)

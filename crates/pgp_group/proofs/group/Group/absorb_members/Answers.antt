@@ -20,7 +20,7 @@ use Rattle.pgp_group.specs.GroupLog.{cleans, group_with}
 use Rattle.pgp_group.specs.GroupOf.{IsGroupOf}
 use Rattle.pgp_group.specs.Touched.{has_osd}
 use Rattle.pgp_group.specs.declared.group.Group.{Group}
-use Rattle.pgp_group.proofs.GroupLemmas.{on_err, StandsLike, IsGroupOf-inc, IsGroupOf-same, names-end, names-stay}
+use Rattle.pgp_group.proofs.GroupLemmas.{on_err, IsGroupOf-inc, IsGroupOf-same, names-end, names-stay}
 use Rattle.pgp_group.proofs.HistoryLemmas.{history-current}
 use Rattle.pgp_group.proofs.group.Group.absorb_members.Goals as goal
 
@@ -66,24 +66,16 @@ returns-clause-ok c = λ log pg inc is fine told after lies.
 
 pub returns-in_err-make_room-clause-err : goal.returns-in_err-make_room-clause-err
 returns-in_err-make_room-clause-err c =
-    let now = c.args.self.now in
-    let group : Group = record { alloc = now.alloc; pg = now.pg; intervals = now.intervals; infos = now.infos; reports = now.reports; named = c.make_room.new.self; reckoned = now.reckoned } in
-    on_err c.from_residual.result (StandsLike now group)
-    (λ log pg is. IsGroupOf-same log pg now group is refl refl (λ g kept. kept) (λ g kept. kept) c.make_room.ensures.same refl)
+    on_err c.from_residual.result _ (λ log pg is. IsGroupOf-same log pg c.args.self.now _ is refl refl (λ g kept. kept) (λ g kept. kept) c.make_room.ensures.same refl)
 
 pub returns-in_err-step-clause-err : goal.returns-in_err-step-clause-err
 returns-in_err-step-clause-err c =
-    let now = c.args.self.now in
-    let group : Group = record { alloc = now.alloc; pg = now.pg; intervals = c.step.new.self; infos = now.infos; reports = now.reports; named = c.make_room.new.self; reckoned = now.reckoned } in
-    on_err c.from_residual-in_err-step.result (StandsLike now group)
-    (λ log pg is. IsGroupOf-same log pg now group is refl c.in_err-step.ensures.err (λ g kept. kept) (λ g kept. kept) c.make_room.ensures.same refl)
+    on_err c.from_residual-in_err-step.result _ (λ log pg is. IsGroupOf-same log pg c.args.self.now _ is refl c.in_err-step.ensures.err (λ g kept. kept) (λ g kept. kept) c.make_room.ensures.same refl)
 
 pub returns-in_err-make_room-clause-wants : goal.returns-in_err-make_room-clause-wants
 returns-in_err-make_room-clause-wants c =
-    on_err c.from_residual.result (LiesElsewhere c.args.self.now c.args.members)
-    (elsewhere c.args.self.now c.args.members c.current-current.result.1 (sym c.is_same.ensures ∙ c.if-is_same.false) c.current-current.ensures.members)
+    on_err c.from_residual.result _ (elsewhere c.args.self.now c.args.members c.current-current.result.1 (sym c.is_same.ensures ∙ c.if-is_same.false) c.current-current.ensures.members)
 
 pub returns-in_err-step-clause-wants : goal.returns-in_err-step-clause-wants
 returns-in_err-step-clause-wants c =
-    on_err c.from_residual-in_err-step.result (LiesElsewhere c.args.self.now c.args.members)
-    (elsewhere c.args.self.now c.args.members c.current-current.result.1 (sym c.is_same.ensures ∙ c.if-is_same.false) c.current-current.ensures.members)
+    on_err c.from_residual-in_err-step.result _ (elsewhere c.args.self.now c.args.members c.current-current.result.1 (sym c.is_same.ensures ∙ c.if-is_same.false) c.current-current.ensures.members)

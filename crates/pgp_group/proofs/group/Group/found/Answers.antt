@@ -2,9 +2,6 @@ use Rattle.std.proofs.Common.{◌≡◌, Some, ap, subst, sym, ◌∙◌}
 use Rattle.std.specs.Option.{option_copied}
 use Rattle.std.proofs.lemmas.Result.{IfOk-weaker}
 use Rattle.pgp_missing.specs.Kept.{IsLogOf}
-use Rattle.pgp_group.specs.Found.{AreHeard, AreLogsHeard, IsFound}
-use Rattle.pgp_group.specs.GroupLog.{GroupLog}
-use Rattle.pgp_group.specs.GroupOf.{Keeps}
 use Rattle.pgp_group.specs.Heard.{reported}
 use Rattle.pgp_group.specs.KeptReports.{log_of}
 use Rattle.pgp_group.specs.Peering.{best}
@@ -15,12 +12,7 @@ pub returns-in-Some-log_of : goal.returns-in-Some-log_of
 returns-in-Some-log_of c =
     let info = c.in-Some.best.now in
     let log = c.in-Some-log_of.log.now in
-    let logs = c.args.self.now.reports.logs.of_members.items in
-    IfOk-weaker c.found_by.result
-    (λ found. (g : GroupLog) → Keeps g c.args.self.now → c.args.current.now ≡ g.history.current → AreHeard g c.args.heard.now → best g ≡ Some info → IsLogOf info (reported g info.member) log → IsFound g found)
-    (λ found. (g : GroupLog) → Keeps g c.args.self.now → c.args.current.now ≡ g.history.current → AreHeard g c.args.heard.now → AreLogsHeard g logs → IsFound g found)
-    (λ found is g keeps current heard kept.
+    IfOk-weaker c.found_by.result _ _ (λ found is g keeps current heard kept.
     let best_is : best g ≡ Some info = sym (best-is g c.args.heard.now heard) ∙ sym c.best.ensures ∙ ap option_copied c.in-Some.is in
-    let there = log-there (log_of info.member logs) log (sym (ap option_copied c.in-Some-log_of.is) ∙ c.log_of.ensures) in
-    is g keeps current heard best_is (subst (IsLogOf info (reported g info.member)) there.2 (kept.best_by_info info there.0 best_is there.1)))
-    c.found_by.ensures
+    let there = log-there (log_of info.member c.args.self.now.reports.logs.of_members.items) log (sym (ap option_copied c.in-Some-log_of.is) ∙ c.log_of.ensures) in
+    is g keeps current heard best_is (subst (IsLogOf info (reported g info.member)) there.2 (kept.best_by_info info there.0 best_is there.1))) c.found_by.ensures

@@ -11,8 +11,7 @@ use Rattle.pgp_group.specs.GroupLog.{GroupLog, cleans, group_with}
 use Rattle.pgp_group.specs.KeptInfos.{KeepsInfos}
 use Rattle.pgp_group.specs.KeptNames.{KeepsNames}
 use Rattle.pgp_group.specs.KeptReports.{KeepsReports}
-use Rattle.pgp_group.specs.declared.group.Group.{Group}
-use Rattle.pgp_group.proofs.GroupLemmas.{on_err, StandsLike, IsGroupOf-other, IsGroupOf-same, IsGroupOf-told, cleans-told, infos-kept, infos-new, infos-other, infos-told, les-grows, names-kept, reports-kept, reports-same, stood-told}
+use Rattle.pgp_group.proofs.GroupLemmas.{on_err, IsGroupOf-other, IsGroupOf-same, cleans-told, infos-kept, infos-new, infos-other, infos-told, les-grows, names-kept, reports-kept, reports-same, stood-told, IsGroupOf-report}
 use Rattle.pgp_group.proofs.GrowthLemmas.{history-last}
 use Rattle.pgp_group.proofs.NamedLemmas.{before}
 use Rattle.pgp_group.proofs.NamesLemmas.{KeepsNames-info}
@@ -20,17 +19,11 @@ use Rattle.pgp_group.proofs.group.Group.keep_info.Goals as goal
 
 pub returns-in_err-make_room_for-clause-err : goal.returns-in_err-make_room_for-clause-err
 returns-in_err-make_room_for-clause-err c =
-    let now = c.args.self.now in
-    let group : Group = record { alloc = now.alloc; pg = now.pg; intervals = now.intervals; infos = now.infos; reports = now.reports; named = c.make_room_for.new.self; reckoned = now.reckoned } in
-    on_err c.from_residual.result (StandsLike now group)
-    (λ log pg is. IsGroupOf-same log pg now group is refl refl (λ g kept. kept) (λ g kept. kept) c.make_room_for.ensures.same refl)
+    on_err c.from_residual.result _ (λ log pg is. IsGroupOf-same log pg c.args.self.now _ is refl refl (λ g kept. kept) (λ g kept. kept) c.make_room_for.ensures.same refl)
 
 pub returns-in_err-push-clause-err : goal.returns-in_err-push-clause-err
 returns-in_err-push-clause-err c =
-    let now = c.args.self.now in
-    let group : Group = record { alloc = now.alloc; pg = now.pg; intervals = now.intervals; infos = c.push.new.self; reports = now.reports; named = c.make_room_for.new.self; reckoned = now.reckoned } in
-    on_err c.from_residual-in_err-push.result (StandsLike now group)
-    (λ log pg is. IsGroupOf-same log pg now group is refl refl c.in_err-push.ensures.err (λ g kept. kept) c.make_room_for.ensures.same refl)
+    on_err c.from_residual-in_err-push.result _ (λ log pg is. IsGroupOf-same log pg c.args.self.now _ is refl refl c.in_err-push.ensures.err (λ g kept. kept) c.make_room_for.ensures.same refl)
 
 pub returns-in_ok-push-clause-ok : goal.returns-in_ok-push-clause-ok
 returns-in_ok-push-clause-ok c = λ log pg come is.
@@ -42,17 +35,19 @@ returns-in_ok-push-clause-ok c = λ log pg come is.
     let last : now.intervals.last ≡ epoch (incs_of log) = is.keeps.intervals_are.last_is ∙ history-last (incs_of log) pg is.history is.numbered is.history_is in
     let known : info.last_epoch_clean ≤ now.intervals.last = omega (arith, come same, last) in
     let epochs = cleans-told log info pg is.history same in
-    IsGroupOf-told log info pg now c.take_clean.new.self is c.take_clean.ensures.pg
-    (subst (λ (told : List ℕ). IsIntervalsOf enough_of is_by_place is.history told c.take_clean.new.self.intervals) (sym epochs)
-    (c.take_clean.ensures.intervals is.history (cleans g) known is.keeps.intervals_are))
-    (subst (KeepsInfos after) (sym c.take_clean.ensures.infos)
-    (c.in_ok-push.ensures.ok g after (c.last.ensures ∙ last) (infos-told log info pg is.history same) is.keeps.infos_are))
-    (subst (KeepsReports after) (sym c.take_clean.ensures.reports)
-    (reports-kept log (entry.Info info) pg is.history now.reports refl (reports-same log (entry.Info info) pg refl) is.keeps.reports_are))
-    (subst (KeepsNames after) (sym c.take_clean.ensures.named)
-    (KeepsNames-info g after now.named c.add.new.self info (stood-told log info pg is.history same)
-    (infos-new log info pg same) (reports-same log (entry.Info info) pg refl) (c.add.ensures.osds ∙ ap (with_item before info.member.osd) c.make_room_for.ensures.same) is.keeps.named_are))
-    (c.take_clean.ensures.prior g after known is.keeps.intervals_are refl epochs (les-grows log (entry.Info info) pg is.history is.history) is.keeps.prior_is)
+    IsGroupOf-report log (entry.Info info) pg now c.take_clean.new.self is refl (record {
+      pg_is = c.take_clean.ensures.pg ∙ is.keeps.pg_is;
+      intervals_are = subst (λ (told : List ℕ). IsIntervalsOf enough_of is_by_place is.history told c.take_clean.new.self.intervals) (sym epochs)
+          (c.take_clean.ensures.intervals is.history (cleans g) known is.keeps.intervals_are);
+      infos_are = subst (KeepsInfos after) (sym c.take_clean.ensures.infos)
+          (c.in_ok-push.ensures.ok g after (c.last.ensures ∙ last) (infos-told log info pg is.history same) is.keeps.infos_are);
+      reports_are = subst (KeepsReports after) (sym c.take_clean.ensures.reports)
+          (reports-kept log (entry.Info info) pg is.history now.reports refl (reports-same log (entry.Info info) pg refl) is.keeps.reports_are);
+      named_are = subst (KeepsNames after) (sym c.take_clean.ensures.named)
+          (KeepsNames-info g after now.named c.add.new.self info (stood-told log info pg is.history same)
+          (infos-new log info pg same) (reports-same log (entry.Info info) pg refl) (c.add.ensures.osds ∙ ap (with_item before info.member.osd) c.make_room_for.ensures.same) is.keeps.named_are);
+      prior_is = c.take_clean.ensures.prior g after known is.keeps.intervals_are refl epochs (les-grows log (entry.Info info) pg is.history is.history) is.keeps.prior_is;
+    })
 
 pub returns-else-eq-clause-ok : goal.returns-else-eq-clause-ok
 returns-else-eq-clause-ok c = λ log pg come is.

@@ -5,8 +5,7 @@ use Rattle.pgp_lists.specs.Ordered.{with_item}
 use Rattle.pgp_map.specs.Pools.{is_same_group}
 use Rattle.pgp_group.specs.Entries.{incs_of}
 use Rattle.pgp_group.specs.GroupLog.{group_with}
-use Rattle.pgp_group.specs.declared.group.Group.{Group}
-use Rattle.pgp_group.proofs.GroupLemmas.{on_err, StandsLike, IsGroupOf-other, IsGroupOf-same, infos-kept, infos-same, names-kept, past-same, reports-kept, reports-new, reports-other, reports-told}
+use Rattle.pgp_group.proofs.GroupLemmas.{on_err, IsGroupOf-other, IsGroupOf-same, infos-kept, infos-same, names-kept, past-same, reports-kept, reports-new, reports-other, reports-told}
 use Rattle.pgp_group.proofs.GrowthLemmas.{history-last}
 use Rattle.pgp_group.proofs.NamedLemmas.{before}
 use Rattle.pgp_group.proofs.NamesLemmas.{KeepsNames-report}
@@ -14,17 +13,11 @@ use Rattle.pgp_group.proofs.group.Group.keep_report.Goals as goal
 
 pub returns-in_err-make_room_for-clause-err : goal.returns-in_err-make_room_for-clause-err
 returns-in_err-make_room_for-clause-err c =
-    let now = c.args.self.now in
-    let group : Group = record { alloc = now.alloc; pg = now.pg; intervals = now.intervals; infos = now.infos; reports = now.reports; named = c.make_room_for.new.self; reckoned = now.reckoned } in
-    on_err c.from_residual.result (StandsLike now group)
-    (λ log pg is. IsGroupOf-same log pg now group is refl refl (λ g kept. kept) (λ g kept. kept) c.make_room_for.ensures.same refl)
+    on_err c.from_residual.result _ (λ log pg is. IsGroupOf-same log pg c.args.self.now _ is refl refl (λ g kept. kept) (λ g kept. kept) c.make_room_for.ensures.same refl)
 
 pub returns-in_err-push-clause-err : goal.returns-in_err-push-clause-err
 returns-in_err-push-clause-err c =
-    let now = c.args.self.now in
-    let group : Group = record { alloc = now.alloc; pg = now.pg; intervals = now.intervals; infos = now.infos; reports = c.push.new.self; named = c.make_room_for.new.self; reckoned = now.reckoned } in
-    on_err c.from_residual-in_err-push.result (StandsLike now group)
-    (λ log pg is. IsGroupOf-same log pg now group is refl refl (λ g kept. kept) c.in_err-push.ensures.err c.make_room_for.ensures.same refl)
+    on_err c.from_residual-in_err-push.result _ (λ log pg is. IsGroupOf-same log pg c.args.self.now _ is refl refl (λ g kept. kept) c.in_err-push.ensures.err c.make_room_for.ensures.same refl)
 
 pub returns-in_ok-push-clause-ok : goal.returns-in_ok-push-clause-ok
 returns-in_ok-push-clause-ok c = λ log pg is.

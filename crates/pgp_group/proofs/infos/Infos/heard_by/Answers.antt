@@ -14,11 +14,8 @@ use Rattle.pgp_group.proofs.infos.Infos.heard_by.Goals as goal
 pub returns-then-self : goal.returns-then-self
 returns-then-self c =
     let by : List Info → Heard Preference = λ l. record { prefer = c.args.prefer; infos = l } in
-    IfOk-weaker c.heard.result
-    (λ best. (g : GroupLog) → IsPresent g c.args.map.now c.args.first → best ≡ by (last_of_each_member (filter (counts g) c.as_slice-all.result.now)))
-    (λ best. (g : GroupLog) → IsPresent g c.args.map.now c.args.first → KeepsInfos g c.args.self.now → best ≡ by (heard g))
-    (λ best is g here kept. is g here ∙ ap (λ (l : List Info). by (last_of_each_member (filter (counts g) l))) (c.as_slice-all.ensures.value ∙ kept.all_are))
-    c.heard.ensures
+    IfOk-weaker c.heard.result _ _
+    (λ best is g here kept. is g here ∙ ap (λ (l : List Info). by (last_of_each_member (filter (counts g) l))) (c.as_slice-all.ensures.value ∙ kept.all_are)) c.heard.ensures
 
 pub returns : goal.returns
 returns c = λ g here kept.

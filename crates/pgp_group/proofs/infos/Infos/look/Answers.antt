@@ -6,7 +6,7 @@ use Rattle.pgp_info.specs.declared.preference.Preference.{Preference}
 use Rattle.pgp_group.specs.GroupLog.{infos}
 use Rattle.pgp_group.specs.Heard.{heard}
 use Rattle.pgp_group.specs.KeptInfos.{counts}
-use Rattle.pgp_group.proofs.InfosLemmas.{heard-on, KeepsInfos-heard, KeepsInfos-forgotten}
+use Rattle.pgp_group.proofs.InfosLemmas.{heard-on, KeepsInfos-heard, KeepsInfos-unseen}
 use Rattle.pgp_group.proofs.infos.Infos.look.Goals as goal
 
 pub returns-in-Ok-clause-ok : goal.returns-in-Ok-clause-ok
@@ -27,4 +27,5 @@ returns-in-Ok-clause-kept c = λ g here is.
 
 pub returns-in-Err-clause-kept : goal.returns-in-Err-clause-kept
 returns-in-Err-clause-kept c = λ g here is.
-    KeepsInfos-forgotten g c.args.self.now _ is c.forget.ensures.all c.forget.ensures.les c.forget.ensures.ahead c.forget.ensures.seen (ap (λ (h : Heard Preference). h.infos) (c.forget.ensures.heard ∙ c.in_ok-nobody.ensures g here))
+    KeepsInfos-unseen g _ (c.forget.ensures.all ∙ is.all_are) (c.forget.ensures.les ∙ is.les_is) c.forget.ensures.seen
+    (ap (λ (h : Heard Preference). h.infos) (c.forget.ensures.heard ∙ c.in_ok-nobody.ensures g here)) (λ settled. is.each_sent (sym c.forget.ensures.ahead ∙ settled))

@@ -19,10 +19,7 @@ returns-in-Some-clause-logs c =
     let report = c.args.report.now in
     let old = c.index_mut.result.now in
     let new = c.add.new.self in
-    on_ok_weaker {P = (r : List LogEntry) → old.log.entries ≡ by_number r → new.log.entries ≡ by_number (r ++ report.log)}
-    {Q = (member : Member) (reported : List LogEntry) → entries_of member logs ≡ by_number reported
-    → entries_of member (slice_set logs c.in-Some.place new) ≡ by_number (reported ++ (if is_same_member report.member member then report.log else []))}
-    c.add.result
+    on_ok_weaker c.add.result
     (λ add member reported is. added report.member member logs c.in-Some.place old new report.log reported
     (sym c.place_of.ensures ∙ c.in-Some.is) c.index_mut.ensures.value c.add.ensures.member add is)
     c.add.ensures.log
@@ -35,10 +32,7 @@ returns-in-Some-clause-each c =
     let new = c.add.new.self in
     let p = position-Some (is_of report.member) logs c.in-Some.place old (sym c.place_of.ensures ∙ c.in-Some.is) in
     let by : new.member ≡ report.member = c.add.ensures.member ∙ same_member old.member report.member (ap (is_of report.member) c.index_mut.ensures.value ∙ p.1) in
-    on_ok_weaker {P = (r : List LogEntry) → old.log.entries ≡ by_number r → new.log.entries ≡ by_number (r ++ report.log)}
-    {Q = (test : Member → ℕ → Bool) → test report.member report.stamp ≡ true → All (λ (log : CountedLog). test log.member log.stamp ≡ true) logs
-    → All (λ (log : CountedLog). test log.member log.stamp ≡ true) (slice_set logs c.in-Some.place new)}
-    c.add.result
+    on_ok_weaker c.add.result
     (λ _ test passes each. All-set (λ (log : CountedLog). test log.member log.stamp ≡ true) logs c.in-Some.place new (ap₂ test by c.add.ensures.stamp ∙ passes) each)
     c.add.ensures.log
 

@@ -24,9 +24,7 @@ returns-in-Ok-clause-kept c = λ g here is.
     let all : c.as_slice.result.now ≡ reports g = c.as_slice.ensures.value ∙ is.all_are in
     let unseen : c.unseen-unseen.result.now ≡ drop seen (reports g) =
     c.unseen-unseen.ensures (subst (λ (l : List Report). seen ≤ length l) (sym all) is.seen_within) ∙ ap (drop seen) all in
-    let whole : take seen (reports g) ++ c.unseen-unseen.result.now ≡ reports g = ap (λ (l : List Report). take seen (reports g) ++ l) unseen ∙ take-append-drop seen (reports g) in
-    KeepsReports-heard g c.args.self.now _ is refl refl c.count-self.ensures
-    (subst (λ (l : List Report). AreLogsOf g l c.hear.new.self.of_members.items) whole (c.in-Ok.ensures.logs g (take seen (reports g)) here is.logs_are))
+    KeepsReports-heard g c.args.self.now _ is refl refl c.count-self.ensures (returns-in-Ok-clause-ok c g here is)
     (λ settled. c.in-Ok.ensures.count g (epoch (incs g)) here
     (subst (All (λ (r : Report). r.stamp ≤ epoch (incs g))) (sym unseen) (All-drop (λ (r : Report). r.stamp ≤ epoch (incs g)) seen (reports g) (is.each_sent settled)))
     (is.each_counts settled))

@@ -1,28 +1,21 @@
 use Rattle.std.proofs.Common.{ap, sym, ◌∙◌}
 use Rattle.std.specs.List.{filter}
 use Rattle.std.proofs.lemmas.Bool.{true≢false}
-use Rattle.pgp_group.specs.GroupLog.{GroupLog, reports}
-use Rattle.pgp_group.specs.KeptReports.{counts, AreCounted, AreLogsOf, KeepsReports}
-use Rattle.pgp_group.specs.Present.{IsPresent}
+use Rattle.std.proofs.lemmas.Result.{on_ok_weaker}
+use Rattle.pgp_group.specs.KeptReports.{counts}
 use Rattle.pgp_group.specs.declared.reports.Reports.{Reports}
-use Rattle.pgp_group.proofs.GroupLemmas.{on_ok}
 use Rattle.pgp_group.proofs.ReportsLemmas.{AreCounted-judged, AreCounted-none}
 use Rattle.pgp_group.proofs.reports.Reports.look.Goals as goal
 use Rattle.pgp_group.proofs.reports.Reports.look.Goals.{then-self, else-self}
 
 pub returns-clause-ok : goal.returns-clause-ok
-returns-clause-ok c = on_ok c.hear_unseen.result
-    ((g : GroupLog) → IsPresent g c.args.map.now c.args.first → AreCounted g (record { all = c.if-self.self.all; logs = c.keep_counted.new.self; seen = c.if-self.self.seen; ahead = c.if-self.self.ahead })
-    → AreLogsOf g (reports g) c.hear_unseen.new.self.logs.of_members.items)
-    ((g : GroupLog) → IsPresent g c.args.map.now c.args.first → KeepsReports g c.args.self.now → AreLogsOf g (reports g) c.hear_unseen.new.self.logs.of_members.items)
-    (λ heard g here is. heard g here (elim c.if-self.branch [
-      | then-self w ↦ AreCounted-none g _ (ap (λ (r : Reports). r.all.items) w.self-is ∙ w.forget.ensures.all ∙ is.all_are) (ap (λ (r : Reports). r.seen) w.self-is ∙ w.forget.ensures.seen)
-          (c.keep_counted.ensures g here ∙ ap (filter (counts g)) (ap (λ (r : Reports). r.logs.of_members.items) w.self-is ∙ w.forget.ensures.logs))
-          (λ settled. absurd (true≢false (sym (ap (λ (r : Reports). r.ahead) w.self-is ∙ w.forget.ensures.ahead ∙ w.if-self.true) ∙ settled)))
-      | else-self w ↦ AreCounted-judged g c.args.self.now _ is w.if-self.false (ap (λ (r : Reports). r.all.items) w.self-is) (ap (λ (r : Reports). r.seen) w.self-is) (ap (λ (r : Reports). r.ahead) w.self-is)
-          (c.keep_counted.ensures g here ∙ ap (λ (r : Reports). filter (counts g) r.logs.of_members.items) w.self-is)
-    ]))
-    c.hear_unseen.ensures.ok
+returns-clause-ok c = on_ok_weaker c.hear_unseen.result (λ heard g here is. heard g here (elim c.if-self.branch [
+  | then-self w ↦ AreCounted-none g _ (ap (λ (r : Reports). r.all.items) w.self-is ∙ w.forget.ensures.all ∙ is.all_are) (ap (λ (r : Reports). r.seen) w.self-is ∙ w.forget.ensures.seen)
+      (c.keep_counted.ensures g here ∙ ap (filter (counts g)) (ap (λ (r : Reports). r.logs.of_members.items) w.self-is ∙ w.forget.ensures.logs))
+      (λ settled. absurd (true≢false (sym (ap (λ (r : Reports). r.ahead) w.self-is ∙ w.forget.ensures.ahead ∙ w.if-self.true) ∙ settled)))
+  | else-self w ↦ AreCounted-judged g c.args.self.now _ is w.if-self.false (ap (λ (r : Reports). r.all.items) w.self-is) (ap (λ (r : Reports). r.seen) w.self-is) (ap (λ (r : Reports). r.ahead) w.self-is)
+      (c.keep_counted.ensures g here ∙ ap (λ (r : Reports). filter (counts g) r.logs.of_members.items) w.self-is)
+])) c.hear_unseen.ensures.ok
 
 pub returns-clause-kept : goal.returns-clause-kept
 returns-clause-kept c = λ g here is. c.hear_unseen.ensures.kept g here (elim c.if-self.branch [
