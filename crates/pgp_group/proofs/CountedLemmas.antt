@@ -1,5 +1,5 @@
 -- Infos of distinct members, of which those that don't count are dropped one after another.
-use Rattle.std.proofs.Common.{◌≡◌, ◌≢◌, ◌<◌, List, Bool, true, false, not, ◌&&◌, length, get_or, refl, ap, sym, ◌∙◌, inl, inr, arith}
+use Rattle.std.proofs.Common.{◌≡◌, ◌<◌, List, Bool, true, false, not, ◌&&◌, length, refl, ap, sym, ◌∙◌, inl, inr, arith}
 use Rattle.std.specs.List.{Contains, filter}
 use Rattle.std.proofs.lemmas.Bool.{cases_Bool}
 use Rattle.std.proofs.lemmas.Bool.Decides.{nat_tests}

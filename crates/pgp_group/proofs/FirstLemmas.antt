@@ -36,7 +36,8 @@ pub record Grown (incs : List Incremental) (h after : History AnyCode) : Type 0 
   pub members : Membership
   pub is : stepped h members (primary_facts incs h.current.acting_primary) ≡ after
 
-pub grown : Shortens → EndsWell → (incs : List Incremental) (inc : Incremental) (pg : PgId) (h after : History AnyCode) → are_checked (then_with incs inc) ≡ true
+pub grown : Shortens → EndsWell → (incs : List Incremental) (inc : Incremental) (pg : PgId) (h after : History AnyCode)
+    → are_checked (then_with incs inc) ≡ true
     → group_history incs pg ≡ Some h → group_history (then_with incs inc) pg ≡ Some after → Grown incs h after
 grown shorten fine incs inc pg h after checked is then' =
     let facts : PrimaryFacts = primary_facts incs h.current.acting_primary in
@@ -97,10 +98,12 @@ pub along : Shortens → EndsWell → (pg : PgId) (Kept : List Incremental → H
     → ((incs : List Incremental) (inc : Incremental) (h after : History AnyCode) → are_checked (then_with incs inc) ≡ true → group_history incs pg ≡ Some h → group_history (then_with incs inc) pg ≡ Some after → Kept incs h → Kept (then_with incs inc) after)
     → (later incs : List Incremental) (h after : History AnyCode) → are_checked (incs ++ later) ≡ true → group_history incs pg ≡ Some h → group_history (incs ++ later) pg ≡ Some after → Kept incs h → Kept (incs ++ later) after
 along shorten fine pg Kept step later incs h after checked is then' kept =
-    let last = taken-along is_faultless (λ (l : List Incremental). (now : History AnyCode) × (group_history l pg ≡ Some now) × Kept l now) next incs later checked (h, is, kept) in
+    let last = taken-along is_faultless
+    (λ (l : List Incremental). (now : History AnyCode) × (group_history l pg ≡ Some now) × Kept l now) next incs later checked (h, is, kept) in
     subst (Kept (incs ++ later)) (same_Some last.0 after (sym last.1 ∙ then')) last.2
   where
-    next : (l : List Incremental) (inc : Incremental) → are_checked l ≡ true → is_faultless l inc ≡ true → (now : History AnyCode) × (group_history l pg ≡ Some now) × Kept l now
+    next : (l : List Incremental) (inc : Incremental) → are_checked l ≡ true → is_faultless l inc ≡ true
+        → (now : History AnyCode) × (group_history l pg ≡ Some now) × Kept l now
         → (now : History AnyCode) × (group_history (then_with l inc) pg ≡ Some now) × Kept (then_with l inc) now
     next l inc checked' faultless so_far =
         let one = taken-more is_faultless l inc checked' faultless in

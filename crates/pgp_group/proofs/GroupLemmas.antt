@@ -36,7 +36,7 @@ use Rattle.pgp_sets.specs.Sets.{pool_membership, membership}
 use Rattle.pgp_group.specs.Entries.{inc_of, info_of, report_of, incs_of, infos_of, reports_of}
 use Rattle.pgp_group.specs.GroupHistory.{AreNumbered, made_at, primary_facts, group_history}
 use Rattle.pgp_group.specs.GroupLog.{GroupLog, cleans, group_in, group_with, infos, reports}
-use Rattle.pgp_group.specs.GroupOf.{Keeps, IsGroupOf, IsSilent, TellsNothingAhead}
+use Rattle.pgp_group.specs.GroupOf.{Keeps, IsGroupOf, IsSilent}
 use Rattle.pgp_group.specs.Touched.{has_osd, names, was_member}
 use Rattle.pgp_group.specs.KeptInfos.{KeepsInfos, IsToldBy}
 use Rattle.pgp_group.specs.KeptNames.{KeepsNames}
@@ -96,7 +96,8 @@ intervals-same : (g after : GroupLog) (intervals : Running AnyCode) → infos af
 intervals-same g after intervals told is = subst (λ (epochs : List ℕ). IsIntervalsOf enough_of is_by_place after.history epochs intervals) (sym (cleans-same g after told)) is
 
 -- what a group has, after an entry that brings no map
-pub IsGroupOf-report : (log : List Entry) (new : Entry) (pg : PgId) (old group : Group) (is : IsGroupOf log pg old) → inc_of new ≡ None → Keeps (group_with (log ++ new ∷ []) pg is.history) group → IsGroupOf (log ++ new ∷ []) pg group
+pub IsGroupOf-report : (log : List Entry) (new : Entry) (pg : PgId) (old group : Group) (is : IsGroupOf log pg old)
+    → inc_of new ≡ None → Keeps (group_with (log ++ new ∷ []) pg is.history) group → IsGroupOf (log ++ new ∷ []) pg group
 IsGroupOf-report log new pg old group is none kept =
     let incs : incs_of (log ++ new ∷ []) ≡ incs_of log = nothing_new inc_of log new none in
     record {
@@ -161,14 +162,16 @@ pub infos-kept : (log : List Entry) (new : Entry) (pg : PgId) (h : History AnyCo
     → filter (λ (info : Info). is_same_group info.pg pg) (infos_of (log ++ new ∷ [])) ≡ filter (λ (info : Info). is_same_group info.pg pg) (infos_of log)
     → KeepsInfos (group_with log pg h) kept → KeepsInfos (group_with (log ++ new ∷ []) pg h) kept
 infos-kept log new pg h kept none told is =
-    KeepsInfos-on (group_with log pg h) (group_with (log ++ new ∷ []) pg h) kept kept (outlasts-same _ _ (nothing_new inc_of log new none) refl) told is refl refl refl refl refl
+    KeepsInfos-on (group_with log pg h) (group_with (log ++ new ∷ []) pg h) kept kept
+    (outlasts-same _ _ (nothing_new inc_of log new none) refl) told is refl refl refl refl refl
 
 -- the same of reports of log entries
 pub reports-kept : (log : List Entry) (new : Entry) (pg : PgId) (h : History AnyCode) (kept : Reports) → inc_of new ≡ None
     → filter (λ (report : Report). is_same_group report.pg pg) (reports_of (log ++ new ∷ [])) ≡ filter (λ (report : Report). is_same_group report.pg pg) (reports_of log)
     → KeepsReports (group_with log pg h) kept → KeepsReports (group_with (log ++ new ∷ []) pg h) kept
 reports-kept log new pg h kept none told is =
-    KeepsReports-on (group_with log pg h) (group_with (log ++ new ∷ []) pg h) kept kept (outlasts-same _ _ (nothing_new inc_of log new none) refl) told is refl refl refl refl
+    KeepsReports-on (group_with log pg h) (group_with (log ++ new ∷ []) pg h) kept kept
+    (outlasts-same _ _ (nothing_new inc_of log new none) refl) told is refl refl refl refl
 
 -- the same of the devices of which it speaks
 pub names-kept : (log : List Entry) (new : Entry) (pg : PgId) (h : History AnyCode) (named : NamedDevices)
@@ -226,7 +229,8 @@ IsGroupOf-inc log inc pg old group members is fine lies pg_is infos' reports' re
     let incs : incs_of (log ++ entry.Inc inc ∷ []) ≡ then_with (incs_of log) inc = one_new inc_of log (entry.Inc inc) inc refl in
     let after : History AnyCode = stepped is.history members (primary_facts (incs_of log) is.history.current.acting_primary) in
     let told = infos-same log (entry.Inc inc) pg refl in
-    let on = outlasts-inc (group_with log pg is.history) (group_with (log ++ entry.Inc inc ∷ []) pg after) inc incs (next_epoch (incs_of log) inc fine)
+    let on = outlasts-inc (group_with log pg is.history) (group_with (log ++ entry.Inc inc ∷ []) pg after) inc incs
+    (next_epoch (incs_of log) inc fine)
     (moves (incs_of log) pg is.history members (primary_facts (incs_of log) is.history.current.acting_primary) is.numbered is.history_is) in
     let grown = past-grows (cleans (group_with log pg is.history)) is.history members (primary_facts (incs_of log) is.history.current.acting_primary) in
     record {
@@ -239,9 +243,12 @@ IsGroupOf-inc log inc pg old group members is fine lies pg_is infos' reports' re
         pg_is = pg_is ∙ is.keeps.pg_is;
         intervals_are = intervals-same (group_with log pg is.history) (group_with (log ++ entry.Inc inc ∷ []) pg after) group.intervals told intervals;
         infos_are = subst (KeepsInfos (group_with (log ++ entry.Inc inc ∷ []) pg after)) (sym infos')
-            (KeepsInfos-on (group_with log pg is.history) (group_with (log ++ entry.Inc inc ∷ []) pg after) old.infos old.infos on told is.keeps.infos_are refl refl refl refl refl);
+            (KeepsInfos-on (group_with log pg is.history)
+            (group_with (log ++ entry.Inc inc ∷ []) pg after) old.infos old.infos on told is.keeps.infos_are refl refl refl refl refl);
         reports_are = subst (KeepsReports (group_with (log ++ entry.Inc inc ∷ []) pg after)) (sym reports')
-            (KeepsReports-on (group_with log pg is.history) (group_with (log ++ entry.Inc inc ∷ []) pg after) old.reports old.reports on (reports-same log (entry.Inc inc) pg refl) is.keeps.reports_are refl refl refl refl);
+            (KeepsReports-on (group_with log pg is.history)
+            (group_with (log ++ entry.Inc inc ∷ []) pg after) old.reports old.reports on
+            (reports-same log (entry.Inc inc) pg refl) is.keeps.reports_are refl refl refl refl);
         named_are = named';
         prior_is = subst (KeepsPrior (group_with (log ++ entry.Inc inc ∷ []) pg after)) (sym reckoned')
             (KeepsPrior-grown (group_with log pg is.history) (group_with (log ++ entry.Inc inc ∷ []) pg after) old.reckoned grown.0 refl
@@ -300,7 +307,8 @@ IsGroupOf-begun log pg kind members group counts there now silent is lies pg_is 
 }
 
 -- the group stands for the log, where it keeps what the other one does
-pub IsGroupOf-kept : (log : List Entry) (pg : PgId) (old group : Group) (is : IsGroupOf log pg old) → Keeps (group_with log pg is.history) group → IsGroupOf log pg group
+pub IsGroupOf-kept : (log : List Entry) (pg : PgId) (old group : Group) (is : IsGroupOf log pg old)
+    → Keeps (group_with log pg is.history) group → IsGroupOf log pg group
 IsGroupOf-kept log pg old group is kept = record { history = is.history; history_is = is.history_is; numbered = is.numbered; keeps = kept }
 
 -- so it is also where its parts are kept elsewhere

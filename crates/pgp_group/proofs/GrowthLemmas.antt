@@ -1,5 +1,5 @@
 -- How a list of incrementals is numbered, and how the history of a group grows by an incremental that isn't refused.
-use Rattle.std.proofs.Common.{◌≡◌, ℕ, zero, suc, ◌+◌, ◌-◌, ◌<◌, ◌≤◌, List, [], ◌∷◌, ◌++◌, Option, Some, None, is_some, Bool, true, false, nat_eq, nat_lt, nat_le, length, map, refl, ap, ap₂, sym, ◌∙◌, subst, arith, drop, if◌then◌else◌}
+use Rattle.std.proofs.Common.{◌≡◌, ℕ, suc, ◌+◌, ◌-◌, ◌<◌, ◌≤◌, List, [], ◌∷◌, ◌++◌, Option, Some, None, is_some, Bool, true, false, nat_eq, nat_lt, nat_le, length, map, refl, ap, ap₂, sym, ◌∙◌, subst, arith, drop, if◌then◌else◌}
 use Rattle.std.specs.List.{Contains, filter_map, flat_map, last_or, list_any, range_with_len, slice_index_or}
 use Rattle.std.specs.Option.{option_map, option_map_or}
 use Rattle.std.proofs.lemmas.Bool.{eqb-true}
@@ -70,7 +70,8 @@ checked-last = λ incs inc checked. none_is (map_fault incs inc) (taken-last is_
 
 pub checked-numbered : Shortens → EndsWell → (incs : List Incremental) → are_checked incs ≡ true → AreNumbered incs
 checked-numbered shorten fine =
-    taken-induction is_faultless AreNumbered refl (λ incs inc checked faultless counts. numbered-more incs inc counts (none_is (map_fault incs inc) faultless))
+    taken-induction is_faultless AreNumbered refl
+    (λ incs inc checked faultless counts. numbered-more incs inc counts (none_is (map_fault incs inc) faultless))
 
 -- ---- the map of an epoch
 

@@ -77,7 +77,8 @@ begun_by info = info.history_les
 
 pub KeepsInfos-grown : (g after : GroupLog) (more : List Info) (old kept : Infos) → Outlasts g after → infos after ≡ infos g ++ more
     → (kept.ahead ≡ false → (old.ahead ≡ false) × ((info : Info) → Contains more info → info.stamp ≤ epoch (incs after))) → KeepsInfos g old
-    → kept.all.items ≡ old.all.items ++ more → kept.les ≡ fold max old.les (map begun_by more) → kept.seen ≡ old.seen → kept.heard.infos ≡ old.heard.infos
+    → kept.all.items ≡ old.all.items ++ more → kept.les ≡ fold max old.les (map begun_by more) → kept.seen ≡ old.seen
+    → kept.heard.infos ≡ old.heard.infos
     → KeepsInfos after kept
 KeepsInfos-grown g after more old kept on told sent is all les' seen heard' = record {
   all_are = all ∙ ap (λ (l : List Info). l ++ more) is.all_are ∙ sym told;
@@ -90,43 +91,56 @@ KeepsInfos-grown g after more old kept on told sent is all les' seen heard' = re
     | inl before ↦ omega (arith, is.each_sent (sent settled).0 i before, on.rises)
     | inr new ↦ (sent settled).1 i new
   ];
-  heard_sent = λ settled i there. omega (arith, is.heard_sent (sent settled).0 i (subst (λ (l : List Info). Contains l i) heard' there), on.rises);
+  heard_sent = λ settled i there. omega (
+    arith,
+    is.heard_sent (sent settled).0 i
+        (subst (λ (l : List Info). Contains l i) heard' there),
+    on.rises,
+  );
   heard_are = λ settled.
       ap₂ (λ (n : ℕ) (l : List Info). last_of_each_member (filter (counts after) (take n l))) seen told
       ∙ ap (λ (l : List Info). last_of_each_member (filter (counts after) l)) (take-append-le old.seen (infos g) more is.seen_within)
-      ∙ ap last_of_each_member (left (take old.seen (infos g)) (λ info there. is.each_sent (sent settled).0 info (take-contains old.seen (infos g) info there)))
+      ∙ ap last_of_each_member (left (take old.seen (infos g))
+      (λ info there. is.each_sent (sent settled).0 info (take-contains old.seen (infos g) info there)))
       ∙ last_of-lasting on.lasts (filter (counts g) (take old.seen (infos g)))
       ∙ ap (filter (of_lasting on.lasts)) (is.heard_are (sent settled).0)
       ∙ sym (ap (filter (counts after)) heard' ∙ left old.heard.infos (λ info there. is.heard_sent (sent settled).0 info there));
 }
   where
-    left : (l : List Info) → ((info : Info) → Contains l info → info.stamp ≤ epoch (incs g)) → filter (counts after) l ≡ filter (of_lasting on.lasts) (filter (counts g) l)
+    left : (l : List Info) → ((info : Info) → Contains l info → info.stamp ≤ epoch (incs g))
+        → filter (counts after) l ≡ filter (of_lasting on.lasts) (filter (counts g) l)
     left l early =
-        filter-agree (counts after) (λ info. counts g info && of_lasting on.lasts info) l (λ info there. on.counts info.member info.stamp (early info there))
+        filter-agree (counts after) (λ info. counts g info && of_lasting on.lasts info) l
+        (λ info there. on.counts info.member info.stamp (early info there))
         ∙ filter-both (counts g) (of_lasting on.lasts) l
 
 -- no info more, also where they are kept elsewhere
 pub KeepsInfos-on : (g after : GroupLog) (old kept : Infos) → Outlasts g after → infos after ≡ infos g → KeepsInfos g old
-    → kept.all.items ≡ old.all.items → kept.les ≡ old.les → kept.seen ≡ old.seen → kept.heard.infos ≡ old.heard.infos → kept.ahead ≡ old.ahead → KeepsInfos after kept
+    → kept.all.items ≡ old.all.items → kept.les ≡ old.les → kept.seen ≡ old.seen → kept.heard.infos ≡ old.heard.infos
+    → kept.ahead ≡ old.ahead → KeepsInfos after kept
 KeepsInfos-on g after old kept on told is all les' seen heard' ahead =
-    KeepsInfos-grown g after [] old kept on (told ∙ sym (append-nil (infos g))) (λ settled. (sym ahead ∙ settled, λ info there. absurd (Contains-nil info there)))
+    KeepsInfos-grown g after [] old kept on (told ∙ sym (append-nil (infos g)))
+    (λ settled. (sym ahead ∙ settled, λ info there. absurd (Contains-nil info there)))
     is (all ∙ sym (append-nil old.all.items)) les' seen heard'
 
 pub KeepsInfos-new : (g after : GroupLog) (info : Info) (at : ℕ) (old kept : Infos) → at ≡ epoch (incs g) → IsToldBy g info after → KeepsInfos g old
     → kept.all.items ≡ old.all.items ++ info ∷ [] → kept.les ≡ max old.les info.history_les → kept.seen ≡ old.seen → kept.heard.infos ≡ old.heard.infos → kept.ahead ≡ (old.ahead || nat_lt at info.stamp)
     → KeepsInfos after kept
 KeepsInfos-new g after info at old kept here told is all les' seen heard' ahead =
-    KeepsInfos-grown g after (info ∷ []) old kept (outlasts-same g after told.incs_are told.history_is) told.infos_are sent is all les' seen heard'
+    KeepsInfos-grown g after (info ∷ []) old kept
+    (outlasts-same g after told.incs_are told.history_is) told.infos_are sent is all les' seen heard'
   where
     sent : kept.ahead ≡ false → (old.ahead ≡ false) × ((i : Info) → Contains (info ∷ []) i → i.stamp ≤ epoch (incs after))
     sent settled =
         let parts = or_parts old.ahead (nat_lt at info.stamp) (sym ahead ∙ settled) in
         let come : nat_lt at info.stamp ≡ false = parts.1 in
-        let by : info.stamp ≤ at = grind (arith, nat_tests) in
-        (parts.0, λ i there. elim (Contains-cases info [] i there) [
-          | inl same ↦ subst (λ (x : Info). x.stamp ≤ epoch (incs after)) same (omega (arith, by, here, ap epoch told.incs_are))
-          | inr none ↦ absurd (Contains-nil i none)
-        ])
+        let by : info.stamp ≤ at = grind (arith, nat_tests) in (
+          parts.0,
+          λ i there. elim (Contains-cases info [] i there) [
+            | inl same ↦ subst (λ (x : Info). x.stamp ≤ epoch (incs after)) same (omega (arith, by, here, ap epoch told.incs_are))
+            | inr none ↦ absurd (Contains-nil i none)
+          ],
+        )
 
 -- ---- none that was looked at
 
@@ -139,7 +153,8 @@ KeepsInfos-unseen g kept all les' seen nobody sent = record {
   seen_within = omega (arith, seen);
   each_sent = sent;
   heard_sent = λ settled info there. absurd (Contains-nil info (subst (λ (l : List Info). Contains l info) nobody there));
-  heard_are = λ settled. ap (λ (n : ℕ). last_of_each_member (filter (counts g) (take n (infos g)))) seen ∙ ap (filter (counts g)) (sym nobody);
+  heard_are = λ settled. ap (λ (n : ℕ). last_of_each_member (filter (counts g) (take n (infos g)))) seen
+      ∙ ap (filter (counts g)) (sym nobody);
 }
 
 -- no info yet

@@ -1,8 +1,7 @@
 -- Two logs that tell the same of a group give the same view of it, except for count.
-use Rattle.std.proofs.Common.{◌≡◌, ℕ, ◌≤◌, List, [], ◌∷◌, ◌++◌, Option, Some, None, Bool, true, nat_lt, length, map, fold, max, refl, ap, ap₂, sym, ◌∙◌, subst, inl, inr, arith, if◌then◌else◌}
-use Rattle.std.specs.List.{Contains, filter, find, flat_map, last_or, list_any}
+use Rattle.std.proofs.Common.{◌≡◌, ℕ, ◌≤◌, List, [], ◌∷◌, ◌++◌, Option, Some, None, Bool, true, nat_lt, length, map, fold, max, refl, ap, ap₂, sym, ◌∙◌, subst, inl, inr, arith}
+use Rattle.std.specs.List.{Contains, filter, find, flat_map, last_or}
 use Rattle.std.specs.Option.{option_map, option_map_or}
-use Rattle.std.proofs.lemmas.Bool.{cases_Bool}
 use Rattle.std.proofs.lemmas.Bool.Decides.{nat_tests}
 use Rattle.std.proofs.lemmas.List.Elements.{filter-append}
 use Rattle.pgp_code.specs.AnyCode.{enough_of, is_by_place}
@@ -26,7 +25,7 @@ use Rattle.pgp_sets.specs.Status.{status}
 use Rattle.pgp_group.specs.Entries.{incs_of}
 use Rattle.pgp_group.specs.GroupHistory.{group_history}
 use Rattle.pgp_group.specs.GroupLog.{cleans, group_with, infos, reports, GroupLog}
-use Rattle.pgp_group.specs.Heard.{counted_infos, has_member, last_of_each_member, les}
+use Rattle.pgp_group.specs.Heard.{counted_infos, last_of_each_member, les}
 use Rattle.pgp_group.specs.Interleaving.{TellTheSame, with_count}
 use Rattle.pgp_group.specs.Peering.{past, leader, info_of}
 use Rattle.pgp_group.specs.Prefers.{prefers}
@@ -69,7 +68,14 @@ alike-among a b alike info there =
 -- the last info of a member is the one that is kept of it
 pub find-last_of : (member : Member) (told : List Info) → find (is_of member) (last_of_each_member told) ≡ last_or None (filter (is_of member) told)
 find-last_of member [] = refl
-find-last_of member (first ∷ told) = grind (arith, find-last_of member told, same_member first.member member, last_or-any (is_of member) None (Some first) told, filter-none (is_of member) told)
+find-last_of member (first ∷ told) =
+    grind (
+      arith,
+      find-last_of member told,
+      same_member first.member member,
+      last_or-any (is_of member) None (Some first) told,
+      filter-none (is_of member) told,
+    )
 
 -- an info that is kept is the last of its member
 pub last_of-found : (told : List Info) (info : Info) → Contains (last_of_each_member told) info → last_or None (filter (is_of info.member) told) ≡ Some info
@@ -164,7 +170,8 @@ module _ (log other : List Entry) (pg : PgId) (h : History AnyCode) (same : Tell
       let back : incs_of other ≡ incs_of log = sym same.incs in
       let started : les after ≡ les g = greatest-same (λ info. info.history_les) (infos after) (infos g) (told_back log other pg same).infos in
       let stood : past after ≡ past g =
-      past_intervals-same enough_of is_by_place (cleans after) (cleans g) h (clean-among other log pg h (told_back log other pg same)) (clean-among log other pg h same) in
+      past_intervals-same enough_of is_by_place (cleans after) (cleans g) h
+      (clean-among other log pg h (told_back log other pg same)) (clean-among log other pg h same) in
       record {
         code = refl;
         current = refl;
@@ -174,12 +181,15 @@ module _ (log other : List Entry) (pg : PgId) (h : History AnyCode) (same : Tell
         prior = λ i. prior_set (enough_of h.code) (is_by_place h.code) (status (back i)) (started i) (stood i) h.current;
         heard = kept-same b a counted-alike;
         best = same_best (prefers h.code led) (last_of_each_member b) (last_of_each_member a) (prefers_is_preference h.code led)
-            (HasDistinctMembers-last_of b) (HasDistinctMembers-last_of a) (kept-among b a counted-alike) (kept-among a b (alike_back b a counted-alike));
+            (HasDistinctMembers-last_of b) (HasDistinctMembers-last_of a) (kept-among b a counted-alike)
+            (kept-among a b (alike_back b a counted-alike));
         reported = λ member. ap (flat_map (λ (report : Report). report.log))
             (filter-both (is_by member) (report_counts h (incs_of other)) (reports after)
-            ∙ ap₂ (λ (incs : List Incremental) (l : List Report). filter (report_counts h incs) l) (sym same.incs) (sym (same.reports member))
+            ∙ ap₂ (λ (incs : List Incremental) (l : List Report). filter (report_counts h incs) l) (sym same.incs)
+            (sym (same.reports member))
             ∙ sym (filter-both (is_by member) (report_counts h (incs_of log)) (reports g)));
-        thru = ap (λ (incs : List Incremental). option_map_or (λ osd. nat_lt (up_thru incs osd) (current_first h)) h.current.acting_primary true) (sym same.incs);
+        thru = ap (λ (incs : List Incremental). option_map_or
+            (λ osd. nat_lt (up_thru incs osd) (current_first h)) h.current.acting_primary true) (sym same.incs);
       }
 
 pub interleaved : (log other : List Entry) (pg : PgId) → TellTheSame log other pg → scratch other pg ≡ option_map (with_count (length other)) (scratch log pg)

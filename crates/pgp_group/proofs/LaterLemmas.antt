@@ -1,8 +1,8 @@
 -- Which reports count as more of the log comes.
-use Rattle.std.proofs.Common.{◌≡◌, ◌≢◌, ℕ, ◌+◌, ◌<◌, ◌≤◌, List, [], ◌∷◌, ◌++◌, Option, Some, Bool, true, false, not, ◌&&◌, ◌||◌, nat_le, map, fold, max, refl, append-nil, ap, ap₂, sym, ◌∙◌, subst, inl, inr, ◌⊎◌, arith}
+use Rattle.std.proofs.Common.{◌≡◌, ◌≢◌, ℕ, ◌+◌, ◌<◌, ◌≤◌, List, [], ◌∷◌, ◌++◌, Option, Some, Bool, true, false, not, ◌&&◌, ◌||◌, nat_le, map, fold, max, refl, append-nil, ap, ap₂, sym, ◌∙◌, inl, inr, ◌⊎◌, arith}
 use Rattle.std.specs.List.{All, filter, flat_map, list_any}
 use Rattle.std.specs.Option.{option_map_or}
-use Rattle.std.proofs.lemmas.Bool.{cases_Bool, and_parts, or_parts, true≢false, and_right}
+use Rattle.std.proofs.lemmas.Bool.{cases_Bool, or_parts, true≢false, and_right}
 use Rattle.std.proofs.lemmas.Bool.Decides.{nat_tests}
 use Rattle.std.proofs.lemmas.List.{map-append}
 use Rattle.std.proofs.lemmas.List.Elements.{filter-append, filter_map-append, All-weaker}
@@ -33,7 +33,6 @@ use Rattle.pgp_group.specs.Later.{IsAfter, AreSentBy}
 use Rattle.pgp_group.proofs.FirstLemmas.{Steps, Decides, Opens, first-opens, first-step, along}
 use Rattle.pgp_group.proofs.GrowthLemmas.{Shortens, EndsWell, epoch-snoc, next_epoch}
 use Rattle.pgp_group.proofs.Lists.{last_where-passes, last_where-none, left_new, filter-fail}
-use Rattle.pgp_group.proofs.RiseLemmas.{fold_max-least}
 
 -- ---- the histories of a group and of the same group later
 
@@ -140,7 +139,8 @@ abbrev tells_of : ℕ → Incremental → Bool
 tells_of osd inc = boots osd inc || takes_down osd inc || destroys osd inc
 
 is_up-before : (incs : List Incremental) (inc : Incremental) (osd : ℕ) → boots osd inc ≡ false → is_up (then_with incs inc) osd ≡ true → is_up incs osd ≡ true
-is_up-before incs inc osd still up = grind (arith, last_where-passes (tells_of osd) incs inc, last_where-none (tells_of osd) incs (inc ∷ []))
+is_up-before incs inc osd still up =
+    grind (arith, last_where-passes (tells_of osd) incs inc, last_where-none (tells_of osd) incs (inc ∷ []))
 
 -- a report of this member and stamp counts by this history and map
 abbrev pub counts_by : List Incremental → History AnyCode → Member → ℕ → Bool
@@ -156,7 +156,8 @@ counted-before incs inc h after member stamp rises early counts =
 -- a device of which the incremental tells counts no more by what it sent before
 told_off : (incs : List Incremental) (inc : Incremental) (osd stamp : ℕ) (first : Bool) → stamp < inc.epoch → tells_of osd inc ≡ true
     → (first && is_up (then_with incs inc) osd && nat_le (up_from (then_with incs inc) osd) stamp) ≡ false
-told_off incs inc osd stamp first early told = grind (arith, nat_tests, up_from-boots incs inc osd, last_where-passes (tells_of osd) incs inc told)
+told_off incs inc osd stamp first early told =
+    grind (arith, nat_tests, up_from-boots incs inc osd, last_where-passes (tells_of osd) incs inc told)
 
 -- a device of which it tells nothing stays up or down
 still_up : (incs : List Incremental) (inc : Incremental) (osd : ℕ) → tells_of osd inc ≡ false → (is_up (then_with incs inc) osd ≡ is_up incs osd) × (up_from (then_with incs inc) osd ≡ up_from incs osd)
@@ -209,7 +210,8 @@ counts-after incs inc h after member stamp next sent (inl on) = elim (cases_Bool
 pub record Outlasts (g after : GroupLog) : Type 0 where
   pub lasts : ℕ → Bool
   pub rises : epoch (incs g) ≤ epoch (incs after)
-  pub counts : (member : Member) (stamp : ℕ) → stamp ≤ epoch (incs g) → is_counted after member stamp ≡ (is_counted g member stamp && lasts member.osd)
+  pub counts : (member : Member) (stamp : ℕ) → stamp ≤ epoch (incs g)
+      → is_counted after member stamp ≡ (is_counted g member stamp && lasts member.osd)
 
 -- so it is by the same map and history, and by the next map
 pub outlasts-same : (g after : GroupLog) → incs after ≡ incs g → after.history ≡ g.history → Outlasts g after
@@ -219,11 +221,13 @@ outlasts-same g after incs_is history_is = record {
   counts = λ member stamp sent. (λ i. counts_by (incs_is i) (history_is i) member stamp) ∙ sym (and-true (is_counted g member stamp));
 }
 
-pub outlasts-inc : (g after : GroupLog) (inc : Incremental) → incs after ≡ then_with (incs g) inc → inc.epoch ≡ epoch (incs g) + 1 → Moves (incs g) g.history after.history → Outlasts g after
+pub outlasts-inc : (g after : GroupLog) (inc : Incremental) → incs after ≡ then_with (incs g) inc → inc.epoch ≡ epoch (incs g) + 1
+    → Moves (incs g) g.history after.history → Outlasts g after
 outlasts-inc g after inc incs_is next moved = record {
   lasts = outlasts (incs g) inc (current_first after.history);
   rises = omega (arith, ap epoch incs_is, epoch-snoc (incs g) inc, next);
-  counts = λ member stamp sent. ap (λ (l : List Incremental). counts_by l after.history member stamp) incs_is ∙ counts-after (incs g) inc g.history after.history member stamp next sent moved;
+  counts = λ member stamp sent. ap (λ (l : List Incremental). counts_by l after.history member stamp) incs_is
+      ∙ counts-after (incs g) inc g.history after.history member stamp next sent moved;
 }
 
 -- a report of this stamp was sent, and doesn't count

@@ -42,7 +42,8 @@ last_or-snoc o [] x = refl
 last_or-snoc o (y ∷ xs) x = last_or-snoc (Some y) xs x
 
 -- where an element passes, the last one that does is the same after whatever came before
-pub last_or-any : {X : Type 0} (test : X → Bool) (before other : Option X) (xs : List X) → list_any test xs ≡ true → last_or before (filter test xs) ≡ last_or other (filter test xs)
+pub last_or-any : {X : Type 0} (test : X → Bool) (before other : Option X) (xs : List X) → list_any test xs ≡ true
+    → last_or before (filter test xs) ≡ last_or other (filter test xs)
 last_or-any test before other [] any = cc
 last_or-any test before other (x ∷ xs) any = grind (arith, last_or-any test before other xs)
 

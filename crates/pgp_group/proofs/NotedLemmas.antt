@@ -1,5 +1,5 @@
 -- Statuses as the entries of their devices are renewed, one after another.
-use Rattle.std.proofs.Common.{arith, ◌≡◌, ℕ, ◌+◌, ◌<◌, List, [], ◌∷◌, ◌++◌, Bool, true, false, ◌||◌, nat_eq, length, refl, ap, sym, ◌∙◌, subst, inl, inr, eqb-true, eq-eqb, take, get_or, if◌then◌else◌}
+use Rattle.std.proofs.Common.{arith, ◌≡◌, ℕ, ◌+◌, ◌<◌, List, [], ◌∷◌, ◌++◌, Bool, true, false, ◌||◌, nat_eq, length, refl, ap, sym, ◌∙◌, inl, inr, eqb-true, eq-eqb, take, get_or, if◌then◌else◌}
 use Rattle.std.specs.List.{list_any}
 use Rattle.std.proofs.Math.Bool.{or-false, or-true}
 use Rattle.std.proofs.lemmas.Bool.{cases_Bool, false_from_ne_true}
@@ -11,7 +11,7 @@ use Rattle.pgp_prior.specs.Better.{is_no_worse}
 use Rattle.pgp_prior.specs.Changes.{is_no_better, IsChange}
 use Rattle.pgp_sets.specs.Status.{held_status}
 use Rattle.pgp_sets.specs.declared.status.Status.{Status}
-use Rattle.pgp_sets.specs.declared.status.Status.TheVariants.{Up, Gone, Lost, Down}
+use Rattle.pgp_sets.specs.declared.status.Status.TheVariants.{Up}
 use Rattle.pgp_group.specs.DeviceFacts.{renoted, has_noted, status_noted, up_of, allows, HasEachMember, GivesEach}
 use Rattle.pgp_group.specs.declared.device_facts.EachUp.{EachUp}
 use Rattle.pgp_group.specs.declared.device_facts.DeviceFacts.{DeviceFacts}
@@ -129,4 +129,5 @@ module _ (map : OsdMap) (noted : List DeviceFacts) (i : ℕ) (entry : DeviceFact
 pub partly-all : (map : OsdMap) (noted : List DeviceFacts) (i : ℕ) (status : ℕ → ℕ → Status) (by_place : Bool) (past : List Past) → length noted ≡ i → HasEachMember by_place past noted
     → AgreeOnEach by_place (partly map (take i noted) status) (held_status map) past
 partly-all map noted i status by_place past done has interval m there acts =
-    ap (λ (b : Bool). taken map status b m.osd interval.first) (ap (has_noted m.osd) (take_all i noted (omega (arith, done))) ∙ has interval m there acts)
+    ap (λ (b : Bool). taken map status b m.osd interval.first)
+    (ap (has_noted m.osd) (take_all i noted (omega (arith, done))) ∙ has interval m there acts)

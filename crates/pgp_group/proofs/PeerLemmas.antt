@@ -1,9 +1,9 @@
 -- The states of peers: each other heard member of up and acting has one, in ascending order.
 use Rattle.std.proofs.Common.{◌≡◌, ◌≢◌, ℕ, ◌+◌, ◌<◌, List, [], ◌∷◌, ◌++◌, Option, Some, None, Bool, true, false, not, get_or, length, map, take, refl, ap, sym, ◌∙◌, subst, inl, inr, arith, append-nil, if◌then◌else◌}
-use Rattle.std.specs.List.{Contains, All, cons_option, filter, filter_map, list_any}
+use Rattle.std.specs.List.{Contains, cons_option, filter, filter_map, list_any}
 use Rattle.std.specs.Option.{option_map_or}
 use Rattle.std.specs.Ordering.{on}
-use Rattle.std.proofs.lemmas.Bool.{and_parts, cases_Bool, eqb-true, true≢false, cases_order}
+use Rattle.std.proofs.lemmas.Bool.{and_parts, eqb-true, true≢false, cases_order}
 use Rattle.std.proofs.lemmas.Bool.Decides.{nat_tests}
 use Rattle.std.proofs.lemmas.List.Elements.{All-contains, All-contains_itself, All-weaker, filter_map-append}
 use Rattle.std.proofs.lemmas.List.Kept.{AllPairs-cons, AllPairs-filter}
@@ -157,7 +157,13 @@ others-one all kept info i x within item peer found =
 pub others-none : (all : List Member) (kept : List Info) (info : Info) (i : ℕ) (x : Member) → i < length all → x ≡ get_or all i x → None ≡ (if is_same_member x info.member then None else info_of kept x) → others_heard (take (i + 1) all) kept info ≡ others_heard (take i all) kept info
 others-none all kept info i x within item found =
     let other : Member → Bool = λ m. not (is_same_member m info.member) in
-    grind (arith, filter-passes other all i x within item, filter-fails other all i x within item, filter_map-append (info_of kept) (filter other (take i all)) (x ∷ []), append-nil (others_heard (take i all) kept info))
+    grind (
+      arith,
+      filter-passes other all i x within item,
+      filter-fails other all i x within item,
+      filter_map-append (info_of kept) (filter other (take i all)) (x ∷ []),
+      append-nil (others_heard (take i all) kept info),
+    )
 
 -- how the copy of a peer compares with the best one, whose member reported this log
 abbrev pub compared : List LogEntry → Info → Info → PeerMissing

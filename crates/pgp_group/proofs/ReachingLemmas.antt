@@ -1,5 +1,5 @@
 -- A group that needn't be told of each epoch: what it is by later maps, as long as it lies as before.
-use Rattle.std.proofs.Common.{◌≡◌, ℕ, List, [], ◌∷◌, ◌++◌, Option, Some, None, Bool, true, false, ◌||◌, ◌+◌, map, refl, ap, sym, ◌∙◌, subst, arith}
+use Rattle.std.proofs.Common.{◌≡◌, ℕ, List, [], ◌∷◌, ◌++◌, Option, Some, None, true, false, ◌||◌, ◌+◌, map, refl, ap, sym, ◌∙◌, subst, arith}
 use Rattle.std.specs.List.{list_any}
 use Rattle.std.specs.Option.{option_map, option_map_or}
 use Rattle.std.proofs.lemmas.Bool.{or_parts}
@@ -20,10 +20,10 @@ use Rattle.pgp_map.specs.Pools.{pool, temp}
 use Rattle.pgp_sets.specs.Sets.{membership, pool_membership, raw_set}
 use Rattle.pgp_group.specs.Entries.{inc_of, incs_of}
 use Rattle.pgp_group.specs.GroupHistory.{primary_facts}
-use Rattle.pgp_group.specs.GroupLog.{cleans, group_in, group_with}
+use Rattle.pgp_group.specs.GroupLog.{cleans, group_with}
 use Rattle.pgp_group.specs.GroupOf.{IsGroupOf}
 use Rattle.pgp_group.specs.Reaching.{reaching}
-use Rattle.pgp_group.specs.Touched.{changes_pool, changes_temp, has_osd, has_to_do_with, is_placed, is_touched, may_lie_on, may_move, moves_all, names, turned_devices}
+use Rattle.pgp_group.specs.Touched.{changes_pool, changes_temp, has_osd, has_to_do_with, is_placed, is_touched, may_lie_on, may_move, moves_all, turned_devices}
 use Rattle.pgp_group.specs.declared.group.Group.{Group}
 use Rattle.pgp_group.proofs.GroupLemmas.{IsGroupOf-inc, names-stay}
 use Rattle.pgp_group.proofs.GrowthLemmas.{epoch-snoc, history-last, next_epoch}

@@ -1,5 +1,5 @@
 -- What is kept of the reports of a group, as its log grows and as they are looked at.
-use Rattle.std.proofs.Common.{◌≡◌, ℕ, ◌+◌, ◌≤◌, List, [], ◌∷◌, ◌++◌, Option, Some, None, Bool, true, false, ◌&&◌, ◌||◌, cond, nat_le, nat_lt, length, take, length-append, refl, ap, ap₂, sym, ◌∙◌, subst, inl, inr, arith, append-nil}
+use Rattle.std.proofs.Common.{◌≡◌, ℕ, ◌+◌, ◌≤◌, List, [], ◌∷◌, ◌++◌, Option, None, Bool, true, false, ◌&&◌, ◌||◌, cond, nat_le, nat_lt, length, take, length-append, refl, ap, ap₂, sym, ◌∙◌, subst, inl, inr, arith, append-nil}
 use Rattle.std.specs.List.{All, filter, find, flat_map}
 use Rattle.std.proofs.lemmas.Bool.{cases_Bool, and_parts, or_parts}
 use Rattle.std.proofs.lemmas.Bool.Decides.{nat_tests}
@@ -41,24 +41,29 @@ found-lasting test lasts member (x ∷ xs) = grind (arith, nat_tests, found-last
 abbrev is_by : GroupLog → Member → Report → Bool
 is_by g member report = is_same_member report.member member && is_counted g report.member report.stamp
 
-pub KeepsReports-grown : (g after : GroupLog) (more : List Report) (old kept : Reports) → Outlasts g after → reports after ≡ reports g ++ more
+pub KeepsReports-grown : (g after : GroupLog) (more : List Report) (old kept : Reports) → Outlasts g after
+    → reports after ≡ reports g ++ more
     → (kept.ahead ≡ false → (old.ahead ≡ false) × All (λ report. report.stamp ≤ epoch (incs after)) more) → KeepsReports g old
-    → kept.all.items ≡ old.all.items ++ more → kept.seen ≡ old.seen → kept.logs.of_members.items ≡ old.logs.of_members.items → KeepsReports after kept
+    → kept.all.items ≡ old.all.items ++ more → kept.seen ≡ old.seen → kept.logs.of_members.items ≡ old.logs.of_members.items
+    → KeepsReports after kept
 KeepsReports-grown g after more old kept on told sent is all seen logs = record {
   all_are = all ∙ ap (λ (l : List Report). l ++ more) is.all_are ∙ sym told;
   seen_within = omega (arith, seen, is.seen_within, ap length told, length-append (reports g) more);
   each_sent = λ settled. subst (λ (l : List Report). All (λ (r : Report). r.stamp ≤ epoch (incs after)) l) (sym told)
       (All-append (λ (r : Report). r.stamp ≤ epoch (incs after)) (reports g) more
-      (All-weaker (λ (r : Report). r.stamp ≤ epoch (incs g)) (λ (r : Report). r.stamp ≤ epoch (incs after)) (λ r early. omega (arith, early, on.rises)) (reports g) (is.each_sent (sent settled).0)) (sent settled).1);
+      (All-weaker (λ (r : Report). r.stamp ≤ epoch (incs g)) (λ (r : Report). r.stamp ≤ epoch (incs after))
+      (λ r early. omega (arith, early, on.rises)) (reports g) (is.each_sent (sent settled).0)) (sent settled).1);
   logs_sent = λ settled. subst (λ (l : List CountedLog). All (λ (log : CountedLog). log.stamp ≤ epoch (incs after)) l) (sym logs)
-      (All-weaker (λ (l : CountedLog). l.stamp ≤ epoch (incs g)) (λ (l : CountedLog). l.stamp ≤ epoch (incs after)) (λ l early. omega (arith, early, on.rises)) old.logs.of_members.items (is.logs_sent (sent settled).0));
+      (All-weaker (λ (l : CountedLog). l.stamp ≤ epoch (incs g)) (λ (l : CountedLog). l.stamp ≤ epoch (incs after))
+      (λ l early. omega (arith, early, on.rises)) old.logs.of_members.items (is.logs_sent (sent settled).0));
   logs_are = λ settled member.
       let looked_at : List Report = take old.seen (reports g) in
       let was : Option CountedLog = log_of member (filter (counts g) old.logs.of_members.items) in
       let now : log_of member (filter (counts after) old.logs.of_members.items) ≡ cond (on.lasts member.osd) was None =
       ap (find (is_of member))
       (filter-agree (counts after) (λ (log : CountedLog). counts g log && on.lasts log.member.osd) old.logs.of_members.items
-      (λ log there. on.counts log.member log.stamp (All-contains (λ (l : CountedLog). l.stamp ≤ epoch (incs g)) old.logs.of_members.items log (is.logs_sent (sent settled).0) there)))
+      (λ log there. on.counts log.member log.stamp
+      (All-contains (λ (l : CountedLog). l.stamp ≤ epoch (incs g)) old.logs.of_members.items log (is.logs_sent (sent settled).0) there)))
       ∙ found-lasting (counts g) on.lasts member old.logs.of_members.items in
       let left : filter (is_by after member) looked_at ≡ cond (on.lasts member.osd) (filter (is_by g member) looked_at) [] =
       filter-agree (is_by after member) (λ (r : Report). is_by g member r && on.lasts member.osd) looked_at
@@ -73,7 +78,8 @@ KeepsReports-grown g after more old kept on told sent is all seen logs = record 
   where
     each : (member : Member) (r : Report) → r.stamp ≤ epoch (incs g) → is_by after member r ≡ (is_by g member r && on.lasts member.osd)
     each member r early = elim (cases_Bool (is_same_member r.member member)) [
-      | inl same ↦ rw same (on.counts r.member r.stamp early ∙ ap (λ (m : Member). is_counted g r.member r.stamp && on.lasts m.osd) (same_member r.member member same))
+      | inl same ↦ rw same (on.counts r.member r.stamp early
+          ∙ ap (λ (m : Member). is_counted g r.member r.stamp && on.lasts m.osd) (same_member r.member member same))
       | inr other ↦ rw other refl
     ]
 
@@ -84,23 +90,29 @@ KeepsReports-grown g after more old kept on told sent is all seen logs = record 
 
 -- no report more, also where they are kept elsewhere
 pub KeepsReports-on : (g after : GroupLog) (old kept : Reports) → Outlasts g after → reports after ≡ reports g → KeepsReports g old
-    → kept.all.items ≡ old.all.items → kept.seen ≡ old.seen → kept.logs.of_members.items ≡ old.logs.of_members.items → kept.ahead ≡ old.ahead → KeepsReports after kept
+    → kept.all.items ≡ old.all.items → kept.seen ≡ old.seen → kept.logs.of_members.items ≡ old.logs.of_members.items
+    → kept.ahead ≡ old.ahead → KeepsReports after kept
 KeepsReports-on g after old kept on told is all seen logs ahead =
-    KeepsReports-grown g after [] old kept on (told ∙ sym (append-nil (reports g))) (λ settled. (sym ahead ∙ settled, All-nil (λ report. report.stamp ≤ epoch (incs after))))
+    KeepsReports-grown g after [] old kept on (told ∙ sym (append-nil (reports g)))
+    (λ settled. (sym ahead ∙ settled, All-nil (λ report. report.stamp ≤ epoch (incs after))))
     is (all ∙ sym (append-nil old.all.items)) seen logs
 
 pub KeepsReports-new : (g after : GroupLog) (report : Report) (at : ℕ) (old kept : Reports) → at ≡ epoch (incs g) → IsReportedBy g report after → KeepsReports g old
     → kept.all.items ≡ old.all.items ++ report ∷ [] → kept.seen ≡ old.seen → kept.logs.of_members.items ≡ old.logs.of_members.items → kept.ahead ≡ (old.ahead || nat_lt at report.stamp)
     → KeepsReports after kept
 KeepsReports-new g after report at old kept here told is all seen logs ahead =
-    KeepsReports-grown g after (report ∷ []) old kept (outlasts-same g after told.incs_are told.history_is) told.reports_are sent is all seen logs
+    KeepsReports-grown g after (report ∷ []) old kept
+    (outlasts-same g after told.incs_are told.history_is) told.reports_are sent is all seen logs
   where
     sent : kept.ahead ≡ false → (old.ahead ≡ false) × All (λ r. r.stamp ≤ epoch (incs after)) (report ∷ [])
     sent settled =
         let parts = or_parts old.ahead (nat_lt at report.stamp) (sym ahead ∙ settled) in
         let come : nat_lt at report.stamp ≡ false = parts.1 in
-        let by : report.stamp ≤ at = grind (arith, nat_tests) in
-        (parts.0, All-push (λ r. r.stamp ≤ epoch (incs after)) [] report (All-nil (λ r. r.stamp ≤ epoch (incs after))) (omega (arith, by, here, ap epoch told.incs_are)))
+        let by : report.stamp ≤ at = grind (arith, nat_tests) in (
+          parts.0,
+          All-push (λ r. r.stamp ≤ epoch (incs after)) [] report (All-nil (λ r. r.stamp ≤ epoch (incs after)))
+              (omega (arith, by, here, ap epoch told.incs_are)),
+        )
 
 -- ---- a look at them
 

@@ -74,7 +74,8 @@ module _ (g after : GroupLog) (same : AreAlike g after) where
   states-same =
       let present = present-is g after.history.code after.history.current same.code same.current in
       λ i. option_map_or (λ best. map (compared (same.reported best.member i) best)
-      (filter_map (λ member. same.heard member i) (filter (λ member. not (is_same_member member best.member)) (present i)))) (whole_best-same i) []
+      (filter_map (λ member. same.heard member i) (filter (λ member. not (is_same_member member best.member)) (present i))))
+      (whole_best-same i) []
 
   holds-same : (v : Verdict) → holds after v ≡ holds g v
   holds-same the.NoPrimary = λ i. is_none (same.current i).acting_primary
@@ -114,8 +115,10 @@ where-same : (test : Status → Bool) (by_place : Bool) (old now : ℕ → ℕ �
 where-same test by_place old now p agree =
     filter-agree (λ (m : Member). test (now m.osd p.first)) (λ (m : Member). test (old m.osd p.first)) (members_of by_place p.members.acting) (λ m there. ap test (agree m there))
 
-prior-same : (code : AnyCode) (old now : ℕ → ℕ → Status) (les : ℕ) (past : List Past) (current : Membership) → ((p : Past) → Contains past p → Agrees (is_by_place code) old now p)
-    → prior_set (enough_of code) (is_by_place code) now les past current ≡ prior_set (enough_of code) (is_by_place code) old les past current
+prior-same : (code : AnyCode) (old now : ℕ → ℕ → Status) (les : ℕ) (past : List Past) (current : Membership)
+    → ((p : Past) → Contains past p → Agrees (is_by_place code) old now p)
+    → prior_set (enough_of code) (is_by_place code) now les past current
+    ≡ prior_set (enough_of code) (is_by_place code) old les past current
 prior-same code old now les past current agree =
     let by_place : Bool = is_by_place code in
     let was : Past → Bool = block.blocks (enough_of code) by_place old les in
@@ -125,7 +128,8 @@ prior-same code old now les past current agree =
     (λ p there. where-same block.is_up by_place old now p (agree p ((filter-contains (block.matters les) past p there).0))) in
     let downs = ap (flat_map (block.down_osds by_place now)) (filter-agree is was past blocked)
     ∙ flat_map-agree (block.down_osds by_place now) (block.down_osds by_place old) (filter was past)
-    (λ p there. ap (map (λ (m : Member). m.osd)) (where-same block.is_down by_place old now p (agree p ((filter-contains was past p there).0)))) in
+    (λ p there. ap (map (λ (m : Member). m.osd))
+    (where-same block.is_down by_place old now p (agree p ((filter-contains was past p there).0)))) in
     let any = any-agree is was past blocked in
     λ i. record {
       probe = ascending is_before (members_of by_place current.up ++ members_of by_place current.acting ++ ups i);
@@ -227,6 +231,7 @@ view-same log after pg h lived same =
       heard = λ member. ap (λ (l : List Info). info_of l member) heard';
       best = ap (best_info (prefers h.code (leader (group_with log pg h)))) heard';
       reported = reported-same log after pg h lived same;
-      thru = led-same (λ osd. nat_lt (up_thru (incs_of log) osd) (current_first h)) (λ osd. nat_lt (up_thru (incs_of after) osd) (current_first (record h { lived = lived }))) h.current.acting_primary
+      thru = led-same (λ osd. nat_lt (up_thru (incs_of log) osd) (current_first h))
+          (λ osd. nat_lt (up_thru (incs_of after) osd) (current_first (record h { lived = lived }))) h.current.acting_primary
           (λ osd leads. let dev = same.leads osd leads in λ i. nat_lt (dev i).up_thru (same.first i));
     })

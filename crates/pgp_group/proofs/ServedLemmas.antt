@@ -123,10 +123,11 @@ stands-ended cleans first osd incs inc h after next opened over runs =
         opened = is;
         rw = rw';
       };
-      each = λ interval in' same. elim (contains-push (past_of cleans h) ending interval (subst (λ (l : List Past). Contains l interval) (over.past cleans) in')) [
-        | inl before ↦ absurd (omega (arith, opened.later cleans interval before, is, same))
-        | inr here ↦ ap (λ (p : Past). p.rw) (sym here) ∙ rw'
-      ];
+      each = λ interval in' same. elim
+          (contains-push (past_of cleans h) ending interval (subst (λ (l : List Past). Contains l interval) (over.past cleans) in')) [
+            | inl before ↦ absurd (omega (arith, opened.later cleans interval before, is, same))
+            | inr here ↦ ap (λ (p : Past). p.rw) (sym here) ∙ rw'
+          ];
       later = omega (arith, opened.within, is, over.first, next);
     }
 
@@ -141,12 +142,13 @@ over-ended cleans first incs inc h after next opened ended over =
         opened = over.went.opened;
         rw = over.went.rw;
       };
-      each = λ interval in' same. elim (contains-push (past_of cleans h) ending interval (subst (λ (l : List Past). Contains l interval) (ended.past cleans) in')) [
-        | inl before ↦ over.each interval before same
-        | inr here ↦
-            let at : current_first h ≡ interval.first = ap (λ (p : Past). p.first) here in
-            absurd (omega (arith, at, same, over.later))
-      ];
+      each = λ interval in' same. elim
+          (contains-push (past_of cleans h) ending interval (subst (λ (l : List Past). Contains l interval) (ended.past cleans) in')) [
+            | inl before ↦ over.each interval before same
+            | inr here ↦
+                let at : current_first h ≡ interval.first = ap (λ (p : Past). p.first) here in
+                absurd (omega (arith, at, same, over.later))
+          ];
       later = omega (arith, over.later, opened.within, ended.first, next);
     }
 

@@ -36,12 +36,16 @@ record IsUntold (inc : Incremental) (osd : ℕ) : Type 0 where
   lost : list_any (λ told. nat_eq told.osd osd) inc.lost ≡ false
 
 -- no device that the incremental boots, takes down or destroys passes the test, but this one does
-unturned : (test : ℕ → Bool) (inc : Incremental) (osd : ℕ) → list_any test (turned_devices inc) ≡ false → test osd ≡ true → (boots osd inc ≡ false) × (takes_down osd inc ≡ false) × (destroys osd inc ≡ false)
+unturned : (test : ℕ → Bool) (inc : Incremental) (osd : ℕ) → list_any test (turned_devices inc) ≡ false → test osd ≡ true
+    → (boots osd inc ≡ false) × (takes_down osd inc ≡ false) × (destroys osd inc ≡ false)
 unturned test inc osd none passes =
     let a = none-append test (inc.up ++ inc.down) inc.gone none in
     let b = none-append test inc.up inc.down a.0 in
-    let is : (x : ℕ) → nat_eq osd x ≡ true → test x ≡ true = λ x same. ap test (sym (eqb-true osd x same)) ∙ passes in
-    (none-narrower (nat_eq osd) test is inc.up b.0, none-narrower (nat_eq osd) test is inc.down b.1, none-narrower (nat_eq osd) test is inc.gone a.1)
+    let is : (x : ℕ) → nat_eq osd x ≡ true → test x ≡ true = λ x same. ap test (sym (eqb-true osd x same)) ∙ passes in (
+      none-narrower (nat_eq osd) test is inc.up b.0,
+      none-narrower (nat_eq osd) test is inc.down b.1,
+      none-narrower (nat_eq osd) test is inc.gone a.1,
+    )
 
 -- no device of the incremental passes the test, but this one does
 untold : (test : ℕ → Bool) (inc : Incremental) (osd : ℕ) → list_any test (changed_devices inc) ≡ false → test osd ≡ true → IsUntold inc osd
@@ -119,7 +123,8 @@ without up by_place places =
     if by_place then map (λ place. if option_map_or up place false then place else None) places else filter (λ place. option_map_or up place false) places
 
 -- it is the same by another test that agrees on the devices of the list
-up-same : (up now : ℕ → Bool) (places : List (Option ℕ)) → ((osd : ℕ) → Contains places (Some osd) → now osd ≡ up osd) → (place : Option ℕ) → Contains places place → option_map_or now place false ≡ option_map_or up place false
+up-same : (up now : ℕ → Bool) (places : List (Option ℕ)) → ((osd : ℕ) → Contains places (Some osd) → now osd ≡ up osd)
+    → (place : Option ℕ) → Contains places place → option_map_or now place false ≡ option_map_or up place false
 up-same up now places same None there = refl
 up-same up now places same (Some osd) there = same osd there
 
@@ -128,7 +133,8 @@ unfolding without
 without-same up now true places same =
     map-agree (λ (place : Option ℕ). if option_map_or now place false then place else None) (λ (place : Option ℕ). if option_map_or up place false then place else None) places
     (λ place there. ap (λ (b : Bool). if b then place else None) (up-same up now places same place there))
-without-same up now false places same = filter-agree (λ (place : Option ℕ). option_map_or now place false) (λ (place : Option ℕ). option_map_or up place false) places (up-same up now places same)
+without-same up now false places same = filter-agree (λ (place : Option ℕ). option_map_or now place false)
+    (λ (place : Option ℕ). option_map_or up place false) places (up-same up now places same)
 
 -- its devices are those of the list
 without-there : (up : ℕ → Bool) (by_place : Bool) (places : List (Option ℕ)) (osd : ℕ) → Contains (without up by_place places) (Some osd) → Contains places (Some osd)

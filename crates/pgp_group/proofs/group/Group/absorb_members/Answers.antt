@@ -66,16 +66,23 @@ returns-clause-ok c = λ log pg inc is fine told after lies.
 
 pub returns-in_err-make_room-clause-err : goal.returns-in_err-make_room-clause-err
 returns-in_err-make_room-clause-err c =
-    on_err c.from_residual.result _ (λ log pg is. IsGroupOf-same log pg c.args.self.now _ is refl refl (λ g kept. kept) (λ g kept. kept) c.make_room.ensures.same refl)
+    on_err c.from_residual.result _
+    (λ log pg is. IsGroupOf-same log pg c.args.self.now _ is refl refl (λ g kept. kept) (λ g kept. kept) c.make_room.ensures.same refl)
 
 pub returns-in_err-step-clause-err : goal.returns-in_err-step-clause-err
 returns-in_err-step-clause-err c =
-    on_err c.from_residual-in_err-step.result _ (λ log pg is. IsGroupOf-same log pg c.args.self.now _ is refl c.in_err-step.ensures.err (λ g kept. kept) (λ g kept. kept) c.make_room.ensures.same refl)
+    on_err c.from_residual-in_err-step.result _
+    (λ log pg is. IsGroupOf-same log pg c.args.self.now _ is refl c.in_err-step.ensures.err (λ g kept. kept)
+    (λ g kept. kept) c.make_room.ensures.same refl)
 
 pub returns-in_err-make_room-clause-wants : goal.returns-in_err-make_room-clause-wants
 returns-in_err-make_room-clause-wants c =
-    on_err c.from_residual.result _ (elsewhere c.args.self.now c.args.members c.current-current.result.1 (sym c.is_same.ensures ∙ c.if-is_same.false) c.current-current.ensures.members)
+    on_err c.from_residual.result _
+    (elsewhere c.args.self.now c.args.members c.current-current.result.1
+    (sym c.is_same.ensures ∙ c.if-is_same.false) c.current-current.ensures.members)
 
 pub returns-in_err-step-clause-wants : goal.returns-in_err-step-clause-wants
 returns-in_err-step-clause-wants c =
-    on_err c.from_residual-in_err-step.result _ (elsewhere c.args.self.now c.args.members c.current-current.result.1 (sym c.is_same.ensures ∙ c.if-is_same.false) c.current-current.ensures.members)
+    on_err c.from_residual-in_err-step.result _
+    (elsewhere c.args.self.now c.args.members c.current-current.result.1
+    (sym c.is_same.ensures ∙ c.if-is_same.false) c.current-current.ensures.members)

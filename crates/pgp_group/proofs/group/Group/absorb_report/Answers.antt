@@ -9,12 +9,14 @@ use Rattle.pgp_group.proofs.group.Group.absorb_report.Goals as goal
 
 pub returns-in-Info-clause-ok : goal.returns-in-Info-clause-ok
 returns-in-Info-clause-ok c = on_ok_weaker c.keep_info.result (λ given log pg none past is.
-    subst (λ (e : Entry). IsGroupOf (log ++ e ∷ []) pg c.keep_info.new.self) (sym c.in-Info.is) (given log pg (past c.in-Info.info (ap info_of c.in-Info.is)) is))
+    subst (λ (e : Entry). IsGroupOf (log ++ e ∷ []) pg c.keep_info.new.self) (sym c.in-Info.is)
+    (given log pg (past c.in-Info.info (ap info_of c.in-Info.is)) is))
     c.keep_info.ensures.ok
 
 pub returns-in-Entries-clause-ok : goal.returns-in-Entries-clause-ok
 returns-in-Entries-clause-ok c = on_ok_weaker c.keep_report.result (λ given log pg none past is.
-    subst (λ (e : Entry). IsGroupOf (log ++ e ∷ []) pg c.keep_report.new.self) (sym c.in-Entries.is) (given log pg is)) c.keep_report.ensures.ok
+    subst (λ (e : Entry). IsGroupOf (log ++ e ∷ []) pg c.keep_report.new.self) (sym c.in-Entries.is)
+    (given log pg is)) c.keep_report.ensures.ok
 
 pub returns-in-Inc-clause-ok : goal.returns-in-Inc-clause-ok
 returns-in-Inc-clause-ok c = λ log pg none past is. no_map c.args.entry.now _ c.in-Inc.is none

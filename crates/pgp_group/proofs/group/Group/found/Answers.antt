@@ -14,5 +14,7 @@ returns-in-Some-log_of c =
     let log = c.in-Some-log_of.log.now in
     IfOk-weaker c.found_by.result _ _ (λ found is g keeps current heard kept.
     let best_is : best g ≡ Some info = sym (best-is g c.args.heard.now heard) ∙ sym c.best.ensures ∙ ap option_copied c.in-Some.is in
-    let there = log-there (log_of info.member c.args.self.now.reports.logs.of_members.items) log (sym (ap option_copied c.in-Some-log_of.is) ∙ c.log_of.ensures) in
-    is g keeps current heard best_is (subst (IsLogOf info (reported g info.member)) there.2 (kept.best_by_info info there.0 best_is there.1))) c.found_by.ensures
+    let there = log-there (log_of info.member c.args.self.now.reports.logs.of_members.items) log
+    (sym (ap option_copied c.in-Some-log_of.is) ∙ c.log_of.ensures) in
+    is g keeps current heard best_is
+    (subst (IsLogOf info (reported g info.member)) there.2 (kept.best_by_info info there.0 best_is there.1))) c.found_by.ensures

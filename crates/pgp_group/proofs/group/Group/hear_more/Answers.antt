@@ -21,14 +21,16 @@ use Rattle.pgp_group.proofs.group.Group.hear_more.Goals as goal
 use Rattle.pgp_group.proofs.group.Group.hear_more.Goals.{After-best}
 
 -- the best of those that are heard after the looks is the best of the group
-led : (c : After-best) (g : GroupLog) → Keeps g c.args.self.now → IsPresent g c.args.map.now c.args.first → c.args.current.now ≡ g.history.current → best g ≡ option_copied c.best.result
+led : (c : After-best) (g : GroupLog) → Keeps g c.args.self.now → IsPresent g c.args.map.now c.args.first
+    → c.args.current.now ≡ g.history.current → best g ≡ option_copied c.best.result
 led c g keeps here current =
     let heard : AreHeard g c.look.new.self.heard =
     heard-is g c.look.new.self.heard c.of_pool-prefer.result (c.in_ok-look.ensures.ok g here keeps.infos_are)
     (c.of_pool-prefer.ensures
     ∙ prefer-is g c.by_place-by_place.result c.leader.result c.args.current.now
     (c.by_place-by_place.ensures ∙ ap (λ (code : AnyCode). is_by_place code) (c.code.ensures ∙ keeps.intervals_are.code_is)) current c.leader.ensures) in
-    sym (best-is g c.look.new.self.heard heard) ∙ ap (λ (h : Heard Preference). best_info (prefers h.prefer) h.infos) (sym c.heard.ensures) ∙ sym c.best.ensures
+    sym (best-is g c.look.new.self.heard heard) ∙ ap (λ (h : Heard Preference). best_info (prefers h.prefer) h.infos)
+    (sym c.heard.ensures) ∙ sym c.best.ensures
 
 pub returns-in-Some-clause-logs : goal.returns-in-Some-clause-logs
 returns-in-Some-clause-logs c = λ g keeps here current.

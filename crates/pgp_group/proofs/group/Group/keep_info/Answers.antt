@@ -19,11 +19,14 @@ use Rattle.pgp_group.proofs.group.Group.keep_info.Goals as goal
 
 pub returns-in_err-make_room_for-clause-err : goal.returns-in_err-make_room_for-clause-err
 returns-in_err-make_room_for-clause-err c =
-    on_err c.from_residual.result _ (λ log pg is. IsGroupOf-same log pg c.args.self.now _ is refl refl (λ g kept. kept) (λ g kept. kept) c.make_room_for.ensures.same refl)
+    on_err c.from_residual.result _
+    (λ log pg is. IsGroupOf-same log pg c.args.self.now _ is refl refl (λ g kept. kept) (λ g kept. kept) c.make_room_for.ensures.same refl)
 
 pub returns-in_err-push-clause-err : goal.returns-in_err-push-clause-err
 returns-in_err-push-clause-err c =
-    on_err c.from_residual-in_err-push.result _ (λ log pg is. IsGroupOf-same log pg c.args.self.now _ is refl refl c.in_err-push.ensures.err (λ g kept. kept) c.make_room_for.ensures.same refl)
+    on_err c.from_residual-in_err-push.result _
+    (λ log pg is. IsGroupOf-same log pg c.args.self.now _ is refl refl c.in_err-push.ensures.err
+    (λ g kept. kept) c.make_room_for.ensures.same refl)
 
 pub returns-in_ok-push-clause-ok : goal.returns-in_ok-push-clause-ok
 returns-in_ok-push-clause-ok c = λ log pg come is.
@@ -42,11 +45,14 @@ returns-in_ok-push-clause-ok c = λ log pg come is.
       infos_are = subst (KeepsInfos after) (sym c.take_clean.ensures.infos)
           (c.in_ok-push.ensures.ok g after (c.last.ensures ∙ last) (infos-told log info pg is.history same) is.keeps.infos_are);
       reports_are = subst (KeepsReports after) (sym c.take_clean.ensures.reports)
-          (reports-kept log (entry.Info info) pg is.history now.reports refl (reports-same log (entry.Info info) pg refl) is.keeps.reports_are);
+          (reports-kept log (entry.Info info) pg is.history now.reports refl
+          (reports-same log (entry.Info info) pg refl) is.keeps.reports_are);
       named_are = subst (KeepsNames after) (sym c.take_clean.ensures.named)
           (KeepsNames-info g after now.named c.add.new.self info (stood-told log info pg is.history same)
-          (infos-new log info pg same) (reports-same log (entry.Info info) pg refl) (c.add.ensures.osds ∙ ap (with_item before info.member.osd) c.make_room_for.ensures.same) is.keeps.named_are);
-      prior_is = c.take_clean.ensures.prior g after known is.keeps.intervals_are refl epochs (les-grows log (entry.Info info) pg is.history is.history) is.keeps.prior_is;
+          (infos-new log info pg same) (reports-same log (entry.Info info) pg refl)
+          (c.add.ensures.osds ∙ ap (with_item before info.member.osd) c.make_room_for.ensures.same) is.keeps.named_are);
+      prior_is = c.take_clean.ensures.prior g after known is.keeps.intervals_are refl epochs
+          (les-grows log (entry.Info info) pg is.history is.history) is.keeps.prior_is;
     })
 
 pub returns-else-eq-clause-ok : goal.returns-else-eq-clause-ok

@@ -13,11 +13,14 @@ use Rattle.pgp_group.proofs.group.Group.keep_report.Goals as goal
 
 pub returns-in_err-make_room_for-clause-err : goal.returns-in_err-make_room_for-clause-err
 returns-in_err-make_room_for-clause-err c =
-    on_err c.from_residual.result _ (λ log pg is. IsGroupOf-same log pg c.args.self.now _ is refl refl (λ g kept. kept) (λ g kept. kept) c.make_room_for.ensures.same refl)
+    on_err c.from_residual.result _
+    (λ log pg is. IsGroupOf-same log pg c.args.self.now _ is refl refl (λ g kept. kept) (λ g kept. kept) c.make_room_for.ensures.same refl)
 
 pub returns-in_err-push-clause-err : goal.returns-in_err-push-clause-err
 returns-in_err-push-clause-err c =
-    on_err c.from_residual-in_err-push.result _ (λ log pg is. IsGroupOf-same log pg c.args.self.now _ is refl refl (λ g kept. kept) c.in_err-push.ensures.err c.make_room_for.ensures.same refl)
+    on_err c.from_residual-in_err-push.result _
+    (λ log pg is. IsGroupOf-same log pg c.args.self.now _ is refl refl
+    (λ g kept. kept) c.in_err-push.ensures.err c.make_room_for.ensures.same refl)
 
 pub returns-in_ok-push-clause-ok : goal.returns-in_ok-push-clause-ok
 returns-in_ok-push-clause-ok c = λ log pg is.

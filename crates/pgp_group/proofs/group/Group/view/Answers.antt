@@ -13,7 +13,8 @@ returns-clause-same c = λ log pg kept map_is.
 pub returns-in_err-hear_more-clause-same : goal.returns-in_err-hear_more-clause-same
 returns-in_err-hear_more-clause-same c = λ log pg kept map_is.
     IsGroupOf-kept log pg c.args.self.now _ kept
-    (c.hear_more.ensures.kept (group_with log pg kept.history) kept.keeps (record { map_is = map_is; first_is = c.current-first.ensures.first kept.history (cleans (group_with log pg kept.history)) kept.keeps.intervals_are }))
+    (c.hear_more.ensures.kept (group_with log pg kept.history) kept.keeps
+    (record { map_is = map_is; first_is = c.current-first.ensures.first kept.history (cleans (group_with log pg kept.history)) kept.keeps.intervals_are }))
 
 pub returns-in_err-look-clause-same : goal.returns-in_err-look-clause-same
 returns-in_err-look-clause-same c = λ log pg kept map_is.

@@ -3,10 +3,9 @@ use Rattle.std.specs.List.{filter}
 use Rattle.pgp_ids.specs.declared.report.Info.{Info}
 use Rattle.pgp_info.specs.Heard.{Heard, with_infos}
 use Rattle.pgp_info.specs.declared.preference.Preference.{Preference}
-use Rattle.pgp_group.specs.GroupLog.{GroupLog, infos}
+use Rattle.pgp_group.specs.GroupLog.{infos}
 use Rattle.pgp_group.specs.Heard.{heard, last_of_each_member}
-use Rattle.pgp_group.specs.KeptInfos.{counts, KeepsInfos}
-use Rattle.pgp_group.specs.Present.{IsPresent}
+use Rattle.pgp_group.specs.KeptInfos.{counts}
 use Rattle.std.proofs.lemmas.Result.{IfOk-weaker}
 use Rattle.pgp_group.proofs.InfosLemmas.{heard-more}
 use Rattle.pgp_group.proofs.infos.Infos.heard_by.Goals as goal
@@ -15,7 +14,8 @@ pub returns-then-self : goal.returns-then-self
 returns-then-self c =
     let by : List Info → Heard Preference = λ l. record { prefer = c.args.prefer; infos = l } in
     IfOk-weaker c.heard.result _ _
-    (λ best is g here kept. is g here ∙ ap (λ (l : List Info). by (last_of_each_member (filter (counts g) l))) (c.as_slice-all.ensures.value ∙ kept.all_are)) c.heard.ensures
+    (λ best is g here kept. is g here ∙ ap (λ (l : List Info). by (last_of_each_member (filter (counts g) l)))
+    (c.as_slice-all.ensures.value ∙ kept.all_are)) c.heard.ensures
 
 pub returns : goal.returns
 returns c = λ g here kept.

@@ -28,4 +28,5 @@ returns-in-Ok-clause-kept c = λ g here is.
 pub returns-in-Err-clause-kept : goal.returns-in-Err-clause-kept
 returns-in-Err-clause-kept c = λ g here is.
     KeepsInfos-unseen g _ (c.forget.ensures.all ∙ is.all_are) (c.forget.ensures.les ∙ is.les_is) c.forget.ensures.seen
-    (ap (λ (h : Heard Preference). h.infos) (c.forget.ensures.heard ∙ c.in_ok-nobody.ensures g here)) (λ settled. is.each_sent (sym c.forget.ensures.ahead ∙ settled))
+    (ap (λ (h : Heard Preference). h.infos) (c.forget.ensures.heard ∙ c.in_ok-nobody.ensures g here))
+    (λ settled. is.each_sent (sym c.forget.ensures.ahead ∙ settled))

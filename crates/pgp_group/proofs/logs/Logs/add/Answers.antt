@@ -1,11 +1,8 @@
-use Rattle.std.proofs.Common.{◌≡◌, ℕ, List, [], ◌++◌, Bool, true, if◌then◌else◌, ap, ap₂, subst, sym, ◌∙◌}
-use Rattle.std.specs.List.{All, slice_set}
+use Rattle.std.proofs.Common.{◌≡◌, List, [], ◌++◌, true, if◌then◌else◌, ap, ap₂, subst, sym, ◌∙◌}
 use Rattle.std.proofs.lemmas.List.Elements.{All-set}
 use Rattle.std.proofs.lemmas.List.Quantifiers.{position-Some}
 use Rattle.std.proofs.lemmas.Result.{on_ok_weaker}
 use Rattle.pgp_ids.specs.Member.{is_same_member}
-use Rattle.pgp_ids.specs.declared.log_entry.LogEntry.{LogEntry}
-use Rattle.pgp_ids.specs.declared.member.Member.{Member}
 use Rattle.pgp_missing.specs.Log.{by_number}
 use Rattle.pgp_group.specs.KeptReports.{is_of, entries_of}
 use Rattle.pgp_group.specs.declared.logs.CountedLog.{CountedLog}
