@@ -74,14 +74,8 @@ length-kept f a (suc n) each = grind (arith, each a, length-kept f (a + 1) n (λ
 
 get-kept : {Y : Type 0} (f : ℕ → Option Y) (a n k : ℕ) → ((k : ℕ) → a ≤ k → is_some (f k) ≡ true) → k < n → slice_get (filter_map f (range_with_len a n)) k ≡ f (a + k)
 get-kept f a zero k each below = absurd (omega arith)
-get-kept f a (suc n) zero each below =
-    let first = some_is (f a) (each a (omega arith)) in
-    let here : a + 0 ≡ a = omega arith in
-    rw first.1 (sym (ap f here ∙ first.1))
-get-kept f a (suc n) (suc k) each below =
-    let first = some_is (f a) (each a (omega arith)) in
-    let there : a + 1 + k ≡ a + suc k = omega arith in
-    rw first.1 (get-kept f (a + 1) n k (λ k from. each k (omega arith)) (omega arith) ∙ ap f there)
+get-kept f a (suc n) zero each below = grind (arith, each a)
+get-kept f a (suc n) (suc k) each below = grind (arith, each a, get-kept f (a + 1) n k (λ k from. each k (omega arith)))
 
 -- ---- the history
 

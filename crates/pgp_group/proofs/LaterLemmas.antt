@@ -1,13 +1,12 @@
 -- Which reports count as more of the log comes.
-use Rattle.std.proofs.Common.{◌≡◌, ◌≢◌, ℕ, ◌+◌, ◌<◌, ◌≤◌, List, [], ◌∷◌, ◌++◌, Option, Some, Bool, true, false, not, ◌&&◌, ◌||◌, nat_le, map, fold, max, refl, append-nil, ap, ap₂, sym, ◌∙◌, inl, inr, ◌⊎◌, arith}
-use Rattle.std.specs.List.{All, filter, flat_map, list_any}
-use Rattle.std.specs.Option.{option_map_or}
-use Rattle.std.proofs.lemmas.Bool.{cases_Bool, or_parts, true≢false, and_right}
+use Rattle.std.proofs.Common.{◌≡◌, ◌≢◌, ℕ, ◌+◌, ◌<◌, ◌≤◌, List, [], ◌∷◌, ◌++◌, Some, Bool, true, false, not, ◌&&◌, ◌||◌, nat_le, map, fold, max, refl, append-nil, ap, ap₂, sym, ◌∙◌, inl, inr, ◌⊎◌, arith}
+use Rattle.std.specs.List.{All, filter, flat_map}
+use Rattle.std.proofs.lemmas.Bool.{cases_Bool, true≢false, and_right}
 use Rattle.std.proofs.lemmas.Bool.Decides.{nat_tests}
 use Rattle.std.proofs.lemmas.List.{map-append}
 use Rattle.std.proofs.lemmas.List.Elements.{filter-append, filter_map-append, All-weaker}
 use Rattle.std.proofs.lemmas.List.Sums.{fold-append}
-use Rattle.std.proofs.Math.Bool.{and-false, and-true}
+use Rattle.std.proofs.Math.Bool.{and-true}
 use Rattle.pgp_code.specs.declared.any.AnyCode.{AnyCode}
 use Rattle.pgp_ids.specs.declared.entry.Entry.{Entry}
 use Rattle.pgp_ids.specs.declared.entry.Entry.TheVariants as entry
@@ -161,16 +160,11 @@ told_off incs inc osd stamp first early told =
 
 -- a device of which it tells nothing stays up or down
 still_up : (incs : List Incremental) (inc : Incremental) (osd : ℕ) → tells_of osd inc ≡ false → (is_up (then_with incs inc) osd ≡ is_up incs osd) × (up_from (then_with incs inc) osd ≡ up_from incs osd)
-still_up incs inc osd silent =
-    let none : list_any (tells_of osd) (inc ∷ []) ≡ false = rw silent refl in
-    let boots' : boots osd inc ≡ false = (or_parts (boots osd inc) (takes_down osd inc) (or_parts (boots osd inc || takes_down osd inc) (destroys osd inc) silent).0).0 in (
-      ap (λ (o : Option Incremental). option_map_or (boots osd) o false) (last_where-none (tells_of osd) incs (inc ∷ []) none),
-      ap greatest_epoch (left_new (boots osd) incs inc boots'),
-    )
+still_up incs inc osd silent = grind (arith, last_where-none (tells_of osd) incs (inc ∷ []), left_new (boots osd) incs inc)
 
 -- what the device sent before still counts if it did: the current interval goes on, whose first epoch is this, and the
 -- incremental tells nothing of the device
-pub outlasts : List Incremental → Incremental → ℕ → ℕ → Bool
+abbrev pub outlasts : List Incremental → Incremental → ℕ → ℕ → Bool
 outlasts incs inc first osd = nat_le first (epoch incs) && not (tells_of osd inc)
 
 -- the first epoch of the current interval stays, or is the next epoch
@@ -179,31 +173,8 @@ Moves incs h after = ((current_first after ≡ current_first h) × (current_firs
 
 pub counts-after : (incs : List Incremental) (inc : Incremental) (h after : History AnyCode) (member : Member) (stamp : ℕ) → inc.epoch ≡ epoch incs + 1 → stamp ≤ epoch incs → Moves incs h after
     → counts_by (then_with incs inc) after member stamp ≡ (counts_by incs h member stamp && outlasts incs inc (current_first after) member.osd)
-unfolding outlasts
-counts-after incs inc h after member stamp next sent (inr opened) =
-    let early : nat_le (current_first after) stamp ≡ false = grind (arith, nat_tests) in
-    let over : nat_le (current_first after) (epoch incs) ≡ false = grind (arith, nat_tests) in
-    let before : counts_by (then_with incs inc) after member stamp ≡ false =
-    ap (λ (b : Bool). b && is_up (then_with incs inc) member.osd && nat_le (up_from (then_with incs inc) member.osd) stamp) early in
-    before
-    ∙ sym (ap (λ (b : Bool). counts_by incs h member stamp && (b && not (tells_of member.osd inc))) over ∙ and-false (counts_by incs h member stamp))
-counts-after incs inc h after member stamp next sent (inl on) = elim (cases_Bool (tells_of member.osd inc)) [
-  | inl told ↦
-      told_off incs inc member.osd stamp (nat_le (current_first after) stamp) (omega (arith, next, sent)) told
-      ∙ sym (ap (λ (b : Bool). counts_by incs h member stamp && (nat_le (current_first after) (epoch incs) && not b)) told
-      ∙ ap (λ (b : Bool). counts_by incs h member stamp && b) (and-false (nat_le (current_first after) (epoch incs)))
-      ∙ and-false (counts_by incs h member stamp))
-  | inr silent ↦
-      let same = still_up incs inc member.osd silent in
-      let going : current_first after ≡ current_first h = on.0 in
-      let within : current_first h ≤ epoch incs = on.1 in
-      let lasts : nat_le (current_first after) (epoch incs) ≡ true = grind (arith, nat_tests) in
-      let stays : counts_by (then_with incs inc) after member stamp ≡ counts_by incs h member stamp =
-      λ k. nat_le (going k) stamp && same.0 k && nat_le (same.1 k) stamp in
-      stays
-      ∙ sym (ap (λ (b : Bool). counts_by incs h member stamp && (nat_le (current_first after) (epoch incs) && not b)) silent
-      ∙ ap (λ (b : Bool). counts_by incs h member stamp && (b && true)) lasts ∙ and-true (counts_by incs h member stamp))
-]
+counts-after incs inc h after member stamp next sent moved =
+    grind (arith, nat_tests, told_off incs inc member.osd stamp (nat_le (current_first after) stamp), still_up incs inc member.osd)
 
 -- of all that was sent until the first group's last epoch, what counts in the second group is what counted in the first and is
 -- of a device that lasts
