@@ -1,9 +1,10 @@
 //! What the program does, over any reader and writers, and how it ends.
 
-ghost use Rattle.std.specs.Prelude.{◌≡◌, ◌⊎◌, ◌≤◌, true, map, string_bytes};
+ghost use Rattle.std.specs.Prelude.{◌≡◌, ◌⊎◌, ◌≤◌, true, map, string_bytes, if◌then◌else◌};
 ghost use Rattle.pgp_cli.specs.Options.{Counts, counts_of, AreWrong, AsksForRun, AsksForWorkers, AsksForCompact, AsksForExplain, AsksForHelp, AsksForSomeExplain};
 ghost use Rattle.pgp_cli.specs.Status.{CompactIsDone, ExplainIsCutShort, ExplainIsDone, Grows, RunIsDone, RunIsStopped};
 ghost use Rattle.pgp_cli.specs.declared.explain_options.ExplainOptions.{ExplainOptions as TheOptions};
+ghost use Rattle.pgp_cli.specs.declared.fault.Fault.TheVariants.{NoEngine, Read as ReadFailed, TooLarge, Write as WriteFailed};
 ghost use Rattle.pgp_compact_script.specs.Compaction.{IsCutShort};
 ghost use Rattle.pgp_core.specs.Account.{account};
 ghost use Rattle.pgp_core.specs.Run.{AllAnswered, Stopped, script_bounds};
@@ -164,7 +165,11 @@ fn run_shared<R: Source, W: Sink, E: Write, T: Threads + Wait + Sync>(
 }
 
 /// The fault that stopped a script.
-fn script_fault<R: Source>(why: ScriptFault, reader: &R) -> Fault {
+fn script_fault<R: Source>(why: ScriptFault, reader: &R) -> Fault
+    ensures read { why ≡ ScriptFault.Read → result ≡ (if R.failed reader.now then ReadFailed else TooLarge) }
+    ensures write { why ≡ ScriptFault.Write → result ≡ WriteFailed }
+    ensures gone { why ≡ ScriptFault.Gone → result ≡ NoEngine }
+{
     match why {
         ScriptFault::Read => Fault::of_reader(reader),
         ScriptFault::Write => Fault::Write,
