@@ -28,12 +28,12 @@ use Rattle.pgp_map.specs.MapFault.{map_fault, then_with}
 use Rattle.pgp_map.specs.Pools.{has_group, pool}
 use Rattle.pgp_map.specs.declared.map.OsdMap.{OsdMap}
 use Rattle.pgp_map.proofs.CheckedLemmas.{checked-has_group, front-checked, last-checked}
-use Rattle.pgp_sets.proofs.RawSetLemmas.{raw_set-stays}
+use Rattle.pgp_sets.proofs.RawSetLemmas.{raw_set-stays, unmoved-unplaced}
 use Rattle.pgp_sets.specs.Sets.{membership, moves, pool_membership, raw_set}
 use Rattle.pgp_group.proofs.GrowthLemmas.{checked-numbered, epoch-snoc, has_group-grows, history-begins-made, history-grows, history-last, next_epoch, unmade}
 use Rattle.pgp_group.proofs.HistoryLemmas.{history-current}
 use Rattle.pgp_group.proofs.ReachingLemmas.{left-unmoved, lies-as-before}
-use Rattle.pgp_group.proofs.UntoldLemmas.{IsLeft, temp-same}
+use Rattle.pgp_group.proofs.UntoldLemmas.{temp-same}
 use Rattle.pgp_group.specs.GroupHistory.{AreNumbered, group_history, makes, primary_facts}
 use Rattle.pgp_group.specs.Touched.{changes_temp, has_osd, is_placed, may_lie_on, may_move, turned_devices}
 use Rattle.pgp_log.proofs.ComingLemmas.{comes-with_pool, has_group-same}
@@ -66,23 +66,14 @@ unmoved incs inc pg lying fine lies stays =
     let a = or_parts (moves inc pg.pool || changes_temp inc pg) turned' stays in
     let b = or_parts (moves inc pg.pool) (changes_temp inc pg) a.0 in
     let c = or_parts (is_some inc.crush || nat_lt 0 (length inc.weight)) (list_any (λ (sizes : PoolSizes). nat_eq sizes.pool pg.pool) inc.sizes) b.0 in
-    let d = or_parts (is_some inc.crush) (nat_lt 0 (length inc.weight)) c.0 in
     let made : makes pg.pool inc ≡ false = made-before incs inc pg lying.members fine lies.members_are in
     let turned : list_any (may_lie_on incs pg) (turned_devices inc) ≡ false =
     any-same (may_lie_on incs pg) on (turned_devices inc) (may_lie-there incs pg lying lies) ∙ sym (turned-parts on inc) ∙ a.1 in
-    rw (d.1, d.0, made, c.1, b.1, turned) refl
-
--- the tree puts it where it did
-unmoved-raw : (incs : List Incremental) (inc : Incremental) (pg : PgId) → may_move incs inc pg ≡ false → moves inc pg.pool ≡ false
-unmoved-raw incs inc pg still =
-    let left : IsLeft inc pg = left-unmoved incs inc pg still in
-    let large = or_parts (nat_lt 0 (length inc.weight)) (is_some inc.crush) left.still in
-    let own = or_parts (makes pg.pool inc) (list_any (λ (sizes : PoolSizes). nat_eq sizes.pool pg.pool) inc.sizes) left.pool in
-    rw (large.1, large.0, own.1) refl
+    rw (unmoved-unplaced incs inc pg b.0, made, c.1, b.1, turned) refl
 
 lies-still : (incs : List Incremental) (inc : Incremental) (pg : PgId) (lying : Lying) → map_fault incs inc ≡ None → may_move incs inc pg ≡ false → LiesAt incs pg lying → LiesAt (then_with incs inc) pg lying
 lies-still incs inc pg lying fine still lies = record {
-  raw_is = raw_set-stays incs inc pg lying.raw fine (unmoved-raw incs inc pg still) lies.raw_is;
+  raw_is = raw_set-stays incs inc pg lying.raw fine (left-unmoved incs inc pg still).still lies.raw_is;
   temp_is = lies.temp_is ∙ sym (temp-same incs inc pg (left-unmoved incs inc pg still).temp);
   members_are = lies-as-before raw_set-stays incs inc pg fine still ∙ lies.members_are;
 }

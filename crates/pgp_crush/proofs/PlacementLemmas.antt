@@ -7,6 +7,7 @@ use Rattle.pgp_crush.specs.Bucket.{Bucket}
 use Rattle.pgp_crush.specs.Candidate.{Input, input_of}
 use Rattle.pgp_crush.specs.Cells.{indep}
 use Rattle.pgp_crush.specs.FirstN.{pick_of, first_picks, first_n}
+use Rattle.pgp_crush.specs.Out.{is_in}
 use Rattle.pgp_crush.specs.Placement.{IsPlacedBy, IsPlacement, placement}
 use Rattle.pgp_crush.proofs.FirstNLemmas.{with_pick-room}
 use Rattle.pgp_crush.proofs.IndepLemmas.{after-size, indep-is, indep-by_table}
@@ -44,3 +45,15 @@ pub placement-size : (tree : Option (List Bucket)) (rule : Rule) (weights : List
 placement-size tree rule weights x n e = grind (arith, length-replicate {A = Option ℕ}, length-map {A = Cell} {B = Option ℕ}, after-size)
 
 pub ruleset placement_sizes = (placement-at_most, placement-size)
+
+-- ---- weights
+
+-- what is placed on a tree, where the test says which devices are in
+abbrev placed_by : List Bucket → Rule → ℕ → ℕ → (ℕ → Bool) → List (Option ℕ)
+placed_by tree rule x n test =
+    let i : Input = record { tree = tree; is_in = test; x = x; kind = rule.leaf } in if rule.indep then indep i n else first_n i n
+
+pub placement_by_who_is_in : (tree : Option (List Bucket)) (rule : Rule) (weights others : List ℕ) (x n : ℕ) → ((osd : ℕ) → is_in others x osd ≡ is_in weights x osd)
+    → placement tree rule others x n ≡ placement tree rule weights x n
+placement_by_who_is_in None rule weights others x n same = refl
+placement_by_who_is_in (Some tree) rule weights others x n same = λ i. placed_by tree rule x n (λ osd. same osd i)

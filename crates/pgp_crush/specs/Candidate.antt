@@ -1,5 +1,5 @@
 -- What one try of a placement comes to.
-use Rattle.std.specs.Prelude.{ℕ, ℤ, pos, negsuc, ◌+◌, List, Option, Some, None, nat_le, if◌then◌else◌}
+use Rattle.std.specs.Prelude.{ℕ, ℤ, pos, negsuc, ◌+◌, List, Option, Some, None, nat_le, Bool, if◌then◌else◌}
 use Rattle.pgp_crush.specs.declared.descent.Rank.{Rank}
 use Rattle.pgp_crush.specs.declared.descent.Rank.TheVariants.{Same}
 use Rattle.pgp_crush.specs.declared.descent.Descent.{Descent}
@@ -10,15 +10,15 @@ use Rattle.pgp_crush.specs.Bucket.{Bucket, bucket_at, root_of, is_device}
 use Rattle.pgp_crush.specs.Descent.{descent}
 use Rattle.pgp_crush.specs.Out.{is_in}
 
--- what every try of a placement is given: the tree, the weights of the devices, the input, and the type of the items sought
+-- what every try of a placement is given: the tree, which devices are in, the input, and the type of the items sought
 pub record Input : Type 0 where
   pub tree : List Bucket
-  pub weights : List ℕ
+  pub is_in : ℕ → Bool
   pub x : ℕ
   pub kind : ℕ
 
 abbrev pub input_of : List Bucket → List ℕ → ℕ → ℕ → Input
-input_of tree weights x kind = record { tree = tree; weights = weights; x = x; kind = kind }
+input_of tree weights x kind = record { tree = tree; is_in = is_in weights x; x = x; kind = kind }
 
 -- the number of the device that an item is
 abbrev pub device_of : ℤ → Option ℕ
@@ -39,7 +39,7 @@ leaf_of tree x r item =
 -- an item with its leaf, if that is there and in
 abbrev pub fit_with : Input → ℤ → Option ℕ → Candidate
 fit_with i item None = Unfit
-fit_with i item (Some leaf) = if is_in i.weights i.x leaf then Fit (record { item = item; leaf = leaf }) else Unfit
+fit_with i item (Some leaf) = if i.is_in leaf then Fit (record { item = item; leaf = leaf }) else Unfit
 
 -- What a way down from the root comes to. Below the item each bucket chooses with the number with which the item was
 -- chosen, raised by `more`.

@@ -1,5 +1,5 @@
 -- A bucket chooses one of its items: what the law of the trait `Chooser` rests on.
-use Rattle.std.proofs.Common.{ℕ, zero, suc, ◌+◌, ◌%◌, ◌<◌, ◌≤◌, Bool, true, false, ℤ, pos, List, length, slice_index_or, Contains, inl, inr, arith, rules, Some}
+use Rattle.std.proofs.Common.{ℕ, zero, suc, ◌+◌, ◌%◌, ◌<◌, ◌≤◌, Bool, ℤ, pos, List, length, slice_index_or, Contains, inl, inr, arith, rules}
 use Rattle.std.proofs.lemmas.Bool.{cases_Bool}
 use Rattle.std.proofs.lemmas.Bool.Decides.{nat_tests}
 use Rattle.std.proofs.lemmas.Grind.{common_steps}

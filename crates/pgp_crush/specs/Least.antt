@@ -1,5 +1,5 @@
 -- Least and greatest numbers that pass a test.
-use Rattle.std.specs.Prelude.{ℕ, zero, suc, Bool, true, false, Option, Some, None, if◌then◌else◌}
+use Rattle.std.specs.Prelude.{ℕ, zero, suc, Bool, Option, Some, None, if◌then◌else◌}
 
 -- the least of the n numbers from k on that passes
 unfoldable pub least_from : (ℕ → Bool) → ℕ → ℕ → Option ℕ

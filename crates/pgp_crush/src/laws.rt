@@ -12,6 +12,7 @@ ghost use Rattle.pgp_crush.specs.Candidate.{Input, input_of};
 ghost use Rattle.pgp_crush.specs.Choice.{choice};
 ghost use Rattle.pgp_crush.specs.Descent.{path, descent};
 ghost use Rattle.pgp_crush.specs.FirstN.{first_n};
+ghost use Rattle.pgp_crush.specs.Out.{is_in};
 ghost use Rattle.pgp_crush.specs.Placement.{IsPlacement, placement};
 ghost use Rattle.pgp_crush.specs.declared.rule.Rule.{Rule};
 ghost use Rattle.pgp_ids.specs.declared.bucket.BucketAlg.TheVariants.{List as Weighed};
@@ -75,6 +76,14 @@ pub fn placements_have_their_size()
         → length (placement tree rule weights x n) ≤ n }
     ensures erasure { (tree : Option (List Bucket)) (rule : Rule) (weights : List ℕ) (x n : ℕ) → rule.indep ≡ true
         → length (placement tree rule weights x n) ≡ n }
+{}
+
+/// Two lists of weights by which the same devices are in for an input give the same placement.
+#[tactic(auto, using(crate::proofs::PlacementLemmas::placement_by_who_is_in))]
+pub fn placements_depend_on_who_is_in()
+    ensures { (tree : Option (List Bucket)) (rule : Rule) (weights others : List ℕ) (x n : ℕ)
+        → ((osd : ℕ) → is_in others x osd ≡ is_in weights x osd)
+        → placement tree rule others x n ≡ placement tree rule weights x n }
 {}
 
 /// A bucket with no items chooses nothing.

@@ -29,7 +29,7 @@ mod uniform;
 pub use chooser::Chooser;
 pub use fault::TreeFault;
 pub use list::List;
-pub use out::DEVICES;
+pub use out::{DEVICES, is_in_by};
 pub use placement::place;
 pub use rule::Rule;
 pub use tree::Tree;

@@ -16,14 +16,14 @@ use Rattle.pgp_interval.proofs.RunningLemmas.{stays}
 use Rattle.pgp_interval.specs.History.{History}
 use Rattle.pgp_map.specs.Map.{epoch}
 use Rattle.pgp_map.specs.MapFault.{map_fault, then_with}
-use Rattle.pgp_map.specs.Pools.{pool, temp}
-use Rattle.pgp_sets.specs.Sets.{membership, pool_membership, raw_set}
+use Rattle.pgp_map.specs.Pools.{pool}
+use Rattle.pgp_sets.specs.Sets.{membership, may_place_elsewhere, pool_membership, raw_set}
 use Rattle.pgp_group.specs.Entries.{inc_of, incs_of}
 use Rattle.pgp_group.specs.GroupHistory.{primary_facts}
 use Rattle.pgp_group.specs.GroupLog.{cleans, group_with}
 use Rattle.pgp_group.specs.GroupOf.{IsGroupOf}
 use Rattle.pgp_group.specs.Reaching.{reaching}
-use Rattle.pgp_group.specs.Touched.{changes_pool, changes_temp, has_osd, has_to_do_with, is_placed, is_touched, may_lie_on, may_move, moves_all, turned_devices}
+use Rattle.pgp_group.specs.Touched.{changes_pool, changes_temp, has_osd, has_to_do_with, is_placed, is_touched, may_lie_on, may_move, turned_devices}
 use Rattle.pgp_group.specs.declared.group.Group.{Group}
 use Rattle.pgp_group.proofs.GroupLemmas.{IsGroupOf-inc, names-stay}
 use Rattle.pgp_group.proofs.GrowthLemmas.{epoch-snoc, history-last, next_epoch}
@@ -56,17 +56,17 @@ reaches-next log inc pg group fine same is =
 
 -- the parts of the test
 record IsUnmoved (incs : List Incremental) (inc : Incremental) (pg : PgId) : Type 0 where
-  left : IsLeft inc pg
+  left : IsLeft incs inc pg
   devices : list_any (may_lie_on incs pg) (turned_devices inc) ≡ false
 
 unmoved : (incs : List Incremental) (inc : Incremental) (pg : PgId) → may_move incs inc pg ≡ false → IsUnmoved incs inc pg
 unmoved incs inc pg still =
-    let a = or_parts (moves_all inc || changes_pool inc pg.pool || changes_temp inc pg) (list_any (may_lie_on incs pg) (turned_devices inc)) still in
-    let b = or_parts (moves_all inc || changes_pool inc pg.pool) (changes_temp inc pg) a.0 in
-    let c = or_parts (moves_all inc) (changes_pool inc pg.pool) b.0 in
+    let a = or_parts (may_place_elsewhere incs inc pg || changes_pool inc pg.pool || changes_temp inc pg) (list_any (may_lie_on incs pg) (turned_devices inc)) still in
+    let b = or_parts (may_place_elsewhere incs inc pg || changes_pool inc pg.pool) (changes_temp inc pg) a.0 in
+    let c = or_parts (may_place_elsewhere incs inc pg) (changes_pool inc pg.pool) b.0 in
     record { left = record { still = c.0; pool = c.1; temp = b.1 }; devices = a.1 }
 
-pub left-unmoved : (incs : List Incremental) (inc : Incremental) (pg : PgId) → may_move incs inc pg ≡ false → IsLeft inc pg
+pub left-unmoved : (incs : List Incremental) (inc : Incremental) (pg : PgId) → may_move incs inc pg ≡ false → IsLeft incs inc pg
 left-unmoved incs inc pg still = (unmoved incs inc pg still).left
 
 -- the devices on which it lies are up where they were

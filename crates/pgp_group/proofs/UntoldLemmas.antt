@@ -19,7 +19,8 @@ use Rattle.pgp_lists.proofs.Options.{if_some}
 use Rattle.pgp_map.specs.Devices.{boots, takes_down, destroys, device, greatest_epoch, is_up}
 use Rattle.pgp_map.specs.MapFault.{map_fault, then_with}
 use Rattle.pgp_map.specs.Pools.{pool, temp, is_same_group, with_sizes}
-use Rattle.pgp_sets.specs.Sets.{moves, raw_set, raw_set_of, members_with, pool_membership}
+use Rattle.pgp_sets.specs.Sets.{may_place_elsewhere, moves, raw_set, raw_set_of, members_with, pool_membership}
+use Rattle.pgp_sets.proofs.RawSetLemmas.{unmoved-unplaced}
 use Rattle.pgp_group.specs.GroupHistory.{primary_facts}
 use Rattle.pgp_group.specs.Touched.{has_osd, changed_devices, turned_devices, moves_all, changes_pool, changes_temp}
 use Rattle.pgp_group.proofs.GrowthLemmas.{told-stays}
@@ -175,22 +176,29 @@ lies-there up made raw given osd is = by_rest (nat_eq (length (without up (is_by
 
 -- what is known of raw sets
 abbrev pub RawSetsStay : Type 0
-RawSetsStay = (incs : List Incremental) (inc : Incremental) (pg : PgId) (places : List (Option ℕ)) → map_fault incs inc ≡ None → moves inc pg.pool ≡ false → raw_set_of incs pg ≡ Some places → raw_set_of (then_with incs inc) pg ≡ Some places
+RawSetsStay = (incs : List Incremental) (inc : Incremental) (pg : PgId) (places : List (Option ℕ)) → map_fault incs inc ≡ None → may_place_elsewhere incs inc pg ≡ false → raw_set_of incs pg ≡ Some places → raw_set_of (then_with incs inc) pg ≡ Some places
 
--- the incremental moves no group at large, and changes neither pool nor pg_temp of this one
-pub record IsLeft (inc : Incremental) (pg : PgId) : Type 0 where
-  pub still : moves_all inc ≡ false
+-- an incremental that moves no group at large and leaves the pool alone moves none of the pool
+pub unmoved-pool : (inc : Incremental) (id : ℕ) → moves_all inc ≡ false → changes_pool inc id ≡ false → moves inc id ≡ false
+unmoved-pool inc id still own =
+    let large = or_parts (nat_lt 0 (length inc.weight)) (is_some inc.crush) still in
+    let sizes = or_parts (list_any (λ (made : PoolSpec). nat_eq made.id id) inc.pools) (list_any (λ (sizes : PoolSizes). nat_eq sizes.pool id) inc.sizes) own in
+    rw (large.1, large.0, sizes.1) refl
+
+pub unplaced : (incs : List Incremental) (inc : Incremental) (pg : PgId) → moves_all inc ≡ false → changes_pool inc pg.pool ≡ false → may_place_elsewhere incs inc pg ≡ false
+unplaced incs inc pg still own = unmoved-unplaced incs inc pg (unmoved-pool inc pg.pool still own)
+
+-- the tree puts the group nowhere else by the incremental, which changes neither its pool nor its pg_temp list
+pub record IsLeft (incs : List Incremental) (inc : Incremental) (pg : PgId) : Type 0 where
+  pub still : may_place_elsewhere incs inc pg ≡ false
   pub pool : changes_pool inc pg.pool ≡ false
   pub temp : changes_temp inc pg ≡ false
 
-raw-same : RawSetsStay → (incs : List Incremental) (inc : Incremental) (pg : PgId) (made : PoolSpec) → map_fault incs inc ≡ None → IsLeft inc pg → pool incs pg.pool ≡ Some made → raw_set (then_with incs inc) made pg ≡ raw_set incs made pg
+raw-same : RawSetsStay → (incs : List Incremental) (inc : Incremental) (pg : PgId) (made : PoolSpec) → map_fault incs inc ≡ None → IsLeft incs inc pg → pool incs pg.pool ≡ Some made → raw_set (then_with incs inc) made pg ≡ raw_set incs made pg
 raw-same raws incs inc pg made fine left is =
-    let large = or_parts (nat_lt 0 (length inc.weight)) (is_some inc.crush) left.still in
-    let own = or_parts (list_any (λ (made : PoolSpec). nat_eq made.id pg.pool) inc.pools) (list_any (λ (sizes : PoolSizes). nat_eq sizes.pool pg.pool) inc.sizes) left.pool in
-    let moved : moves inc pg.pool ≡ false = rw (large.1, large.0, own.1) refl in
     let now : pool (then_with incs inc) pg.pool ≡ Some made = pool-same incs inc pg.pool left.pool ∙ is in
     let before : raw_set_of incs pg ≡ Some (raw_set incs made pg) = ap (option_map (λ m. raw_set incs m pg)) is in
-    same_Some _ _ (ap (option_map (λ m. raw_set (then_with incs inc) m pg)) (sym now) ∙ raws incs inc pg (raw_set incs made pg) fine moved before)
+    same_Some _ _ (ap (option_map (λ m. raw_set (then_with incs inc) m pg)) (sym now) ∙ raws incs inc pg (raw_set incs made pg) fine left.still before)
 
 -- the devices on which the group lies, or may lie by pg_temp, stay as they were
 pub record DevicesStay (incs : List Incremental) (inc : Incremental) (pg : PgId) (made : PoolSpec) : Type 0 where
@@ -215,7 +223,7 @@ same_up test incs inc osd none passes =
     let moves' : list_any (λ i. boots osd i || takes_down osd i || destroys osd i) (inc ∷ []) ≡ false = rw (silent.0, silent.1, silent.2) refl in
     ap (λ (last : Option Incremental). option_map_or (boots osd) last false) (last_where-none (λ (i : Incremental). boots osd i || takes_down osd i || destroys osd i) incs (inc ∷ []) moves')
 
-pub members-same : RawSetsStay → (incs : List Incremental) (inc : Incremental) (pg : PgId) (made : PoolSpec) → map_fault incs inc ≡ None → IsLeft inc pg → pool incs pg.pool ≡ Some made → UpsStay incs inc pg made
+pub members-same : RawSetsStay → (incs : List Incremental) (inc : Incremental) (pg : PgId) (made : PoolSpec) → map_fault incs inc ≡ None → IsLeft incs inc pg → pool incs pg.pool ≡ Some made → UpsStay incs inc pg made
     → pool_membership (then_with incs inc) pg made ≡ pool_membership incs pg made
 members-same raws incs inc pg made fine left is stay =
     membership-lies (then_with incs inc) made pg

@@ -20,7 +20,7 @@ use Rattle.pgp_map.specs.Checked.{are_checked}
 use Rattle.pgp_map.specs.Devices.{device}
 use Rattle.pgp_map.specs.Map.{epoch}
 use Rattle.pgp_map.specs.MapFault.{map_fault, then_with}
-use Rattle.pgp_map.specs.Pools.{pool, temp, has_group, is_same_group}
+use Rattle.pgp_map.specs.Pools.{pool, has_group, is_same_group}
 use Rattle.pgp_sets.specs.Sets.{membership, pool_membership, raw_set}
 use Rattle.pgp_group.specs.Entries.{inc_of, incs_of, infos_of, reports_of}
 use Rattle.pgp_group.specs.GroupHistory.{primary_facts, group_history}
@@ -32,7 +32,7 @@ use Rattle.pgp_group.proofs.GrowthLemmas.{Shortens, EndsWell, checked-numbered, 
 use Rattle.pgp_group.proofs.HistoryLemmas.{history_if, history-current}
 use Rattle.pgp_group.proofs.Lists.{nothing_new, one_new}
 use Rattle.pgp_group.proofs.SameViewLemmas.{view-same}
-use Rattle.pgp_group.proofs.UntoldLemmas.{DevicesStay, IsLeft, RawSetsStay, leader-same, members-same, pool-same, same_device, ups-stay}
+use Rattle.pgp_group.proofs.UntoldLemmas.{DevicesStay, IsLeft, RawSetsStay, leader-same, members-same, pool-same, same_device, unplaced, ups-stay}
 use Rattle.pgp_group.proofs.ViewLemmas.{history_there}
 
 -- the view with the entry is that of the log before, except for count and epoch
@@ -70,7 +70,7 @@ pub record GoesOn : Type 0 where
 
 -- no device that the incremental changes has to do with the group
 pub record IsApart (log : List Entry) (inc : Incremental) (pg : PgId) : Type 0 where
-  pub left : IsLeft inc pg
+  pub left : IsLeft (incs_of log) inc pg
   pub devices : list_any (has_to_do_with log pg) (changed_devices inc) ≡ false
 
 pub apart : (log : List Entry) (inc : Incremental) (pg : PgId) → is_touched log (entry.Inc inc) pg ≡ false → IsApart log inc pg
@@ -78,7 +78,7 @@ apart log inc pg untouched =
     let a = or_parts (moves_all inc || changes_pool inc pg.pool || changes_temp inc pg) (list_any (has_to_do_with log pg) (changed_devices inc)) untouched in
     let b = or_parts (moves_all inc || changes_pool inc pg.pool) (changes_temp inc pg) a.0 in
     let c = or_parts (moves_all inc) (changes_pool inc pg.pool) b.0 in
-    record { left = record { still = c.0; pool = c.1; temp = b.1 }; devices = a.1 }
+    record { left = record { still = unplaced (incs_of log) inc pg c.0 c.1; pool = c.1; temp = b.1 }; devices = a.1 }
 
 -- the devices on which the group lies, or may lie by pg_temp, stay as they were
 pub devices-stay : (log : List Entry) (inc : Incremental) (pg : PgId) (made : PoolSpec) → IsApart log inc pg → pool (incs_of log) pg.pool ≡ Some made → DevicesStay (incs_of log) inc pg made

@@ -9,7 +9,7 @@ use Rattle.pgp_ids.specs.declared.past.Past.{Past}
 use Rattle.pgp_ids.specs.declared.pg_id.PgId.{PgId}
 use Rattle.pgp_ids.specs.declared.view.View.{View}
 use Rattle.pgp_map.specs.Pools.{pool, temp, is_same_group}
-use Rattle.pgp_sets.specs.Sets.{raw_set}
+use Rattle.pgp_sets.specs.Sets.{raw_set, may_place_elsewhere}
 use Rattle.pgp_group.specs.Entries.{incs_of}
 use Rattle.pgp_group.specs.GroupLog.{GroupLog, group_in, infos, reports}
 use Rattle.pgp_group.specs.Peering.{past}
@@ -69,7 +69,7 @@ may_lie_on incs pg osd = is_placed incs pg osd || has_osd osd (temp incs pg)
 -- the group may lie elsewhere by the incremental than by the map that these make
 abbrev pub may_move : List Incremental → Incremental → PgId → Bool
 may_move incs inc pg =
-    moves_all inc
+    may_place_elsewhere incs inc pg
     || changes_pool inc pg.pool
     || changes_temp inc pg
     || list_any (may_lie_on incs pg) (turned_devices inc)

@@ -24,7 +24,7 @@ use Rattle.pgp_map.specs.MapOf.{IsMapOf}
 use Rattle.pgp_map.specs.Pools.{has_group, is_same_group, pool, temp}
 use Rattle.pgp_map.specs.declared.map.OsdMap.{OsdMap}
 use Rattle.pgp_sets.proofs.RawSetLemmas.{raw_set-stays}
-use Rattle.pgp_sets.specs.Sets.{members_from_up, membership, moves, raw_set_of, without_down}
+use Rattle.pgp_sets.specs.Sets.{may_place_elsewhere, members_from_up, membership, raw_set_of, without_down}
 use Rattle.pgp_group.proofs.GroupLemmas.{infos-kept, infos-other, infos-same, names-kept, past-same, reports-kept, reports-other, reports-same, IsGroupOf-other}
 use Rattle.pgp_group.proofs.GrowthLemmas.{has_group-grows}
 use Rattle.pgp_group.proofs.ReachingLemmas.{reached-now}
@@ -70,8 +70,8 @@ pub kept-there : (log : List Entry) (inc : Incremental) (before : MapBefore) (af
 kept-there log inc before after kept is step =
     subst (HasGroup after) is.group_is.keeps.pg_is (kept-follows log inc before after kept is step).there
 
--- the raw set stays, where the incremental doesn't move the group
-pub kept_raw-stays : (log : List Entry) (inc : Incremental) (before : MapBefore) (after : OsdMap) (kept : KeptGroup) → IsKeptOf log kept → IsStep log inc before after → moves inc kept.pg.pool ≡ false
+-- the raw set stays, where the tree puts the group nowhere else
+pub kept_raw-stays : (log : List Entry) (inc : Incremental) (before : MapBefore) (after : OsdMap) (kept : KeptGroup) → IsKeptOf log kept → IsStep log inc before after → may_place_elsewhere (incs_of log) inc kept.pg ≡ false
     → IsRawSet (incs_of (log ++ entry.Inc inc ∷ [])) kept.pg kept.raw
 kept_raw-stays log inc before after kept is step still =
     subst (λ (l : List Incremental). IsRawSet l kept.pg kept.raw) (sym (grown log inc))

@@ -18,7 +18,7 @@ use Rattle.pgp_ids.specs.declared.pool.PoolSpec.{PoolSpec}
 use Rattle.pgp_group.specs.Entries.{inc_of, incs_of}
 use Rattle.pgp_map.specs.MapFault.{then_with}
 use Rattle.pgp_map.specs.Pools.{pool, is_same_group}
-use Rattle.pgp_sets.proofs.RawSetLemmas.{raw_set-stays}
+use Rattle.pgp_sets.proofs.RawSetLemmas.{raw_set-stays, unmoved-unplaced}
 use Rattle.pgp_sets.specs.Sets.{membership, moves, pool_membership, raw_set, without_down, members_from_up}
 use Rattle.pgp_log.specs.Fits.{fits}
 use Rattle.pgp_log.specs.RawSets.{AreRawSets, IsRawSet, moves_any}
@@ -77,7 +77,7 @@ sets-stay log (entry.Inc inc) sets fit still are =
     let fine = faultless-inc log (entry.Inc inc) inc refl (fits-faultless log (entry.Inc inc) fit) in
     rw (incs-inc log (entry.Inc inc) inc refl) (record {
       each = λ pg. some-weaker (hash.get is_same_group sets.known pg) (IsRawSet (incs_of log) pg) (IsRawSet (then_with (incs_of log) inc) pg)
-          (λ places is. raw_set-stays (incs_of log) inc pg places fine (moves_none inc pg.pool still) is) (are.each pg);
+          (λ places is. raw_set-stays (incs_of log) inc pg places fine (unmoved-unplaced (incs_of log) inc pg (moves_none inc pg.pool still)) is) (are.each pg);
     })
 sets-stay log new sets fit still are = rw (incs-other log new refl) are
 

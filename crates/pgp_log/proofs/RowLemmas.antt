@@ -1,5 +1,5 @@
 -- Rows of groups, and the incrementals by which they are passed by.
-use Rattle.std.proofs.Common.{◌≡◌, ℕ, ◌+◌, ◌<◌, List, [], ◌∷◌, ◌++◌, Bool, true, false, cond, ◌||◌, Option, Some, None, length, map, set, nat_eq, refl, sym, ap, ◌∙◌, subst, inl, inr, arith, eq-eqb, length-append}
+use Rattle.std.proofs.Common.{◌≡◌, ℕ, ◌+◌, ◌<◌, List, [], ◌∷◌, ◌++◌, Bool, true, false, cond, ◌||◌, Option, Some, length, map, set, nat_eq, refl, sym, ap, ◌∙◌, subst, inl, inr, arith, eq-eqb, length-append}
 use Rattle.std.specs.List.{list_any}
 use Rattle.std.specs.Option.{option_map, option_map_or}
 use Rattle.std.specs.Prelude.{slice_get}
@@ -8,6 +8,7 @@ use Rattle.std.proofs.lemmas.Bool.{cases_Bool, cases_eq, cases_lt}
 use Rattle.std.proofs.lemmas.List.{length-set}
 use Rattle.std.proofs.lemmas.List.Folds.{list_any-append}
 use Rattle.std.proofs.lemmas.Option.{same_Some, slice_get_within}
+use Rattle.pgp_lists.proofs.Bools.{or3_parts}
 use Rattle.pgp_lists.proofs.Lists.{get-append, get-last, get-set_other, get-set_same}
 use Rattle.pgp_ids.specs.declared.entry.Entry.{Entry}
 use Rattle.pgp_ids.specs.declared.entry.Entry.TheVariants as entry
@@ -16,6 +17,7 @@ use Rattle.pgp_ids.specs.declared.incremental.Incremental.{Incremental}
 use Rattle.pgp_map.specs.Pools.{pool, temp}
 use Rattle.pgp_map.specs.declared.map.OsdMap.{OsdMap}
 use Rattle.pgp_sets.specs.Sets.{raw_set}
+use Rattle.pgp_group.proofs.UntoldLemmas.{unplaced}
 use Rattle.pgp_group.specs.Entries.{incs_of}
 use Rattle.pgp_group.specs.GroupLog.{group_in}
 use Rattle.pgp_group.specs.Touched.{changed_devices, changes_pool, changes_temp, has_osd, has_to_do_with, may_lie_on, moves_all, names, turned_devices}
@@ -134,7 +136,8 @@ passed-by log inc changes row kept says is holds placed apart = record {
   still =
       let none = none-passes (may_lie_on (incs_of log) kept.pg) (turned_devices inc)
       (λ osd lies there. apart osd (is.lies_on log holds osd lies) (turned-for row changes inc osd says there)) in
-      ap (λ b. b || list_any (may_lie_on (incs_of log) kept.pg) (turned_devices inc)) placed ∙ none;
+      let parts = or3_parts (moves_all inc) (changes_pool inc kept.pg.pool) (changes_temp inc kept.pg) placed in
+      rw (unplaced (incs_of log) inc kept.pg parts.0 parts.1, parts.1, parts.2) none;
   untouched = λ worked_out.
       let none = none-passes (has_to_do_with log kept.pg) (changed_devices inc)
       (λ osd knows there. apart osd (is.knows worked_out log holds osd knows)

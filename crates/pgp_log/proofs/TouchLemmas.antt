@@ -1,7 +1,7 @@
 -- A group that an incremental doesn't touch, and the devices with which a group has to do.
-use Rattle.std.proofs.Common.{◌≡◌, ℕ, List, [], ◌∷◌, ◌++◌, Bool, true, false, not, ◌||◌, Option, Some, None, IfSome, is_some, map, length, refl, sym, ap, ◌∙◌, arith}
+use Rattle.std.proofs.Common.{◌≡◌, ℕ, List, [], ◌∷◌, ◌++◌, Bool, true, false, not, ◌||◌, Option, Some, None, IfSome, map, length, refl, sym, ap, ◌∙◌, arith}
 use Rattle.std.specs.List.{list_any}
-use Rattle.std.specs.Prelude.{nat_eq, nat_lt, is_none, ◌==◌}
+use Rattle.std.specs.Prelude.{is_none, ◌==◌}
 use Rattle.std.proofs.lemmas.Bool.{not-false, not-true, or_parts, true_from_ne_false, true≢false}
 use Rattle.std.proofs.lemmas.Bool.Decides.{nat_tests}
 use Rattle.std.proofs.lemmas.List.Folds.{list_any-append}
@@ -11,19 +11,17 @@ use Rattle.pgp_ids.specs.declared.entry.Entry.TheVariants as entry
 use Rattle.pgp_ids.specs.declared.incremental.DeviceEpoch.{DeviceEpoch}
 use Rattle.pgp_ids.specs.declared.incremental.Incremental.{Incremental}
 use Rattle.pgp_ids.specs.declared.pg_id.PgId.{PgId}
-use Rattle.pgp_ids.specs.declared.pool.PoolSizes.{PoolSizes}
-use Rattle.pgp_ids.specs.declared.pool.PoolSpec.{PoolSpec}
 use Rattle.pgp_ids.specs.declared.view.View.{View}
 use Rattle.pgp_map.specs.MapFault.{map_fault}
 use Rattle.pgp_map.specs.Pools.{temp}
 use Rattle.pgp_map.specs.declared.map.OsdMap.{OsdMap}
 use Rattle.pgp_sets.proofs.RawSetLemmas.{raw_set-stays}
-use Rattle.pgp_sets.specs.Sets.{moves}
+use Rattle.pgp_sets.specs.Sets.{may_place_elsewhere}
 use Rattle.pgp_group.proofs.Lists.{any-mapped}
 use Rattle.pgp_group.proofs.ReachingLemmas.{left-unmoved, lies-as-before, reaches-next, untouched-unmoved}
-use Rattle.pgp_group.proofs.UntoldLemmas.{IsLeft, temp-same}
+use Rattle.pgp_group.proofs.UntoldLemmas.{IsLeft, temp-same, unplaced}
 use Rattle.pgp_group.specs.Entries.{incs_of}
-use Rattle.pgp_group.specs.Touched.{changed_devices, changes_pool, changes_temp, is_touched, may_move, moves_all, turned_devices}
+use Rattle.pgp_group.specs.Touched.{changed_devices, changes_pool, changes_temp, is_touched, may_lie_on, may_move, moves_all, turned_devices}
 use Rattle.pgp_log.specs.declared.before.MapBefore.{MapBefore}
 use Rattle.pgp_log.specs.KeptGroup.{IsKeptOf, IsStep, IsViewOf, is_marked}
 use Rattle.pgp_log.specs.Touch.{changes_no_pool, changes_nothing, changes_placements, moves_none, tells_nothing, turns_none}
@@ -32,22 +30,15 @@ use Rattle.pgp_log.proofs.KeptLemmas.{grown, kept_raw-stays, step-fine, untouche
 
 -- ---- an incremental by which the group lies as before
 
--- it isn't moved
-unmoved : (inc : Incremental) (pg : PgId) → IsLeft inc pg → moves inc pg.pool ≡ false
-unmoved inc pg left =
-    let large = or_parts (nat_lt 0 (length inc.weight)) (is_some inc.crush) left.still in
-    let own = or_parts (list_any (λ (made : PoolSpec). nat_eq made.id pg.pool) inc.pools) (list_any (λ (sizes : PoolSizes). nat_eq sizes.pool pg.pool) inc.sizes) left.pool in
-    rw (large.1, large.0, own.1) refl
-
 -- it sleeps on
 kept-lies : (log : List Entry) (inc : Incremental) (before : MapBefore) (after : OsdMap) (old : KeptGroup) (view : Option View) → IsStep log inc before after → IsKeptOf log old → may_move (incs_of log) inc old.pg ≡ false
     → IfSome view (IsViewOf (log ++ entry.Inc inc ∷ []) old.pg) → IsKeptOf (log ++ entry.Inc inc ∷ []) (record old { view = view })
 kept-lies log inc before after old view step is still told =
     let fine : map_fault (incs_of log) inc ≡ None = step-fine log inc before after step in
-    let left : IsLeft inc old.pg = left-unmoved (incs_of log) inc old.pg still in
+    let left : IsLeft (incs_of log) inc old.pg = left-unmoved (incs_of log) inc old.pg still in
     record {
       group_is = reaches-next log inc old.pg old.group fine (lies-as-before raw_set-stays (incs_of log) inc old.pg fine still) is.group_is;
-      raw_is = kept_raw-stays log inc before after old is step (unmoved inc old.pg left);
+      raw_is = kept_raw-stays log inc before after old is step left.still;
       temp_is = is.temp_is ∙ sym (ap (λ (l : List Incremental). temp l old.pg) (grown log inc) ∙ temp-same (incs_of log) inc old.pg left.temp);
       view_is = told;
     }
@@ -72,10 +63,12 @@ kept-stays log inc before after old step is untouched =
     kept-lies log inc before after old old.view step is (untouched-unmoved log inc old.pg untouched)
     (view-stays log (entry.Inc inc) old.pg old.view (untouched-inc log inc before after old.pg step untouched) is.view_is)
 
--- one that may move the group touches it
-pub moves-touches : (log : List Entry) (inc : Incremental) (pg : PgId) → may_move (incs_of log) inc pg ≡ true → is_touched log (entry.Inc inc) pg ≡ true
-moves-touches log inc pg moved =
-    true_from_ne_false (is_touched log (entry.Inc inc) pg) (λ untouched. true≢false (sym moved ∙ untouched-unmoved log inc pg untouched))
+-- one that turns a device on which the group may lie touches the group
+pub lies-touches : (log : List Entry) (inc : Incremental) (pg : PgId) → list_any (may_lie_on (incs_of log) pg) (turned_devices inc) ≡ true → is_touched log (entry.Inc inc) pg ≡ true
+lies-touches log inc pg lies = true_from_ne_false (is_touched log (entry.Inc inc) pg) (λ untouched.
+    let parts = or_parts (may_place_elsewhere (incs_of log) inc pg || changes_pool inc pg.pool || changes_temp inc pg) (list_any (may_lie_on (incs_of log) pg) (turned_devices inc))
+    (untouched-unmoved log inc pg untouched) in
+    true≢false (sym lies ∙ parts.1))
 
 -- ---- an incremental that changes the epoch alone
 
@@ -137,4 +130,5 @@ none-moved incs inc pg none =
     let all = and3_parts (not (moves_all inc)) (changes_no_pool inc) (turns_none inc) none in
     let pools = no-pools inc all.1 in
     let turned = none-turned inc all.2 in
-    rw (not-true (moves_all inc) all.0, pools.0, pools.1, pools.2, turned.0, turned.1, turned.2) refl
+    let own : changes_pool inc pg.pool ≡ false = rw (pools.0, pools.1) refl in
+    rw (unplaced incs inc pg (not-true (moves_all inc) all.0) own, own, pools.2, turned.0, turned.1, turned.2) refl

@@ -2,6 +2,7 @@
 use Rattle.std.specs.Prelude.{◌≡◌, ℕ, List, ◌++◌, map, Some}
 use Rattle.pgp_ids.specs.declared.incremental.Incremental.{Incremental}
 use Rattle.pgp_map.specs.Map.{epoch}
+use Rattle.pgp_sets.specs.Sets.{weighed}
 use Rattle.pgp_group.specs.GroupHistory.{primary_facts}
 use Rattle.pgp_log.specs.declared.before.DeviceFacts.{DeviceFacts}
 use Rattle.pgp_log.specs.declared.before.MapBefore.{MapBefore}
@@ -14,7 +15,9 @@ renamed_devices inc = inc.up ++ map (λ told. told.osd) inc.up_thru
 abbrev pub with_facts : List Incremental → ℕ → DeviceFacts
 with_facts incs osd = record { osd = osd; facts = primary_facts incs (Some osd) }
 
--- what is kept is the epoch of the map that these incrementals make, and what it says of those devices
+-- what is kept is the epoch of the map that these incrementals make, what it says of those devices, and the old weight of each
+-- device that the incremental weighs
 pub record IsMapBefore (incs : List Incremental) (inc : Incremental) (before : MapBefore) : Type 0 where
   pub epoch_is : before.epoch ≡ epoch incs
   pub devices_are : before.devices.items ≡ map (with_facts incs) (renamed_devices inc)
+  pub weights_are : before.weights.items ≡ map (weighed incs) inc.weight

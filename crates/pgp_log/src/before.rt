@@ -1,25 +1,30 @@
 //! What the map before an incremental said.
 
-ghost use Rattle.std.specs.Prelude.{◌≡◌, ◌++◌, List, map as each, IfOk, OnOk};
+ghost use Rattle.std.specs.Prelude.{◌≡◌, ◌++◌, List, true, false, map as each, IfOk, OnOk};
 ghost use Rattle.pgp_ids.specs.declared.incremental.Incremental.{Incremental as AnyIncremental};
+ghost use Rattle.pgp_map.specs.Held.{HasGroup};
 ghost use Rattle.pgp_map.specs.Map.{epoch as epoch_of};
 ghost use Rattle.pgp_map.specs.MapFault.{then_with};
 ghost use Rattle.pgp_map.specs.MapOf.{IsMapOf};
+ghost use Rattle.pgp_sets.specs.Sets.{may_place_elsewhere, moves, switches_any, weighed};
 ghost use Rattle.pgp_group.specs.GroupHistory.{primary_facts};
 ghost use Rattle.pgp_log.specs.MapBefore.{IsMapBefore, with_facts};
 
+use super::touch::has_sizes;
 use pgp_group::primary_facts;
-use pgp_ids::{DeviceEpoch, Epoch, Incremental, OsdId, PrimaryFacts};
+use pgp_ids::{DeviceEpoch, DeviceWeight, Epoch, Incremental, OsdId, PgId, PrimaryFacts};
 use pgp_map::OsdMap;
+use pgp_sets::switches_any;
 use std::alloc::{AllocError, Global};
 
 /// What the map before an incremental said, as far as a group still asks for it when the map has taken the incremental: its
-/// epoch, and what it said as primaries of the devices that the incremental boots, or of whose up_thru it tells. Of every other
-/// device both maps say the same.
+/// epoch, what it said as primaries of the devices that the incremental boots, or of whose up_thru it tells, and the weights of
+/// those that the incremental weighs. Of every other device both maps say the same.
 #[derive(Drop)]
 pub(crate) struct MapBefore {
     epoch: Epoch,
     devices: Vec<DeviceFacts>,
+    weights: Vec<DeviceWeight>,
 }
 
 /// What a map says of a device as a primary.
@@ -29,6 +34,9 @@ pub(crate) struct DeviceFacts {
     facts: PrimaryFacts,
 }
 
+/// How many weights of an incremental a group asks about, before it is placed anew for them.
+const MOST_TESTED: usize = 16;
+
 impl MapBefore {
     /// What the map says, which is to take the incremental next.
     pub(crate) fn of(alloc: Global, map: &OsdMap, inc: &Incremental) -> Result<Self, AllocError>
@@ -37,8 +45,11 @@ impl MapBefore {
         let mut devices = Vec::new(alloc);
         note_booted(&mut devices, map, inc.up.as_slice())?;
         note_told(&mut devices, map, inc.up_thru.as_slice())?;
-        let epoch = map.epoch();
-        Ok(MapBefore { epoch, devices })
+        Ok(MapBefore {
+            epoch: map.epoch(),
+            devices,
+            weights: weights_before(alloc, map, inc.weight.as_slice())?,
+        })
     }
 
     /// The epoch of that map.
@@ -46,6 +57,28 @@ impl MapBefore {
         ensures { (incs : List AnyIncremental) (inc : AnyIncremental) → IsMapBefore incs inc self.now → result ≡ epoch_of incs }
     {
         self.epoch
+    }
+
+    /// Whether the group is to be placed anew by the incremental, since the tree may put it elsewhere. `after` is the map with it.
+    pub(crate) fn places_anew(&self, after: &OsdMap, inc: &Incremental, pg: &PgId) -> bool
+        requires { HasGroup after.now pg.now }
+        ensures stays { result ≡ false → (incs : List AnyIncremental) → IsMapBefore incs inc.now self.now
+            → IsMapOf (then_with incs inc.now) after.now → may_place_elsewhere incs inc.now pg.now ≡ false }
+        ensures moves { result ≡ true → (incs : List AnyIncremental) → IsMapBefore incs inc.now self.now
+            → moves inc.now pg.now.pool ≡ true }
+    {
+        inc.crush.is_some()
+            || has_sizes(inc.sizes.as_slice(), pg.pool)
+            || !inc.weight.is_empty() && self.may_switch(after, pg)
+    }
+
+    /// Whether a weight of the map after may switch a device in or out for the group. Of more than [`MOST_TESTED`] weights it isn't
+    /// looked at: a placement is cheaper.
+    fn may_switch(&self, after: &OsdMap, pg: &PgId) -> bool
+        requires { HasGroup after.now pg.now }
+        ensures { result ≡ false → (incs : List AnyIncremental) → IsMapOf incs after.now → switches_any incs pg.now self.now.weights.items ≡ false }
+    {
+        self.weights.len() > MOST_TESTED || switches_any(after, pg, self.weights.as_slice())
     }
 
     /// What that map said of an acting primary. `after` is the map with the incremental.
@@ -63,6 +96,24 @@ impl MapBefore {
         }
         primary_facts(after, primary)
     }
+}
+
+/// Each device that is weighed, with its weight by the map.
+fn weights_before(
+    alloc: Global,
+    map: &OsdMap,
+    all: &[DeviceWeight],
+) -> Result<Vec<DeviceWeight>, AllocError>
+    ensures { IfOk result (λ weights. (incs : List AnyIncremental) → IsMapOf incs map.now → weights.items ≡ each (weighed incs) all.now) }
+{
+    let mut weights = Vec::new(alloc);
+    for given in all {
+        weights.push(DeviceWeight {
+            osd: given.osd,
+            weight: map.weight(given.osd),
+        })?;
+    }
+    Ok(weights)
 }
 
 /// Notes what the map says of each of these devices.

@@ -22,7 +22,7 @@ use super::before::MapBefore;
 use super::osd_filter::OsdFilter;
 use super::place::temp_of;
 use super::row::Row;
-use super::touch::{changes_placement, has_osd, moves};
+use super::touch::{changes_placement, changes_pool, changes_temp, has_osd};
 use pgp_group::Group;
 use pgp_ids::{DeviceEpoch, Entry, Epoch, Incremental, OsdId, Osds, PgId, View};
 use pgp_map::OsdMap;
@@ -108,7 +108,7 @@ impl KeptGroup {
         ensures wants { OnErr result (IsTouchedBy inc.now before.now after.now self.old) }
         ensures pg { self.new.pg ≡ self.old.pg }
     {
-        if !self.may_move(inc) {
+        if !self.may_move(before, after, inc) {
             self.mark(inc);
             return Ok(());
         }
@@ -146,34 +146,41 @@ impl KeptGroup {
         ensures ok { OnOk result (StepsOn inc.now before.now after.now self.old (record self.new { view = None })) }
         ensures pg { self.new.pg ≡ self.old.pg }
     {
-        self.place_again(after, inc);
+        self.place_again(before, after, inc);
         let members = filter(after, &self.pg, &self.raw);
         self.group.stay(before.epoch());
         let facts = before.facts(after, self.group.primary());
         self.group.absorb_members(after, members, facts)
     }
 
-    /// Finds where the incremental's map puts the group, where that may be elsewhere.
-    fn place_again(&mut self, after: &OsdMap, inc: &Incremental)
+    /// Takes the pg_temp list of the new map, and places the group anew where the tree may put it elsewhere.
+    fn place_again(&mut self, before: &MapBefore, after: &OsdMap, inc: &Incremental)
         requires { HasGroup after.now self.old.pg }
-        ensures raw { (log : List AnyEntry) (before : AnyBefore) → IsKeptOf log self.old → IsStep log inc.now before after.now
+        ensures raw { (log : List AnyEntry) → IsKeptOf log self.old → IsStep log inc.now before.now after.now
             → IsRawSet (incs_of (log ++ entry.Inc inc.now ∷ [])) self.old.pg self.new.raw }
-        ensures temp { (log : List AnyEntry) (before : AnyBefore) → IsStep log inc.now before after.now
+        ensures temp { (log : List AnyEntry) → IsStep log inc.now before.now after.now
             → self.new.temp ≡ temp (incs_of (log ++ entry.Inc inc.now ∷ [])) self.old.pg }
         ensures group { self.new.group ≡ self.old.group }
         ensures pg { self.new.pg ≡ self.old.pg }
     {
         self.temp = temp_of(after, self.pg);
-        if moves(inc, self.pg.pool) {
+        if before.places_anew(after, inc, &self.pg) {
             self.raw = raw(after, &self.pg);
         }
     }
 
-    /// Whether the group may lie elsewhere by the incremental.
-    fn may_move(&self, inc: &Incremental) -> bool
-        ensures { (log : List AnyEntry) → IsKeptOf log self.now → result ≡ may_move (incs_of log) inc.now self.now.pg }
+    /// Whether the group may lie elsewhere by the incremental, which leads from the map before to the one after.
+    fn may_move(&self, before: &MapBefore, after: &OsdMap, inc: &Incremental) -> bool
+        requires { HasGroup after.now self.now.pg }
+        ensures stays { result ≡ false → (log : List AnyEntry) → IsKeptOf log self.now → IsStep log inc.now before.now after.now
+            → may_move (incs_of log) inc.now self.now.pg ≡ false }
+        ensures touches { result ≡ true → (log : List AnyEntry) → IsKeptOf log self.now → IsStep log inc.now before.now after.now
+            → is_touched log (entry.Inc inc.now) self.now.pg ≡ true }
     {
-        changes_placement(inc, &self.pg) || self.lies_on_turned(inc)
+        before.places_anew(after, inc, &self.pg)
+            || changes_pool(inc, self.pg.pool)
+            || changes_temp(inc, &self.pg)
+            || self.lies_on_turned(inc)
     }
 
     /// Whether the group may lie on a device that the incremental boots, takes down or destroys.

@@ -30,7 +30,7 @@ pub fn moves(inc: &Incremental, id: PoolId) -> bool
 }
 
 /// The incremental makes the pool, or changes its sizes.
-fn changes_pool(inc: &Incremental, id: PoolId) -> bool
+pub(crate) fn changes_pool(inc: &Incremental, id: PoolId) -> bool
     ensures { result ≡ changes_pool inc.now id }
 {
     makes_pool(inc.pools.as_slice(), id) || has_sizes(inc.sizes.as_slice(), id)
@@ -44,7 +44,7 @@ fn makes_pool(pools: &[PoolSpec], id: PoolId) -> bool
 }
 
 /// One of the sizes is of the pool.
-fn has_sizes(sizes: &[PoolSizes], id: PoolId) -> bool
+pub(crate) fn has_sizes(sizes: &[PoolSizes], id: PoolId) -> bool
     ensures { result ≡ list_any (λ given. nat_eq given.pool id) sizes.now }
 {
     sizes.iter().any(|given| given.pool == id)

@@ -1,20 +1,23 @@
 -- Where a placement group lies, by the map that a list of incrementals makes (Ceph's developer documentation on peering:
 -- up set, acting set, primary).
-use Rattle.std.specs.Prelude.{ℕ, List, Bool, true, false, ◌||◌, Option, None, is_some, option_map, filter, map, length, nat_eq, nat_lt, if◌then◌else◌}
+use Rattle.std.specs.Prelude.{ℕ, List, Bool, true, false, not, ◌||◌, Option, None, is_some, option_map, filter, map, length, nat_eq, nat_lt, if◌then◌else◌}
 use Rattle.std.specs.List.{list_any, list_all}
 use Rattle.std.specs.Option.{option_map_or}
 use Rattle.pgp_hash.specs.Hash.{hash2}
 use Rattle.pgp_hash.specs.StableMod.{stable_mod}
 use Rattle.pgp_crush.specs.declared.rule.Rule.{Rule}
+use Rattle.pgp_crush.specs.Out.{is_in_by}
 use Rattle.pgp_crush.specs.Placement.{placement}
 use Rattle.pgp_ids.specs.Osds.{first_osd}
 use Rattle.pgp_ids.specs.Pool.{is_by_place}
+use Rattle.pgp_ids.specs.declared.incremental.DeviceWeight.{DeviceWeight}
 use Rattle.pgp_ids.specs.declared.incremental.Incremental.{Incremental}
 use Rattle.pgp_ids.specs.declared.membership.Membership.{Membership}
 use Rattle.pgp_ids.specs.declared.pg_id.PgId.{PgId}
 use Rattle.pgp_ids.specs.declared.pool.PoolSpec.{PoolSpec}
-use Rattle.pgp_map.specs.Devices.{is_up, weights}
+use Rattle.pgp_map.specs.Devices.{is_up, weight, weights}
 use Rattle.pgp_map.specs.Map.{tree, up_to}
+use Rattle.pgp_map.specs.MapFault.{then_with}
 use Rattle.pgp_map.specs.Pools.{pool, temp}
 
 -- how a pool places its groups: in an erasure or grouped pool each position keeps its place
@@ -40,6 +43,28 @@ moves inc id = is_some inc.crush || nat_lt 0 (length inc.weight) || list_any (λ
 -- the place, emptied if its device isn't up
 abbrev pub if_up : List Incremental → Option ℕ → Option ℕ
 if_up incs place = if option_map_or (is_up incs) place false then place else None
+
+-- for the placement of this input the device is in by one of these weights and out by the other
+abbrev pub switches : ℕ → ℕ → ℕ → ℕ → Bool
+switches x osd before after = if is_in_by before x osd then not (is_in_by after x osd) else is_in_by after x osd
+
+-- the device with its weight by these incrementals
+abbrev pub weighed : List Incremental → DeviceWeight → DeviceWeight
+weighed incs given = record { osd = given.osd; weight = weight incs given.osd }
+
+-- one of these devices, which had these weights, is switched in or out for the group by the weight that it has now
+abbrev pub switches_any : List Incremental → PgId → List DeviceWeight → Bool
+switches_any incs pg before =
+    option_map_or (λ made. list_any (λ old. switches (placement_input made pg) old.osd old.weight (weight incs old.osd)) before)
+    (pool incs pg.pool) false
+
+-- the tree may put the group elsewhere by the incremental: it gives a tree, sizes of the group's pool, or a weight that switches
+-- a device in or out for the group
+abbrev pub may_place_elsewhere : List Incremental → Incremental → PgId → Bool
+may_place_elsewhere incs inc pg =
+    is_some inc.crush
+    || list_any (λ sizes. nat_eq sizes.pool pg.pool) inc.sizes
+    || switches_any (then_with incs inc) pg (map (weighed incs) inc.weight)
 
 -- the list without devices that aren't up: their places are empty in an erasure or grouped pool, and left out in a replicated
 -- one

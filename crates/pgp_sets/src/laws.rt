@@ -14,7 +14,7 @@ ghost use Rattle.pgp_map.specs.MapFault.{map_fault, then_with};
 ghost use Rattle.pgp_map.specs.Pools.{pool};
 ghost use Rattle.pgp_map.specs.MapOf.{IsMapOf};
 ghost use Rattle.pgp_sets.specs.Status.{status, held_status};
-ghost use Rattle.pgp_sets.specs.Sets.{membership, membership_at, raw_set_of, moves, are_up};
+ghost use Rattle.pgp_sets.specs.Sets.{membership, membership_at, raw_set_of, moves, may_place_elsewhere, are_up};
 ghost use Rattle.pgp_sets.specs.Examples.{of_device, of_weight, copies_group, shards_group, stands_on, lies_on, copies_placed, copies_on_three, shards_on_three, parts_on_three, take_down, resize};
 
 /// Each device of up and of acting is up.
@@ -33,10 +33,21 @@ pub fn up_sets_have_their_size()
         → is_by_place made.kind ≡ true → membership incs pg ≡ Some members → length members.up ≡ members.size }
 {}
 
-/// Where the tree puts a group stays, unless an incremental gives a tree, weights, or sizes of the group's pool.
+/// Where the tree puts a group stays, unless an incremental gives a tree, sizes of the group's pool, or a weight that switches a
+/// device in or out for the group. Without a tree, weights, and sizes of the pool it gives none of these.
 pub fn raw_sets_stay()
-    ensures { (incs : List Incremental) (inc : Incremental) (pg : PgId) (places : List (Option ℕ)) → map_fault incs inc ≡ None
-        → moves inc pg.pool ≡ false → raw_set_of incs pg ≡ Some places → raw_set_of (then_with incs inc) pg ≡ Some places }
+    ensures stay { (incs : List Incremental) (inc : Incremental) (pg : PgId) (places : List (Option ℕ)) → map_fault incs inc ≡ None
+        → may_place_elsewhere incs inc pg ≡ false → raw_set_of incs pg ≡ Some places → raw_set_of (then_with incs inc) pg ≡ Some places }
+    ensures unmoved { (incs : List Incremental) (inc : Incremental) (pg : PgId)
+        → moves inc pg.pool ≡ false → may_place_elsewhere incs inc pg ≡ false }
+{}
+
+/// A weight that leaves the device in puts a group nowhere else, and one that takes it out may.
+pub fn weights_that_switch()
+    ensures heavier { let given = record (empty_step 2) { weight = of_weight 0 0x20000 ∷ [] } in
+        may_place_elsewhere (copies_placed ∷ []) given copies_group ≡ false }
+    ensures out { let given = record (empty_step 2) { weight = of_weight 0 0 ∷ [] } in
+        may_place_elsewhere (copies_placed ∷ []) given copies_group ≡ true }
 {}
 
 /// The status that a map gives by [`StatusOf`](crate::StatusOf) is the one that the incrementals give that made it.

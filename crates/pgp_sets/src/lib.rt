@@ -11,7 +11,9 @@ mod membership;
 mod places;
 mod status;
 mod status_of;
+mod switches;
 
 pub use membership::{filter, raw, up_acting};
 pub use status::Status;
 pub use status_of::StatusOf;
+pub use switches::switches_any;

@@ -65,7 +65,7 @@ pub fn filter(map: &OsdMap, pg: &PgId, raw: &Osds) -> Membership
 }
 
 /// The group's pool.
-fn pool_of(map: &OsdMap, pg: &PgId) -> PoolSpec
+pub(crate) fn pool_of(map: &OsdMap, pg: &PgId) -> PoolSpec
     requires { HasGroup map.now pg.now }
     ensures told { (incs : List Incremental) → IsMapOf incs map.now → pool incs pg.now.pool ≡ Some result }
     ensures size { result.size ≤ MAX_OSDS }
@@ -88,7 +88,7 @@ fn rule_of(pool: &PoolSpec) -> Rule
 }
 
 /// What the group's placement hashes: its number among those of the pool, and the pool.
-fn placement_input(pool: &PoolSpec, pg: &PgId) -> u32
+pub(crate) fn placement_input(pool: &PoolSpec, pg: &PgId) -> u32
     ensures { result ≡ placement_input pool.now pg.now }
 {
     let groups = u32::from(pool.pg_num);

@@ -39,6 +39,6 @@ returns-clause-ok c =
     (λ given log kept step.
     let stands : IsGroupOf log moved.pg stood = group-still log old moved.pg stood c.epoch.result kept placed.pg is (c.epoch.ensures (incs_of log) inc step.before_is) in
     kept-moved log inc c.args.before.now c.args.after.now old moved stood c.absorb_members.new.self c.filter-members.result c.facts-facts.result step kept placed.pg
-    (placed.raw log c.args.before.now kept step) (placed.temp log c.args.before.now step) c.filter-members.ensures
+    (placed.raw log kept step) (placed.temp log step) c.filter-members.ensures
     stands (ap (option_map (primary_facts (incs_of log))) (c.primary.ensures log moved.pg stands) ∙ ap Some (sym (c.facts-facts.ensures (incs_of log) inc step.before_is step.after_is))) given)
     c.absorb_members.ensures.ok
