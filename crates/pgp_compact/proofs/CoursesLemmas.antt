@@ -1,5 +1,5 @@
 -- What is kept of the groups that have reports, as entries are noted and maps follow.
-use Rattle.std.proofs.Common.{◌≡◌, ℕ, ◌<◌, List, [], ◌∷◌, ◌++◌, Option, Some, None, IfSome, is_some, nat_lt, Bor, Result, Ok, Err, OnOk, true, false, cond, get_or, length, map, set, fold, max, length-append, refl, ap, sym, ◌∙◌, subst, inl, inr, arith}
+use Rattle.std.proofs.Common.{◌≡◌, ℕ, ◌<◌, List, [], ◌∷◌, ◌++◌, Option, Some, None, IfSome, is_some, nat_lt, Bor, true, false, cond, get_or, length, map, set, fold, max, length-append, refl, ap, sym, ◌∙◌, subst, inl, inr, arith}
 use Rattle.std.specs.List.{slice_get}
 use Rattle.std.specs.HashMap as hash
 use Rattle.std.specs.Option.{IfNone}
@@ -186,10 +186,6 @@ never-lost courses pg place all None same found some = λ incs entries are.
     let past : nat_lt place (length all) ≡ false = sym some in
     absurd (grind (arith, nat_tests))
 never-lost courses pg place all (Some course) same found some = tt
-
-pub on-both : {X E : Type 0} (r : Result X E) (P Q R : Type 0) → (P → Q → R) → OnOk r P → OnOk r Q → OnOk r R
-on-both (Ok x) P Q R goes p q = goes p q
-on-both (Err e) P Q R goes p q = tt
 
 -- ---- the next map
 

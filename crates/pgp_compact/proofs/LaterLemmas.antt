@@ -1,5 +1,5 @@
 -- What is kept of later reports says which earlier ones they make needless.
-use Rattle.std.proofs.Common.{◌≡◌, ℕ, List, [], ◌∷◌, ◌++◌, Option, Some, None, Bool, true, false, ◌&&◌, ◌||◌, nat_eq, nat_le, ◌+◌, ◌<◌, length, take, get_or, Result, Ok, Err, OnOk, map, refl, ap, sym, ◌∙◌, inl, inr, arith}
+use Rattle.std.proofs.Common.{◌≡◌, ℕ, List, [], ◌∷◌, ◌++◌, Option, Some, None, Bool, true, false, ◌&&◌, ◌||◌, nat_eq, nat_le, ◌+◌, ◌<◌, length, take, get_or, map, refl, ap, sym, ◌∙◌, inl, inr, arith}
 use Rattle.std.specs.List.{filter, flat_map, list_any}
 use Rattle.std.specs.Option.{option_and_then, option_map_or}
 use Rattle.std.proofs.lemmas.Bool.{cases_Bool}
@@ -180,7 +180,3 @@ noted-next {X = X} {K = K} same note xs i x rest table within item noted = λ ke
     noted key number
     ∙ at-end same (map note (take i xs)) rest (note x) key number
     ∙ ap (λ (l : List (K × ℕ)). reaches same (l ++ rest) key number) (sym (map_more note xs i x within ∙ ap (λ (y : X). map note (take i xs) ++ note y ∷ []) (sym item)))
-
-pub on-ok : {X E : Type 0} (r : Result X E) (P Q : Type 0) → (P → Q) → OnOk r P → OnOk r Q
-on-ok (Ok x) P Q goes holds = goes holds
-on-ok (Err e) P Q goes holds = tt

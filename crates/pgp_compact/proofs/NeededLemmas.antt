@@ -4,6 +4,7 @@ use Rattle.std.specs.List.{Contains, filter, filter_map, last_or, list_any}
 use Rattle.std.proofs.lemmas.Bool.{cases_Bool, true≢false}
 use Rattle.std.proofs.lemmas.List.{drop_all, drop_more}
 use Rattle.pgp_lists.proofs.Members.{Contains-here, Contains-later, Contains-cases, Contains-first}
+use Rattle.pgp_group.proofs.Lists.{last_or-any}
 use Rattle.pgp_compact.specs.Needed.{are_needed, chosen, needed_of}
 
 pub needed-within : {X : Type 0} (test : List X → X → Bool) (xs : List X) (y : X) → Contains (needed_of test xs) y → Contains xs y
@@ -25,13 +26,6 @@ needed-length test (x ∷ xs) = elim (cases_Bool (test xs x)) [
 
 -- ---- those that pass another test
 
-any-last : {X : Type 0} (test : X → Bool) (before other : Option X) (xs : List X) → list_any test xs ≡ true → last_or before (filter test xs) ≡ last_or other (filter test xs)
-any-last test before other [] any = cc
-any-last test before other (x ∷ xs) any = elim (cases_Bool (test x)) [
-  | inl passes ↦ rw passes refl
-  | inr fails ↦ rw fails (any-last test before other xs (rw fails at any))
-]
-
 -- of elements of which all this holds, the last that passes is needed
 abbrev pub NeedsLast : {X : Type 0} → (X → Type 0) → (List X → X → Bool) → (X → Bool) → Type 0
 NeedsLast {X} Holds test passes =
@@ -48,7 +42,7 @@ needed-last Holds test passes needs before (x ∷ xs) each =
       | inl does ↦ elim (cases_Bool (test xs x)) [
         | inl needed ↦ rw (needed, does) (rest (Some x))
         | inr other ↦ elim (cases_Bool (list_any passes xs)) [
-          | inl again ↦ rw (other, does) (rest before ∙ any-last passes before (Some x) xs again)
+          | inl again ↦ rw (other, does) (rest before ∙ last_or-any passes before (Some x) xs again)
           | inr once ↦ absurd (true≢false (sym (needs xs x (each x (Contains-here x xs)) (λ y there. each y (Contains-later x xs y there)) does once) ∙ other))
         ]
       ]

@@ -1,6 +1,6 @@
 -- What the whole log says of a group, and which entries are left of a log that is walked from its end.
-use Rattle.std.proofs.Common.{◌≡◌, ℕ, suc, ◌+◌, ◌-◌, ◌<◌, ◌≤◌, List, [], ◌∷◌, ◌++◌, Option, Some, None, Bool, true, Result, Ok, Err, IfOk, length, drop, get_or, map, reverse, length-append, refl, ap, sym, ◌∙◌, subst, inl, inr, arith}
-use Rattle.std.specs.List.{Contains, filter_map}
+use Rattle.std.proofs.Common.{◌≡◌, ℕ, suc, ◌+◌, ◌-◌, ◌<◌, ◌≤◌, List, [], ◌∷◌, ◌++◌, Option, Some, None, Bool, true, Result, Ok, Err, IfOk, length, drop, get_or, map, reverse, length-append, refl, ap, sym, ◌∙◌, subst, arith}
+use Rattle.std.specs.List.{Contains}
 use Rattle.std.specs.Option.{option_and_then, option_map, option_map_or}
 use Rattle.std.proofs.Math.Seq.{drop-cons, drop-length}
 use Rattle.std.proofs.lemmas.List.{get_or_push, reverse-append}
@@ -15,7 +15,7 @@ use Rattle.pgp_ids.specs.declared.report.Info.{Info}
 use Rattle.pgp_ids.specs.declared.report.Report.{Report}
 use Rattle.pgp_interval.specs.History.{History}
 use Rattle.pgp_interval.specs.Runs.{current_first, past_intervals}
-use Rattle.pgp_lists.proofs.Members.{Contains-cases, Contains-here, Contains-later, Contains-nil, contains-filter}
+use Rattle.pgp_lists.proofs.Members.{Contains-nil, contains-filter}
 use Rattle.pgp_map.specs.Map.{epoch}
 use Rattle.pgp_map.specs.MapFault.{map_fault, then_with}
 use Rattle.pgp_map.specs.MapOf.{IsMapOf, Says}
@@ -28,6 +28,7 @@ use Rattle.pgp_group.specs.GroupLog.{GroupLog, group_in, group_with}
 use Rattle.pgp_group.specs.Present.{IsPresent}
 use Rattle.pgp_group.proofs.GrowthLemmas.{history-last}
 use Rattle.pgp_group.proofs.LaterLemmas.{log-in}
+use Rattle.pgp_group.proofs.PeerLemmas.{contains-filter_map}
 use Rattle.pgp_log.specs.Log.{is_legal}
 use Rattle.pgp_log.proofs.GroupsLemmas.{same-self}
 use Rattle.pgp_log.proofs.LogLemmas.{front-legal, legal-checked, legal-counts, legal-last}
@@ -103,20 +104,9 @@ present log pg g map clean found there is stands' = record {
 
 -- ---- an entry of a legal log
 
-in-part : {X Y : Type 0} (f : X → Option Y) (xs : List X) (x : X) (y : Y) → Contains xs x → f x ≡ Some y → Contains (filter_map f xs) y
-in-part f [] x y there is = absurd (Contains-nil x there)
-in-part {X = X} {Y = Y} f (first ∷ xs) x y there is = elim (Contains-cases first xs x there) [
-  | inl here ↦ let this : f first ≡ Some y = ap f here ∙ is in rw this (Contains-here y (filter_map f xs))
-  | inr later ↦ further (f first) refl (in-part f xs x y later is)
-]
-  where
-    further : (o : Option Y) → f first ≡ o → Contains (filter_map f xs) y → Contains (filter_map f (first ∷ xs)) y
-    further None this rest = rw this rest
-    further (Some z) this rest = rw this (Contains-later z (filter_map f xs) y rest)
-
 info-there : (log : List Entry) (info : Info) → Contains log (entry.Info info) → Contains (infos_in info.pg log) info
 info-there log info there =
-    contains-filter (λ (i : Info). is_same_group i.pg info.pg) (infos_of log) info (in-part info_of log (entry.Info info) info there refl) (same-self info.pg)
+    contains-filter (λ (i : Info). is_same_group i.pg info.pg) (infos_of log) info (contains-filter_map info_of log (entry.Info info) info there refl) (same-self info.pg)
 
 pub reports-info : (log : List Entry) (info : Info) → Contains log (entry.Info info) → HasReport log info.pg
 reports-info log info there silent = Contains-nil info (subst (λ (l : List Info). Contains l info) silent.infos (info-there log info there))
@@ -124,7 +114,7 @@ reports-info log info there silent = Contains-nil info (subst (λ (l : List Info
 pub reports-entries : (log : List Entry) (report : Report) → Contains log (entry.Entries report) → HasReport log report.pg
 reports-entries log report there silent =
     Contains-nil report (subst (λ (l : List Report). Contains l report) silent.reports
-    (contains-filter (λ (r : Report). is_same_group r.pg report.pg) (reports_of log) report (in-part report_of log (entry.Entries report) report there refl) (same-self report.pg)))
+    (contains-filter (λ (r : Report). is_same_group r.pg report.pg) (reports_of log) report (contains-filter_map report_of log (entry.Entries report) report there refl) (same-self report.pg)))
 
 -- the log has reached the epoch in which an info of it says that the group was clean
 pub reached-clean : (log : List Entry) (info : Info) → is_legal log ≡ true → Contains log (entry.Info info) → info.last_epoch_clean ≤ epoch (incs_of log)

@@ -26,6 +26,7 @@ use Rattle.pgp_group.specs.Peering.{prior}
 use Rattle.pgp_group.specs.Present.{IsPresent}
 use Rattle.pgp_group.specs.View.{scratch, view_of}
 use Rattle.pgp_group.proofs.Lists.{filter_map-contains, nothing_new, one_new}
+use Rattle.pgp_group.proofs.PeerLemmas.{contains-filter_map}
 use Rattle.pgp_reasons.specs.Smallest.{holds}
 use Rattle.pgp_explain.specs.Hearing.{AreHeard, IsHeard, hearing_of, is_same_hearing}
 use Rattle.pgp_explain.specs.Summary.{counted, has_verdict, unheard}
@@ -137,20 +138,9 @@ module _ (log : List Entry) (pgs : List PgId) (sums : GroupSums) (are : AreSums 
 
 -- ---- one of them
 
-past-option : {Y : Type 0} (o : Option Y) (ys : List Y) (y : Y) → Contains ys y → Contains (cons_option o ys) y
-past-option None ys y there = there
-past-option (Some z) ys y there = Contains-later z ys y there
-
-in-groups : (log : List Entry) (pgs : List PgId) (pg : PgId) (g : GroupLog) → Contains pgs pg → group_in log pg ≡ Some g → Contains (filter_map (group_in log) pgs) g
-in-groups log [] pg g there is = absurd (Contains-nil pg there)
-in-groups log (first ∷ pgs) pg g there is = elim (Contains-cases first pgs pg there) [
-  | inl here ↦ subst (λ (o : Option GroupLog). Contains (cons_option o (filter_map (group_in log) pgs)) g) (sym (ap (group_in log) here ∙ is)) (Contains-first g (filter_map (group_in log) pgs) g refl)
-  | inr later ↦ past-option (group_in log first) (filter_map (group_in log) pgs) g (in-groups log pgs pg g later is)
-]
-
 pub heard-at : {S T : Type 0} (log : List Entry) (pgs : List PgId) (waiting' : HashMap PgId ℕ S) (set : HashSet Hearing T) → AreHeard (filter_map (group_in log) pgs) waiting' set
     → (pg : PgId) → Contains pgs pg → (g : GroupLog) → group_in log pg ≡ Some g → IsHeard g waiting' set
-heard-at log pgs waiting' set all pg there g is = all g (in-groups log pgs pg g there is)
+heard-at log pgs waiting' set all pg there g is = all g (contains-filter_map (group_in log) pgs pg g there is)
 
 -- a group that isn't among those that wait doesn't wait
 pub not-waiting : {S T : Type 0} (log : List Entry) (waiting' : HashMap PgId ℕ S) (set : HashSet Hearing T) (pg : PgId) (g : GroupLog) → group_in log pg ≡ Some g → IsHeard g waiting' set

@@ -12,10 +12,8 @@ use Rattle.pgp_map.specs.Pools.{is_same_group}
 use Rattle.pgp_group.specs.Entries.{infos_of}
 use Rattle.pgp_group.specs.GroupLog.{GroupLog}
 use Rattle.pgp_group.specs.Heard.{has_member, heard, counted_infos, is_counted, last_of_each_member}
+use Rattle.pgp_group.proofs.PeerLemmas.{same_member}
 use Rattle.pgp_explain.specs.Hearing.{hears, hears_by}
-
-pub same-member : (a b : Member) → is_same_member a b ≡ true → a ≡ b
-same-member a b is = let parts = and_parts _ _ is in λ i. record { osd = eqb-true a.osd b.osd parts.0 i; slot = eqb-true a.slot b.slot parts.1 i }
 
 pub same-group : (a b : PgId) → is_same_group a b ≡ true → a ≡ b
 same-group a b is = let parts = and_parts _ _ is in λ i. record { pool = eqb-true a.pool b.pool parts.0 i; pg = eqb-true a.pg b.pg parts.1 i }
@@ -33,7 +31,7 @@ last-has member (info ∷ later) =
     let rest : has_member member (last_of_each_member later) ≡ has_member member later = last-has member later in
     elim (cases_Bool (has_member info.member later)) [
       | inl more ↦ rw more (rest ∙ elim (cases_Bool (is_same_member info.member member)) [
-        | inl same ↦ rw same (ap (λ m. has_member m later) (sym (same-member info.member member same)) ∙ more)
+        | inl same ↦ rw same (ap (λ m. has_member m later) (sym (same_member info.member member same)) ∙ more)
         | inr apart ↦ rw apart refl
       ])
       | inr once ↦ rw once (ap (λ b. is_same_member info.member member || b) rest)

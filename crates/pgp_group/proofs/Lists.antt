@@ -1,5 +1,5 @@
 -- Lists that grow, ranges, and last elements that pass a test.
-use Rattle.std.proofs.Common.{◌≡◌, ℕ, zero, suc, ◌+◌, ◌-◌, ◌<◌, List, [], ◌∷◌, ◌++◌, Option, Some, None, Bool, true, false, ◌&&◌, ◌||◌, length, map, refl, ap, ap₂, sym, ◌∙◌, inl, inr, arith, append-nil, append_assoc, drop, get_or, take, is_some, ◌⊎◌}
+use Rattle.std.proofs.Common.{◌≡◌, ℕ, zero, suc, ◌+◌, ◌<◌, List, [], ◌∷◌, ◌++◌, Option, Some, None, Bool, true, false, ◌&&◌, ◌||◌, length, map, refl, ap, ap₂, sym, ◌∙◌, inl, inr, arith, append-nil, append_assoc, drop, get_or, take, is_some, ◌⊎◌}
 use Rattle.std.specs.List.{All, Contains, cons_option, filter, filter_map, flat_map, last_or, list_any, range_with_len, slice_index_or, find}
 use Rattle.std.proofs.lemmas.Bool.{or_parts}
 use Rattle.std.proofs.lemmas.List.{take_more}
@@ -123,7 +123,7 @@ index-contains (place ∷ places) (suc k) x is = Contains-later place places (So
 
 -- ---- parts of a list, up to one more element
 
-take-next : {X : Type 0} (xs : List X) (i : ℕ) (x : X) → i < length xs → x ≡ get_or xs i x → take (i + 1) xs ≡ take i xs ++ x ∷ []
+pub take-next : {X : Type 0} (xs : List X) (i : ℕ) (x : X) → i < length xs → x ≡ get_or xs i x → take (i + 1) xs ≡ take i xs ++ x ∷ []
 take-next xs i x within item = grind (arith, take_more xs i x within)
 
 pub append-next : {X : Type 0} (before xs : List X) (i : ℕ) (x : X) → i < length xs → x ≡ get_or xs i x → before ++ take (i + 1) xs ≡ (before ++ take i xs) ++ x ∷ []

@@ -1,5 +1,5 @@
 -- The states of peers: each other heard member of up and acting has one, in ascending order.
-use Rattle.std.proofs.Common.{◌≡◌, ◌≢◌, ℕ, ◌+◌, ◌<◌, List, [], ◌∷◌, ◌++◌, Option, Some, None, Bool, true, false, not, get_or, length, map, take, refl, ap, sym, ◌∙◌, subst, inl, inr, arith, append-nil, if◌then◌else◌}
+use Rattle.std.proofs.Common.{◌≡◌, ℕ, ◌+◌, ◌<◌, List, [], ◌∷◌, ◌++◌, Option, Some, None, Bool, true, not, get_or, length, map, take, refl, ap, sym, ◌∙◌, subst, inl, inr, arith, append-nil, if◌then◌else◌}
 use Rattle.std.specs.List.{Contains, cons_option, filter, filter_map, list_any}
 use Rattle.std.specs.Option.{option_map_or}
 use Rattle.std.specs.Ordering.{on}
@@ -63,7 +63,7 @@ some_of infos member info there same None none =
     absurd (true≢false (sym (same_member_as info.member member same) ∙ find-none (λ (i : Info). is_same_member i.member member) infos info none there))
 some_of infos member info there same (Some other) found = (other, found)
 
-info_of-is : (infos : List Info) → HasDistinctMembers infos → (info : Info) → Contains infos info → info_of infos info.member ≡ Some info
+pub info_of-is : (infos : List Info) → HasDistinctMembers infos → (info : Info) → Contains infos info → info_of infos info.member ≡ Some info
 info_of-is infos distinct info there =
     let some = some_of infos info.member info there refl (info_of infos info.member) refl in
     let found = found_of infos info.member some.0 some.1 in
@@ -75,7 +75,7 @@ contains-cons_option : {Y : Type 0} (o : Option Y) (ys : List Y) (y : Y) → Con
 contains-cons_option None ys y there = there
 contains-cons_option (Some z) ys y there = Contains-later z ys y there
 
-contains-filter_map : {X Y : Type 0} (f : X → Option Y) (xs : List X) (x : X) (y : Y) → Contains xs x → f x ≡ Some y → Contains (filter_map f xs) y
+pub contains-filter_map : {X Y : Type 0} (f : X → Option Y) (xs : List X) (x : X) (y : Y) → Contains xs x → f x ≡ Some y → Contains (filter_map f xs) y
 contains-filter_map f [] x y there is = absurd (Contains-nil x there)
 contains-filter_map {Y = Y} f (first ∷ xs) x y there is = elim (Contains-cases first xs x there) [
   | inl here ↦ subst (λ (o : Option Y). Contains (cons_option o (filter_map f xs)) y) (sym (ap f here ∙ is)) (Contains-first y (filter_map f xs) y refl)

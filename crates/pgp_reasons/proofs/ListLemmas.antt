@@ -1,12 +1,9 @@
 -- Lists that are read up to one more element.
-use Rattle.std.proofs.Common.{◌≡◌, ℕ, ◌+◌, ◌<◌, List, [], ◌∷◌, ◌++◌, Option, Some, None, Bool, true, false, get_or, length, map, take, ap, sym, ◌∙◌}
+use Rattle.std.proofs.Common.{◌≡◌, ℕ, ◌+◌, ◌<◌, List, [], ◌∷◌, ◌++◌, Option, Some, None, Bool, true, false, get_or, length, map, take, ap, ◌∙◌}
 use Rattle.std.specs.List.{filter, filter_map, flat_map}
-use Rattle.std.proofs.lemmas.List.{map_push, take_more}
+use Rattle.std.proofs.lemmas.List.{map_push}
 use Rattle.pgp_lists.proofs.Lists.{flat_map-push}
-use Rattle.pgp_group.proofs.Lists.{kept_new, left_new, nothing_new, one_new}
-
-pub take-next : {X : Type 0} (xs : List X) (i : ℕ) (x : X) → i < length xs → x ≡ get_or xs i x → take (i + 1) xs ≡ take i xs ++ x ∷ []
-take-next {X = X} xs i x within item = take_more xs i x within ∙ ap (λ (y : X). take i xs ++ y ∷ []) (sym item)
+use Rattle.pgp_group.proofs.Lists.{kept_new, left_new, nothing_new, one_new, take-next}
 
 pub map-next : {X Y : Type 0} (f : X → Y) (xs : List X) (i : ℕ) (x : X) → i < length xs → x ≡ get_or xs i x → map f (take (i + 1) xs) ≡ map f (take i xs) ++ f x ∷ []
 map-next f xs i x within item = ap (map f) (take-next xs i x within item) ∙ map_push f (take i xs) x

@@ -1,12 +1,9 @@
 -- What is reckoned from a view and the log is what the group's log says.
-use Rattle.std.proofs.Common.{◌≡◌, ◌≢◌, ℕ, List, [], ◌∷◌, Option, Some, None, Bool, true, false, not, length, ◌==◌, if◌then◌else◌, option_map, option_and_then, refl, ap, sym, ◌∙◌, subst, inl, inr, arith}
-use Rattle.std.specs.List.{Contains, All}
+use Rattle.std.proofs.Common.{◌≡◌, ℕ, List, [], Option, Some, None, Bool, true, false, not, length, ◌==◌, if◌then◌else◌, option_map, option_and_then, refl, ap, sym, ◌∙◌, subst, inl, inr}
+use Rattle.std.specs.List.{Contains}
 use Rattle.std.specs.Option.{option_map_or}
-use Rattle.std.proofs.lemmas.Bool.{cases_Bool, false_from_ne_true}
-use Rattle.std.proofs.lemmas.Bool.Decides.{nat_tests}
-use Rattle.std.proofs.lemmas.List.Elements.{All-contains}
+use Rattle.std.proofs.lemmas.Bool.{cases_Bool}
 use Rattle.std.proofs.lemmas.Option.{same_Some}
-use Rattle.pgp_ids.specs.Member.{is_same_member}
 use Rattle.pgp_ids.specs.declared.entry.Entry.{Entry}
 use Rattle.pgp_ids.specs.declared.member.Member.{Member}
 use Rattle.pgp_ids.specs.declared.pg_id.PgId.{PgId}
@@ -16,8 +13,7 @@ use Rattle.pgp_ids.specs.declared.view.View.{View}
 use Rattle.pgp_code.specs.AnyCode.{enough_of, is_by_place}
 use Rattle.pgp_code.specs.Pool.{code_of}
 use Rattle.pgp_code.specs.declared.any.AnyCode.{AnyCode}
-use Rattle.pgp_lists.proofs.Members.{Contains-nil, Contains-cases, filter-contains, find-some}
-use Rattle.pgp_lists.proofs.Pairs.{AllPairs-first, AllPairs-rest}
+use Rattle.pgp_lists.proofs.Members.{filter-contains, find-some}
 use Rattle.pgp_map.specs.MapOf.{IsMapOf}
 use Rattle.pgp_map.specs.Pools.{pool, has_group}
 use Rattle.pgp_map.specs.declared.map.OsdMap.{OsdMap}
@@ -26,7 +22,7 @@ use Rattle.pgp_prior.proofs.PriorLemmas.{prior-by_lists}
 use Rattle.pgp_sets.specs.Status.{held_status, status}
 use Rattle.pgp_sets.specs.declared.status.Status.{Status}
 use Rattle.pgp_sets.specs.StatusLaws.{held_status-is}
-use Rattle.pgp_info.specs.Best.{HasDistinctMembers, candidates, is_unbeaten}
+use Rattle.pgp_info.specs.Best.{candidates, is_unbeaten}
 use Rattle.pgp_group.specs.Entries.{incs_of}
 use Rattle.pgp_group.specs.GroupHistory.{history_of}
 use Rattle.pgp_group.specs.GroupLog.{GroupLog, group_in, group_with, incs, infos}
@@ -36,7 +32,7 @@ use Rattle.pgp_group.specs.Prefers.{prefers}
 use Rattle.pgp_group.specs.Present.{IsPresent}
 use Rattle.pgp_group.specs.View.{view_of}
 use Rattle.pgp_group.proofs.HeardLemmas.{HasDistinctMembers-last_of}
-use Rattle.pgp_group.proofs.PeerLemmas.{same_member}
+use Rattle.pgp_group.proofs.PeerLemmas.{info_of-is}
 use Rattle.pgp_reasons.specs.Gaps.{gaps_in}
 use Rattle.pgp_reasons.specs.GroupWays.{brings_back, ways}
 use Rattle.pgp_reasons.specs.Smallest.{AreSome, smallest}
@@ -91,20 +87,6 @@ asked-is f g code map view of_code of_map of_view = λ i.
 
 -- ---- the best info
 
-found-of : (list : List Info) → HasDistinctMembers list → (info : Info) → Contains list info → info_of list info.member ≡ Some info
-found-of [] distinct info in' = absurd (Contains-nil info in')
-found-of (x ∷ list) distinct info in' =
-    let differ : All (λ (y : Info). x.member ≢ y.member) list = AllPairs-first (λ (y z : Info). y.member ≢ z.member) x list distinct in
-    elim (Contains-cases x list info in') [
-      | inl here ↦
-          let itself : is_same_member info.member info.member ≡ true = grind (arith, nat_tests) in
-          rw (ap (λ (y : Info). is_same_member y.member info.member) here ∙ itself) (ap Some here)
-      | inr later ↦
-          let other : is_same_member x.member info.member ≡ false = false_from_ne_true _ (λ same.
-          All-contains (λ (y : Info). x.member ≢ y.member) list info differ later (same_member x.member info.member same)) in
-          rw other (found-of list (AllPairs-rest (λ (y z : Info). y.member ≢ z.member) x list distinct) info later)
-    ]
-
 best-heard : (g : GroupLog) (info : Info) → best g ≡ Some info → Contains (heard g) info
 best-heard g info is =
     let better : Info → Info → Bool = prefers g.history.code (leader g) in
@@ -113,7 +95,7 @@ best-heard g info is =
 
 best-of : (g : GroupLog) (found : Option Info) → best g ≡ found → option_and_then (info_of (heard g)) (option_map (λ info. info.member) found) ≡ found
 best-of g None is = refl
-best-of g (Some info) is = found-of (heard g) (HasDistinctMembers-last_of (counted_infos g)) info (best-heard g info is)
+best-of g (Some info) is = info_of-is (heard g) (HasDistinctMembers-last_of (counted_infos g)) info (best-heard g info is)
 
 -- the gaps of the info that was found
 pub gaps-found : (g : GroupLog) (list : List Info) (member : Option Member) (found : Option Info) → member ≡ option_map (λ info. info.member) (best g) → list ≡ heard g

@@ -5,7 +5,8 @@ use Rattle.pgp_map.specs.MapFault.{then_with}
 use Rattle.pgp_compact.specs.Courses.{EachIsCourse, IsSameButCourse}
 use Rattle.pgp_compact.specs.declared.course.Course.{Course}
 use Rattle.pgp_compact.specs.declared.courses.Courses.{Courses}
-use Rattle.pgp_compact.proofs.CoursesLemmas.{gone-by, gone-on, on-both}
+use Rattle.pgp_log.proofs.MarksLemmas.{ok-two}
+use Rattle.pgp_compact.proofs.CoursesLemmas.{gone-by, gone-on}
 use Rattle.pgp_compact.proofs.courses.Courses.absorb.Goals as goal
 
 pub returns-then-moves_none : goal.returns-then-moves_none
@@ -19,7 +20,7 @@ returns c =
     let was : c.as_mut_slice.result.now ≡ old.all.items = c.as_mut_slice.ensures.value in
     let long : length all ≡ old.all.len = c.absorb.auto.groups ∙ ap length was ∙ sym old.all.ok.0 in
     let is : (with_items old.all all).items ≡ all = with_items_is old.all all long in
-    on-both c.absorb.result _ _ _
+    ok-two c.absorb.result _ _ _
     (λ each same incs entries next are.
     gone-on incs c.args.inc.now c.args.after.now next entries old are (record old { all = with_items old.all all }) refl
     (subst (EachIsCourse (then_with incs c.args.inc.now)) (sym is) (each incs next (subst (EachIsCourse incs) (sym was) are.each)))

@@ -8,11 +8,11 @@ use Rattle.pgp_compact.specs.Greatest.{IsGreatestOf}
 use Rattle.pgp_compact.specs.Later.{clean_in, is_same_opening, is_same_sender, opening_at, sent, started}
 use Rattle.pgp_compact.specs.declared.keys.Opening.{Opening}
 use Rattle.pgp_compact.specs.declared.keys.Sender.{Sender}
-use Rattle.pgp_compact.proofs.LaterLemmas.{on-ok}
+use Rattle.pgp_group.proofs.GroupLemmas.{on_ok}
 use Rattle.pgp_compact.proofs.later.Later.note_info.Goals as goal
 
 pub returns-in-Some : goal.returns-in-Some
-returns-in-Some c = on-ok c.note-in-Some.result _ _ (λ noted log later kept is.
+returns-in-Some c = on_ok c.note-in-Some.result _ _ (λ noted log later kept is.
     let info = c.args.info.now in
     let told = infos_of later in record {
       senders = subst (λ (it : Sender × ℕ). IsGreatestOf is_same_sender (it ∷ map sent told) c.note.new.self.table) (λ i. (c.sender_of.ensures i, c.number.ensures i)) (c.in_ok-note.ensures (map sent told) kept.senders);

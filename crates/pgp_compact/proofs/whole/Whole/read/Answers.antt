@@ -5,7 +5,7 @@ use Rattle.pgp_group.specs.Entries.{inc_of}
 use Rattle.pgp_log.proofs.LogLemmas.{legal-last}
 use Rattle.pgp_log.proofs.TakeLemmas.{faultless-tree, fits-faultless}
 use Rattle.pgp_log.specs.Log.{is_legal}
-use Rattle.pgp_compact.proofs.LaterLemmas.{on-ok}
+use Rattle.pgp_group.proofs.GroupLemmas.{on_ok}
 use Rattle.pgp_compact.proofs.WholeLemmas.{comes-next, read-inc, read-other}
 use Rattle.pgp_compact.proofs.whole.Whole.read.Goals as goal
 
@@ -24,7 +24,7 @@ absorb-requires c =
     record { incs = _; each = c.requires.is.courses_are.each; next = comes-next front inc c.args.self.now.map c.apply.new.self legal c.requires.is.map_is c.in_ok-apply-in-Inc.ensures.ok }
 
 pub returns-in_ok-apply-in-Inc : goal.returns-in_ok-apply-in-Inc
-returns-in_ok-apply-in-Inc c = on-ok c.absorb.result _ _
+returns-in_ok-apply-in-Inc c = on_ok c.absorb.result _ _
     (λ goes log front legal is.
     let inc = c.in-Inc.inc in
     let here : is_legal (front ++ entry.Inc inc ∷ []) ≡ true = subst (λ (e : Entry). is_legal (front ++ e ∷ []) ≡ true) c.in-Inc.is legal in

@@ -4,7 +4,7 @@ use Rattle.pgp_ids.specs.declared.report.Info.{Info}
 use Rattle.pgp_info.specs.Heard.{Heard, with_infos}
 use Rattle.pgp_info.specs.declared.preference.Preference.{Preference}
 use Rattle.pgp_group.specs.GroupLog.{infos}
-use Rattle.pgp_group.specs.Heard.{heard, last_of_each_member}
+use Rattle.pgp_group.specs.Heard.{last_of_each_member}
 use Rattle.pgp_group.specs.KeptInfos.{counts}
 use Rattle.std.proofs.lemmas.Result.{IfOk-weaker}
 use Rattle.pgp_group.proofs.InfosLemmas.{heard-more}
