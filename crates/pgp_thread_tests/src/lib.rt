@@ -1,6 +1,6 @@
-//! Tests of the feed, of the engine, and of scripts over an engine and the command line, of what their contracts leave open.
+//! Tests of the feed and of the engine, of what their contracts leave open, and of look-ups beside a thread that submits.
 //!
-//! They start threads and wait, as no other test does, so they have a crate of their own. Nothing stands on it.
+//! They start threads and wait, so they have a crate of their own. Nothing stands on it.
 #![tactic(auto)]
 
 #[cfg(test)]
@@ -9,5 +9,3 @@ mod engine;
 mod feed;
 #[cfg(test)]
 mod look_ups;
-#[cfg(test)]
-mod scripts;

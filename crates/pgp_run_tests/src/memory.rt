@@ -1,7 +1,7 @@
 //! A line that finds no memory is answered so, and has no effect. Under `rt try --test --fail-alloc N` the Nth allocation is
 //! refused; in the gate none is.
-use crate::scripts::runs::{ALL, Size, Trial, alone, over_engine};
-use crate::scripts::script::{LINES, script_of};
+use crate::runs::{ALL, Size, Trial, alone, over_engine};
+use crate::script::{LINES, script_of};
 use pgp_core::ScriptFault;
 use std::alloc::{AllocError, Global};
 use std::process::Abort;

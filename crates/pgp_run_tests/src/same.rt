@@ -1,8 +1,8 @@
 //! A script has the same answers over an engine as on one thread, whatever the size of the engine.
 ghost use Rattle.std.specs.Prelude.{◌≤◌};
 
-use crate::scripts::runs::{ALL, Ended, LARGE, MIDDLE, SMALL, Size, Trial, alone, over_engine};
-use crate::scripts::script::{LATER_ANSWER, LATER_LINES, closed_script, open_script, script_of};
+use crate::runs::{ALL, Ended, LARGE, MIDDLE, SMALL, Size, Trial, alone, over_engine};
+use crate::script::{LATER_ANSWER, LATER_LINES, closed_script, open_script, script_of};
 use std::process::Abort;
 use std::sync::Wait;
 use std::test::Fail;

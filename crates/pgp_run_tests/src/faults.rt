@@ -1,6 +1,6 @@
 //! A read or a write that fails ends a run over an engine as it ends one on one thread: with the same fault and the same bytes.
-use crate::scripts::runs::{ALL, MIDDLE, Trial, alone, over_engine};
-use crate::scripts::script::closed_script;
+use crate::runs::{ALL, MIDDLE, Trial, alone, over_engine};
+use crate::script::closed_script;
 use pgp_core::ScriptFault;
 use std::process::Abort;
 use std::sync::Wait;

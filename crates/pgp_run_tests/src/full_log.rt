@@ -4,8 +4,8 @@
 
 ghost use Rattle.std.specs.Prelude.{◌≤◌};
 
-use crate::scripts::runs::{ALL, MIDDLE, SMALL, Size, Trial, alone, over_engine};
-use crate::scripts::script::LINES;
+use crate::runs::{ALL, MIDDLE, SMALL, Size, Trial, alone, over_engine};
+use crate::script::LINES;
 use std::alloc::{AllocError, Global};
 use std::process::Abort;
 use std::sync::Wait;

@@ -1,7 +1,7 @@
 //! Runs of one script, on one thread and over an engine.
 ghost use Rattle.std.specs.Prelude.{◌≤◌};
 
-use crate::scripts::streams::{Given, Taken};
+use crate::streams::{Given, Taken};
 use pgp_core::{ScriptFault, run_script};
 use pgp_run::run_engine;
 use std::alloc::Global;
