@@ -30,6 +30,9 @@ Writes into FOLDER (by default bench/out) these files, or those named alone, whi
                   six up_thru values, and a question about a group after each
   full_asked.jsonl    65,535 incrementals over 64 groups and 16 devices: 59 in a hundred are empty, 38 have one up_thru
                   value, 2 take a device down or boot it, and 1 has a weight; then a question about each group
+  reweights.jsonl     the map of map.jsonl and a question, and then 200 incrementals each of which takes up to a sixteenth of
+                      the full weight from a device, and a question
+  reweights_out.jsonl     the same with incrementals each of which takes all of a device's weight
   asks.jsonl      an outage of one group in seven entries, and then 20,000 questions about it with nothing between
   untouched.jsonl     the same outage, and then by turns 2,000 incrementals that touch another group alone and 2,000
                   questions about the first
@@ -230,6 +233,20 @@ def full_asked(rng, count):
         yield compact({"op": "ask", "pg": [1, pg]})
 
 
+def reweights(rng, count, most=IN // 16):
+    """Gives the largest map, a question, then incrementals each of which takes up to so much of a device's weight, and a question."""
+    yield from largest_map(rng, count)
+    yield compact({"op": "ask", "pg": [1, 0]})
+    for epoch, osd in enumerate(rng.sample(range(4096), count), 257):
+        yield compact({"op": "inc", "epoch": epoch, "weight": [[osd, IN - (rng.randrange(most) if most < IN else IN)]]})
+    yield compact({"op": "ask", "pg": [1, 0]})
+
+
+def reweights_out(rng, count):
+    """Gives the same with incrementals each of which takes all of a device's weight."""
+    yield from reweights(rng, count, IN)
+
+
 def fall_or_boot(rng, up, down):
     """Takes a device down, or boots one that is down, where an eighth of them are or by chance."""
     boots = bool(down) and (len(down) * 7 >= len(up) or rng.randrange(2) == 0)
@@ -390,6 +407,8 @@ INPUTS = {
     "churn": (churn, 4_000),
     "churn_twice": (churn, 8_000),
     "churn_wide": (churn_wide, 4_000),
+    "reweights": (reweights, 200),
+    "reweights_out": (reweights_out, 200),
     "full_asked": (full_asked, 65_535 + 64),
     "asks": (asks, 20_000),
     "untouched": (untouched, 4_008),

@@ -26,7 +26,8 @@ from typing import NamedTuple
 HERE = os.path.dirname(os.path.abspath(__file__))
 NAMES = (
     *("locate", "incs", "map", "steps", "full", "peering", "peering_wide", "churn", "churn_twice"),
-    *("churn_wide", "full_asked", "asks", "untouched", "untouched_twice", "long_past", "long_log", "traces", "empty"),
+    *("churn_wide", "full_asked", "reweights", "reweights_out", "asks", "untouched", "untouched_twice"),
+    *("long_past", "long_log", "traces", "empty"),
 )
 
 
