@@ -65,9 +65,6 @@ in-table x before after same osd = elim (cases_lt osd 4096) [
 tree-stays : (incs : List Incremental) (inc : Incremental) → is_some inc.crush ≡ false → tree (then_with incs inc) ≡ tree incs
 tree-stays incs inc none = tree-push incs inc ∙ (grind arith)
 
-there : {X Y : Type 0} (f : X → Y) (o : Option X) (y : Y) → option_map f o ≡ Some y → is_some o ≡ true
-there f o y is = grind arith
-
 pub raw_set-stays : (incs : List Incremental) (inc : Incremental) (pg : PgId) (places : List (Option ℕ)) → map_fault incs inc ≡ None
     → may_place_elsewhere incs inc pg ≡ false → raw_set_of incs pg ≡ Some places → raw_set_of (then_with incs inc) pg ≡ Some places
 raw_set-stays incs inc pg places fine still is =
