@@ -203,8 +203,8 @@ LINES = [
     (trace({"kind": "grouped", "groups": [[[0], 1]]}), 'BadField: code.kind: "grouped" needs version 2 of the format'),
     (parts(), "BadField: code.groups: there is no part"),
     (parts([[0], 1], [[], 1]), "BadField: code.groups[1][0]: the part has no slot"),
-    (parts([[0, 1, 0], 1]), "BadField: code.groups[0][0][2]: slot 0 stands twice"),
-    (parts([[0, 1], 1], [[2, 1], 1]), "BadField: code.groups[1][0][1]: slot 1 stands twice"),
+    (parts([[0, 1, 0], 1]), "BadField: code.groups[0][0][2]: slot 0 is there twice"),
+    (parts([[0, 1], 1], [[2, 1], 1]), "BadField: code.groups[1][0][1]: slot 1 is there twice"),
     (parts([[0, 1], 0]), "BadField: code.groups[0][1]: 0 is not a least number of slots (1 to 2)"),
     (parts([[0, 1], 3]), "BadField: code.groups[0][1]: 3 is not a least number of slots (1 to 2)"),
     # The epochs of a trace.

@@ -60,7 +60,8 @@ before it. The lines whose entries an answer can still need, now or after
 whatever lines follow, are written as they are: all incrementals, and the reports
 that nothing later makes needless. Questions, blank lines and refused lines are
 left out. How many entries were left out is told on standard error. A run of what
-is written, and of any lines behind it, gives the same answers but for count.
+is written, and of any lines behind it, gives the same answers except
+for count.
 
 Example:
   pgpeer compact < script.jsonl > shorter.jsonl

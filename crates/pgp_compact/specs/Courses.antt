@@ -54,7 +54,7 @@ AreSomeCourses courses = (entries : List Entry) × AreCourses [] entries courses
 
 -- ---- the next map
 
--- of the groups before and after a map the same is kept, but for their intervals
+-- of the groups before and after a map the same is kept, except for their intervals
 pub record IsSameButCourse (old new : List Course) : Type 0 where
   pub there : (place : ℕ) (course : Course) → slice_get old place ≡ Some course → (after : Course) × (slice_get new place ≡ Some after) × (after.pg ≡ course.pg) × (after.les ≡ course.les)
 

@@ -23,8 +23,8 @@ pub fn a_compacted_log_is_legal()
     ensures closed { (log : List Entry) → is_closed (compacted log) ≡ is_closed log }
 {}
 
-/// The view of each group is that of the log, but for count: now, and after whatever entries follow, of which each incremental
-/// was checked when it came. So it is after each list that the compacted log takes, also where the whole one would be full. A
+/// The view of each group is that of the log, except for count: now, and after whatever entries follow, of which each
+/// incremental was checked when it came. So it is after each list that the compacted log takes, also where the whole one would be full. A
 /// group that one of them doesn't have, the other doesn't have either.
 pub fn every_answer_is_the_same()
     ensures now { (log : List Entry) (pg : PgId) → is_legal log ≡ true

@@ -19,12 +19,12 @@ fault_of whole.Read = Read
 fault_of whole.TooLarge = TooLarge
 fault_of whole.Memory = Memory
 
--- so many entries the script has, and so many of them remain
+-- how many entries the script has, and how many of them remain
 pub record HasCounts (script : List ℕ) (counts : Compaction) : Type 0 where
   pub entries : counts.entries ≡ length (entry_lines [] (lines_of script))
   pub kept : counts.kept ≡ length (remaining_lines script)
 
--- The reader gave a script to its end, the writer got the lines that remain of it, and so many entries there were and remain.
+-- The reader gave a script to its end, the writer got the lines that remain of it, and the counts are those of its entries.
 pub record IsCompacted (counts : Compaction) (from to start now : Option (List ℕ)) : Type 0 where
   pub script : List ℕ
   pub whole : IsWholeScript script_bounds script from to

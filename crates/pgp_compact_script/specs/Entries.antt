@@ -17,7 +17,7 @@ kept_of Blank line = []
 kept_of Asked line = []
 kept_of (Refused why) line = []
 
--- The lines of the script but for the rest were taken: the log has their entries, and these are the lines that added them.
+-- The lines of the script before the rest were taken: the log has their entries, and these are the lines that added them.
 pub record IsReadTo (lines rest : List (List ℕ)) (read : ScriptEntries) : Type 0 where
   pub done : List EntryLine
   pub log_is : read.log ≡ entries_of done

@@ -29,9 +29,9 @@ pub struct Compaction {
 /// Writes the lines of the script whose entries an answer can need, by its log or by whatever follows it: byte for byte, in
 /// their order, each with a line feed.
 ///
-/// Nothing is written before the script is read to its end, and nothing at a fault but [`CompactFault::Write`]: then a front of
-/// the lines went out. Questions, blank lines and lines that are refused don't remain. Where a line meets want of memory, no
-/// line is written, since its entry would be lost.
+/// Nothing is written before the script is read to its end. At a fault nothing is written either, except at
+/// [`CompactFault::Write`]: then a front of the lines went out. Questions, blank lines and lines that are refused don't remain.
+/// Where there is no memory for a line, no line is written, since its entry would be lost.
 pub fn compact_script<R: Source, W: Sink>(
     alloc: Global,
     reader: &mut R,

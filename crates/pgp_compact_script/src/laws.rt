@@ -7,7 +7,7 @@ ghost use Rattle.pgp_core.specs.Lines.{lines_of};
 ghost use Rattle.pgp_compact_script.specs.Remaining.{compacted_text, remaining_lines};
 
 /// Each line that remains adds its entry, and together they make the compacted log of the script: so a run of what is written
-/// gives every answer that a run of the script gives, but for count, whatever lines follow
+/// gives every answer that a run of the script gives, except for count, whatever lines follow
 /// (`pgp_compact::laws::every_answer_is_the_same`).
 pub fn what_remains_makes_the_compacted_log()
     ensures lines { (script : List ℕ) → lines_of (compacted_text script) ≡ remaining_lines script }

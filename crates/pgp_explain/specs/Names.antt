@@ -45,10 +45,10 @@ place_name (Some osd) = decimal osd
 unfoldable pub places_name : List (Option ℕ) → Text
 places_name places = joined (codes "[" ∷ listed_with (codes ", ") (map place_name places) ∷ codes "]" ∷ [])
 
--- the verb for so many
+-- the verb for this many
 abbrev pub are : ℕ → Text
 are count = if count == 1 then codes "is" else codes "are"
 
--- the noun for so many
+-- the noun for this many
 abbrev pub plural : ℕ → (one more : Text) → Text
 plural count one more = if count == 1 then one else more

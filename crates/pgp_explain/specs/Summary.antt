@@ -20,7 +20,7 @@ use Rattle.pgp_explain.specs.declared.summary.Summary.{Summary}
 use Rattle.pgp_explain.specs.declared.waits.Waits.{Waits}
 use Rattle.pgp_explain.specs.declared.tally.Tally.{Tally}
 
--- so many, as far as a number of the machine goes, which no count of groups comes near
+-- this many, as far as a number of the machine goes, which no count of groups comes near
 abbrev pub counted : ℕ → ℕ
 counted n = min n (2 ^ 64 - 1)
 

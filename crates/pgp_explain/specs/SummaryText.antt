@@ -40,7 +40,7 @@ verdicts = NoPrimary ∷ Down ∷ Waiting ∷ Incomplete ∷ Short ∷ NeedLog �
 unfoldable pub tally_lines : Tally → Text
 tally_lines tally = flat_map (verdict_line tally) verdicts
 
--- what a device does to so many groups
+-- what a device does to this many groups
 abbrev pub count_part : Text → ℕ → Text
 count_part does count = joined (does ∷ codes " " ∷ decimal count ∷ codes " " ∷ plural count (codes "group") (codes "groups") ∷ [])
 

@@ -16,7 +16,7 @@ abbrev pub line : List Text → Text
 line [] = 10 ∷ []
 line (piece ∷ pieces) = piece ++ line pieces
 
--- what stands behind an item of a list that has so many others behind it; `last` is what stands before the last one
+-- what stands behind an item of a list that has this many others behind it; `last` is what stands before the last one
 abbrev pub joint : Text → ℕ → Text
 joint last others = if others == 0 then [] else (if others == 1 then last else codes ", ")
 

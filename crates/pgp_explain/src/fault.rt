@@ -82,7 +82,7 @@ fn entry_fault(alloc: Global, refusal: Refusal) -> Result<String, AllocError> {
 fn tree_fault(fault: u8) -> &'static str {
     match fault {
         1 => "it has no root, or more than one",
-        2 => "an id stands twice, or an item lies in two places",
+        2 => "an id is there twice, or an item is in two places",
         3 => "a type is 0, or not above that of a bucket within",
         4 => "an item is no bucket of the tree and no device",
         5 => "a path has more than 10 buckets",

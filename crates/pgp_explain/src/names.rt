@@ -63,14 +63,14 @@ impl Naming {
     }
 }
 
-/// The verb for so many.
+/// The verb for this many.
 pub(crate) fn are(count: usize) -> &'static str
     ensures { result.now ≡ verb_for count }
 {
     if count == 1 { "is" } else { "are" }
 }
 
-/// The noun for so many.
+/// The noun for this many.
 pub(crate) fn plural(count: usize, one: &'static str, more: &'static str) -> &'static str
     ensures { result.now ≡ noun_for count one.now more.now }
 {

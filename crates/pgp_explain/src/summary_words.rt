@@ -154,7 +154,7 @@ fn put_awaited(count: usize, text: &mut String) -> Result<(), AllocError>
     put_count("is waited for by", count, text)
 }
 
-/// What a device does to so many groups.
+/// What a device does to this many groups.
 fn put_count(does: &str, count: usize, text: &mut String) -> Result<(), AllocError>
     ensures { OnOk result (string_bytes text.new
         ≡ string_bytes text.old ++ count_part does.now count) }

@@ -82,7 +82,7 @@ pub(crate) fn listed<T: Word>(
     Ok(text)
 }
 
-/// What stands behind an item that has so many others behind it.
+/// What stands behind an item that has this many others behind it.
 fn joint(others: usize, last: &str) -> &str
     ensures { result.now ≡ joint_of last.now others }
 {

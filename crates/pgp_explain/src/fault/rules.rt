@@ -121,7 +121,7 @@ fn slots_fault(alloc: Global, slots: &[Value], seen: &mut [bool; SLOT_LIMIT]) ->
     for (index, slot) in slots.iter().enumerate() {
         let number = slot.as_u64().unwrap_or(0);
         if is_seen(seen, number) {
-            let what = format!(in alloc; "slot {number} stands twice")?;
+            let what = format!(in alloc; "slot {number} is there twice")?;
             return at_item(alloc, index, Wrong::here(alloc, what));
         }
     }
