@@ -13,6 +13,7 @@ pub mod KeptLemmas
 pub mod OsdFilterLemmas
 pub mod TouchLemmas
 pub mod RowLemmas
+pub mod RowsLemmas
 pub mod GroupsLemmas
 pub mod PassingLemmas
 pub mod MarksLemmas

@@ -14,6 +14,9 @@ with_osd set osd = record { low = bit_or set.low (1 * 2 ^ (osd % 64) % 184467440
 kept-bit : (n m i : ℕ) → bit_at n i ≡ 1 → bit_at (bit_or n m) i ≡ 1
 kept-bit n m i on = omega (arith, bit_at_or n m i, bit_at-lt m i, on)
 
+added-bit : (n m i : ℕ) → bit_at m i ≡ 1 → bit_at (bit_or n m) i ≡ 1
+added-bit n m i on = omega (arith, bit_at_or n m i, bit_at-lt n i, on)
+
 pub added : (set : OsdFilter) (osd : ℕ) → osd ≤ 4095 → Covers (with_osd set osd) osd
 added set osd fits =
     let low : osd % 64 < 64 = omega arith in
@@ -25,6 +28,12 @@ still-added set osd other is =
     record { low = kept-bit set.low _ (other % 64) is.low; high = kept-bit set.high _ (other / 64) is.high }
 
 -- ---- two sets
+
+pub both-kept : (one two : OsdFilter) → CoversStill one (record { low = bit_or one.low two.low; high = bit_or one.high two.high }) × CoversStill two (record { low = bit_or one.low two.low; high = bit_or one.high two.high })
+both-kept one two = (
+  λ osd is. record { low = kept-bit one.low two.low (osd % 64) is.low; high = kept-bit one.high two.high (osd / 64) is.high },
+  λ osd is. record { low = added-bit one.low two.low (osd % 64) is.low; high = added-bit one.high two.high (osd / 64) is.high },
+)
 
 -- a bit that both words have
 pub both : (a b i : ℕ) → bit_at a i ≡ 1 → bit_at b i ≡ 1 → not (nat_eq (bit_and a b) 0) ≡ true

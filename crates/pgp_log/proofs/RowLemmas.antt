@@ -1,19 +1,20 @@
 -- Rows of groups, and the incrementals by which they are passed by.
-use Rattle.std.proofs.Common.{◌≡◌, ℕ, ◌+◌, ◌<◌, List, [], ◌∷◌, ◌++◌, Bool, true, false, cond, ◌||◌, Option, Some, length, map, set, nat_eq, refl, sym, ap, ◌∙◌, subst, inl, inr, arith, eq-eqb, length-append}
+use Rattle.std.proofs.Common.{◌≡◌, ℕ, ◌+◌, ◌<◌, List, [], ◌∷◌, ◌++◌, Bool, true, false, ◌||◌, Option, Some, length, map, set, nat_eq, refl, sym, ap, ◌∙◌, subst, inl, inr, arith, eq-eqb, length-append}
 use Rattle.std.specs.List.{list_any}
 use Rattle.std.specs.Option.{option_map, option_map_or}
 use Rattle.std.specs.Prelude.{slice_get}
 use Rattle.std.proofs.Math.Bool.{or-true}
-use Rattle.std.proofs.lemmas.Bool.{cases_Bool, cases_eq, cases_lt}
+use Rattle.std.proofs.lemmas.Bool.{cases_Bool, cases_eq, cases_lt, true≢false}
 use Rattle.std.proofs.lemmas.List.{length-set}
 use Rattle.std.proofs.lemmas.List.Folds.{list_any-append}
-use Rattle.std.proofs.lemmas.Option.{same_Some, slice_get_within}
+use Rattle.std.proofs.lemmas.Option.{same_Some, slice_get_cases, slice_get_within}
 use Rattle.pgp_lists.proofs.Bools.{or3_parts}
 use Rattle.pgp_lists.proofs.Lists.{get-append, get-last, get-set_other, get-set_same}
 use Rattle.pgp_ids.specs.declared.entry.Entry.{Entry}
 use Rattle.pgp_ids.specs.declared.entry.Entry.TheVariants as entry
 use Rattle.pgp_ids.specs.declared.incremental.DeviceEpoch.{DeviceEpoch}
 use Rattle.pgp_ids.specs.declared.incremental.Incremental.{Incremental}
+use Rattle.pgp_ids.specs.declared.pg_id.PgId.{PgId}
 use Rattle.pgp_map.specs.Pools.{pool, temp}
 use Rattle.pgp_map.specs.declared.map.OsdMap.{OsdMap}
 use Rattle.pgp_sets.specs.Sets.{raw_set}
@@ -22,7 +23,7 @@ use Rattle.pgp_group.specs.Entries.{incs_of}
 use Rattle.pgp_group.specs.GroupLog.{group_in}
 use Rattle.pgp_group.specs.Touched.{changed_devices, changes_pool, changes_temp, has_osd, has_to_do_with, may_lie_on, moves_all, names, turned_devices}
 use Rattle.pgp_log.specs.declared.before.MapBefore.{MapBefore}
-use Rattle.pgp_log.specs.KeptGroup.{AreRowsOf, IsChangesOf, IsKeptOf, IsPassedBy, IsRowOf, IsStep, devices_for, is_marked}
+use Rattle.pgp_log.specs.KeptGroup.{AreRowsOf, IsChangesOf, IsKeptOf, IsPassedBy, IsPassedByRow, IsRowOf, IsStep, devices_for, is_marked}
 use Rattle.pgp_log.specs.OsdFilter.{Covers, CoversStill}
 use Rattle.pgp_log.specs.declared.kept_group.KeptGroup.{KeptGroup}
 use Rattle.pgp_log.specs.declared.osd_filter.OsdFilter.{OsdFilter}
@@ -122,32 +123,47 @@ turned-changed inc osd turned =
     ∙ ap (λ b. b || list_any (nat_eq osd) (map osd_of inc.lost)) (list_any-append (nat_eq osd) (turned_devices inc) (map osd_of inc.up_thru))
     ∙ ap (λ b. (b || list_any (nat_eq osd) (map osd_of inc.up_thru)) || list_any (nat_eq osd) (map osd_of inc.lost)) turned
 
--- a device that is turned concerns the group, marked or not
-turned-for : (row : Row) (changes : Changes) (inc : Incremental) (osd : ℕ) → IsChangesOf inc changes → list_any (nat_eq osd) (turned_devices inc) ≡ true → Covers (devices_for row changes) osd
-turned-for row changes inc osd says there = at row.marked where
-  at : (b : Bool) → Covers (cond b changes.turned changes.devices) osd
-  at true = says.turned osd there
-  at false = says.devices osd (turned-changed inc osd there)
+-- a device that is turned concerns a group, marked or not
+turned-for : (marked : Bool) (changes : Changes) (inc : Incremental) (osd : ℕ) → IsChangesOf inc changes → list_any (nat_eq osd) (turned_devices inc) ≡ true → Covers (devices_for marked changes) osd
+turned-for true changes inc osd says there = says.turned osd there
+turned-for false changes inc osd says there = says.devices osd (turned-changed inc osd there)
 
-pub passed-by : (log : List Entry) (inc : Incremental) (changes : Changes) (row : Row) (kept : KeptGroup) → IsChangesOf inc changes → IsRowOf row kept → IsKeptOf log kept
-    → (moves_all inc || changes_pool inc kept.pg.pool || changes_temp inc kept.pg) ≡ false → ((osd : ℕ) → Covers row.devices osd → Covers (devices_for row changes) osd → ⊥)
-    → IsPassedBy log inc kept
-passed-by log inc changes row kept says is holds placed apart = record {
-  still =
-      let none = none-passes (may_lie_on (incs_of log) kept.pg) (turned_devices inc)
-      (λ osd lies there. apart osd (is.lies_on log holds osd lies) (turned-for row changes inc osd says there)) in
-      let parts = or3_parts (moves_all inc) (changes_pool inc kept.pg.pool) (changes_temp inc kept.pg) placed in
-      rw (unplaced (incs_of log) inc kept.pg parts.0 parts.1, parts.1, parts.2) none;
-  untouched = λ worked_out.
-      let none = none-passes (has_to_do_with log kept.pg) (changed_devices inc)
-      (λ osd knows there. apart osd (is.knows worked_out log holds osd knows)
-      (subst (λ b. Covers (cond b changes.turned changes.devices) osd) (sym (is.marked ∙ worked_out)) (says.devices osd there))) in
-      ap (λ b. b || list_any (has_to_do_with log kept.pg) (changed_devices inc)) placed ∙ none;
-}
+-- and one that is changed a group that isn't marked, however it was looked at
+changed-for : (marked : Bool) (changes : Changes) (inc : Incremental) (row : Row) (osd : ℕ) → (marked ≡ true → row.marked ≡ true) → row.marked ≡ false → IsChangesOf inc changes
+    → list_any (nat_eq osd) (changed_devices inc) ≡ true → Covers (devices_for marked changes) osd
+changed-for true changes inc row osd only worked_out says there = absurd (true≢false (sym (only refl) ∙ worked_out))
+changed-for false changes inc row osd only worked_out says there = says.devices osd there
+
+-- the devices of the row were held against those that concern a marked group, if it is marked, or against all
+pub passed-by : (marked : Bool) (inc : Incremental) (changes : Changes) (row : Row) → (marked ≡ true → row.marked ≡ true)
+    → (IsChangesOf inc changes → (moves_all inc || changes_pool inc row.pg.pool || changes_temp inc row.pg) ≡ false)
+    → ((osd : ℕ) → Covers row.devices osd → Covers (devices_for marked changes) osd → ⊥) → IsPassedByRow changes inc row
+passed-by marked inc changes row only placed apart says kept is log holds =
+    let none_placed : (moves_all inc || changes_pool inc kept.pg.pool || changes_temp inc kept.pg) ≡ false =
+    subst (λ (pg : PgId). (moves_all inc || changes_pool inc pg.pool || changes_temp inc pg) ≡ false) is.pg (placed says) in
+    record {
+      still =
+          let none = none-passes (may_lie_on (incs_of log) kept.pg) (turned_devices inc)
+          (λ osd lies there. apart osd (is.lies_on log holds osd lies) (turned-for marked changes inc osd says there)) in
+          let parts = or3_parts (moves_all inc) (changes_pool inc kept.pg.pool) (changes_temp inc kept.pg) none_placed in
+          rw (unplaced (incs_of log) inc kept.pg parts.0 parts.1, parts.1, parts.2) none;
+      untouched = λ worked_out.
+          let none = none-passes (has_to_do_with log kept.pg) (changed_devices inc)
+          (λ osd knows there. apart osd (is.knows worked_out log holds osd knows) (changed-for marked changes inc row osd only (is.marked ∙ worked_out) says there)) in
+          ap (λ b. b || list_any (has_to_do_with log kept.pg) (changed_devices inc)) none_placed ∙ none;
+    }
 
 -- it stays as it is
 pub passed-stays : (log : List Entry) (inc : Incremental) (before : MapBefore) (after : OsdMap) (kept : KeptGroup) → IsStep log inc before after → IsKeptOf log kept → IsPassedBy log inc kept → IsKeptOf (log ++ entry.Inc inc ∷ []) kept
 passed-stays log inc before after kept step is passed = elim (cases_Bool (is_marked kept)) [
   | inl marked ↦ kept-unseen log inc before after kept marked step is passed.still
   | inr worked_out ↦ kept-stays log inc before after kept step is (passed.untouched worked_out)
+]
+
+-- a group at whose place the row is passed by stays as it is
+pub passed-at : (log : List Entry) (inc : Incremental) (changes : Changes) (before : MapBefore) (after : OsdMap) (rows : List Row) (groups : List KeptGroup) (place : ℕ) (kept : KeptGroup) → AreRowsOf rows groups → IsChangesOf inc changes
+    → ((row : Row) → slice_get rows place ≡ Some row → IsPassedByRow changes inc row) → IsStep log inc before after → slice_get groups place ≡ Some kept → IsKeptOf log kept → IsKeptOf (log ++ entry.Inc inc ∷ []) kept
+passed-at log inc changes before after rows groups place kept are says passed step at is = elim (slice_get_cases rows place).1 [
+  | inl found ↦ passed-stays log inc before after kept step is (passed found.0 found.2 says kept (are.each place found.0 kept found.2 at) log is)
+  | inr past ↦ absurd (omega (arith, past.0, slice_get_within groups place kept at, are.long))
 ]

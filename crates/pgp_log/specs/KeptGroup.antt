@@ -96,14 +96,19 @@ pub record IsChangesOf (inc : Incremental) (changes : Changes) : Type 0 where
   pub turned : (osd : ℕ) → list_any (nat_eq osd) (turned_devices inc) ≡ true → Covers changes.turned osd
   pub devices : (osd : ℕ) → list_any (nat_eq osd) (changed_devices inc) ≡ true → Covers changes.devices osd
 
--- the devices of the changes that concern the group of the row: all, or where it is marked those that may move it
-abbrev pub devices_for : Row → Changes → OsdFilter
-devices_for row changes = if row.marked then changes.turned else changes.devices
+-- the devices of the changes that concern a group: all, or where it is marked those that may move it
+abbrev pub devices_for : Bool → Changes → OsdFilter
+devices_for marked changes = if marked then changes.turned else changes.devices
 
 -- the incremental doesn't move the group and, where it isn't marked, doesn't touch it
 pub record IsPassedBy (log : List Entry) (inc : Incremental) (kept : KeptGroup) : Type 0 where
   pub still : may_move (incs_of log) inc kept.pg ≡ false
   pub untouched : is_marked kept ≡ false → is_touched log (entry.Inc inc) kept.pg ≡ false
+
+-- so it is of each group that has this row, where these are the changes of the incremental
+abbrev pub IsPassedByRow : Changes → Incremental → Row → Type 0
+IsPassedByRow changes inc row =
+    IsChangesOf inc changes → (kept : KeptGroup) → IsRowOf row kept → (log : List Entry) → IsKeptOf log kept → IsPassedBy log inc kept
 
 -- each group of the list is kept
 pub record AreKeptOf (log : List Entry) (groups : List KeptGroup) : Type 0 where
@@ -128,7 +133,7 @@ marks_in groups = ids_of (filter is_marked groups)
 pub record AreAtPlaces (groups : Groups) : Type 0 where
   pub there : (pg : PgId) (place : ℕ) → hash.get is_same_group groups.places pg ≡ Some place → slice_get (ids_of groups.kept.items) place ≡ Some pg
   pub found : (pg : PgId) (place : ℕ) → slice_get (ids_of groups.kept.items) place ≡ Some pg → hash.get is_same_group groups.places pg ≡ Some place
-  pub rows : AreRowsOf groups.rows.items groups.kept.items
+  pub rows : AreRowsOf groups.rows groups.kept.items
 
 -- each of the groups is marked
 abbrev pub AreAllMarked : List KeptGroup → Type 0

@@ -12,6 +12,7 @@ pub mod Touch
 pub mod MapBefore
 pub mod OsdFilter
 pub mod KeptGroup
+pub mod Rows
 pub mod Derived
 pub mod Examples
 pub mod Worked

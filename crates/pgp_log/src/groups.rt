@@ -20,7 +20,8 @@ ghost use Rattle.pgp_log.specs.Log.{HasInc, epoch_of};
 
 use super::before::MapBefore;
 use super::kept_group::KeptGroup;
-use super::row::{Changes, Row};
+use super::row::Changes;
+use super::rows::Rows;
 use super::touch::{changes_nothing, moves_none};
 use pgp_ids::{Entry, Epoch, Incremental, PgId, View};
 use pgp_map::OsdMap;
@@ -33,7 +34,7 @@ pub(crate) struct Groups {
     /// At which place of the lists each group stands.
     places: HashMap<PgId, usize>,
     /// The row of each group, at its place.
-    rows: Vec<Row>,
+    rows: Rows,
     kept: Vec<KeptGroup>,
     /// Whether one of them was worked out: until then all are marked.
     some_worked_out: bool,
@@ -48,7 +49,7 @@ impl Groups {
     {
         Groups {
             places: HashMap::new(alloc),
-            rows: Vec::new(alloc),
+            rows: Rows::new(alloc),
             kept: Vec::new(alloc),
             some_worked_out: false,
         }
@@ -93,7 +94,7 @@ impl Groups {
         after: &OsdMap,
         inc: &Incremental,
     ) -> Result<(), AllocError>
-        requires { CanStepAll self.old.rows.items self.old.kept.items inc.now before.now after.now }
+        requires { CanStepAll self.old.rows self.old.kept.items inc.now before.now after.now }
         ensures ok { OnOk result ((log : List AnyEntry) → AreGroupsOf log self.old → IsStep log inc.now before.now after.now
             → AreGroupsOf (log ++ entry.Inc inc.now ∷ []) self.new) }
         ensures marks { OnOk result ((log : List AnyEntry) → AreGroupsOf log self.old → IsStep log inc.now before.now after.now
@@ -107,8 +108,8 @@ impl Groups {
         if !self.some_worked_out && moves_none(inc) {
             return Ok(());
         }
-        let rows = self.rows.as_mut_slice();
-        absorb_inc(rows, self.kept.as_mut_slice(), before, after, inc)
+        let groups = self.kept.as_mut_slice();
+        absorb_inc(&mut self.rows, groups, before, after, inc)
     }
 
     /// Takes an entry that brings no map, but perhaps a report of this group. `epoch` is the current one. After an `Err` they are
@@ -134,7 +135,7 @@ impl Groups {
             Some(place) => {
                 let kept = &mut self.kept[place];
                 let taken = kept.absorb_report(entry, epoch);
-                self.rows[place] = kept.row();
+                self.rows.set(place, kept.row());
                 taken
             }
             None => Ok(()),
@@ -164,7 +165,7 @@ impl Groups {
                 self.some_worked_out = true;
                 let found = &mut self.kept[place];
                 let done = found.renew(map, count);
-                self.rows[place] = found.row();
+                self.rows.set(place, found.row());
                 done?;
                 Ok(true)
             }
@@ -205,14 +206,14 @@ impl Groups {
         ensures wants_marked { OnErr result (0 < min max (length (marks_of self.old))) }
     {
         self.some_worked_out = true;
-        let rows = self.rows.as_mut_slice();
-        renew(rows, self.kept.as_mut_slice(), map, count, max)
+        let groups = self.kept.as_mut_slice();
+        renew(&mut self.rows, groups, map, count, max)
     }
 }
 
 /// Lets each of the groups take an incremental: those that it can't touch by their rows are passed by.
 fn absorb_inc(
-    rows: &mut [Row],
+    rows: &mut Rows,
     groups: &mut [KeptGroup],
     before: &MapBefore,
     after: &OsdMap,
@@ -229,19 +230,19 @@ fn absorb_inc(
     ensures rows { OnOk result (AreRowsOf rows.new groups.new) }
 {
     let changes = Changes::of(inc);
-    for place in 0..rows.len() {
-        if !rows[place].is_passed_by(&changes, inc) {
-            let kept = &mut groups[place];
-            kept.absorb_inc(before, after, inc)?;
-            rows[place] = kept.row();
-        }
+    let mut from = 0;
+    while let Some(place) = rows.next(from, &changes, inc) {
+        let kept = &mut groups[place];
+        kept.absorb_inc(before, after, inc)?;
+        rows.set(place, kept.row());
+        from = place + 1;
     }
     Ok(())
 }
 
 /// Works out up to `max` of the groups that are marked. How many are marked still.
 fn renew(
-    rows: &mut [Row],
+    rows: &mut Rows,
     groups: &mut [KeptGroup],
     map: &OsdMap,
     count: usize,
@@ -264,7 +265,7 @@ fn renew(
         if kept.is_marked() {
             if more > 0 {
                 let done = kept.renew(map, count);
-                rows[place] = kept.row();
+                rows.set(place, kept.row());
                 done?;
                 more -= 1;
             } else {

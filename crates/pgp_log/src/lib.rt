@@ -16,6 +16,7 @@ mod place;
 mod raw_sets;
 mod report;
 mod row;
+mod rows;
 mod shard;
 mod touch;
 mod world;

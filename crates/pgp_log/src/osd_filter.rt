@@ -30,6 +30,15 @@ impl OsdFilter {
         self.high |= 1 << (number / 64);
     }
 
+    /// Adds what the other set has.
+    pub(crate) fn add_set(&mut self, other: OsdFilter)
+        ensures there { CoversStill other self.new }
+        ensures still { CoversStill self.old self.new }
+    {
+        self.low |= other.low;
+        self.high |= other.high;
+    }
+
     /// Adds each of the devices.
     pub(crate) fn add_all(&mut self, osds: &[OsdId])
         ensures there { (osd : ℕ) → list_any (nat_eq osd) osds.now ≡ true → Covers self.new osd }

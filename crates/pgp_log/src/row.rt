@@ -1,9 +1,7 @@
 //! What a shard reads first of each of its groups where an incremental comes.
 
-ghost use Rattle.std.specs.Prelude.{◌≡◌, ◌||◌, List, true};
-ghost use Rattle.pgp_ids.specs.declared.entry.Entry.{Entry as AnyEntry};
-ghost use Rattle.pgp_log.specs.KeptGroup.{IsChangesOf, IsKeptOf, IsPassedBy, IsRowOf, devices_for};
-ghost use Rattle.pgp_log.specs.declared.kept_group.KeptGroup.{KeptGroup as AnyKept};
+ghost use Rattle.std.specs.Prelude.{◌≡◌, true};
+ghost use Rattle.pgp_log.specs.KeptGroup.{IsChangesOf, IsPassedByRow, devices_for};
 
 use super::osd_filter::OsdFilter;
 use super::touch::{changes_placement, changes_placements};
@@ -23,13 +21,12 @@ pub(crate) struct Row {
 impl Row {
     /// Whether the group may stay as it is: the incremental doesn't move it and, where it isn't marked, doesn't touch it.
     pub(crate) fn is_passed_by(&self, changes: &Changes, inc: &Incremental) -> bool
-        ensures { result ≡ true → IsChangesOf inc.now changes.now → (kept : AnyKept) → IsRowOf self.now kept
-            → (log : List AnyEntry) → IsKeptOf log kept → IsPassedBy log inc.now kept }
+        ensures { result ≡ true → IsPassedByRow changes.now inc.now self.now }
     {
         if changes.places && changes_placement(inc, &self.pg) {
             return false;
         }
-        !self.devices.shares(changes.devices_for(self))
+        !self.devices.shares(changes.devices_for(self.marked))
     }
 }
 
@@ -37,7 +34,7 @@ impl Row {
 #[derive(Clone, Copy)]
 pub(crate) struct Changes {
     /// It may change where some group lies, whatever becomes of devices.
-    places: bool,
+    pub(crate) places: bool,
     /// The devices that it boots, takes down or destroys: only they can move a group that lies on them.
     turned: OsdFilter,
     /// The devices whose state it changes.
@@ -62,14 +59,10 @@ impl Changes {
         }
     }
 
-    /// The devices that concern the group of the row.
-    fn devices_for(&self, row: &Row) -> OsdFilter
-        ensures { result ≡ devices_for row.now self.now }
+    /// The devices that concern a group, by whether it is marked.
+    pub(crate) fn devices_for(&self, marked: bool) -> OsdFilter
+        ensures { result ≡ devices_for marked self.now }
     {
-        if row.marked {
-            self.turned
-        } else {
-            self.devices
-        }
+        if marked { self.turned } else { self.devices }
     }
 }

@@ -31,7 +31,7 @@ loop-place-preserved c =
           let after : KeptGroup = w.renew-done.new.self in
           let passes = marked ∙ w.if-is_marked.true in
           rw (w.rows-is, w.groups-is, w.more-is, w.left-is) (record {
-            rows = rows-set c.loop-place.rows groups i w.row.result after within w.row.ensures so_far.rows;
+            rows = rw w.set.ensures (rows-set c.loop-place.rows groups i w.row.result after within w.row.ensures so_far.rows);
             are = λ log are lies long.
                 let now = so_far.are log are lies long in
                 each-kept log groups i after within (w.renew-done.ensures.kept log (subst (IsKeptOf log) c.index-groups-place.is (now.each i item at)) lies long) now;
@@ -75,7 +75,7 @@ returns-in_err-done c =
     let marked : is_marked item ≡ true = ap is_marked c.index-groups-place.is ∙ sym c.is_marked.ensures ∙ c.if-is_marked.true in
     let some : 0 < length (marks_in c.args.groups.now) = some-marked c.args.groups.now i item was marked in
     record {
-      rows = rows-set c.loop-place.rows groups i c.row.result c.renew-done.new.self within c.row.ensures so_far.rows;
+      rows = rw c.set.ensures (rows-set c.loop-place.rows groups i c.row.result c.renew-done.new.self within c.row.ensures so_far.rows);
       are = λ log are lies long.
           let now = so_far.are log are lies long in
           each-kept log groups i c.renew-done.new.self within (c.renew-done.ensures.kept log (subst (IsKeptOf log) c.index-groups-place.is (now.each i item at)) lies long) now;

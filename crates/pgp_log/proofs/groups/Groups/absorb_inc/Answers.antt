@@ -8,7 +8,6 @@ use Rattle.pgp_log.specs.KeptGroup.{AreAllMarked, AreKeptOf, AreRowsOf, ids_of, 
 use Rattle.pgp_log.specs.Shard.{is_among}
 use Rattle.pgp_log.specs.declared.groups.Groups.{Groups}
 use Rattle.pgp_log.specs.declared.kept_group.KeptGroup.{KeptGroup}
-use Rattle.pgp_log.specs.declared.row.Row.{Row}
 use Rattle.pgp_log.proofs.GroupsLemmas.{at-places, groups-on, marked-there}
 use Rattle.pgp_log.proofs.MarksLemmas.{ok-three}
 use Rattle.pgp_log.proofs.TouchLemmas.{kept-stays, kept-unseen, none-moved, nothing-touched}
@@ -30,19 +29,16 @@ returns-then-moves_none-clause-ok c = λ log are step.
 pub returns : goal.returns
 returns c =
     let old : Groups = c.args.self.now in
-    let rows : List Row = c.absorb_inc.new.rows in
     let kept : List KeptGroup = c.absorb_inc.new.groups in
     let made = c.absorb_inc.ensures in
-    let was : c.as_mut_slice.result.now ≡ old.kept.items = c.as_mut_slice.ensures.value in
+    let was : c.as_mut_slice-groups.result.now ≡ old.kept.items = c.as_mut_slice-groups.ensures.value in
     let same : ids_of kept ≡ ids_of old.kept.items = made.ids ∙ ap ids_of was in
     let is : (with_items old.kept kept).items ≡ kept = with_items_is old.kept kept (c.absorb_inc.auto.groups ∙ ap length was ∙ sym old.kept.ok.0) in
-    let is_rows : (with_items old.rows rows).items ≡ rows = with_items_is old.rows rows (c.absorb_inc.auto.rows ∙ ap length c.as_mut_slice-rows.ensures.value ∙ sym old.rows.ok.0) in
     record {
       ok = ok-three c.absorb_inc.result _ _ _ _
           (λ given still shown log are step. record {
             each = subst (AreKeptOf (log ++ entry.Inc c.args.inc.now ∷ [])) (sym is) (given log (subst (AreKeptOf log) (sym was) are.each) step);
-            places_are = at-places old _ refl (ap ids_of is ∙ same)
-                (subst (λ (l : List KeptGroup). AreRowsOf (with_items old.rows rows).items l) (sym is) (subst (λ (l : List Row). AreRowsOf l kept) (sym is_rows) shown)) are.places_are;
+            places_are = at-places old _ refl (ap ids_of is ∙ same) (subst (AreRowsOf c.absorb_inc.new.rows) (sym is) shown) are.places_are;
             marked_are = λ none. subst AreAllMarked (sym is) (still (subst AreAllMarked (sym was) (are.marked_are none)));
           })
           made.ok made.marked made.rows;

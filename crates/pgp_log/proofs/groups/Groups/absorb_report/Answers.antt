@@ -16,8 +16,8 @@ use Rattle.pgp_log.proofs.groups.Groups.absorb_report.Goals as goal
 pub index_mut-kept-requires : goal.index_mut-kept-requires
 index_mut-kept-requires c = kept-within c.args.self.now c.args.pg.now c.in-Some.place c.requires (sym c.find.ensures ∙ c.in-Some.is)
 
-pub index_mut-requires : goal.index_mut-requires
-index_mut-requires c = row-within c.args.self.now c.args.pg.now c.in-Some.place c.requires (sym c.find.ensures ∙ c.in-Some.is)
+pub set-requires : goal.set-requires
+set-requires c = row-within c.args.self.now c.args.pg.now c.in-Some.place c.requires (sym c.find.ensures ∙ c.in-Some.is)
 
 pub returns-in-Some : goal.returns-in-Some
 returns-in-Some c =
@@ -29,7 +29,7 @@ returns-in-Some c =
     let taken = c.absorb_report-taken.ensures in
     let is : hash.get is_same_group old.places pg ≡ Some place = sym c.find.ensures ∙ c.in-Some.is in
     let at : slice_get old.kept.items place ≡ Some kept = kept-at old pg place kept c.requires is c.index_mut-kept.ensures.value in
-    record {
+    rw c.set.ensures (record {
       ok = on_ok_weaker c.absorb_report-taken.result
           (λ given log none now past untouched are.
           groups-anew log (log ++ c.args.entry.now ∷ []) old pg place kept after c.row.result old.some_worked_out is at taken.pg c.row.ensures (λ still. (still, taken.marked))
@@ -41,7 +41,7 @@ returns-in-Some c =
       marked = ok-anyhow c.absorb_report-taken.result _ (All-set (λ (k : KeptGroup). is_marked k ≡ true) old.kept.items place after taken.marked);
       ids = ids-set old.kept.items place kept after at taken.pg;
       wants = on_err c.absorb_report-taken.result _ (λ log are. kept-inc log kept (are.each.each place kept at));
-    }
+    })
 
 pub returns-in-None-clause-ok : goal.returns-in-None-clause-ok
 returns-in-None-clause-ok c = λ log none now past untouched.

@@ -1,0 +1,14 @@
+use Rattle.std.proofs.Common.{◌≡◌, ◌<◌, ◌≤◌, ◌-◌, ℕ, Some, length}
+use Rattle.std.specs.Prelude.{slice_get}
+use Rattle.pgp_log.specs.KeptGroup.{IsPassedByRow}
+use Rattle.pgp_log.specs.declared.row.Row.{Row}
+use Rattle.pgp_log.proofs.rows.Rows.next.Given as goal
+
+abbrev pub invariant-loop-place : goal.invariant-loop-place
+invariant-loop-place l = record {
+  past : l.initial.place ≤ l.place;
+  passed : (place : ℕ) (row : Row) → l.initial.place ≤ place → place < l.place → slice_get l.self place ≡ Some row → IsPassedByRow l.changes l.inc row;
+}
+
+abbrev pub decreases-loop-place : goal.decreases-loop-place
+decreases-loop-place l = length l.self - l.place

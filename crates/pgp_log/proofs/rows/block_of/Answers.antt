@@ -1,0 +1,20 @@
+use Rattle.std.proofs.Common.{◌≡◌, ◌+◌, ◌*◌, ◌<◌, length, Some, refl, sym, ap, ◌∙◌, subst, inl, inr, arith}
+use Rattle.std.specs.Prelude.{slice_get}
+use Rattle.std.proofs.lemmas.Bool.{cases_lt}
+use Rattle.std.proofs.lemmas.Option.{same_Some, slice_get_read, slice_get_within}
+use Rattle.pgp_log.specs.Rows.{IsInBlock}
+use Rattle.pgp_log.specs.declared.row.Row.{Row}
+use Rattle.pgp_log.proofs.rows.block_of.Goals as goal
+
+pub loop-place-preserved : goal.loop-place-preserved
+loop-place-preserved c = λ at row below there. elim (cases_lt (c.args.number * 8 + at) c.loop-place.place) [
+  | inl earlier ↦ c.add.ensures.still row (c.loop-place.invariant at row earlier there)
+  | inr past ↦
+      let here : c.args.number * 8 + at ≡ c.loop-place.place = omega (arith, below, past) in
+      let within : c.loop-place.place < length c.args.rows.now = subst (λ n. n < length c.args.rows.now) here (slice_get_within c.args.rows.now (c.args.number * 8 + at) row there) in
+      let read : slice_get c.args.rows.now c.loop-place.place ≡ Some c.index-rows-place.result = slice_get_read c.args.rows.now (length c.args.rows.now) c.loop-place.place c.index-rows-place.result refl within c.index-rows-place.is in
+      subst (λ (r : Row). IsInBlock r c.add.new.self) (same_Some c.index-rows-place.result row (sym read ∙ ap (slice_get c.args.rows.now) (sym here) ∙ there)) c.add.ensures.there
+]
+
+pub returns : goal.returns
+returns c = λ at row few there. c.loop-place.invariant at row (omega (arith, few, slice_get_within c.args.rows.now (c.args.number * 8 + at) row there, c.loop-place-test.false, c.min-end.ensures)) there

@@ -1,0 +1,138 @@
+//! The rows of a shard's groups.
+
+ghost use Rattle.std.specs.Prelude.{◌≡◌, ◌<◌, ◌≤◌, ◌++◌, ◌+◌, ◌*◌, [], ◌∷◌, ℕ, List, Some, true, length, set, slice_get, IfSome, OnOk};
+ghost use Rattle.pgp_ids.specs.declared.incremental.Incremental.{Incremental as AnyIncremental};
+ghost use Rattle.pgp_log.specs.KeptGroup.{IsPassedByRow};
+ghost use Rattle.pgp_log.specs.Rows.{IsInBlock};
+ghost use Rattle.pgp_log.specs.declared.row.Row.{Row as AnyRow};
+
+use super::osd_filter::OsdFilter;
+use super::row::{Changes, Row};
+use pgp_ids::Incremental;
+use std::alloc::{AllocError, Global};
+use std::marker::Model;
+
+/// How many rows make a block.
+const BLOCK: usize = 8;
+
+/// The rows of groups, each at the place of its group, which contracts see as the list of them. What a block of eight rows has in
+/// common is kept beside them: most of the groups that an incremental doesn't touch are passed by a block at a time.
+#[derive(Drop)]
+pub(crate) struct Rows {
+    each: Vec<Row>,
+    blocks: Vec<Block>,
+}
+
+/// What the rows of a block have in common.
+#[derive(Clone, Copy)]
+pub(crate) struct Block {
+    /// Each of the groups is marked.
+    marked: bool,
+    /// The devices of all the rows.
+    devices: OsdFilter,
+}
+
+impl Model for Rows {
+    ghost use Rattle.std.specs.Prelude.{List};
+    ghost use Rattle.pgp_log.specs.declared.row.Row.{Row};
+    ghost use Rattle.pgp_log.specs.Rows.{AreInBlocks};
+
+    ghost Value = { List Row };
+
+    ghost view = { λ rows. rows.each.items };
+
+    ghost invariant = { λ rows. AreInBlocks rows.each.items rows.blocks.items };
+}
+
+impl Rows {
+    /// No rows. It takes no memory.
+    pub(crate) fn new(alloc: Global) -> Self
+        ensures { result ≡ [] }
+    {
+        Rows {
+            each: Vec::new(alloc),
+            blocks: Vec::new(alloc),
+        }
+    }
+
+    /// Adds a row at the next place.
+    pub(crate) fn push(&mut self, row: Row) -> Result<(), AllocError>
+        ensures { OnOk result (self.new ≡ self.old ++ row ∷ []) }
+    {
+        let number = self.each.len() / BLOCK;
+        if number >= self.blocks.len() {
+            self.blocks.push(Block::empty())?;
+        }
+        self.each.push(row)?;
+        self.blocks[number].add(&row);
+        Ok(())
+    }
+
+    /// Puts another row at the place.
+    pub(crate) fn set(&mut self, place: usize, row: Row)
+        requires { place < length self.old }
+        ensures { self.new ≡ set self.old place row }
+    {
+        self.each[place] = row;
+        let number = place / BLOCK;
+        self.blocks[number] = block_of(self.each.as_slice(), number);
+    }
+
+    /// The first place, from this one on, whose group the incremental may move or touch.
+    pub(crate) fn next(&self, from: usize, changes: &Changes, inc: &Incremental) -> Option<usize>
+        ensures within { IfSome result (λ next. (from ≤ next) × (next < length self.now)) }
+        ensures passed { (place : ℕ) (row : AnyRow) → from ≤ place → IfSome result (λ next. place < next)
+            → slice_get self.now place ≡ Some row → IsPassedByRow changes.now inc.now row }
+    {
+        let mut place = from;
+        while place < self.each.len() {
+            if place % BLOCK == 0 && self.blocks[place / BLOCK].is_passed_by(changes) {
+                place += BLOCK;
+            } else if self.each[place].is_passed_by(changes, inc) {
+                place += 1;
+            } else {
+                return Some(place);
+            }
+        }
+        None
+    }
+}
+
+impl Block {
+    fn empty() -> Self {
+        Block {
+            marked: true,
+            devices: OsdFilter::empty(),
+        }
+    }
+
+    /// Adds a row.
+    fn add(&mut self, row: &Row)
+        ensures there { IsInBlock row.now self.new }
+        ensures still { (other : AnyRow) → IsInBlock other self.old → IsInBlock other self.new }
+    {
+        self.marked = self.marked && row.marked;
+        self.devices.add_set(row.devices);
+    }
+
+    /// Whether each of the groups may stay as it is.
+    fn is_passed_by(&self, changes: &Changes) -> bool
+        ensures { result ≡ true → (inc : AnyIncremental) (row : AnyRow) → IsInBlock row self.now → IsPassedByRow changes.now inc row }
+    {
+        !changes.places && !self.devices.shares(changes.devices_for(self.marked))
+    }
+}
+
+/// What the rows of the block have in common.
+fn block_of(rows: &[Row], number: usize) -> Block
+    requires { number * 8 < length rows.now }
+    ensures { (at : ℕ) (row : AnyRow) → at < 8 → slice_get rows.now (number * 8 + at) ≡ Some row → IsInBlock row result }
+{
+    let first = number * BLOCK;
+    let end = rows.len().min(first + BLOCK);
+    let mut block = Block::empty();
+    for place in first..end {
+        block.add(&rows[place]);
+    }
+    block
+}
