@@ -7,3 +7,4 @@ pub mod LeastLemmas
 pub mod ReachLemmas
 pub mod ChoiceLemmas
 pub mod PlacementLemmas
+pub mod FewerInLemmas

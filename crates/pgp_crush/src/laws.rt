@@ -86,6 +86,16 @@ pub fn placements_depend_on_who_is_in()
         → placement tree rule others x n ≡ placement tree rule weights x n }
 {}
 
+/// A placement stays where fewer devices are in, if each of its own that was in still is: what goes out moves only the groups that
+/// it lies in.
+#[tactic(auto, using(crate::proofs::FewerInLemmas::placement_of_fewer))]
+pub fn placements_lose_only_what_goes_out()
+    ensures { (tree : Option (List Bucket)) (rule : Rule) (weights others : List ℕ) (x n : ℕ)
+        → ((osd : ℕ) → is_in others x osd ≡ true → is_in weights x osd ≡ true)
+        → ((osd : ℕ) → Contains (placement tree rule weights x n) (Some osd) → is_in weights x osd ≡ true → is_in others x osd ≡ true)
+        → placement tree rule others x n ≡ placement tree rule weights x n }
+{}
+
 /// A bucket with no items chooses nothing.
 pub fn empty_bucket()
     ensures empty { descent empty_root 7 (Same 0) 0 (root_of empty_root) ≡ Empty }

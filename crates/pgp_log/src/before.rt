@@ -9,6 +9,7 @@ ghost use Rattle.pgp_map.specs.MapOf.{IsMapOf};
 ghost use Rattle.pgp_sets.specs.Sets.{may_place_elsewhere, moves, switches_any, weighed};
 ghost use Rattle.pgp_group.specs.GroupHistory.{primary_facts};
 ghost use Rattle.pgp_log.specs.MapBefore.{IsMapBefore, with_facts};
+ghost use Rattle.pgp_log.specs.RawSets.{IsRawSet};
 
 use super::touch::has_sizes;
 use pgp_group::primary_facts;
@@ -59,26 +60,34 @@ impl MapBefore {
         self.epoch
     }
 
-    /// Whether the group is to be placed anew by the incremental, since the tree may put it elsewhere. `after` is the map with it.
-    pub(crate) fn places_anew(&self, after: &OsdMap, inc: &Incremental, pg: &PgId) -> bool
+    /// Whether the group is to be placed anew by the incremental, since the tree may put it elsewhere than on these places, its raw
+    /// set so far. `after` is the map with the incremental.
+    pub(crate) fn places_anew(
+        &self,
+        after: &OsdMap,
+        inc: &Incremental,
+        pg: &PgId,
+        raw: &[Option<OsdId>],
+    ) -> bool
         requires { HasGroup after.now pg.now }
-        ensures stays { result ≡ false → (incs : List AnyIncremental) → IsMapBefore incs inc.now self.now
+        ensures stays { result ≡ false → (incs : List AnyIncremental) → IsMapBefore incs inc.now self.now → IsRawSet incs pg.now raw.now
             → IsMapOf (then_with incs inc.now) after.now → may_place_elsewhere incs inc.now pg.now ≡ false }
         ensures moves { result ≡ true → (incs : List AnyIncremental) → IsMapBefore incs inc.now self.now
             → moves inc.now pg.now.pool ≡ true }
     {
         inc.crush.is_some()
             || has_sizes(inc.sizes.as_slice(), pg.pool)
-            || !inc.weight.is_empty() && self.may_switch(after, pg)
+            || !inc.weight.is_empty() && self.may_switch(after, pg, raw)
     }
 
-    /// Whether a weight of the map after may switch a device in or out for the group. Of more than [`MOST_TESTED`] weights it isn't
-    /// looked at: a placement is cheaper.
-    fn may_switch(&self, after: &OsdMap, pg: &PgId) -> bool
+    /// Whether a weight of the map after may bring a device in for the group or take one out of these places. Of more than
+    /// [`MOST_TESTED`] weights it isn't looked at: a placement is cheaper.
+    fn may_switch(&self, after: &OsdMap, pg: &PgId, raw: &[Option<OsdId>]) -> bool
         requires { HasGroup after.now pg.now }
-        ensures { result ≡ false → (incs : List AnyIncremental) → IsMapOf incs after.now → switches_any incs pg.now self.now.weights.items ≡ false }
+        ensures { result ≡ false → (incs : List AnyIncremental) → IsMapOf incs after.now
+            → switches_any incs pg.now raw.now self.now.weights.items ≡ false }
     {
-        self.weights.len() > MOST_TESTED || switches_any(after, pg, self.weights.as_slice())
+        self.weights.len() > MOST_TESTED || switches_any(after, pg, raw, self.weights.as_slice())
     }
 
     /// What that map said of an acting primary. `after` is the map with the incremental.

@@ -164,7 +164,7 @@ impl KeptGroup {
         ensures pg { self.new.pg ≡ self.old.pg }
     {
         self.temp = temp_of(after, self.pg);
-        if before.places_anew(after, inc, &self.pg) {
+        if before.places_anew(after, inc, &self.pg, self.raw.as_slice()) {
             self.raw = raw(after, &self.pg);
         }
     }
@@ -177,7 +177,7 @@ impl KeptGroup {
         ensures touches { result ≡ true → (log : List AnyEntry) → IsKeptOf log self.now → IsStep log inc.now before.now after.now
             → is_touched log (entry.Inc inc.now) self.now.pg ≡ true }
     {
-        before.places_anew(after, inc, &self.pg)
+        before.places_anew(after, inc, &self.pg, self.raw.as_slice())
             || changes_pool(inc, self.pg.pool)
             || changes_temp(inc, &self.pg)
             || self.lies_on_turned(inc)

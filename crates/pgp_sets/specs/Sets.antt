@@ -1,8 +1,8 @@
 -- Where a placement group lies, by the map that a list of incrementals makes (Ceph's developer documentation on peering:
 -- up set, acting set, primary).
-use Rattle.std.specs.Prelude.{ℕ, List, Bool, true, false, not, ◌||◌, Option, None, is_some, option_map, filter, map, length, nat_eq, nat_lt, if◌then◌else◌}
+use Rattle.std.specs.Prelude.{ℕ, List, [], Bool, true, false, not, ◌&&◌, ◌||◌, Option, None, Some, is_some, option_map, filter, map, length, nat_eq, nat_lt, if◌then◌else◌}
 use Rattle.std.specs.List.{list_any, list_all}
-use Rattle.std.specs.Option.{option_map_or}
+use Rattle.std.specs.Option.{option_eq, option_map_or}
 use Rattle.pgp_hash.specs.Hash.{hash2}
 use Rattle.pgp_hash.specs.StableMod.{stable_mod}
 use Rattle.pgp_crush.specs.declared.rule.Rule.{Rule}
@@ -44,27 +44,37 @@ moves inc id = is_some inc.crush || nat_lt 0 (length inc.weight) || list_any (λ
 abbrev pub if_up : List Incremental → Option ℕ → Option ℕ
 if_up incs place = if option_map_or (is_up incs) place false then place else None
 
--- for the placement of this input the device is in by one of these weights and out by the other
-abbrev pub switches : ℕ → ℕ → ℕ → ℕ → Bool
-switches x osd before after = if is_in_by before x osd then not (is_in_by after x osd) else is_in_by after x osd
+-- the device stands in the list
+abbrev pub stands_in : ℕ → List (Option ℕ) → Bool
+stands_in osd places = list_any (option_eq nat_eq (Some osd)) places
+
+-- for the placement of this input, which gave these places, the device comes in by its new weight, or goes out though it has one of
+-- the places
+abbrev pub switches : ℕ → List (Option ℕ) → ℕ → ℕ → ℕ → Bool
+switches x places osd before after =
+    if is_in_by before x osd then stands_in osd places && not (is_in_by after x osd) else is_in_by after x osd
 
 -- the device with its weight by these incrementals
 abbrev pub weighed : List Incremental → DeviceWeight → DeviceWeight
 weighed incs given = record { osd = given.osd; weight = weight incs given.osd }
 
--- one of these devices, which had these weights, is switched in or out for the group by the weight that it has now
-abbrev pub switches_any : List Incremental → PgId → List DeviceWeight → Bool
-switches_any incs pg before =
-    option_map_or (λ made. list_any (λ old. switches (placement_input made pg) old.osd old.weight (weight incs old.osd)) before)
+-- one of these devices, which had these weights, comes in for the group by the weight that it has now, or goes out of its places
+abbrev pub switches_any : List Incremental → PgId → List (Option ℕ) → List DeviceWeight → Bool
+switches_any incs pg places before =
+    option_map_or (λ made. list_any (λ old. switches (placement_input made pg) places old.osd old.weight (weight incs old.osd)) before)
     (pool incs pg.pool) false
 
--- the tree may put the group elsewhere by the incremental: it gives a tree, sizes of the group's pool, or a weight that switches
--- a device in or out for the group
+-- the places of the raw set, none where the group's pool isn't there
+abbrev pub raw_places : List Incremental → PgId → List (Option ℕ)
+raw_places incs pg = option_map_or (λ places. places) (raw_set_of incs pg) []
+
+-- the tree may put the group elsewhere by the incremental: it gives a tree, sizes of the group's pool, or a weight by which a device
+-- comes in for the group, or goes out of its raw set
 abbrev pub may_place_elsewhere : List Incremental → Incremental → PgId → Bool
 may_place_elsewhere incs inc pg =
     is_some inc.crush
     || list_any (λ sizes. nat_eq sizes.pool pg.pool) inc.sizes
-    || switches_any (then_with incs inc) pg (map (weighed incs) inc.weight)
+    || switches_any (then_with incs inc) pg (raw_places incs pg) (map (weighed incs) inc.weight)
 
 -- the list without devices that aren't up: their places are empty in an erasure or grouped pool, and left out in a replicated
 -- one

@@ -33,8 +33,8 @@ pub fn up_sets_have_their_size()
         → is_by_place made.kind ≡ true → membership incs pg ≡ Some members → length members.up ≡ members.size }
 {}
 
-/// Where the tree puts a group stays, unless an incremental gives a tree, sizes of the group's pool, or a weight that switches a
-/// device in or out for the group. Without a tree, weights, and sizes of the pool it gives none of these.
+/// Where the tree puts a group stays, unless an incremental gives a tree, sizes of the group's pool, or a weight by which a device
+/// comes in for the group or goes out of its raw set. Without a tree, weights, and sizes of the pool it gives none of these.
 pub fn raw_sets_stay()
     ensures stay { (incs : List Incremental) (inc : Incremental) (pg : PgId) (places : List (Option ℕ)) → map_fault incs inc ≡ None
         → may_place_elsewhere incs inc pg ≡ false → raw_set_of incs pg ≡ Some places → raw_set_of (then_with incs inc) pg ≡ Some places }
@@ -42,11 +42,16 @@ pub fn raw_sets_stay()
         → moves inc pg.pool ≡ false → may_place_elsewhere incs inc pg ≡ false }
 {}
 
-/// A weight that leaves the device in puts a group nowhere else, and one that takes it out may.
+/// A weight that leaves the device in puts a group nowhere else, nor does one that takes out a device on which the group doesn't lie.
+/// One that takes out a device of the group may, and so may one that brings a device in.
 pub fn weights_that_switch()
     ensures heavier { let given = record (empty_step 2) { weight = of_weight 0 0x20000 ∷ [] } in
         may_place_elsewhere (copies_placed ∷ []) given copies_group ≡ false }
     ensures out { let given = record (empty_step 2) { weight = of_weight 0 0 ∷ [] } in
+        may_place_elsewhere (copies_placed ∷ []) given copies_group ≡ true }
+    ensures out_elsewhere { let given = record (empty_step 2) { weight = of_weight 5 0 ∷ [] } in
+        may_place_elsewhere (copies_placed ∷ []) given copies_group ≡ false }
+    ensures comes_in { let given = record (empty_step 2) { weight = of_weight 1 0x10000 ∷ [] } in
         may_place_elsewhere (copies_placed ∷ []) given copies_group ≡ true }
 {}
 

@@ -6,42 +6,66 @@ ghost use Rattle.pgp_ids.specs.declared.incremental.Incremental.{Incremental};
 ghost use Rattle.pgp_map.specs.Devices.{weight};
 ghost use Rattle.pgp_map.specs.Held.{HasGroup};
 ghost use Rattle.pgp_map.specs.MapOf.{IsMapOf};
-ghost use Rattle.pgp_sets.specs.Sets.{switches, switches_any};
+ghost use Rattle.pgp_sets.specs.Sets.{stands_in, switches, switches_any};
 
 use super::membership::{placement_input, pool_of};
 use pgp_crush::is_in_by;
 use pgp_ids::{DeviceWeight, OsdId, PgId};
 use pgp_map::OsdMap;
 
-/// Whether one of these devices, which had these weights before this map, is switched in or out for the group: it is in for the
-/// group's placement by one of its weights and out by the other. If it is so of no device that was weighed, the tree puts the
-/// group where it did before ([`laws`](crate::laws)). No memory is taken.
-pub fn switches_any(after: &OsdMap, pg: &PgId, before: &[DeviceWeight]) -> bool
+/// Whether one of these devices, which had these weights before this map, comes in for the group by the weight that it has now, or
+/// goes out of these places, which the tree gave the group before. If it is so of no device that was weighed, the tree puts the group
+/// where it did ([`laws`](crate::laws)). No memory is taken.
+pub fn switches_any(
+    after: &OsdMap,
+    pg: &PgId,
+    places: &[Option<OsdId>],
+    before: &[DeviceWeight],
+) -> bool
     requires { HasGroup after.now pg.now }
-    ensures { (incs : List Incremental) → IsMapOf incs after.now → result ≡ switches_any incs pg.now before.now }
+    ensures { (incs : List Incremental) → IsMapOf incs after.now → result ≡ switches_any incs pg.now places.now before.now }
 {
     if before.is_empty() {
         return false;
     }
-    switches_any_for(placement_input(&pool_of(after, pg), pg), after, before)
+    let x = placement_input(&pool_of(after, pg), pg);
+    switches_any_for(x, after, places, before)
 }
 
-/// Whether one of the devices is switched for this input.
-fn switches_any_for(x: u32, after: &OsdMap, before: &[DeviceWeight]) -> bool
+/// Whether one of the devices is switched for this input, which gave these places.
+fn switches_any_for(
+    x: u32,
+    after: &OsdMap,
+    places: &[Option<OsdId>],
+    before: &[DeviceWeight],
+) -> bool
     ensures { (incs : List Incremental) → IsMapOf incs after.now
-        → result ≡ list_any (λ old. switches x old.osd old.weight (weight incs old.osd)) before.now }
+        → result ≡ list_any (λ old. switches x places.now old.osd old.weight (weight incs old.osd)) before.now }
 {
     for old in before {
-        if switches(x, old.osd, old.weight, after.weight(old.osd)) {
+        if switches(x, places, old.osd, old.weight, after.weight(old.osd)) {
             return true;
         }
     }
     false
 }
 
-/// Whether the device is in by one of these weights and out by the other.
-fn switches(x: u32, osd: OsdId, before: u32, after: u32) -> bool
-    ensures { result ≡ switches x osd before after }
+/// Whether the device comes in by its new weight, or goes out of the places. A device that gets lighter never comes in: it is looked
+/// for among the places first, since a hash takes longer.
+#[tactic(auto, using(crate::proofs::RawSetLemmas::switch_by_weight))]
+fn switches(x: u32, places: &[Option<OsdId>], osd: OsdId, before: u32, after: u32) -> bool
+    ensures { result ≡ switches x places.now osd before after }
 {
-    before != after && is_in_by(before, x, osd) != is_in_by(after, x, osd)
+    if after > before {
+        !is_in_by(before, x, osd) && is_in_by(after, x, osd)
+    } else {
+        stands_in(osd, places) && is_in_by(before, x, osd) && !is_in_by(after, x, osd)
+    }
+}
+
+/// The device stands in the list.
+fn stands_in(osd: OsdId, places: &[Option<OsdId>]) -> bool
+    ensures { result ≡ stands_in osd places.now }
+{
+    places.iter().any(|place| Some(osd) == *place)
 }

@@ -7,4 +7,4 @@ use Rattle.pgp_sets.specs.Sets.{switches}
 use Rattle.pgp_sets.proofs.switches.switches_any_for.Given as goal
 
 abbrev pub invariant-loop-old : goal.invariant-loop-old
-invariant-loop-old l = (incs : List Incremental) → IsMapOf incs l.after → list_any (λ old. switches l.x old.osd old.weight (weight incs old.osd)) (take l.old-index l.before) ≡ false
+invariant-loop-old l = (incs : List Incremental) → IsMapOf incs l.after → list_any (λ old. switches l.x l.places old.osd old.weight (weight incs old.osd)) (take l.old-index l.before) ≡ false

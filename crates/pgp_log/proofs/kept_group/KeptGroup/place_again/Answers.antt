@@ -1,4 +1,6 @@
+use Rattle.std.proofs.Common.{sym, subst}
 use Rattle.pgp_group.specs.Entries.{incs_of}
+use Rattle.pgp_log.specs.RawSets.{IsRawSet}
 use Rattle.pgp_log.proofs.KeptLemmas.{kept_raw-stays, raw-anew, temp-anew}
 use Rattle.pgp_log.proofs.kept_group.KeptGroup.place_again.Goals as goal
 
@@ -9,7 +11,7 @@ returns-then-places_anew-clause-raw c = λ log is step.
 pub returns-else-places_anew-clause-raw : goal.returns-else-places_anew-clause-raw
 returns-else-places_anew-clause-raw c = λ log is step.
     kept_raw-stays log c.args.inc.now c.args.before.now c.args.after.now c.args.self.now is step
-    (c.places_anew.ensures.stays c.if-places_anew.false (incs_of log) step.before_is step.after_is)
+    (c.places_anew.ensures.stays c.if-places_anew.false (incs_of log) step.before_is (subst (IsRawSet (incs_of log) c.args.self.now.pg) (sym c.as_slice.ensures.value) is.raw_is) step.after_is)
 
 pub returns-then-places_anew-clause-temp : goal.returns-then-places_anew-clause-temp
 returns-then-places_anew-clause-temp c = λ log step.
