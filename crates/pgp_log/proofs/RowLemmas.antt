@@ -1,5 +1,5 @@
 -- Rows of groups, and the incrementals by which they are passed by.
-use Rattle.std.proofs.Common.{◌≡◌, ℕ, ◌+◌, ◌<◌, List, [], ◌∷◌, ◌++◌, Bool, true, false, ◌||◌, Option, Some, length, map, set, nat_eq, refl, sym, ap, ◌∙◌, subst, inl, inr, arith, eq-eqb, length-append}
+use Rattle.std.proofs.Common.{◌≡◌, ℕ, ◌+◌, ◌<◌, List, [], ◌∷◌, ◌++◌, Bool, true, false, ◌||◌, Option, Some, length, map, set, nat_eq, refl, sym, ap, ◌∙◌, subst, inl, inr, ◌⊎◌, is_some, arith, eq-eqb, length-append}
 use Rattle.std.specs.List.{list_any}
 use Rattle.std.specs.Option.{option_map, option_map_or}
 use Rattle.std.specs.Prelude.{slice_get}
@@ -9,27 +9,32 @@ use Rattle.std.proofs.lemmas.List.{length-set}
 use Rattle.std.proofs.lemmas.List.Folds.{list_any-append}
 use Rattle.std.proofs.lemmas.Option.{same_Some, slice_get_cases, slice_get_within}
 use Rattle.pgp_lists.proofs.Bools.{or3_parts}
-use Rattle.pgp_lists.proofs.Lists.{get-append, get-last, get-set_other, get-set_same}
+use Rattle.pgp_ids.specs.declared.pool.PoolSizes.{PoolSizes}
+use Rattle.pgp_lists.proofs.Lists.{any-mapped, get-append, get-last, get-set_other, get-set_same}
 use Rattle.pgp_ids.specs.declared.entry.Entry.{Entry}
 use Rattle.pgp_ids.specs.declared.entry.Entry.TheVariants as entry
 use Rattle.pgp_ids.specs.declared.incremental.DeviceEpoch.{DeviceEpoch}
+use Rattle.pgp_ids.specs.declared.incremental.DeviceWeight.{DeviceWeight}
 use Rattle.pgp_ids.specs.declared.incremental.Incremental.{Incremental}
 use Rattle.pgp_ids.specs.declared.pg_id.PgId.{PgId}
 use Rattle.pgp_map.specs.Pools.{pool, temp}
 use Rattle.pgp_map.specs.declared.map.OsdMap.{OsdMap}
-use Rattle.pgp_sets.specs.Sets.{raw_set}
+use Rattle.pgp_map.specs.MapFault.{then_with}
+use Rattle.pgp_sets.specs.Sets.{may_place_elsewhere, raw_places, raw_set, stands_in, switches_any, weighed}
+use Rattle.pgp_sets.proofs.RawSetLemmas.{lighter-elsewhere, or3_false}
 use Rattle.pgp_group.proofs.UntoldLemmas.{unplaced}
 use Rattle.pgp_group.specs.Entries.{incs_of}
 use Rattle.pgp_group.specs.GroupLog.{group_in}
 use Rattle.pgp_group.specs.Touched.{changed_devices, changes_pool, changes_temp, has_osd, has_to_do_with, may_lie_on, moves_all, names, turned_devices}
 use Rattle.pgp_log.specs.declared.before.MapBefore.{MapBefore}
-use Rattle.pgp_log.specs.KeptGroup.{AreRowsOf, IsChangesOf, IsKeptOf, IsPassedBy, IsPassedByRow, IsRowOf, IsStep, devices_for, is_marked}
+use Rattle.pgp_log.specs.KeptGroup.{AreRowsOf, IsChangesOf, IsKeptOf, IsPassedBy, IsPassedByRow, IsRowOf, IsStep, OnlyLightens, devices_for, is_marked, may_place}
 use Rattle.pgp_log.specs.OsdFilter.{Covers, CoversStill}
+use Rattle.pgp_log.specs.Touch.{changes_placements}
 use Rattle.pgp_log.specs.declared.kept_group.KeptGroup.{KeptGroup}
 use Rattle.pgp_log.specs.declared.osd_filter.OsdFilter.{OsdFilter}
 use Rattle.pgp_log.specs.declared.row.Changes.{Changes}
 use Rattle.pgp_log.specs.declared.row.Row.{Row}
-use Rattle.pgp_log.proofs.TouchLemmas.{kept-stays, kept-unseen}
+use Rattle.pgp_log.proofs.TouchLemmas.{kept-stays, kept-unseen, no-pools, nothing-placed}
 
 -- ---- rows by their places
 
@@ -124,34 +129,85 @@ turned-changed inc osd turned =
     ∙ ap (λ b. (b || list_any (nat_eq osd) (map osd_of inc.up_thru)) || list_any (nat_eq osd) (map osd_of inc.lost)) turned
 
 -- a device that is turned concerns a group, marked or not
-turned-for : (marked : Bool) (changes : Changes) (inc : Incremental) (osd : ℕ) → IsChangesOf inc changes → list_any (nat_eq osd) (turned_devices inc) ≡ true → Covers (devices_for marked changes) osd
-turned-for true changes inc osd says there = says.turned osd there
-turned-for false changes inc osd says there = says.devices osd (turned-changed inc osd there)
+turned-for : (marked : Bool) (changes : Changes) (inc : Incremental) (before : MapBefore) (after : OsdMap) (osd : ℕ) → IsChangesOf inc before after changes
+    → list_any (nat_eq osd) (turned_devices inc) ≡ true → Covers (devices_for marked changes) osd
+turned-for true changes inc before after osd says there = says.turned osd there
+turned-for false changes inc before after osd says there = says.devices osd (turned-changed inc osd there)
 
 -- and one that is changed a group that isn't marked, however it was looked at
-changed-for : (marked : Bool) (changes : Changes) (inc : Incremental) (row : Row) (osd : ℕ) → (marked ≡ true → row.marked ≡ true) → row.marked ≡ false → IsChangesOf inc changes
-    → list_any (nat_eq osd) (changed_devices inc) ≡ true → Covers (devices_for marked changes) osd
-changed-for true changes inc row osd only worked_out says there = absurd (true≢false (sym (only refl) ∙ worked_out))
-changed-for false changes inc row osd only worked_out says there = says.devices osd there
+changed-for : (marked : Bool) (changes : Changes) (inc : Incremental) (before : MapBefore) (after : OsdMap) (row : Row) (osd : ℕ) → (marked ≡ true → row.marked ≡ true) → row.marked ≡ false
+    → IsChangesOf inc before after changes → list_any (nat_eq osd) (changed_devices inc) ≡ true → Covers (devices_for marked changes) osd
+changed-for true changes inc before after row osd only worked_out says there = absurd (true≢false (sym (only refl) ∙ worked_out))
+changed-for false changes inc before after row osd only worked_out says there = says.devices osd there
+
+-- the places of the raw set are those of the group
+raw-is : (log : List Entry) (kept : KeptGroup) → IsKeptOf log kept → raw_places (incs_of log) kept.pg ≡ kept.raw
+raw-is log kept is = ap (λ (o : Option (List (Option ℕ))). option_map_or (λ places. places) o []) is.raw_is
+
+-- weights by which no device gets heavier place a group elsewhere only if they weigh a device of its raw set
+lightened : (log : List Entry) (inc : Incremental) (before : MapBefore) (after : OsdMap) (changes : Changes) (row : Row) (kept : KeptGroup) → IsChangesOf inc before after changes → OnlyLightens inc before after
+    → IsRowOf row kept → IsKeptOf log kept → IsStep log inc before after → ((osd : ℕ) → Covers row.devices osd → Covers changes.turned osd → ⊥) → may_place_elsewhere (incs_of log) inc kept.pg ≡ false
+lightened log inc before after changes row kept says light is holds step apart =
+    let osd_of : DeviceWeight → ℕ = λ given. given.osd in
+    let places = raw_places (incs_of log) kept.pg in
+    let lies : (osd : ℕ) → stands_in osd places ≡ true → may_lie_on (incs_of log) kept.pg osd ≡ true = λ osd there.
+    lies-there log kept osd holds ∙ ap (λ b. b || has_osd osd kept.temp) (ap (has_osd osd) (sym (raw-is log kept holds)) ∙ there) in
+    let none : list_any (λ osd. stands_in osd places) (map osd_of inc.weight) ≡ false =
+    none-passes (λ osd. stands_in osd places) (map osd_of inc.weight)
+    (λ osd there given. apart osd (is.lies_on log holds osd (lies osd there)) (says.weighed osd (sym (any-mapped osd_of (nat_eq osd) inc.weight) ∙ given))) in
+    let sizes : list_any (λ (sizes : PoolSizes). nat_eq sizes.pool kept.pg.pool) inc.sizes ≡ false = ap (list_any (λ (sizes : PoolSizes). nat_eq sizes.pool kept.pg.pool)) (no-pools inc light.pools).1 in
+    or3_false (is_some inc.crush) (list_any (λ (sizes : PoolSizes). nat_eq sizes.pool kept.pg.pool) inc.sizes) (switches_any (then_with (incs_of log) inc) kept.pg places (map (weighed (incs_of log)) inc.weight))
+    light.tree sizes (lighter-elsewhere (then_with (incs_of log) inc) kept.pg places (map (weighed (incs_of log)) inc.weight) (light.lighter log step)
+    (any-mapped (weighed (incs_of log)) (λ old. stands_in old.osd places) inc.weight ∙ sym (any-mapped osd_of (λ osd. stands_in osd places) inc.weight) ∙ none))
 
 -- the devices of the row were held against those that concern a marked group, if it is marked, or against all
+module _ (marked : Bool) (inc : Incremental) (changes : Changes) (before : MapBefore) (after : OsdMap) (row : Row) (kept : KeptGroup) (log : List Entry) (only : marked ≡ true → row.marked ≡ true)
+    (apart : (osd : ℕ) → Covers row.devices osd → Covers (devices_for marked changes) osd → ⊥) (says : IsChangesOf inc before after changes) (is : IsRowOf row kept) (holds : IsKeptOf log kept) where
+  none-turned : list_any (may_lie_on (incs_of log) kept.pg) (turned_devices inc) ≡ false
+  none-turned =
+      none-passes (may_lie_on (incs_of log) kept.pg) (turned_devices inc)
+      (λ osd lies there. apart osd (is.lies_on log holds osd lies) (turned-for marked changes inc before after osd says there))
+
+  -- no placement changes at all
+  passed-placed : (moves_all inc || changes_pool inc kept.pg.pool || changes_temp inc kept.pg) ≡ false → IsPassedBy log inc kept
+  passed-placed placed = record {
+    still =
+        let parts = or3_parts (moves_all inc) (changes_pool inc kept.pg.pool) (changes_temp inc kept.pg) placed in
+        rw (unplaced (incs_of log) inc kept.pg parts.0 parts.1, parts.1, parts.2) none-turned;
+    untouched = λ worked_out.
+        let none = none-passes (has_to_do_with log kept.pg) (changed_devices inc)
+        (λ osd knows there. apart osd (is.knows worked_out log holds osd knows) (changed-for marked changes inc before after row osd only (is.marked ∙ worked_out) says there)) in
+        ap (λ b. b || list_any (has_to_do_with log kept.pg) (changed_devices inc)) placed ∙ none;
+  }
+
+  -- or only devices get lighter, and the group is marked
+  passed-light : marked ≡ true → OnlyLightens inc before after → IsStep log inc before after → IsPassedBy log inc kept
+  passed-light here light step = record {
+    still =
+        let pools = no-pools inc light.pools in
+        let own : changes_pool inc kept.pg.pool ≡ false = rw (pools.0, pools.1) refl in
+        rw (lightened log inc before after changes row kept says light is holds step (subst (λ b. (osd : ℕ) → Covers row.devices osd → Covers (devices_for b changes) osd → ⊥) here apart), own, pools.2) none-turned;
+    untouched = λ worked_out. absurd (true≢false (sym (only here) ∙ is.marked ∙ worked_out));
+  }
+
+by-kind : (marked : Bool) (inc : Incremental) (changes : Changes) (before : MapBefore) (after : OsdMap) → IsChangesOf inc before after changes → may_place marked changes ≡ false
+    → (changes_placements inc ≡ false) ⊎ ((marked ≡ true) × OnlyLightens inc before after)
+by-kind true inc changes before after says none = elim (says.moves none) [ inl placed ↦ inl placed | inr light ↦ inr (refl, light) ]
+by-kind false inc changes before after says none = inl (sym says.places ∙ none)
+
+-- no placement may change where the group is marked or not, as the row has it, or none of the group does
 pub passed-by : (marked : Bool) (inc : Incremental) (changes : Changes) (row : Row) → (marked ≡ true → row.marked ≡ true)
-    → (IsChangesOf inc changes → (moves_all inc || changes_pool inc row.pg.pool || changes_temp inc row.pg) ≡ false)
+    → (may_place marked changes ≡ false) ⊎ ((moves_all inc || changes_pool inc row.pg.pool || changes_temp inc row.pg) ≡ false)
     → ((osd : ℕ) → Covers row.devices osd → Covers (devices_for marked changes) osd → ⊥) → IsPassedByRow changes inc row
-passed-by marked inc changes row only placed apart says kept is log holds =
-    let none_placed : (moves_all inc || changes_pool inc kept.pg.pool || changes_temp inc kept.pg) ≡ false =
-    subst (λ (pg : PgId). (moves_all inc || changes_pool inc pg.pool || changes_temp inc pg) ≡ false) is.pg (placed says) in
-    record {
-      still =
-          let none = none-passes (may_lie_on (incs_of log) kept.pg) (turned_devices inc)
-          (λ osd lies there. apart osd (is.lies_on log holds osd lies) (turned-for marked changes inc osd says there)) in
-          let parts = or3_parts (moves_all inc) (changes_pool inc kept.pg.pool) (changes_temp inc kept.pg) none_placed in
-          rw (unplaced (incs_of log) inc kept.pg parts.0 parts.1, parts.1, parts.2) none;
-      untouched = λ worked_out.
-          let none = none-passes (has_to_do_with log kept.pg) (changed_devices inc)
-          (λ osd knows there. apart osd (is.knows worked_out log holds osd knows) (changed-for marked changes inc row osd only (is.marked ∙ worked_out) says there)) in
-          ap (λ b. b || list_any (has_to_do_with log kept.pg) (changed_devices inc)) none_placed ∙ none;
-    }
+passed-by marked inc changes row only placed apart before after says kept is log holds step = elim placed [
+  | inl none ↦ elim (by-kind marked inc changes before after says none) [
+    | inl nothing ↦ passed-placed marked inc changes before after row kept log only apart says is holds (nothing-placed inc kept.pg nothing)
+    | inr light ↦ passed-light marked inc changes before after row kept log only apart says is holds light.0 light.1 step
+  ]
+  | inr own ↦
+      passed-placed marked inc changes before after row kept log only apart says is holds
+      (subst (λ (pg : PgId). (moves_all inc || changes_pool inc pg.pool || changes_temp inc pg) ≡ false) is.pg own)
+]
 
 -- it stays as it is
 pub passed-stays : (log : List Entry) (inc : Incremental) (before : MapBefore) (after : OsdMap) (kept : KeptGroup) → IsStep log inc before after → IsKeptOf log kept → IsPassedBy log inc kept → IsKeptOf (log ++ entry.Inc inc ∷ []) kept
@@ -161,9 +217,9 @@ passed-stays log inc before after kept step is passed = elim (cases_Bool (is_mar
 ]
 
 -- a group at whose place the row is passed by stays as it is
-pub passed-at : (log : List Entry) (inc : Incremental) (changes : Changes) (before : MapBefore) (after : OsdMap) (rows : List Row) (groups : List KeptGroup) (place : ℕ) (kept : KeptGroup) → AreRowsOf rows groups → IsChangesOf inc changes
+pub passed-at : (log : List Entry) (inc : Incremental) (changes : Changes) (before : MapBefore) (after : OsdMap) (rows : List Row) (groups : List KeptGroup) (place : ℕ) (kept : KeptGroup) → AreRowsOf rows groups → IsChangesOf inc before after changes
     → ((row : Row) → slice_get rows place ≡ Some row → IsPassedByRow changes inc row) → IsStep log inc before after → slice_get groups place ≡ Some kept → IsKeptOf log kept → IsKeptOf (log ++ entry.Inc inc ∷ []) kept
 passed-at log inc changes before after rows groups place kept are says passed step at is = elim (slice_get_cases rows place).1 [
-  | inl found ↦ passed-stays log inc before after kept step is (passed found.0 found.2 says kept (are.each place found.0 kept found.2 at) log is)
+  | inl found ↦ passed-stays log inc before after kept step is (passed found.0 found.2 before after says kept (are.each place found.0 kept found.2 at) log is step)
   | inr past ↦ absurd (omega (arith, past.0, slice_get_within groups place kept at, are.long))
 ]

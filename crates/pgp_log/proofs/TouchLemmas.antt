@@ -77,7 +77,7 @@ empty-list [] none = refl
 empty-list (x ∷ xs) none = grind (arith, nat_tests)
 
 -- an incremental that makes no pool and changes none
-no-pools : (inc : Incremental) → changes_no_pool inc ≡ true → (inc.pools ≡ []) × (inc.sizes ≡ []) × (inc.temp ≡ [])
+pub no-pools : (inc : Incremental) → changes_no_pool inc ≡ true → (inc.pools ≡ []) × (inc.sizes ≡ []) × (inc.temp ≡ [])
 no-pools inc none =
     let parts = and3_parts (length inc.pools == 0) (length inc.sizes == 0) (length inc.temp == 0) none in
     (empty-list inc.pools parts.0, empty-list inc.sizes parts.1, empty-list inc.temp parts.2)

@@ -1,6 +1,9 @@
 -- What is kept of the map before an incremental while groups take the one after it (this project's own choice).
-use Rattle.std.specs.Prelude.{◌≡◌, ℕ, List, ◌++◌, map, Some}
+use Rattle.std.specs.Prelude.{◌≡◌, ℕ, nat_lt, List, ◌++◌, map, Bool, Some}
+use Rattle.std.specs.List.{list_any}
+use Rattle.pgp_ids.specs.declared.incremental.DeviceWeight.{DeviceWeight}
 use Rattle.pgp_ids.specs.declared.incremental.Incremental.{Incremental}
+use Rattle.pgp_map.specs.Devices.{weight}
 use Rattle.pgp_map.specs.Map.{epoch}
 use Rattle.pgp_sets.specs.Sets.{weighed}
 use Rattle.pgp_group.specs.GroupHistory.{primary_facts}
@@ -14,6 +17,10 @@ renamed_devices inc = inc.up ++ map (λ told. told.osd) inc.up_thru
 -- the device with what the map says of it as a primary
 abbrev pub with_facts : List Incremental → ℕ → DeviceFacts
 with_facts incs osd = record { osd = osd; facts = primary_facts incs (Some osd) }
+
+-- one of these devices, which had these weights, is heavier now
+abbrev pub makes_heavier : List Incremental → List DeviceWeight → Bool
+makes_heavier incs before = list_any (λ old. nat_lt old.weight (weight incs old.osd)) before
 
 -- what is kept is the epoch of the map that these incrementals make, what it says of those devices, and the old weight of each
 -- device that the incremental weighs

@@ -8,7 +8,7 @@ ghost use Rattle.pgp_map.specs.MapFault.{then_with};
 ghost use Rattle.pgp_map.specs.MapOf.{IsMapOf};
 ghost use Rattle.pgp_sets.specs.Sets.{may_place_elsewhere, moves, switches_any, weighed};
 ghost use Rattle.pgp_group.specs.GroupHistory.{primary_facts};
-ghost use Rattle.pgp_log.specs.MapBefore.{IsMapBefore, with_facts};
+ghost use Rattle.pgp_log.specs.MapBefore.{IsMapBefore, makes_heavier, with_facts};
 ghost use Rattle.pgp_log.specs.RawSets.{IsRawSet};
 
 use super::touch::has_sizes;
@@ -88,6 +88,18 @@ impl MapBefore {
             → switches_any incs pg.now raw.now self.now.weights.items ≡ false }
     {
         self.weights.len() > MOST_TESTED || switches_any(after, pg, raw, self.weights.as_slice())
+    }
+
+    /// Whether one of the devices that the incremental weighs gets heavier. `after` is the map with the incremental.
+    pub(crate) fn makes_heavier(&self, after: &OsdMap) -> bool
+        ensures { (incs : List AnyIncremental) → IsMapOf incs after.now → result ≡ makes_heavier incs self.now.weights.items }
+    {
+        for old in self.weights.as_slice() {
+            if after.weight(old.osd) > old.weight {
+                return true;
+            }
+        }
+        false
     }
 
     /// What that map said of an acting primary. `after` is the map with the incremental.

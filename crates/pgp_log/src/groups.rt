@@ -229,7 +229,7 @@ fn absorb_inc(
     ensures ids { ids_of groups.new ≡ ids_of groups.old }
     ensures rows { OnOk result (AreRowsOf rows.new groups.new) }
 {
-    let changes = Changes::of(inc);
+    let changes = Changes::of(before, after, inc);
     let mut from = 0;
     while let Some(place) = rows.next(from, &changes, inc) {
         let kept = &mut groups[place];

@@ -5,7 +5,7 @@ ghost use Rattle.std.specs.List.{list_any};
 ghost use Rattle.pgp_group.specs.Touched.{has_osd};
 ghost use Rattle.pgp_log.specs.OsdFilter.{Covers, CoversStill};
 
-use pgp_ids::{DeviceEpoch, OsdId};
+use pgp_ids::{DeviceEpoch, DeviceWeight, OsdId};
 
 /// A set of devices, in two words. It may say of a device that it is in the set when it isn't, and never the other way.
 #[derive(Clone, Copy)]
@@ -59,6 +59,16 @@ impl OsdFilter {
         }
     }
 
+    /// Adds each device of which a weight is given.
+    pub(crate) fn add_weighed(&mut self, all: &[DeviceWeight])
+        ensures there { (osd : ℕ) → list_any (λ given. nat_eq osd given.osd) all.now ≡ true → Covers self.new osd }
+        ensures still { CoversStill self.old self.new }
+    {
+        for given in all {
+            self.add(given.osd);
+        }
+    }
+
     /// Adds each device that stands on one of the places.
     pub(crate) fn add_places(&mut self, places: &[Option<OsdId>])
         ensures there { (osd : ℕ) → has_osd osd places.now ≡ true → Covers self.new osd }
@@ -75,6 +85,6 @@ impl OsdFilter {
     pub(crate) fn shares(self, other: OsdFilter) -> bool
         ensures { (osd : ℕ) → Covers self osd → Covers other osd → result ≡ true }
     {
-        self.low & other.low != 0 && self.high & other.high != 0
+        (self.low & other.low != 0) & (self.high & other.high != 0)
     }
 }

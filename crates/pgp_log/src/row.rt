@@ -1,11 +1,14 @@
 //! What a shard reads first of each of its groups where an incremental comes.
 
-ghost use Rattle.std.specs.Prelude.{◌≡◌, true};
-ghost use Rattle.pgp_log.specs.KeptGroup.{IsChangesOf, IsPassedByRow, devices_for};
+ghost use Rattle.std.specs.Prelude.{◌≡◌, ◌⊎◌, false, true};
+ghost use Rattle.pgp_log.specs.Touch.{changes_placements};
+ghost use Rattle.pgp_log.specs.KeptGroup.{IsChangesOf, IsPassedByRow, OnlyLightens, devices_for, may_place};
 
+use super::before::MapBefore;
 use super::osd_filter::OsdFilter;
-use super::touch::{changes_placement, changes_placements};
+use super::touch::{changes_no_pool, changes_placement, changes_placements};
 use pgp_ids::{Incremental, PgId};
+use pgp_map::OsdMap;
 
 /// What of a group an incremental is held against first. Rows lie side by side in memory, so that a shard passes by the groups
 /// that an incremental doesn't touch without a look at what it keeps of them.
@@ -23,7 +26,7 @@ impl Row {
     pub(crate) fn is_passed_by(&self, changes: &Changes, inc: &Incremental) -> bool
         ensures { result ≡ true → IsPassedByRow changes.now inc.now self.now }
     {
-        if changes.places && changes_placement(inc, &self.pg) {
+        if changes.may_place(self.marked) && changes_placement(inc, &self.pg) {
             return false;
         }
         !self.devices.shares(changes.devices_for(self.marked))
@@ -34,29 +37,41 @@ impl Row {
 #[derive(Clone, Copy)]
 pub(crate) struct Changes {
     /// It may change where some group lies, whatever becomes of devices.
-    pub(crate) places: bool,
-    /// The devices that it boots, takes down or destroys: only they can move a group that lies on them.
+    places: bool,
+    /// The same, but for weights by which no device gets heavier: they move a group only if it lies on a device that is weighed.
+    moves: bool,
+    /// The devices that it boots, takes down, destroys or weighs.
     turned: OsdFilter,
     /// The devices whose state it changes.
     devices: OsdFilter,
 }
 
 impl Changes {
-    pub(crate) fn of(inc: &Incremental) -> Self
-        ensures { IsChangesOf inc.now result }
+    /// What the incremental changes, which leads from the map before to the one after.
+    pub(crate) fn of(before: &MapBefore, after: &OsdMap, inc: &Incremental) -> Self
+        ensures { IsChangesOf inc.now before.now after.now result }
     {
         let mut turned = OsdFilter::empty();
         turned.add_all(inc.up.as_slice());
         turned.add_all(inc.down.as_slice());
         turned.add_all(inc.gone.as_slice());
+        turned.add_weighed(inc.weight.as_slice());
         let mut devices = turned;
         devices.add_told(inc.up_thru.as_slice());
         devices.add_told(inc.lost.as_slice());
         Changes {
             places: changes_placements(inc),
+            moves: moves_some(before, after, inc),
             turned,
             devices,
         }
+    }
+
+    /// The incremental may change where some group lies, whatever becomes of devices, by whether the group is marked.
+    pub(crate) fn may_place(&self, marked: bool) -> bool
+        ensures { result ≡ may_place marked self.now }
+    {
+        if marked { self.moves } else { self.places }
     }
 
     /// The devices that concern a group, by whether it is marked.
@@ -65,4 +80,18 @@ impl Changes {
     {
         if marked { self.turned } else { self.devices }
     }
+}
+
+/// The incremental may change where some group lies, whatever becomes of devices, otherwise than by making devices lighter.
+fn moves_some(before: &MapBefore, after: &OsdMap, inc: &Incremental) -> bool
+    ensures { result ≡ false → (changes_placements inc.now ≡ false) ⊎ OnlyLightens inc.now before.now after.now }
+{
+    changes_placements(inc) && !only_lightens(before, after, inc)
+}
+
+/// The incremental changes no placement but by weights, and makes no device heavier. Such weights can only take devices out.
+fn only_lightens(before: &MapBefore, after: &OsdMap, inc: &Incremental) -> bool
+    ensures { result ≡ true → OnlyLightens inc.now before.now after.now }
+{
+    inc.crush.is_none() && changes_no_pool(inc) && !before.makes_heavier(after)
 }

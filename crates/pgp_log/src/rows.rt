@@ -119,7 +119,7 @@ impl Block {
     fn is_passed_by(&self, changes: &Changes) -> bool
         ensures { result ≡ true → (inc : AnyIncremental) (row : AnyRow) → IsInBlock row self.now → IsPassedByRow changes.now inc row }
     {
-        !changes.places && !self.devices.shares(changes.devices_for(self.marked))
+        !changes.may_place(self.marked) && !self.devices.shares(changes.devices_for(self.marked))
     }
 }
 

@@ -79,7 +79,7 @@ pub(crate) fn changes_nothing(inc: &Incremental) -> bool
 }
 
 /// The incremental makes no pool, and changes none, and no pg_temp list.
-fn changes_no_pool(inc: &Incremental) -> bool
+pub(crate) fn changes_no_pool(inc: &Incremental) -> bool
     ensures { result ≡ changes_no_pool inc.now }
 {
     inc.pools.is_empty() && inc.sizes.is_empty() && inc.temp.is_empty()

@@ -3,7 +3,7 @@ use Rattle.std.proofs.Common.{◌≡◌, ℕ, List, [], ◌∷◌, Option, Some,
 use Rattle.std.specs.Prelude.{nat_eq, nat_lt, length, option_map, is_some, not, ◌&&◌, ◌||◌, slice_index, if◌then◌else◌}
 use Rattle.std.specs.List.{Contains, list_any, range_with_len}
 use Rattle.std.specs.Option.{option_eq, option_map_or}
-use Rattle.std.proofs.lemmas.Bool.{cases_lt, eqb-true, not-false, true≢false}
+use Rattle.std.proofs.lemmas.Bool.{cases_lt, eqb-true, not-false, or_parts, true≢false}
 use Rattle.std.proofs.lemmas.Bool.Decides.{nat_tests}
 use Rattle.std.proofs.lemmas.List.{get_or_past, length-map}
 use Rattle.std.proofs.lemmas.List.FromFn.{get_or-map-range_with_len, length-map-range_with_len}
@@ -134,7 +134,25 @@ none-switched incs pg places [] none = by_pool (pool incs pg.pool)
     by_pool (Some made) = refl
 none-switched incs pg places (old ∷ before) none = absurd (omega arith)
 
-or3_false : (a b c : Bool) → a ≡ false → b ≡ false → c ≡ false → (a || b || c) ≡ false
+-- none is switched where each gets lighter or stays, and none has one of the places
+pub lighter-elsewhere : (incs : List Incremental) (pg : PgId) (places : List (Option ℕ)) (before : List DeviceWeight) → list_any (λ old. nat_lt old.weight (weight incs old.osd)) before ≡ false
+    → list_any (λ old. stands_in old.osd places) before ≡ false → switches_any incs pg places before ≡ false
+lighter-elsewhere incs pg places before falls apart = by_pool (pool incs pg.pool)
+  where
+    none : (x : ℕ) (l : List DeviceWeight) → list_any (λ old. nat_lt old.weight (weight incs old.osd)) l ≡ false → list_any (λ old. stands_in old.osd places) l ≡ false
+        → list_any (λ old. switches x places old.osd old.weight (weight incs old.osd)) l ≡ false
+    none x [] falls apart = refl
+    none x (old ∷ l) falls apart =
+        let one = or_parts (nat_lt old.weight (weight incs old.osd)) (list_any (λ old. nat_lt old.weight (weight incs old.osd)) l) falls in
+        let two = or_parts (stands_in old.osd places) (list_any (λ old. stands_in old.osd places) l) apart in
+        let here : switches x places old.osd old.weight (weight incs old.osd) ≡ false = switch_by_weight x places old.osd old.weight (weight incs old.osd) ∙ rw (one.0, two.0) refl in
+        rw here (none x l one.1 two.1)
+
+    by_pool : (found : Option PoolSpec) → option_map_or (λ made. list_any (λ old. switches (placement_input made pg) places old.osd old.weight (weight incs old.osd)) before) found false ≡ false
+    by_pool None = refl
+    by_pool (Some made) = none (placement_input made pg) before falls apart
+
+pub or3_false : (a b c : Bool) → a ≡ false → b ≡ false → c ≡ false → (a || b || c) ≡ false
 or3_false a b c first second third = rw (first, second) third
 
 -- an incremental that moves no group of the pool

@@ -1,18 +1,22 @@
-use Rattle.std.proofs.Common.{sym, subst, ◌∙◌}
+use Rattle.std.proofs.Common.{◌≡◌, ◌⊎◌, ◌||◌, false, sym, inl, inr, subst, ◌∙◌}
 use Rattle.std.proofs.lemmas.Bool.{not-true, true≢false}
+use Rattle.pgp_group.specs.Touched.{changes_pool, changes_temp, moves_all}
+use Rattle.pgp_log.specs.KeptGroup.{may_place}
 use Rattle.pgp_log.specs.OsdFilter.{Covers}
 use Rattle.pgp_log.specs.declared.osd_filter.OsdFilter.{OsdFilter}
+use Rattle.pgp_log.specs.declared.row.Row.{Row}
 use Rattle.pgp_log.proofs.RowLemmas.{passed-by}
-use Rattle.pgp_log.proofs.TouchLemmas.{nothing-placed}
 use Rattle.pgp_log.proofs.row.Row.is_passed_by.Goals as goal
-use Rattle.pgp_log.proofs.row.Row.is_passed_by.Goals.{else-changes-via-then-changes+else-changes_placement, else-changes-via-else-changes}
+use Rattle.pgp_log.proofs.row.Row.is_passed_by.Goals.{else-may_place-via-then-may_place+else-changes_placement, else-may_place-via-else-may_place}
 
 pub returns : goal.returns
 returns c = λ passed.
-    let row = c.args.self.now in
-    passed-by row.marked c.args.inc.now c.args.changes.now row (λ marked. marked)
-    (λ says. elim c.else-changes.branch [
-      | else-changes-via-then-changes+else-changes_placement w ↦ sym w.changes_placement.ensures ∙ w.if-changes_placement.false
-      | else-changes-via-else-changes w ↦ nothing-placed c.args.inc.now row.pg (sym says.places ∙ w.if-changes.false)
-    ])
+    let row : Row = c.args.self.now in
+    let inc = c.args.inc.now in
+    let placed : (may_place row.marked c.args.changes.now ≡ false) ⊎ ((moves_all inc || changes_pool inc row.pg.pool || changes_temp inc row.pg) ≡ false) =
+    elim c.else-may_place.branch [
+      | else-may_place-via-then-may_place+else-changes_placement w ↦ inr (sym w.changes_placement.ensures ∙ w.if-changes_placement.false)
+      | else-may_place-via-else-may_place w ↦ inl (sym c.may_place.ensures ∙ w.if-may_place.false)
+    ] in
+    passed-by row.marked inc c.args.changes.now row (λ marked. marked) placed
     (λ osd one two. true≢false (sym (c.shares.ensures osd one (subst (λ (set : OsdFilter). Covers set osd) (sym c.devices_for.ensures) two)) ∙ not-true c.shares.result passed))
