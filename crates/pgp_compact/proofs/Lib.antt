@@ -1,15 +1,11 @@
+pub mod Common
 pub mod NeededLemmas
 pub mod NumberLemmas
 pub mod IntervalLemmas
-pub mod InfoLemmas
-pub mod ReportLemmas
-pub mod AlikeLemmas
 pub mod PartLemmas
 pub mod GoneOnLemmas
 pub mod LegalLemmas
 pub mod TwiceLemmas
-pub mod OpeningLemmas
-pub mod CourseLemmas
 pub mod CoursesLemmas
 pub mod LaterLemmas
 pub mod WholeLemmas

@@ -1,161 +1,86 @@
--- A log entry plays no part where one of its number comes later.
-use Rattle.std.proofs.Common.{◌≡◌, ◌<◌, ℕ, List, [], ◌∷◌, ◌++◌, Bool, true, false, nat_eq, refl, ap, sym, ◌∙◌, inl, inr, arith}
-use Rattle.std.specs.Cmp.{nat_cmp_is}
-use Rattle.std.specs.List.{Contains, filter, flat_map, fold}
-use Rattle.std.specs.Ordering.{nat_cmp, match_ordering}
-use Rattle.std.specs.declared.cmp.Ordering.{Ordering}
-use Rattle.std.specs.declared.cmp.Ordering.TheVariants.{Less, Equal, Greater}
-use Rattle.std.proofs.lemmas.Bool.{cases_Bool, cases_order, true≢false}
-use Rattle.std.proofs.lemmas.Bool.Decides.{nat_tests}
-use Rattle.std.proofs.lemmas.List.Sums.{fold-append}
-use Rattle.pgp_ids.specs.declared.log_entry.LogEntry.{LogEntry}
-use Rattle.pgp_ids.specs.declared.report.Report.{Report}
-use Rattle.pgp_lists.proofs.Members.{Contains-here, Contains-later}
+-- The last log entry of each number.
+use Rattle.pgp_compact.proofs.Common.{All-contains, AllPairs, Bool, Contains, Contains-cases, Contains-nil, List, LogEntry, None, Option, Report, Some, [], ap, arith, by_number, cases_order, cond, filter, filter-append, filter-both, filter-none, find, find-some, flat_map, fold, has_number, last_or, last_or-any, list_any, nat_eq, nat_lt, nat_tests, option_and_then, refl, sym, true, ℕ, ◌&&◌, ◌∙◌, ◌∷◌, ◌≡◌}
+use Rattle.pgp_lists.proofs.Last.{last_or-append}
+use Rattle.pgp_lists.proofs.Ordered.{ascending-unique}
+use Rattle.pgp_lists.proofs.Pairs.{AllPairs-first, AllPairs-rest, AllPairs-weaker}
+use Rattle.pgp_lists.specs.Last.{last_where}
+use Rattle.pgp_missing.proofs.LastLemmas.{last_of_each-ordered}
 use Rattle.pgp_missing.specs.Last.{put_in}
-use Rattle.pgp_missing.specs.Log.{number_of, has_number, by_number}
-use Rattle.pgp_compact.specs.Needed.{needed_of}
+use Rattle.std.proofs.lemmas.Cmp.{nat_cmp_total}
+use Rattle.std.proofs.lemmas.Map.Lookups.{exact_unsigned}
+use Rattle.std.specs.Ordering.{nat_cmp}
+use Rattle.std.specs.declared.cmp.Ordering.TheVariants.{Less}
+use Rattle.pgp_missing.specs.Log.{number_of}
 
--- the entries that are kept by number, with one more
-unfoldable pub put : List LogEntry → LogEntry → List LogEntry
-put = put_in number_of nat_cmp
+-- the entry has this number
+abbrev pub has : ℕ → LogEntry → Bool
+has v entry = nat_eq (number_of entry) v
 
--- ---- where it goes
+abbrev below : LogEntry → LogEntry → Bool
+below a b = nat_lt (number_of a) (number_of b)
 
-put-none : (x : LogEntry) → put [] x ≡ x ∷ []
-unfolding put
-put-none x = refl
+find-put : (acc : List LogEntry) (x : LogEntry) (v : ℕ) → find (has v) (put_in number_of nat_cmp acc x) ≡ cond (has v x) (Some x) (find (has v) acc)
+find-put [] x v = refl
+find-put (a ∷ acc) x v = grind (arith, nat_tests, exact_unsigned (number_of x) (number_of a), cases_order (number_of x) (number_of a), find-put acc x v)
 
-put-before : (acc : List LogEntry) (a x : LogEntry) → number_of x < number_of a → put (a ∷ acc) x ≡ x ∷ a ∷ acc
-unfolding put
-put-before acc a x below = ap (λ (r : Ordering). match_ordering r (x ∷ a ∷ acc) (x ∷ acc) (a ∷ put_in number_of nat_cmp acc x)) (sym (nat_cmp_is (number_of x) (number_of a) Less below))
+find-all : (acc xs : List LogEntry) (v : ℕ) → find (has v) (fold (put_in number_of nat_cmp) acc xs) ≡ last_or (find (has v) acc) (filter (has v) xs)
+find-all acc [] v = refl
+find-all acc (x ∷ xs) v = grind (arith, find-put acc x v, find-all (put_in number_of nat_cmp acc x) xs v)
 
-put-over : (acc : List LogEntry) (a x : LogEntry) → number_of x ≡ number_of a → put (a ∷ acc) x ≡ x ∷ acc
-unfolding put
-put-over acc a x same = ap (λ (r : Ordering). match_ordering r (x ∷ a ∷ acc) (x ∷ acc) (a ∷ put_in number_of nat_cmp acc x)) (sym (nat_cmp_is (number_of x) (number_of a) Equal same))
+-- of a list in ascending order of numbers each element is found by its number
+found : (xs : List LogEntry) (z : LogEntry) → AllPairs (λ a b. below a b ≡ true) xs → Contains xs z → find (has (number_of z)) xs ≡ Some z
+found [] z up there = absurd (Contains-nil z there)
+found (x ∷ xs) z up there =
+    grind (
+      arith,
+      nat_tests,
+      Contains-cases x xs z there,
+      All-contains (λ b. below x b ≡ true) xs z (AllPairs-first (λ a b. below a b ≡ true) x xs up),
+      found xs z (AllPairs-rest (λ a b. below a b ≡ true) x xs up),
+    )
 
-put-after : (acc : List LogEntry) (a x : LogEntry) → number_of a < number_of x → put (a ∷ acc) x ≡ a ∷ put acc x
-unfolding put
-put-after acc a x above = ap (λ (r : Ordering). match_ordering r (x ∷ a ∷ acc) (x ∷ acc) (a ∷ put_in number_of nat_cmp acc x)) (sym (nat_cmp_is (number_of x) (number_of a) Greater above))
+ascends : (xs : List LogEntry) → AllPairs (λ a b. below a b ≡ true) (by_number xs)
+ascends xs =
+    AllPairs-weaker (λ a b. nat_cmp (number_of a) (number_of b) ≡ Less) (λ a b. below a b ≡ true) (λ a b less. grind (arith, nat_tests)) (by_number xs)
+    (last_of_each-ordered number_of nat_cmp nat_cmp_total exact_unsigned xs)
 
--- ---- two, one after the other
+-- both lists have the same last entry of each number
+abbrev pub AlikeByNumber : List LogEntry → List LogEntry → Type 0
+AlikeByNumber xs ys = (v : ℕ) → last_where (has v) xs ≡ last_where (has v) ys
 
--- of two with one number the second stays
-put-again : (acc : List LogEntry) (x y : LogEntry) → number_of x ≡ number_of y → put (put acc x) y ≡ put acc y
-put-again [] x y same = ap (λ l. put l y) (put-none x) ∙ put-over [] x y (sym same) ∙ sym (put-none y)
-put-again (a ∷ acc) x y same = elim (cases_order (number_of x) (number_of a)) [
-  | inl tied ↦ ap (λ l. put l y) (put-over acc a x tied) ∙ put-over acc x y (sym same) ∙ sym (put-over acc a y (sym same ∙ tied))
-  | inr differ ↦ elim differ [
-    | inl below ↦ ap (λ l. put l y) (put-before acc a x below) ∙ put-over (a ∷ acc) x y (sym same) ∙ sym (put-before acc a y (omega arith))
-    | inr above ↦
-        let later : number_of a < number_of y = omega arith in
-        ap (λ l. put l y) (put-after acc a x above) ∙ put-after (put acc x) a y later ∙ ap (λ l. a ∷ l) (put-again acc x y same) ∙ sym (put-after acc a y later)
-  ]
-]
+among : (xs ys : List LogEntry) → AlikeByNumber xs ys → (z : LogEntry) → Contains (by_number xs) z → Contains (by_number ys) z
+among xs ys same z there =
+    let v : ℕ = number_of z in
+    (find-some (has v) (by_number ys) z (find-all [] ys v ∙ sym (same v) ∙ sym (find-all [] xs v) ∙ found (by_number xs) z (ascends xs) there)).0
 
--- two of different numbers may come in either order
-put-swaps : (acc : List LogEntry) (x y : LogEntry) → number_of x < number_of y → put (put acc x) y ≡ put (put acc y) x
-put-swaps [] x y less =
-    ap (λ l. put l y) (put-none x) ∙ put-after [] x y less ∙ ap (λ l. x ∷ l) (put-none y) ∙ sym (ap (λ l. put l x) (put-none y) ∙ put-before [] y x less)
-put-swaps (a ∷ acc) x y less = elim (cases_order (number_of y) (number_of a)) [
-  | inl tied ↦
-      let below : number_of x < number_of a = omega arith in
-      ap (λ l. put l y) (put-before acc a x below) ∙ put-after (a ∷ acc) x y less ∙ ap (λ l. x ∷ l) (put-over acc a y tied)
-      ∙ sym (ap (λ l. put l x) (put-over acc a y tied) ∙ put-before acc y x less)
-  | inr differ ↦ elim differ [
-    | inl ahead ↦
-        let below : number_of x < number_of a = omega arith in
-        ap (λ l. put l y) (put-before acc a x below) ∙ put-after (a ∷ acc) x y less ∙ ap (λ l. x ∷ l) (put-before acc a y ahead)
-        ∙ sym (ap (λ l. put l x) (put-before acc a y ahead) ∙ put-before (a ∷ acc) y x less)
-    | inr behind ↦ elim (cases_order (number_of x) (number_of a)) [
-      | inl tied ↦
-          ap (λ l. put l y) (put-over acc a x tied) ∙ put-after acc x y less
-          ∙ sym (ap (λ l. put l x) (put-after acc a y behind) ∙ put-over (put acc y) a x tied)
-      | inr other ↦ elim other [
-        | inl below ↦
-            ap (λ l. put l y) (put-before acc a x below) ∙ put-after (a ∷ acc) x y less ∙ ap (λ l. x ∷ l) (put-after acc a y behind)
-            ∙ sym (ap (λ l. put l x) (put-after acc a y behind) ∙ put-before (put acc y) a x below)
-        | inr above ↦
-            ap (λ l. put l y) (put-after acc a x above) ∙ put-after (put acc x) a y behind ∙ ap (λ l. a ∷ l) (put-swaps acc x y less)
-            ∙ sym (ap (λ l. put l x) (put-after acc a y behind) ∙ put-after (put acc y) a x above)
-      ]
-    ]
-  ]
-]
+pub by_number-same : (xs ys : List LogEntry) → AlikeByNumber xs ys → by_number xs ≡ by_number ys
+by_number-same xs ys same =
+    ascending-unique below (λ x y z. grind (arith, nat_tests)) (λ x. grind (arith, nat_tests)) (by_number xs) (by_number ys) (ascends xs) (ascends ys)
+    (among xs ys same) (among ys xs (λ v. sym (same v)))
 
-put-apart : (acc : List LogEntry) (x y : LogEntry) → nat_eq (number_of y) (number_of x) ≡ false → put (put acc x) y ≡ put (put acc y) x
-put-apart acc x y apart = elim (cases_order (number_of x) (number_of y)) [
-  | inl same ↦ let tied : nat_eq (number_of y) (number_of x) ≡ true = grind (arith, nat_tests) in absurd (true≢false (sym tied ∙ apart))
-  | inr differ ↦ elim differ [ inl less ↦ put-swaps acc x y less | inr more ↦ sym (put-swaps acc y x more) ]
-]
+-- the last that passes of lists in a row is that of the last list with one
+pub last-in : {X Y : Type 0} (f : X → List Y) (test : Y → Bool) (before : Option X) (xs : List X)
+    → last_or (option_and_then (λ x. last_where test (f x)) before) (filter test (flat_map f xs))
+    ≡ option_and_then (λ x. last_where test (f x)) (last_or before (filter (λ x. list_any test (f x)) xs))
+last-in f test before [] = refl
+last-in f test before (x ∷ xs) =
+    grind (
+      arith,
+      filter-append test (f x) (flat_map f xs),
+      last_or-append (option_and_then (λ y. last_where test (f y)) before) (filter test (f x)) (filter test (flat_map f xs)),
+      last_or-any test (option_and_then (λ y. last_where test (f y)) before) None (f x),
+      filter-none test (f x),
+      last-in f test before xs,
+      last-in f test (Some x) xs,
+    )
 
--- ---- entries before others
-
--- one that comes before another of its number
-one-replaced : (acc : List LogEntry) (x : LogEntry) (ys : List LogEntry) → has_number (number_of x) ys ≡ true → fold put (put acc x) ys ≡ fold put acc ys
-one-replaced acc x [] has = cc
-one-replaced acc x (y ∷ ys) has = elim (cases_Bool (nat_eq (number_of y) (number_of x))) [
-  | inl same ↦
-      let tied : number_of x ≡ number_of y = grind (arith, nat_tests) in
-      ap (λ l. fold put l ys) (put-again acc x y tied)
-  | inr apart ↦ ap (λ l. fold put l ys) (put-apart acc x y apart) ∙ one-replaced (put acc y) x ys (rw apart at has)
-]
-
-has-more : (v : ℕ) (xs ys : List LogEntry) → has_number v ys ≡ true → has_number v (xs ++ ys) ≡ true
-has-more v [] ys has = has
-has-more v (x ∷ xs) ys has = elim (cases_Bool (nat_eq (number_of x) v)) [
-  | inl here ↦ rw here refl
-  | inr other ↦ rw other (has-more v xs ys has)
-]
-
-all-replaced : (acc xs ys : List LogEntry) → ((x : LogEntry) → Contains xs x → has_number (number_of x) ys ≡ true) → fold put acc (xs ++ ys) ≡ fold put acc ys
-all-replaced acc [] ys each = refl
-all-replaced acc (x ∷ xs) ys each =
-    one-replaced acc x (xs ++ ys) (has-more (number_of x) xs ys (each x (Contains-here x xs)))
-    ∙ all-replaced acc xs ys (λ y there. each y (Contains-later x xs y there))
-
--- ---- reports before others
-
+-- the log entries of the reports that pass a test
 abbrev pub entries_in : (Report → Bool) → List Report → List LogEntry
 entries_in passes reports = flat_map (λ report. report.log) (filter passes reports)
 
--- of reports of which all this holds, and which pass a test, one is needless only where each of its numbers comes later in one
--- that passes too
-abbrev pub LeavesReplaced : (Report → Type 0) → (List Report → Report → Bool) → (Report → Bool) → Type 0
-LeavesReplaced Holds test passes =
-    (later : List Report) (report : Report) → Holds report → ((other : Report) → Contains later other → Holds other) → passes report ≡ true → test later report ≡ false
-    → (entry : LogEntry) → Contains report.log entry → has_number (number_of entry) (entries_in passes later) ≡ true
-
-needed-entries : (Holds : Report → Type 0) (test : List Report → Report → Bool) (passes : Report → Bool) → LeavesReplaced Holds test passes
-    → (acc : List LogEntry) (reports : List Report) → ((report : Report) → Contains reports report → Holds report)
-    → fold put acc (entries_in passes (needed_of test reports)) ≡ fold put acc (entries_in passes reports)
-needed-entries Holds test passes leaves acc [] each = refl
-needed-entries Holds test passes leaves acc (r ∷ later) each =
-    let after : (report : Report) → Contains later report → Holds report = λ report there. each report (Contains-later r later report there) in
-    let rest : (l : List LogEntry) → fold put l (entries_in passes (needed_of test later)) ≡ fold put l (entries_in passes later) =
-    λ l. needed-entries Holds test passes leaves l later after in
-    elim (cases_Bool (passes r)) [
-      | inl does ↦ elim (cases_Bool (test later r)) [
-        | inl needed ↦
-            rw (needed, does)
-            (fold-append put acc r.log (entries_in passes (needed_of test later))
-            ∙ rest (fold put acc r.log)
-            ∙ sym (fold-append put acc r.log (entries_in passes later)))
-        | inr other ↦
-            rw (other, does)
-            (rest acc ∙ sym (all-replaced acc r.log (entries_in passes later) (leaves later r (each r (Contains-here r later)) after does other)))
-      ]
-      | inr doesn't ↦ elim (cases_Bool (test later r)) [
-        | inl needed ↦ rw (needed, doesn't) (rest acc)
-        | inr other ↦ rw (other, doesn't) (rest acc)
-      ]
-    ]
-
--- by number those that are needed are the same as all, whatever follows
-pub needed-by_number : (Holds : Report → Type 0) (test : List Report → Report → Bool) (passes : Report → Bool) → LeavesReplaced Holds test passes
-    → (reports : List Report) (more : List LogEntry) → ((report : Report) → Contains reports report → Holds report)
-    → by_number (entries_in passes (needed_of test reports) ++ more) ≡ by_number (entries_in passes reports ++ more)
-unfolding put
-needed-by_number Holds test passes leaves reports more each =
-    fold-append put [] (entries_in passes (needed_of test reports)) more
-    ∙ ap (λ acc. fold put acc more) (needed-entries Holds test passes leaves [] reports each)
-    ∙ sym (fold-append put [] (entries_in passes reports) more)
+-- the last entry of a number is in the last report that passes and has one
+pub last-number : (v : ℕ) (passes : Report → Bool) (reports : List Report) → last_where (has v) (entries_in passes reports)
+    ≡ option_and_then (λ report. last_where (has v) report.log) (last_or None (filter (λ report. passes report && has_number v report.log) reports))
+last-number v passes reports =
+    last-in (λ (report : Report). report.log) (has v) None (filter passes reports)
+    ∙ ap (λ (l : List Report). option_and_then (λ report. last_where (has v) report.log) (last_or None l)) (sym (filter-both passes (λ (report : Report). has_number v report.log) reports))

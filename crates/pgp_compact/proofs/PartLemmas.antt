@@ -1,46 +1,28 @@
--- The incrementals of a compacted log, its end, and the reports of one group that are left.
-use Rattle.std.proofs.Common.{◌≡◌, List, ◌++◌, Option, Some, None, is_some, Bool, true, false, refl, ap, sym, ◌∙◌}
-use Rattle.std.specs.List.{filter, filter_map}
-use Rattle.std.specs.Option.{option_map, option_map_or}
-use Rattle.std.proofs.lemmas.List.Elements.{filter-append, filter_map-append}
-use Rattle.std.proofs.lemmas.Option.{same_Some}
-use Rattle.pgp_code.specs.declared.any.AnyCode.{AnyCode}
-use Rattle.pgp_ids.specs.declared.entry.Entry.{Entry}
+-- What is left of a compacted log: its incrementals, and of the reports of a group those that say of it what all of them say,
+-- whatever follows.
+use Rattle.pgp_compact.proofs.Common.{AnyCode, Bool, Contains, Contains-here, Contains-later, Entry, GroupLog, History, Incremental, Info, List, LogEntry, Member, None, Option, PgId, Report, Some, [], and_parts, any-contains, ap, append-nil, arith, by_number, cases_lt, compacted, contains-any, counts_by, ends_at, false, fold, group_in, has_clean_with, has_number, inc_of, incs, incs_of, infos_in, is_counted, is_needed, is_same_group, is_same_member, is_some, last_place, les, list_any, map, map-append, max, nat_eq, nat_le, nat_tests, needed_of, needs_info, needs_report, none-narrower, not, opening_of, option_and_then, option_map_or, refl, replaces, replaces_number, report_of, reports_in, same_Some, same_group, starts_as_late, suc, sym, true, ℕ, ◌&&◌, ◌++◌, ◌+◌, ◌<◌, ◌||◌, ◌∙◌, ◌∷◌, ◌≡◌, ◌≤◌}
+use Rattle.pgp_compact.proofs.IntervalLemmas.{GoesOn, stays-within}
+use Rattle.pgp_compact.proofs.NeededLemmas.{NeedsLast, needed-any, needed-last, needed-none, needed-part, needed-whole}
+use Rattle.pgp_compact.proofs.NumberLemmas.{by_number-same, entries_in, has, last-number}
+use Rattle.pgp_group.proofs.InterleavingLemmas.{is_of}
+use Rattle.pgp_group.proofs.PeerLemmas.{same_member}
+use Rattle.pgp_lists.specs.Last.{last_where}
+use Rattle.std.proofs.Math.Bool.{or-false, or-true}
+use Rattle.std.proofs.lemmas.List.Sums.{fold-append}
 use Rattle.pgp_ids.specs.declared.entry.Entry.TheVariants as entry
-use Rattle.pgp_ids.specs.declared.pg_id.PgId.{PgId}
-use Rattle.pgp_ids.specs.declared.report.Info.{Info}
-use Rattle.pgp_ids.specs.declared.report.Report.{Report}
-use Rattle.pgp_interval.specs.History.{History}
-use Rattle.pgp_map.specs.Pools.{is_same_group}
-use Rattle.pgp_group.specs.Entries.{inc_of, info_of, report_of, incs_of}
-use Rattle.pgp_group.specs.GroupHistory.{group_history}
-use Rattle.pgp_group.specs.GroupLog.{GroupLog, group_in, group_with}
-use Rattle.pgp_tables.proofs.Told.{same_group}
-use Rattle.pgp_compact.specs.Compacted.{compacted, infos_in, is_needed, needs_info, needs_report, reports_in}
-use Rattle.pgp_compact.specs.Needed.{needed_of}
-use Rattle.pgp_compact.proofs.NeededLemmas.{needed-each, needed-part, needed-whole}
+use Rattle.pgp_group.specs.Entries.{info_of}
 
 -- ---- what stays whole
 
--- the entry is no report
-abbrev pub is_kept : Entry → Bool
-is_kept (entry.Inc inc) = true
-is_kept (entry.Info info) = false
-is_kept (entry.Entries report) = false
-is_kept entry.Close = true
-
 inc-needed : (log later : List Entry) (x : Entry) → is_some (inc_of x) ≡ true → is_needed log later x ≡ true
 inc-needed log later (entry.Inc inc) is = refl
-inc-needed log later (entry.Info info) is = cc
-inc-needed log later (entry.Entries report) is = cc
-inc-needed log later entry.Close is = refl
-
-pub incs-same : (log : List Entry) → incs_of (compacted log) ≡ incs_of log
-incs-same log = needed-whole inc_of (is_needed log) (inc-needed log) log
+inc-needed log later x is = cc
 
 pub incs-gone_on : (log more : List Entry) → incs_of (compacted log ++ more) ≡ incs_of (log ++ more)
-incs-gone_on log more =
-    filter_map-append inc_of (compacted log) more ∙ ap (λ incs. incs ++ incs_of more) (incs-same log) ∙ sym (filter_map-append inc_of log more)
+incs-gone_on log more = needed-whole inc_of (is_needed log) (inc-needed log) log more
+
+pub incs-same : (log : List Entry) → incs_of (compacted log) ≡ incs_of log
+incs-same log = simp append-nil at (incs-gone_on log [])
 
 -- ---- the infos of one group
 
@@ -53,18 +35,12 @@ info-decides log pg later (entry.Info sent) info is here =
     let it : sent ≡ info = same_Some sent info is in
     let of_it : sent.pg ≡ pg = ap (λ (i : Info). i.pg) it ∙ same_group info.pg pg here in
     λ k. wants_info (group_in log (of_it k)) (infos_in (of_it k) later) (it k)
-info-decides log pg later (entry.Inc inc) info is here = cc
-info-decides log pg later (entry.Entries report) info is here = cc
-info-decides log pg later entry.Close info is here = cc
+info-decides log pg later x info is here = cc
 
-pub infos-needed : (log rest : List Entry) (pg : PgId) → infos_in pg (needed_of (is_needed log) rest) ≡ needed_of (wants_info (group_in log pg)) (infos_in pg rest)
-infos-needed log rest pg =
-    needed-part info_of (λ info. is_same_group info.pg pg) (is_needed log) (wants_info (group_in log pg)) (info-decides log pg) rest
-
-pub infos_in-append : (pg : PgId) (a b : List Entry) → infos_in pg (a ++ b) ≡ infos_in pg a ++ infos_in pg b
-infos_in-append pg a b =
-    ap (filter (λ (info : Info). is_same_group info.pg pg)) (filter_map-append info_of a b)
-    ∙ filter-append (λ (info : Info). is_same_group info.pg pg) (filter_map info_of a) (filter_map info_of b)
+pub infos-needed : (log rest more : List Entry) (pg : PgId)
+    → infos_in pg (needed_of (is_needed log) rest ++ more) ≡ needed_of (wants_info (group_in log pg)) (infos_in pg rest) ++ infos_in pg more
+infos-needed log rest more pg =
+    needed-part info_of (λ info. is_same_group info.pg pg) (is_needed log) (wants_info (group_in log pg)) (info-decides log pg) rest more
 
 -- ---- the reports of log entries of one group
 
@@ -77,40 +53,145 @@ report-decides log pg later (entry.Entries sent) report is here =
     let it : sent ≡ report = same_Some sent report is in
     let of_it : sent.pg ≡ pg = ap (λ (r : Report). r.pg) it ∙ same_group report.pg pg here in
     λ k. wants_report (group_in log (of_it k)) (reports_in (of_it k) later) (it k)
-report-decides log pg later (entry.Inc inc) report is here = cc
-report-decides log pg later (entry.Info info) report is here = cc
-report-decides log pg later entry.Close report is here = cc
+report-decides log pg later x report is here = cc
 
-pub reports-needed : (log rest : List Entry) (pg : PgId) → reports_in pg (needed_of (is_needed log) rest) ≡ needed_of (wants_report (group_in log pg)) (reports_in pg rest)
-reports-needed log rest pg =
-    needed-part report_of (λ report. is_same_group report.pg pg) (is_needed log) (wants_report (group_in log pg)) (report-decides log pg) rest
+pub reports-needed : (log rest more : List Entry) (pg : PgId)
+    → reports_in pg (needed_of (is_needed log) rest ++ more) ≡ needed_of (wants_report (group_in log pg)) (reports_in pg rest) ++ reports_in pg more
+reports-needed log rest more pg =
+    needed-part report_of (λ report. is_same_group report.pg pg) (is_needed log) (wants_report (group_in log pg)) (report-decides log pg) rest more
 
-pub reports_in-append : (pg : PgId) (a b : List Entry) → reports_in pg (a ++ b) ≡ reports_in pg a ++ reports_in pg b
-reports_in-append pg a b =
-    ap (filter (λ (report : Report). is_same_group report.pg pg)) (filter_map-append report_of a b)
-    ∙ filter-append (λ (report : Report). is_same_group report.pg pg) (filter_map report_of a) (filter_map report_of b)
+-- ---- a group that goes on
 
--- ---- a group that the log has, and one that it hasn't
+-- how the group of the log that was compacted stands to its history later: what was sent by the epoch of that log and counts
+-- later counted then, and its intervals stay
+pub record ComesBefore (g : GroupLog) (incs : List Incremental) (after : History AnyCode) (epoch : ℕ) : Type 0 where
+  pub counted : (member : Member) (stamp : ℕ) → stamp ≤ epoch → counts_by incs after member stamp ≡ true → is_counted g member stamp ≡ true
+  pub on : GoesOn g.history after
+  pub known : epoch ≤ g.history.first + last_place g.history
 
-pub group_there : (log : List Entry) (pg : PgId) (h : History AnyCode) → group_history (incs_of log) pg ≡ Some h → group_in log pg ≡ Some (group_with log pg h)
-group_there log pg h is = ap (option_map (group_with log pg)) is
+pub none-among : {X : Type 0} (narrow wide : X → Bool) (xs : List X) → ((x : X) → Contains xs x → narrow x ≡ true → wide x ≡ true) → list_any wide xs ≡ false → list_any narrow xs ≡ false
+none-among narrow wide [] each none = refl
+none-among narrow wide (x ∷ xs) each none =
+    grind (arith, each x (Contains-here x xs), none-among narrow wide xs (λ y there. each y (Contains-later x xs y there)))
 
-pub infos-there : (log : List Entry) (pg : PgId) (h : History AnyCode) → group_history (incs_of log) pg ≡ Some h
-    → infos_in pg (compacted log) ≡ needed_of (needs_info (group_with log pg h)) (infos_in pg log)
-infos-there log pg h is =
-    infos-needed log log pg ∙ ap (λ (found : Option GroupLog). needed_of (wants_info found) (infos_in pg log)) (group_there log pg h is)
+-- ---- when the group last began to serve
 
-pub reports-there : (log : List Entry) (pg : PgId) (h : History AnyCode) → group_history (incs_of log) pg ≡ Some h
-    → reports_in pg (compacted log) ≡ needed_of (needs_report (group_with log pg h)) (reports_in pg log)
-reports-there log pg h is =
-    reports-needed log log pg ∙ ap (λ (found : Option GroupLog). needed_of (wants_report found) (reports_in pg log)) (group_there log pg h is)
+abbrev pub start_of : Info → ℕ
+start_of info = info.history_les
 
-pub infos-absent : (log : List Entry) (pg : PgId) → group_history (incs_of log) pg ≡ None → infos_in pg (compacted log) ≡ infos_in pg log
-infos-absent log pg none =
-    infos-needed log log pg ∙ ap (λ (found : Option GroupLog). needed_of (wants_info found) (infos_in pg log)) (ap (option_map (group_with log pg)) none)
-    ∙ needed-each (λ later info. true) (λ later info. refl) (infos_in pg log)
+abbrev pub greatest_start : List Info → ℕ
+greatest_start told = fold max 0 (map start_of told)
 
-pub reports-absent : (log : List Entry) (pg : PgId) → group_history (incs_of log) pg ≡ None → reports_in pg (compacted log) ≡ reports_in pg log
-reports-absent log pg none =
-    reports-needed log log pg ∙ ap (λ (found : Option GroupLog). needed_of (wants_report found) (reports_in pg log)) (ap (option_map (group_with log pg)) none)
-    ∙ needed-each (λ later report. true) (λ later report. refl) (reports_in pg log)
+-- an info reaches a number exactly where the greatest start does
+start-reaches : (n start : ℕ) (told : List Info) → nat_le n (fold max start (map start_of told)) ≡ (nat_le n start || list_any (λ info. nat_le n info.history_les) told)
+start-reaches n start [] = sym (or-false (nat_le n start))
+start-reaches n start (info ∷ told) = grind (arith, nat_tests, start-reaches n (max start info.history_les) told)
+
+-- the greatest start of those that are needed is that of all, whatever follows
+starts-needed : (least : ℕ) (found : Option GroupLog) → 0 < least → ((g : GroupLog) → found ≡ Some g → les g ≡ least)
+    → NeedsLast (λ (info : Info). Unit {0}) (wants_info found) (λ info. nat_le least info.history_les)
+starts-needed least None above is later info any all starts none = refl
+starts-needed least (Some g) above is later info any all starts none =
+    grind (
+      arith,
+      nat_tests,
+      is g refl,
+      none-narrower (starts_as_late info) (λ other. nat_le least other.history_les) (λ other again. grind (arith, nat_tests)) later none,
+    )
+
+pub starts-same : (found : Option GroupLog) (told more : List Info) → ((g : GroupLog) → found ≡ Some g → les g ≡ greatest_start told)
+    → greatest_start (needed_of (wants_info found) told ++ more) ≡ greatest_start (told ++ more)
+starts-same found told more is =
+    let n : ℕ = greatest_start told in
+    let kept : List Info = needed_of (wants_info found) told in
+    let reached : 0 < n → list_any (λ info. nat_le n info.history_les) kept ≡ list_any (λ info. nat_le n info.history_les) told =
+    λ above. simp append-nil at (needed-any (λ (info : Info). Unit {0}) (wants_info found) (λ info. nat_le n info.history_les) (starts-needed n found above is) told [] (λ info there. tt)) in
+    let no_more = needed-none (wants_info found) (λ info. nat_le (suc n) info.history_les) told in
+    let same : greatest_start kept ≡ n =
+    grind (arith, nat_tests, cases_lt 0 n, reached, no_more, start-reaches n 0 kept, start-reaches n 0 told, start-reaches (suc n) 0 kept, start-reaches (suc n) 0 told) in
+    grind (
+      arith,
+      same,
+      map-append start_of kept more,
+      map-append start_of told more,
+      fold-append max 0 (map start_of kept) (map start_of more),
+      fold-append max 0 (map start_of told) (map start_of more),
+    )
+
+-- ---- what counts later
+
+abbrev pub is_heard : List Incremental → History AnyCode → Member → Info → Bool
+is_heard incs after member info = counts_by incs after info.member info.stamp && is_of member info
+
+abbrev pub clean_of : Info → ℕ
+clean_of info = info.last_epoch_clean
+
+abbrev pub is_clean : History AnyCode → ℕ → Info → Bool
+is_clean after last info = nat_le (after.first + opening_of after last) info.last_epoch_clean && nat_le info.last_epoch_clean (after.first + last)
+
+abbrev pub is_told : List Incremental → History AnyCode → Member → Report → Bool
+is_told incs after member report = is_same_member report.member member && counts_by incs after report.member report.stamp
+
+abbrev tells_of : List Incremental → History AnyCode → Member → ℕ → Report → Bool
+tells_of incs after member v report = is_told incs after member report && has_number v report.log
+
+module _ (incs : List Incremental) (after : History AnyCode) (epoch : ℕ) where
+  abbrev pub Before : Option GroupLog → Type 0
+  Before found = (g : GroupLog) → found ≡ Some g → ComesBefore g incs after epoch
+
+  -- the last info of each member that counts is needed
+  heard-replaced : (member : Member) (info other : Info) → is_heard incs after member info ≡ true → replaces info other ≡ true → is_heard incs after member other ≡ true
+  heard-replaced member info other counts again = grind (arith, nat_tests, same_member other.member info.member)
+
+  pub heard-needed : (member : Member) (found : Option GroupLog) → Before found → NeedsLast (λ (info : Info). info.stamp ≤ epoch) (wants_info found) (is_heard incs after member)
+  heard-needed member None before later info early all counts none = refl
+  heard-needed member (Some g) before later info early all counts none =
+      let alone = none-narrower (replaces info) (is_heard incs after member) (λ other. heard-replaced member info other counts) later none in
+      let a = and_parts (counts_by incs after info.member info.stamp) (is_of member info) counts in
+      let now = (before g refl).counted info.member info.stamp early a.0 in
+      rw (now, alone) refl
+
+  -- so is the last one with a clean epoch in an interval
+  pub clean-needed : (last : ℕ) → ends_at after last ≡ true → (found : Option GroupLog) → Before found
+      → NeedsLast (λ (info : Info). info.last_epoch_clean ≤ epoch) (wants_info found) (is_clean after last)
+  clean-needed last ends None before later info known all clean none = refl
+  clean-needed last ends (Some g) before later info known all clean none =
+      let b = before g refl in
+      let first : after.first ≡ g.history.first = b.on.first in
+      let alone : list_any (has_clean_with g info) later ≡ false =
+      none-among (has_clean_with g info) (is_clean after last) later
+      (λ other there one. grind (
+        arith,
+        nat_tests,
+        stays-within g after b.on last info.last_epoch_clean other.last_epoch_clean ends (omega (arith, b.known)) (omega (arith, b.known, all other there)) one,
+      ))
+      none in
+      let lives : nat_le g.history.first info.last_epoch_clean ≡ true = grind (arith, nat_tests) in
+      rw (lives, alone, or-true) refl
+
+  -- and the last report that counts with an entry of a number
+  told-replaced : (member : Member) (v : ℕ) (report other : Report) → tells_of incs after member v report ≡ true
+      → replaces_number report v other ≡ true → tells_of incs after member v other ≡ true
+  told-replaced member v report other told again = grind (arith, nat_tests, same_member other.member report.member)
+
+  pub told-needed : (member : Member) (v : ℕ) (found : Option GroupLog) → Before found
+      → NeedsLast (λ (report : Report). report.stamp ≤ epoch) (wants_report found) (tells_of incs after member v)
+  told-needed member v None before later report early all told none = refl
+  told-needed member v (Some g) before later report early all told none =
+      let alone = none-narrower (replaces_number report v) (tells_of incs after member v) (λ other. told-replaced member v report other told) later none in
+      let a = and_parts (is_told incs after member report) (has_number v report.log) told in
+      let found = any-contains (λ (entry : LogEntry). nat_eq entry.version.v v) report.log a.1 in
+      let same : found.0.version.v ≡ v = let is : nat_eq found.0.version.v v ≡ true = found.1.1 in grind (arith, nat_tests) in
+      let kept = contains-any (λ (entry : LogEntry). not (list_any (replaces_number report entry.version.v) later)) report.log found.0 found.1.0
+      (ap (λ (n : ℕ). not (list_any (replaces_number report n) later)) same ∙ ap not alone) in
+      grind (arith, nat_tests, a.0, (before g refl).counted report.member report.stamp early)
+
+  -- the last entry of each number is the same, whatever follows
+  pub told-same : (member : Member) (found : Option GroupLog) → Before found → (told more : List Report) → ((report : Report) → Contains told report → report.stamp ≤ epoch)
+      → by_number (entries_in (is_told incs after member) (needed_of (wants_report found) told ++ more)) ≡ by_number (entries_in (is_told incs after member) (told ++ more))
+  told-same member found before told more early =
+      by_number-same _ _ (λ v.
+      last-number v (is_told incs after member) (needed_of (wants_report found) told ++ more)
+      ∙ ap (option_and_then (λ (report : Report). last_where (has v) report.log))
+      (needed-last (λ (report : Report). report.stamp ≤ epoch) (wants_report found) (tells_of incs after member v) (told-needed member v found before) None told more early)
+      ∙ sym (last-number v (is_told incs after member) (told ++ more)))

@@ -1,10 +1,7 @@
-use Rattle.std.proofs.Common.{◌≡◌, ◌-◌, ◌<◌, ◌≤◌, ℕ, suc, List, Some, get_or, length, nat_le, true, false, refl, rules, ap, sym, ◌∙◌, subst, arith}
-use Rattle.std.specs.Prelude.{slice_get}
-use Rattle.std.specs.List.Sorted.{IsNonDecreasingBy, IsPartitionPoint}
-use Rattle.std.proofs.lemmas.Bool.Decides.{nat_tests}
+use Rattle.pgp_compact.proofs.Common.{List, Some, ap, arith, epoch, false, get_or, get_or_from_slice_get, length, nat_le, nat_tests, refl, rules, slice_get, slice_get_read, slice_get_within, subst, suc, sym, true, ℕ, ◌-◌, ◌<◌, ◌∙◌, ◌≡◌, ◌≤◌}
+use Rattle.pgp_compact.proofs.IntervalLemmas.{firsts-rise, opened, unopened}
 use Rattle.std.proofs.lemmas.List.Sorted.{IsPartitionPoint-from_clause, IsPartitionedBy-leb}
-use Rattle.std.proofs.lemmas.Option.{get_or_from_slice_get, slice_get_read, slice_get_within}
-use Rattle.pgp_compact.proofs.OpeningLemmas.{firsts-rise, opened, unopened}
+use Rattle.std.specs.List.Sorted.{IsNonDecreasingBy, IsPartitionPoint}
 use Rattle.pgp_compact.proofs.course.opening.Goals as goal
 
 -- an opening at the point or behind it is beyond the epoch

@@ -1,12 +1,10 @@
-use Rattle.std.proofs.Common.{◌≡◌, ◌<◌, List, Some, set, length, refl, sym, ap, ◌∙◌, subst, inl, inr, arith}
-use Rattle.std.specs.Prelude.{slice_get}
-use Rattle.std.proofs.lemmas.Bool.{cases_eq, cases_lt}
-use Rattle.std.proofs.lemmas.Option.{slice_get_read, slice_get_within, same_Some}
-use Rattle.pgp_lists.proofs.Lists.{get-set_other, get-set_same}
-use Rattle.pgp_map.specs.MapFault.{then_with}
-use Rattle.pgp_compact.specs.Course.{IsCourse}
-use Rattle.pgp_compact.specs.declared.course.Course.{Course}
+use Rattle.pgp_compact.proofs.Common.{Course, IsCourse, List, Some, ap, arith, cases_eq, cases_lt, get-set_other, get-set_same, get_or, inl, inr, length, past, refl, same_Some, set, slice_get, slice_get_read, slice_get_within, subst, sym, then_with, within, ℕ, ◌<◌, ◌∙◌, ◌≡◌, ◌≤◌}
 use Rattle.pgp_compact.proofs.courses.absorb.Goals as goal
+
+-- the next of the groups, which the loop hasn't changed
+next-is : (groups old : List Course) (i : ℕ) (item : Course) → i < length groups → item ≡ get_or groups i item
+    → ((place : ℕ) → i ≤ place → slice_get groups place ≡ slice_get old place) → slice_get old i ≡ Some item
+next-is groups old i item within is rest = sym (rest i (omega arith)) ∙ slice_get_read groups (length groups) i item refl within is
 
 pub loop-course-init : goal.loop-course-init
 loop-course-init c = record {
@@ -20,9 +18,7 @@ absorb-requires c =
     let groups : List Course = c.loop-course.groups in
     let i = c.loop-course.course-index in
     let item : Course = c.course-item.result in
-    let within : i < length groups = omega (arith, c.loop-course-test.true, c.loop-course.auto.groups) in
-    let at : slice_get groups i ≡ Some item = slice_get_read groups (length groups) i item refl within c.course-item.is in
-    let first : slice_get c.args.groups.now i ≡ Some item = sym (c.loop-course.invariant.rest i (omega arith)) ∙ at in
+    let first = next-is groups c.args.groups.now i item (omega (arith, c.loop-course-test.true, c.loop-course.auto.groups)) c.course-item.is c.loop-course.invariant.rest in
     record {
       incs = c.requires.incs;
       is = subst (IsCourse c.requires.incs) c.course-item.is (c.requires.each i item first);
@@ -36,8 +32,7 @@ loop-course-preserved c =
     let item : Course = c.course-item.result in
     let new : Course = c.absorb.new.self in
     let within : i < length groups = omega (arith, c.loop-course-test.true, c.loop-course.auto.groups) in
-    let at : slice_get groups i ≡ Some item = slice_get_read groups (length groups) i item refl within c.course-item.is in
-    let first : slice_get c.args.groups.now i ≡ Some item = sym (c.loop-course.invariant.rest i (omega arith)) ∙ at in
+    let first = next-is groups c.args.groups.now i item within c.course-item.is c.loop-course.invariant.rest in
     record {
       done = λ incs next each place course below there. elim (cases_lt place i) [
         | inl earlier ↦ c.loop-course.invariant.done incs next each place course earlier (sym (get-set_other groups i place new (λ same. omega arith)) ∙ there)

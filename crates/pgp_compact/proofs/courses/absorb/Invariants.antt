@@ -1,10 +1,4 @@
-use Rattle.std.proofs.Common.{◌≡◌, ℕ, ◌<◌, ◌≤◌, List, Some}
-use Rattle.std.specs.Prelude.{slice_get}
-use Rattle.pgp_ids.specs.declared.incremental.Incremental.{Incremental}
-use Rattle.pgp_map.specs.MapFault.{then_with}
-use Rattle.pgp_compact.specs.Course.{IsCourse, IsNext}
-use Rattle.pgp_compact.specs.Courses.{EachIsCourse, IsSameButCourse}
-use Rattle.pgp_compact.specs.declared.course.Course.{Course}
+use Rattle.pgp_compact.proofs.Common.{Course, EachIsCourse, Incremental, IsCourse, IsNext, IsSameButCourse, List, Some, slice_get, then_with, ℕ, ◌<◌, ◌≡◌, ◌≤◌}
 use Rattle.pgp_compact.proofs.courses.absorb.Given as goal
 
 abbrev pub invariant-loop-course : goal.invariant-loop-course

@@ -1,5 +1,5 @@
-use Rattle.pgp_compact.specs.Compacted.{is_needed}
-use Rattle.pgp_compact.proofs.LegalLemmas.{closed-same, compacted-legal}
+use Rattle.pgp_compact.proofs.Common.{is_needed}
+use Rattle.pgp_compact.proofs.LegalLemmas.{compacted-legal, compacted-shorter}
 use Rattle.pgp_compact.proofs.NeededLemmas.{needed-length}
 use Rattle.pgp_compact.proofs.PartLemmas.{incs-same}
 use Rattle.pgp_compact.proofs.laws.a_compacted_log_is_legal.Goals as goal
@@ -14,4 +14,4 @@ pub returns-clause-incs : goal.returns-clause-incs
 returns-clause-incs c = incs-same
 
 pub returns-clause-closed : goal.returns-clause-closed
-returns-clause-closed c = closed-same
+returns-clause-closed c = λ log. (compacted-shorter log).closed

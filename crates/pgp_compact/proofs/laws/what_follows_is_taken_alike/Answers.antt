@@ -1,5 +1,4 @@
-use Rattle.std.proofs.Common.{◌++◌}
-use Rattle.pgp_compact.specs.Compacted.{compacted}
+use Rattle.pgp_compact.proofs.Common.{compacted, ◌++◌}
 use Rattle.pgp_compact.proofs.LegalLemmas.{fits-less, gone_on-legal, gone_on-shorter}
 use Rattle.pgp_compact.proofs.PartLemmas.{incs-gone_on}
 use Rattle.pgp_compact.proofs.laws.what_follows_is_taken_alike.Goals as goal

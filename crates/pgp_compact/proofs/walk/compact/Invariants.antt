@@ -1,7 +1,4 @@
-use Rattle.std.proofs.Common.{◌≡◌, ◌++◌, map, drop}
-use Rattle.std.specs.Arc.{arc_value}
-use Rattle.pgp_compact.specs.Compacted.{compacted}
-use Rattle.pgp_compact.specs.Needed.{chosen}
+use Rattle.pgp_compact.proofs.Common.{arc_value, chosen, compacted, drop, map, ◌++◌, ◌≡◌}
 use Rattle.pgp_compact.proofs.walk.compact.Given as goal
 
 abbrev pub invariant-loop-place : goal.invariant-loop-place

@@ -1,12 +1,5 @@
-use Rattle.std.proofs.Common.{ℕ, ◌-◌, ◌<◌, List, ◌∷◌, Bool, map, drop, length, reverse, ap, ap₂, sym, ◌∙◌, subst, arith}
-use Rattle.std.specs.List.{Contains}
-use Rattle.std.specs.Arc.{arc_value}
-use Rattle.pgp_ids.specs.declared.entry.Entry.{Entry}
-use Rattle.pgp_lists.proofs.Members.{contains-map}
-use Rattle.pgp_compact.specs.Compacted.{is_needed}
-use Rattle.pgp_compact.specs.Later.{IsLater}
-use Rattle.pgp_compact.specs.Needed.{are_needed}
-use Rattle.pgp_compact.proofs.WholeLemmas.{all-of, nothing-yet, one-earlier, reverse-last}
+use Rattle.pgp_compact.proofs.Common.{Bool, Contains, Entry, IsLater, List, [], ap, ap₂, arc_value, are_needed, arith, contains-map, drop, is_needed, length, map, reverse, reverse-append, subst, sym, ℕ, ◌-◌, ◌<◌, ◌∙◌, ◌∷◌, ◌≡◌}
+use Rattle.pgp_compact.proofs.WholeLemmas.{nothing-yet, one-earlier}
 use Rattle.pgp_compact.proofs.walk.needed.Goals as goal
 
 pub loop-step-init : goal.loop-step-init
@@ -31,7 +24,7 @@ loop-step-preserved c =
     let inv = c.loop-step.invariant in record {
       later = subst (λ (l : List Entry). IsLater log l c.needs.new.later) (ap (λ (e : Entry). e ∷ rest) c.deref.ensures ∙ sym (ap (map arc_value) earlier))
           (c.in_ok-needs.ensures.noted log rest c.in_ok-whole.ensures inv.later there);
-      choices = ap reverse c.in_ok-push.ensures.items ∙ reverse-last c.loop-step.choices.items c.in_ok-needs.field-0
+      choices = ap reverse c.in_ok-push.ensures.items ∙ reverse-append c.loop-step.choices.items (c.in_ok-needs.field-0 ∷ [])
           ∙ ap₂ (λ (b : Bool) (l : List Bool). b ∷ l) (c.in_ok-needs.ensures.needed log rest c.in_ok-whole.ensures inv.later there ∙ ap (is_needed log rest) c.deref.ensures) inv.choices
           ∙ sym (ap (λ l. are_needed (is_needed log) (map arc_value l)) earlier);
     }
@@ -40,6 +33,7 @@ pub returns : goal.returns
 returns c =
     let xs = c.args.entries.now in
     let log : List Entry = map arc_value xs in
+    let none : length xs - c.loop-step.step ≡ 0 = omega (arith, c.loop-step-test.false) in
     c.reverse.ensures.items
     ∙ c.loop-step.invariant.choices
-    ∙ ap (λ l. are_needed (is_needed log) (map arc_value l)) (all-of xs c.loop-step.step c.loop-step-test.false)
+    ∙ ap (λ (n : ℕ). are_needed (is_needed log) (map arc_value (drop n xs))) none

@@ -1,8 +1,4 @@
-use Rattle.std.proofs.Common.{◌≡◌, ◌-◌, map, drop, length, reverse}
-use Rattle.std.specs.Arc.{arc_value}
-use Rattle.pgp_compact.specs.Compacted.{is_needed}
-use Rattle.pgp_compact.specs.Later.{IsLater}
-use Rattle.pgp_compact.specs.Needed.{are_needed}
+use Rattle.pgp_compact.proofs.Common.{IsLater, arc_value, are_needed, drop, is_needed, length, map, reverse, ◌-◌, ◌≡◌}
 use Rattle.pgp_compact.proofs.walk.needed.Given as goal
 
 abbrev pub invariant-loop-step : goal.invariant-loop-step

@@ -1,11 +1,5 @@
-use Rattle.std.proofs.Common.{◌≡◌, ℕ, ◌∷◌, [], ◌++◌, cond, ap, sym, subst, ◌∙◌}
-use Rattle.std.proofs.lemmas.Option.{same_Some}
-use Rattle.pgp_interval.specs.SameMembers.{is_same}
-use Rattle.pgp_map.specs.Map.{epoch}
-use Rattle.pgp_map.specs.MapFault.{then_with}
-use Rattle.pgp_compact.specs.Course.{IsUnderWay}
-use Rattle.pgp_compact.specs.declared.lying.Lying.{Lying}
-use Rattle.pgp_compact.proofs.CourseLemmas.{course-unmoved, fine, moved, there-still, unmoved}
+use Rattle.pgp_compact.proofs.Common.{IsUnderWay, Lying, [], ap, checked-has_group, cond, epoch, has_group-grows, is_same, refl, subst, sym, then_with, ℕ, ◌++◌, ◌∙◌, ◌∷◌, ◌≡◌}
+use Rattle.pgp_compact.proofs.CoursesLemmas.{course-unmoved, fine, moved, under-way, unmoved}
 use Rattle.pgp_compact.proofs.course.Course.absorb.Goals as goal
 use Rattle.pgp_compact.proofs.course.Course.absorb.Goals.{then-not-is_same+in_ok-push, else-not-is_same}
 
@@ -20,8 +14,12 @@ returns-then-not-may_leave-clause-ok c = λ incs next is.
 
 pub next-next-requires : goal.next-next-requires
 next-next-requires c =
-    let lying = c.in-Some.lying in
-    there-still c.requires.incs c.args.inc.now c.args.after.now c.requires.next c.args.self.now.pg c.args.self.now.firsts.items lying (c.requires.is.there lying c.in-Some.is)
+    let incs = c.requires.incs in
+    let inc = c.args.inc.now in
+    let next = c.requires.next in
+    let u = c.requires.is.there c.in-Some.lying c.in-Some.is in
+    checked-has_group (then_with incs inc) c.args.after.now c.args.self.now.pg next.after_is next.checked
+    (has_group-grows incs inc c.args.self.now.pg u.history (fine incs inc c.args.after.now next) u.history_is)
 
 pub returns-clause-ok : goal.returns-clause-ok
 returns-clause-ok c = λ incs next is.
@@ -41,11 +39,5 @@ returns-clause-ok c = λ incs next is.
           ap (λ s. s.firsts.items) w.self-is
           ∙ sym (ap (λ b. cond b now.firsts.items (now.firsts.items ++ epoch later ∷ [])) (sym c.is_same.ensures ∙ w.if-not-is_same.false))
     ] in
-    record {
-      absent = λ lost. cc;
-      unbegun = λ lost. cc;
-      there = λ k some.
-          subst (λ (l : Lying). IsUnderWay later after.pg after.firsts.items l) (same_Some to k some)
-          (subst (λ p. IsUnderWay later p after.firsts.items to) (sym same)
-          (moved incs inc c.args.after.now next now.pg now.firsts.items after.firsts.items lying to u (c.next-next.ensures incs next u.lies) firsts));
-    }
+    under-way later _ to refl (subst (λ p. IsUnderWay later p after.firsts.items to) (sym same)
+    (moved incs inc c.args.after.now next now.pg now.firsts.items after.firsts.items lying to u (c.next-next.ensures incs next u.lies) firsts))

@@ -1,12 +1,5 @@
-use Rattle.std.proofs.Common.{◌≡◌, ℕ, List, ◌∷◌, [], ◌++◌, true, sym, subst, ◌∙◌}
-use Rattle.std.proofs.lemmas.Option.{same_Some}
-use Rattle.pgp_map.proofs.CheckedLemmas.{checked-has_group}
-use Rattle.pgp_map.specs.Map.{epoch}
-use Rattle.pgp_map.specs.MapFault.{then_with}
-use Rattle.pgp_map.specs.Pools.{has_group}
-use Rattle.pgp_compact.specs.Course.{IsUnderWay}
-use Rattle.pgp_compact.specs.declared.lying.Lying.{Lying}
-use Rattle.pgp_compact.proofs.CourseLemmas.{begins}
+use Rattle.pgp_compact.proofs.Common.{IsUnderWay, List, [], checked-has_group, epoch, has_group, refl, subst, sym, then_with, true, ℕ, ◌++◌, ◌∙◌, ◌∷◌, ◌≡◌}
+use Rattle.pgp_compact.proofs.CoursesLemmas.{begins, under-way}
 use Rattle.pgp_compact.proofs.course.Course.begin.Goals as goal
 
 pub at-requires : goal.at-requires
@@ -20,11 +13,5 @@ returns-in_ok-push-clause-ok c = λ incs inc next none is.
     let there : has_group later pg ≡ true = sym (c.has_group.ensures later next.after_is) ∙ c.if-has_group.true in
     let firsts : c.push.new.self.items ≡ epoch later ∷ [] =
     c.in_ok-push.ensures.items ∙ (λ i. is.unbegun none i ++ c.epoch.ensures later next.after_is i ∷ []) in
-    record {
-      absent = λ lost. cc;
-      unbegun = λ lost. cc;
-      there = λ lying some.
-          subst (λ (l : Lying). IsUnderWay later pg c.push.new.self.items l) (same_Some c.at.result lying some)
-          (subst (λ (l : List ℕ). IsUnderWay later pg l c.at.result) (sym firsts)
-          (begins incs inc c.args.after.now next pg c.at.result (is.absent none) there (c.at.ensures later next.after_is)));
-    }
+    under-way later _ c.at.result refl (subst (λ (l : List ℕ). IsUnderWay later pg l c.at.result) (sym firsts)
+    (begins incs inc c.args.after.now next pg c.at.result (is.absent none) there (c.at.ensures later next.after_is)))

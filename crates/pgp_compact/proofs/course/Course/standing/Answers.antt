@@ -1,5 +1,4 @@
-use Rattle.std.proofs.Common.{◌≡◌, ◌-◌, ◌<◌, ℕ, List, get_or, length, ap, sym, ◌∙◌, subst, arith}
-use Rattle.std.proofs.lemmas.Bool.Decides.{nat_tests}
+use Rattle.pgp_compact.proofs.Common.{List, ap, arith, get_or, length, nat_tests, subst, sym, ℕ, ◌-◌, ◌<◌, ◌∙◌, ◌≡◌}
 use Rattle.pgp_compact.proofs.WholeLemmas.{stands, stands-absent}
 use Rattle.pgp_compact.proofs.course.Course.standing.Goals as goal
 

@@ -1,12 +1,7 @@
-use Rattle.std.proofs.Common.{◌≡◌, List, length, refl, ap, sym, ◌∙◌, subst}
-use Rattle.std.specs.Vec.{with_items}
-use Rattle.std.proofs.lemmas.List.{with_items_is}
-use Rattle.pgp_map.specs.MapFault.{then_with}
-use Rattle.pgp_compact.specs.Courses.{EachIsCourse, IsSameButCourse}
-use Rattle.pgp_compact.specs.declared.course.Course.{Course}
-use Rattle.pgp_compact.specs.declared.courses.Courses.{Courses}
-use Rattle.pgp_log.proofs.MarksLemmas.{ok-two}
+use Rattle.pgp_compact.proofs.Common.{Course, Courses, EachIsCourse, IsSameButCourse, List, ap, length, refl, subst, sym, then_with, with_items_is, ◌∙◌, ◌≡◌}
 use Rattle.pgp_compact.proofs.CoursesLemmas.{gone-by, gone-on}
+use Rattle.pgp_log.proofs.MarksLemmas.{ok-two}
+use Rattle.std.specs.Vec.{with_items}
 use Rattle.pgp_compact.proofs.courses.Courses.absorb.Goals as goal
 
 pub returns-then-moves_none : goal.returns-then-moves_none

@@ -1,4 +1,4 @@
-use Rattle.std.proofs.Common.{sym, ◌∙◌}
+use Rattle.pgp_compact.proofs.Common.{sym, ◌∙◌}
 use Rattle.pgp_compact.proofs.CoursesLemmas.{gotten, never-lost}
 use Rattle.pgp_compact.proofs.courses.Courses.get.Goals as goal
 

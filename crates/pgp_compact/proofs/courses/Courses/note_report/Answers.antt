@@ -1,11 +1,6 @@
-use Rattle.std.proofs.Common.{◌≡◌, ◌<◌, ℕ, List, Some, cond, set, length, refl, ap, sym, ◌∙◌, subst}
-use Rattle.std.specs.Prelude.{slice_get}
-use Rattle.std.specs.HashMap as hash
-use Rattle.std.proofs.lemmas.Option.{slice_get_read, slice_get_within}
-use Rattle.pgp_map.specs.Pools.{is_same_group}
-use Rattle.pgp_compact.specs.declared.course.Course.{Course}
-use Rattle.pgp_compact.specs.declared.courses.Courses.{Courses}
+use Rattle.pgp_compact.proofs.Common.{Course, Courses, List, Some, ap, cond, is_same_group, length, refl, set, slice_get, slice_get_read, slice_get_within, subst, sym, ℕ, ◌<◌, ◌∙◌, ◌≡◌}
 use Rattle.pgp_compact.proofs.CoursesLemmas.{noted-again, noted-first}
+use Rattle.std.specs.HashMap as hash
 use Rattle.pgp_compact.proofs.courses.Courses.note_report.Goals as goal
 
 pub index_mut-course-requires : goal.index_mut-course-requires

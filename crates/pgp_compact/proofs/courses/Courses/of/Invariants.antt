@@ -1,6 +1,4 @@
-use Rattle.std.proofs.Common.{[], map, take}
-use Rattle.std.specs.Arc.{arc_value}
-use Rattle.pgp_compact.specs.Courses.{AreCourses}
+use Rattle.pgp_compact.proofs.Common.{AreCourses, [], arc_value, map, take}
 use Rattle.pgp_compact.proofs.courses.Courses.of.Given as goal
 
 abbrev pub invariant-loop-entry : goal.invariant-loop-entry

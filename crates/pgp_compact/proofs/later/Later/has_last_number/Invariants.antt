@@ -1,8 +1,4 @@
-use Rattle.std.proofs.Common.{◌≡◌, List, false, not, take}
-use Rattle.std.specs.List.{list_any}
-use Rattle.pgp_ids.specs.declared.entry.Entry.{Entry}
-use Rattle.pgp_compact.specs.Compacted.{replaces_number, reports_in}
-use Rattle.pgp_compact.specs.Later.{IsLater}
+use Rattle.pgp_compact.proofs.Common.{Entry, IsLater, List, false, list_any, not, replaces_number, reports_in, take, ◌≡◌}
 use Rattle.pgp_compact.proofs.later.Later.has_last_number.Given as goal
 
 abbrev pub invariant-loop-entry : goal.invariant-loop-entry

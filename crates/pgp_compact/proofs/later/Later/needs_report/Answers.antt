@@ -1,8 +1,4 @@
-use Rattle.std.proofs.Common.{◌≡◌, true, not, ◌&&◌, Bool, ap, sym, ◌∙◌}
-use Rattle.std.specs.List.{list_any}
-use Rattle.pgp_ids.specs.declared.log_entry.LogEntry.{LogEntry}
-use Rattle.pgp_group.specs.Heard.{is_counted}
-use Rattle.pgp_compact.specs.Compacted.{replaces_number, reports_in}
+use Rattle.pgp_compact.proofs.Common.{Bool, LogEntry, ap, is_counted, list_any, not, replaces_number, reports_in, sym, true, ◌&&◌, ◌∙◌, ◌≡◌}
 use Rattle.pgp_compact.proofs.later.Later.needs_report.Goals as goal
 
 pub returns-then-is_counted : goal.returns-then-is_counted

@@ -1,14 +1,6 @@
-use Rattle.std.proofs.Common.{ℕ, [], ◌∷◌, ◌++◌, Option, map, sym, ◌∙◌, subst}
-use Rattle.std.specs.List.{flat_map}
-use Rattle.std.specs.Option.{option_map_or}
-use Rattle.pgp_ids.specs.declared.pg_id.PgId.{PgId}
-use Rattle.pgp_map.specs.Pools.{is_same_group}
-use Rattle.pgp_group.specs.Entries.{infos_of}
-use Rattle.pgp_compact.specs.Greatest.{IsGreatestOf}
-use Rattle.pgp_compact.specs.Later.{clean_in, is_same_opening, is_same_sender, opening_at, sent, started}
+use Rattle.pgp_compact.proofs.Common.{IsGreatestOf, Option, PgId, [], clean_in, flat_map, infos_of, is_same_group, is_same_opening, is_same_sender, map, on_ok, opening_at, option_map_or, sent, started, subst, sym, ℕ, ◌++◌, ◌∙◌, ◌∷◌}
 use Rattle.pgp_compact.specs.declared.keys.Opening.{Opening}
 use Rattle.pgp_compact.specs.declared.keys.Sender.{Sender}
-use Rattle.pgp_group.proofs.GroupLemmas.{on_ok}
 use Rattle.pgp_compact.proofs.later.Later.note_info.Goals as goal
 
 pub returns-in-Some : goal.returns-in-Some

@@ -1,7 +1,4 @@
-use Rattle.std.proofs.Common.{ℕ, ◌∷◌, ◌++◌, map, take, subst}
-use Rattle.pgp_compact.specs.Greatest.{IsGreatestOf}
-use Rattle.pgp_compact.specs.Later.{is_same_number, written}
-use Rattle.pgp_compact.specs.declared.keys.Number.{Number}
+use Rattle.pgp_compact.proofs.Common.{IsGreatestOf, Number, is_same_number, map, subst, take, written, ℕ, ◌++◌, ◌∷◌}
 use Rattle.pgp_compact.proofs.LaterLemmas.{noted-next}
 use Rattle.pgp_compact.proofs.later.Later.note_report.Goals as goal
 

@@ -1,7 +1,4 @@
-use Rattle.std.proofs.Common.{◌≡◌, ℕ, List, ◌++◌, map, take}
-use Rattle.pgp_compact.specs.Greatest.{IsGreatestOf}
-use Rattle.pgp_compact.specs.Later.{is_same_number, written}
-use Rattle.pgp_compact.specs.declared.keys.Number.{Number}
+use Rattle.pgp_compact.proofs.Common.{IsGreatestOf, List, Number, is_same_number, map, take, written, ℕ, ◌++◌, ◌≡◌}
 use Rattle.pgp_compact.proofs.later.Later.note_report.Given as goal
 
 abbrev pub invariant-loop-entry : goal.invariant-loop-entry

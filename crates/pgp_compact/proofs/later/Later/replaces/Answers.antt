@@ -1,8 +1,4 @@
-use Rattle.std.proofs.Common.{◌∙◌}
-use Rattle.std.specs.List.{flat_map}
-use Rattle.pgp_group.specs.Entries.{reports_of}
-use Rattle.pgp_compact.specs.Greatest.{reaches}
-use Rattle.pgp_compact.specs.Later.{is_same_number, numbers}
+use Rattle.pgp_compact.proofs.Common.{flat_map, is_same_number, numbers, reaches, reports_of, ◌∙◌}
 use Rattle.pgp_compact.proofs.LaterLemmas.{numbers-are}
 use Rattle.pgp_compact.proofs.later.Later.replaces.Goals as goal
 

@@ -1,11 +1,4 @@
-use Rattle.std.proofs.Common.{◌≡◌, ℕ, Some, true, not, ◌&&◌, nat_le, Bool, ap, sym, ◌∙◌}
-use Rattle.std.specs.List.{flat_map, list_any}
-use Rattle.pgp_lists.proofs.Options.{if_some}
-use Rattle.pgp_group.specs.Entries.{infos_of}
-use Rattle.pgp_compact.specs.Compacted.{has_clean_with, infos_in, opening_epoch}
-use Rattle.pgp_compact.specs.Greatest.{reaches}
-use Rattle.pgp_compact.specs.Later.{clean_in, is_same_opening}
-use Rattle.pgp_compact.specs.Standing.{opening_in}
+use Rattle.pgp_compact.proofs.Common.{Bool, Some, ap, clean_in, flat_map, has_clean_with, if_some, infos_in, infos_of, is_same_opening, list_any, nat_le, not, opening_epoch, opening_in, reaches, sym, true, ℕ, ◌&&◌, ◌∙◌, ◌≡◌}
 use Rattle.pgp_compact.proofs.LaterLemmas.{openings-are}
 use Rattle.pgp_compact.proofs.later.Later.tells_last_clean.Goals as goal
 

@@ -1,12 +1,8 @@
-use Rattle.std.proofs.Common.{Option, List, ℕ, sym, ◌∙◌, subst}
-use Rattle.pgp_map.specs.MapFault.{then_with}
-use Rattle.pgp_sets.proofs.RawSetLemmas.{raw_set-stays, unmoved-unplaced}
+use Rattle.pgp_compact.proofs.Common.{List, Option, subst, sym, then_with, ℕ, ◌∙◌}
+use Rattle.pgp_compact.proofs.CoursesLemmas.{fine}
 use Rattle.pgp_log.specs.RawSets.{IsRawSet}
-use Rattle.pgp_compact.proofs.CourseLemmas.{fine}
+use Rattle.pgp_sets.proofs.RawSetLemmas.{raw_set-stays, unmoved-unplaced}
 use Rattle.pgp_compact.proofs.lying.Lying.next.Goals as goal
-
-pub returns-then-moves : goal.returns-then-moves
-returns-then-moves c = λ incs next lies. c.at.ensures (then_with incs c.args.inc.now) next.after_is
 
 pub returns-else-moves : goal.returns-else-moves
 returns-else-moves c = λ incs next lies.

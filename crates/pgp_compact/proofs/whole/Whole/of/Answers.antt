@@ -1,10 +1,5 @@
-use Rattle.std.proofs.Common.{◌≡◌, ◌+◌, ◌<◌, ℕ, [], ◌∷◌, ◌++◌, List, get_or, length, map, take, drop, true, ap, sym, subst, ◌∙◌}
-use Rattle.std.specs.Arc.{arc_value}
-use Rattle.pgp_ids.specs.declared.entry.Entry.{Entry}
-use Rattle.pgp_log.proofs.LogLemmas.{front-legal}
+use Rattle.pgp_compact.proofs.Common.{Entry, HasRead, List, [], ap, arc_value, drop, front-legal, get_or, is_legal, length, map, subst, sym, take, true, within, ℕ, ◌++◌, ◌+◌, ◌<◌, ◌∙◌, ◌∷◌, ◌≡◌}
 use Rattle.pgp_log.proofs.SharedLemmas.{map-next, next-front}
-use Rattle.pgp_log.specs.Log.{is_legal}
-use Rattle.pgp_compact.specs.Whole.{HasRead}
 use Rattle.pgp_compact.proofs.whole.Whole.of.Goals as goal
 
 -- the entries up to the next one are those of a legal log

@@ -1,12 +1,6 @@
-use Rattle.std.proofs.Common.{◌≡◌, [], ◌∷◌, ◌++◌, true, ap, subst}
-use Rattle.pgp_ids.specs.declared.entry.Entry.{Entry}
-use Rattle.pgp_ids.specs.declared.entry.Entry.TheVariants as entry
-use Rattle.pgp_group.specs.Entries.{inc_of}
-use Rattle.pgp_log.proofs.LogLemmas.{legal-last}
-use Rattle.pgp_log.proofs.TakeLemmas.{faultless-tree, fits-faultless}
-use Rattle.pgp_log.specs.Log.{is_legal}
-use Rattle.pgp_group.proofs.GroupLemmas.{on_ok}
+use Rattle.pgp_compact.proofs.Common.{Entry, [], ap, faultless-tree, fits-faultless, inc_of, is_legal, legal-last, on_ok, subst, true, ◌++◌, ◌∷◌, ◌≡◌}
 use Rattle.pgp_compact.proofs.WholeLemmas.{comes-next, read-inc, read-other}
+use Rattle.pgp_ids.specs.declared.entry.Entry.TheVariants as entry
 use Rattle.pgp_compact.proofs.whole.Whole.read.Goals as goal
 
 pub apply-requires : goal.apply-requires

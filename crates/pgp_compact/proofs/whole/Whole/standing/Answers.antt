@@ -1,10 +1,4 @@
-use Rattle.std.proofs.Common.{ap, sym, ◌∙◌}
-use Rattle.std.specs.Option.{option_map}
-use Rattle.pgp_ids.specs.declared.pg_id.PgId.{PgId}
-use Rattle.pgp_group.specs.Entries.{incs_of}
-use Rattle.pgp_group.specs.GroupLog.{group_in}
-use Rattle.pgp_compact.specs.Courses.{started_by}
-use Rattle.pgp_compact.specs.Standing.{standing_at}
+use Rattle.pgp_compact.proofs.Common.{PgId, ap, group_in, incs_of, option_map, standing_at, started_by, sym, ◌∙◌}
 use Rattle.pgp_compact.proofs.whole.Whole.standing.Goals as goal
 
 pub returns : goal.returns
