@@ -1,20 +1,6 @@
 -- What one more incremental does to what is known of a device.
-use Rattle.std.proofs.Common.{◌≡◌, ℕ, ◌≤◌, List, ◌++◌, Option, None, Bool, true, false, nat_eq, nat_lt, max, refl, ap, sym, ◌∙◌, subst, inl, inr, arith}
-use Rattle.std.specs.List.{flat_map, list_any}
-use Rattle.std.specs.Option.{option_map_or}
-use Rattle.std.proofs.lemmas.Bool.{cases_Bool, eqb-true}
-use Rattle.std.proofs.lemmas.Bool.Decides.{nat_tests}
-use Rattle.pgp_ids.specs.declared.incremental.DeviceEpoch.{DeviceEpoch}
-use Rattle.pgp_ids.specs.declared.incremental.Incremental.{Incremental}
-use Rattle.pgp_lists.proofs.Last.{last_found, last_where-append, last_where-some}
-use Rattle.pgp_lists.proofs.Lists.{flat_map-push}
-use Rattle.pgp_lists.proofs.Options.{if_none, none_is, some_is}
-use Rattle.pgp_lists.proofs.Taken.{taken-induction}
-use Rattle.pgp_map.specs.Checked.{are_checked, is_faultless}
-use Rattle.pgp_map.specs.Devices.{boots, is_up, up_from, lost_at, told_epoch, greatest_epoch}
-use Rattle.pgp_map.specs.Last.{last_where}
-use Rattle.pgp_map.specs.Map.{epoch}
-use Rattle.pgp_map.specs.MapFault.{map_fault, then_with, has_already_up}
+use Rattle.pgp_group.proofs.Common.{◌≡◌, ℕ, ◌≤◌, List, ◌++◌, Option, None, Bool, true, false, nat_eq, nat_lt, ap, sym, ◌∙◌, inl, inr, arith, list_any, option_map_or, cases_Bool, eqb-true, nat_tests, DeviceEpoch, Incremental, last_found, last_where-append, last_where-some, flat_map-push, if_none, none_is, some_is, taken-induction, are_checked, is_faultless, boots, is_up, up_from, lost_at, told_epoch, greatest_epoch, last_where, epoch, then_with, has_already_up}
+use Rattle.pgp_map.specs.MapFault.{map_fault}
 pub use Rattle.pgp_group.proofs.GrowthLemmas.{checked-front, checked-last}
 use Rattle.pgp_group.proofs.GrowthLemmas.{epoch-snoc, next_epoch}
 use Rattle.pgp_group.proofs.LaterLemmas.{up_from-snoc}
@@ -41,14 +27,7 @@ up_from-within osd =
     (λ incs inc checked fine within. step incs inc (none_is (map_fault incs inc) fine) within)
   where
     step : (incs : List Incremental) (inc : Incremental) → map_fault incs inc ≡ None → up_from incs osd ≤ epoch incs → up_from (then_with incs inc) osd ≤ epoch (then_with incs inc)
-    step incs inc fine within = elim (cases_Bool (boots osd inc)) [
-      | inl booting ↦
-          let last : up_from (then_with incs inc) osd ≡ max (up_from incs osd) inc.epoch = up_from-snoc incs inc osd ∙ rw booting refl in
-          omega (arith, last, within, epoch-snoc incs inc, next_epoch incs inc fine)
-      | inr still ↦
-          let stays : up_from (then_with incs inc) osd ≡ up_from incs osd = ap greatest_epoch (left_new (boots osd) incs inc still) in
-          omega (arith, stays, within, epoch-snoc incs inc, next_epoch incs inc fine)
-    ]
+    step incs inc fine within = grind (arith, cases_Bool (boots osd inc), up_from-snoc incs inc osd, epoch-snoc incs inc, next_epoch incs inc fine)
 
 -- ---- epochs that are told of a device
 
@@ -63,12 +42,7 @@ told_epoch-rises old new osd none =
       | inl some ↦
           let last = some_is (last_where test new) (last_where-some test new ∙ some) in
           let found = last_found (λ (told : DeviceEpoch). nat_lt told.epoch (told_epoch old told.osd)) test new last.0 none last.1 in
-          let same : last.0.osd ≡ osd = eqb-true last.0.osd osd found.0 in
-          let above : nat_lt last.0.epoch (told_epoch old osd) ≡ false = ap (λ (k : ℕ). nat_lt last.0.epoch (told_epoch old k)) (sym same) ∙ found.1 in
-          let is : told_epoch (old ++ new) osd ≡ last.0.epoch =
-          ap (λ (o : Option DeviceEpoch). option_map_or (λ told. told.epoch) o 0) (last_where-later test old new some ∙ last.1) in
-          let below : told_epoch old osd ≤ last.0.epoch = grind (arith, nat_tests) in
-          omega (arith, below, is)
+          grind (arith, eqb-true last.0.osd osd found.0, last_where-later test old new some, nat_tests)
       | inr silent ↦
           let is : told_epoch (old ++ new) osd ≡ told_epoch old osd =
           ap (λ (o : Option DeviceEpoch). option_map_or (λ told. told.epoch) o 0) (last_where-none test old new silent) in
@@ -76,7 +50,4 @@ told_epoch-rises old new osd none =
     ]
 
 pub lost_at-rises : (incs : List Incremental) (inc : Incremental) (osd : ℕ) → list_any (λ told. nat_lt told.epoch (lost_at incs told.osd)) inc.lost ≡ false → lost_at incs osd ≤ lost_at (then_with incs inc) osd
-lost_at-rises incs inc osd none =
-    let before : List DeviceEpoch = flat_map (λ (i : Incremental). i.lost) incs in
-    subst (λ (told : List DeviceEpoch). lost_at incs osd ≤ told_epoch told osd) (sym (flat_map-push (λ (i : Incremental). i.lost) incs inc))
-    (told_epoch-rises before inc.lost osd none)
+lost_at-rises incs inc osd none = search (flat_map-push, told_epoch-rises)

@@ -1,27 +1,8 @@
 -- How the first epoch of the current interval moves with each incremental.
-use Rattle.std.proofs.Common.{◌≡◌, ◌≢◌, ℕ, ◌+◌, ◌≤◌, List, [], ◌∷◌, ◌++◌, Some, true, ap, sym, ◌∙◌, subst, inl, inr, arith}
-use Rattle.std.specs.Prelude.{◌↔◌, IsTrue}
-use Rattle.std.proofs.lemmas.Bool.{cases_Bool, true≢false}
-use Rattle.std.proofs.lemmas.Option.{same_Some}
-use Rattle.pgp_code.specs.declared.any.AnyCode.{AnyCode}
-use Rattle.pgp_ids.specs.declared.history.PrimaryFacts.{PrimaryFacts}
-use Rattle.pgp_ids.specs.declared.incremental.Incremental.{Incremental}
-use Rattle.pgp_ids.specs.declared.membership.Membership.{Membership}
-use Rattle.pgp_ids.specs.declared.pg_id.PgId.{PgId}
-use Rattle.pgp_interval.specs.History.{History, last_place, stepped}
+use Rattle.pgp_group.proofs.Common.{◌≡◌, ◌≢◌, ℕ, ◌+◌, ◌≤◌, List, [], ◌∷◌, ◌++◌, Some, true, ap, sym, ◌∙◌, subst, inl, inr, arith, ◌↔◌, IsTrue, cases_Bool, true≢false, same_Some, AnyCode, PrimaryFacts, Incremental, Membership, PgId, History, last_place, stepped, current_first, is_same, some_is, are_checked, is_faultless, epoch, then_with, primary_facts, group_history, taken-along, taken-more, current_first-continues, current_first-ends}
 use Rattle.pgp_interval.specs.Interval.{IsInterval}
-use Rattle.pgp_interval.specs.Runs.{current_first}
-use Rattle.pgp_interval.specs.SameMembers.{is_same}
-use Rattle.pgp_lists.proofs.Options.{map_some, some_is}
-use Rattle.pgp_map.specs.Checked.{are_checked, is_faultless}
-use Rattle.pgp_map.specs.Map.{epoch}
-use Rattle.pgp_map.specs.MapFault.{then_with}
-use Rattle.pgp_sets.specs.Sets.{membership}
-use Rattle.pgp_group.specs.GroupHistory.{primary_facts, group_history}
 use Rattle.pgp_group.proofs.GrowthLemmas.{Shortens, EndsWell, checked-numbered, has_group-grows, history-grows, history-last, next_epoch}
 use Rattle.pgp_group.proofs.ViewLemmas.{history_there}
-use Rattle.pgp_lists.proofs.Taken.{taken-along, taken-more}
-use Rattle.pgp_interval.proofs.StepLemmas.{current_first-continues, current_first-ends}
 
 -- what a step does to the first epoch of the current interval
 pub record Steps : Type 0 where
@@ -40,18 +21,11 @@ pub grown : Shortens → EndsWell → (incs : List Incremental) (inc : Increment
     → are_checked (then_with incs inc) ≡ true
     → group_history incs pg ≡ Some h → group_history (then_with incs inc) pg ≡ Some after → Grown incs h after
 grown shorten fine incs inc pg h after checked is then' =
-    let facts : PrimaryFacts = primary_facts incs h.current.acting_primary in
-    let grows = history-grows incs inc pg h (checked-numbered shorten fine incs (shorten incs (inc ∷ []) checked)) (fine incs inc checked) is in
-    let m = map_some (λ members. stepped h members facts) (membership (then_with incs inc) pg) after (sym grows ∙ then') in
-    record { members = m.0; is = m.2 }
+    grind (arith, history-grows incs inc pg h (checked-numbered shorten fine incs (shorten incs (inc ∷ []) checked)) (fine incs inc checked) is)
 
 pub first-goes_on : Shortens → EndsWell → Steps → (incs : List Incremental) (inc : Incremental) (pg : PgId) (h after : History AnyCode) → are_checked (then_with incs inc) ≡ true
     → group_history incs pg ≡ Some h → group_history (then_with incs inc) pg ≡ Some after → after.current ≡ h.current → current_first after ≡ current_first h
-first-goes_on shorten fine steps incs inc pg h after checked is then' same =
-    let g = grown shorten fine incs inc pg h after checked is then' in
-    let stays : g.members ≡ h.current = ap (λ (t : History AnyCode). t.current) g.is ∙ same in
-    let facts : PrimaryFacts = primary_facts incs h.current.acting_primary in
-    ap current_first (sym g.is) ∙ ap (λ (m : Membership). current_first (stepped h m facts)) stays ∙ steps.goes_on h facts
+first-goes_on shorten fine steps incs inc pg h after checked is then' same = grind (arith, grown shorten fine incs inc pg h after checked is then')
 
 pub first-opens : Shortens → EndsWell → Steps → (incs : List Incremental) (inc : Incremental) (pg : PgId) (h after : History AnyCode) → are_checked (then_with incs inc) ≡ true
     → group_history incs pg ≡ Some h → group_history (then_with incs inc) pg ≡ Some after → after.current ≢ h.current → current_first after ≡ inc.epoch

@@ -1,62 +1,16 @@
 -- What a group keeps as its log grows.
-use Rattle.std.proofs.Common.{◌≡◌, ◌≢◌, ◌≤◌, ℕ, List, [], ◌∷◌, ◌++◌, Option, Some, None, true, false, ◌||◌, nat_eq, refl, ap, sym, ◌∙◌, subst, inl, inr, append-nil, map}
-use Rattle.std.specs.List.{filter, list_any}
-use Rattle.std.proofs.lemmas.Bool.{cases_Bool, true≢false}
-use Rattle.std.proofs.lemmas.List.{map-append}
-use Rattle.std.specs.Option.{option_map, option_map_or}
-use Rattle.std.specs.Prelude.{Result, Ok, Err}
-use Rattle.std.specs.Result.{OnOk}
-use Rattle.pgp_code.specs.AnyCode.{enough_of, is_by_place}
-use Rattle.pgp_code.specs.Pool.{code_of}
-use Rattle.pgp_code.specs.declared.any.AnyCode.{AnyCode}
-use Rattle.pgp_ids.specs.declared.entry.Entry.{Entry}
+use Rattle.pgp_group.proofs.Common.{◌≡◌, ◌≢◌, ◌≤◌, ℕ, List, [], ◌∷◌, ◌++◌, Option, Some, None, true, false, ◌||◌, nat_eq, refl, ap, sym, ◌∙◌, subst, inl, inr, append-nil, map, filter, list_any, cases_Bool, true≢false, map-append, option_map, Result, Ok, Err, OnOk, enough_of, is_by_place, code_of, AnyCode, Entry, PrimaryFacts, Incremental, Membership, Past, PgId, PoolSpec, Info, Report, History, begun, stepped, Running, IsIntervalsOf, current_ending, past_intervals, is_same, past_intervals-more, is_same-eq, eq-is_same, past_intervals-continues, past_intervals-ends, epoch, map_fault, then_with, pool, has_group, is_same_group, pool_membership, membership, inc_of, report_of, incs_of, infos_of, reports_of, AreNumbered, made_at, primary_facts, GroupLog, cleans, group_with, infos, reports, Keeps, IsGroupOf, IsSilent, has_osd, was_member, KeepsInfos, IsToldBy, KeepsNames, KeepsPrior, KeepsReports, IsReportedBy, les, past, Group, Infos, NamedDevices, KeptPrior, Reports, arith}
 use Rattle.pgp_ids.specs.declared.entry.Entry.TheVariants as entry
-use Rattle.pgp_ids.specs.declared.history.PrimaryFacts.{PrimaryFacts}
-use Rattle.pgp_ids.specs.declared.incremental.Incremental.{Incremental}
-use Rattle.pgp_ids.specs.declared.membership.Membership.{Membership}
-use Rattle.pgp_ids.specs.declared.past.Past.{Past}
-use Rattle.pgp_ids.specs.declared.pg_id.PgId.{PgId}
 use Rattle.pgp_ids.specs.declared.pool.PoolKind.{PoolKind}
-use Rattle.pgp_ids.specs.declared.pool.PoolSpec.{PoolSpec}
-use Rattle.pgp_ids.specs.declared.report.Info.{Info}
-use Rattle.pgp_ids.specs.declared.report.Report.{Report}
-use Rattle.pgp_interval.specs.History.{History, begun, stepped}
-use Rattle.pgp_interval.specs.IntervalsOf.{Running, IsIntervalsOf}
-use Rattle.pgp_interval.specs.Runs.{current_ending, past_intervals}
-use Rattle.pgp_interval.specs.SameMembers.{is_same}
-use Rattle.pgp_interval.specs.Raised.{raised}
-use Rattle.pgp_interval.proofs.CleanLemmas.{past_intervals-more}
-use Rattle.pgp_interval.proofs.Same.{is_same-eq, eq-is_same}
-use Rattle.pgp_interval.proofs.StepLemmas.{past_intervals-continues, past_intervals-ends}
 pub use Rattle.pgp_lists.proofs.Results.{on_err}
-use Rattle.pgp_map.specs.Map.{epoch}
-use Rattle.pgp_map.specs.MapFault.{map_fault, then_with}
-use Rattle.pgp_map.specs.Pools.{pool, has_group, is_same_group}
-use Rattle.pgp_sets.specs.Sets.{pool_membership, membership}
-use Rattle.pgp_group.specs.Entries.{inc_of, info_of, report_of, incs_of, infos_of, reports_of}
-use Rattle.pgp_group.specs.GroupHistory.{AreNumbered, made_at, primary_facts, group_history}
-use Rattle.pgp_group.specs.GroupLog.{GroupLog, cleans, group_in, group_with, infos, reports}
-use Rattle.pgp_group.specs.GroupOf.{Keeps, IsGroupOf, IsSilent}
-use Rattle.pgp_group.specs.Touched.{has_osd, names, was_member}
-use Rattle.pgp_group.specs.KeptInfos.{KeepsInfos, IsToldBy}
-use Rattle.pgp_group.specs.KeptNames.{KeepsNames}
-use Rattle.pgp_group.specs.KeptPrior.{KeepsPrior}
-use Rattle.pgp_group.specs.KeptReports.{KeepsReports, IsReportedBy}
-use Rattle.pgp_group.specs.Heard.{les}
-use Rattle.pgp_group.specs.Peering.{past}
-use Rattle.pgp_group.specs.declared.group.Group.{Group}
-use Rattle.pgp_group.specs.declared.infos.Infos.{Infos}
-use Rattle.pgp_group.specs.declared.named_devices.NamedDevices.{NamedDevices}
-use Rattle.pgp_group.specs.declared.kept_prior.KeptPrior.{KeptPrior}
-use Rattle.pgp_group.specs.declared.reports.Reports.{Reports}
+use Rattle.pgp_group.specs.Entries.{info_of}
 use Rattle.pgp_group.proofs.GrowthLemmas.{history-begins, history-grows, next_epoch, numbered-more}
 use Rattle.pgp_group.proofs.InfosLemmas.{moves, KeepsInfos-on}
-use Rattle.pgp_group.proofs.LaterLemmas.{outlasts-same, outlasts-inc}
+use Rattle.pgp_group.proofs.LaterLemmas.{outlasts-same, outlasts-inc, les-later}
 use Rattle.pgp_group.proofs.Lists.{any-mapped, nothing_new, one_new, kept_new, left_new}
-use Rattle.pgp_group.proofs.NamesLemmas.{KeepsNames-begun, KeepsNames-same, KeepsNames-ended}
+use Rattle.pgp_group.proofs.NamedLemmas.{KeepsNames-begun, KeepsNames-same, KeepsNames-ended}
 use Rattle.pgp_group.proofs.PriorLemmas.{KeepsPrior-grown}
 use Rattle.pgp_group.proofs.ReportsLemmas.{KeepsReports-on}
-use Rattle.pgp_group.proofs.RiseLemmas.{les-later}
 
 -- ---- an entry that brings no map
 
@@ -69,7 +23,7 @@ past-grows : (epochs : List ℕ) (h : History AnyCode) (members : Membership) (f
 past-grows epochs h members facts = elim (cases_Bool (is_same members h.current)) [
   | inl same ↦
       let stays : members ≡ h.current = is_same-eq members h.current same in (
-        [],
+        grind arith,
         ap (λ (m : Membership). past_intervals enough_of is_by_place epochs (stepped h m facts)) stays
             ∙ past_intervals-continues enough_of is_by_place epochs h facts ∙ sym (append-nil (past_intervals enough_of is_by_place epochs h)),
       )
@@ -98,14 +52,7 @@ intervals-same g after intervals told is = subst (λ (epochs : List ℕ). IsInte
 -- what a group has, after an entry that brings no map
 pub IsGroupOf-report : (log : List Entry) (new : Entry) (pg : PgId) (old group : Group) (is : IsGroupOf log pg old)
     → inc_of new ≡ None → Keeps (group_with (log ++ new ∷ []) pg is.history) group → IsGroupOf (log ++ new ∷ []) pg group
-IsGroupOf-report log new pg old group is none kept =
-    let incs : incs_of (log ++ new ∷ []) ≡ incs_of log = nothing_new inc_of log new none in
-    record {
-      history = is.history;
-      history_is = ap (λ (l : List Incremental). group_history l pg) incs ∙ is.history_is;
-      numbered = subst AreNumbered (sym incs) is.numbered;
-      keeps = kept;
-    }
+IsGroupOf-report log new pg old group is none kept = search nothing_new
 
 -- the same, where it brings no info of the group either
 pub IsGroupOf-other : (log : List Entry) (new : Entry) (pg : PgId) (old group : Group) (is : IsGroupOf log pg old) → inc_of new ≡ None
@@ -178,27 +125,17 @@ pub names-kept : (log : List Entry) (new : Entry) (pg : PgId) (h : History AnyCo
     → filter (λ (info : Info). is_same_group info.pg pg) (infos_of (log ++ new ∷ [])) ≡ filter (λ (info : Info). is_same_group info.pg pg) (infos_of log)
     → filter (λ (report : Report). is_same_group report.pg pg) (reports_of (log ++ new ∷ [])) ≡ filter (λ (report : Report). is_same_group report.pg pg) (reports_of log)
     → KeepsNames (group_with log pg h) named → KeepsNames (group_with (log ++ new ∷ []) pg h) named
-names-kept log new pg h named told sent is =
-    KeepsNames-same (group_with log pg h) (group_with (log ++ new ∷ []) pg h) named named
-    (past-same (group_with log pg h) (group_with (log ++ new ∷ []) pg h) refl told) told sent refl is
+names-kept log new pg h named told sent is = grind (arith, past-same (group_with log pg h) (group_with (log ++ new ∷ []) pg h) refl told)
 
 -- an info of the group
 pub infos-told : (log : List Entry) (info : Info) (pg : PgId) (h : History AnyCode) → is_same_group info.pg pg ≡ true
     → IsToldBy (group_with log pg h) info (group_with (log ++ entry.Info info ∷ []) pg h)
-infos-told log info pg h same = record {
-  infos_are = infos-new log info pg same;
-  incs_are = nothing_new inc_of log (entry.Info info) refl;
-  history_is = refl;
-}
+infos-told log info pg h same = search (infos-new, nothing_new)
 
 -- a report of the group
 pub reports-told : (log : List Entry) (report : Report) (pg : PgId) (h : History AnyCode) → is_same_group report.pg pg ≡ true
     → IsReportedBy (group_with log pg h) report (group_with (log ++ entry.Entries report ∷ []) pg h)
-reports-told log report pg h same = record {
-  reports_are = reports-new log report pg same;
-  incs_are = nothing_new inc_of log (entry.Entries report) refl;
-  history_is = refl;
-}
+reports-told log report pg h same = search (reports-new, nothing_new)
 
 -- the epochs in which the group was clean, by one info more
 pub cleans-told : (log : List Entry) (info : Info) (pg : PgId) (h : History AnyCode) → is_same_group info.pg pg ≡ true
@@ -210,12 +147,7 @@ cleans-told log info pg h same =
 -- in its past intervals the same devices stood
 pub stood-told : (log : List Entry) (info : Info) (pg : PgId) (h : History AnyCode) → is_same_group info.pg pg ≡ true → (osd : ℕ)
     → list_any (was_member osd) (past (group_with (log ++ entry.Info info ∷ []) pg h)) ≡ list_any (was_member osd) (past (group_with log pg h))
-stood-told log info pg h same osd =
-    let epochs : List ℕ = cleans (group_with log pg h) in
-    let more : List ℕ = info.last_epoch_clean ∷ [] in
-    ap (λ (told : List ℕ). list_any (was_member osd) (past_intervals enough_of is_by_place told h)) (cleans-told log info pg h same)
-    ∙ ap (list_any (was_member osd)) (past_intervals-more enough_of is_by_place epochs more h)
-    ∙ any-mapped (raised (enough_of h.code) (is_by_place h.code) more) (was_member osd) (past_intervals enough_of is_by_place epochs h)
+stood-told log info pg h same osd = search (cleans-told, past_intervals-more, any-mapped)
 
 -- ---- an incremental
 
@@ -235,9 +167,7 @@ IsGroupOf-inc log inc pg old group members is fine lies pg_is infos' reports' re
     let grown = past-grows (cleans (group_with log pg is.history)) is.history members (primary_facts (incs_of log) is.history.current.acting_primary) in
     record {
       history = after;
-      history_is = ap (λ (l : List Incremental). group_history l pg) incs
-          ∙ history-grows (incs_of log) inc pg is.history is.numbered fine is.history_is
-          ∙ ap (option_map (λ (m : Membership). stepped is.history m (primary_facts (incs_of log) is.history.current.acting_primary))) lies;
+      history_is = grind (arith, history-grows (incs_of log) inc pg is.history is.numbered fine is.history_is);
       numbered = subst AreNumbered (sym incs) (numbered-more (incs_of log) inc is.numbered fine);
       keeps = record {
         pg_is = pg_is ∙ is.keeps.pg_is;
@@ -261,8 +191,7 @@ pub names-stay : (log : List Entry) (inc : Incremental) (pg : PgId) (h : History
     → KeepsNames (group_with log pg h) named → KeepsNames (group_with (log ++ entry.Inc inc ∷ []) pg (stepped h h.current facts)) named
 names-stay log inc pg h facts named is =
     KeepsNames-same (group_with log pg h) (group_with (log ++ entry.Inc inc ∷ []) pg (stepped h h.current facts)) named named
-    (past-same (group_with log pg (stepped h h.current facts)) (group_with (log ++ entry.Inc inc ∷ []) pg (stepped h h.current facts)) refl (infos-same log (entry.Inc inc) pg refl)
-    ∙ past_intervals-continues enough_of is_by_place (cleans (group_with log pg h)) h facts)
+    (simp (infos-same, past_intervals-continues))
     (infos-same log (entry.Inc inc) pg refl) (reports-same log (entry.Inc inc) pg refl) refl is
 
 -- the interval ends
@@ -272,18 +201,14 @@ pub names-end : (log : List Entry) (inc : Incremental) (pg : PgId) (h : History 
     → KeepsNames (group_with log pg h) old → KeepsNames (group_with (log ++ entry.Inc inc ∷ []) pg (stepped h members facts)) new
 names-end log inc pg h members facts old mid new differ up acting is =
     KeepsNames-ended (group_with log pg h) (group_with (log ++ entry.Inc inc ∷ []) pg (stepped h members facts)) old mid new (current_ending enough_of is_by_place (cleans (group_with log pg h)) h facts)
-    (past-same (group_with log pg (stepped h members facts)) (group_with (log ++ entry.Inc inc ∷ []) pg (stepped h members facts)) refl (infos-same log (entry.Inc inc) pg refl)
-    ∙ past_intervals-ends enough_of is_by_place (cleans (group_with log pg h)) h members facts differ) (infos-same log (entry.Inc inc) pg refl) (reports-same log (entry.Inc inc) pg refl) up acting is
+    (simp (infos-same, past_intervals-ends)) (infos-same log (entry.Inc inc) pg refl) (reports-same log (entry.Inc inc) pg refl) up acting is
 
 -- ---- the first epoch
 
 begun_as : (incs : List Incremental) (pg : PgId) (kind : PoolKind) (members : Membership) (found : Option PoolSpec) → option_map (λ made. made.kind) found ≡ Some kind → option_map (pool_membership incs pg) found ≡ Some members
     → option_map (λ made. begun (code_of made.kind) (epoch incs) (pool_membership incs pg made)) found ≡ Some (begun (code_of kind) (epoch incs) members)
 begun_as incs pg kind members None is lies = cc
-begun_as incs pg kind members (Some made) is lies =
-    let same_kind : made.kind ≡ kind = cc in
-    let same_members : pool_membership incs pg made ≡ members = cc in
-    λ i. Some (begun (code_of (same_kind i)) (epoch incs) (same_members i))
+begun_as incs pg kind members (Some made) is lies = grind arith
 
 pub IsGroupOf-begun : (log : List Entry) (pg : PgId) (kind : PoolKind) (members : Membership) (group : Group) → AreNumbered (incs_of log) → has_group (incs_of log) pg ≡ true → made_at (incs_of log) pg.pool ≡ epoch (incs_of log) → IsSilent log pg
     → option_map (λ made. made.kind) (pool (incs_of log) pg.pool) ≡ Some kind → membership (incs_of log) pg ≡ Some members
@@ -297,8 +222,7 @@ IsGroupOf-begun log pg kind members group counts there now silent is lies pg_is 
   numbered = counts;
   keeps = record {
     pg_is = pg_is;
-    intervals_are = subst (λ (told : List Info). IsIntervalsOf enough_of is_by_place (begun (code_of kind) (epoch (incs_of log)) members) (map (λ info. info.last_epoch_clean) told) group.intervals)
-        (sym silent.infos) intervals;
+    intervals_are = grind arith;
     infos_are = none (group_with log pg (begun (code_of kind) (epoch (incs_of log)) members)) silent.infos;
     reports_are = nothing (group_with log pg (begun (code_of kind) (epoch (incs_of log)) members)) silent.reports;
     named_are = KeepsNames-begun (group_with log pg (begun (code_of kind) (epoch (incs_of log)) members)) group.named refl silent.infos silent.reports nobody;
@@ -324,14 +248,7 @@ IsGroupOf-same log pg old group is pg_is intervals infos' reports' named' reckon
 
 -- the same, where a group that keeps its parts elsewhere has reckoned anew whom it has to hear
 pub IsGroupOf-reckoned : (log : List Entry) (pg : PgId) (old group : Group) (new : KeptPrior) (is : IsGroupOf log pg old) → Keeps (group_with log pg is.history) group → (KeepsPrior (group_with log pg is.history) group.reckoned → KeepsPrior (group_with log pg is.history) new) → IsGroupOf log pg (record group { reckoned = new })
-IsGroupOf-reckoned log pg old group new is kept renews = IsGroupOf-kept log pg old (record group { reckoned = new }) is (record {
-  pg_is = kept.pg_is;
-  intervals_are = kept.intervals_are;
-  infos_are = kept.infos_are;
-  reports_are = kept.reports_are;
-  named_are = kept.named_are;
-  prior_is = renews kept.prior_is;
-})
+IsGroupOf-reckoned log pg old group new is kept renews = search IsGroupOf-kept
 
 -- ---- what holds of a result
 
@@ -347,6 +264,3 @@ no_map {P = P} e inc is none = absurd (contradicts (ap inc_of (sym is) ∙ none)
     contradicts same = cc
 
 -- ---- of which devices it speaks
-
-pub names-there : (osd : ℕ) (log : List Entry) (pg : PgId) (h : History AnyCode) → group_history (incs_of log) pg ≡ Some h → option_map_or (names osd) (group_in log pg) false ≡ names osd (group_with log pg h)
-names-there osd log pg h is = ap (λ (found : Option (History AnyCode)). option_map_or (names osd) (option_map (group_with log pg) found) false) is

@@ -1,35 +1,10 @@
 -- How a list of incrementals is numbered, and how the history of a group grows by an incremental that isn't refused.
-use Rattle.std.proofs.Common.{◌≡◌, ℕ, suc, ◌+◌, ◌-◌, ◌<◌, ◌≤◌, List, [], ◌∷◌, ◌++◌, Option, Some, None, is_some, Bool, true, false, nat_eq, nat_lt, nat_le, length, map, refl, ap, ap₂, sym, ◌∙◌, subst, arith, drop, if◌then◌else◌}
-use Rattle.std.specs.List.{Contains, filter_map, flat_map, last_or, list_any, range_with_len, slice_index_or}
-use Rattle.std.specs.Option.{option_map, option_map_or}
-use Rattle.std.proofs.lemmas.Bool.{eqb-true}
-use Rattle.std.proofs.lemmas.Bool.Decides.{nat_tests}
-use Rattle.std.proofs.lemmas.List.{length_push, map_push}
-use Rattle.std.proofs.lemmas.List.Elements.{filter_map-append}
-use Rattle.pgp_code.specs.declared.any.AnyCode.{AnyCode}
-use Rattle.pgp_code.specs.Pool.{code_of}
-use Rattle.pgp_ids.specs.declared.history.EpochState.{EpochState}
-use Rattle.pgp_ids.specs.declared.incremental.Incremental.{Incremental}
-use Rattle.pgp_ids.specs.declared.pg_id.PgId.{PgId}
-use Rattle.pgp_ids.specs.declared.pool.PoolSizes.{PoolSizes}
-use Rattle.pgp_ids.specs.declared.pool.PoolSpec.{PoolSpec}
-use Rattle.pgp_interval.specs.History.{History, begun, stepped}
-use Rattle.pgp_map.specs.Checked.{are_checked, is_faultless}
-use Rattle.pgp_map.specs.Last.{last_where}
-use Rattle.pgp_map.specs.Map.{epoch, up_to}
-use Rattle.pgp_map.specs.MapFault.{map_fault, then_with, has_epoch_gap}
+use Rattle.pgp_group.proofs.Common.{◌≡◌, ℕ, suc, ◌+◌, ◌-◌, ◌<◌, ◌≤◌, List, [], ◌∷◌, ◌++◌, Option, Some, None, is_some, Bool, true, false, nat_eq, nat_lt, nat_le, length, map, refl, ap, ap₂, sym, ◌∙◌, subst, arith, drop, if◌then◌else◌, Contains, filter_map, flat_map, last_or, list_any, range_with_len, slice_index_or, option_map, option_map_or, eqb-true, nat_tests, length_push, map_push, filter_map-append, AnyCode, code_of, EpochState, Incremental, PgId, PoolSizes, PoolSpec, History, begun, stepped, are_checked, is_faultless, last_where, epoch, up_to, map_fault, then_with, has_epoch_gap, pool, with_sizes, has_group, pool_membership, membership, flat_map-push, filter-contains, makes, made_at, AreNumbered, primary_facts, state_with, state_at_epoch, states_from, history_of, group_history, taken-induction, taken-front, taken-last, none_is}
 use Rattle.pgp_map.proofs.FaultLemmas.{no_fault}
 pub use Rattle.pgp_map.proofs.MapLemmas.{epoch-push as epoch-snoc}
-use Rattle.pgp_map.specs.Pools.{pool, with_sizes, has_group}
-use Rattle.pgp_sets.specs.Sets.{pool_membership, membership}
-use Rattle.pgp_lists.proofs.Lists.{flat_map-push}
-use Rattle.pgp_lists.proofs.Members.{filter-contains}
 use Rattle.pgp_lists.proofs.Ranges.{range_with_len-suc}
-use Rattle.pgp_group.specs.GroupHistory.{makes, made_at, AreNumbered, primary_facts, state_with, state_at_epoch, states_from, history_of, group_history}
 use Rattle.pgp_group.proofs.HistoryLemmas.{maker_of, history_if, history-length}
 use Rattle.pgp_group.proofs.Lists.{none-narrower, last_where-passes, last_where-none, filter_map-agree}
-use Rattle.pgp_lists.proofs.Taken.{taken-induction, taken-front, taken-last}
-use Rattle.pgp_lists.proofs.Options.{none_is}
 
 -- ---- an incremental that isn't refused
 
@@ -69,19 +44,15 @@ pub checked-last : EndsWell
 checked-last = λ incs inc checked. none_is (map_fault incs inc) (taken-last is_faultless incs inc checked)
 
 pub checked-numbered : Shortens → EndsWell → (incs : List Incremental) → are_checked incs ≡ true → AreNumbered incs
-checked-numbered shorten fine =
-    taken-induction is_faultless AreNumbered refl
-    (λ incs inc checked faultless counts. numbered-more incs inc counts (none_is (map_fault incs inc) faultless))
+checked-numbered shorten fine = search (taken-induction, numbered-more, none_is)
 
 -- ---- the map of an epoch
 
 up_to-all : (incs : List Incremental) (a e : ℕ) → map (λ inc. inc.epoch) incs ≡ range_with_len a (length incs) → a + length incs ≤ e + 1 → up_to e incs ≡ incs
 up_to-all [] a e counts within = refl
 up_to-all (inc ∷ incs) a e counts within =
-    let first : inc.epoch ≡ a = ap (λ l. slice_index_or l 0 0) counts in
     let rest : map (λ i. i.epoch) incs ≡ range_with_len (a + 1) (length incs) = ap (λ l. drop 1 l) counts in
-    let kept : nat_le inc.epoch e ≡ true = grind (arith, nat_tests) in
-    rw kept (ap (λ l. inc ∷ l) (up_to-all incs (a + 1) e rest (omega arith)))
+    grind (arith, nat_tests, up_to-all incs (a + 1) e rest (omega arith))
 
 -- the map of the last epoch is that of all
 pub up_to-epoch : (incs : List Incremental) → AreNumbered incs → up_to (epoch incs) incs ≡ incs
@@ -121,13 +92,10 @@ unfolding made_of
 made_of-stays incs inc id unmade = told-stays (λ (made : PoolSpec). nat_eq made.id id) (λ (i : Incremental). i.pools) incs inc unmade
 
 made_at-stays : (incs : List Incremental) (inc : Incremental) (id : ℕ) → makes id inc ≡ false → made_at (then_with incs inc) id ≡ made_at incs id
-made_at-stays incs inc id unmade =
-    let none : list_any (makes id) (inc ∷ []) ≡ false = rw unmade refl in
-    ap (λ (o : Option Incremental). option_map_or (λ (i : Incremental). i.epoch) o 0) (last_where-none (makes id) incs (inc ∷ []) none)
+made_at-stays incs inc id unmade = search (unmade, last_where-none)
 
 pub made_at-made : (incs : List Incremental) (inc : Incremental) (id : ℕ) → makes id inc ≡ true → made_at (then_with incs inc) id ≡ inc.epoch
-made_at-made incs inc id makes' =
-    ap (λ (o : Option Incremental). option_map_or (λ (i : Incremental). i.epoch) o 0) (last_where-passes (makes id) incs inc makes')
+made_at-made incs inc id makes' = grind (arith, last_where-passes (makes id) incs inc makes')
 
 -- the pool was made by the last incremental or before
 made_at-before : (incs : List Incremental) (id : ℕ) → AreNumbered incs → is_some (pool incs id) ≡ true → made_at incs id ≤ epoch incs
@@ -136,7 +104,6 @@ made_at-before incs id counts there =
     let all : List Incremental = up_to (epoch incs) incs in
     let kept : Contains all m.maker = subst (λ l. Contains l m.maker) (sym (up_to-epoch incs counts)) m.there in
     let within : nat_le m.maker.epoch (epoch incs) ≡ true = (filter-contains (λ (inc : Incremental). nat_le inc.epoch (epoch incs)) incs m.maker kept).1 in
-    let is : made_at incs id ≡ m.maker.epoch = m.epoch in
     grind (arith, nat_tests)
 
 -- sizes change neither the kind of a pool nor its number of groups
@@ -178,10 +145,7 @@ pool-stays incs inc id made fine is =
 
 -- the state of the epoch that was current
 state-ended : (incs : List Incremental) (inc : Incremental) (pg : PgId) (made : PoolSpec) → AreNumbered incs → map_fault incs inc ≡ None → pool incs pg.pool ≡ Some made → state_at_epoch (then_with incs inc) pg (epoch incs) ≡ Some (state_with incs (pool_membership incs pg made))
-state-ended incs inc pg made counts fine is =
-    let before : up_to (epoch incs) (then_with incs inc) ≡ incs = up_to-earlier (epoch incs) incs inc (omega (arith, next_epoch incs inc fine)) ∙ up_to-epoch incs counts in
-    ap (λ (l : List Incremental). option_map (state_with l) (membership l pg)) before
-    ∙ ap (λ (found : Option PoolSpec). option_map (state_with incs) (option_map (pool_membership incs pg) found)) is
+state-ended incs inc pg made counts fine is = cc (up_to-earlier (epoch incs) incs inc (omega (arith, next_epoch incs inc fine)), up_to-epoch incs counts)
 
 states-grow : (incs : List Incremental) (inc : Incremental) (pg : PgId) (made : PoolSpec) (first : ℕ) → AreNumbered incs → map_fault incs inc ≡ None → pool incs pg.pool ≡ Some made → first ≤ epoch incs → states_from (then_with incs inc) pg first ≡ states_from incs pg first ++ state_with incs (pool_membership incs pg made) ∷ []
 states-grow incs inc pg made first counts fine is within =
@@ -197,21 +161,10 @@ states-grow incs inc pg made first counts fine is within =
     (ap (state_at_epoch (then_with incs inc) pg) there ∙ state-ended incs inc pg made counts fine is)
 
 history_of-grows : (incs : List Incremental) (inc : Incremental) (pg : PgId) (made now : PoolSpec) → now.kind ≡ made.kind → made_at (then_with incs inc) pg.pool ≡ made_at incs pg.pool → states_from (then_with incs inc) pg (made_at incs pg.pool) ≡ states_from incs pg (made_at incs pg.pool) ++ state_with incs (pool_membership incs pg made) ∷ [] → history_of (then_with incs inc) pg now ≡ stepped (history_of incs pg made) (pool_membership (then_with incs inc) pg now) (primary_facts incs (pool_membership incs pg made).acting_primary)
-history_of-grows incs inc pg made now kind since states =
-    let lived : states_from (then_with incs inc) pg (made_at (then_with incs inc) pg.pool) ≡ states_from incs pg (made_at incs pg.pool) ++ state_with incs (pool_membership incs pg made) ∷ [] =
-    ap (states_from (then_with incs inc) pg) since ∙ states in
-    λ i. record {
-      code = code_of (kind i);
-      first = since i;
-      lived = lived i;
-      current = pool_membership (then_with incs inc) pg now;
-    }
+history_of-grows incs inc pg made now kind since states = grind arith
 
 has_group-stays : (incs : List Incremental) (inc : Incremental) (pg : PgId) (made : PoolSpec) → Stays incs inc pg.pool made → pool incs pg.pool ≡ Some made → has_group (then_with incs inc) pg ≡ has_group incs pg
-has_group-stays incs inc pg made s is =
-    ap (λ (o : Option PoolSpec). option_map_or (λ p. nat_lt pg.pg p.pg_num) o false) s.is
-    ∙ ap (nat_lt pg.pg) s.groups
-    ∙ sym (ap (λ (o : Option PoolSpec). option_map_or (λ p. nat_lt pg.pg p.pg_num) o false) is)
+has_group-stays incs inc pg made s is = grind arith
 
 -- without its pool being made a group stays there or away
 made_of-none : (incs : List Incremental) (id : ℕ) → pool incs id ≡ None → made_of incs id ≡ None
@@ -227,11 +180,7 @@ has_group-without incs pg none = ap (λ (o : Option PoolSpec). option_map_or (λ
 has_group-by_pool : (incs : List Incremental) (inc : Incremental) (pg : PgId) (found : Option PoolSpec) → map_fault incs inc ≡ None → makes pg.pool inc ≡ false → pool incs pg.pool ≡ found
     → has_group (then_with incs inc) pg ≡ has_group incs pg
 has_group-by_pool incs inc pg (Some made) fine unmade' is = has_group-stays incs inc pg made (pool-stays incs inc pg.pool made fine is) is
-has_group-by_pool incs inc pg None fine unmade' is =
-    let none : pool (then_with incs inc) pg.pool ≡ None =
-    pool-is (then_with incs inc) pg.pool
-    ∙ ap (option_map (with_sizes (sizes_of (then_with incs inc) pg.pool))) (made_of-stays incs inc pg.pool unmade' ∙ made_of-none incs pg.pool is) in
-    has_group-without (then_with incs inc) pg none ∙ sym (has_group-without incs pg is)
+has_group-by_pool incs inc pg None fine unmade' is = search (pool-is, made_of-stays, made_of-none, has_group-without)
 
 pub has_group-unmade : (incs : List Incremental) (inc : Incremental) (pg : PgId) → map_fault incs inc ≡ None → makes pg.pool inc ≡ false → has_group (then_with incs inc) pg ≡ has_group incs pg
 has_group-unmade incs inc pg fine unmade' = has_group-by_pool incs inc pg (pool incs pg.pool) fine unmade' refl
@@ -247,13 +196,8 @@ history-grows incs inc pg h counts fine is =
     let from = history_if incs pg (pool incs pg.pool) h (has_group incs pg) is in
     let made : PoolSpec = from.0 in
     let s = pool-stays incs inc pg.pool made fine from.1.0 in
-    let here : has_group (then_with incs inc) pg ≡ true = has_group-stays incs inc pg made s from.1.0 ∙ there_then incs pg h (has_group incs pg) (pool incs pg.pool) is in
     let within : made_at incs pg.pool ≤ epoch incs = made_at-before incs pg.pool counts (ap is_some from.1.0) in
-    let grown : history_of (then_with incs inc) pg s.now ≡ stepped (history_of incs pg made) (pool_membership (then_with incs inc) pg s.now) (primary_facts incs (pool_membership incs pg made).acting_primary) =
-    history_of-grows incs inc pg made s.now s.kind s.since (states-grow incs inc pg made (made_at incs pg.pool) counts fine from.1.0 within) in
-    ap₂ (λ (b : Bool) (o : Option PoolSpec). if b then option_map (history_of (then_with incs inc) pg) o else None) here s.is
-    ∙ ap Some (grown ∙ ap (λ (g : History AnyCode). stepped g (pool_membership (then_with incs inc) pg s.now) (primary_facts incs g.current.acting_primary)) from.1.1)
-    ∙ ap (λ (o : Option PoolSpec). option_map (λ members. stepped h members (primary_facts incs h.current.acting_primary)) (option_map (pool_membership (then_with incs inc) pg) o)) (sym s.is)
+    grind (arith, history_of-grows incs inc pg made s.now s.kind s.since (states-grow incs inc pg made (made_at incs pg.pool) counts fine from.1.0 within))
 
 pub has_group-grows : (incs : List Incremental) (inc : Incremental) (pg : PgId) (h : History AnyCode) → map_fault incs inc ≡ None → group_history incs pg ≡ Some h → has_group (then_with incs inc) pg ≡ true
 has_group-grows incs inc pg h fine is =
@@ -263,19 +207,7 @@ has_group-grows incs inc pg h fine is =
 -- ---- the history begins
 
 pub history-begins : (incs : List Incremental) (pg : PgId) → made_at incs pg.pool ≡ epoch incs → has_group incs pg ≡ true → group_history incs pg ≡ option_map (λ made. begun (code_of made.kind) (epoch incs) (pool_membership incs pg made)) (pool incs pg.pool)
-history-begins incs pg now there =
-    let none : epoch incs - made_at incs pg.pool ≡ 0 = omega arith in
-    let begins : (made : PoolSpec) → history_of incs pg made ≡ begun (code_of made.kind) (epoch incs) (pool_membership incs pg made) = λ made. λ i. record {
-      code = code_of made.kind;
-      first = now i;
-      lived = filter_map (state_at_epoch incs pg) (range_with_len (made_at incs pg.pool) (none i));
-      current = pool_membership incs pg made;
-    } in
-    ap (λ (b : Bool). if b then option_map (history_of incs pg) (pool incs pg.pool) else None) there ∙ mapped (pool incs pg.pool) begins
-  where
-    mapped : (found : Option PoolSpec) → ((made : PoolSpec) → history_of incs pg made ≡ begun (code_of made.kind) (epoch incs) (pool_membership incs pg made)) → option_map (history_of incs pg) found ≡ option_map (λ made. begun (code_of made.kind) (epoch incs) (pool_membership incs pg made)) found
-    mapped None same = refl
-    mapped (Some made) same = ap Some (same made)
+history-begins incs pg now there = grind arith
 
 pub history-begins-made : (incs : List Incremental) (inc : Incremental) (pg : PgId) → makes pg.pool inc ≡ true → has_group (then_with incs inc) pg ≡ true
     → group_history (then_with incs inc) pg ≡ option_map (λ made. begun (code_of made.kind) inc.epoch (pool_membership (then_with incs inc) pg made)) (pool (then_with incs inc) pg.pool)
@@ -289,6 +221,4 @@ history-begins-made incs inc pg making there =
 pub history-last : (incs : List Incremental) (pg : PgId) (h : History AnyCode) → AreNumbered incs → group_history incs pg ≡ Some h → h.first + length h.lived ≡ epoch incs
 history-last incs pg h counts is =
     let from = history_if incs pg (pool incs pg.pool) h (has_group incs pg) is in
-    let first : made_at incs pg.pool ≡ h.first = ap (λ (g : History AnyCode). g.first) from.1.1 in
-    let within : made_at incs pg.pool ≤ epoch incs = made_at-before incs pg.pool counts (ap is_some from.1.0) in
-    omega (arith, history-length incs pg h is)
+    grind (arith, made_at-before incs pg.pool counts (ap is_some from.1.0), history-length incs pg h is)

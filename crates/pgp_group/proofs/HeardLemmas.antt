@@ -1,18 +1,5 @@
 -- The infos that are heard are of distinct members, and each is the last of its member.
-use Rattle.std.proofs.Common.{◌≡◌, ◌≢◌, List, [], ◌∷◌, ◌++◌, true, false, ◌||◌, refl, ap, sym, ◌∙◌, subst, inl, inr, arith}
-use Rattle.std.specs.List.{Contains, All}
-use Rattle.std.proofs.lemmas.Bool.{cases_Bool, true≢false}
-use Rattle.std.proofs.lemmas.Bool.Decides.{nat_tests}
-use Rattle.std.proofs.lemmas.List.Elements.{All-contains_itself, All-weaker}
-use Rattle.std.proofs.lemmas.List.Kept.{AllPairs-cons}
-use Rattle.pgp_ids.specs.Member.{is_same_member}
-use Rattle.pgp_ids.specs.declared.member.Member.{Member}
-use Rattle.pgp_ids.specs.declared.report.Info.{Info}
-use Rattle.pgp_info.specs.Best.{HasDistinctMembers}
-use Rattle.pgp_info.specs.Heard.{with_info}
-use Rattle.pgp_lists.proofs.Members.{Contains-here, Contains-first, Contains-later, Contains-cases, Contains-nil, contains-any}
-use Rattle.pgp_lists.proofs.Pairs.{AllPairs-nil}
-use Rattle.pgp_group.specs.Heard.{has_member, last_of_each_member, IsLastOfMember}
+use Rattle.pgp_group.proofs.Common.{◌≡◌, ◌≢◌, List, [], ◌∷◌, ◌++◌, true, false, ◌||◌, refl, ap, sym, ◌∙◌, subst, inl, inr, arith, Contains, All, cases_Bool, true≢false, nat_tests, All-contains_itself, All-weaker, AllPairs-cons, is_same_member, Member, Info, HasDistinctMembers, with_info, Contains-here, Contains-first, Contains-later, Contains-cases, Contains-nil, contains-any, AllPairs-nil, has_member, last_of_each_member, IsLastOfMember}
 
 same_member_itself : (a : Member) → is_same_member a a ≡ true
 same_member_itself a = grind (arith, nat_tests)
@@ -76,8 +63,7 @@ kept_behind (first ∷ before) info after last = elim (cases_Bool (has_member fi
 ]
 
 pub IsLastOfMember-last_of : (infos : List Info) (info : Info) → IsLastOfMember infos info → Contains (last_of_each_member infos) info
-IsLastOfMember-last_of infos info is =
-    subst (λ l. Contains (last_of_each_member l) info) (sym is.split) (kept_behind is.before info is.after is.last)
+IsLastOfMember-last_of infos info is = grind (arith, kept_behind is.before info is.after is.last)
 
 -- ---- one more info
 

@@ -1,22 +1,5 @@
 -- The history of a group has a state for each epoch, from the one that made its pool on.
-use Rattle.std.proofs.Common.{◌≡◌, ℕ, zero, suc, ◌+◌, ◌-◌, ◌<◌, ◌≤◌, List, Option, Some, None, is_some, Bool, true, false, nat_eq, nat_le, length, refl, ap, sym, ◌∙◌, subst, arith, if◌then◌else◌}
-use Rattle.std.specs.List.{Contains, filter_map, flat_map, list_any, range_with_len, slice_get}
-use Rattle.std.specs.Option.{option_map, option_map_or}
-use Rattle.std.proofs.lemmas.Option.{same_Some}
-use Rattle.std.proofs.lemmas.Bool.Decides.{nat_tests}
-use Rattle.pgp_code.specs.declared.any.AnyCode.{AnyCode}
-use Rattle.pgp_ids.specs.declared.incremental.Incremental.{Incremental}
-use Rattle.pgp_ids.specs.declared.pg_id.PgId.{PgId}
-use Rattle.pgp_ids.specs.declared.pool.PoolSpec.{PoolSpec}
-use Rattle.pgp_interval.specs.History.{History}
-use Rattle.pgp_map.specs.Last.{last_where}
-use Rattle.pgp_map.specs.Map.{epoch, up_to}
-use Rattle.pgp_map.specs.Pools.{pool, has_group}
-use Rattle.pgp_lists.proofs.Last.{last_where-some, last_where-found}
-use Rattle.pgp_lists.proofs.Members.{any-contains, contains-any, contains-filter, contains-flat_map, flat_map-contains}
-use Rattle.pgp_lists.proofs.Options.{some_is, some_mapped}
-use Rattle.pgp_sets.specs.Sets.{pool_membership, membership}
-use Rattle.pgp_group.specs.GroupHistory.{makes, made_at, state_at_epoch, history_of, group_history}
+use Rattle.pgp_group.proofs.Common.{◌≡◌, ℕ, zero, suc, ◌+◌, ◌-◌, ◌<◌, ◌≤◌, List, Option, Some, None, is_some, Bool, true, false, nat_eq, nat_le, length, refl, ap, sym, ◌∙◌, subst, arith, if◌then◌else◌, Contains, filter_map, flat_map, list_any, range_with_len, slice_get, option_map, option_map_or, same_Some, nat_tests, AnyCode, Incremental, PgId, PoolSpec, History, last_where, epoch, up_to, pool, has_group, last_where-some, last_where-found, any-contains, contains-any, contains-filter, contains-flat_map, flat_map-contains, some_is, some_mapped, pool_membership, membership, makes, made_at, state_at_epoch, history_of, group_history}
 
 -- ---- the incremental that made a pool
 
@@ -27,9 +10,7 @@ pool-some incs id = some_mapped _ (last_where (λ made. nat_eq made.id id) (flat
 pool-made : (incs : List Incremental) (id : ℕ) (inc : Incremental) → Contains incs inc → makes id inc ≡ true → is_some (pool incs id) ≡ true
 pool-made incs id inc there making =
     let found = any-contains (λ (made : PoolSpec). nat_eq made.id id) inc.pools making in
-    pool-some incs id
-    ∙ contains-any (λ (made : PoolSpec). nat_eq made.id id) (flat_map (λ (i : Incremental). i.pools) incs) found.0
-    (contains-flat_map (λ (i : Incremental). i.pools) incs inc found.0 there found.1.0) found.1.1
+    search (pool-some, contains-any, contains-flat_map)
 
 -- the last incremental that makes the pool
 pub record Maker (incs : List Incremental) (id : ℕ) : Type 0 where
@@ -57,7 +38,6 @@ maker_of incs id there =
 pool-since : (incs : List Incremental) (id at : ℕ) → is_some (pool incs id) ≡ true → made_at incs id ≤ at → is_some (pool (up_to at incs) id) ≡ true
 pool-since incs id at there since =
     let m = maker_of incs id there in
-    let within : m.maker.epoch ≤ at = subst (λ e. e ≤ at) m.epoch since in
     let tested : nat_le m.maker.epoch at ≡ true = grind (arith, nat_tests) in
     pool-made (up_to at incs) id m.maker (contains-filter (λ (inc : Incremental). nat_le inc.epoch at) incs m.maker m.there tested) m.making
 
@@ -101,6 +81,4 @@ history-state incs pg h is k =
     (λ below. get-kept (state_at_epoch incs pg) first (epoch incs - first) k (λ k since. state-since incs pg k there since) (omega arith))
 
 pub history-current : (incs : List Incremental) (pg : PgId) (h : History AnyCode) → group_history incs pg ≡ Some h → membership incs pg ≡ Some h.current
-history-current incs pg h is =
-    let from = history_if incs pg (pool incs pg.pool) h (has_group incs pg) is in
-    ap (option_map (pool_membership incs pg)) from.1.0 ∙ ap (λ (g : History AnyCode). Some g.current) from.1.1
+history-current incs pg h is = grind (arith, history_if incs pg (pool incs pg.pool) h (has_group incs pg) is)

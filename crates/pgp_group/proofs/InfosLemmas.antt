@@ -1,36 +1,8 @@
 -- What is kept of the infos of a group, as its log grows and as they are looked at.
-use Rattle.std.proofs.Common.{◌≡◌, ◌≢◌, ℕ, ◌≤◌, List, [], ◌∷◌, ◌++◌, Some, Bool, true, false, ◌&&◌, ◌||◌, nat_lt, length, map, fold, max, take, drop, append-nil, append_assoc, length-append, refl, ap, ap₂, sym, ◌∙◌, subst, inl, inr, arith}
-use Rattle.std.specs.List.{Contains, filter}
-use Rattle.std.proofs.lemmas.Bool.{cases_Bool, and_parts, or_parts, eqb-true, true≢false}
-use Rattle.std.proofs.lemmas.Bool.Decides.{nat_tests}
-use Rattle.std.proofs.lemmas.List.{take_all, take-append-drop, take-append-le, map-append}
-use Rattle.std.proofs.lemmas.List.Elements.{filter-append}
-use Rattle.std.proofs.lemmas.List.Sums.{fold-append}
+use Rattle.pgp_group.proofs.Common.{◌≡◌, ◌≢◌, ℕ, ◌≤◌, List, [], ◌∷◌, ◌++◌, Some, Bool, true, false, ◌&&◌, ◌||◌, nat_lt, length, map, fold, max, take, drop, append-nil, append_assoc, length-append, refl, ap, ap₂, sym, ◌∙◌, subst, inl, inr, arith, Contains, filter, cases_Bool, and_parts, or_parts, eqb-true, true≢false, nat_tests, take_all, take-append-drop, take-append-le, map-append, filter-append, fold-append, AnyCode, is_same_member, PrimaryFacts, Incremental, Member, Membership, PgId, Info, HasDistinctMembers, with_infos, History, last_place, stepped, current_first, is_same, is_same-eq, eq-is_same, current_first-continues, current_first-ends, Contains-nil, append-contains, contains-append, filter-contains, epoch, AreNumbered, group_history, GroupLog, incs, infos, has_member, heard, last_of_each_member, les, KeepsInfos, IsToldBy, Infos}
 use Rattle.std.proofs.lemmas.Map.Views.{any-filter_same}
-use Rattle.pgp_code.specs.declared.any.AnyCode.{AnyCode}
-use Rattle.pgp_ids.specs.Member.{is_same_member}
-use Rattle.pgp_ids.specs.declared.history.PrimaryFacts.{PrimaryFacts}
-use Rattle.pgp_ids.specs.declared.incremental.Incremental.{Incremental}
-use Rattle.pgp_ids.specs.declared.member.Member.{Member}
-use Rattle.pgp_ids.specs.declared.membership.Membership.{Membership}
-use Rattle.pgp_ids.specs.declared.pg_id.PgId.{PgId}
-use Rattle.pgp_ids.specs.declared.report.Info.{Info}
-use Rattle.pgp_info.specs.Best.{HasDistinctMembers}
-use Rattle.pgp_info.specs.Heard.{with_infos}
-use Rattle.pgp_interval.specs.History.{History, last_place, stepped}
-use Rattle.pgp_interval.specs.Runs.{current_first}
-use Rattle.pgp_interval.specs.SameMembers.{is_same}
 use Rattle.pgp_interval.proofs.Openings.{opening_of-le}
-use Rattle.pgp_interval.proofs.Same.{is_same-eq, eq-is_same}
-use Rattle.pgp_interval.proofs.StepLemmas.{current_first-continues, current_first-ends}
-use Rattle.pgp_lists.proofs.Members.{Contains-cases, Contains-nil, append-contains, contains-append, filter-contains}
-use Rattle.pgp_lists.proofs.Pairs.{AllPairs-nil}
-use Rattle.pgp_map.specs.Map.{epoch}
-use Rattle.pgp_group.specs.GroupHistory.{AreNumbered, group_history}
-use Rattle.pgp_group.specs.GroupLog.{GroupLog, incs, infos}
-use Rattle.pgp_group.specs.Heard.{has_member, heard, last_of_each_member, les}
-use Rattle.pgp_group.specs.KeptInfos.{counts, KeepsInfos, IsToldBy}
-use Rattle.pgp_group.specs.declared.infos.Infos.{Infos}
+use Rattle.pgp_group.specs.KeptInfos.{counts}
 use Rattle.pgp_group.proofs.GrowthLemmas.{history-last}
 use Rattle.pgp_group.proofs.HeardLemmas.{HasDistinctMembers-last_of, last_of-contains, last_of-snoc}
 use Rattle.pgp_group.proofs.LaterLemmas.{Moves, Outlasts, outlasts-same}
@@ -40,10 +12,7 @@ use Rattle.pgp_group.proofs.Lists.{filter-agree, filter-both, filter-each}
 
 pub with_infos-last : (new before : List Info) → with_infos new (last_of_each_member before) ≡ last_of_each_member (before ++ new)
 with_infos-last [] before = ap last_of_each_member (sym (append-nil before))
-with_infos-last (info ∷ new) before =
-    ap (with_infos new) (sym (last_of-snoc before info))
-    ∙ with_infos-last new (before ++ info ∷ [])
-    ∙ ap last_of_each_member (append_assoc before (info ∷ []) new)
+with_infos-last (info ∷ new) before = grind (arith, last_of-snoc before info, with_infos-last new (before ++ info ∷ []), append_assoc before (info ∷ []) new)
 
 has_member-last : (member : Member) (told : List Info) → has_member member told ≡ false → has_member member (last_of_each_member told) ≡ false
 has_member-last member [] none = refl
@@ -131,37 +100,13 @@ KeepsInfos-new g after info at old kept here told is all les' seen heard' ahead 
     (outlasts-same g after told.incs_are told.history_is) told.infos_are sent is all les' seen heard'
   where
     sent : kept.ahead ≡ false → (old.ahead ≡ false) × ((i : Info) → Contains (info ∷ []) i → i.stamp ≤ epoch (incs after))
-    sent settled =
-        let parts = or_parts old.ahead (nat_lt at info.stamp) (sym ahead ∙ settled) in
-        let come : nat_lt at info.stamp ≡ false = parts.1 in
-        let by : info.stamp ≤ at = grind (arith, nat_tests) in (
-          parts.0,
-          λ i there. elim (Contains-cases info [] i there) [
-            | inl same ↦ subst (λ (x : Info). x.stamp ≤ epoch (incs after)) same (omega (arith, by, here, ap epoch told.incs_are))
-            | inr none ↦ absurd (Contains-nil i none)
-          ],
-        )
+    sent settled = grind (arith, or_parts old.ahead (nat_lt at info.stamp) (sym ahead ∙ settled), nat_tests)
 
 -- ---- none that was looked at
 
 pub KeepsInfos-unseen : (g : GroupLog) (kept : Infos) → kept.all.items ≡ infos g → kept.les ≡ les g → kept.seen ≡ 0 → kept.heard.infos ≡ []
     → (kept.ahead ≡ false → (info : Info) → Contains (infos g) info → info.stamp ≤ epoch (incs g)) → KeepsInfos g kept
-KeepsInfos-unseen g kept all les' seen nobody sent = record {
-  all_are = all;
-  les_is = les';
-  distinct = subst HasDistinctMembers (sym nobody) (AllPairs-nil (λ a b. a.member ≢ b.member));
-  seen_within = omega (arith, seen);
-  each_sent = sent;
-  heard_sent = λ settled info there. absurd (Contains-nil info (subst (λ (l : List Info). Contains l info) nobody there));
-  heard_are = λ settled. ap (λ (n : ℕ). last_of_each_member (filter (counts g) (take n (infos g)))) seen
-      ∙ ap (filter (counts g)) (sym nobody);
-}
-
--- no info yet
-pub KeepsInfos-none : (g : GroupLog) (kept : Infos) → infos g ≡ [] → kept.all.items ≡ [] → kept.les ≡ 0 → kept.seen ≡ 0 → kept.heard.infos ≡ [] → KeepsInfos g kept
-KeepsInfos-none g kept none all les' seen nobody =
-    KeepsInfos-unseen g kept (all ∙ sym none) (les' ∙ ap (λ (l : List Info). fold max 0 (map begun_by l)) (sym none)) seen nobody
-    (λ settled info there. absurd (Contains-nil info (subst (λ (l : List Info). Contains l info) none there)))
+KeepsInfos-unseen g kept all les' seen nobody sent = grind arith
 
 -- ---- the next map
 
@@ -184,19 +129,14 @@ pub heard-on : (g : GroupLog) (kept : Infos) → KeepsInfos g kept → kept.ahea
 heard-on g kept is settled =
     let front : List Info = filter (counts g) (take kept.seen (infos g)) in
     let back : List Info = filter (counts g) (drop kept.seen (infos g)) in
-    ap (with_infos back) (sym (is.heard_are settled))
-    ∙ with_infos-last back front
-    ∙ ap last_of_each_member (sym (filter-append (counts g) (take kept.seen (infos g)) (drop kept.seen (infos g))))
-    ∙ ap (λ (l : List Info). last_of_each_member (filter (counts g) l)) (take-append-drop kept.seen (infos g))
+    grind (arith, with_infos-last back front, filter-append (counts g) (take kept.seen (infos g)) (drop kept.seen (infos g)), take-append-drop kept.seen (infos g))
 
 -- the same of those that are kept, each by itself
 pub heard-more : (g : GroupLog) (kept : Infos) → KeepsInfos g kept → kept.ahead ≡ false
     → with_infos (filter (counts g) (drop kept.seen (infos g))) (last_of_each_member (filter (counts g) kept.heard.infos)) ≡ heard g
 heard-more g kept is settled =
     let front : List Info = filter (counts g) (take kept.seen (infos g)) in
-    ap (λ (l : List Info). with_infos (filter (counts g) (drop kept.seen (infos g))) l)
-    (ap last_of_each_member (sym (is.heard_are settled)) ∙ last_of-twice front ∙ is.heard_are settled)
-    ∙ heard-on g kept is settled
+    grind (arith, last_of-twice front, heard-on g kept is settled)
 
 pub KeepsInfos-heard : (g : GroupLog) (old kept : Infos) → KeepsInfos g old → kept.all.items ≡ old.all.items → kept.les ≡ old.les → kept.ahead ≡ old.ahead → kept.seen ≡ length old.all.items
     → kept.heard.infos ≡ heard g → KeepsInfos g kept

@@ -1,42 +1,15 @@
 -- Two logs that tell the same of a group give the same view of it, except for count.
-use Rattle.std.proofs.Common.{◌≡◌, ℕ, ◌≤◌, List, [], ◌∷◌, ◌++◌, Option, Some, None, Bool, true, nat_lt, length, map, fold, max, refl, ap, ap₂, sym, ◌∙◌, subst, inl, inr, arith}
-use Rattle.std.specs.List.{Contains, filter, find, flat_map, last_or}
-use Rattle.std.specs.Option.{option_map, option_map_or}
-use Rattle.std.proofs.lemmas.Bool.Decides.{nat_tests}
-use Rattle.std.proofs.lemmas.List.Elements.{filter-append}
-use Rattle.pgp_code.specs.AnyCode.{enough_of, is_by_place}
-use Rattle.pgp_code.specs.declared.any.AnyCode.{AnyCode}
-use Rattle.pgp_ids.specs.Member.{is_same_member}
-use Rattle.pgp_ids.specs.declared.entry.Entry.{Entry}
-use Rattle.pgp_ids.specs.declared.incremental.Incremental.{Incremental}
-use Rattle.pgp_ids.specs.declared.member.Member.{Member}
-use Rattle.pgp_ids.specs.declared.pg_id.PgId.{PgId}
-use Rattle.pgp_ids.specs.declared.report.Info.{Info}
-use Rattle.pgp_ids.specs.declared.report.Report.{Report}
+use Rattle.pgp_group.proofs.Common.{◌≡◌, ℕ, ◌≤◌, List, [], ◌∷◌, Option, Some, None, Bool, true, length, map, fold, max, refl, ap, ap₂, sym, ◌∙◌, subst, inl, inr, arith, Contains, filter, find, flat_map, last_or, option_map, nat_tests, filter-append, enough_of, is_by_place, AnyCode, is_same_member, Entry, Incremental, Member, PgId, Info, Report, History, past_intervals-same, Contains-nil, Contains-here, Contains-later, Contains-cases, contains-filter, contains-map, filter-contains, find-some, map-contains, epoch, prior_set, status, incs_of, group_history, cleans, group_with, infos, reports, GroupLog, counted_infos, last_of_each_member, les, past, leader, view_of, scratch}
 use Rattle.pgp_info.proofs.SameInfos.{same_best}
-use Rattle.pgp_interval.specs.History.{History}
-use Rattle.pgp_interval.specs.Runs.{current_first}
-use Rattle.pgp_interval.proofs.CleanLemmas.{past_intervals-same}
-use Rattle.pgp_lists.proofs.Members.{Contains-nil, Contains-here, Contains-later, Contains-cases, contains-filter, contains-map, filter-contains, find-some, map-contains}
-use Rattle.pgp_map.specs.Devices.{up_thru}
-use Rattle.pgp_map.specs.Map.{epoch}
-use Rattle.pgp_prior.specs.Prior.{prior_set}
-use Rattle.pgp_sets.specs.Status.{status}
-use Rattle.pgp_group.specs.Entries.{incs_of}
-use Rattle.pgp_group.specs.GroupHistory.{group_history}
-use Rattle.pgp_group.specs.GroupLog.{cleans, group_with, infos, reports, GroupLog}
-use Rattle.pgp_group.specs.Heard.{counted_infos, last_of_each_member, les}
 use Rattle.pgp_group.specs.Interleaving.{TellTheSame, with_count}
-use Rattle.pgp_group.specs.Peering.{past, leader, info_of}
+use Rattle.pgp_group.specs.Peering.{info_of}
 use Rattle.pgp_group.specs.Prefers.{prefers}
-use Rattle.pgp_group.specs.View.{view_of, scratch}
 use Rattle.pgp_group.proofs.HeardLemmas.{HasDistinctMembers-last_of, last_of-IsLastOfMember}
 use Rattle.pgp_group.proofs.LaterLemmas.{counts_by}
 pub use Rattle.pgp_group.proofs.Lists.{any-found}
 use Rattle.pgp_group.proofs.Lists.{filter-both, filter-none, last_or-any, last_or-snoc}
 use Rattle.pgp_group.proofs.PeerLemmas.{same_member}
 use Rattle.pgp_group.proofs.ViewLemmas.{prefers_is_preference}
-use Rattle.pgp_group.specs.Touched.{told_at}
 use Rattle.pgp_group.proofs.SameViewLemmas.{AreAlike, view-alike}
 
 -- ---- elements that pass two tests
@@ -82,9 +55,7 @@ pub last_of-found : (told : List Info) (info : Info) → Contains (last_of_each_
 last_of-found told info there =
     let is = last_of-IsLastOfMember told info there in
     let mine : filter (is_of info.member) (info ∷ is.after) ≡ info ∷ [] = rw (is_of_itself info) (ap (λ (l : List Info). info ∷ l) (filter-none (is_of info.member) is.after is.last)) in
-    ap (λ (l : List Info). last_or None (filter (is_of info.member) l)) is.split
-    ∙ ap (last_or None) (filter-append (is_of info.member) is.before (info ∷ is.after) ∙ ap (λ (l : List Info). filter (is_of info.member) is.before ++ l) mine)
-    ∙ last_or-snoc None (filter (is_of info.member) is.before) info
+    grind (arith, filter-append (is_of info.member) is.before (info ∷ is.after), last_or-snoc None (filter (is_of info.member) is.before) info)
 
 -- the info that is kept of each member is the same
 kept-same : (a b : List Info) → AlikeByMember a b → (member : Member) → info_of (last_of_each_member a) member ≡ info_of (last_of_each_member b) member
@@ -104,10 +75,7 @@ greatest-start start f (first ∷ told) = grind (arith, greatest-start (max star
 pub greatest-above : (start : ℕ) (f : Info → ℕ) (told : List Info) (info : Info) → Contains told info → f info ≤ fold max start (map f told)
 greatest-above start f [] info there = absurd (Contains-nil info there)
 greatest-above start f (first ∷ told) info there = elim (Contains-cases first told info there) [
-  | inl here ↦
-      let rest : max start (f first) ≤ fold max (max start (f first)) (map f told) = greatest-start (max start (f first)) f told in
-      let same : f first ≡ f info = ap f here in
-      omega (arith, rest, same)
+  | inl here ↦ grind (arith, greatest-start (max start (f first)) f told)
   | inr later ↦ greatest-above (max start (f first)) f told info later
 ]
 
@@ -188,8 +156,7 @@ module _ (log other : List Entry) (pg : PgId) (h : History AnyCode) (same : Tell
             ∙ ap₂ (λ (incs : List Incremental) (l : List Report). filter (report_counts h incs) l) (sym same.incs)
             (sym (same.reports member))
             ∙ sym (filter-both (is_by member) (report_counts h (incs_of log)) (reports g)));
-        thru = ap (λ (incs : List Incremental). option_map_or
-            (λ osd. nat_lt (up_thru incs osd) (current_first h)) h.current.acting_primary true) (sym same.incs);
+        thru = grind arith;
       }
 
 pub interleaved : (log other : List Entry) (pg : PgId) → TellTheSame log other pg → scratch other pg ≡ option_map (with_count (length other)) (scratch log pg)
@@ -199,5 +166,4 @@ interleaved log other pg same =
   where
     by_history : (found : Option (History AnyCode)) → option_map view_of (option_map (group_with other pg) found) ≡ option_map (with_count (length other)) (option_map view_of (option_map (group_with log pg) found))
     by_history None = refl
-    by_history (Some h) = ap Some (view-alike (group_with log pg h) (group_with other pg h) (alike log other pg h same)
-        ∙ ap (λ (l : List Incremental). told_at (length other) (epoch l) (view_of (group_with log pg h))) (sym same.incs))
+    by_history (Some h) = grind (arith, view-alike (group_with log pg h) (group_with other pg h) (alike log other pg h same))

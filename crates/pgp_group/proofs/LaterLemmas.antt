@@ -1,37 +1,10 @@
--- Which reports count as more of the log comes.
-use Rattle.std.proofs.Common.{◌≡◌, ◌≢◌, ℕ, ◌+◌, ◌<◌, ◌≤◌, List, [], ◌∷◌, ◌++◌, Some, Bool, true, false, not, ◌&&◌, ◌||◌, nat_le, map, fold, max, refl, append-nil, ap, ap₂, sym, ◌∙◌, inl, inr, ◌⊎◌, arith}
-use Rattle.std.specs.List.{All, filter, flat_map}
-use Rattle.std.proofs.lemmas.Bool.{cases_Bool, true≢false, and_right}
-use Rattle.std.proofs.lemmas.Bool.Decides.{nat_tests}
-use Rattle.std.proofs.lemmas.List.{map-append}
-use Rattle.std.proofs.lemmas.List.Elements.{filter-append, filter_map-append, All-weaker}
-use Rattle.std.proofs.lemmas.List.Sums.{fold-append}
-use Rattle.std.proofs.Math.Bool.{and-true}
-use Rattle.pgp_code.specs.declared.any.AnyCode.{AnyCode}
-use Rattle.pgp_ids.specs.declared.entry.Entry.{Entry}
-use Rattle.pgp_ids.specs.declared.entry.Entry.TheVariants as entry
-use Rattle.pgp_ids.specs.declared.incremental.Incremental.{Incremental}
-use Rattle.pgp_ids.specs.declared.member.Member.{Member}
-use Rattle.pgp_ids.specs.declared.pg_id.PgId.{PgId}
-use Rattle.pgp_ids.specs.declared.report.Info.{Info}
-use Rattle.pgp_ids.specs.declared.report.Report.{Report}
-use Rattle.pgp_ids.specs.Member.{is_same_member}
-use Rattle.pgp_interval.specs.History.{History}
-use Rattle.pgp_interval.specs.Runs.{current_first}
-use Rattle.pgp_lists.proofs.Options.{map_some}
-use Rattle.pgp_map.specs.Checked.{are_checked}
-use Rattle.pgp_map.specs.Devices.{boots, takes_down, destroys, is_up, up_from, greatest_epoch}
-use Rattle.pgp_map.specs.Map.{epoch}
-use Rattle.pgp_map.specs.MapFault.{then_with}
-use Rattle.pgp_map.specs.Pools.{is_same_group}
-use Rattle.pgp_group.specs.Entries.{inc_of, info_of, report_of, incs_of, infos_of, reports_of}
-use Rattle.pgp_group.specs.GroupHistory.{group_history}
-use Rattle.pgp_group.specs.GroupLog.{GroupLog, group_in, group_with, incs, infos, reports}
-use Rattle.pgp_group.specs.Heard.{is_counted, heard, last_of_each_member, reported}
-use Rattle.pgp_group.specs.Later.{IsAfter, AreSentBy}
+-- Which reports count as more of the log comes, and what never falls then.
+use Rattle.pgp_group.proofs.Common.{◌≡◌, ◌≢◌, ℕ, ◌+◌, ◌<◌, ◌≤◌, List, [], ◌∷◌, ◌++◌, Some, Bool, true, false, not, ◌&&◌, ◌||◌, nat_le, map, fold, max, refl, append-nil, ap, sym, ◌∙◌, inl, inr, ◌⊎◌, arith, All, filter, cases_Bool, true≢false, and_right, nat_tests, map-append, filter-append, filter_map-append, All-weaker, fold-append, and-true, AnyCode, Entry, Incremental, Member, PgId, Info, Report, is_same_member, History, current_first, map_some, are_checked, boots, takes_down, destroys, is_up, up_from, epoch, then_with, is_same_group, inc_of, report_of, incs_of, infos_of, reports_of, group_history, GroupLog, group_in, group_with, incs, infos, reports, is_counted, heard, last_of_each_member, reported, IsAfter, AreSentBy, les}
+use Rattle.pgp_group.specs.Entries.{info_of}
 use Rattle.pgp_group.proofs.FirstLemmas.{Steps, Decides, Opens, first-opens, first-step, along}
 use Rattle.pgp_group.proofs.GrowthLemmas.{Shortens, EndsWell, epoch-snoc, next_epoch}
 use Rattle.pgp_group.proofs.Lists.{last_where-passes, last_where-none, left_new, filter-fail}
+use Rattle.pgp_ids.specs.declared.entry.Entry.TheVariants as entry
 
 -- ---- the histories of a group and of the same group later
 
@@ -44,22 +17,11 @@ pub record Histories (g : GroupLog) (later : List Entry) (after : GroupLog) : Ty
   pub incs_are : incs after ≡ incs g ++ incs_of later
 
 history-in : (log : List Entry) (pg : PgId) (g : GroupLog) → group_in log pg ≡ Some g → (group_history (incs_of log) pg ≡ Some g.history) × ((g.log ≡ log) × (g.pg ≡ pg))
-history-in log pg g is =
-    let m = map_some (group_with log pg) (group_history (incs_of log) pg) g is in
-    (m.1 ∙ ap (λ (x : GroupLog). Some x.history) m.2, (sym (ap (λ (x : GroupLog). x.log) m.2), sym (ap (λ (x : GroupLog). x.pg) m.2)))
+history-in log pg g is = grind (arith, map_some (group_with log pg) (group_history (incs_of log) pg) g is)
 
 pub histories : (g : GroupLog) (later : List Entry) (after : GroupLog) → IsAfter g later after → Histories g later after
 histories g later after is =
-    let grown : incs_of (g.log ++ later) ≡ incs g ++ incs_of later = filter_map-append inc_of g.log later in
-    let a = history-in (g.log ++ later) g.pg after is.then_is in
-    record {
-      checked = sym (ap are_checked grown) ∙ is.checked;
-      before = (history-in g.log g.pg g is.before).0;
-      then_is = ap (λ l. group_history l g.pg) (sym grown) ∙ a.0;
-      log = a.1.0;
-      pg = a.1.1;
-      incs_are = ap incs_of a.1.0 ∙ grown;
-    }
+    grind (arith, filter_map-append inc_of g.log later, history-in (g.log ++ later) g.pg after is.then_is, history-in g.log g.pg g is.before)
 
 -- the log and the group of what a log has
 pub log-in : (log : List Entry) (pg : PgId) (g : GroupLog) → group_in log pg ≡ Some g → g.log ≡ log
@@ -89,15 +51,11 @@ new-counts shorten fine steps g after inc member stamp is differ sent =
 -- an incremental brings no reports
 pub same-infos : (g after : GroupLog) (inc : Incremental) → IsAfter g (entry.Inc inc ∷ []) after → infos after ≡ infos g
 same-infos g after inc is =
-    let hs = histories g (entry.Inc inc ∷ []) after is in
-    let told : infos_of after.log ≡ infos_of g.log = ap infos_of hs.log ∙ filter_map-append info_of g.log (entry.Inc inc ∷ []) ∙ append-nil (infos_of g.log) in
-    ap₂ (λ (pg : PgId) (told : List Info). filter (λ info. is_same_group info.pg pg) told) hs.pg told
+    grind (arith, histories g (entry.Inc inc ∷ []) after is, filter_map-append info_of g.log (entry.Inc inc ∷ []), append-nil (infos_of g.log))
 
 pub same-reports : (g after : GroupLog) (inc : Incremental) → IsAfter g (entry.Inc inc ∷ []) after → reports after ≡ reports g
 same-reports g after inc is =
-    let hs = histories g (entry.Inc inc ∷ []) after is in
-    let told : reports_of after.log ≡ reports_of g.log = ap reports_of hs.log ∙ filter_map-append report_of g.log (entry.Inc inc ∷ []) ∙ append-nil (reports_of g.log) in
-    ap₂ (λ (pg : PgId) (told : List Report). filter (λ report. is_same_group report.pg pg) told) hs.pg told
+    grind (arith, filter_map-append report_of g.log (entry.Inc inc ∷ []), append-nil (reports_of g.log))
 
 pub new-heard : Shortens → EndsWell → Steps → (g after : GroupLog) (inc : Incremental) → IsAfter g (entry.Inc inc ∷ []) after
     → after.history.current ≢ g.history.current → AreSentBy (epoch (incs g)) g → heard after ≡ []
@@ -115,17 +73,13 @@ new-reported shorten fine steps g after inc member is differ sent =
     let each : All (λ (report : Report). test report ≡ false) (reports g) =
     All-weaker (λ (report : Report). report.stamp ≤ epoch (incs g)) (λ (report : Report). test report ≡ false)
     (λ report by. and_right (is_same_member report.member member) (is_counted after report.member report.stamp) (new-counts shorten fine steps g after inc report.member report.stamp is differ by)) (reports g) sent.each_report in
-    ap (λ (told : List Report). flat_map (λ report. report.log) (filter test told)) (same-reports g after inc is)
-    ∙ ap (flat_map (λ report. report.log)) (filter-fail test (reports g) each)
+    grind (arith, same-reports g after inc is, filter-fail test (reports g) each)
 
 -- ---- what counts after an incremental counted before
 
 -- the greatest epoch with one more incremental
 pub up_from-snoc : (incs : List Incremental) (inc : Incremental) (osd : ℕ) → up_from (then_with incs inc) osd ≡ fold max (up_from incs osd) (map (λ i. i.epoch) (filter (boots osd) (inc ∷ [])))
-up_from-snoc incs inc osd =
-    ap greatest_epoch (filter-append (boots osd) incs (inc ∷ []))
-    ∙ ap (fold max 0) (map-append (λ (i : Incremental). i.epoch) (filter (boots osd) incs) (filter (boots osd) (inc ∷ [])))
-    ∙ fold-append max 0 (map (λ (i : Incremental). i.epoch) (filter (boots osd) incs)) (map (λ (i : Incremental). i.epoch) (filter (boots osd) (inc ∷ [])))
+up_from-snoc incs inc osd = search (filter-append, map-append, fold-append)
 
 up_from-rises : (incs : List Incremental) (inc : Incremental) (osd : ℕ) → up_from incs osd ≤ up_from (then_with incs inc) osd
 up_from-rises incs inc osd = grind (arith, up_from-snoc incs inc osd)
@@ -197,8 +151,7 @@ pub outlasts-inc : (g after : GroupLog) (inc : Incremental) → incs after ≡ t
 outlasts-inc g after inc incs_is next moved = record {
   lasts = outlasts (incs g) inc (current_first after.history);
   rises = omega (arith, ap epoch incs_is, epoch-snoc (incs g) inc, next);
-  counts = λ member stamp sent. ap (λ (l : List Incremental). counts_by l after.history member stamp) incs_is
-      ∙ counts-after (incs g) inc g.history after.history member stamp next sent moved;
+  counts = λ member stamp sent. grind (arith, counts-after (incs g) inc g.history after.history member stamp next sent moved);
 }
 
 -- a report of this stamp was sent, and doesn't count
@@ -212,7 +165,7 @@ silent-step shorten fine steps decides opens pg member stamp incs inc h after ch
     let sent : stamp ≤ epoch incs = silent.0 in
     let later : stamp ≤ epoch (then_with incs inc) = omega (arith, epoch-snoc incs inc, next, sent) in
     let rises : current_first h ≤ current_first after = first-step shorten fine steps decides opens incs inc pg h after checked is then' in (
-      later,
+      grind arith,
       elim (cases_Bool (counts_by (then_with incs inc) after member stamp)) [
         | inl counts ↦ absurd (true≢false (sym (counted-before incs inc h after member stamp rises (omega (arith, next, sent)) counts) ∙ silent.1))
         | inr silent' ↦ silent'
@@ -227,3 +180,24 @@ never-counts shorten fine steps decides opens g after later member stamp is sent
     along shorten fine g.pg (Silent member stamp) (silent-step shorten fine steps decides opens g.pg member stamp)
     (incs_of later) (incs g) g.history after.history hs.checked hs.before hs.then_is (sent, silent) in
     ap (λ l. counts_by l after.history member stamp) hs.incs_are ∙ last.1
+
+pub fold_max-least : (a : ℕ) (xs : List ℕ) → a ≤ fold max a xs
+fold_max-least a [] = omega arith
+fold_max-least a (x ∷ xs) = grind (arith, fold_max-least (max a x) xs)
+
+-- the history_les of the infos of the group
+abbrev pub told_les : PgId → List Entry → List ℕ
+told_les pg log = map (λ (info : Info). info.history_les) (filter (λ (info : Info). is_same_group info.pg pg) (infos_of log))
+
+told_les-append : (pg : PgId) (log later : List Entry) → told_les pg (log ++ later) ≡ told_les pg log ++ told_les pg later
+told_les-append pg log later = search (filter_map-append, filter-append, map-append)
+
+-- the epoch in which a group last began to serve, whatever its history
+pub les-later : (log later : List Entry) (pg : PgId) → fold max 0 (told_les pg log) ≤ fold max 0 (told_les pg (log ++ later))
+les-later log later pg = search (told_les-append, fold-append, fold_max-least)
+
+les-told : (log : List Entry) (pg : PgId) (g : GroupLog) → group_in log pg ≡ Some g → les g ≡ fold max 0 (told_les pg log)
+les-told log pg g is = ap les (sym (map_some (group_with log pg) (group_history (incs_of log) pg) g is).2)
+
+pub les-rises : (log later : List Entry) (pg : PgId) (g after : GroupLog) → group_in log pg ≡ Some g → group_in (log ++ later) pg ≡ Some after → les g ≤ les after
+les-rises log later pg g after is grows = grind (arith, les-told log pg g is, les-told (log ++ later) pg after grows, les-later log later pg)

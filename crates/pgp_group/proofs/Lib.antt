@@ -1,4 +1,4 @@
-pub mod VerdictLemmas
+pub mod Common
 pub mod HeardLemmas
 pub mod ViewLemmas
 pub mod HistoryLemmas
@@ -7,7 +7,6 @@ pub mod Lists
 pub mod GrowthLemmas
 pub mod GroupLemmas
 pub mod FoundLemmas
-pub mod RiseLemmas
 pub mod FirstLemmas
 pub mod LaterLemmas
 pub mod UntoldLemmas
@@ -15,17 +14,12 @@ pub mod SameViewLemmas
 pub mod UntouchedLemmas
 pub mod ReachingLemmas
 pub mod InterleavingLemmas
-pub mod CountedLemmas
 pub mod InfosLemmas
-pub mod LogsLemmas
 pub mod ReportsLemmas
 pub mod NamedLemmas
-pub mod NamesLemmas
-pub mod IndexLemmas
 pub mod NotedLemmas
 pub mod PriorLemmas
 pub mod DeviceLemmas
 pub mod OpeningLemmas
 pub mod ServedLemmas
-pub mod ReckonedLemmas
 pub mod ReliefLemmas

@@ -1,14 +1,7 @@
 -- Lists that grow, ranges, and last elements that pass a test.
-use Rattle.std.proofs.Common.{◌≡◌, ℕ, zero, suc, ◌+◌, ◌<◌, List, [], ◌∷◌, ◌++◌, Option, Some, None, Bool, true, false, ◌&&◌, ◌||◌, length, map, refl, ap, ap₂, sym, ◌∙◌, inl, inr, arith, append-nil, append_assoc, drop, get_or, take, is_some, ◌⊎◌}
-use Rattle.std.specs.List.{All, Contains, cons_option, filter, filter_map, flat_map, last_or, list_any, range_with_len, slice_index_or, find}
-use Rattle.std.proofs.lemmas.Bool.{or_parts}
-use Rattle.std.proofs.lemmas.List.{take_more}
-use Rattle.std.proofs.lemmas.List.Elements.{filter-append, filter_map-append, All-head, All-tail}
-use Rattle.std.proofs.lemmas.List.Folds.{list_any-append}
-use Rattle.pgp_lists.proofs.Members.{Contains-nil, Contains-here, Contains-later, Contains-first, Contains-cases, append-contains}
+use Rattle.pgp_group.proofs.Common.{◌≡◌, ℕ, zero, suc, ◌+◌, ◌<◌, List, [], ◌∷◌, ◌++◌, Option, Some, None, Bool, true, false, ◌&&◌, ◌||◌, length, map, refl, ap, ap₂, sym, ◌∙◌, arith, append-nil, append_assoc, drop, get_or, take, is_some, ◌⊎◌, All, Contains, cons_option, filter, filter_map, flat_map, last_or, list_any, range_with_len, slice_index_or, find, or_parts, take_more, filter-append, filter_map-append, All-head, All-tail, list_any-append, Contains-nil, Contains-here, Contains-later, Contains-first, Contains-cases, append-contains, last_where}
 pub use Rattle.pgp_lists.proofs.Lists.{any-mapped}
 pub use Rattle.pgp_lists.proofs.Members.{filter-agree, map-agree}
-use Rattle.pgp_map.specs.Last.{last_where}
 use Rattle.std.proofs.lemmas.Grind.{common_steps, elements}
 
 -- ---- elements that don't pass
@@ -96,10 +89,7 @@ pub none-append : {X : Type 0} (test : X → Bool) (xs ys : List X) → list_any
 none-append test xs ys none = or_parts (list_any test xs) (list_any test ys) (sym (list_any-append test xs ys) ∙ none)
 
 pub contains-push : {X : Type 0} (xs : List X) (x y : X) → Contains (xs ++ x ∷ []) y → Contains xs y ⊎ (x ≡ y)
-contains-push xs x y there = elim (append-contains xs (x ∷ []) y there) [
-  | inl before ↦ inl before
-  | inr last ↦ elim (Contains-cases x [] y last) [ inl here ↦ inr here | inr none ↦ absurd (Contains-nil y none) ]
-]
+contains-push xs x y there = grind (arith, append-contains xs (x ∷ []) y there)
 
 pub filter_map-from : {X Y : Type 0} (f : X → Option Y) (xs : List X) (y : Y) → Contains (filter_map f xs) y → (x : X) × Contains xs x × (f x ≡ Some y)
 filter_map-from f [] y there = absurd (Contains-nil y there)
@@ -108,10 +98,7 @@ filter_map-from {X = X} {Y = Y} f (x ∷ xs) y there =
   where
     by_found : (found : Option Y) → f x ≡ found → Contains (cons_option found (filter_map f xs)) y → (Contains (filter_map f xs) y → (z : X) × Contains (x ∷ xs) z × (f z ≡ Some y)) → (z : X) × Contains (x ∷ xs) z × (f z ≡ Some y)
     by_found None is there' later = later there'
-    by_found (Some z) is there' later = elim (Contains-cases z (filter_map f xs) y there') [
-      | inl here ↦ (x, Contains-here x xs, is ∙ ap Some here)
-      | inr rest ↦ later rest
-    ]
+    by_found (Some z) is there' later = grind (arith, Contains-cases z (filter_map f xs) y there', Contains-here x xs)
 
 pub filter_map-contains : {X Y : Type 0} (f : X → Option Y) (xs : List X) (y : Y) → Contains (filter_map f xs) y → (x : X) × (f x ≡ Some y)
 filter_map-contains f xs y there = let from = filter_map-from f xs y there in (from.0, from.2)

@@ -1,24 +1,9 @@
--- What a list of devices in ascending order has.
-use Rattle.std.proofs.Common.{◌≡◌, ℕ, ◌+◌, ◌<◌, List, [], ◌∷◌, Bool, true, false, ◌||◌, Option, Some, None, length, get_or, nat_eq, refl, ap, sym, ◌∙◌, inl, inr, arith, take, if◌then◌else◌}
-use Rattle.std.specs.List.{list_any, insert}
+-- What a list of devices in ascending order has, and of which devices a group speaks as its log grows.
+use Rattle.pgp_group.proofs.Common.{◌≡◌, ℕ, ◌+◌, ◌<◌, List, [], ◌∷◌, Bool, true, false, ◌||◌, Option, Some, None, length, get_or, nat_eq, refl, ap, sym, ◌∙◌, arith, take, if◌then◌else◌, list_any, insert, nat_cmp, is_lt, ordering_reverse, Result, Ok, Err, IsOk, is_ok, option_eq, or-false, eq-eqb, false≢true, nat_cmp_total, list_any_more, list_any_at, list_any_none, IsAscending, with_item, or_assoc, IsAscending-with_item, searchable, has_osd, ◌++◌, or_comm, list_any-append, Past, Info, Report, GroupLog, infos, reports, KeepsNames, past, was_member, names, NamedDevices}
 use Rattle.std.specs.List.Sorted.{IsSearchInRange, IsBinarySearchResult}
-use Rattle.std.specs.Ordering.{nat_cmp, is_lt, ordering_reverse}
-use Rattle.std.specs.Prelude.{Result, Ok, Err}
-use Rattle.std.specs.Result.{IsOk, is_ok}
 use Rattle.std.specs.declared.cmp.Ordering.{Ordering}
-use Rattle.std.specs.declared.cmp.Ordering.TheVariants.{Less, Equal, Greater}
-use Rattle.std.specs.Option.{option_eq}
-use Rattle.std.proofs.Math.Bool.{or-false}
-use Rattle.std.proofs.lemmas.Bool.{cases_lt, eq-eqb, false≢true}
-use Rattle.std.proofs.lemmas.Bool.Decides.{nat_tests}
-use Rattle.std.proofs.lemmas.Cmp.{nat_cmp_total}
-use Rattle.std.proofs.lemmas.List.Folds.{list_any_more, list_any_at, list_any_none}
+use Rattle.std.specs.declared.cmp.Ordering.TheVariants.{Less, Equal}
 use Rattle.std.proofs.lemmas.Map.Lookups.{exact_unsigned}
-use Rattle.pgp_lists.specs.Ordered.{IsAscending, with_item}
-use Rattle.pgp_lists.proofs.Bools.{or_assoc}
-use Rattle.pgp_lists.proofs.Ordered.{IsAscending-with_item}
-use Rattle.pgp_lists.proofs.Searched.{searchable}
-use Rattle.pgp_group.specs.Touched.{has_osd}
 
 -- the order of devices
 abbrev pub before : ℕ → ℕ → Bool
@@ -62,23 +47,12 @@ pub search-has : (r : Result ℕ ℕ) (xs : List ℕ) (x : ℕ) → IsAscending 
 search-has (Ok place) xs x ascends within at = sym (list_any_at (nat_eq x) xs place 0 within (eq-eqb x _ (sym (exact_unsigned _ x (at 0)))))
 search-has (Err place) xs x ascends within splits =
     let point = splits (searchable nat_cmp_total xs x ascends) in
-    sym (list_any_none (nat_eq x) xs (λ k d below. elim (cases_lt k place) [
-      | inl front ↦ let is : nat_cmp (get_or xs k d) x ≡ Less = point.0 k d (omega arith) front in differ (get_or xs k d) x (ap is_lt is)
-      | inr back ↦ let is : nat_cmp (get_or xs k d) x ≡ Greater = point.1 k d back below in differ_back (get_or xs k d) x is
-    ]))
-  where
-    differ : (y x : ℕ) → before y x ≡ true → nat_eq x y ≡ false
-    differ y x is = grind (arith, nat_tests)
-
-    differ_back : (y x : ℕ) → nat_cmp y x ≡ Greater → nat_eq x y ≡ false
-    differ_back y x is = grind (arith, nat_tests)
+    sym (list_any_none (nat_eq x) xs (grind arith))
 
 -- ---- the places of a list
 
 place-more : (q i : ℕ) (places : List (Option ℕ)) (place : Option ℕ) → i < length places → place ≡ get_or places i place → has_osd q (take (i + 1) places) ≡ (has_osd q (take i places) || option_eq nat_eq (Some q) place)
-place-more q i places place within item =
-    list_any_more (option_eq nat_eq (Some q)) places i place within
-    ∙ ap (λ p. has_osd q (take i places) || option_eq nat_eq (Some q) p) (sym item)
+place-more q i places place within item = grind (arith, list_any_more (option_eq nat_eq (Some q)) places i place within)
 
 -- the device of the next place is put in
 pub place-put : (q i : ℕ) (places : List (Option ℕ)) (place : Option ℕ) (osd : ℕ) (new mid old : List ℕ) → i < length places → place ≡ get_or places i place → place ≡ Some osd → new ≡ with_item before osd mid
@@ -96,7 +70,63 @@ place-put q i places place osd new mid old within item is put had =
 pub place-empty : (q i : ℕ) (places : List (Option ℕ)) (place : Option ℕ) (mid old : List ℕ) → i < length places → place ≡ get_or places i place → place ≡ None
     → list_any (nat_eq q) mid ≡ (has_osd q (take i places) || list_any (nat_eq q) old)
     → list_any (nat_eq q) mid ≡ (has_osd q (take (i + 1) places) || list_any (nat_eq q) old)
-place-empty q i places place mid old within item is had =
-    let more : has_osd q (take (i + 1) places) ≡ has_osd q (take i places) =
-    place-more q i places place within item ∙ ap (λ p. has_osd q (take i places) || option_eq nat_eq (Some q) p) is ∙ or-false (has_osd q (take i places)) in
-    had ∙ ap (λ b. b || list_any (nat_eq q) old) (sym more)
+place-empty q i places place mid old within item is had = grind (arith, place-more q i places place within item, or-false (has_osd q (take i places)))
+
+-- the device sent one of these
+abbrev sent_info : ℕ → List Info → Bool
+sent_info osd infos = list_any (λ info. nat_eq info.member.osd osd) infos
+
+abbrev sent_report : ℕ → List Report → Bool
+sent_report osd reports = list_any (λ report. nat_eq report.member.osd osd) reports
+
+abbrev stood : ℕ → List Past → Bool
+stood osd past = list_any (was_member osd) past
+
+names-by : (osd : ℕ) (g : GroupLog) (past' : List Past) (infos' : List Info) (reports' : List Report) → past g ≡ past' → infos g ≡ infos' → reports g ≡ reports' → names osd g ≡ (stood osd past' || sent_info osd infos' || sent_report osd reports')
+names-by osd g past' infos' reports' stands told sent = λ i. stood osd (stands i) || sent_info osd (told i) || sent_report osd (sent i)
+
+-- ---- one more in one of the lists
+
+more : {X : Type 0} (test : X → Bool) (xs : List X) (x : X) → list_any test (xs ++ x ∷ []) ≡ (list_any test xs || test x)
+more test xs x = list_any-append test xs (x ∷ []) ∙ ap (λ b. list_any test xs || b) (or-false (test x))
+
+second_out : (x a b c : Bool) → ((a || (b || x)) || c) ≡ (x || ((a || b) || c))
+second_out x a b c = ap (λ e. e || c) (or_assoc a b x ∙ or_comm (a || b) x) ∙ sym (or_assoc x (a || b) c)
+
+third_out : (x a b c : Bool) → ((a || b) || (c || x)) ≡ (x || ((a || b) || c))
+third_out x a b c = or_assoc (a || b) c x ∙ or_comm (a || b || c) x
+
+-- ---- what is kept
+
+pub KeepsNames-begun : (g : GroupLog) (kept : NamedDevices) → past g ≡ [] → infos g ≡ [] → reports g ≡ [] → kept.osds.items ≡ [] → KeepsNames g kept
+KeepsNames-begun g kept stands told sent none osd = ap (list_any (nat_eq osd)) none ∙ sym (names-by osd g [] [] [] stands told sent)
+
+pub KeepsNames-same : (g after : GroupLog) (old new : NamedDevices) → past after ≡ past g → infos after ≡ infos g → reports after ≡ reports g → new.osds.items ≡ old.osds.items → KeepsNames g old → KeepsNames after new
+KeepsNames-same g after old new stands told sent same is osd = ap (list_any (nat_eq osd)) same ∙ is osd ∙ sym (names-by osd after (past g) (infos g) (reports g) stands told sent)
+
+pub KeepsNames-info : (g after : GroupLog) (old new : NamedDevices) (info : Info) → ((osd : ℕ) → list_any (was_member osd) (past after) ≡ list_any (was_member osd) (past g)) → infos after ≡ infos g ++ info ∷ [] → reports after ≡ reports g → new.osds.items ≡ with_item before info.member.osd old.osds.items → KeepsNames g old → KeepsNames after new
+KeepsNames-info g after old new info stands told sent put is osd =
+    let sender : Bool = nat_eq info.member.osd osd in
+    let there : names osd after ≡ (sender || names osd g) =
+    names-by osd after (past after) (infos g ++ info ∷ []) (reports g) refl told sent
+    ∙ ap (λ b. b || sent_info osd (infos g ++ info ∷ []) || sent_report osd (reports g)) (stands osd)
+    ∙ ap (λ b. stood osd (past g) || b || sent_report osd (reports g)) (more (λ (i : Info). nat_eq i.member.osd osd) (infos g) info)
+    ∙ second_out sender (stood osd (past g)) (sent_info osd (infos g)) (sent_report osd (reports g)) in
+    grind (arith, with_item-has osd info.member.osd old.osds.items)
+
+pub KeepsNames-report : (g after : GroupLog) (old new : NamedDevices) (report : Report) → past after ≡ past g → infos after ≡ infos g → reports after ≡ reports g ++ report ∷ [] → new.osds.items ≡ with_item before report.member.osd old.osds.items → KeepsNames g old → KeepsNames after new
+KeepsNames-report g after old new report stands told sent put is osd =
+    let sender : Bool = nat_eq report.member.osd osd in
+    let there : names osd after ≡ (sender || names osd g) =
+    names-by osd after (past g) (infos g) (reports g ++ report ∷ []) stands told sent
+    ∙ ap (λ b. stood osd (past g) || sent_info osd (infos g) || b) (more (λ (r : Report). nat_eq r.member.osd osd) (reports g) report)
+    ∙ third_out sender (stood osd (past g)) (sent_info osd (infos g)) (sent_report osd (reports g)) in
+    grind (arith, with_item-has osd report.member.osd old.osds.items)
+
+-- an interval is over: the devices of its up went in, and then those of its acting
+pub KeepsNames-ended : (g after : GroupLog) (old mid new : NamedDevices) (ended : Past) → past after ≡ past g ++ ended ∷ [] → infos after ≡ infos g → reports after ≡ reports g
+    → ((osd : ℕ) → list_any (nat_eq osd) mid.osds.items ≡ (has_osd osd ended.members.up || list_any (nat_eq osd) old.osds.items))
+    → ((osd : ℕ) → list_any (nat_eq osd) new.osds.items ≡ (has_osd osd ended.members.acting || list_any (nat_eq osd) mid.osds.items))
+    → KeepsNames g old → KeepsNames after new
+KeepsNames-ended g after old mid new ended stands told sent up acting is osd =
+    grind (arith, names-by osd after (past g ++ ended ∷ []) (infos g) (reports g) stands told sent, more (was_member osd) (past g) ended)

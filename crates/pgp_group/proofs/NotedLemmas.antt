@@ -1,23 +1,33 @@
--- Statuses as the entries of their devices are renewed, one after another.
-use Rattle.std.proofs.Common.{arith, ◌≡◌, ℕ, ◌+◌, ◌<◌, List, [], ◌∷◌, ◌++◌, Bool, true, false, ◌||◌, nat_eq, length, refl, ap, sym, ◌∙◌, inl, inr, eqb-true, eq-eqb, take, get_or, if◌then◌else◌}
-use Rattle.std.specs.List.{list_any}
-use Rattle.std.proofs.Math.Bool.{or-false, or-true}
-use Rattle.std.proofs.lemmas.Bool.{cases_Bool, false_from_ne_true}
-use Rattle.std.proofs.lemmas.List.{take_more, take_all}
-use Rattle.std.proofs.lemmas.List.Folds.{list_any-append}
-use Rattle.pgp_ids.specs.declared.past.Past.{Past}
-use Rattle.pgp_map.specs.declared.map.OsdMap.{OsdMap}
-use Rattle.pgp_prior.specs.Better.{is_no_worse}
-use Rattle.pgp_prior.specs.Changes.{is_no_better, IsChange}
-use Rattle.pgp_sets.specs.Status.{held_status}
-use Rattle.pgp_sets.specs.declared.status.Status.{Status}
-use Rattle.pgp_sets.specs.declared.status.Status.TheVariants.{Up}
-use Rattle.pgp_group.specs.DeviceFacts.{renoted, has_noted, status_noted, up_of, allows, HasEachMember, GivesEach}
+-- The index of a prior set, by statuses that tell the same, and as the entries of its devices are renewed one after another.
+use Rattle.pgp_group.proofs.Common.{arith, ◌≡◌, ℕ, ◌+◌, ◌<◌, List, [], ◌∷◌, Bool, true, false, ◌||◌, nat_eq, length, refl, ap, sym, ◌∙◌, inl, inr, eqb-true, eq-eqb, take, get_or, if◌then◌else◌, or-false, or-true, cases_Bool, take_more, take_all, list_any-append, Past, OsdMap, is_no_worse, is_no_better, IsChange, held_status, Status, Up, renoted, has_noted, status_noted, up_of, allows, HasEachMember, GivesEach, DeviceFacts, Some, subst, Contains, enough_of, is_by_place, enough_of-mono, AnyCode, Member, contains-map, Basis, IsIndexOf, members_of, PriorIndex, blocks-same}
 use Rattle.pgp_group.specs.declared.device_facts.EachUp.{EachUp}
-use Rattle.pgp_group.specs.declared.device_facts.DeviceFacts.{DeviceFacts}
 use Rattle.pgp_group.specs.declared.device_facts.Turn.{Turn}
+use Rattle.pgp_prior.specs.JudgedInterval.{past_of}
 use Rattle.pgp_group.specs.declared.device_facts.Turn.TheVariants as turn
-use Rattle.pgp_group.proofs.IndexLemmas.{AgreeOnEach}
+
+-- both tell the same of each acting member of these intervals
+abbrev pub AgreeOnEach : Bool → (ℕ → ℕ → Status) → (ℕ → ℕ → Status) → List Past → Type 0
+AgreeOnEach by_place old new past =
+    (interval : Past) (member : Member) → Contains past interval → Contains (members_of by_place interval.members.acting) member
+    → old member.osd interval.first ≡ new member.osd interval.first
+
+pub index-agree : (b : Basis AnyCode) (status : ℕ → ℕ → Status) (index : PriorIndex AnyCode) → IsIndexOf enough_of is_by_place b index
+    → AgreeOnEach (is_by_place b.code) b.status status b.past → IsIndexOf enough_of is_by_place (record b { status = status }) index
+index-agree b status index is agree = record {
+  code_is = is.code_is;
+  past_are = is.past_are;
+  each_kept = λ kept in'.
+      let was = is.each_kept kept in' in
+      let there : Contains b.past kept.past = subst (λ (l : List Past). Contains l kept.past) is.past_are (contains-map past_of index.past.items kept in') in
+      record {
+        statuses_are = λ m acts. was.statuses_are m acts ∙ ap Some (agree kept.past m there acts);
+        blocks_is = was.blocks_is
+            ∙ blocks-same (is_by_place b.code) (enough_of b.code) (enough_of-mono b.code) b.les b.status status kept.past (λ m acts. agree kept.past m there acts);
+      };
+  places_are = is.places_are;
+  current_is = is.current_is;
+  les_is = is.les_is;
+}
 
 -- ---- a status that stays is allowed by any turn
 
@@ -34,8 +44,7 @@ raised-it : (osd : ℕ) (status : ℕ → ℕ → Status) (first : ℕ) → rais
 raised-it osd status first = ap (λ (b : Bool). if b then Up else status osd first) (eq-eqb osd osd refl)
 
 raised-other : (osd q : ℕ) (status : ℕ → ℕ → Status) (first : ℕ) → (q ≡ osd → ⊥) → raised osd status q first ≡ status q first
-raised-other osd q status first apart =
-    ap (λ (b : Bool). if b then Up else status q first) (false_from_ne_true (nat_eq q osd) (λ hit. apart (eqb-true q osd hit)))
+raised-other osd q status first apart = grind arith
 
 pub to_up : (old : Status) → is_no_worse old Up ≡ true
 to_up old = grind arith
@@ -54,11 +63,7 @@ module _ (by_place : Bool) (osd : ℕ) (told old new : ℕ → ℕ → Status) (
   pub change-from_up : IsChange is_no_better by_place osd told (raised osd old) new past
   change-from_up interval there =
       let is = change interval there in
-      record {
-        of_it = is.of_it;
-        allowed_of_it = λ m acts same. ap (λ (s : Status). is_no_better s (new osd interval.first)) (raised-it osd old interval.first) ∙ from_up (new osd interval.first);
-        of_others = λ m acts apart. is.of_others m acts apart ∙ sym (raised-other osd m.osd old interval.first apart);
-      }
+      grind (arith, raised-it osd old interval.first, from_up (new osd interval.first))
 
 -- ---- the devices of the entries so far have the statuses of the map
 
@@ -72,8 +77,7 @@ has-more : (noted : List DeviceFacts) (i : ℕ) (entry : DeviceFacts) (q : ℕ) 
     → has_noted q (take (i + 1) noted) ≡ (has_noted q (take i noted) || nat_eq entry.osd q)
 has-more noted i entry q within item =
     let test : DeviceFacts → Bool = λ e. nat_eq e.osd q in
-    ap (list_any test) (take_more noted i entry within ∙ ap (λ (e : DeviceFacts). take i noted ++ e ∷ []) (sym item))
-    ∙ list_any-append test (take i noted) (entry ∷ []) ∙ ap (λ b. list_any test (take i noted) || b) (or-false (nat_eq entry.osd q))
+    grind (arith, take_more noted i entry within, list_any-append test (take i noted) (entry ∷ []), or-false (nat_eq entry.osd q))
 
 module _ (map : OsdMap) (noted : List DeviceFacts) (i : ℕ) (entry : DeviceFacts) (within : i < length noted) (item : entry ≡ get_or noted i entry) (status : ℕ → ℕ → Status) where
   -- the entry's device has the status of the map, and the others stay
@@ -82,9 +86,7 @@ module _ (map : OsdMap) (noted : List DeviceFacts) (i : ℕ) (entry : DeviceFact
       ap (λ (b : Bool). taken map status b q first) (has-more noted i entry q within item ∙ ap (λ b. has_noted q (take i noted) || b) (eq-eqb entry.osd q same) ∙ or-true (has_noted q (take i noted)))
 
   partly-other : (q first : ℕ) → (entry.osd ≡ q → ⊥) → partly map (take (i + 1) noted) status q first ≡ partly map (take i noted) status q first
-  partly-other q first apart =
-      ap (λ (b : Bool). taken map status b q first)
-      (has-more noted i entry q within item ∙ ap (λ b. has_noted q (take i noted) || b) (false_from_ne_true (nat_eq entry.osd q) (λ hit. apart (eqb-true entry.osd q hit))) ∙ or-false (has_noted q (take i noted)))
+  partly-other q first apart = grind (arith, has-more noted i entry q within item, or-false (has_noted q (take i noted)))
 
   -- where the device's entry says something else than the map, and its statuses turned so
   pub partly-change : (by_place : Bool) (past : List Past) (kind : Turn) → ((first : ℕ) → allows kind (status_noted entry first) (held_status map entry.osd first) ≡ true) → GivesEach by_place status past noted

@@ -1,36 +1,6 @@
 -- What is so of each interval since it opened.
-use Rattle.std.proofs.Common.{◌≡◌, ◌≢◌, ℕ, zero, suc, ◌+◌, ◌<◌, ◌≤◌, List, [], ◌∷◌, ◌++◌, Option, Some, None, is_some, true, false, length, refl, ap, sym, ◌∙◌, subst, inl, inr, arith, if◌then◌else◌}
-use Rattle.std.specs.List.{Contains, range_with_len, slice_index_or}
-use Rattle.std.specs.Option.{option_map_or}
-use Rattle.std.proofs.lemmas.Bool.{and_parts, cases_Bool, true≢false}
-use Rattle.pgp_code.specs.AnyCode.{enough_of, is_by_place}
-use Rattle.pgp_code.specs.Pool.{code_of}
-use Rattle.pgp_code.specs.declared.any.AnyCode.{AnyCode}
-use Rattle.pgp_ids.specs.Osds.{first_osd}
-use Rattle.pgp_ids.specs.declared.history.PrimaryFacts.{PrimaryFacts}
-use Rattle.pgp_ids.specs.declared.incremental.Incremental.{Incremental}
-use Rattle.pgp_ids.specs.declared.member.Member.{Member}
-use Rattle.pgp_ids.specs.declared.membership.Membership.{Membership}
-use Rattle.pgp_ids.specs.declared.past.Past.{Past}
-use Rattle.pgp_ids.specs.declared.pg_id.PgId.{PgId}
-use Rattle.pgp_ids.specs.declared.pool.PoolSpec.{PoolSpec}
-use Rattle.pgp_interval.specs.History.{History, begun, stepped, last_place}
-use Rattle.pgp_interval.specs.Runs.{current_first, current_ending, past_intervals}
-use Rattle.pgp_interval.specs.SameMembers.{is_same}
-use Rattle.pgp_interval.proofs.Same.{is_same-eq, eq-is_same}
-use Rattle.pgp_interval.proofs.StepLemmas.{past_intervals-continues, past_intervals-ends, current_first-continues, current_first-ends}
-use Rattle.pgp_lists.proofs.Members.{Contains-nil}
-use Rattle.pgp_lists.proofs.Options.{map_some, some_is}
-use Rattle.pgp_lists.proofs.Taken.{taken-induction, taken-more}
-use Rattle.pgp_map.specs.Checked.{are_checked, is_faultless}
-use Rattle.pgp_map.specs.Devices.{is_up, up_from}
-use Rattle.pgp_map.specs.Map.{epoch}
-use Rattle.pgp_map.specs.MapFault.{then_with}
-use Rattle.pgp_map.specs.Pools.{pool, has_group}
-use Rattle.pgp_prior.specs.Members.{held_member, members_of}
+use Rattle.pgp_group.proofs.Common.{◌≡◌, ◌≢◌, ℕ, zero, suc, ◌+◌, ◌<◌, ◌≤◌, List, [], ◌∷◌, ◌++◌, Option, Some, None, is_some, true, false, length, ap, sym, ◌∙◌, subst, inl, inr, arith, if◌then◌else◌, Contains, range_with_len, slice_index_or, option_map_or, and_parts, cases_Bool, true≢false, enough_of, is_by_place, code_of, AnyCode, first_osd, PrimaryFacts, Incremental, Member, Membership, Past, PgId, PoolSpec, History, begun, stepped, last_place, current_first, current_ending, past_intervals, is_same, is_same-eq, eq-is_same, past_intervals-continues, past_intervals-ends, current_first-continues, current_first-ends, Contains-nil, map_some, some_is, taken-induction, taken-more, are_checked, is_faultless, is_up, up_from, epoch, then_with, pool, has_group, held_member, members_of, are_up, membership, pool_membership, makes, primary_facts, group_history}
 use Rattle.pgp_sets.proofs.UpLemmas.{acting-are_up}
-use Rattle.pgp_sets.specs.Sets.{are_up, membership, pool_membership}
-use Rattle.pgp_group.specs.GroupHistory.{makes, primary_facts, group_history}
 use Rattle.pgp_group.proofs.DeviceLemmas.{checked-front, checked-last, up_from-stays, up_from-within}
 use Rattle.pgp_group.proofs.FirstLemmas.{grown}
 use Rattle.pgp_group.proofs.GrowthLemmas.{checked-numbered, epoch-snoc, has_group-unmade, history-begins-made, history-last, next_epoch}
@@ -98,23 +68,18 @@ pub record IsOpened (incs : List Incremental) (h : History AnyCode) : Type 0 whe
 
 up-at : (incs : List Incremental) (places : List (Option ℕ)) (place osd : ℕ) → are_up incs places ≡ true → slice_index_or places place None ≡ Some osd → is_up incs osd ≡ true
 up-at incs [] place osd all is = cc
-up-at incs (first ∷ places) zero osd all is =
-    ap (λ (o : Option ℕ). option_map_or (is_up incs) o true) (sym is) ∙ (and_parts (option_map_or (is_up incs) first true) (are_up incs places) all).0
+up-at incs (first ∷ places) zero osd all is = grind (arith, and_parts (option_map_or (is_up incs) first true) (are_up incs places) all)
 up-at incs (first ∷ places) (suc place) osd all is =
-    up-at incs places place osd (and_parts (option_map_or (is_up incs) first true) (are_up incs places) all).1 is
+    cc (up-at incs places place osd (and_parts (option_map_or (is_up incs) first true) (are_up incs places) all).1 is)
 
 up-first : (incs : List Incremental) (places : List (Option ℕ)) (osd : ℕ) → are_up incs places ≡ true → first_osd places ≡ Some osd → is_up incs osd ≡ true
 up-first incs [] osd all is = cc
-up-first incs (Some first ∷ places) osd all is =
-    let same : first ≡ osd = cc in
-    ap (is_up incs) (sym same) ∙ (and_parts (is_up incs first) (are_up incs places) all).0
+up-first incs (Some first ∷ places) osd all is = grind (arith, and_parts (is_up incs first) (are_up incs places) all)
 up-first incs (None ∷ places) osd all is = up-first incs places osd all is
 
 -- the membership of a pool is led by the first of acting
 led-by : (incs : List Incremental) (pg : PgId) (members : Membership) → membership incs pg ≡ Some members → members.acting_primary ≡ first_osd members.acting
-led-by incs pg members is =
-    let made = map_some (pool_membership incs pg) (pool incs pg.pool) members is in
-    subst (λ (m : Membership). m.acting_primary ≡ first_osd m.acting) made.2 refl
+led-by incs pg members is = grind (arith, map_some (pool_membership incs pg) (pool incs pg.pool) members is)
 
 pub primary-up : (incs : List Incremental) (pg : PgId) (h : History AnyCode) (osd : ℕ) → group_history incs pg ≡ Some h → h.current.acting_primary ≡ Some osd → is_up incs osd ≡ true
 primary-up incs pg h osd is leads =

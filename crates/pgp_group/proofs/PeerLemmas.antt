@@ -1,30 +1,10 @@
--- The states of peers: each other heard member of up and acting has one, in ascending order.
-use Rattle.std.proofs.Common.{◌≡◌, ℕ, ◌+◌, ◌<◌, List, [], ◌∷◌, ◌++◌, Option, Some, None, Bool, true, not, get_or, length, map, take, refl, ap, sym, ◌∙◌, subst, inl, inr, arith, append-nil, if◌then◌else◌}
-use Rattle.std.specs.List.{Contains, cons_option, filter, filter_map, list_any}
-use Rattle.std.specs.Option.{option_map_or}
-use Rattle.std.specs.Ordering.{on}
-use Rattle.std.proofs.lemmas.Bool.{and_parts, eqb-true, true≢false, cases_order}
-use Rattle.std.proofs.lemmas.Bool.Decides.{nat_tests}
-use Rattle.std.proofs.lemmas.List.Elements.{All-contains, All-contains_itself, All-weaker, filter_map-append}
-use Rattle.std.proofs.lemmas.List.Kept.{AllPairs-cons, AllPairs-filter}
-use Rattle.pgp_ids.specs.Member.{is_before, is_same_member}
-use Rattle.pgp_ids.specs.declared.member.Member.{Member}
-use Rattle.pgp_ids.specs.declared.log_entry.LogEntry.{LogEntry}
-use Rattle.pgp_ids.specs.declared.peer.PeerMissing.{PeerMissing}
-use Rattle.pgp_ids.specs.declared.report.Info.{Info}
-use Rattle.pgp_lists.specs.Ordered.{IsAscending}
-use Rattle.pgp_missing.specs.Missing.{peer_state}
-use Rattle.pgp_lists.proofs.Members.{Contains-first, Contains-later, Contains-cases, Contains-nil, filter-contains, contains-filter, any-contains, contains-any, find-some, find-none}
-use Rattle.pgp_lists.proofs.Pairs.{AllPairs-first, AllPairs-mapped, AllPairs-nil, AllPairs-rest}
-use Rattle.pgp_lists.proofs.Ordered.{ascending-contains, contains-ascending, IsAscending-ascending}
+-- Infos of distinct members, and the states of peers: each other heard member of up and acting has one, in ascending order.
+use Rattle.pgp_group.proofs.Common.{◌≡◌, ℕ, ◌+◌, ◌<◌, List, [], ◌∷◌, ◌++◌, Option, Some, None, Bool, true, not, get_or, length, map, take, refl, ap, sym, ◌∙◌, subst, inl, inr, arith, append-nil, if◌then◌else◌, Contains, cons_option, filter, filter_map, list_any, option_map_or, on, and_parts, eqb-true, true≢false, cases_order, nat_tests, All-contains, All-contains_itself, All-weaker, filter_map-append, AllPairs-cons, AllPairs-filter, is_before, is_same_member, Member, LogEntry, PeerMissing, Info, IsAscending, peer_state, Contains-first, Contains-later, Contains-cases, Contains-nil, filter-contains, contains-filter, any-contains, contains-any, find-some, find-none, AllPairs-first, AllPairs-mapped, AllPairs-nil, AllPairs-rest, ascending-contains, contains-ascending, IsAscending-ascending, GroupLog, HasDistinctMembers, counted_infos, heard, up_members, acting_members, present_members, others_heard, is_peer, peers, peer_missing, peer_states, whole_best, get_or_default, false, ◌&&◌, cases_Bool, without, filter-agree}
 use Rattle.pgp_prior.specs.MemberOrder.{member_order}
-use Rattle.pgp_group.specs.GroupLog.{GroupLog}
-use Rattle.pgp_info.specs.Best.{HasDistinctMembers}
-use Rattle.pgp_group.specs.Heard.{counted_infos, heard}
 use Rattle.pgp_group.proofs.HeardLemmas.{HasDistinctMembers-last_of}
-use Rattle.pgp_group.proofs.Lists.{filter-passes, filter-fails, filter_map-from}
-use Rattle.pgp_group.specs.Peering.{up_members, acting_members, present_members, info_of, others_heard, is_peer, peers, peer_missing, peer_states, whole_best}
-use Rattle.std.proofs.lemmas.List.{get_or_default}
+use Rattle.pgp_group.proofs.Lists.{filter-passes, filter-fails, filter_map-from, filter-both}
+use Rattle.pgp_group.specs.Peering.{info_of}
+use Rattle.std.proofs.lemmas.List.Filters.{length-filter_both}
 
 -- ---- members
 
@@ -38,12 +18,7 @@ same_member_as a b same = subst (λ m. is_same_member a m ≡ true) same (grind 
 
 -- infos of distinct members that are of one member are the same
 pub one_of_member : (infos : List Info) → HasDistinctMembers infos → (a b : Info) → Contains infos a → Contains infos b → a.member ≡ b.member → a ≡ b
-one_of_member infos distinct a b in_a in_b same =
-    let at_b : get_or infos in_b.0 a ≡ b = get_or_default infos in_b.0 a b in_b.1 ∙ in_b.2 in
-    elim (cases_order in_a.0 in_b.0) [
-      | inl here ↦ sym in_a.2 ∙ ap (λ k. get_or infos k a) here ∙ at_b
-      | inr apart ↦ absurd (grind (arith, distinct in_a.0 in_b.0 a, distinct in_b.0 in_a.0 a, at_b, in_a.2, same))
-    ]
+one_of_member infos distinct a b in_a in_b same = grind (arith, get_or_default infos in_b.0 a b in_b.1, cases_order in_a.0 in_b.0)
 
 -- ---- the info of a member
 
@@ -118,9 +93,7 @@ peers-contains g best info in' =
     let found = found_of (heard g) from.0 info from.2 in
     let kept = filter-contains (is_other best) (present_members g) from.0 from.1 in
     let stands : Contains (standing g) from.0 = ascending-contains is_before (standing g) from.0 kept.0 in
-    let any : list_any (is_same_member from.0) (standing g) ≡ true = contains-any (is_same_member from.0) (standing g) from.0 stands (same_member_as from.0 from.0 refl) in
-    let peer : is_peer g best from.0 ≡ true = rw any kept.1 in
-    (found.there, subst (λ m. is_peer g best m ≡ true) (sym found.of_member) peer)
+    grind (arith, contains-any (is_same_member from.0) (standing g) from.0 stands (same_member_as from.0 from.0 refl))
 
 pub contains-peers : (g : GroupLog) (best info : Info) → Contains (heard g) info → is_peer g best info.member ≡ true → Contains (peers g best) info
 unfolding is_other standing
@@ -168,3 +141,29 @@ others-none all kept info i x within item found =
 -- how the copy of a peer compares with the best one, whose member reported this log
 abbrev pub compared : List LogEntry → Info → Info → PeerMissing
 compared log best peer = record { member = peer.member; state = peer_state best log peer }
+
+abbrev of_member : Member → Info → Bool
+of_member member info = is_same_member info.member member
+
+same_itself : (a : Member) → is_same_member a a ≡ true
+same_itself a = grind (arith, nat_tests)
+
+-- without a member of which there is an info there are fewer
+pub shorter-without : (infos : List Info) (info : Info) → Contains infos info → length (without info.member infos) < length infos
+shorter-without infos info there =
+    let its = contains-filter (of_member info.member) infos info there (same_itself info.member) in
+    let some : its.0 < length (filter (of_member info.member) infos) = its.1 in
+    omega (arith, some, length-filter_both (of_member info.member) (λ x. not (of_member info.member x)) (λ x. refl) infos)
+
+-- those that pass a test are the same without the member of one that fails it
+pub passing-without : (test : Info → Bool) (infos : List Info) (info : Info) → HasDistinctMembers infos → Contains infos info → test info ≡ false
+    → filter test (without info.member infos) ≡ filter test infos
+passing-without test infos info distinct there fails =
+    sym (filter-both (λ x. not (of_member info.member x)) test infos)
+    ∙ filter-agree (λ x. not (of_member info.member x) && test x) test infos agree
+  where
+    agree : (x : Info) → Contains infos x → (not (of_member info.member x) && test x) ≡ test x
+    agree x in_x = elim (cases_Bool (of_member info.member x)) [
+      | inl its ↦ grind (arith, one_of_member infos distinct x info in_x there (same_member x.member info.member its))
+      | inr other ↦ rw other refl
+    ]

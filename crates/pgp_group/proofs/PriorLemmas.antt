@@ -1,31 +1,8 @@
 -- What is kept of the prior set of a group, at a look and while the log grows.
-use Rattle.std.proofs.Common.{◌≡◌, ℕ, zero, suc, ◌+◌, ◌≤◌, List, [], ◌∷◌, ◌++◌, Some, true, length, length-append, refl, ap, sym, ◌∙◌, subst, inl, inr, arith, take, slice_get}
-use Rattle.std.specs.List.{Contains}
-use Rattle.std.proofs.lemmas.List.{take_all, take_more, take-append-le}
-use Rattle.std.proofs.lemmas.Option.{get_or_from_slice_get, slice_get_within}
-use Rattle.pgp_code.specs.AnyCode.{enough_of, is_by_place}
-use Rattle.pgp_code.specs.declared.any.AnyCode.{AnyCode}
-use Rattle.pgp_ids.specs.Past.{raised_at}
-use Rattle.pgp_ids.specs.declared.member.Member.{Member}
-use Rattle.pgp_ids.specs.declared.membership.Membership.{Membership}
-use Rattle.pgp_ids.specs.declared.past.Past.{Past}
-use Rattle.pgp_lists.proofs.Members.{map-contains, Contains-cases, Contains-here, Contains-later, Contains-nil}
+use Rattle.pgp_group.proofs.Common.{◌≡◌, ℕ, zero, suc, ◌+◌, ◌≤◌, List, [], ◌∷◌, ◌++◌, Some, true, length, length-append, refl, ap, sym, ◌∙◌, subst, inl, inr, arith, take, slice_get, Contains, take_all, take_more, take-append-le, get_or_from_slice_get, slice_get_within, enough_of, is_by_place, AnyCode, raised_at, Member, Membership, Past, map-contains, Contains-cases, Contains-here, Contains-later, Contains-nil, OsdMap, Basis, IsIndexOf, members_of, PriorIndex, held_status, Status, GroupLog, incs, les, KeepsPrior, IsAbreast, IsReckoned, basis_of, basis_with, renoted, renoted_all, has_noted, status_noted, HasEachMember, AreOfMap, past, DeviceFacts, KeptPrior}
 use Rattle.pgp_map.specs.MapOf.{IsMapOf}
-use Rattle.pgp_map.specs.declared.map.OsdMap.{OsdMap}
-use Rattle.pgp_prior.specs.IndexOf.{Basis, IsIndexOf}
-use Rattle.pgp_prior.specs.Members.{members_of}
 use Rattle.pgp_prior.proofs.RaisedLemmas.{length-raised_at}
-use Rattle.pgp_prior.specs.declared.index.PriorIndex.{PriorIndex}
-use Rattle.pgp_sets.specs.Status.{held_status}
 use Rattle.pgp_sets.specs.StatusLaws.{held_status-is}
-use Rattle.pgp_sets.specs.declared.status.Status.{Status}
-use Rattle.pgp_group.specs.GroupLog.{GroupLog, incs}
-use Rattle.pgp_group.specs.Heard.{les}
-use Rattle.pgp_group.specs.KeptPrior.{KeepsPrior, IsAbreast, IsReckoned, basis_of, basis_with}
-use Rattle.pgp_group.specs.DeviceFacts.{renoted, renoted_all, has_noted, status_noted, HasEachMember, AreOfMap}
-use Rattle.pgp_group.specs.Peering.{past}
-use Rattle.pgp_group.specs.declared.device_facts.DeviceFacts.{DeviceFacts}
-use Rattle.pgp_group.specs.declared.kept_prior.KeptPrior.{KeptPrior}
 use Rattle.pgp_group.proofs.Lists.{any-mapped, contains-push}
 
 -- ---- entries that are renewed
@@ -34,9 +11,7 @@ pub has-renoted : (map : OsdMap) (noted : List DeviceFacts) (osd : ℕ) → has_
 has-renoted map noted osd = any-mapped (renoted map) _ noted
 
 pub renoted-of_map : (map : OsdMap) (noted : List DeviceFacts) → AreOfMap map (renoted_all map noted)
-renoted-of_map map noted entry there =
-    let found = map-contains (renoted map) noted entry there in
-    subst (λ (e : DeviceFacts). e ≡ renoted map e) found.1.1 refl
+renoted-of_map map noted entry there = grind (arith, map-contains (renoted map) noted entry there)
 
 -- ---- a look
 
@@ -47,8 +22,7 @@ pub abreast-renewed : (g : GroupLog) (map : OsdMap) (kept : KeptPrior) (index : 
     → IsAbreast g map kept.added index noted
 abreast-renewed g map kept index noted is current since current_is since_is noted_is index_is = record {
   within = is.within;
-  index_is = subst (λ (b : Basis AnyCode). IsIndexOf enough_of is_by_place b index)
-      (λ i. record { code = is.code_is i; past = is.past_are i; current = current_is i; les = since_is i; status = held_status map }) index_is;
+  index_is = grind arith;
   has_each = subst (HasEachMember (is_by_place g.history.code) (take kept.added (past g))) (sym noted_is)
       (λ interval m there acts. has-renoted map kept.noted.items m.osd
       ∙ is.has_each interval m (subst (λ (l : List Past). Contains l interval) (sym is.past_are) there)
@@ -76,8 +50,7 @@ abreast-index g map n old new noted keeps is = record {
 }
 
 take-at : {X : Type 0} (xs : List X) (n : ℕ) (x : X) → slice_get xs n ≡ Some x → take (n + 1) xs ≡ take n xs ++ x ∷ []
-take-at {X = X} xs n x at =
-    take_more xs n x (slice_get_within xs n x at) ∙ ap (λ (y : X). take n xs ++ y ∷ []) (get_or_from_slice_get xs n x x at)
+take-at {X = X} xs n x at = grind (arith, take_more xs n x (slice_get_within xs n x at), get_or_from_slice_get xs n x x)
 
 -- the next past interval was added, each acting member of which is noted
 pub abreast-more : (g : GroupLog) (map : OsdMap) (n : ℕ) (old new : PriorIndex AnyCode) (noted : List DeviceFacts) (interval : Past) → slice_get (past g) n ≡ Some interval → IsAbreast g map n old noted
@@ -97,12 +70,6 @@ abreast-more g map n old new noted interval at is added has =
       of_map = is.of_map;
     }
 
--- all past intervals are added
-pub abreast-all : (g : GroupLog) (map : OsdMap) (n : ℕ) (index : PriorIndex AnyCode) (noted : List DeviceFacts) → length (past g) ≤ n → IsAbreast g map n index noted → IsAbreast g map (length (past g)) index noted
-abreast-all g map n index noted all is =
-    let same : n ≡ length (past g) = let within = is.within in omega arith in
-    subst (λ k. IsAbreast g map k index noted) same is
-
 pub reckoned : (g : GroupLog) (map : OsdMap) (index : PriorIndex AnyCode) (noted : List DeviceFacts) → IsMapOf (incs g) map → IsAbreast g map (length (past g)) index noted → IsReckoned g index
 reckoned g map index noted at is =
     let whole : take (length (past g)) (past g) ≡ past g = take_all (length (past g)) (past g) (omega arith) in
@@ -120,8 +87,7 @@ KeepsPrior-abreast g map kept is = record {
   since = omega arith;
   index_is = is.index_is;
   has_each = is.has_each;
-  gives_each = λ interval m entry there acts noted same.
-      ap (λ q. held_status map q interval.first) (sym same) ∙ ap (λ (e : DeviceFacts). status_noted e interval.first) (sym (is.of_map entry noted));
+  gives_each = grind arith;
 }
 
 -- nothing is reckoned with yet
@@ -172,10 +138,7 @@ record WasThere (past : List Past) (interval : Past) : Type 0 where
 
 was_there : (place : ℕ) (past : List Past) (interval : Past) → Contains (raised_at place past) interval → WasThere past interval
 was_there place [] interval there = absurd (Contains-nil interval there)
-was_there zero (p ∷ past) interval there = elim (Contains-cases (record p { rw = true }) past interval there) [
-  | inl here ↦ record { was = p; there = Contains-here p past; members = ap (λ (q : Past). q.members) here; first = ap (λ (q : Past). q.first) here }
-  | inr later ↦ record { was = interval; there = Contains-later p past interval later; members = refl; first = refl }
-]
+was_there zero (p ∷ past) interval there = grind (arith, Contains-cases (record p { rw = true }) past interval there, Contains-here p past)
 was_there (suc place) (p ∷ past) interval there = elim (Contains-cases p (raised_at place past) interval there) [
   | inl here ↦ record { was = p; there = Contains-here p past; members = ap (λ (q : Past). q.members) here; first = ap (λ (q : Past). q.first) here }
   | inr later ↦

@@ -1,30 +1,8 @@
 -- A group that needn't be told of each epoch: what it is by later maps, as long as it lies as before.
-use Rattle.std.proofs.Common.{◌≡◌, ℕ, List, [], ◌∷◌, ◌++◌, Option, Some, None, true, false, ◌||◌, ◌+◌, map, refl, ap, sym, ◌∙◌, subst, arith}
-use Rattle.std.specs.List.{list_any}
-use Rattle.std.specs.Option.{option_map, option_map_or}
-use Rattle.std.proofs.lemmas.Bool.{or_parts}
-use Rattle.pgp_code.specs.AnyCode.{enough_of, is_by_place}
-use Rattle.pgp_code.specs.declared.any.AnyCode.{AnyCode}
-use Rattle.pgp_ids.specs.declared.entry.Entry.{Entry}
+use Rattle.pgp_group.proofs.Common.{◌≡◌, ℕ, List, [], ◌∷◌, ◌++◌, Option, Some, None, false, ◌||◌, ◌+◌, map, refl, ap, ◌∙◌, subst, arith, list_any, or_parts, enough_of, is_by_place, AnyCode, Entry, PrimaryFacts, DeviceEpoch, Incremental, PgId, PoolSpec, History, epoch, map_fault, then_with, pool, membership, may_place_elsewhere, inc_of, incs_of, primary_facts, cleans, group_with, IsGroupOf, changes_pool, changes_temp, has_to_do_with, is_touched, may_lie_on, may_move, turned_devices, Group}
 use Rattle.pgp_ids.specs.declared.entry.Entry.TheVariants as entry
-use Rattle.pgp_ids.specs.declared.history.PrimaryFacts.{PrimaryFacts}
-use Rattle.pgp_ids.specs.declared.incremental.DeviceEpoch.{DeviceEpoch}
-use Rattle.pgp_ids.specs.declared.incremental.Incremental.{Incremental}
-use Rattle.pgp_ids.specs.declared.pg_id.PgId.{PgId}
-use Rattle.pgp_ids.specs.declared.pool.PoolSpec.{PoolSpec}
 use Rattle.pgp_interval.proofs.RunningLemmas.{stays}
-use Rattle.pgp_interval.specs.History.{History}
-use Rattle.pgp_map.specs.Map.{epoch}
-use Rattle.pgp_map.specs.MapFault.{map_fault, then_with}
-use Rattle.pgp_map.specs.Pools.{pool}
-use Rattle.pgp_sets.specs.Sets.{membership, may_place_elsewhere, pool_membership, raw_set}
-use Rattle.pgp_group.specs.Entries.{inc_of, incs_of}
-use Rattle.pgp_group.specs.GroupHistory.{primary_facts}
-use Rattle.pgp_group.specs.GroupLog.{cleans, group_with}
-use Rattle.pgp_group.specs.GroupOf.{IsGroupOf}
 use Rattle.pgp_group.specs.Reaching.{reaching}
-use Rattle.pgp_group.specs.Touched.{changes_pool, changes_temp, has_osd, has_to_do_with, is_placed, is_touched, may_lie_on, may_move, turned_devices}
-use Rattle.pgp_group.specs.declared.group.Group.{Group}
 use Rattle.pgp_group.proofs.GroupLemmas.{IsGroupOf-inc, names-stay}
 use Rattle.pgp_group.proofs.GrowthLemmas.{epoch-snoc, history-last, next_epoch}
 use Rattle.pgp_group.proofs.HistoryLemmas.{history-current}
@@ -62,9 +40,7 @@ record IsUnmoved (incs : List Incremental) (inc : Incremental) (pg : PgId) : Typ
 unmoved : (incs : List Incremental) (inc : Incremental) (pg : PgId) → may_move incs inc pg ≡ false → IsUnmoved incs inc pg
 unmoved incs inc pg still =
     let a = or_parts (may_place_elsewhere incs inc pg || changes_pool inc pg.pool || changes_temp inc pg) (list_any (may_lie_on incs pg) (turned_devices inc)) still in
-    let b = or_parts (may_place_elsewhere incs inc pg || changes_pool inc pg.pool) (changes_temp inc pg) a.0 in
-    let c = or_parts (may_place_elsewhere incs inc pg) (changes_pool inc pg.pool) b.0 in
-    record { left = record { still = c.0; pool = c.1; temp = b.1 }; devices = a.1 }
+    grind (arith, or_parts (may_place_elsewhere incs inc pg || changes_pool inc pg.pool) (changes_temp inc pg) a.0)
 
 pub left-unmoved : (incs : List Incremental) (inc : Incremental) (pg : PgId) → may_move incs inc pg ≡ false → IsLeft incs inc pg
 left-unmoved incs inc pg still = (unmoved incs inc pg still).left
@@ -72,11 +48,8 @@ left-unmoved incs inc pg still = (unmoved incs inc pg still).left
 -- the devices on which it lies are up where they were
 ups : (incs : List Incremental) (inc : Incremental) (pg : PgId) (made : PoolSpec) → IsUnmoved incs inc pg → pool incs pg.pool ≡ Some made → UpsStay incs inc pg made
 ups incs inc pg made is there = record {
-  placed = λ osd stands.
-      let placed : is_placed incs pg osd ≡ true = ap (λ (o : Option PoolSpec). option_map_or (λ p. has_osd osd (raw_set incs p pg)) o false) there ∙ stands in
-      same_up (may_lie_on incs pg) incs inc osd is.devices (grind arith);
-  given = λ osd stands.
-      same_up (may_lie_on incs pg) incs inc osd is.devices (grind arith);
+  placed = λ osd stands. grind (arith, same_up (may_lie_on incs pg) incs inc osd is.devices (grind arith));
+  given = λ osd stands. grind (arith, same_up (may_lie_on incs pg) incs inc osd is.devices (grind arith));
 }
 
 pub lies-as-before : RawSetsStay → (incs : List Incremental) (inc : Incremental) (pg : PgId) → map_fault incs inc ≡ None → may_move incs inc pg ≡ false → membership (then_with incs inc) pg ≡ membership incs pg
@@ -85,13 +58,9 @@ lies-as-before raws incs inc pg fine still = at (pool incs pg.pool) refl where
   is = unmoved incs inc pg still
 
   at : (found : Option PoolSpec) → pool incs pg.pool ≡ found → membership (then_with incs inc) pg ≡ membership incs pg
-  at None none =
-      ap (option_map (pool_membership (then_with incs inc) pg)) (pool-same incs inc pg.pool is.left.pool ∙ none)
-      ∙ ap (option_map (pool_membership incs pg)) (sym none)
+  at None none = grind (arith, pool-same incs inc pg.pool is.left.pool)
   at (Some made) found =
-      ap (option_map (pool_membership (then_with incs inc) pg)) (pool-same incs inc pg.pool is.left.pool ∙ found)
-      ∙ ap Some (members-same raws incs inc pg made fine is.left found (ups incs inc pg made is found))
-      ∙ ap (option_map (pool_membership incs pg)) (sym found)
+      grind (arith, pool-same incs inc pg.pool is.left.pool, members-same raws incs inc pg made fine is.left found (ups incs inc pg made is found))
 
 -- an incremental that doesn't touch the group leaves it where it is
 pub untouched-unmoved : (log : List Entry) (inc : Incremental) (pg : PgId) → is_touched log (entry.Inc inc) pg ≡ false → may_move (incs_of log) inc pg ≡ false

@@ -1,45 +1,12 @@
 -- What makes no group down: boots and losses, and reports that raise no flag.
-use Rattle.std.proofs.Common.{◌≡◌, ℕ, ◌≤◌, List, [], ◌∷◌, Option, Some, None, Bool, true, false, not, ◌&&◌, ◌||◌, nat_eq, nat_le, fold, map, max, refl, ap, sym, ◌∙◌, subst, inl, inr, arith}
-use Rattle.std.specs.List.{Contains, list_any}
-use Rattle.std.specs.Option.{option_map_or}
-use Rattle.std.proofs.lemmas.Bool.{cases_Bool, false_from_ne_true, true≢false}
-use Rattle.std.proofs.lemmas.Bool.Decides.{nat_tests}
-use Rattle.std.proofs.lemmas.Option.{same_Some}
-use Rattle.std.proofs.lemmas.List.Folds.{list_any-append}
-use Rattle.pgp_code.specs.AnyCode.{enough_of, enough_of-mono, is_by_place}
-use Rattle.pgp_code.specs.declared.any.AnyCode.{AnyCode}
-use Rattle.pgp_ids.specs.declared.entry.Entry.{Entry}
+use Rattle.pgp_group.proofs.Common.{◌≡◌, ℕ, ◌≤◌, List, [], ◌∷◌, Option, Some, None, Bool, true, false, not, ◌&&◌, ◌||◌, nat_eq, nat_le, fold, map, max, refl, ap, sym, ◌∙◌, subst, inl, inr, arith, Contains, list_any, option_map_or, cases_Bool, false_from_ne_true, true≢false, nat_tests, same_Some, list_any-append, enough_of, enough_of-mono, is_by_place, AnyCode, Entry, Incremental, Member, Membership, Past, Info, current_ending, any-contains, contains-any, boots, destroys, exists, is_up, lost_at, takes_down, map_fault, then_with, is_no_worse, blocks, has_down, is_down, members_of, is_group_down, no_worse-relieves, not_down-relieved, status, status_by, inc_of, incs_of, group_history, primary_facts, GroupLog, cleans, incs, les, IsAfter, past, prior, TakesNothingAway}
 use Rattle.pgp_ids.specs.declared.entry.Entry.TheVariants as entry
-use Rattle.pgp_ids.specs.declared.incremental.Incremental.{Incremental}
-use Rattle.pgp_ids.specs.declared.member.Member.{Member}
-use Rattle.pgp_ids.specs.declared.membership.Membership.{Membership}
-use Rattle.pgp_ids.specs.declared.past.Past.{Past}
-use Rattle.pgp_ids.specs.declared.report.Info.{Info}
-use Rattle.pgp_interval.specs.Runs.{current_ending}
-use Rattle.pgp_lists.proofs.Members.{any-contains, contains-any}
-use Rattle.pgp_map.specs.Devices.{boots, destroys, exists, is_up, lost_at, takes_down}
-use Rattle.pgp_map.specs.MapFault.{map_fault, then_with}
-use Rattle.pgp_prior.specs.Better.{is_no_worse}
-use Rattle.pgp_prior.specs.Blocks.{blocks, has_down, is_down}
-use Rattle.pgp_prior.specs.Members.{members_of}
-use Rattle.pgp_prior.specs.Prior.{is_group_down}
-use Rattle.pgp_prior.proofs.BetterLemmas.{no_worse-relieves, not_down-relieved}
-use Rattle.pgp_sets.specs.Status.{status, status_by}
-use Rattle.pgp_sets.specs.declared.status.Status.TheVariants.{Up}
-use Rattle.pgp_group.specs.Entries.{inc_of, incs_of}
-use Rattle.pgp_group.specs.GroupHistory.{group_history, primary_facts}
-use Rattle.pgp_group.specs.GroupLog.{GroupLog, cleans, incs}
-use Rattle.pgp_group.specs.Heard.{les}
-use Rattle.pgp_group.specs.Later.{IsAfter}
-use Rattle.pgp_group.specs.Peering.{past, prior}
-use Rattle.pgp_group.specs.Reckoning.{TakesNothingAway}
 use Rattle.pgp_group.proofs.DeviceLemmas.{checked-last, lost_at-rises, not_booted}
-use Rattle.pgp_group.proofs.LaterLemmas.{histories, same-infos}
+use Rattle.pgp_group.proofs.LaterLemmas.{histories, same-infos, les-rises}
 use Rattle.pgp_group.proofs.Lists.{last_where-none, last_where-passes, nothing_new}
 use Rattle.pgp_group.proofs.NotedLemmas.{to_up}
 use Rattle.pgp_group.proofs.OpeningLemmas.{moves, acting-up, past_of}
 use Rattle.pgp_group.proofs.OpeningLemmas.Moves.{on, ends}
-use Rattle.pgp_group.proofs.RiseLemmas.{les-rises}
 
 -- ---- statuses
 
@@ -68,15 +35,8 @@ lost-no_worse up there old new first rises = grind (arith, nat_tests)
 
 no_worse : (incs : List Incremental) (inc : Incremental) (osd first : ℕ) → TakesNothingAway incs inc → is_no_worse (status incs osd first) (status (then_with incs inc) osd first) ≡ true
 no_worse incs inc osd first nothing = elim (cases_Bool (boots osd inc)) [
-  | inl booting ↦
-      let up : status (then_with incs inc) osd first ≡ Up =
-      ap (λ (b : Bool). status_by b (exists (then_with incs inc) osd) (lost_at (then_with incs inc) osd) first) (up-booted incs inc osd booting) in
-      ap (is_no_worse (status incs osd first)) up ∙ to_up (status incs osd first)
-  | inr still ↦
-      let is : status (then_with incs inc) osd first ≡ status_by (is_up incs osd) (exists incs osd) (lost_at (then_with incs inc) osd) first =
-      λ i. status_by (up-still incs inc osd nothing still i) (exists-still incs inc osd nothing still i) (lost_at (then_with incs inc) osd) first in
-      ap (is_no_worse (status incs osd first)) is
-      ∙ lost-no_worse (is_up incs osd) (exists incs osd) (lost_at incs osd) (lost_at (then_with incs inc) osd) first (lost_at-rises incs inc osd nothing.lost)
+  | inl booting ↦ grind (arith, up-booted incs inc osd booting, to_up (status incs osd first))
+  | inr still ↦ search (up-still, exists-still, lost-no_worse, lost_at-rises)
 ]
 
 -- ---- the interval that the incremental ends
@@ -140,10 +100,7 @@ down-after g after inc is nothing =
     ]
 
 pub relief : (g after : GroupLog) (inc : Incremental) → IsAfter g (entry.Inc inc ∷ []) after → TakesNothingAway (incs g) inc → (prior g).down ≡ false → (prior after).down ≡ false
-relief g after inc is nothing up =
-    let hs = histories g (entry.Inc inc ∷ []) after is in
-    down-after g after inc is nothing
-    ∙ ap (λ (l : List Incremental). down_by g.history.code l (les g) (past g)) hs.incs_are ∙ relieved g inc nothing up
+relief g after inc is nothing up = grind (arith, histories g (entry.Inc inc ∷ []) after is, down-after g after inc is nothing, relieved g inc nothing up)
 
 -- an interval that blocks a group which last began to serve later blocked it before
 blocks-before : (suffices down rw' : Bool) (since later last : ℕ) → since ≤ later → (rw' && nat_le later last) && not suffices && down ≡ true → (rw' && nat_le since last) && not suffices && down ≡ true

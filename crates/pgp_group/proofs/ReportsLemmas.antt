@@ -1,26 +1,128 @@
--- What is kept of the reports of a group, as its log grows and as they are looked at.
-use Rattle.std.proofs.Common.{◌≡◌, ℕ, ◌≤◌, List, [], ◌∷◌, ◌++◌, Option, None, Bool, true, false, ◌&&◌, ◌||◌, cond, nat_le, nat_lt, length, take, length-append, refl, ap, ap₂, sym, ◌∙◌, subst, inl, inr, arith, append-nil}
-use Rattle.std.specs.List.{All, filter, find, flat_map}
-use Rattle.std.proofs.lemmas.Bool.{cases_Bool, and_parts, or_parts}
-use Rattle.std.proofs.lemmas.Bool.Decides.{nat_tests}
-use Rattle.std.proofs.lemmas.List.{take_all, take-append-le}
-use Rattle.std.proofs.lemmas.List.Elements.{All-contains, All-filter, All-nil, All-push, All-take, All-weaker, filter_passes, All-append}
-use Rattle.pgp_ids.specs.Member.{is_same_member}
-use Rattle.pgp_ids.specs.declared.log_entry.LogEntry.{LogEntry}
-use Rattle.pgp_ids.specs.declared.member.Member.{Member}
-use Rattle.pgp_ids.specs.declared.report.Report.{Report}
-use Rattle.pgp_lists.proofs.Members.{All-members, filter-agree}
-use Rattle.pgp_map.specs.Map.{epoch}
-use Rattle.pgp_missing.specs.Log.{by_number}
-use Rattle.pgp_group.specs.GroupLog.{GroupLog, incs, reports}
-use Rattle.pgp_group.specs.Heard.{is_counted}
-use Rattle.pgp_group.specs.KeptReports.{is_of, log_of, entries_of, counts, counts_by, reported_in, AreLogsOf, KeepsReports, AreCounted, IsReportedBy}
-use Rattle.pgp_group.specs.declared.logs.CountedLog.{CountedLog}
-use Rattle.pgp_group.specs.declared.reports.Reports.{Reports}
+-- What is kept of the reports of a group and of the logs of its members, as its log grows and as they are looked at.
+use Rattle.pgp_group.proofs.Common.{◌≡◌, ℕ, ◌≤◌, List, [], ◌∷◌, ◌++◌, Option, None, Bool, true, false, ◌&&◌, ◌||◌, cond, nat_le, nat_lt, length, take, length-append, refl, ap, ap₂, sym, ◌∙◌, subst, inl, inr, arith, append-nil, All, filter, find, flat_map, cases_Bool, and_parts, or_parts, nat_tests, take_all, take-append-le, All-contains, All-filter, All-nil, All-take, All-weaker, filter_passes, All-append, is_same_member, LogEntry, Member, Report, All-members, filter-agree, epoch, by_number, GroupLog, incs, reports, is_counted, is_of, log_of, entries_of, counts_by, reported_in, AreLogsOf, KeepsReports, AreCounted, IsReportedBy, CountedLog, Reports, zero, suc, ◌+◌, ◌<◌, Some, if◌then◌else◌, get_or, position, position_from, position_or_len, slice_get, slice_set, option_map_or, option_or, nat_cmp, filter-append, find_at, find-set, find_past, find-append, position-Some, fold-append, slice_get-get_or, Info, IsLogOf, number_of, flat_map-push}
+use Rattle.pgp_group.specs.KeptReports.{counts}
 use Rattle.pgp_group.proofs.LaterLemmas.{Outlasts, outlasts-same}
 use Rattle.pgp_group.proofs.Lists.{filter-each}
-use Rattle.pgp_group.proofs.LogsLemmas.{entries_from, judged}
 use Rattle.pgp_group.proofs.PeerLemmas.{same_member}
+use Rattle.std.proofs.lemmas.Iterator.Adapters.{position_from-zero}
+use Rattle.pgp_missing.specs.Last.{put_in}
+
+-- ---- the first place of a test
+
+first-at : {X : Type 0} (p : X → Bool) (xs : List X) (i : ℕ) → position p xs ≡ Some i → i ≡ position_or_len p xs
+first-at p xs i is = grind arith
+
+pub found-at : {X : Type 0} (p : X → Bool) (xs : List X) (i : ℕ) (d : X) → position p xs ≡ Some i → find p xs ≡ Some (get_or xs i d)
+found-at p xs i d is = find_at p xs ∙ ap (slice_get xs) (sym (first-at p xs i is)) ∙ slice_get-get_or xs i d (position-Some p xs i d is).0
+
+none_from : {X : Type 0} (p : X → Bool) (i : ℕ) (xs : List X) → position_from p i xs ≡ None → find p xs ≡ None
+none_from p i [] none = refl
+none_from p i (x ∷ xs) none = grind (arith, none_from p (i + 1) xs)
+
+pub found-none : {X : Type 0} (p : X → Bool) (xs : List X) → position p xs ≡ None → find p xs ≡ None
+found-none p xs none = none_from p 0 xs (sym (position_from-zero p xs) ∙ none)
+
+-- ---- the entries of a member
+
+abbrev pub entries_from : Option CountedLog → List LogEntry
+entries_from found = option_map_or (λ log. log.log.entries) found []
+
+-- the log of the sender, with more entries
+pub added : (sender member : Member) (logs : List CountedLog) (i : ℕ) (d y : CountedLog) (entries reported : List LogEntry) → position (is_of sender) logs ≡ Some i → d ≡ get_or logs i d → y.member ≡ d.member
+    → ((r : List LogEntry) → d.log.entries ≡ by_number r → y.log.entries ≡ by_number (r ++ entries))
+    → entries_of member logs ≡ by_number reported → entries_of member (slice_set logs i y) ≡ by_number (reported ++ (if is_same_member sender member then entries else []))
+added sender member logs i d y entries reported at item same add is =
+    let p = position-Some (is_of sender) logs i d at in
+    let passes : is_of sender d ≡ true = ap (is_of sender) item ∙ p.1 in
+    let by : d.member ≡ sender = same_member d.member sender passes in
+    elim (cases_Bool (is_same_member sender member)) [
+      | inl it ↦
+          let to : sender ≡ member = same_member sender member it in
+          let new : entries_of sender (slice_set logs i y) ≡ y.log.entries = ap entries_from (find-set (is_of sender) logs i y (first-at (is_of sender) logs i at) p.0 (ap (λ (m : Member). is_same_member m sender) same ∙ passes)) in
+          let old : entries_of sender logs ≡ d.log.entries = ap entries_from (found-at (is_of sender) logs i d at) ∙ ap (λ (l : CountedLog). l.log.entries) (sym item) in
+          let was : entries_of sender logs ≡ by_number reported = subst (λ (m : Member). entries_of m logs ≡ by_number reported) (sym to) is in
+          rw it (subst (λ (m : Member). entries_of m (slice_set logs i y) ≡ by_number (reported ++ entries)) to (new ∙ add reported (sym old ∙ was)))
+      | inr other ↦
+          let fails : is_of member d ≡ false = ap (λ (m : Member). is_same_member m member) by ∙ other in
+          let fails' : is_of member y ≡ false = ap (λ (m : Member). is_same_member m member) same ∙ fails in
+          rw (other, append-nil) (ap entries_from (find_past (is_of member) logs i y d (ap (is_of member) (sym item) ∙ fails) fails') ∙ is)
+    ]
+
+none_or : {X : Type 0} (found : Option X) → option_or found None ≡ found
+none_or None = refl
+none_or (Some x) = refl
+
+-- the first log of the sender
+pub added-first : (sender member : Member) (logs : List CountedLog) (y : CountedLog) (entries reported : List LogEntry) → position (is_of sender) logs ≡ None → y.member ≡ sender → y.log.entries ≡ by_number entries
+    → entries_of member logs ≡ by_number reported → entries_of member (logs ++ y ∷ []) ≡ by_number (reported ++ (if is_same_member sender member then entries else []))
+added-first sender member logs y entries reported none same new is =
+    let found : log_of member (logs ++ y ∷ []) ≡ option_or (log_of member logs) (log_of member (y ∷ [])) = find-append (is_of member) logs (y ∷ []) in
+    let alike : is_of member y ≡ is_same_member sender member = ap (λ (m : Member). is_same_member m member) same in
+    elim (cases_Bool (is_same_member sender member)) [
+      | inl it ↦ grind (arith, same_member sender member it, found-none (is_of sender) logs none, fold-append (put_in number_of nat_cmp) [] reported entries)
+      | inr other ↦ grind (arith, none_or (log_of member logs), append-nil)
+    ]
+
+-- ---- bounds
+
+abbrev pub judged : (Member → ℕ → Bool) → CountedLog → Bool
+judged test log = test log.member log.stamp
+
+head-entries : (test : CountedLog → Bool) (member : Member) (x : CountedLog) (xs : List CountedLog)
+    → entries_of member (filter test (x ∷ xs)) ≡ cond (test x && is_of member x) x.log.entries (entries_of member (filter test xs))
+head-entries test member x xs = grind arith
+
+-- a log with other bounds, among those that pass a test
+pub renewed : (test : Member → ℕ → Bool) (member : Member) (logs : List CountedLog) (i : ℕ) (d y : CountedLog) (reported : List LogEntry) → i < length logs → d ≡ get_or logs i d → y.member ≡ d.member → y.stamp ≡ d.stamp
+    → ((r : List LogEntry) → d.log.entries ≡ by_number r → y.log.entries ≡ by_number r)
+    → entries_of member (filter (judged test) logs) ≡ by_number reported → entries_of member (filter (judged test) (slice_set logs i y)) ≡ by_number reported
+renewed test member [] i d y reported within item same stamp keeps is = absurd (omega arith)
+renewed test member (x ∷ xs) zero d y reported within item same stamp keeps is =
+    let was : entries_of member (filter (judged test) (d ∷ xs)) ≡ by_number reported = subst (λ (l : CountedLog). entries_of member (filter (judged test) (l ∷ xs)) ≡ by_number reported) (sym item) is in
+    let alike : (judged test y && is_of member y) ≡ (judged test d && is_of member d) = λ k. test (same k) (stamp k) && is_same_member (same k) member in
+    elim (cases_Bool (judged test d && is_of member d)) [
+      | inl it ↦ grind (arith, head-entries (judged test) member y xs, head-entries (judged test) member d xs)
+      | inr other ↦ grind (arith, head-entries (judged test) member y xs, head-entries (judged test) member d xs)
+    ]
+renewed test member (x ∷ xs) (suc i) d y reported within item same stamp keeps is =
+    let old : List LogEntry = entries_of member (filter (judged test) xs) in
+    let new : List LogEntry = entries_of member (filter (judged test) (slice_set xs i y)) in
+    elim (cases_Bool (judged test x && is_of member x)) [
+      | inl it ↦ grind (arith, head-entries (judged test) member x (slice_set xs i y), head-entries (judged test) member x xs)
+      | inr other ↦
+          head-entries (judged test) member x (slice_set xs i y) ∙ ap (λ (b : Bool). cond b x.log.entries new) other
+          ∙ renewed test member xs i d y reported (omega arith) item same stamp keeps (sym (head-entries (judged test) member x xs ∙ ap (λ (b : Bool). cond b x.log.entries old) other) ∙ is)
+    ]
+
+-- the log that was renewed is the one of the member
+pub renewed-one : (member : Member) (logs : List CountedLog) (i : ℕ) (d y log : CountedLog) (info : Info) (reported : List LogEntry) → position (is_of member) logs ≡ Some i → d ≡ get_or logs i d → y.member ≡ d.member
+    → ((r : List LogEntry) → d.log.entries ≡ by_number r → IsLogOf info r y.log)
+    → entries_of member logs ≡ by_number reported → log_of member (slice_set logs i y) ≡ Some log → IsLogOf info reported log.log
+renewed-one member logs i d y log info reported at item same bounds is found =
+    let p = position-Some (is_of member) logs i d at in
+    let passes : is_of member d ≡ true = ap (is_of member) item ∙ p.1 in
+    let one : log_of member (slice_set logs i y) ≡ Some y = find-set (is_of member) logs i y (first-at (is_of member) logs i at) p.0 (ap (λ (m : Member). is_same_member m member) same ∙ passes) in
+    grind (arith, found-at (is_of member) logs i d)
+
+-- ---- one more report
+
+pub reported_in-more : (g : GroupLog) (told : List Report) (x : Report) (member : Member)
+    → reported_in g (told ++ x ∷ []) member ≡ reported_in g told member ++ (if is_same_member x.member member && is_counted g x.member x.stamp then x.log else [])
+reported_in-more g told x member =
+    let test : Report → Bool = λ report. is_same_member report.member member && is_counted g report.member report.stamp in
+    let entries : Report → List LogEntry = λ report. report.log in
+    ap (flat_map entries) (filter-append test told (x ∷ [])) ∙ (elim (cases_Bool (test x)) [
+      | inl passes ↦ rw (passes) (flat_map-push entries (filter test told) x)
+      | inr fails ↦ rw (fails) (ap (flat_map entries) (append-nil (filter test told)) ∙ sym (append-nil (flat_map entries (filter test told))))
+    ])
+
+-- one that counts, and one that doesn't
+pub told-counted : (g : GroupLog) (told : List Report) (x : Report) (member : Member) → is_counted g x.member x.stamp ≡ true
+    → reported_in g (told ++ x ∷ []) member ≡ reported_in g told member ++ (if is_same_member x.member member then x.log else [])
+told-counted g told x member counted = grind (arith, reported_in-more g told x member)
+
+pub told-other : (g : GroupLog) (told : List Report) (x : Report) (member : Member) → is_counted g x.member x.stamp ≡ false → reported_in g (told ++ x ∷ []) member ≡ reported_in g told member
+told-other g told x member silent = grind (arith, reported_in-more g told x member, append-nil (reported_in g told member))
 
 -- ---- devices that last
 
@@ -77,11 +179,7 @@ KeepsReports-grown g after more old kept on told sent is all seen logs = record 
 }
   where
     each : (member : Member) (r : Report) → r.stamp ≤ epoch (incs g) → is_by after member r ≡ (is_by g member r && on.lasts member.osd)
-    each member r early = elim (cases_Bool (is_same_member r.member member)) [
-      | inl same ↦ rw same (on.counts r.member r.stamp early
-          ∙ ap (λ (m : Member). is_counted g r.member r.stamp && on.lasts m.osd) (same_member r.member member same))
-      | inr other ↦ rw other refl
-    ]
+    each member r early = grind (arith, cases_Bool (is_same_member r.member member), early)
 
     joined : (b : Bool) (found : Option CountedLog) (told' : List Report) → entries_from found ≡ by_number (flat_map (λ (r : Report). r.log) told')
         → entries_from (cond b found None) ≡ by_number (flat_map (λ (r : Report). r.log) (cond b told' []))
@@ -105,14 +203,7 @@ KeepsReports-new g after report at old kept here told is all seen logs ahead =
     (outlasts-same g after told.incs_are told.history_is) told.reports_are sent is all seen logs
   where
     sent : kept.ahead ≡ false → (old.ahead ≡ false) × All (λ r. r.stamp ≤ epoch (incs after)) (report ∷ [])
-    sent settled =
-        let parts = or_parts old.ahead (nat_lt at report.stamp) (sym ahead ∙ settled) in
-        let come : nat_lt at report.stamp ≡ false = parts.1 in
-        let by : report.stamp ≤ at = grind (arith, nat_tests) in (
-          parts.0,
-          All-push (λ r. r.stamp ≤ epoch (incs after)) [] report (All-nil (λ r. r.stamp ≤ epoch (incs after)))
-              (omega (arith, by, here, ap epoch told.incs_are)),
-        )
+    sent settled = grind (arith, or_parts old.ahead (nat_lt at report.stamp) (sym ahead ∙ settled), nat_tests)
 
 -- ---- a look at them
 
@@ -139,15 +230,7 @@ AreCounted-judged g old kept is settled all seen ahead logs = record {
 
 -- nothing was looked at
 pub AreCounted-none : (g : GroupLog) (kept : Reports) → kept.all.items ≡ reports g → kept.seen ≡ 0 → kept.logs.of_members.items ≡ [] → (kept.ahead ≡ false → All (λ report. report.stamp ≤ epoch (incs g)) (reports g)) → AreCounted g kept
-AreCounted-none g kept all seen logs sent = record {
-  all_are = all;
-  seen_within = omega (arith, seen);
-  each_sent = sent;
-  each_counts = λ _. subst (All (λ (log : CountedLog). counts_by g (epoch (incs g)) log ≡ true)) (sym logs) (All-nil (λ (log : CountedLog). counts_by g (epoch (incs g)) log ≡ true));
-  logs_are =
-      subst (λ (n : ℕ). AreLogsOf g (take n (reports g)) kept.logs.of_members.items) (sym seen)
-      (subst (AreLogsOf g []) (sym logs) (λ member. refl));
-}
+AreCounted-none g kept all seen logs sent = grind arith
 
 -- all were looked at, and the logs count
 pub KeepsReports-heard : (g : GroupLog) (old kept : Reports) → AreCounted g old → kept.all.items ≡ old.all.items → kept.ahead ≡ old.ahead → kept.seen ≡ length old.all.items

@@ -1,46 +1,8 @@
 -- A group whose intervals, reports and devices are the same in two logs has the same view, except for count and epoch.
-use Rattle.std.proofs.Common.{◌≡◌, ℕ, arith, List, [], ◌++◌, Option, Some, None, is_none, Bool, true, not, ◌&&◌, nat_eq, nat_le, nat_lt, length, map, fold, max, refl, ap, ap₂, ◌∙◌, if◌then◌else◌, is_some, sym}
-use Rattle.std.specs.List.{Contains, filter, find, flat_map, list_any, range_with_len, slice_index_or, filter_map}
-use Rattle.std.specs.Option.{option_and_then, option_map, option_map_or, unwrap_or}
-use Rattle.std.proofs.Math.Bool.{or-true}
-use Rattle.std.proofs.lemmas.Bool.Decides.{nat_tests}
-use Rattle.pgp_code.specs.AnyCode.{enough_of, is_by_place, enough_of-mono}
-use Rattle.pgp_code.specs.declared.any.AnyCode.{AnyCode}
-use Rattle.pgp_ids.specs.Member.{is_same_member}
-use Rattle.pgp_ids.specs.declared.entry.Entry.{Entry}
-use Rattle.pgp_ids.specs.declared.history.EpochState.{EpochState}
-use Rattle.pgp_ids.specs.declared.member.Member.{Member}
-use Rattle.pgp_ids.specs.declared.membership.Membership.{Membership}
-use Rattle.pgp_ids.specs.declared.past.Past.{Past}
-use Rattle.pgp_ids.specs.declared.pg_id.PgId.{PgId}
-use Rattle.pgp_ids.specs.declared.report.Info.{Info}
-use Rattle.pgp_ids.specs.declared.report.Report.{Report}
-use Rattle.pgp_ids.specs.declared.verdict.Verdict.{Verdict}
+use Rattle.pgp_group.proofs.Common.{◌≡◌, ℕ, arith, List, [], ◌++◌, Option, Some, None, is_none, Bool, true, not, ◌&&◌, nat_eq, nat_lt, length, map, fold, max, refl, ap, ap₂, ◌∙◌, if◌then◌else◌, is_some, sym, Contains, filter, find, flat_map, list_any, range_with_len, slice_index_or, filter_map, option_and_then, option_map, option_map_or, unwrap_or, or-true, nat_tests, enough_of, is_by_place, enough_of-mono, AnyCode, is_same_member, Entry, EpochState, Member, Membership, Past, PgId, Info, Report, Verdict, History, current_first, contains-any, filter-contains, map_some, device, epoch, is_whole, held_member, members_of, prior_set, blocks-same, ascending, is_before, status, status_by, Status, incs_of, GroupLog, group_with, infos, reports, incs, has_member, is_counted, heard, last_of_each_member, les, reported, past, prior, best, whole_best, peer_states, has_osd, was_member, names, told_at, holds, in_order, needs_up_thru, is_short, view_of}
 use Rattle.pgp_ids.specs.declared.verdict.Verdict.TheVariants as the
-use Rattle.pgp_info.specs.Best.{best_info}
-use Rattle.pgp_interval.specs.History.{History}
-use Rattle.pgp_interval.specs.Runs.{current_first}
-use Rattle.pgp_lists.proofs.Members.{contains-any, filter-contains}
-use Rattle.pgp_lists.proofs.Options.{map_some}
-use Rattle.pgp_map.specs.Devices.{device, up_thru}
-use Rattle.pgp_map.specs.Map.{epoch}
-use Rattle.pgp_missing.specs.Log.{is_whole}
 use Rattle.pgp_prior.specs.Blocks as block
-use Rattle.pgp_prior.specs.Members.{held_member, members_of}
-use Rattle.pgp_prior.specs.Prior.{prior_set}
-use Rattle.pgp_prior.proofs.BetterLemmas.{blocks-same}
-use Rattle.pgp_lists.specs.Ordered.{ascending}
-use Rattle.pgp_ids.specs.Member.{is_before}
-use Rattle.pgp_sets.specs.Status.{status, status_by}
-use Rattle.pgp_sets.specs.declared.status.Status.{Status}
-use Rattle.pgp_group.specs.Entries.{incs_of}
-use Rattle.pgp_group.specs.GroupLog.{GroupLog, group_with, infos, reports, incs}
-use Rattle.pgp_group.specs.Heard.{has_member, is_counted, heard, last_of_each_member, les, reported}
-use Rattle.pgp_group.specs.Peering.{past, prior, leader, best, whole_best, peer_states, info_of}
-use Rattle.pgp_group.specs.Prefers.{prefers}
-use Rattle.pgp_group.specs.Touched.{has_osd, was_member, names, told_at}
-use Rattle.pgp_group.specs.Verdict.{holds, in_order, needs_up_thru, is_short}
-use Rattle.pgp_group.specs.View.{view_of}
+use Rattle.pgp_group.specs.Peering.{info_of}
 use Rattle.pgp_group.proofs.Lists.{filter-agree, flat_map-agree, any-agree, filter_map-contains, index-contains, any-found}
 use Rattle.pgp_group.proofs.PeerLemmas.{compared}
 use Rattle.pgp_group.proofs.UntoldLemmas.{osd-there}
@@ -167,8 +129,7 @@ named_past : (log : List Entry) (pg : PgId) (h : History AnyCode) (p : Past) (me
 named_past log pg h p member there stood =
     let acted : has_osd member.osd p.members.acting ≡ true = member-there (is_by_place h.code) p.members.acting member stood in
     let was : was_member member.osd p ≡ true = rw (acted, or-true) refl in
-    let any : list_any (was_member member.osd) (past (group_with log pg h)) ≡ true = contains-any (was_member member.osd) (past (group_with log pg h)) p there was in
-    rw any refl
+    grind (arith, contains-any (was_member member.osd) (past (group_with log pg h)) p there was)
 
 named_info : (log : List Entry) (pg : PgId) (h : History AnyCode) (info : Info) → Contains (infos (group_with log pg h)) info → names info.member.osd (group_with log pg h) ≡ true
 named_info log pg h info there =
@@ -186,10 +147,7 @@ named_report log pg h report there =
 
 counted-same : (log after : List Entry) (pg : PgId) (h : History AnyCode) (lived : List EpochState) → IsSame log after pg h lived → (member : Member) (stamp : ℕ) → names member.osd (group_with log pg h) ≡ true
     → is_counted (lives after pg h lived) member stamp ≡ is_counted (group_with log pg h) member stamp
-counted-same log after pg h lived same member stamp named =
-    let dev : device (incs_of after) member.osd ≡ device (incs_of log) member.osd = same.named member.osd named in
-    let first : current_first (record h { lived = lived }) ≡ current_first h = same.first in
-    λ i. nat_le (first i) stamp && (dev i).is_up && nat_le (dev i).up_from stamp
+counted-same log after pg h lived same member stamp named = grind arith
 
 heard-same : (log after : List Entry) (pg : PgId) (h : History AnyCode) (lived : List EpochState) → IsSame log after pg h lived → heard (lives after pg h lived) ≡ heard (group_with log pg h)
 heard-same log after pg h lived same =
@@ -213,25 +171,8 @@ prior_set-same log after pg h lived same =
     ∙ prior-same h.code (status (incs_of log)) (status (incs_of after)) (les g) (past g) h.current
     (λ p there member stood. let dev = same.named member.osd (named_past log pg h p member there stood) in λ i. status_by (dev i).is_up (dev i).exists (dev i).lost_at p.first)
 
-led-same : (test now : ℕ → Bool) (leads : Option ℕ) → ((osd : ℕ) → leads ≡ Some osd → now osd ≡ test osd) → option_map_or now leads true ≡ option_map_or test leads true
-led-same test now None same = refl
-led-same test now (Some osd) same = same osd refl
-
 pub view-same : (log after : List Entry) (pg : PgId) (h : History AnyCode) (lived : List EpochState) → IsSame log after pg h lived
     → view_of (lives after pg h lived) ≡ told_at (length after) (epoch (incs_of after)) (view_of (group_with log pg h))
 view-same log after pg h lived same =
     let heard' = heard-same log after pg h lived same in
-    view-alike (group_with log pg h) (lives after pg h lived) (record {
-      code = refl;
-      current = refl;
-      first = same.first;
-      past = same.past;
-      les = ap (λ (told : List Info). fold max 0 (map (λ info. info.history_les) told)) same.infos;
-      prior = prior_set-same log after pg h lived same;
-      heard = λ member. ap (λ (l : List Info). info_of l member) heard';
-      best = ap (best_info (prefers h.code (leader (group_with log pg h)))) heard';
-      reported = reported-same log after pg h lived same;
-      thru = led-same (λ osd. nat_lt (up_thru (incs_of log) osd) (current_first h))
-          (λ osd. nat_lt (up_thru (incs_of after) osd) (current_first (record h { lived = lived }))) h.current.acting_primary
-          (λ osd leads. let dev = same.leads osd leads in λ i. nat_lt (dev i).up_thru (same.first i));
-    })
+    view-alike (group_with log pg h) (lives after pg h lived) (grind (arith, prior_set-same log after pg h lived same, reported-same log after pg h lived same))

@@ -1,39 +1,8 @@
 -- That a group which served may have gone read-write in its interval, once that is past, and that whoever serves later has
 -- reckoned with it.
-use Rattle.std.proofs.Common.{◌≡◌, ℕ, ◌+◌, ◌<◌, ◌≤◌, List, [], ◌∷◌, ◌++◌, Option, Some, None, is_some, is_none, Bool, true, false, not, nat_le, nat_lt, refl, ap, sym, ◌∙◌, subst, inl, inr, ◌⊎◌, arith}
-use Rattle.std.specs.List.{Contains}
-use Rattle.std.specs.Option.{option_map_or}
-use Rattle.std.proofs.lemmas.Bool.{or_parts}
-use Rattle.std.proofs.lemmas.Bool.Decides.{nat_tests}
-use Rattle.std.proofs.lemmas.List.Elements.{filter_map-append}
-use Rattle.pgp_code.specs.AnyCode.{enough_of, is_by_place}
-use Rattle.pgp_code.specs.declared.any.AnyCode.{AnyCode}
-use Rattle.pgp_ids.specs.Osds.{osd_count}
-use Rattle.pgp_ids.specs.declared.entry.Entry.{Entry}
-use Rattle.pgp_ids.specs.declared.incremental.Incremental.{Incremental}
-use Rattle.pgp_ids.specs.declared.membership.Membership.{Membership}
-use Rattle.pgp_ids.specs.declared.past.Past.{Past}
-use Rattle.pgp_ids.specs.declared.pg_id.PgId.{PgId}
-use Rattle.pgp_ids.specs.declared.verdict.Verdict.{Verdict}
-use Rattle.pgp_ids.specs.declared.verdict.Verdict.TheVariants.{NoPrimary, Short, NeedUpThru, Serve}
-use Rattle.pgp_interval.specs.History.{History}
+use Rattle.pgp_group.proofs.Common.{◌≡◌, ℕ, ◌+◌, ◌<◌, ◌≤◌, List, [], ◌∷◌, ◌++◌, Some, None, is_some, Bool, true, false, not, nat_le, nat_lt, refl, ap, sym, ◌∙◌, subst, inl, inr, ◌⊎◌, arith, Contains, or_parts, nat_tests, filter_map-append, enough_of, is_by_place, AnyCode, osd_count, Entry, Incremental, Membership, Past, PgId, Verdict, Short, Serve, History, current_first, current_ending, contains-append, Contains-here, none_is, some_is, some_mapped, taken-along, are_checked, is_faultless, up_from, up_thru, epoch, map_fault, then_with, inc_of, incs_of, group_history, primary_facts, GroupLog, cleans, group_in, incs, IsAfter, past, WentReadWrite, IsRemembered, holds, place_of, verdict, ◌&&◌, ◌||◌, map, cases_Bool, or-true, enough_of-mono, Member, Down, Waiting, filter-contains, contains-filter, map-contains, contains-map, none-contains, nat_order, ascending-contains, contains-ascending, acting_where, blocks, has_down, is_settled, matters, settled_slots, slots_of, status, Status, les, heard, has_member, prior, is_lost, acting_of, heard_or_lost, IsAccountedFor, IsReckonedWith}
 use Rattle.pgp_interval.specs.ReadWrite.{acting_slots, may_have_gone_rw}
-use Rattle.pgp_interval.specs.Runs.{current_first, current_ending}
-use Rattle.pgp_lists.proofs.Members.{contains-append, Contains-here}
-use Rattle.pgp_lists.proofs.Options.{none_is, some_is, some_mapped}
-use Rattle.pgp_lists.proofs.Taken.{taken-along}
-use Rattle.pgp_map.specs.Checked.{are_checked, is_faultless}
-use Rattle.pgp_map.specs.Devices.{up_from, up_thru}
-use Rattle.pgp_map.specs.Map.{epoch}
-use Rattle.pgp_map.specs.MapFault.{map_fault, then_with}
 use Rattle.pgp_map.proofs.CheckedLemmas.{up_thru-more}
-use Rattle.pgp_group.specs.Entries.{inc_of, incs_of}
-use Rattle.pgp_group.specs.GroupHistory.{group_history, primary_facts}
-use Rattle.pgp_group.specs.GroupLog.{GroupLog, cleans, group_in, incs}
-use Rattle.pgp_group.specs.Later.{IsAfter}
-use Rattle.pgp_group.specs.Peering.{past}
-use Rattle.pgp_group.specs.Reckoning.{WentReadWrite, IsRemembered}
-use Rattle.pgp_group.specs.Verdict.{holds, place_of, verdict}
 use Rattle.pgp_group.proofs.DeviceLemmas.{checked-front, checked-last, up_from-stays}
 use Rattle.pgp_group.proofs.FirstLemmas.{along}
 use Rattle.pgp_group.proofs.GrowthLemmas.{has_group-grows, next_epoch}
@@ -41,8 +10,11 @@ use Rattle.pgp_group.proofs.LaterLemmas.{histories}
 use Rattle.pgp_group.proofs.Lists.{contains-push}
 use Rattle.pgp_group.proofs.OpeningLemmas.{IsOpened, Ends, Moves, moves, opened, past_of, primary-up}
 use Rattle.pgp_group.proofs.OpeningLemmas.Moves.{on, ends}
-use Rattle.pgp_group.proofs.VerdictLemmas.{IsFirstCause-verdict}
 use Rattle.pgp_group.proofs.ViewLemmas.{history_there}
+use Rattle.pgp_ids.specs.SlotSet.{is_within}
+use Rattle.pgp_prior.proofs.PriorLemmas.{IsProbed-probe}
+use Rattle.pgp_prior.proofs.SlotLemmas.{IsSlotSet-slots_of, is_within-each}
+use Rattle.pgp_sets.specs.declared.status.Status.TheVariants as the
 
 -- ---- what a group has that serves
 
@@ -58,31 +30,14 @@ record IsServing (g : GroupLog) (osd : ℕ) : Type 0 where
 
 -- no cause holds for a group that serves
 pub no_cause : (g : GroupLog) (cause : Verdict) → verdict g ≡ Serve → place_of cause < 7 → holds g cause ≡ false
-no_cause g cause serves before =
-    (IsFirstCause-verdict g).none_before cause (subst (λ (v : Verdict). place_of cause < place_of v) (sym serves) before)
+no_cause g cause serves before = grind arith
 
 pub not_false : (b : Bool) → not b ≡ false → b ≡ true
 not_false b is = grind arith
 
 serving : (g : GroupLog) → verdict g ≡ Serve → (osd : ℕ) × IsServing g osd
 serving g serves =
-    let leader : is_none g.history.current.acting_primary ≡ false = no_cause g NoPrimary serves (omega arith) in
-    let led = some_of g.history.current.acting_primary leader in
-    let short = or_parts (nat_lt (osd_count g.history.current.acting) g.history.current.min_size) _ (no_cause g Short serves (omega arith)) in
-    let few : nat_lt (osd_count g.history.current.acting) g.history.current.min_size ≡ false = short.0 in
-    let recorded : nat_lt (up_thru (incs g) led.0) (current_first g.history) ≡ false =
-    ap (λ (o : Option ℕ). option_map_or (λ osd. nat_lt (up_thru (incs g) osd) (current_first g.history)) o true) (sym led.1)
-    ∙ no_cause g NeedUpThru serves (omega arith) in (
-      led.0,
-      record {
-        fit = record { leads = led.1; many = grind (arith, nat_tests); slots = not_false _ short.1 };
-        thru = grind (arith, nat_tests);
-      },
-    )
-  where
-    some_of : (found : Option ℕ) → is_none found ≡ false → (osd : ℕ) × (found ≡ Some osd)
-    some_of (Some osd) there = (osd, refl)
-    some_of None there = cc
+    grind (arith, or_parts (nat_lt (osd_count g.history.current.acting) g.history.current.min_size) _ (no_cause g Short serves (omega arith)), nat_tests)
 
 -- ---- how its interval stands later
 
@@ -104,10 +59,7 @@ Stands cleans first osd incs h = Runs first osd incs h ⊎ IsOver cleans first h
 
 went_rw : (code : AnyCode) (cleans : List ℕ) (members : Membership) (osd first last : ℕ) (incs : List Incremental) → IsFit code members osd → first ≤ up_thru incs osd → up_from incs osd ≤ first
     → may_have_gone_rw (enough_of code) (is_by_place code) cleans (record { members = members; facts = primary_facts incs members.acting_primary }) first last ≡ true
-went_rw code cleans members osd first last incs fit thru since =
-    let recorded : nat_le first (up_thru incs osd) ≡ true = grind (arith, nat_tests) in
-    let up : nat_le (up_from incs osd) first ≡ true = grind (arith, nat_tests) in
-    rw (fit.many, fit.leads, fit.slots, recorded, up) refl
+went_rw code cleans members osd first last incs fit thru since = grind (arith, nat_tests)
 
 stands-ended : (cleans : List ℕ) (first osd : ℕ) (incs : List Incremental) (inc : Incremental) (h after : History AnyCode) → inc.epoch ≡ epoch incs + 1 → IsOpened incs h
     → Ends inc.epoch (primary_facts incs h.current.acting_primary) h after → Runs first osd incs h → IsOver cleans first after
@@ -117,12 +69,7 @@ stands-ended cleans first osd incs inc h after next opened over runs =
     let rw' : ending.rw ≡ true =
     went_rw h.code cleans h.current osd (current_first h) ending.last incs runs.fit (omega (arith, runs.thru, is)) (omega (arith, runs.since, is)) in
     record {
-      went = record {
-        interval = ending;
-        there = subst (λ (l : List Past). Contains l ending) (sym (over.past cleans)) (contains-append (past_of cleans h) (ending ∷ []) ending (inr (Contains-here ending [])));
-        opened = is;
-        rw = rw';
-      };
+      went = grind (arith, contains-append (past_of cleans h) (ending ∷ []) ending (inr (Contains-here ending [])), opened);
       each = λ interval in' same. elim
           (contains-push (past_of cleans h) ending interval (subst (λ (l : List Past). Contains l interval) (over.past cleans) in')) [
             | inl before ↦ absurd (omega (arith, opened.later cleans interval before, is, same))
@@ -145,9 +92,7 @@ over-ended cleans first incs inc h after next opened ended over =
       each = λ interval in' same. elim
           (contains-push (past_of cleans h) ending interval (subst (λ (l : List Past). Contains l interval) (ended.past cleans) in')) [
             | inl before ↦ over.each interval before same
-            | inr here ↦
-                let at : current_first h ≡ interval.first = ap (λ (p : Past). p.first) here in
-                absurd (omega (arith, at, same, over.later))
+            | inr here ↦ grind arith
           ];
       later = omega (arith, over.later, opened.within, ended.first, next);
     }
@@ -199,10 +144,7 @@ standing g after later is serves =
     }
 
 pub remembered : (g after : GroupLog) (later : List Entry) → IsAfter g later after → verdict g ≡ Serve → IsRemembered g after
-remembered g after later is serves = elim ((standing g after later is serves).stands) [
-  | inl runs ↦ inl runs.first_is
-  | inr over ↦ inr over.went
-]
+remembered g after later is serves = grind (arith, standing g after later is serves)
 
 -- the intervals of a group later
 opened-after : (g after : GroupLog) (later : List Entry) → IsAfter g later after → IsOpened (incs after) after.history
@@ -229,3 +171,80 @@ stays_there pg log later checked there =
     step l inc checked' fine there' =
         let before = some_is (group_history l pg) there' in
         history_there (then_with l inc) pg ∙ has_group-grows l inc pg before.0 (none_is (map_fault l inc) fine) before.1
+
+settled_is : (s : Status) → is_settled s ≡ true → (s ≡ the.Up) ⊎ (is_lost s ≡ true)
+settled_is the.Up is = inl refl
+settled_is the.Lost is = inr refl
+settled_is the.Gone is = cc
+settled_is the.Down is = cc
+
+-- an interval that matters and doesn't block has enough members that are settled, or none that is down
+unblocked : (late suffices down : Bool) → late ≡ true → late && not suffices && down ≡ false → (suffices ≡ true) ⊎ (down ≡ false)
+unblocked late suffices down matters' free = grind arith
+
+-- whoever is up was heard
+heard-up : (g : GroupLog) (interval : Past) (member : Member) → verdict g ≡ Serve → Contains (past g) interval → matters (les g) interval ≡ true → Contains (acting_of g interval) member
+    → status (incs g) member.osd interval.first ≡ the.Up → has_member member (heard g) ≡ true
+heard-up g interval member serves there matters' acts up =
+    let probed : Contains (prior g).probe member =
+    IsProbed-probe (is_by_place g.history.code) (status (incs g)) (les g) (past g) g.history.current member (inr (inr (interval, there, matters', acts, up))) in
+    not_false _ (none-contains (λ (m : Member). not (has_member m (heard g))) (prior g).probe member (no_cause g Waiting serves (omega arith)) probed)
+
+settled-counts : (g : GroupLog) (interval : Past) (member : Member) → verdict g ≡ Serve → Contains (past g) interval → matters (les g) interval ≡ true → Contains (acting_of g interval) member
+    → is_settled (status (incs g) member.osd interval.first) ≡ true
+    → has_member member (heard g) || is_lost (status (incs g) member.osd interval.first) ≡ true
+settled-counts g interval member serves there matters' acts settled = elim (settled_is (status (incs g) member.osd interval.first) settled) [
+  | inl up ↦ rw (heard-up g interval member serves there matters' acts up) refl
+  | inr lost ↦ rw lost (or-true (has_member member (heard g)))
+]
+
+-- the slots of members that are settled are among those that were heard or lost
+settled-within : (g : GroupLog) (interval : Past) → verdict g ≡ Serve → Contains (past g) interval → matters (les g) interval ≡ true
+    → is_within (settled_slots (is_by_place g.history.code) (status (incs g)) interval) (slots_of (heard_or_lost g interval)) ≡ true
+settled-within g interval serves there matters' =
+    let slot : Member → ℕ = λ member. member.slot in
+    let settled : List Member = acting_where is_settled (is_by_place g.history.code) (status (incs g)) interval in
+    is_within-each (slots_of settled) (slots_of (heard_or_lost g interval)) (λ k in'.
+    let found = map-contains slot settled k (ascending-contains nat_lt (map slot settled) k in') in
+    let member : Member = found.0 in
+    let kept = filter-contains (λ (m : Member). is_settled (status (incs g) m.osd interval.first)) (acting_of g interval) member found.1.0 in
+    let counts : Contains (heard_or_lost g interval) member =
+    contains-filter (λ (m : Member). has_member m (heard g) || is_lost (status (incs g) m.osd interval.first)) (acting_of g interval) member kept.0
+    (settled-counts g interval member serves there matters' kept.0 kept.1) in
+    contains-ascending nat_lt nat_order (map slot (heard_or_lost g interval)) k
+    (subst (Contains (map slot (heard_or_lost g interval))) found.1.1 (contains-map slot (heard_or_lost g interval) member counts)))
+
+-- of a group that serves, in each interval that matters
+reckoned-with : (g : GroupLog) (interval : Past) → verdict g ≡ Serve → Contains (past g) interval → matters (les g) interval ≡ true → IsReckonedWith g interval
+reckoned-with g interval serves there matters' =
+    let settled : List ℕ = settled_slots (is_by_place g.history.code) (status (incs g)) interval in
+    let free : blocks (enough_of g.history.code) (is_by_place g.history.code) (status (incs g)) (les g) interval ≡ false =
+    none-contains (blocks (enough_of g.history.code) (is_by_place g.history.code) (status (incs g)) (les g)) (past g) interval (no_cause g Down serves (omega arith)) there in
+    elim (unblocked (matters (les g) interval) (enough_of g.history.code settled) (has_down (is_by_place g.history.code) (status (incs g)) interval) matters' free) [
+      | inl enough ↦ inl (enough_of-mono g.history.code settled (slots_of (heard_or_lost g interval))
+          (IsSlotSet-slots_of (acting_where is_settled (is_by_place g.history.code) (status (incs g)) interval))
+          (IsSlotSet-slots_of (heard_or_lost g interval)) (settled-within g interval serves there matters') enough)
+      | inr none ↦ inr none
+    ]
+
+pub reckoned : (g after : GroupLog) (later : List Entry) (interval : Past) → IsAfter g later after → verdict g ≡ Serve → Contains (past after) interval → interval.first ≡ current_first g.history
+    → verdict after ≡ Serve → les after ≤ interval.last → IsReckonedWith after interval
+reckoned g after later interval is served there same serves since =
+    let late : nat_le (les after) interval.last ≡ true = grind (arith, nat_tests) in
+    reckoned-with after interval serves there (rw (remembered-each g after later interval is served there same, late) refl)
+
+-- whoever serves again has accounted for the interval, where it isn't current still
+pub served_again : (g after : GroupLog) (later : List Entry) → IsAfter g later after → verdict g ≡ Serve → verdict after ≡ Serve
+    → (current_first after.history ≡ current_first g.history) ⊎ IsAccountedFor (current_first g.history) after
+served_again g after later is served serves = elim (remembered g after later is served) [
+  | inl same ↦ inl same
+  | inr went ↦ inr (record {
+    interval = went.interval;
+    there = went.there;
+    opened = went.opened;
+    how = elim (cases_Bool (nat_le (les after) went.interval.last)) [
+      | inl since ↦ inl (reckoned-with after went.interval serves went.there (rw (went.rw, since) refl))
+      | inr early ↦ inr (grind (arith, nat_tests))
+    ];
+  })
+]

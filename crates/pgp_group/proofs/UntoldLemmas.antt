@@ -1,28 +1,8 @@
 -- What an incremental leaves as it was: devices that it doesn't name, and a group that it doesn't touch.
-use Rattle.std.proofs.Common.{◌≡◌, ℕ, arith, List, [], ◌∷◌, ◌++◌, Option, Some, None, is_some, Bool, true, false, ◌||◌, nat_eq, nat_lt, map, length, refl, ap, ap₂, sym, ◌∙◌, subst, inl, inr, ◌⊎◌, if◌then◌else◌}
-use Rattle.std.specs.List.{Contains, filter, list_any}
-use Rattle.std.specs.Option.{option_eq, option_map, option_map_or}
-use Rattle.std.proofs.lemmas.Bool.{or_parts, eqb-true}
-use Rattle.std.proofs.lemmas.Bool.Decides.{nat_tests}
-use Rattle.std.proofs.lemmas.Option.{same_Some}
+use Rattle.pgp_group.proofs.Common.{◌≡◌, ℕ, arith, List, [], ◌∷◌, ◌++◌, Option, Some, None, is_some, Bool, true, false, ◌||◌, nat_eq, nat_lt, map, length, refl, ap, ap₂, sym, ◌∙◌, subst, inl, inr, ◌⊎◌, if◌then◌else◌, Contains, filter, list_any, option_eq, option_map, option_map_or, or_parts, eqb-true, nat_tests, same_Some, first_osd, DeviceEpoch, Incremental, Membership, PgId, PoolSpec, Contains-first, Contains-later, contains-any, filter-contains, map-contains, if_some, boots, takes_down, destroys, device, is_up, map_fault, then_with, pool, temp, is_same_group, may_place_elsewhere, moves, raw_set, raw_set_of, members_with, pool_membership, primary_facts, has_osd, changed_devices, turned_devices, moves_all, changes_pool, changes_temp}
 use Rattle.pgp_ids.specs.Pool.{is_by_place}
-use Rattle.pgp_ids.specs.Osds.{first_osd}
-use Rattle.pgp_ids.specs.declared.incremental.DeviceEpoch.{DeviceEpoch}
-use Rattle.pgp_ids.specs.declared.incremental.Incremental.{Incremental}
 use Rattle.pgp_ids.specs.declared.incremental.TempList.{TempList}
-use Rattle.pgp_ids.specs.declared.membership.Membership.{Membership}
-use Rattle.pgp_ids.specs.declared.pg_id.PgId.{PgId}
-use Rattle.pgp_ids.specs.declared.pool.PoolSizes.{PoolSizes}
-use Rattle.pgp_ids.specs.declared.pool.PoolSpec.{PoolSpec}
-use Rattle.pgp_lists.proofs.Members.{Contains-first, Contains-later, contains-any, filter-contains, map-contains}
-use Rattle.pgp_lists.proofs.Options.{if_some}
-use Rattle.pgp_map.specs.Devices.{boots, takes_down, destroys, device, greatest_epoch, is_up}
-use Rattle.pgp_map.specs.MapFault.{map_fault, then_with}
-use Rattle.pgp_map.specs.Pools.{pool, temp, is_same_group, with_sizes}
-use Rattle.pgp_sets.specs.Sets.{may_place_elsewhere, moves, raw_set, raw_set_of, members_with, pool_membership}
 use Rattle.pgp_sets.proofs.RawSetLemmas.{unmoved-unplaced}
-use Rattle.pgp_group.specs.GroupHistory.{primary_facts}
-use Rattle.pgp_group.specs.Touched.{has_osd, changed_devices, turned_devices, moves_all, changes_pool, changes_temp}
 use Rattle.pgp_group.proofs.GrowthLemmas.{told-stays}
 use Rattle.pgp_group.proofs.Lists.{none-narrower, none-append, any-mapped, last_where-none, left_new, map-agree, filter-agree}
 
@@ -63,23 +43,7 @@ untold test inc osd none passes =
 
 -- such a device stays as it was
 device-stays : (incs : List Incremental) (inc : Incremental) (osd : ℕ) → IsUntold inc osd → device (then_with incs inc) osd ≡ device incs osd
-device-stays incs inc osd silent =
-    let changes : list_any (λ i. boots osd i || destroys osd i) (inc ∷ []) ≡ false = rw (silent.booted, silent.gone) refl in
-    let moves' : list_any (λ i. boots osd i || takes_down osd i || destroys osd i) (inc ∷ []) ≡ false = rw (silent.booted, silent.downed, silent.gone) refl in
-    let there = last_where-none (λ (i : Incremental). boots osd i || destroys osd i) incs (inc ∷ []) changes in
-    let up = last_where-none (λ (i : Incremental). boots osd i || takes_down osd i || destroys osd i) incs (inc ∷ []) moves' in
-    let from = left_new (boots osd) incs inc silent.booted in
-    let downs = left_new (takes_down osd) incs inc silent.downed in
-    let thru = told-stays (λ (told : DeviceEpoch). nat_eq told.osd osd) (λ (i : Incremental). i.up_thru) incs inc silent.thru in
-    let lost = told-stays (λ (told : DeviceEpoch). nat_eq told.osd osd) (λ (i : Incremental). i.lost) incs inc silent.lost in
-    λ i. record {
-      exists = option_map_or (boots osd) (there i) false;
-      is_up = option_map_or (boots osd) (up i) false;
-      up_from = greatest_epoch (from i);
-      down_at = greatest_epoch (downs i);
-      up_thru = option_map_or (λ told. told.epoch) (thru i) 0;
-      lost_at = option_map_or (λ told. told.epoch) (lost i) 0;
-    }
+device-stays incs inc osd silent = grind (arith, last_where-none, left_new, told-stays)
 
 pub same_device : (test : ℕ → Bool) (incs : List Incremental) (inc : Incremental) (osd : ℕ) → list_any test (changed_devices inc) ≡ false → test osd ≡ true → device (then_with incs inc) osd ≡ device incs osd
 same_device test incs inc osd none passes = device-stays incs inc osd (untold test inc osd none passes)
@@ -87,19 +51,12 @@ same_device test incs inc osd none passes = device-stays incs inc osd (untold te
 -- what the map says of it as a primary stays, where the incremental neither boots it nor tells of its up_thru
 pub facts-stay : (incs : List Incremental) (inc : Incremental) (osd : ℕ) → boots osd inc ≡ false → list_any (λ told. nat_eq told.osd osd) inc.up_thru ≡ false
     → primary_facts (then_with incs inc) (Some osd) ≡ primary_facts incs (Some osd)
-facts-stay incs inc osd booted untold' =
-    let from = left_new (boots osd) incs inc booted in
-    let thru = told-stays (λ (told : DeviceEpoch). nat_eq told.osd osd) (λ (i : Incremental). i.up_thru) incs inc untold' in
-    λ i. record { up_from = greatest_epoch (from i); up_thru = option_map_or (λ told. told.epoch) (thru i) 0 }
+facts-stay incs inc osd booted untold' = search (left_new, told-stays)
 
 -- ---- pools and pg_temp lists
 
 pub pool-same : (incs : List Incremental) (inc : Incremental) (id : ℕ) → changes_pool inc id ≡ false → pool (then_with incs inc) id ≡ pool incs id
-pool-same incs inc id none =
-    let parts = or_parts (list_any (λ made. nat_eq made.id id) inc.pools) (list_any (λ sizes. nat_eq sizes.pool id) inc.sizes) none in
-    let made = told-stays (λ (made : PoolSpec). nat_eq made.id id) (λ (i : Incremental). i.pools) incs inc parts.0 in
-    let sizes = told-stays (λ (sizes : PoolSizes). nat_eq sizes.pool id) (λ (i : Incremental). i.sizes) incs inc parts.1 in
-    λ i. option_map (with_sizes (sizes i)) (made i)
+pool-same incs inc id none = grind (arith, told-stays)
 
 pub temp-same : (incs : List Incremental) (inc : Incremental) (pg : PgId) → changes_temp inc pg ≡ false → temp (then_with incs inc) pg ≡ temp incs pg
 temp-same incs inc pg none = ap (λ (o : Option TempList). option_map_or (λ given. given.osds) o []) (told-stays (λ (given : TempList). is_same_group given.pg pg) (λ (i : Incremental). i.temp) incs inc none)
@@ -134,8 +91,7 @@ unfolding without
 without-same up now true places same =
     map-agree (λ (place : Option ℕ). if option_map_or now place false then place else None) (λ (place : Option ℕ). if option_map_or up place false then place else None) places
     (λ place there. ap (λ (b : Bool). if b then place else None) (up-same up now places same place there))
-without-same up now false places same = filter-agree (λ (place : Option ℕ). option_map_or now place false)
-    (λ (place : Option ℕ). option_map_or up place false) places (up-same up now places same)
+without-same up now false places same = search (filter-agree, up-same)
 
 -- its devices are those of the list
 without-there : (up : ℕ → Bool) (by_place : Bool) (places : List (Option ℕ)) (osd : ℕ) → Contains (without up by_place places) (Some osd) → Contains places (Some osd)
@@ -160,8 +116,7 @@ lies-same : (up now : ℕ → Bool) (made : PoolSpec) (raw given : List (Option 
     → lies now made raw given ≡ lies up made raw given
 unfolding lies
 lies-same up now made raw given placed chosen =
-    ap₂ (λ (p r : List (Option ℕ)). members_with made p (if nat_eq (length r) 0 then p else r))
-    (without-same up now (is_by_place made.kind) raw placed) (without-same up now (is_by_place made.kind) given chosen)
+    cc (without-same up now (is_by_place made.kind) raw placed, without-same up now (is_by_place made.kind) given chosen)
 
 -- the devices of acting stand in one of the two lists
 lies-there : (up : ℕ → Bool) (made : PoolSpec) (raw given : List (Option ℕ)) (osd : ℕ) → (lies up made raw given).acting_primary ≡ Some osd → (Contains raw (Some osd)) ⊎ (Contains given (Some osd))
@@ -180,10 +135,7 @@ RawSetsStay = (incs : List Incremental) (inc : Incremental) (pg : PgId) (places 
 
 -- an incremental that moves no group at large and leaves the pool alone moves none of the pool
 pub unmoved-pool : (inc : Incremental) (id : ℕ) → moves_all inc ≡ false → changes_pool inc id ≡ false → moves inc id ≡ false
-unmoved-pool inc id still own =
-    let large = or_parts (nat_lt 0 (length inc.weight)) (is_some inc.crush) still in
-    let sizes = or_parts (list_any (λ (made : PoolSpec). nat_eq made.id id) inc.pools) (list_any (λ (sizes : PoolSizes). nat_eq sizes.pool id) inc.sizes) own in
-    rw (large.1, large.0, sizes.1) refl
+unmoved-pool inc id still own = grind (arith, or_parts (nat_lt 0 (length inc.weight)) (is_some inc.crush) still)
 
 pub unplaced : (incs : List Incremental) (inc : Incremental) (pg : PgId) → moves_all inc ≡ false → changes_pool inc pg.pool ≡ false → may_place_elsewhere incs inc pg ≡ false
 unplaced incs inc pg still own = unmoved-unplaced incs inc pg (unmoved-pool inc pg.pool still own)
@@ -211,10 +163,7 @@ pub record UpsStay (incs : List Incremental) (inc : Incremental) (pg : PgId) (ma
   pub given : (osd : ℕ) → has_osd osd (temp incs pg) ≡ true → is_up (then_with incs inc) osd ≡ is_up incs osd
 
 pub ups-stay : (incs : List Incremental) (inc : Incremental) (pg : PgId) (made : PoolSpec) → DevicesStay incs inc pg made → UpsStay incs inc pg made
-ups-stay incs inc pg made stay = record {
-  placed = λ osd there. let dev = stay.placed osd there in λ i. (dev i).is_up;
-  given = λ osd there. let dev = stay.given osd there in λ i. (dev i).is_up;
-}
+ups-stay incs inc pg made stay = grind arith
 
 -- a device that passes the test, while none does that the incremental boots, takes down or destroys
 pub same_up : (test : ℕ → Bool) (incs : List Incremental) (inc : Incremental) (osd : ℕ) → list_any test (turned_devices inc) ≡ false → test osd ≡ true → is_up (then_with incs inc) osd ≡ is_up incs osd

@@ -1,32 +1,6 @@
 -- An entry that doesn't touch a group leaves its view as it was, except for count and epoch.
-use Rattle.std.proofs.Common.{◌≡◌, ℕ, List, [], ◌∷◌, ◌++◌, Option, Some, None, is_some, true, false, ◌||◌, nat_lt, length, map, refl, ap, sym, ◌∙◌, arith}
-use Rattle.std.specs.List.{filter, list_any}
-use Rattle.std.specs.Option.{option_map, option_map_or}
-use Rattle.std.proofs.lemmas.Bool.{or_parts}
-use Rattle.pgp_code.specs.AnyCode.{enough_of, is_by_place}
-use Rattle.pgp_code.specs.declared.any.AnyCode.{AnyCode}
-use Rattle.pgp_ids.specs.declared.entry.Entry.{Entry}
+use Rattle.pgp_group.proofs.Common.{◌≡◌, ℕ, List, [], ◌∷◌, ◌++◌, Option, Some, None, true, false, ◌||◌, length, map, refl, ap, sym, ◌∙◌, arith, filter, list_any, option_map, or_parts, enough_of, is_by_place, AnyCode, Entry, EpochState, PrimaryFacts, Incremental, PgId, PoolSpec, Info, Report, History, stepped, current_first, past_intervals, are_checked, device, epoch, map_fault, then_with, pool, has_group, is_same_group, membership, pool_membership, inc_of, incs_of, infos_of, reports_of, primary_facts, group_history, group_with, names, has_to_do_with, changed_devices, moves_all, changes_pool, changes_temp, is_touched, told_at, view_of, scratch}
 use Rattle.pgp_ids.specs.declared.entry.Entry.TheVariants as entry
-use Rattle.pgp_ids.specs.declared.history.EpochState.{EpochState}
-use Rattle.pgp_ids.specs.declared.history.PrimaryFacts.{PrimaryFacts}
-use Rattle.pgp_ids.specs.declared.incremental.Incremental.{Incremental}
-use Rattle.pgp_ids.specs.declared.pg_id.PgId.{PgId}
-use Rattle.pgp_ids.specs.declared.pool.PoolSpec.{PoolSpec}
-use Rattle.pgp_ids.specs.declared.report.Info.{Info}
-use Rattle.pgp_ids.specs.declared.report.Report.{Report}
-use Rattle.pgp_interval.specs.History.{History, stepped}
-use Rattle.pgp_interval.specs.Runs.{current_first, past_intervals}
-use Rattle.pgp_map.specs.Checked.{are_checked}
-use Rattle.pgp_map.specs.Devices.{device}
-use Rattle.pgp_map.specs.Map.{epoch}
-use Rattle.pgp_map.specs.MapFault.{map_fault, then_with}
-use Rattle.pgp_map.specs.Pools.{pool, has_group, is_same_group}
-use Rattle.pgp_sets.specs.Sets.{membership, pool_membership, raw_set}
-use Rattle.pgp_group.specs.Entries.{inc_of, incs_of, infos_of, reports_of}
-use Rattle.pgp_group.specs.GroupHistory.{primary_facts, group_history}
-use Rattle.pgp_group.specs.GroupLog.{cleans, group_in, group_with}
-use Rattle.pgp_group.specs.Touched.{has_osd, is_placed, names, has_to_do_with, changed_devices, moves_all, changes_pool, changes_temp, is_touched, told_at}
-use Rattle.pgp_group.specs.View.{view_of, scratch}
 use Rattle.pgp_group.proofs.GroupLemmas.{infos-other, infos-same, reports-other, reports-same}
 use Rattle.pgp_group.proofs.GrowthLemmas.{Shortens, EndsWell, checked-numbered, history-grows}
 use Rattle.pgp_group.proofs.HistoryLemmas.{history_if, history-current}
@@ -84,7 +58,6 @@ apart log inc pg untouched =
 pub devices-stay : (log : List Entry) (inc : Incremental) (pg : PgId) (made : PoolSpec) → IsApart log inc pg → pool (incs_of log) pg.pool ≡ Some made → DevicesStay (incs_of log) inc pg made
 devices-stay log inc pg made is there = record {
   placed = λ osd stands.
-      let placed : is_placed (incs_of log) pg osd ≡ true = ap (λ (o : Option PoolSpec). option_map_or (λ p. has_osd osd (raw_set (incs_of log) p pg)) o false) there ∙ stands in
       let near : has_to_do_with log pg osd ≡ true = grind arith in
       same_device (has_to_do_with log pg) (incs_of log) inc osd is.devices near;
   given = λ osd stands.
@@ -95,7 +68,6 @@ devices-stay log inc pg made is there = record {
 -- devices of which the group speaks
 named-stay : (log : List Entry) (inc : Incremental) (pg : PgId) (h : History AnyCode) (osd : ℕ) → IsApart log inc pg → group_history (incs_of log) pg ≡ Some h → names osd (group_with log pg h) ≡ true → device (then_with (incs_of log) inc) osd ≡ device (incs_of log) osd
 named-stay log inc pg h osd is there named =
-    let near' : option_map_or (names osd) (group_in log pg) false ≡ true = ap (λ (o : Option (History AnyCode)). option_map_or (names osd) (option_map (group_with log pg) o) false) there ∙ named in
     let near : has_to_do_with log pg osd ≡ true = grind arith in
     same_device (has_to_do_with log pg) (incs_of log) inc osd is.devices near
 
@@ -111,8 +83,7 @@ history-goes_on shorten fine raws log inc pg h made checked is there found =
     ap (option_map (pool_membership (then_with incs inc) pg)) (pool-same incs inc pg.pool is.left.pool ∙ found)
     ∙ ap Some (members-same raws incs inc pg made unrefused is.left found (ups-stay incs inc pg made (devices-stay log inc pg made is found)))
     ∙ ap (option_map (pool_membership incs pg)) (sym found) in
-    history-grows incs inc pg h (checked-numbered shorten fine incs (shorten incs (inc ∷ []) checked)) unrefused there
-    ∙ ap (option_map (λ members. stepped h members facts)) (stays ∙ history-current incs pg h there)
+    grind (arith, history-grows incs inc pg h (checked-numbered shorten fine incs (shorten incs (inc ∷ []) checked)) unrefused there, history-current incs pg h there)
 
 view-stays : Shortens → EndsWell → RawSetsStay → GoesOn → (log : List Entry) (inc : Incremental) (pg : PgId) (h : History AnyCode) → are_checked (then_with (incs_of log) inc) ≡ true → IsApart log inc pg
     → group_history (incs_of log) pg ≡ Some h → Stays log (entry.Inc inc) pg
@@ -129,8 +100,7 @@ view-stays shorten fine raws on log inc pg h checked is there =
     ap (λ (o : Option (History AnyCode)). option_map view_of (option_map (group_with (log ++ entry.Inc inc ∷ []) pg) o)) after
     ∙ ap Some (view-same log (log ++ entry.Inc inc ∷ []) pg h lived (record {
       first = on.first h facts;
-      past = ap (λ (l : List Info). past_intervals enough_of is_by_place (map (λ info. info.last_epoch_clean) l) (stepped h h.current facts)) (infos-same log (entry.Inc inc) pg refl)
-          ∙ on.past (cleans (group_with log pg h)) h facts;
+      past = grind (arith, infos-same log (entry.Inc inc) pg refl);
       infos = infos-same log (entry.Inc inc) pg refl;
       reports = reports-same log (entry.Inc inc) pg refl;
       named = λ osd named. ap (λ (l : List Incremental). device l osd) grown ∙ named-stay log inc pg h osd is there named;
@@ -142,15 +112,7 @@ view-stays shorten fine raws on log inc pg h checked is there =
 none-stays : (log : List Entry) (inc : Incremental) (pg : PgId) → IsApart log inc pg → group_history (incs_of log) pg ≡ None → Stays log (entry.Inc inc) pg
 none-stays log inc pg is none =
     let grown : incs_of (log ++ entry.Inc inc ∷ []) ≡ then_with (incs_of log) inc = one_new inc_of log (entry.Inc inc) inc refl in
-    let same : has_group (then_with (incs_of log) inc) pg ≡ has_group (incs_of log) pg = ap (λ (o : Option PoolSpec). option_map_or (λ made. nat_lt pg.pg made.pg_num) o false) (pool-same (incs_of log) inc pg.pool is.left.pool) in
-    let absent : is_some (group_history (then_with (incs_of log) inc) pg) ≡ false = history_there (then_with (incs_of log) inc) pg ∙ same ∙ sym (history_there (incs_of log) pg) ∙ ap is_some none in
-    ap (λ (l : List Incremental). option_map view_of (option_map (group_with (log ++ entry.Inc inc ∷ []) pg) (group_history l pg))) grown
-    ∙ ap (λ (o : Option (History AnyCode)). option_map view_of (option_map (group_with (log ++ entry.Inc inc ∷ []) pg) o)) (not_there (group_history (then_with (incs_of log) inc) pg) absent)
-    ∙ ap (λ (o : Option (History AnyCode)). option_map (told_at (length (log ++ entry.Inc inc ∷ [])) (epoch (incs_of (log ++ entry.Inc inc ∷ [])))) (option_map view_of (option_map (group_with log pg) o))) (sym none)
-  where
-    not_there : (found : Option (History AnyCode)) → is_some found ≡ false → found ≡ None
-    not_there None absent = refl
-    not_there (Some h) absent = cc
+    grind (arith, pool-same (incs_of log) inc pg.pool is.left.pool, history_there (then_with (incs_of log) inc) pg, history_there (incs_of log) pg)
 
 inc-stays : Shortens → EndsWell → RawSetsStay → GoesOn → (log : List Entry) (inc : Incremental) (pg : PgId) → are_checked (then_with (incs_of log) inc) ≡ true → is_touched log (entry.Inc inc) pg ≡ false → Stays log (entry.Inc inc) pg
 inc-stays shorten fine raws on log inc pg checked untouched = by_history (group_history (incs_of log) pg) refl
@@ -164,9 +126,6 @@ inc-stays shorten fine raws on log inc pg checked untouched = by_history (group_
 pub untouched-stays : Shortens → EndsWell → RawSetsStay → GoesOn → (log : List Entry) (new : Entry) (pg : PgId) → are_checked (incs_of (log ++ new ∷ [])) ≡ true → is_touched log new pg ≡ false → Stays log new pg
 untouched-stays shorten fine raws on log (entry.Inc inc) pg checked untouched =
     inc-stays shorten fine raws on log inc pg (sym (ap are_checked (one_new inc_of log (entry.Inc inc) inc refl)) ∙ checked) untouched
-untouched-stays shorten fine raws on log (entry.Info info) pg checked untouched =
-    quiet log (entry.Info info) pg refl (infos-other log info pg untouched) (reports-same log (entry.Info info) pg refl)
-untouched-stays shorten fine raws on log (entry.Entries report) pg checked untouched =
-    quiet log (entry.Entries report) pg refl (infos-same log (entry.Entries report) pg refl) (reports-other log report pg untouched)
-untouched-stays shorten fine raws on log entry.Close pg checked untouched =
-    quiet log entry.Close pg refl (infos-same log entry.Close pg refl) (reports-same log entry.Close pg refl)
+untouched-stays shorten fine raws on log (entry.Info info) pg checked untouched = search (quiet, infos-other, reports-same)
+untouched-stays shorten fine raws on log (entry.Entries report) pg checked untouched = search (quiet, infos-same, reports-other)
+untouched-stays shorten fine raws on log entry.Close pg checked untouched = search (quiet, infos-same, reports-same)

@@ -1,21 +1,7 @@
 -- What is known of any view.
-use Rattle.std.proofs.Common.{◌≡◌, List, Option, Some, None, Bool, true, false, is_some, nat_lt, refl, ◌∙◌, if◌then◌else◌}
-use Rattle.std.specs.Option.{option_map, option_map_or}
-use Rattle.pgp_code.specs.AnyCode.{is_by_place}
-use Rattle.pgp_code.specs.declared.any.AnyCode.{AnyCode}
-use Rattle.pgp_ids.specs.declared.entry.Entry.{Entry}
-use Rattle.pgp_ids.specs.declared.member.Member.{Member}
-use Rattle.pgp_ids.specs.declared.incremental.Incremental.{Incremental}
-use Rattle.pgp_ids.specs.declared.pg_id.PgId.{PgId}
-use Rattle.pgp_info.specs.Preference.{IsPreference, newest_first, oldest_first}
+use Rattle.pgp_group.proofs.Common.{◌≡◌, List, Option, Some, None, Bool, true, false, is_some, nat_lt, refl, ◌∙◌, if◌then◌else◌, option_map, option_map_or, is_by_place, AnyCode, Entry, Member, Incremental, PgId, IsPreference, newest_first, oldest_first, some_mapped, pool, has_group, incs_of, group_in, group_with, group_history, history_of, view_of, scratch}
 use Rattle.pgp_info.specs.PreferenceLaws.{newest_is_preference, oldest_is_preference}
-use Rattle.pgp_lists.proofs.Options.{some_mapped}
-use Rattle.pgp_map.specs.Pools.{pool, has_group}
-use Rattle.pgp_group.specs.Entries.{incs_of}
-use Rattle.pgp_group.specs.GroupLog.{group_in, group_with}
-use Rattle.pgp_group.specs.GroupHistory.{group_history, history_of}
 use Rattle.pgp_group.specs.Prefers.{prefers}
-use Rattle.pgp_group.specs.View.{view_of, scratch}
 
 pub prefers_is_preference : (c : AnyCode) (leader : Option Member) → IsPreference (prefers c leader)
 prefers_is_preference c leader = elim (is_by_place c) as (λ b. IsPreference (if b then oldest_first leader else newest_first leader)) [

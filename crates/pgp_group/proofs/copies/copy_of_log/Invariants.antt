@@ -1,4 +1,4 @@
-use Rattle.std.proofs.Common.{◌≡◌, take}
+use Rattle.pgp_group.proofs.Common.{◌≡◌, take}
 use Rattle.pgp_group.proofs.copies.copy_of_log.Given as goal
 
 abbrev pub invariant-loop-entry : goal.invariant-loop-entry

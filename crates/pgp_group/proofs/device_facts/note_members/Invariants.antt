@@ -1,8 +1,4 @@
-use Rattle.std.proofs.Common.{◌≡◌, ◌⊎◌, ℕ, true}
-use Rattle.std.specs.List.{Contains}
-use Rattle.pgp_ids.specs.declared.member.Member.{Member}
-use Rattle.pgp_prior.specs.Members.{members_of}
-use Rattle.pgp_group.specs.DeviceFacts.{has_noted, AreOfMap}
+use Rattle.pgp_group.proofs.Common.{◌≡◌, ◌⊎◌, ℕ, true, Contains, Member, members_of, has_noted, AreOfMap}
 use Rattle.pgp_group.proofs.device_facts.note_members.Given as goal
 
 -- each member is left, or noted

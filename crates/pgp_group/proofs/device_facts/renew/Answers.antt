@@ -1,5 +1,4 @@
-use Rattle.pgp_code.specs.AnyCode.{is_by_place}
-use Rattle.pgp_sets.specs.Status.{held_status}
+use Rattle.pgp_group.proofs.Common.{is_by_place, held_status}
 use Rattle.pgp_group.proofs.NotedLemmas.{raised, change-up, change-from_up}
 use Rattle.pgp_group.proofs.device_facts.renew.Goals as goal
 

@@ -1,14 +1,7 @@
-use Rattle.std.proofs.Common.{◌≡◌, ℕ, true, ◌+◌, ap, arith, get_or, set, subst, sym, take, ◌∙◌}
+use Rattle.pgp_group.proofs.Common.{◌≡◌, ℕ, true, ◌+◌, ap, arith, get_or, set, subst, sym, take, ◌∙◌, enough_of, is_by_place, IsChange, IsIndexOf, held_status, renoted, status_noted, allows, DeviceFacts}
 use Rattle.std.proofs.lemmas.List.Edits.{map_over_more}
-use Rattle.pgp_code.specs.AnyCode.{enough_of, is_by_place}
-use Rattle.pgp_prior.specs.Changes.{IsChange}
-use Rattle.pgp_prior.specs.IndexOf.{IsIndexOf}
-use Rattle.pgp_sets.specs.Status.{held_status}
-use Rattle.pgp_group.specs.DeviceFacts.{renoted, status_noted, allows}
-use Rattle.pgp_group.specs.declared.device_facts.DeviceFacts.{DeviceFacts}
-use Rattle.pgp_group.proofs.IndexLemmas.{index-agree}
+use Rattle.pgp_group.proofs.NotedLemmas.{index-agree, partly, partly-all, partly-change, partly-same}
 use Rattle.pgp_group.proofs.Lists.{under_way}
-use Rattle.pgp_group.proofs.NotedLemmas.{partly, partly-all, partly-change, partly-same}
 use Rattle.pgp_group.proofs.device_facts.renew_all.Goals as goal
 use Rattle.pgp_group.proofs.device_facts.renew_all.Goals.{then-not-is_same, else-not-is_same}
 

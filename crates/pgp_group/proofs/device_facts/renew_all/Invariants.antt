@@ -1,8 +1,4 @@
-use Rattle.std.proofs.Common.{◌≡◌, ◌++◌, take, drop}
-use Rattle.pgp_code.specs.AnyCode.{enough_of, is_by_place}
-use Rattle.pgp_code.specs.declared.any.AnyCode.{AnyCode}
-use Rattle.pgp_prior.specs.IndexOf.{Basis, IsIndexOf}
-use Rattle.pgp_group.specs.DeviceFacts.{renoted_all, GivesEach}
+use Rattle.pgp_group.proofs.Common.{◌≡◌, ◌++◌, take, drop, enough_of, is_by_place, AnyCode, Basis, IsIndexOf, renoted_all, GivesEach}
 use Rattle.pgp_group.proofs.NotedLemmas.{partly}
 use Rattle.pgp_group.proofs.device_facts.renew_all.Given as goal
 

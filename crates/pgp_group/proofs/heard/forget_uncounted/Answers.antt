@@ -1,12 +1,6 @@
-use Rattle.std.proofs.Common.{◌≡◌, ◌<◌, List, length, ap, subst, sym, ◌∙◌}
-use Rattle.std.specs.List.{Contains, filter}
-use Rattle.pgp_ids.specs.declared.report.Info.{Info}
-use Rattle.pgp_info.specs.Best.{HasDistinctMembers}
-use Rattle.pgp_info.specs.Heard.{Heard}
-use Rattle.pgp_info.proofs.BestLemmas.{distinct_without}
-use Rattle.pgp_info.specs.declared.preference.Preference.{Preference}
+use Rattle.pgp_group.proofs.Common.{◌<◌, List, length, ap, subst, sym, ◌∙◌, Contains, filter, Info, HasDistinctMembers, Heard, distinct_without, Preference}
 use Rattle.pgp_group.specs.KeptInfos.{counts}
-use Rattle.pgp_group.proofs.CountedLemmas.{passing-without, shorter-without}
+use Rattle.pgp_group.proofs.PeerLemmas.{passing-without, shorter-without}
 use Rattle.pgp_group.proofs.heard.forget_uncounted.Goals as goal
 
 pub loop-info-preserved : goal.loop-info-preserved
@@ -25,15 +19,6 @@ loop-info-preserved c =
                 ∙ was.1,
           );
     }
-
-pub returns : goal.returns
-returns c = λ g here distinct.
-    let now = c.loop-info.best in
-    let left = c.loop-info.invariant.left g here distinct in
-    let all : filter (counts g) now.infos ≡ now.infos =
-    subst (λ (l : List Info). filter (counts g) l ≡ l) c.infos.ensures (c.in_default.ensures.none g here) in
-    ap (λ (l : List Info). record now { infos = l }) (sym all ∙ left.1)
-    ∙ ap (λ (p : Preference). record { prefer = p; infos = filter (counts g) c.args.best.now.infos }) c.loop-info.invariant.prefer
 
 pub loop-info-smaller : goal.loop-info-smaller
 loop-info-smaller c =

@@ -1,9 +1,5 @@
-use Rattle.std.proofs.Common.{◌≡◌, length}
-use Rattle.std.specs.List.{filter}
-use Rattle.pgp_info.specs.Best.{HasDistinctMembers}
-use Rattle.pgp_group.specs.GroupLog.{GroupLog}
+use Rattle.pgp_group.proofs.Common.{◌≡◌, length, filter, HasDistinctMembers, GroupLog, IsPresent}
 use Rattle.pgp_group.specs.KeptInfos.{counts}
-use Rattle.pgp_group.specs.Present.{IsPresent}
 use Rattle.pgp_group.proofs.heard.forget_uncounted.Given as goal
 
 -- the infos that count are left

@@ -1,9 +1,5 @@
-use Rattle.std.proofs.Common.{◌≡◌, take}
-use Rattle.std.specs.List.{filter}
-use Rattle.pgp_info.specs.Heard.{with_infos}
-use Rattle.pgp_group.specs.GroupLog.{GroupLog}
+use Rattle.pgp_group.proofs.Common.{◌≡◌, take, filter, with_infos, GroupLog, IsPresent}
 use Rattle.pgp_group.specs.KeptInfos.{counts}
-use Rattle.pgp_group.specs.Present.{IsPresent}
 use Rattle.pgp_group.proofs.heard.hear.Given as goal
 
 abbrev pub invariant-loop-info : goal.invariant-loop-info

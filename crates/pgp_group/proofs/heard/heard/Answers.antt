@@ -1,8 +1,4 @@
-use Rattle.std.proofs.Common.{List, [], ap, ◌∙◌}
-use Rattle.std.specs.List.{filter}
-use Rattle.pgp_ids.specs.declared.report.Info.{Info}
-use Rattle.pgp_info.specs.Heard.{Heard, with_infos}
-use Rattle.pgp_info.specs.declared.preference.Preference.{Preference}
+use Rattle.pgp_group.proofs.Common.{List, [], ap, ◌∙◌, filter, Info, Heard, with_infos, Preference}
 use Rattle.pgp_group.specs.KeptInfos.{counts}
 use Rattle.pgp_group.proofs.InfosLemmas.{with_infos-last}
 use Rattle.pgp_group.proofs.heard.heard.Goals as goal

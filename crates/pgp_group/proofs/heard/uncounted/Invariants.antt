@@ -1,8 +1,5 @@
-use Rattle.std.proofs.Common.{◌≡◌, take}
-use Rattle.std.specs.List.{filter}
-use Rattle.pgp_group.specs.GroupLog.{GroupLog}
+use Rattle.pgp_group.proofs.Common.{◌≡◌, take, filter, GroupLog, IsPresent}
 use Rattle.pgp_group.specs.KeptInfos.{counts}
-use Rattle.pgp_group.specs.Present.{IsPresent}
 use Rattle.pgp_group.proofs.heard.uncounted.Given as goal
 
 -- the infos so far count

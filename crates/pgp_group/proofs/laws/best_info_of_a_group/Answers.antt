@@ -1,6 +1,4 @@
-use Rattle.pgp_info.proofs.BestLemmas.{best_info-IsBest, IsBest-best_info, best_info-none, none-best_info}
-use Rattle.pgp_group.specs.Heard.{counted_infos, heard}
-use Rattle.pgp_group.specs.Peering.{leader}
+use Rattle.pgp_group.proofs.Common.{best_info-IsBest, IsBest-best_info, best_info-none, none-best_info, counted_infos, heard, leader, arith}
 use Rattle.pgp_group.specs.Prefers.{prefers}
 use Rattle.pgp_group.proofs.HeardLemmas.{HasDistinctMembers-last_of}
 use Rattle.pgp_group.proofs.ViewLemmas.{prefers_is_preference}
@@ -8,7 +6,7 @@ use Rattle.pgp_group.proofs.laws.best_info_of_a_group.Goals as goal
 
 pub returns-clause-best : goal.returns-clause-best
 returns-clause-best c = λ g info. (
-  best_info-IsBest (prefers g.history.code (leader g)) (heard g) info,
+  grind (arith, best_info-IsBest (prefers g.history.code (leader g)) (heard g) info),
   IsBest-best_info (prefers g.history.code (leader g)) (prefers_is_preference g.history.code (leader g)) (heard g) (HasDistinctMembers-last_of (counted_infos g)) info,
 )
 

@@ -1,4 +1,4 @@
-use Rattle.pgp_group.specs.Heard.{counted_infos}
+use Rattle.pgp_group.proofs.Common.{counted_infos}
 use Rattle.pgp_group.proofs.HeardLemmas.{HasDistinctMembers-last_of, last_of-IsLastOfMember, IsLastOfMember-last_of}
 use Rattle.pgp_group.proofs.laws.each_heard_info_is_the_last_of_its_member.Goals as goal
 

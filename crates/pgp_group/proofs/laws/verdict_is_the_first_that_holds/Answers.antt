@@ -1,4 +1,4 @@
-use Rattle.pgp_group.proofs.VerdictLemmas.{IsFirstCause-verdict, verdict-IsFirstCause}
+use Rattle.pgp_group.proofs.FoundLemmas.{IsFirstCause-verdict, verdict-IsFirstCause}
 use Rattle.pgp_group.proofs.laws.verdict_is_the_first_that_holds.Goals as goal
 
 pub returns-clause-first : goal.returns-clause-first

@@ -1,7 +1,4 @@
-use Rattle.std.proofs.Common.{◌++◌, List, subst, sym, take}
-use Rattle.std.proofs.lemmas.List.{take_all}
-use Rattle.pgp_ids.specs.declared.log_entry.LogEntry.{LogEntry}
-use Rattle.pgp_missing.specs.Kept.{IsLogOf}
+use Rattle.pgp_group.proofs.Common.{◌++◌, List, subst, sym, take, take_all, LogEntry, IsLogOf}
 use Rattle.pgp_group.proofs.Lists.{append-next}
 use Rattle.pgp_group.proofs.logs.add_all.Goals as goal
 

@@ -1,12 +1,5 @@
-use Rattle.std.proofs.Common.{◌≡◌, ◌+◌, ◌++◌, [], ◌∷◌, List, None, ap, ap₂, map, sym, take, ◌∙◌, if◌then◌else◌}
-use Rattle.std.specs.Option.{option_copied}
-use Rattle.std.proofs.lemmas.List.{map_push}
-use Rattle.pgp_ids.specs.Member.{is_same_member}
-use Rattle.pgp_ids.specs.declared.member.Member.{Member}
-use Rattle.pgp_ids.specs.declared.peer.PeerMissing.{PeerMissing}
-use Rattle.pgp_ids.specs.declared.report.Info.{Info}
-use Rattle.pgp_missing.specs.Missing.{peer_state}
-use Rattle.pgp_group.specs.Peering.{info_of, others_heard}
+use Rattle.pgp_group.proofs.Common.{◌≡◌, ◌+◌, ◌++◌, [], ◌∷◌, List, None, ap, ap₂, map, sym, take, ◌∙◌, if◌then◌else◌, option_copied, map_push, is_same_member, Member, PeerMissing, Info, peer_state, others_heard}
+use Rattle.pgp_group.specs.Peering.{info_of}
 use Rattle.pgp_group.proofs.PeerLemmas.{others-one, others-none}
 use Rattle.pgp_group.proofs.peers.states.Goals as goal
 use Rattle.pgp_group.proofs.peers.states.Goals.{in-Some+in_ok-state_of-in-Some+in_ok-push-in-Some, in-None}

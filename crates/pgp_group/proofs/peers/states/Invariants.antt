@@ -1,9 +1,4 @@
-use Rattle.std.proofs.Common.{◌≡◌, List, map, take}
-use Rattle.pgp_ids.specs.declared.log_entry.LogEntry.{LogEntry}
-use Rattle.pgp_ids.specs.declared.report.Info.{Info}
-use Rattle.pgp_missing.specs.Kept.{IsLogOf}
-use Rattle.pgp_missing.specs.Missing.{peer_state}
-use Rattle.pgp_group.specs.Peering.{others_heard}
+use Rattle.pgp_group.proofs.Common.{◌≡◌, List, map, take, LogEntry, Info, IsLogOf, peer_state, others_heard}
 use Rattle.pgp_group.proofs.peers.states.Given as goal
 
 abbrev pub invariant-loop-member : goal.invariant-loop-member

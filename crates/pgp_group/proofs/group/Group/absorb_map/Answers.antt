@@ -1,11 +1,4 @@
-use Rattle.std.proofs.Common.{◌≡◌, Some, subst, ap, sym, ◌∙◌}
-use Rattle.std.specs.Option.{option_map}
-use Rattle.std.proofs.lemmas.Result.{on_ok_weaker}
-use Rattle.pgp_ids.specs.declared.pg_id.PgId.{PgId}
-use Rattle.pgp_map.specs.MapFault.{then_with}
-use Rattle.pgp_sets.specs.Sets.{membership}
-use Rattle.pgp_group.specs.Entries.{incs_of}
-use Rattle.pgp_group.specs.GroupHistory.{primary_facts}
+use Rattle.pgp_group.proofs.Common.{◌≡◌, Some, subst, ap, sym, ◌∙◌, option_map, on_ok_weaker, PgId, then_with, membership, incs_of, primary_facts}
 use Rattle.pgp_group.proofs.group.Group.absorb_map.Goals as goal
 
 pub returns-clause-ok : goal.returns-clause-ok

@@ -1,25 +1,4 @@
-use Rattle.std.proofs.Common.{◌≡◌, ◌≢◌, ◌||◌, ℕ, List, [], ◌∷◌, Option, Some, false, nat_eq, ap, refl, subst, sym, ◌∙◌}
-use Rattle.std.specs.List.{list_any}
-use Rattle.std.specs.Option.{option_map}
-use Rattle.std.proofs.lemmas.Bool.{true≢false}
-use Rattle.std.proofs.lemmas.Option.{same_Some}
-use Rattle.pgp_code.specs.AnyCode.{enough_of, is_by_place}
-use Rattle.pgp_code.specs.declared.any.AnyCode.{AnyCode}
-use Rattle.pgp_ids.specs.declared.entry.Entry.{Entry}
-use Rattle.pgp_ids.specs.declared.history.PrimaryFacts.{PrimaryFacts}
-use Rattle.pgp_ids.specs.declared.membership.Membership.{Membership}
-use Rattle.pgp_ids.specs.declared.pg_id.PgId.{PgId}
-use Rattle.pgp_interval.specs.History.{History, stepped}
-use Rattle.pgp_interval.specs.IntervalsOf.{IsIntervalsOf}
-use Rattle.pgp_interval.specs.SameMembers.{is_same}
-use Rattle.pgp_interval.proofs.Same.{is_same-eq, eq-is_same}
-use Rattle.pgp_sets.specs.Sets.{membership}
-use Rattle.pgp_group.specs.Entries.{incs_of}
-use Rattle.pgp_group.specs.GroupHistory.{primary_facts}
-use Rattle.pgp_group.specs.GroupLog.{cleans, group_with}
-use Rattle.pgp_group.specs.GroupOf.{IsGroupOf}
-use Rattle.pgp_group.specs.Touched.{has_osd}
-use Rattle.pgp_group.specs.declared.group.Group.{Group}
+use Rattle.pgp_group.proofs.Common.{◌≡◌, ◌≢◌, ◌||◌, ℕ, List, [], ◌∷◌, Option, Some, false, nat_eq, ap, refl, subst, sym, ◌∙◌, list_any, option_map, true≢false, same_Some, enough_of, is_by_place, AnyCode, Entry, PrimaryFacts, Membership, PgId, History, stepped, IsIntervalsOf, is_same, is_same-eq, eq-is_same, membership, incs_of, primary_facts, cleans, group_with, IsGroupOf, has_osd, Group, arith}
 use Rattle.pgp_group.proofs.GroupLemmas.{on_err, IsGroupOf-inc, IsGroupOf-same, names-end, names-stay}
 use Rattle.pgp_group.proofs.HistoryLemmas.{history-current}
 use Rattle.pgp_group.proofs.group.Group.absorb_members.Goals as goal
@@ -78,11 +57,9 @@ returns-in_err-step-clause-err c =
 pub returns-in_err-make_room-clause-wants : goal.returns-in_err-make_room-clause-wants
 returns-in_err-make_room-clause-wants c =
     on_err c.from_residual.result _
-    (elsewhere c.args.self.now c.args.members c.current-current.result.1
-    (sym c.is_same.ensures ∙ c.if-is_same.false) c.current-current.ensures.members)
+    (grind (arith, elsewhere c.args.self.now c.args.members c.current-current.result.1 (sym c.is_same.ensures ∙ c.if-is_same.false) c.current-current.ensures.members))
 
 pub returns-in_err-step-clause-wants : goal.returns-in_err-step-clause-wants
 returns-in_err-step-clause-wants c =
     on_err c.from_residual-in_err-step.result _
-    (elsewhere c.args.self.now c.args.members c.current-current.result.1
-    (sym c.is_same.ensures ∙ c.if-is_same.false) c.current-current.ensures.members)
+    (grind (arith, elsewhere c.args.self.now c.args.members c.current-current.result.1 (sym c.is_same.ensures ∙ c.if-is_same.false) c.current-current.ensures.members))

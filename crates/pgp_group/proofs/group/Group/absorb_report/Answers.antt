@@ -1,10 +1,7 @@
-use Rattle.std.proofs.Common.{◌++◌, [], ◌∷◌, ap, refl, subst, sym}
-use Rattle.std.proofs.lemmas.Result.{on_ok_weaker}
-use Rattle.pgp_ids.specs.declared.entry.Entry.{Entry}
+use Rattle.pgp_group.proofs.Common.{◌++◌, [], ◌∷◌, ap, refl, subst, sym, on_ok_weaker, Entry, IsGroupOf}
 use Rattle.pgp_ids.specs.declared.entry.Entry.TheVariants as entry
 use Rattle.pgp_group.specs.Entries.{info_of}
-use Rattle.pgp_group.specs.GroupOf.{IsGroupOf}
-use Rattle.pgp_group.proofs.GroupLemmas.{IsGroupOf-other, infos-kept, infos-same, names-kept, reports-kept, reports-same, no_map}
+use Rattle.pgp_group.proofs.GroupLemmas.{IsGroupOf-other, infos-kept, infos-same, names-kept, reports-kept, reports-same}
 use Rattle.pgp_group.proofs.group.Group.absorb_report.Goals as goal
 
 pub returns-in-Info-clause-ok : goal.returns-in-Info-clause-ok
@@ -17,9 +14,6 @@ pub returns-in-Entries-clause-ok : goal.returns-in-Entries-clause-ok
 returns-in-Entries-clause-ok c = on_ok_weaker c.keep_report.result (λ given log pg none past is.
     subst (λ (e : Entry). IsGroupOf (log ++ e ∷ []) pg c.keep_report.new.self) (sym c.in-Entries.is)
     (given log pg is)) c.keep_report.ensures.ok
-
-pub returns-in-Inc-clause-ok : goal.returns-in-Inc-clause-ok
-returns-in-Inc-clause-ok c = λ log pg none past is. no_map c.args.entry.now _ c.in-Inc.is none
 
 pub returns-in-Close-clause-ok : goal.returns-in-Close-clause-ok
 returns-in-Close-clause-ok c = λ log pg none past is.

@@ -1,4 +1,4 @@
-use Rattle.pgp_group.specs.Entries.{incs_of}
+use Rattle.pgp_group.proofs.Common.{incs_of}
 use Rattle.pgp_group.proofs.group.Group.begin.Goals as goal
 
 pub returns : goal.returns

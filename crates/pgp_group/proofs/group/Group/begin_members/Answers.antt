@@ -1,9 +1,4 @@
-use Rattle.std.proofs.Common.{ℕ, [], refl, subst, sym, ◌∙◌}
-use Rattle.pgp_code.specs.AnyCode.{enough_of, is_by_place}
-use Rattle.pgp_code.specs.Pool.{code_of}
-use Rattle.pgp_interval.specs.History.{begun}
-use Rattle.pgp_interval.specs.IntervalsOf.{IsIntervalsOf}
-use Rattle.pgp_group.specs.Entries.{incs_of}
+use Rattle.pgp_group.proofs.Common.{ℕ, [], refl, subst, sym, ◌∙◌, enough_of, is_by_place, code_of, begun, IsIntervalsOf, incs_of}
 use Rattle.pgp_group.proofs.GroupLemmas.{IsGroupOf-begun}
 use Rattle.pgp_group.proofs.group.Group.begin_members.Goals as goal
 

@@ -1,10 +1,4 @@
-use Rattle.std.proofs.Common.{◌≡◌, Some, ap, subst, sym, ◌∙◌}
-use Rattle.std.specs.Option.{option_copied}
-use Rattle.std.proofs.lemmas.Result.{IfOk-weaker}
-use Rattle.pgp_missing.specs.Kept.{IsLogOf}
-use Rattle.pgp_group.specs.Heard.{reported}
-use Rattle.pgp_group.specs.KeptReports.{log_of}
-use Rattle.pgp_group.specs.Peering.{best}
+use Rattle.pgp_group.proofs.Common.{◌≡◌, Some, ap, subst, sym, ◌∙◌, option_copied, IfOk-weaker, IsLogOf, reported, log_of, best}
 use Rattle.pgp_group.proofs.FoundLemmas.{best-is, log-there}
 use Rattle.pgp_group.proofs.group.Group.found.Goals as goal
 

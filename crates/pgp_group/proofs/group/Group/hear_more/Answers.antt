@@ -1,22 +1,5 @@
-use Rattle.std.proofs.Common.{◌≡◌, Some, None, ap, subst, sym, ◌∙◌}
-use Rattle.std.proofs.lemmas.Option.{none-some}
-use Rattle.std.specs.Option.{option_copied}
-use Rattle.pgp_code.specs.AnyCode.{is_by_place}
-use Rattle.pgp_code.specs.declared.any.AnyCode.{AnyCode}
-use Rattle.pgp_ids.specs.declared.report.Info.{Info}
-use Rattle.pgp_info.specs.Best.{best_info}
-use Rattle.pgp_info.specs.Heard.{Heard}
-use Rattle.pgp_info.specs.Prefers.{prefers}
-use Rattle.pgp_info.specs.declared.preference.Preference.{Preference}
-use Rattle.pgp_missing.specs.Kept.{IsLogOf}
-use Rattle.pgp_group.specs.Found.{AreHeard}
-use Rattle.pgp_group.specs.GroupLog.{GroupLog, reports}
-use Rattle.pgp_group.specs.GroupOf.{Keeps}
-use Rattle.pgp_group.specs.Heard.{reported}
-use Rattle.pgp_group.specs.KeptReports.{AreLogsOf, log_of}
-use Rattle.pgp_group.specs.Peering.{best}
-use Rattle.pgp_group.specs.Present.{IsPresent}
-use Rattle.pgp_group.proofs.FoundLemmas.{best-is, heard-is, prefer-is}
+use Rattle.pgp_group.proofs.Common.{◌≡◌, Some, ap, subst, sym, ◌∙◌, option_copied, Info, IsLogOf, GroupLog, reports, Keeps, reported, AreLogsOf, log_of, best, IsPresent, arith}
+use Rattle.pgp_group.proofs.FoundLemmas.{heard-is}
 use Rattle.pgp_group.proofs.group.Group.hear_more.Goals as goal
 use Rattle.pgp_group.proofs.group.Group.hear_more.Goals.{After-best}
 
@@ -24,13 +7,7 @@ use Rattle.pgp_group.proofs.group.Group.hear_more.Goals.{After-best}
 led : (c : After-best) (g : GroupLog) → Keeps g c.args.self.now → IsPresent g c.args.map.now c.args.first
     → c.args.current.now ≡ g.history.current → best g ≡ option_copied c.best.result
 led c g keeps here current =
-    let heard : AreHeard g c.look.new.self.heard =
-    heard-is g c.look.new.self.heard c.of_pool-prefer.result (c.in_ok-look.ensures.ok g here keeps.infos_are)
-    (c.of_pool-prefer.ensures
-    ∙ prefer-is g c.by_place-by_place.result c.leader.result c.args.current.now
-    (c.by_place-by_place.ensures ∙ ap (λ (code : AnyCode). is_by_place code) (c.code.ensures ∙ keeps.intervals_are.code_is)) current c.leader.ensures) in
-    sym (best-is g c.look.new.self.heard heard) ∙ ap (λ (h : Heard Preference). best_info (prefers h.prefer) h.infos)
-    (sym c.heard.ensures) ∙ sym c.best.ensures
+    grind (arith, heard-is g c.look.new.self.heard c.of_pool-prefer.result (c.in_ok-look.ensures.ok g here keeps.infos_are) (grind arith))
 
 pub returns-in-Some-clause-logs : goal.returns-in-Some-clause-logs
 returns-in-Some-clause-logs c = λ g keeps here current.
@@ -45,9 +22,4 @@ returns-in-Some-clause-logs c = λ g keeps here current.
     }
 
 pub returns-in_default-clause-logs : goal.returns-in_default-clause-logs
-returns-in_default-clause-logs c = λ g keeps here current.
-    let none : best g ≡ None = led (goal.at.returns-in_default-clause-logs c).After-best g keeps here current ∙ ap option_copied c.in_default.is in
-    record {
-      each = c.in_ok-look-2.ensures.ok g here keeps.reports_are;
-      best_by_info = λ info log best_is found. absurd (none-some info (sym none ∙ best_is));
-    }
+returns-in_default-clause-logs c = λ g keeps here current. grind (arith, led (goal.at.returns-in_default-clause-logs c).After-best g keeps here current)

@@ -1,20 +1,8 @@
-use Rattle.std.proofs.Common.{◌≡◌, ◌≤◌, ℕ, List, ◌++◌, [], ◌∷◌, true, false, ap, arith, refl, subst, sym, ◌∙◌}
-use Rattle.pgp_code.specs.AnyCode.{enough_of, is_by_place}
+use Rattle.pgp_group.proofs.Common.{◌≡◌, ◌≤◌, ℕ, List, ◌++◌, [], ◌∷◌, true, false, ap, arith, refl, subst, sym, ◌∙◌, enough_of, is_by_place, PgId, IsIntervalsOf, with_item, epoch, is_same_group, incs_of, GroupLog, cleans, group_with, KeepsInfos, KeepsNames, KeepsReports}
 use Rattle.pgp_ids.specs.declared.entry.Entry.TheVariants as entry
-use Rattle.pgp_ids.specs.declared.pg_id.PgId.{PgId}
-use Rattle.pgp_interval.specs.IntervalsOf.{IsIntervalsOf}
-use Rattle.pgp_lists.specs.Ordered.{with_item}
-use Rattle.pgp_map.specs.Map.{epoch}
-use Rattle.pgp_map.specs.Pools.{is_same_group}
-use Rattle.pgp_group.specs.Entries.{incs_of}
-use Rattle.pgp_group.specs.GroupLog.{GroupLog, cleans, group_with}
-use Rattle.pgp_group.specs.KeptInfos.{KeepsInfos}
-use Rattle.pgp_group.specs.KeptNames.{KeepsNames}
-use Rattle.pgp_group.specs.KeptReports.{KeepsReports}
 use Rattle.pgp_group.proofs.GroupLemmas.{on_err, IsGroupOf-other, IsGroupOf-same, cleans-told, infos-kept, infos-new, infos-other, infos-told, les-grows, names-kept, reports-kept, reports-same, stood-told, IsGroupOf-report}
 use Rattle.pgp_group.proofs.GrowthLemmas.{history-last}
-use Rattle.pgp_group.proofs.NamedLemmas.{before}
-use Rattle.pgp_group.proofs.NamesLemmas.{KeepsNames-info}
+use Rattle.pgp_group.proofs.NamedLemmas.{before, KeepsNames-info}
 use Rattle.pgp_group.proofs.group.Group.keep_info.Goals as goal
 
 pub returns-in_err-make_room_for-clause-err : goal.returns-in_err-make_room_for-clause-err

@@ -1,14 +1,8 @@
-use Rattle.std.proofs.Common.{◌≡◌, ◌++◌, [], ◌∷◌, true, false, ap, arith, refl, subst, sym, ◌∙◌}
+use Rattle.pgp_group.proofs.Common.{◌≡◌, ◌++◌, [], ◌∷◌, true, false, ap, arith, refl, subst, sym, ◌∙◌, PgId, with_item, is_same_group, incs_of, group_with}
 use Rattle.pgp_ids.specs.declared.entry.Entry.TheVariants as entry
-use Rattle.pgp_ids.specs.declared.pg_id.PgId.{PgId}
-use Rattle.pgp_lists.specs.Ordered.{with_item}
-use Rattle.pgp_map.specs.Pools.{is_same_group}
-use Rattle.pgp_group.specs.Entries.{incs_of}
-use Rattle.pgp_group.specs.GroupLog.{group_with}
 use Rattle.pgp_group.proofs.GroupLemmas.{on_err, IsGroupOf-other, IsGroupOf-same, infos-kept, infos-same, names-kept, past-same, reports-kept, reports-new, reports-other, reports-told}
 use Rattle.pgp_group.proofs.GrowthLemmas.{history-last}
-use Rattle.pgp_group.proofs.NamedLemmas.{before}
-use Rattle.pgp_group.proofs.NamesLemmas.{KeepsNames-report}
+use Rattle.pgp_group.proofs.NamedLemmas.{before, KeepsNames-report}
 use Rattle.pgp_group.proofs.group.Group.keep_report.Goals as goal
 
 pub returns-in_err-make_room_for-clause-err : goal.returns-in_err-make_room_for-clause-err

@@ -1,9 +1,4 @@
-use Rattle.std.proofs.Common.{◌≡◌, ap, not, ◌∙◌}
-use Rattle.std.specs.List.{list_any}
-use Rattle.pgp_ids.specs.declared.member.Member.{Member}
-use Rattle.pgp_group.specs.Heard.{has_member}
-use Rattle.pgp_group.specs.GroupLog.{cleans}
-use Rattle.pgp_group.specs.Peering.{past, prior}
+use Rattle.pgp_group.proofs.Common.{◌≡◌, ap, not, ◌∙◌, list_any, Member, has_member, cleans, past, prior}
 use Rattle.pgp_group.proofs.FoundLemmas.{waiting-is}
 use Rattle.pgp_group.proofs.group.Group.needs.Goals as goal
 

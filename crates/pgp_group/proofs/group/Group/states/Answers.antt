@@ -1,6 +1,4 @@
-use Rattle.std.proofs.Common.{◌≡◌, true, map, sym, ◌∙◌}
-use Rattle.pgp_group.specs.Heard.{reported}
-use Rattle.pgp_group.specs.Peering.{has_whole_log, others_heard, peer_missing, present_members}
+use Rattle.pgp_group.proofs.Common.{◌≡◌, true, map, sym, ◌∙◌, reported, has_whole_log, others_heard, peer_missing, present_members}
 use Rattle.pgp_group.proofs.FoundLemmas.{present-is, states-whole}
 use Rattle.pgp_group.proofs.group.Group.states.Goals as goal
 

@@ -1,7 +1,4 @@
-use Rattle.std.proofs.Common.{[], ◌∷◌, arith, refl, ◌∙◌}
-use Rattle.pgp_group.specs.Entries.{incs_of}
-use Rattle.pgp_group.specs.GroupHistory.{primary_facts}
-use Rattle.pgp_group.specs.GroupLog.{cleans, group_with}
+use Rattle.pgp_group.proofs.Common.{[], ◌∷◌, arith, refl, ◌∙◌, incs_of, primary_facts, cleans, group_with}
 use Rattle.pgp_group.proofs.GroupLemmas.{IsGroupOf-inc, names-stay}
 use Rattle.pgp_group.proofs.GrowthLemmas.{history-last, next_epoch}
 use Rattle.pgp_group.proofs.HistoryLemmas.{history-current}

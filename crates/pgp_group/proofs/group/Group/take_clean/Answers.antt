@@ -1,12 +1,4 @@
-use Rattle.std.proofs.Common.{◌≡◌, ℕ, [], ◌∷◌, ◌++◌, append-nil, ap, sym, ◌∙◌}
-use Rattle.pgp_code.specs.AnyCode.{enough_of, is_by_place}
-use Rattle.pgp_code.specs.declared.any.AnyCode.{AnyCode}
-use Rattle.pgp_ids.specs.Past.{raised_at}
-use Rattle.pgp_interval.specs.History.{History}
-use Rattle.pgp_interval.specs.IntervalsOf.{Running, IsIntervalsOf}
-use Rattle.pgp_interval.specs.Runs.{past_intervals}
-use Rattle.pgp_group.specs.GroupLog.{GroupLog, cleans}
-use Rattle.pgp_group.specs.Peering.{past}
+use Rattle.pgp_group.proofs.Common.{◌≡◌, ℕ, [], ◌∷◌, ◌++◌, append-nil, ap, sym, ◌∙◌, enough_of, is_by_place, AnyCode, History, Running, IsIntervalsOf, past_intervals, GroupLog, cleans, past, arith}
 use Rattle.pgp_group.proofs.PriorLemmas.{KeepsPrior-grown}
 use Rattle.pgp_group.proofs.group.Group.take_clean.Goals as goal
 
@@ -18,11 +10,9 @@ taken g after epoch now same told is = (λ i. past_intervals enough_of is_by_pla
 pub returns-in-Some-clause-prior : goal.returns-in-Some-clause-prior
 returns-in-Some-clause-prior c = λ g after known are same told rises is.
     c.raise.ensures g after (ap (λ (h : History AnyCode). h.code) same)
-    (taken g after c.args.epoch c.clean.new.self same told (c.clean.ensures.history g.history (cleans g) are)
-    ∙ c.in-Some.ensures.raised ∙ ap (raised_at c.in-Some.place) are.past_are) rises is
+    (grind (arith, taken g after c.args.epoch c.clean.new.self same told (c.clean.ensures.history g.history (cleans g) are))) rises is
 
 pub returns-in_default-clause-prior : goal.returns-in_default-clause-prior
 returns-in_default-clause-prior c = λ g after known are same told rises is.
     KeepsPrior-grown g after c.args.self.now.reckoned [] (ap (λ (h : History AnyCode). h.code) same)
-    (taken g after c.args.epoch c.clean.new.self same told (c.clean.ensures.history g.history (cleans g) are)
-    ∙ c.in_default.ensures.none ∙ are.past_are ∙ sym (append-nil (past g))) rises is
+    (grind (arith, taken g after c.args.epoch c.clean.new.self same told (c.clean.ensures.history g.history (cleans g) are), append-nil (past g))) rises is

@@ -1,5 +1,4 @@
-use Rattle.std.proofs.Common.{◌∙◌}
-use Rattle.pgp_group.specs.GroupLog.{GroupLog, cleans, group_with}
+use Rattle.pgp_group.proofs.Common.{◌∙◌, GroupLog, cleans, group_with}
 use Rattle.pgp_group.proofs.GroupLemmas.{IsGroupOf-reckoned, IsGroupOf-kept}
 use Rattle.pgp_group.proofs.group.Group.view.Goals as goal
 

@@ -1,11 +1,6 @@
-use Rattle.std.proofs.Common.{ap, refl}
-use Rattle.pgp_info.specs.Heard.{Heard}
-use Rattle.pgp_info.specs.declared.preference.Preference.{Preference}
+use Rattle.pgp_group.proofs.Common.{ap, refl, Heard, Preference}
 use Rattle.pgp_group.proofs.InfosLemmas.{KeepsInfos-heard}
 use Rattle.pgp_group.proofs.infos.Infos.hear_anew.Goals as goal
-
-pub returns-clause-ok : goal.returns-clause-ok
-returns-clause-ok c = λ g here is. c.in_ok-heard.ensures g here is
 
 pub returns-clause-kept : goal.returns-clause-kept
 returns-clause-kept c = λ g here is.

@@ -1,21 +1,7 @@
-use Rattle.std.proofs.Common.{◌≡◌, ◌≤◌, List, false, length, drop, ap, ap₂, subst, sym, ◌∙◌}
-use Rattle.std.specs.List.{filter}
-use Rattle.pgp_ids.specs.declared.report.Info.{Info}
-use Rattle.pgp_info.specs.Heard.{Heard, with_infos}
-use Rattle.pgp_info.specs.declared.preference.Preference.{Preference}
-use Rattle.pgp_group.specs.GroupLog.{infos}
-use Rattle.pgp_group.specs.Heard.{last_of_each_member}
+use Rattle.pgp_group.proofs.Common.{◌≡◌, ◌≤◌, List, false, length, drop, ap, ap₂, subst, sym, ◌∙◌, filter, Info, Heard, with_infos, Preference, infos, last_of_each_member}
 use Rattle.pgp_group.specs.KeptInfos.{counts}
-use Rattle.std.proofs.lemmas.Result.{IfOk-weaker}
 use Rattle.pgp_group.proofs.InfosLemmas.{heard-more}
 use Rattle.pgp_group.proofs.infos.Infos.heard_by.Goals as goal
-
-pub returns-then-self : goal.returns-then-self
-returns-then-self c =
-    let by : List Info → Heard Preference = λ l. record { prefer = c.args.prefer; infos = l } in
-    IfOk-weaker c.heard.result _ _
-    (λ best is g here kept. is g here ∙ ap (λ (l : List Info). by (last_of_each_member (filter (counts g) l)))
-    (c.as_slice-all.ensures.value ∙ kept.all_are)) c.heard.ensures
 
 pub returns : goal.returns
 returns c = λ g here kept.

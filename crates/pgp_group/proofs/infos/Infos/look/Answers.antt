@@ -1,10 +1,4 @@
-use Rattle.std.proofs.Common.{◌≡◌, ◌≤◌, List, refl, length, drop, ap, ap₂, subst, sym, ◌∙◌}
-use Rattle.std.specs.List.{filter}
-use Rattle.pgp_ids.specs.declared.report.Info.{Info}
-use Rattle.pgp_info.specs.Heard.{Heard, with_infos}
-use Rattle.pgp_info.specs.declared.preference.Preference.{Preference}
-use Rattle.pgp_group.specs.GroupLog.{infos}
-use Rattle.pgp_group.specs.Heard.{heard}
+use Rattle.pgp_group.proofs.Common.{◌≡◌, ◌≤◌, List, refl, length, drop, ap, ap₂, subst, sym, ◌∙◌, filter, Info, Heard, with_infos, Preference, infos, heard}
 use Rattle.pgp_group.specs.KeptInfos.{counts}
 use Rattle.pgp_group.proofs.InfosLemmas.{heard-on, KeepsInfos-heard, KeepsInfos-unseen}
 use Rattle.pgp_group.proofs.infos.Infos.look.Goals as goal

@@ -1,18 +1,10 @@
-use Rattle.std.proofs.Common.{refl, subst, sym, take}
-use Rattle.std.specs.List.{Contains}
-use Rattle.std.proofs.lemmas.Result.{on_err_weaker, on_ok_weaker}
+use Rattle.pgp_group.proofs.Common.{refl, subst, sym, take, Contains, on_err_weaker, on_ok_weaker, members_of, basis_with, past}
 use Rattle.pgp_lists.proofs.Results.{on_err}
-use Rattle.pgp_prior.specs.Members.{members_of}
-use Rattle.pgp_group.specs.KeptPrior.{basis_with}
-use Rattle.pgp_group.specs.Peering.{past}
 use Rattle.pgp_group.proofs.PriorLemmas.{abreast-index, abreast-more, abreast-noted}
 use Rattle.pgp_group.proofs.kept_prior.KeptPrior.add.Goals as goal
 
 pub returns-in_err-note_members-clause-err : goal.returns-in_err-note_members-clause-err
-returns-in_err-note_members-clause-err c =
-    let kept = c.args.self.now in
-    on_err c.from_residual.result _ (λ g by_place is.
-    abreast-noted g c.args.map.now kept.added kept.index kept.noted.items c.note_members.new.noted.items c.note_members.ensures.kept c.note_members.ensures.of_map is)
+returns-in_err-note_members-clause-err c = search (on_err, abreast-noted)
 
 pub returns-clause-ok : goal.returns-clause-ok
 returns-clause-ok c =

@@ -1,8 +1,4 @@
-use Rattle.std.proofs.Common.{◌≡◌}
-use Rattle.pgp_code.specs.AnyCode.{enough_of, is_by_place}
-use Rattle.pgp_interval.specs.IntervalsOf.{IsIntervalsOf}
-use Rattle.pgp_group.specs.GroupLog.{GroupLog, cleans}
-use Rattle.pgp_group.specs.KeptPrior.{IsAbreast}
+use Rattle.pgp_group.proofs.Common.{◌≡◌, enough_of, is_by_place, IsIntervalsOf, GroupLog, cleans, IsAbreast}
 use Rattle.pgp_group.proofs.kept_prior.KeptPrior.add_more.Given as goal
 
 -- the intervals so far are added

@@ -1,5 +1,4 @@
-use Rattle.std.proofs.Common.{refl}
-use Rattle.pgp_sets.specs.declared.status.Status.TheVariants.{Up}
+use Rattle.pgp_group.proofs.Common.{refl, Up}
 use Rattle.pgp_group.proofs.PriorLemmas.{KeepsPrior-begun}
 use Rattle.pgp_group.proofs.kept_prior.KeptPrior.begin.Goals as goal
 

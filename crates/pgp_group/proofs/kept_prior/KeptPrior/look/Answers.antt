@@ -1,5 +1,4 @@
-use Rattle.std.proofs.lemmas.Result.{on_ok_weaker}
-use Rattle.pgp_group.specs.GroupLog.{cleans}
+use Rattle.pgp_group.proofs.Common.{on_ok_weaker, cleans}
 use Rattle.pgp_group.proofs.PriorLemmas.{KeepsPrior-abreast, reckoned}
 use Rattle.pgp_group.proofs.kept_prior.KeptPrior.look.Goals as goal
 

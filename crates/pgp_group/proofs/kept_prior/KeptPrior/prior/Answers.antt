@@ -1,5 +1,4 @@
-use Rattle.std.proofs.lemmas.Result.{IfOk-weaker}
-use Rattle.pgp_group.specs.KeptPrior.{basis_of}
+use Rattle.pgp_group.proofs.Common.{IfOk-weaker, basis_of}
 use Rattle.pgp_group.proofs.kept_prior.KeptPrior.prior.Goals as goal
 
 pub returns : goal.returns

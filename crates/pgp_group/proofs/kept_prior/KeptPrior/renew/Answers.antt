@@ -1,8 +1,4 @@
-use Rattle.std.proofs.Common.{◌≡◌, ◌≤◌, ap, arith, length, subst, sym, ◌∙◌}
-use Rattle.std.proofs.lemmas.List.{length-map, with_items_is}
-use Rattle.pgp_code.specs.AnyCode.{is_by_place}
-use Rattle.pgp_sets.specs.Status.{held_status}
-use Rattle.pgp_group.specs.DeviceFacts.{renoted, renoted_all, HasEachMember, GivesEach}
+use Rattle.pgp_group.proofs.Common.{◌≡◌, ◌≤◌, ap, arith, length, subst, sym, ◌∙◌, length-map, with_items_is, is_by_place, held_status, renoted, renoted_all, HasEachMember, GivesEach}
 use Rattle.pgp_group.proofs.PriorLemmas.{abreast-renewed}
 use Rattle.pgp_group.proofs.kept_prior.KeptPrior.renew.Goals as goal
 

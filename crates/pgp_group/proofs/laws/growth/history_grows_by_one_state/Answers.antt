@@ -1,4 +1,4 @@
-use Rattle.std.proofs.Common.{[], ◌∷◌}
+use Rattle.pgp_group.proofs.Common.{[], ◌∷◌}
 use Rattle.pgp_group.proofs.GrowthLemmas.{checked-front, checked-last, checked-numbered, history-grows, has_group-grows}
 use Rattle.pgp_group.proofs.laws.growth.history_grows_by_one_state.Goals as goal
 

@@ -9,5 +9,4 @@ pub returns-clause-opens : goal.returns-clause-opens
 returns-clause-opens c = first-opens checked-front checked-last steps
 
 pub returns-clause-never_falls : goal.returns-clause-never_falls
-returns-clause-never_falls c =
-    first-never_falls checked-front checked-last steps c.same_memberships_are_equal.ensures c.current_interval_reaches_the_last_epoch.ensures.run
+returns-clause-never_falls c = search (first-never_falls, checked-front, checked-last, steps)

@@ -1,7 +1,5 @@
-use Rattle.std.proofs.Common.{arith, subst, sym}
+use Rattle.pgp_group.proofs.Common.{arith, subst, sym, then_with, incs_of}
 use Rattle.pgp_map.specs.Held.{HasGroup}
-use Rattle.pgp_map.specs.MapFault.{then_with}
-use Rattle.pgp_group.specs.Entries.{incs_of}
 use Rattle.pgp_group.proofs.GrowthLemmas.{epoch-snoc, has_group-grows, history-last, next_epoch}
 use Rattle.pgp_group.proofs.laws.growth.the_next_map_follows.Goals as goal
 

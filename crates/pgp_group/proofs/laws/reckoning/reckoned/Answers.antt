@@ -1,4 +1,4 @@
-use Rattle.pgp_group.proofs.ReckonedLemmas.{reckoned, served_again}
+use Rattle.pgp_group.proofs.ServedLemmas.{reckoned, served_again}
 use Rattle.pgp_group.proofs.laws.reckoning.reckoned.Goals as goal
 
 pub returns-clause-interval : goal.returns-clause-interval

@@ -1,4 +1,4 @@
-use Rattle.std.proofs.Common.{[]}
+use Rattle.pgp_group.proofs.Common.{[]}
 use Rattle.pgp_group.proofs.logs.CountedLog.of_first.Goals as goal
 
 pub returns-clause-log : goal.returns-clause-log

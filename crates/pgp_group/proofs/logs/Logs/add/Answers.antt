@@ -1,12 +1,5 @@
-use Rattle.std.proofs.Common.{◌≡◌, List, [], ◌++◌, true, if◌then◌else◌, ap, ap₂, subst, sym, ◌∙◌}
-use Rattle.std.proofs.lemmas.List.Elements.{All-set}
-use Rattle.std.proofs.lemmas.List.Quantifiers.{position-Some}
-use Rattle.std.proofs.lemmas.Result.{on_ok_weaker}
-use Rattle.pgp_ids.specs.Member.{is_same_member}
-use Rattle.pgp_missing.specs.Log.{by_number}
-use Rattle.pgp_group.specs.KeptReports.{is_of, entries_of}
-use Rattle.pgp_group.specs.declared.logs.CountedLog.{CountedLog}
-use Rattle.pgp_group.proofs.LogsLemmas.{added, added-first}
+use Rattle.pgp_group.proofs.Common.{◌≡◌, List, [], ◌++◌, true, if◌then◌else◌, ap, ap₂, subst, sym, ◌∙◌, All-set, position-Some, on_ok_weaker, is_same_member, by_number, is_of, entries_of, CountedLog}
+use Rattle.pgp_group.proofs.ReportsLemmas.{added, added-first}
 use Rattle.pgp_group.proofs.PeerLemmas.{same_member}
 use Rattle.pgp_group.proofs.logs.Logs.add.Goals as goal
 

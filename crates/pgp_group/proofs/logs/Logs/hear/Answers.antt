@@ -1,15 +1,6 @@
-use Rattle.std.proofs.Common.{◌≡◌, ℕ, ◌+◌, ◌≤◌, List, [], ◌∷◌, ◌++◌, true, ◌&&◌, nat_le, refl, ap, subst, sym, take, ◌∙◌, arith}
-use Rattle.std.specs.List.{All}
-use Rattle.std.proofs.lemmas.Bool.Decides.{nat_tests}
-use Rattle.std.proofs.lemmas.List.Elements.{All-get_or}
-use Rattle.pgp_ids.specs.declared.member.Member.{Member}
-use Rattle.pgp_ids.specs.declared.report.Report.{Report}
-use Rattle.pgp_missing.specs.Log.{by_number}
-use Rattle.pgp_group.specs.Heard.{is_counted}
-use Rattle.pgp_group.specs.KeptReports.{counts_by, entries_of, reported_in, AreLogsOf}
-use Rattle.pgp_group.specs.declared.logs.CountedLog.{CountedLog}
+use Rattle.pgp_group.proofs.Common.{◌≡◌, ℕ, ◌+◌, List, [], ◌∷◌, ◌++◌, true, ◌&&◌, nat_le, refl, ap, subst, sym, take, ◌∙◌, arith, All, nat_tests, Member, Report, by_number, is_counted, counts_by, entries_of, reported_in, AreLogsOf, CountedLog}
 use Rattle.pgp_group.proofs.Lists.{append-next}
-use Rattle.pgp_group.proofs.LogsLemmas.{told-counted, told-other}
+use Rattle.pgp_group.proofs.ReportsLemmas.{told-counted, told-other}
 use Rattle.pgp_group.proofs.logs.Logs.hear.Goals as goal
 use Rattle.pgp_group.proofs.logs.Logs.hear.Goals.{then-is_counted+in_ok-add, else-is_counted}
 
@@ -36,7 +27,6 @@ loop-report-preserved c =
           let so_far : All (λ (log : CountedLog). counts_by g at log ≡ true) c.loop-report.self.of_members.items = c.loop-report.invariant.count g at here sent is in
           elim c.if-is_counted.branch [
             | then-is_counted+in_ok-add w ↦
-                let early : x.stamp ≤ at = subst (λ (r : Report). r.stamp ≤ at) (sym c.report-item.is) (All-get_or (λ (r : Report). r.stamp ≤ at) all i x c.loop-report-test.true sent) in
                 let by : nat_le x.stamp at ≡ true = grind (arith, nat_tests) in
                 let counted : is_counted g x.member x.stamp ≡ true = sym (c.is_counted.ensures g here) ∙ w.if-is_counted.true in
                 rw w.self-is (w.in_ok-add.ensures.each (λ (m : Member) (s : ℕ). is_counted g m s && nat_le s at) (rw (counted, by) refl) so_far)

@@ -1,9 +1,4 @@
-use Rattle.std.proofs.Common.{◌≡◌, ℕ, ◌≤◌, ◌++◌, List, true, take}
-use Rattle.std.specs.List.{All}
-use Rattle.pgp_ids.specs.declared.report.Report.{Report}
-use Rattle.pgp_group.specs.GroupLog.{GroupLog}
-use Rattle.pgp_group.specs.KeptReports.{counts_by, AreLogsOf}
-use Rattle.pgp_group.specs.Present.{IsPresent}
+use Rattle.pgp_group.proofs.Common.{◌≡◌, ℕ, ◌≤◌, ◌++◌, List, true, take, All, Report, GroupLog, counts_by, AreLogsOf, IsPresent}
 use Rattle.pgp_group.proofs.logs.Logs.hear.Given as goal
 
 abbrev pub invariant-loop-report : goal.invariant-loop-report

@@ -1,4 +1,4 @@
-use Rattle.std.proofs.Common.{rules}
+use Rattle.pgp_group.proofs.Common.{rules}
 use Rattle.std.proofs.lemmas.Fn.{filter_same}
 use Rattle.pgp_group.specs.KeptReports.{counts}
 use Rattle.pgp_group.proofs.logs.Logs.keep_counted.Goals as goal

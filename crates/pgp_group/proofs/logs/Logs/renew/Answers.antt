@@ -1,8 +1,5 @@
-use Rattle.std.proofs.Common.{◌≡◌, None, sym, ◌∙◌}
-use Rattle.std.proofs.lemmas.List.Quantifiers.{position-Some}
-use Rattle.std.proofs.lemmas.Option.{none-some}
-use Rattle.pgp_group.specs.KeptReports.{is_of, log_of}
-use Rattle.pgp_group.proofs.LogsLemmas.{found-none, renewed, renewed-one}
+use Rattle.pgp_group.proofs.Common.{sym, ◌∙◌, position-Some, is_of, arith}
+use Rattle.pgp_group.proofs.ReportsLemmas.{found-none, renewed, renewed-one}
 use Rattle.pgp_group.proofs.logs.Logs.renew.Goals as goal
 
 pub returns-in-Some-clause-entries : goal.returns-in-Some-clause-entries
@@ -19,6 +16,5 @@ returns-in-Some-clause-bounds c = λ log reported is found.
     (sym c.place_of.ensures ∙ c.in-Some.is) c.index_mut.ensures.value c.renew.ensures.member c.renew.ensures.bounds is found
 
 pub returns-in_default-clause-bounds : goal.returns-in_default-clause-bounds
-returns-in_default-clause-bounds c = λ log reported is found.
-    let none : log_of c.args.info.now.member c.args.self.now.of_members.items ≡ None = found-none (is_of c.args.info.now.member) c.args.self.now.of_members.items (sym c.place_of.ensures ∙ c.in_default.is) in
-    absurd (none-some _ (sym none ∙ found))
+returns-in_default-clause-bounds c =
+    grind (arith, found-none (is_of c.args.info.now.member) c.args.self.now.of_members.items (sym c.place_of.ensures ∙ c.in_default.is))

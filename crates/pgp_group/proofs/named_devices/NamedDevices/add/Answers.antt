@@ -1,9 +1,4 @@
-use Rattle.std.proofs.Common.{◌≡◌, ◌<◌, subst, sym}
-use Rattle.std.specs.Prelude.{Err}
-use Rattle.std.specs.Vec.{vec_len, vec_capacity}
-use Rattle.std.proofs.lemmas.Cmp.{nat_cmp_total}
-use Rattle.pgp_lists.specs.Ordered.{IsAscending, with_item}
-use Rattle.pgp_lists.proofs.Searched.{put_new, put_there}
+use Rattle.pgp_group.proofs.Common.{◌≡◌, ◌<◌, sym, Err, vec_len, vec_capacity, nat_cmp_total, with_item, put_new, put_there}
 use Rattle.pgp_group.proofs.NamedLemmas.{before, inserted, search-has, with_item-ascends}
 use Rattle.pgp_group.proofs.named_devices.NamedDevices.add.Goals as goal
 use Rattle.pgp_group.proofs.named_devices.NamedDevices.add.Goals.{After-insert}
@@ -23,8 +18,7 @@ pub unwrap-requires : goal.unwrap-requires
 unwrap-requires c = c.insert.ensures.succeeds (room (goal.at.unwrap-requires c).After-insert)
 
 pub invariant_of-self : goal.invariant_of-self
-invariant_of-self c =
-    record { ascends = subst (IsAscending before) (sym (put (goal.at.invariant_of-self c).After-insert)) (with_item-ascends c.args.osd c.args.self.now.osds.items c.args.self.now.ascends) }
+invariant_of-self c = search (put, with_item-ascends)
 
 pub returns-in-Err-clause-osds : goal.returns-in-Err-clause-osds
 returns-in-Err-clause-osds c = put (goal.at.returns-in-Err-clause-osds c).After-insert

@@ -1,4 +1,4 @@
-use Rattle.std.proofs.Common.{arith, ◌∙◌}
+use Rattle.pgp_group.proofs.Common.{arith, ◌∙◌}
 use Rattle.pgp_group.proofs.NamedLemmas.{place-put, place-empty}
 use Rattle.pgp_group.proofs.named_devices.NamedDevices.add_places.Goals as goal
 use Rattle.pgp_group.proofs.named_devices.NamedDevices.add_places.Goals.{in-Some, in_default}

@@ -1,7 +1,4 @@
-use Rattle.std.proofs.Common.{◌≡◌, ◌+◌, ◌≤◌, ◌||◌, ℕ, nat_eq, take}
-use Rattle.std.specs.List.{list_any}
-use Rattle.std.specs.Vec.{vec_len, vec_capacity}
-use Rattle.pgp_group.specs.Touched.{has_osd}
+use Rattle.pgp_group.proofs.Common.{◌≡◌, ◌+◌, ◌≤◌, ◌||◌, ℕ, nat_eq, take, list_any, vec_len, vec_capacity, has_osd}
 use Rattle.pgp_group.proofs.named_devices.NamedDevices.add_places.Given as goal
 
 abbrev pub invariant-loop-place : goal.invariant-loop-place

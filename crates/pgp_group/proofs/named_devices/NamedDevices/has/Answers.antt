@@ -1,4 +1,4 @@
-use Rattle.std.proofs.Common.{◌∙◌}
+use Rattle.pgp_group.proofs.Common.{◌∙◌}
 use Rattle.pgp_group.proofs.NamedLemmas.{search-has}
 use Rattle.pgp_group.proofs.named_devices.NamedDevices.has.Goals as goal
 

@@ -1,11 +1,4 @@
-use Rattle.std.proofs.Common.{◌≡◌, ◌≤◌, List, ◌++◌, length, drop, take, ap, refl, subst, sym, ◌∙◌}
-use Rattle.std.specs.List.{All}
-use Rattle.std.proofs.lemmas.List.{take-append-drop}
-use Rattle.std.proofs.lemmas.List.Elements.{All-drop}
-use Rattle.pgp_ids.specs.declared.report.Report.{Report}
-use Rattle.pgp_map.specs.Map.{epoch}
-use Rattle.pgp_group.specs.GroupLog.{incs, reports}
-use Rattle.pgp_group.specs.KeptReports.{AreLogsOf}
+use Rattle.pgp_group.proofs.Common.{◌≡◌, ◌≤◌, List, ◌++◌, length, drop, take, ap, refl, subst, sym, ◌∙◌, All, take-append-drop, All-drop, Report, epoch, incs, reports, AreLogsOf}
 use Rattle.pgp_group.proofs.ReportsLemmas.{KeepsReports-heard}
 use Rattle.pgp_group.proofs.reports.Reports.hear_unseen.Goals as goal
 

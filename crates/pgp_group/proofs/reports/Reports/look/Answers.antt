@@ -1,9 +1,5 @@
-use Rattle.std.proofs.Common.{ap, sym, ◌∙◌}
-use Rattle.std.specs.List.{filter}
-use Rattle.std.proofs.lemmas.Bool.{true≢false}
-use Rattle.std.proofs.lemmas.Result.{on_ok_weaker}
+use Rattle.pgp_group.proofs.Common.{ap, sym, ◌∙◌, filter, true≢false, on_ok_weaker, Reports}
 use Rattle.pgp_group.specs.KeptReports.{counts}
-use Rattle.pgp_group.specs.declared.reports.Reports.{Reports}
 use Rattle.pgp_group.proofs.ReportsLemmas.{AreCounted-judged, AreCounted-none}
 use Rattle.pgp_group.proofs.reports.Reports.look.Goals as goal
 use Rattle.pgp_group.proofs.reports.Reports.look.Goals.{then-self, else-self}

@@ -1,5 +1,4 @@
-use Rattle.std.proofs.Common.{◌++◌, [], ◌∷◌, ap, refl, ◌∙◌}
-use Rattle.pgp_ids.specs.declared.report.Report.{Report}
+use Rattle.pgp_group.proofs.Common.{◌++◌, [], ◌∷◌, ap, refl, ◌∙◌, Report}
 use Rattle.pgp_group.proofs.ReportsLemmas.{KeepsReports-new}
 use Rattle.pgp_group.proofs.reports.Reports.push.Goals as goal
 

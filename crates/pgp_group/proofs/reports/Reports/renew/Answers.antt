@@ -1,5 +1,4 @@
-use Rattle.std.proofs.Common.{refl}
-use Rattle.pgp_group.specs.GroupLog.{reports}
+use Rattle.pgp_group.proofs.Common.{refl, reports}
 use Rattle.pgp_group.proofs.ReportsLemmas.{KeepsReports-renewed, AreLogsOf-renewed}
 use Rattle.pgp_group.proofs.reports.Reports.renew.Goals as goal
 
