@@ -10,13 +10,10 @@ use Rattle.pgp_ids.specs.declared.pg_id.PgId.{PgId}
 use Rattle.pgp_ids.specs.declared.view.View.{View}
 use Rattle.pgp_map.specs.Pools.{pool, temp, is_same_group}
 use Rattle.pgp_sets.specs.Sets.{raw_set, may_place_elsewhere}
+pub use Rattle.pgp_sets.specs.Sets.{has_osd}
 use Rattle.pgp_group.specs.Entries.{incs_of}
 use Rattle.pgp_group.specs.GroupLog.{GroupLog, group_in, infos, reports}
 use Rattle.pgp_group.specs.Peering.{past}
-
--- the list has the device
-abbrev pub has_osd : ℕ → List (Option ℕ) → Bool
-has_osd osd places = list_any (option_eq nat_eq (Some osd)) places
 
 -- the device stands in the placement of the group
 abbrev pub is_placed : List Incremental → PgId → ℕ → Bool

@@ -1,14 +1,14 @@
 -- Rows of groups, and the incrementals by which they are passed by.
-use Rattle.std.proofs.Common.{◌≡◌, ℕ, ◌+◌, ◌<◌, List, [], ◌∷◌, ◌++◌, Bool, true, false, ◌||◌, Option, Some, length, map, set, nat_eq, refl, sym, ap, ◌∙◌, subst, inl, inr, ◌⊎◌, is_some, arith, eq-eqb, length-append}
+use Rattle.std.proofs.Common.{◌≡◌, ℕ, ◌+◌, ◌<◌, List, [], ◌∷◌, ◌++◌, Bool, true, false, ◌&&◌, not, ◌||◌, Option, Some, length, map, set, nat_eq, refl, sym, ap, ◌∙◌, subst, inl, inr, ◌⊎◌, is_some, arith, eq-eqb, length-append}
 use Rattle.std.specs.List.{list_any}
 use Rattle.std.specs.Option.{option_map, option_map_or}
 use Rattle.std.specs.Prelude.{slice_get}
 use Rattle.std.proofs.Math.Bool.{or-true}
-use Rattle.std.proofs.lemmas.Bool.{cases_Bool, cases_eq, cases_lt, true≢false}
+use Rattle.std.proofs.lemmas.Bool.{cases_Bool, cases_eq, cases_lt, true≢false, not-false, not-true}
 use Rattle.std.proofs.lemmas.List.{length-set}
 use Rattle.std.proofs.lemmas.List.Folds.{list_any-append}
 use Rattle.std.proofs.lemmas.Option.{same_Some, slice_get_cases, slice_get_within}
-use Rattle.pgp_lists.proofs.Bools.{or3_parts}
+use Rattle.pgp_lists.proofs.Bools.{and3_parts, or3_parts}
 use Rattle.pgp_ids.specs.declared.pool.PoolSizes.{PoolSizes}
 use Rattle.pgp_lists.proofs.Lists.{any-mapped, get-append, get-last, get-set_other, get-set_same}
 use Rattle.pgp_ids.specs.declared.entry.Entry.{Entry}
@@ -20,16 +20,17 @@ use Rattle.pgp_ids.specs.declared.pg_id.PgId.{PgId}
 use Rattle.pgp_map.specs.Pools.{pool, temp}
 use Rattle.pgp_map.specs.declared.map.OsdMap.{OsdMap}
 use Rattle.pgp_map.specs.MapFault.{then_with}
-use Rattle.pgp_sets.specs.Sets.{may_place_elsewhere, raw_places, raw_set, stands_in, switches_any, weighed}
+use Rattle.pgp_sets.specs.Sets.{may_place_elsewhere, raw_places, raw_set, switches_any, weighed}
 use Rattle.pgp_sets.proofs.RawSetLemmas.{lighter-elsewhere, or3_false}
 use Rattle.pgp_group.proofs.UntoldLemmas.{unplaced}
 use Rattle.pgp_group.specs.Entries.{incs_of}
 use Rattle.pgp_group.specs.GroupLog.{group_in}
 use Rattle.pgp_group.specs.Touched.{changed_devices, changes_pool, changes_temp, has_osd, has_to_do_with, may_lie_on, moves_all, names, turned_devices}
 use Rattle.pgp_log.specs.declared.before.MapBefore.{MapBefore}
-use Rattle.pgp_log.specs.KeptGroup.{AreRowsOf, IsChangesOf, IsKeptOf, IsPassedBy, IsPassedByRow, IsRowOf, IsStep, OnlyLightens, devices_for, is_marked, may_place}
+use Rattle.pgp_log.specs.KeptGroup.{AreRowsOf, IsChangesOf, IsKeptOf, IsPassedBy, IsPassedByRow, IsRowOf, IsStep, devices_for, is_marked, may_place}
 use Rattle.pgp_log.specs.OsdFilter.{Covers, CoversStill}
-use Rattle.pgp_log.specs.Touch.{changes_placements}
+use Rattle.pgp_log.specs.MapBefore.{makes_heavier, only_lightens}
+use Rattle.pgp_log.specs.Touch.{changes_no_pool, changes_placements}
 use Rattle.pgp_log.specs.declared.kept_group.KeptGroup.{KeptGroup}
 use Rattle.pgp_log.specs.declared.osd_filter.OsdFilter.{OsdFilter}
 use Rattle.pgp_log.specs.declared.row.Changes.{Changes}
@@ -144,21 +145,32 @@ changed-for false changes inc before after row osd only worked_out says there = 
 raw-is : (log : List Entry) (kept : KeptGroup) → IsKeptOf log kept → raw_places (incs_of log) kept.pg ≡ kept.raw
 raw-is log kept is = ap (λ (o : Option (List (Option ℕ))). option_map_or (λ places. places) o []) is.raw_is
 
+light-parts : (incs : List Incremental) (inc : Incremental) → only_lightens incs inc ≡ true
+    → (is_some inc.crush ≡ false) × (changes_no_pool inc ≡ true) × (makes_heavier (then_with incs inc) (map (weighed incs) inc.weight) ≡ false)
+light-parts incs inc light =
+    let heavier = makes_heavier (then_with incs inc) (map (weighed incs) inc.weight) in
+    let parts = and3_parts (not (is_some inc.crush)) (changes_no_pool inc) (not heavier) light in (
+      not-true (is_some inc.crush) parts.0,
+      parts.1,
+      not-true heavier parts.2,
+    )
+
 -- weights by which no device gets heavier place a group elsewhere only if they weigh a device of its raw set
-lightened : (log : List Entry) (inc : Incremental) (before : MapBefore) (after : OsdMap) (changes : Changes) (row : Row) (kept : KeptGroup) → IsChangesOf inc before after changes → OnlyLightens inc before after
-    → IsRowOf row kept → IsKeptOf log kept → IsStep log inc before after → ((osd : ℕ) → Covers row.devices osd → Covers changes.turned osd → ⊥) → may_place_elsewhere (incs_of log) inc kept.pg ≡ false
-lightened log inc before after changes row kept says light is holds step apart =
+lightened : (log : List Entry) (inc : Incremental) (before : MapBefore) (after : OsdMap) (changes : Changes) (row : Row) (kept : KeptGroup) → IsChangesOf inc before after changes → only_lightens (incs_of log) inc ≡ true
+    → IsRowOf row kept → IsKeptOf log kept → ((osd : ℕ) → Covers row.devices osd → Covers changes.movers osd → ⊥) → may_place_elsewhere (incs_of log) inc kept.pg ≡ false
+lightened log inc before after changes row kept says light is holds apart =
+    let parts = light-parts (incs_of log) inc light in
     let osd_of : DeviceWeight → ℕ = λ given. given.osd in
     let places = raw_places (incs_of log) kept.pg in
-    let lies : (osd : ℕ) → stands_in osd places ≡ true → may_lie_on (incs_of log) kept.pg osd ≡ true = λ osd there.
+    let lies : (osd : ℕ) → has_osd osd places ≡ true → may_lie_on (incs_of log) kept.pg osd ≡ true = λ osd there.
     lies-there log kept osd holds ∙ ap (λ b. b || has_osd osd kept.temp) (ap (has_osd osd) (sym (raw-is log kept holds)) ∙ there) in
-    let none : list_any (λ osd. stands_in osd places) (map osd_of inc.weight) ≡ false =
-    none-passes (λ osd. stands_in osd places) (map osd_of inc.weight)
+    let none : list_any (λ osd. has_osd osd places) (map osd_of inc.weight) ≡ false =
+    none-passes (λ osd. has_osd osd places) (map osd_of inc.weight)
     (λ osd there given. apart osd (is.lies_on log holds osd (lies osd there)) (says.weighed osd (sym (any-mapped osd_of (nat_eq osd) inc.weight) ∙ given))) in
-    let sizes : list_any (λ (sizes : PoolSizes). nat_eq sizes.pool kept.pg.pool) inc.sizes ≡ false = ap (list_any (λ (sizes : PoolSizes). nat_eq sizes.pool kept.pg.pool)) (no-pools inc light.pools).1 in
+    let sizes : list_any (λ (sizes : PoolSizes). nat_eq sizes.pool kept.pg.pool) inc.sizes ≡ false = ap (list_any (λ (sizes : PoolSizes). nat_eq sizes.pool kept.pg.pool)) (no-pools inc parts.1).1 in
     or3_false (is_some inc.crush) (list_any (λ (sizes : PoolSizes). nat_eq sizes.pool kept.pg.pool) inc.sizes) (switches_any (then_with (incs_of log) inc) kept.pg places (map (weighed (incs_of log)) inc.weight))
-    light.tree sizes (lighter-elsewhere (then_with (incs_of log) inc) kept.pg places (map (weighed (incs_of log)) inc.weight) (light.lighter log step)
-    (any-mapped (weighed (incs_of log)) (λ old. stands_in old.osd places) inc.weight ∙ sym (any-mapped osd_of (λ osd. stands_in osd places) inc.weight) ∙ none))
+    parts.0 sizes (lighter-elsewhere (then_with (incs_of log) inc) kept.pg places (map (weighed (incs_of log)) inc.weight) parts.2
+    (any-mapped (weighed (incs_of log)) (λ old. has_osd old.osd places) inc.weight ∙ sym (any-mapped osd_of (λ osd. has_osd osd places) inc.weight) ∙ none))
 
 -- the devices of the row were held against those that concern a marked group, if it is marked, or against all
 module _ (marked : Bool) (inc : Incremental) (changes : Changes) (before : MapBefore) (after : OsdMap) (row : Row) (kept : KeptGroup) (log : List Entry) (only : marked ≡ true → row.marked ≡ true)
@@ -181,28 +193,33 @@ module _ (marked : Bool) (inc : Incremental) (changes : Changes) (before : MapBe
   }
 
   -- or only devices get lighter, and the group is marked
-  passed-light : marked ≡ true → OnlyLightens inc before after → IsStep log inc before after → IsPassedBy log inc kept
-  passed-light here light step = record {
+  passed-light : marked ≡ true → only_lightens (incs_of log) inc ≡ true → IsPassedBy log inc kept
+  passed-light here light = record {
     still =
-        let pools = no-pools inc light.pools in
+        let pools = no-pools inc (light-parts (incs_of log) inc light).1 in
         let own : changes_pool inc kept.pg.pool ≡ false = rw (pools.0, pools.1) refl in
-        rw (lightened log inc before after changes row kept says light is holds step (subst (λ b. (osd : ℕ) → Covers row.devices osd → Covers (devices_for b changes) osd → ⊥) here apart), own, pools.2) none-turned;
+        rw (lightened log inc before after changes row kept says light is holds (subst (λ b. (osd : ℕ) → Covers row.devices osd → Covers (devices_for b changes) osd → ⊥) here apart), own, pools.2) none-turned;
     untouched = λ worked_out. absurd (true≢false (sym (only here) ∙ is.marked ∙ worked_out));
   }
 
-by-kind : (marked : Bool) (inc : Incremental) (changes : Changes) (before : MapBefore) (after : OsdMap) → IsChangesOf inc before after changes → may_place marked changes ≡ false
-    → (changes_placements inc ≡ false) ⊎ ((marked ≡ true) × OnlyLightens inc before after)
-by-kind true inc changes before after says none = elim (says.moves none) [ inl placed ↦ inl placed | inr light ↦ inr (refl, light) ]
-by-kind false inc changes before after says none = inl (sym says.places ∙ none)
+either : (placed light : Bool) → (placed && not light) ≡ false → (placed ≡ false) ⊎ (light ≡ true)
+either true light none = inr (not-false light none)
+either false light none = inl refl
+
+by-kind : (marked : Bool) (log : List Entry) (inc : Incremental) (changes : Changes) (before : MapBefore) (after : OsdMap) → IsStep log inc before after → IsChangesOf inc before after changes
+    → may_place marked changes ≡ false → (changes_placements inc ≡ false) ⊎ ((marked ≡ true) × (only_lightens (incs_of log) inc ≡ true))
+by-kind true log inc changes before after step says none =
+    elim (either (changes_placements inc) (only_lightens (incs_of log) inc) (sym (says.moves (incs_of log) step.before_is step.after_is) ∙ none)) [ inl placed ↦ inl placed | inr light ↦ inr (refl, light) ]
+by-kind false log inc changes before after step says none = inl (sym says.places ∙ none)
 
 -- no placement may change where the group is marked or not, as the row has it, or none of the group does
 pub passed-by : (marked : Bool) (inc : Incremental) (changes : Changes) (row : Row) → (marked ≡ true → row.marked ≡ true)
     → (may_place marked changes ≡ false) ⊎ ((moves_all inc || changes_pool inc row.pg.pool || changes_temp inc row.pg) ≡ false)
     → ((osd : ℕ) → Covers row.devices osd → Covers (devices_for marked changes) osd → ⊥) → IsPassedByRow changes inc row
 passed-by marked inc changes row only placed apart before after says kept is log holds step = elim placed [
-  | inl none ↦ elim (by-kind marked inc changes before after says none) [
+  | inl none ↦ elim (by-kind marked log inc changes before after step says none) [
     | inl nothing ↦ passed-placed marked inc changes before after row kept log only apart says is holds (nothing-placed inc kept.pg nothing)
-    | inr light ↦ passed-light marked inc changes before after row kept log only apart says is holds light.0 light.1 step
+    | inr light ↦ passed-light marked inc changes before after row kept log only apart says is holds light.0 light.1
   ]
   | inr own ↦
       passed-placed marked inc changes before after row kept log only apart says is holds

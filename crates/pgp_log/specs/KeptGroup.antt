@@ -1,5 +1,5 @@
 -- What a shard keeps of its groups, as far as the entries that it has read tell of them.
-use Rattle.std.specs.Prelude.{◌≡◌, ℕ, nat_eq, List, [], ◌∷◌, ◌++◌, length, map, slice_get, Bool, is_none, is_some, ◌⊎◌, Some, None, IfSome, true, false, if◌then◌else◌}
+use Rattle.std.specs.Prelude.{◌≡◌, ℕ, nat_eq, List, [], ◌∷◌, ◌++◌, length, map, slice_get, Bool, is_none, Some, None, IfSome, true, false, if◌then◌else◌}
 use Rattle.std.specs.HashMap as hash
 use Rattle.std.specs.List.{All, filter, list_any}
 use Rattle.pgp_ids.specs.declared.entry.Entry.{Entry}
@@ -12,7 +12,6 @@ use Rattle.pgp_map.specs.MapFault.{then_with}
 use Rattle.pgp_map.specs.MapOf.{IsMapOf}
 use Rattle.pgp_map.specs.Pools.{is_same_group, temp}
 use Rattle.pgp_map.specs.declared.map.OsdMap.{OsdMap}
-use Rattle.pgp_sets.specs.Sets.{weighed}
 use Rattle.pgp_group.specs.Entries.{incs_of}
 use Rattle.pgp_group.specs.GroupOf.{IsGroupOf}
 use Rattle.pgp_group.specs.Reaching.{reaching}
@@ -20,11 +19,11 @@ use Rattle.pgp_group.specs.Touched.{changed_devices, has_to_do_with, is_touched,
 use Rattle.pgp_group.specs.View.{scratch}
 use Rattle.pgp_log.specs.Fits.{fits}
 use Rattle.pgp_log.specs.Log.{is_legal}
-use Rattle.pgp_log.specs.MapBefore.{IsMapBefore, makes_heavier}
+use Rattle.pgp_log.specs.MapBefore.{IsMapBefore, moves_some}
 use Rattle.pgp_log.specs.OsdFilter.{Covers}
 use Rattle.pgp_log.specs.RawSets.{IsRawSet}
 use Rattle.pgp_log.specs.Shard.{is_among}
-use Rattle.pgp_log.specs.Touch.{changes_no_pool, changes_placements}
+use Rattle.pgp_log.specs.Touch.{changes_placements}
 use Rattle.pgp_log.specs.declared.before.MapBefore.{MapBefore}
 use Rattle.pgp_log.specs.declared.groups.Groups.{Groups}
 use Rattle.pgp_log.specs.declared.kept_group.KeptGroup.{KeptGroup}
@@ -91,26 +90,20 @@ pub record AreRowsOf (rows : List Row) (groups : List KeptGroup) : Type 0 where
   pub long : length rows ≡ length groups
   pub each : (place : ℕ) (row : Row) (kept : KeptGroup) → slice_get rows place ≡ Some row → slice_get groups place ≡ Some kept → IsRowOf row kept
 
--- the incremental, which leads from the one map to the other, changes no placement but by weights, and makes no device heavier
-pub record OnlyLightens (inc : Incremental) (before : MapBefore) (after : OsdMap) : Type 0 where
-  pub tree : is_some inc.crush ≡ false
-  pub pools : changes_no_pool inc ≡ true
-  pub lighter : (log : List Entry) → IsStep log inc before after → makes_heavier (then_with (incs_of log) inc) (map (weighed (incs_of log)) inc.weight) ≡ false
-
 -- this is what the incremental changes, which leads from the one map to the other
 pub record IsChangesOf (inc : Incremental) (before : MapBefore) (after : OsdMap) (changes : Changes) : Type 0 where
   pub places : changes.places ≡ changes_placements inc
-  pub moves : changes.moves ≡ false → (changes_placements inc ≡ false) ⊎ OnlyLightens inc before after
-  pub turned : (osd : ℕ) → list_any (nat_eq osd) (turned_devices inc) ≡ true → Covers changes.turned osd
-  pub weighed : (osd : ℕ) → list_any (λ given. nat_eq osd given.osd) inc.weight ≡ true → Covers changes.turned osd
+  pub moves : (incs : List Incremental) → IsMapBefore incs inc before → IsMapOf (then_with incs inc) after → changes.moves ≡ moves_some incs inc
+  pub turned : (osd : ℕ) → list_any (nat_eq osd) (turned_devices inc) ≡ true → Covers changes.movers osd
+  pub weighed : (osd : ℕ) → list_any (λ given. nat_eq osd given.osd) inc.weight ≡ true → Covers changes.movers osd
   pub devices : (osd : ℕ) → list_any (nat_eq osd) (changed_devices inc) ≡ true → Covers changes.devices osd
 
 -- the devices of the changes that concern a group: all, or where it is marked those that may move it
 abbrev pub devices_for : Bool → Changes → OsdFilter
-devices_for marked changes = if marked then changes.turned else changes.devices
+devices_for marked changes = if marked then changes.movers else changes.devices
 
--- whether the incremental may change where some group lies, whatever becomes of devices: where the group is marked, but for weights
--- by which no device gets heavier
+-- whether the incremental may change where some group lies, whatever becomes of devices; for a group that is marked, otherwise than by
+-- weights by which no device gets heavier
 abbrev pub may_place : Bool → Changes → Bool
 may_place marked changes = if marked then changes.moves else changes.places
 
@@ -119,7 +112,7 @@ pub record IsPassedBy (log : List Entry) (inc : Incremental) (kept : KeptGroup) 
   pub still : may_move (incs_of log) inc kept.pg ≡ false
   pub untouched : is_marked kept ≡ false → is_touched log (entry.Inc inc) kept.pg ≡ false
 
--- so it is of each group that has this row, where these are the changes of the incremental
+-- the incremental, of which these are the changes, passes by each group that has this row
 abbrev pub IsPassedByRow : Changes → Incremental → Row → Type 0
 IsPassedByRow changes inc row =
     (before : MapBefore) (after : OsdMap) → IsChangesOf inc before after changes → (kept : KeptGroup) → IsRowOf row kept

@@ -22,11 +22,11 @@ use super::before::MapBefore;
 use super::osd_filter::OsdFilter;
 use super::place::temp_of;
 use super::row::Row;
-use super::touch::{changes_placement, changes_pool, changes_temp, has_osd};
+use super::touch::{changes_placement, changes_pool, changes_temp};
 use pgp_group::Group;
 use pgp_ids::{DeviceEpoch, Entry, Epoch, Incremental, OsdId, Osds, PgId, View};
 use pgp_map::OsdMap;
-use pgp_sets::{filter, raw};
+use pgp_sets::{filter, has_osd, raw};
 use std::alloc::{AllocError, Global};
 
 /// A group, as the entries so far tell of it.

@@ -1,8 +1,11 @@
 //! What a shard reads first of each of its groups where an incremental comes.
 
-ghost use Rattle.std.specs.Prelude.{◌≡◌, ◌⊎◌, false, true};
-ghost use Rattle.pgp_log.specs.Touch.{changes_placements};
-ghost use Rattle.pgp_log.specs.KeptGroup.{IsChangesOf, IsPassedByRow, OnlyLightens, devices_for, may_place};
+ghost use Rattle.std.specs.Prelude.{◌≡◌, List, true};
+ghost use Rattle.pgp_ids.specs.declared.incremental.Incremental.{Incremental as AnyIncremental};
+ghost use Rattle.pgp_map.specs.MapFault.{then_with};
+ghost use Rattle.pgp_map.specs.MapOf.{IsMapOf};
+ghost use Rattle.pgp_log.specs.MapBefore.{IsMapBefore, moves_some, only_lightens};
+ghost use Rattle.pgp_log.specs.KeptGroup.{IsChangesOf, IsPassedByRow, devices_for, may_place};
 
 use super::before::MapBefore;
 use super::osd_filter::OsdFilter;
@@ -38,11 +41,12 @@ impl Row {
 pub(crate) struct Changes {
     /// It may change where some group lies, whatever becomes of devices.
     places: bool,
-    /// The same, but for weights by which no device gets heavier: they move a group only if it lies on a device that is weighed.
+    /// It may, otherwise than by weights by which no device gets heavier: these move a group only if it lies on a device that is
+    /// weighed.
     moves: bool,
     /// The devices that it boots, takes down, destroys or weighs.
-    turned: OsdFilter,
-    /// The devices whose state it changes.
+    movers: OsdFilter,
+    /// Those, and the devices of which it tells.
     devices: OsdFilter,
 }
 
@@ -51,18 +55,18 @@ impl Changes {
     pub(crate) fn of(before: &MapBefore, after: &OsdMap, inc: &Incremental) -> Self
         ensures { IsChangesOf inc.now before.now after.now result }
     {
-        let mut turned = OsdFilter::empty();
-        turned.add_all(inc.up.as_slice());
-        turned.add_all(inc.down.as_slice());
-        turned.add_all(inc.gone.as_slice());
-        turned.add_weighed(inc.weight.as_slice());
-        let mut devices = turned;
+        let mut movers = OsdFilter::empty();
+        movers.add_all(inc.up.as_slice());
+        movers.add_all(inc.down.as_slice());
+        movers.add_all(inc.gone.as_slice());
+        movers.add_weighed(inc.weight.as_slice());
+        let mut devices = movers;
         devices.add_told(inc.up_thru.as_slice());
         devices.add_told(inc.lost.as_slice());
         Changes {
             places: changes_placements(inc),
             moves: moves_some(before, after, inc),
-            turned,
+            movers,
             devices,
         }
     }
@@ -78,20 +82,23 @@ impl Changes {
     pub(crate) fn devices_for(&self, marked: bool) -> OsdFilter
         ensures { result ≡ devices_for marked self.now }
     {
-        if marked { self.turned } else { self.devices }
+        if marked { self.movers } else { self.devices }
     }
 }
 
-/// The incremental may change where some group lies, whatever becomes of devices, otherwise than by making devices lighter.
+/// The incremental, which leads from the map before to the one after, may change where some group lies, whatever becomes of devices,
+/// otherwise than by weights by which no device gets heavier.
 fn moves_some(before: &MapBefore, after: &OsdMap, inc: &Incremental) -> bool
-    ensures { result ≡ false → (changes_placements inc.now ≡ false) ⊎ OnlyLightens inc.now before.now after.now }
+    ensures { (incs : List AnyIncremental) → IsMapBefore incs inc.now before.now → IsMapOf (then_with incs inc.now) after.now
+        → result ≡ moves_some incs inc.now }
 {
     changes_placements(inc) && !only_lightens(before, after, inc)
 }
 
-/// The incremental changes no placement but by weights, and makes no device heavier. Such weights can only take devices out.
+/// The incremental changes placements by weights alone, and makes no device heavier. Such weights can only take devices out.
 fn only_lightens(before: &MapBefore, after: &OsdMap, inc: &Incremental) -> bool
-    ensures { result ≡ true → OnlyLightens inc.now before.now after.now }
+    ensures { (incs : List AnyIncremental) → IsMapBefore incs inc.now before.now → IsMapOf (then_with incs inc.now) after.now
+        → result ≡ only_lightens incs inc.now }
 {
     inc.crush.is_none() && changes_no_pool(inc) && !before.makes_heavier(after)
 }

@@ -3,10 +3,10 @@
 ghost use Rattle.std.specs.List.{list_any};
 ghost use Rattle.std.specs.Prelude.{◌≡◌, ◌||◌, nat_eq};
 ghost use Rattle.pgp_log.specs.Touch.{turns_none, tells_nothing, changes_no_pool, changes_placements, moves_none, changes_nothing};
-ghost use Rattle.pgp_group.specs.Touched.{changes_pool, changes_temp, has_osd, moves_all};
+ghost use Rattle.pgp_group.specs.Touched.{changes_pool, changes_temp, moves_all};
 ghost use Rattle.pgp_sets.specs.Sets.{moves};
 
-use pgp_ids::{Incremental, OsdId, PgId, PoolId, PoolSizes, PoolSpec};
+use pgp_ids::{Incremental, PgId, PoolId, PoolSizes, PoolSpec};
 
 /// The incremental may change where the group lies, whatever becomes of devices.
 pub(crate) fn changes_placement(inc: &Incremental, pg: &PgId) -> bool
@@ -97,11 +97,4 @@ pub(crate) fn turns_none(inc: &Incremental) -> bool
     ensures { result ≡ turns_none inc.now }
 {
     inc.up.is_empty() && inc.down.is_empty() && inc.gone.is_empty()
-}
-
-/// The device stands in the list.
-pub fn has_osd(places: &[Option<OsdId>], osd: OsdId) -> bool
-    ensures { result ≡ has_osd osd places.now }
-{
-    places.iter().any(|place| Some(osd) == *place)
 }

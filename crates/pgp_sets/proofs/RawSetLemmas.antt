@@ -27,7 +27,7 @@ use Rattle.pgp_map.specs.Pools.{pool}
 use Rattle.pgp_map.specs.WeightTable.{with_weight}
 use Rattle.pgp_map.proofs.CheckedLemmas.{pool-stays}
 use Rattle.pgp_map.proofs.MapLemmas.{tree-push, weight-push}
-use Rattle.pgp_sets.specs.Sets.{rule_of, placement_input, raw_set, raw_set_of, may_place_elsewhere, moves, raw_places, stands_in, switches, switches_any, weighed}
+use Rattle.pgp_sets.specs.Sets.{rule_of, placement_input, raw_set, raw_set_of, may_place_elsewhere, moves, raw_places, has_osd, switches, switches_any, weighed}
 
 -- a device that is in stays so where it gets heavier
 in-rises : (before after x osd : ℕ) → before ≤ after → is_in_by before x osd ≡ true → is_in_by after x osd ≡ true
@@ -47,9 +47,9 @@ by_weight true false false false rises falls = refl
 by_weight false false false false rises falls = refl
 
 pub switch_by_weight : (x : ℕ) (places : List (Option ℕ)) (osd before after : ℕ)
-    → switches x places osd before after ≡ (if nat_lt before after then not (is_in_by before x osd) && is_in_by after x osd else stands_in osd places && is_in_by before x osd && not (is_in_by after x osd))
+    → switches x places osd before after ≡ (if nat_lt before after then not (is_in_by before x osd) && is_in_by after x osd else has_osd osd places && is_in_by before x osd && not (is_in_by after x osd))
 switch_by_weight x places osd before after =
-    by_weight (stands_in osd places) (is_in_by before x osd) (is_in_by after x osd) (nat_lt before after)
+    by_weight (has_osd osd places) (is_in_by before x osd) (is_in_by after x osd) (nat_lt before after)
     (λ heavier. in-rises before after x osd (grind (arith, nat_tests)))
     (λ lighter. in-rises after before x osd (grind (arith, nat_tests)))
 
@@ -68,19 +68,19 @@ same-kept before there after same = record { none_in = λ is. sym same ∙ is; n
 
 in-stays : (incs : List Incremental) (inc : Incremental) (x : ℕ) (places : List (Option ℕ)) (osd : ℕ)
     → list_any (λ old. switches x places old.osd old.weight (weight (then_with incs inc) old.osd)) (map (weighed incs) inc.weight) ≡ false
-    → IsKept (is_in_by (weight incs osd) x osd) (stands_in osd places) (is_in_by (weight (then_with incs inc) osd) x osd)
+    → IsKept (is_in_by (weight incs osd) x osd) (has_osd osd places) (is_in_by (weight (then_with incs inc) osd) x osd)
 in-stays incs inc x places osd none = by_given (last_where (λ entry. nat_eq entry.osd osd) inc.weight) refl
   where
     by_given : (found : Option DeviceWeight) → last_where (λ entry. nat_eq entry.osd osd) inc.weight ≡ found
-        → IsKept (is_in_by (weight incs osd) x osd) (stands_in osd places) (is_in_by (weight (then_with incs inc) osd) x osd)
+        → IsKept (is_in_by (weight incs osd) x osd) (has_osd osd places) (is_in_by (weight (then_with incs inc) osd) x osd)
     by_given None is =
-        same-kept (is_in_by (weight incs osd) x osd) (stands_in osd places) (is_in_by (weight (then_with incs inc) osd) x osd)
+        same-kept (is_in_by (weight incs osd) x osd) (has_osd osd places) (is_in_by (weight (then_with incs inc) osd) x osd)
         (ap (λ w. is_in_by w x osd) (weight-push incs inc osd ∙ ap (λ (found : Option DeviceWeight). with_weight found (weight incs osd)) is))
     by_given (Some given) is =
         let test = λ (old : DeviceWeight). switches x places old.osd old.weight (weight (then_with incs inc) old.osd) in
         let found = last_found (λ given. test (weighed incs given)) (λ entry. nat_eq entry.osd osd) inc.weight given (sym (any-mapped (weighed incs) test inc.weight) ∙ none) is in
-        subst (λ (q : ℕ). IsKept (is_in_by (weight incs q) x q) (stands_in q places) (is_in_by (weight (then_with incs inc) q) x q)) (eqb-true given.osd osd found.0)
-        (unswitched (is_in_by (weight incs given.osd) x given.osd) (stands_in given.osd places) (is_in_by (weight (then_with incs inc) given.osd) x given.osd) found.1)
+        subst (λ (q : ℕ). IsKept (is_in_by (weight incs q) x q) (has_osd q places) (is_in_by (weight (then_with incs inc) q) x q)) (eqb-true given.osd osd found.0)
+        (unswitched (is_in_by (weight incs given.osd) x given.osd) (has_osd given.osd places) (is_in_by (weight (then_with incs inc) given.osd) x given.osd) found.1)
 
 -- the table of weights says of a device what its weight says, and of a number past it that it is out
 by-table : (f : ℕ → ℕ) (x osd : ℕ) → osd < 4096 → is_in (map f (range_with_len 0 4096)) x osd ≡ is_in_by (f osd) x osd
@@ -102,7 +102,7 @@ in-tables x osd there before after kept = elim (cases_lt osd 4096) [
 tree-stays : (incs : List Incremental) (inc : Incremental) → is_some inc.crush ≡ false → tree (then_with incs inc) ≡ tree incs
 tree-stays incs inc none = tree-push incs inc ∙ (grind arith)
 
-stands-there : (osd : ℕ) (places : List (Option ℕ)) → Contains places (Some osd) → stands_in osd places ≡ true
+stands-there : (osd : ℕ) (places : List (Option ℕ)) → Contains places (Some osd) → has_osd osd places ≡ true
 stands-there osd places there = let same : nat_eq osd osd ≡ true = grind (arith, nat_tests) in contains-any (option_eq nat_eq (Some osd)) places (Some osd) there same
 
 pub raw_set-stays : (incs : List Incremental) (inc : Incremental) (pg : PgId) (places : List (Option ℕ)) → map_fault incs inc ≡ None
@@ -118,7 +118,7 @@ raw_set-stays incs inc pg places fine still is =
     let none : list_any (test x places) (map (weighed incs) inc.weight) ≡ false =
     sym (ap (λ (o : Option PoolSpec). option_map_or (λ made. list_any (test (placement_input made pg) (raw_places incs pg)) (map (weighed incs) inc.weight)) o false) now
     ∙ ap (λ (o : Option (List (Option ℕ))). list_any (test x (option_map_or (λ raw. raw) o [])) (map (weighed incs) inc.weight)) is) ∙ parts.2 in
-    let kept = λ (osd : ℕ). in-tables x osd (stands_in osd places) (weight incs) (weight (then_with incs inc)) (in-stays incs inc x places osd none) in
+    let kept = λ (osd : ℕ). in-tables x osd (has_osd osd places) (weight incs) (weight (then_with incs inc)) (in-stays incs inc x places osd none) in
     ap (option_map (λ made. raw_set (then_with incs inc) made pg)) now
     ∙ (λ i. Some (placement (trees i) (rule_of made) (weights (then_with incs inc)) x made.size))
     ∙ ap Some (placement_of_fewer (tree incs) (rule_of made) (weights incs) (weights (then_with incs inc)) x made.size (λ osd. (kept osd).none_in)
@@ -136,15 +136,15 @@ none-switched incs pg places (old ∷ before) none = absurd (omega arith)
 
 -- none is switched where each gets lighter or stays, and none has one of the places
 pub lighter-elsewhere : (incs : List Incremental) (pg : PgId) (places : List (Option ℕ)) (before : List DeviceWeight) → list_any (λ old. nat_lt old.weight (weight incs old.osd)) before ≡ false
-    → list_any (λ old. stands_in old.osd places) before ≡ false → switches_any incs pg places before ≡ false
+    → list_any (λ old. has_osd old.osd places) before ≡ false → switches_any incs pg places before ≡ false
 lighter-elsewhere incs pg places before falls apart = by_pool (pool incs pg.pool)
   where
-    none : (x : ℕ) (l : List DeviceWeight) → list_any (λ old. nat_lt old.weight (weight incs old.osd)) l ≡ false → list_any (λ old. stands_in old.osd places) l ≡ false
+    none : (x : ℕ) (l : List DeviceWeight) → list_any (λ old. nat_lt old.weight (weight incs old.osd)) l ≡ false → list_any (λ old. has_osd old.osd places) l ≡ false
         → list_any (λ old. switches x places old.osd old.weight (weight incs old.osd)) l ≡ false
     none x [] falls apart = refl
     none x (old ∷ l) falls apart =
         let one = or_parts (nat_lt old.weight (weight incs old.osd)) (list_any (λ old. nat_lt old.weight (weight incs old.osd)) l) falls in
-        let two = or_parts (stands_in old.osd places) (list_any (λ old. stands_in old.osd places) l) apart in
+        let two = or_parts (has_osd old.osd places) (list_any (λ old. has_osd old.osd places) l) apart in
         let here : switches x places old.osd old.weight (weight incs old.osd) ≡ false = switch_by_weight x places old.osd old.weight (weight incs old.osd) ∙ rw (one.0, two.0) refl in
         rw here (none x l one.1 two.1)
 

@@ -45,14 +45,14 @@ abbrev pub if_up : List Incremental → Option ℕ → Option ℕ
 if_up incs place = if option_map_or (is_up incs) place false then place else None
 
 -- the device stands in the list
-abbrev pub stands_in : ℕ → List (Option ℕ) → Bool
-stands_in osd places = list_any (option_eq nat_eq (Some osd)) places
+abbrev pub has_osd : ℕ → List (Option ℕ) → Bool
+has_osd osd places = list_any (option_eq nat_eq (Some osd)) places
 
 -- for the placement of this input, which gave these places, the device comes in by its new weight, or goes out though it has one of
 -- the places
 abbrev pub switches : ℕ → List (Option ℕ) → ℕ → ℕ → ℕ → Bool
 switches x places osd before after =
-    if is_in_by before x osd then stands_in osd places && not (is_in_by after x osd) else is_in_by after x osd
+    if is_in_by before x osd then has_osd osd places && not (is_in_by after x osd) else is_in_by after x osd
 
 -- the device with its weight by these incrementals
 abbrev pub weighed : List Incremental → DeviceWeight → DeviceWeight

@@ -16,4 +16,4 @@ mod switches;
 pub use membership::{filter, raw, up_acting};
 pub use status::Status;
 pub use status_of::StatusOf;
-pub use switches::switches_any;
+pub use switches::{has_osd, switches_any};

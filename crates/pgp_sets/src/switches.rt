@@ -1,4 +1,4 @@
-//! Weights that switch a device in or out for a group.
+//! Weights by which a device comes in for a group or goes out of its raw set.
 
 ghost use Rattle.std.specs.List.{list_any};
 ghost use Rattle.std.specs.Prelude.{◌≡◌, List};
@@ -6,7 +6,7 @@ ghost use Rattle.pgp_ids.specs.declared.incremental.Incremental.{Incremental};
 ghost use Rattle.pgp_map.specs.Devices.{weight};
 ghost use Rattle.pgp_map.specs.Held.{HasGroup};
 ghost use Rattle.pgp_map.specs.MapOf.{IsMapOf};
-ghost use Rattle.pgp_sets.specs.Sets.{stands_in, switches, switches_any};
+ghost use Rattle.pgp_sets.specs.Sets.{has_osd, switches, switches_any};
 
 use super::membership::{placement_input, pool_of};
 use pgp_crush::is_in_by;
@@ -14,8 +14,8 @@ use pgp_ids::{DeviceWeight, OsdId, PgId};
 use pgp_map::OsdMap;
 
 /// Whether one of these devices, which had these weights before this map, comes in for the group by the weight that it has now, or
-/// goes out of these places, which the tree gave the group before. If it is so of no device that was weighed, the tree puts the group
-/// where it did ([`laws`](crate::laws)). No memory is taken.
+/// goes out of these places, which the tree gave the group before. If it is so of no device that was
+/// weighed, and neither a tree nor sizes of the pool came, the group stays there ([`laws`](crate::laws)). No memory is taken.
 pub fn switches_any(
     after: &OsdMap,
     pg: &PgId,
@@ -59,13 +59,16 @@ fn switches(x: u32, places: &[Option<OsdId>], osd: OsdId, before: u32, after: u3
     if after > before {
         !is_in_by(before, x, osd) && is_in_by(after, x, osd)
     } else {
-        stands_in(osd, places) && is_in_by(before, x, osd) && !is_in_by(after, x, osd)
+        after < before
+            && has_osd(places, osd)
+            && is_in_by(before, x, osd)
+            && !is_in_by(after, x, osd)
     }
 }
 
 /// The device stands in the list.
-fn stands_in(osd: OsdId, places: &[Option<OsdId>]) -> bool
-    ensures { result ≡ stands_in osd places.now }
+pub fn has_osd(places: &[Option<OsdId>], osd: OsdId) -> bool
+    ensures { result ≡ has_osd osd places.now }
 {
     places.iter().any(|place| Some(osd) == *place)
 }
