@@ -87,9 +87,9 @@ pub fn placements_depend_on_who_is_in()
 {}
 
 /// A placement stays where fewer devices are in, if each of its own that was in still is: what goes out moves only the groups that
-/// it lies in.
+/// lie on it.
 #[tactic(auto, using(crate::proofs::FewerInLemmas::placement_of_fewer))]
-pub fn placements_lose_only_what_goes_out()
+pub fn placements_stay_where_others_go_out()
     ensures { (tree : Option (List Bucket)) (rule : Rule) (weights others : List ℕ) (x n : ℕ)
         → ((osd : ℕ) → is_in others x osd ≡ true → is_in weights x osd ≡ true)
         → ((osd : ℕ) → Contains (placement tree rule weights x n) (Some osd) → is_in weights x osd ≡ true → is_in others x osd ≡ true)

@@ -1,7 +1,7 @@
 -- The placement groups whose view an entry may change in more than count and epoch (this project's own choice).
-use Rattle.std.specs.Prelude.{ℕ, List, length, ◌++◌, map, Bool, false, ◌||◌, nat_eq, nat_lt, Option, Some, is_some}
+use Rattle.std.specs.Prelude.{ℕ, List, length, ◌++◌, map, Bool, false, ◌||◌, nat_eq, nat_lt, is_some}
 use Rattle.std.specs.List.{list_any}
-use Rattle.std.specs.Option.{option_eq, option_map_or}
+use Rattle.std.specs.Option.{option_map_or}
 use Rattle.pgp_ids.specs.declared.entry.Entry.{Entry}
 use Rattle.pgp_ids.specs.declared.entry.Entry.TheVariants as entry
 use Rattle.pgp_ids.specs.declared.incremental.Incremental.{Incremental}

@@ -81,7 +81,7 @@ impl OsdFilter {
         }
     }
 
-    /// Whether some device may be in both sets.
+    /// Whether some device may be in both sets. Both words are looked at, since a branch between them would seldom be foreseen.
     pub(crate) fn shares(self, other: OsdFilter) -> bool
         ensures { (osd : ℕ) → Covers self osd → Covers other osd → result ≡ true }
     {

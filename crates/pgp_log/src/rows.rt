@@ -1,6 +1,6 @@
 //! The rows of a shard's groups.
 
-ghost use Rattle.std.specs.Prelude.{◌≡◌, ◌<◌, ◌≤◌, ◌++◌, ◌+◌, ◌*◌, [], ◌∷◌, ℕ, List, Some, true, length, set, slice_get, IfSome, OnOk};
+ghost use Rattle.std.specs.Prelude.{◌≡◌, ◌<◌, ◌≤◌, ◌++◌, ◌+◌, ◌*◌, [], ◌∷◌, ℕ, List, Some, true, length, set, slice_get, IfSome, OnOk, OnErr};
 ghost use Rattle.pgp_ids.specs.declared.incremental.Incremental.{Incremental as AnyIncremental};
 ghost use Rattle.pgp_log.specs.KeptGroup.{IsPassedByRow};
 ghost use Rattle.pgp_log.specs.Rows.{IsInBlock};
@@ -16,7 +16,7 @@ use std::marker::Model;
 const BLOCK: usize = 8;
 
 /// The rows of groups, each at the place of its group, which contracts see as the list of them. What a block of eight rows has in
-/// common is kept beside them: most of the groups that an incremental doesn't touch are passed by a block at a time.
+/// common is kept beside them, so that groups which an incremental doesn't touch can be passed by a block at a time.
 #[derive(Drop)]
 pub(crate) struct Rows {
     each: Vec<Row>,
@@ -57,7 +57,8 @@ impl Rows {
 
     /// Adds a row at the next place.
     pub(crate) fn push(&mut self, row: Row) -> Result<(), AllocError>
-        ensures { OnOk result (self.new ≡ self.old ++ row ∷ []) }
+        ensures ok { OnOk result (self.new ≡ self.old ++ row ∷ []) }
+        ensures err { OnErr result (self.new ≡ self.old) }
     {
         let number = self.each.len() / BLOCK;
         if number >= self.blocks.len() {
@@ -99,6 +100,7 @@ impl Rows {
 }
 
 impl Block {
+    /// The block of no rows yet.
     fn empty() -> Self {
         Block {
             marked: true,

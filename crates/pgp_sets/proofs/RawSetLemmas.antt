@@ -1,6 +1,6 @@
 -- A group's raw set stays, unless an incremental may place it anew.
 use Rattle.std.proofs.Common.{◌≡◌, ℕ, List, [], ◌∷◌, Option, Some, None, Bool, false, true, zero-add, arith, refl, ap, sym, ◌∙◌, subst, map, inl, inr, ◌≤◌, ◌<◌}
-use Rattle.std.specs.Prelude.{nat_eq, nat_lt, length, option_map, is_some, not, ◌&&◌, ◌||◌, slice_index, if◌then◌else◌}
+use Rattle.std.specs.Prelude.{nat_eq, nat_lt, length, option_map, is_some, not, ◌&&◌, ◌||◌, if◌then◌else◌}
 use Rattle.std.specs.List.{Contains, list_any, range_with_len}
 use Rattle.std.specs.Option.{option_eq, option_map_or}
 use Rattle.std.proofs.lemmas.Bool.{cases_lt, eqb-true, not-false, or_parts, true≢false}

@@ -62,6 +62,14 @@ copies_placed =
       pools = record { id = 1; pg_num = 1; kind = Replicated; size = 3; min_size = 2; leaf = 0 } ∷ [];
     }
 
+-- its group has one copy, and all three devices are in
+abbrev pub one_copy_placed : Incremental
+one_copy_placed =
+    record copies_placed {
+      weight = [];
+      pools = record { id = 1; pg_num = 1; kind = Replicated; size = 1; min_size = 1; leaf = 0 } ∷ [];
+    }
+
 -- the same, and pg_temp puts the group on all three devices
 abbrev pub copies_on_three : Incremental
 copies_on_three = record copies_placed { temp = stands_on copies_group (Some 0 ∷ Some 1 ∷ Some 2 ∷ []) }

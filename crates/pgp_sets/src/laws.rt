@@ -15,7 +15,7 @@ ghost use Rattle.pgp_map.specs.Pools.{pool};
 ghost use Rattle.pgp_map.specs.MapOf.{IsMapOf};
 ghost use Rattle.pgp_sets.specs.Status.{status, held_status};
 ghost use Rattle.pgp_sets.specs.Sets.{membership, membership_at, raw_set_of, moves, may_place_elsewhere, are_up};
-ghost use Rattle.pgp_sets.specs.Examples.{of_device, of_weight, copies_group, shards_group, stands_on, lies_on, copies_placed, copies_on_three, shards_on_three, parts_on_three, take_down, resize};
+ghost use Rattle.pgp_sets.specs.Examples.{of_device, of_weight, copies_group, shards_group, stands_on, lies_on, copies_placed, one_copy_placed, copies_on_three, shards_on_three, parts_on_three, take_down, resize};
 
 /// Each device of up and of acting is up.
 pub fn who_lies_there_is_up()
@@ -49,8 +49,11 @@ pub fn weights_that_switch()
         may_place_elsewhere (copies_placed ∷ []) given copies_group ≡ false }
     ensures out { let given = record (empty_step 2) { weight = of_weight 0 0 ∷ [] } in
         may_place_elsewhere (copies_placed ∷ []) given copies_group ≡ true }
-    ensures out_elsewhere { let given = record (empty_step 2) { weight = of_weight 5 0 ∷ [] } in
-        may_place_elsewhere (copies_placed ∷ []) given copies_group ≡ false }
+    ensures lies_there { raw_set_of (one_copy_placed ∷ []) copies_group ≡ Some (Some 0 ∷ []) }
+    ensures out_elsewhere { let given = record (empty_step 2) { weight = of_weight 1 0 ∷ of_weight 2 0 ∷ [] } in
+        may_place_elsewhere (one_copy_placed ∷ []) given copies_group ≡ false }
+    ensures out_there { let given = record (empty_step 2) { weight = of_weight 0 0 ∷ [] } in
+        may_place_elsewhere (one_copy_placed ∷ []) given copies_group ≡ true }
     ensures comes_in { let given = record (empty_step 2) { weight = of_weight 1 0x10000 ∷ [] } in
         may_place_elsewhere (copies_placed ∷ []) given copies_group ≡ true }
 {}

@@ -19,7 +19,7 @@ returns c = record {
       (λ q. rw c.begin-kept.ensures.pg (c.in_ok-insert.ensures.updates.0 q
       ∙ ap (λ (n : ℕ). cond (is_same_group c.args.pg q) (Some n) (hash.get is_same_group c.args.self.now.places q)) (c.len-place.ensures ∙ c.args.self.now.kept.ok.0)))
       c.in_ok-push-2.ensures.items refl c.begin-kept.ensures.marked (c.begin-kept.ensures.is log inc before step absent there)
-      c.row.ensures c.in_ok-push.ensures are;
+      c.row.ensures c.in_ok-push.ensures.ok are;
   there = λ are.
       let old : List KeptGroup = c.args.self.now.kept.items in
       ap (λ (l : List KeptGroup). is_among c.args.pg (ids_of l)) c.in_ok-push-2.ensures.items
