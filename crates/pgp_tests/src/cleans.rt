@@ -1,11 +1,11 @@
 //! Infos that tell when a group was clean, over seeded streams of maps and reports: what a shard keeps of the group's past
 //! intervals and prior set, against both worked out from scratch.
 
-ghost use Rattle.std.specs.Prelude.{◌<◌, length};
+ghost use Rattle.std.specs.Prelude.{◌<◌, length, IfOk};
 
-use super::fixtures::{Dice, entry, group};
+use super::fixtures::{Dice, entry, group, incremental};
 use super::plain_history::History;
-use pgp_ids::{Entry, Info, Verdict, View};
+use pgp_ids::{Entry, Incremental, Info, Verdict, View};
 use pgp_log::World;
 use std::alloc::{AllocError, Global};
 use std::process::Abort;
@@ -175,6 +175,11 @@ fn take(alloc: Global, plain: &mut History, entry: &Entry) -> Result<Tally, Fail
     }
 }
 
+fn take_line(alloc: Global, plain: &mut History, line: &str) -> Result<Tally, Fail> {
+    let told = entry(alloc, line).ok_or("no entry")?;
+    take(alloc, plain, &told)
+}
+
 /// Whether the view and the plain history tell the same of the group's past, and of whom it has to hear.
 fn says_the_same(alloc: Global, view: &View, plain: &History) -> Result<bool, Fail> {
     let past = plain.past(alloc, true)?;
@@ -212,10 +217,7 @@ fn step(alloc: Global, world: &mut World, plain: &mut History, line: &str) -> Re
 {
     let told = entry(alloc, line).ok_or("no entry")?;
     match world.submit(told) {
-        Ok(_) => {
-            let told = entry(alloc, line).ok_or("no entry")?;
-            take(alloc, plain, &told)
-        }
+        Ok(_) => take_line(alloc, plain, line),
         Err(_) => Ok(NOTHING),
     }
 }
@@ -243,15 +245,21 @@ fn follow<R: Abort + AllocGlobal>(
     Ok(tally)
 }
 
+/// A world of one shard that has taken the incremental.
+fn begun(alloc: Global, inc: Incremental) -> Result<World, Fail>
+    ensures { IfOk result (λ world. 0 < length world.read) }
+{
+    let mut world = World::start(alloc, 1)?;
+    world.submit(Entry::Inc(inc))?;
+    Ok(world)
+}
+
 /// A stream from this seed, over the pool that the line makes.
 fn run<R: Abort + AllocGlobal>(rt: &R, line: &str, seed: u64) -> Result<Tally, Fail> {
     let alloc = rt.alloc();
-    let Some(Entry::Inc(inc)) = entry(alloc, line) else {
-        return Err(Fail::new("no incremental"));
-    };
+    let inc = incremental(alloc, line).ok_or("no incremental")?;
     let mut plain = History::begin(alloc, &inc)?;
-    let mut world = World::start(alloc, 1)?;
-    world.submit(Entry::Inc(inc))?;
+    let mut world = begun(alloc, inc)?;
     let mut dice = Dice::seeded(seed);
     follow(rt, &mut world, &mut plain, &mut dice, seed % 2 == 0)
 }

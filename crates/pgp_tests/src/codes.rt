@@ -52,10 +52,14 @@ fn codes_count_slots(rt: HostRuntime) {
 
 /// The kind of pool that a trace of this code asks about.
 fn kind_of(alloc: Global, line: &str) -> Result<PoolKind, Fail> {
-    let command = read_line(alloc, line.as_bytes());
-    match &command {
-        Ok(Command::Trace { code, epochs: _ }) => Ok(*code),
-        _ => Err(Fail::new("no trace")),
+    let command = read_line(alloc, line.as_bytes())?;
+    Ok(code_in(&command).ok_or("no trace")?)
+}
+
+fn code_in(command: &Command) -> Option<PoolKind> {
+    match command {
+        Command::Trace { code, epochs: _ } => Some(*code),
+        _ => None,
     }
 }
 

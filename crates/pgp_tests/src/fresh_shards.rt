@@ -1,49 +1,20 @@
 //! A shard that never worked out a group works out each once.
 
-ghost use Rattle.std.specs.Prelude.{◌≡◌};
-ghost use Rattle.pgp_log.specs.Judge.{IsJudgeOf};
-
-use super::fixtures::entry;
+use super::marks::{leaves, tell};
 use pgp_log::{Judge, ShardState};
 use std::alloc::Global;
-use std::process::Abort;
-use std::sync::Arc;
 use std::test::Fail;
 
 /// A pool of two groups of three copies.
 const TWO_GROUPS: &str =
     r#"{"op":"inc","epoch":1,"up":[0,1,2],"weight":[[1,0],[2,0]],"crush":[{"id":-1,"type":1,"alg":"uniform","items":[0,1,2]}],"pools":[{"id":1,"pg_num":2,"kind":"replicated","size":3,"min_size":2,"leaf":0}]}"#;
 
-/// Has the shard read the map of two groups.
-fn read_map(alloc: Global, judge: &Judge, state: &mut ShardState) -> Result<(), Fail>
-    requires { IsJudgeOf state.old.front judge.now }
-{
-    let entry = entry(alloc, TWO_GROUPS).ok_or("no entry")?;
-    let entry = Arc::new(alloc, entry)?;
-    judge.fits(&entry)?;
-    state.absorb(&entry)?;
-    Ok(())
-}
-
 /// A shard that has read the map of two groups, and worked out none of them.
 fn fresh_shard(alloc: Global) -> Result<ShardState, Fail> {
-    let judge = Judge::start(alloc);
+    let mut judge = Judge::start(alloc);
     let mut state = ShardState::start(alloc, 0, 1);
-    read_map(alloc, &judge, &mut state)?;
+    tell(alloc, &mut judge, &mut state, TWO_GROUPS)?;
     Ok(state)
-}
-
-/// Where this many groups may be worked out, that many have to be after it.
-fn leaves<R: Abort>(
-    rt: &R,
-    state: &mut ShardState,
-    max: usize,
-    left: usize,
-    why: &str,
-) -> Result<(), Fail> {
-    let found = state.renew(max)?;
-    assert!(rt; found == left, "{why}");
-    Ok(())
 }
 
 #[test]

@@ -9,8 +9,13 @@ use std::process::Abort;
 use std::test::Fail;
 use told::Told;
 
-/// The line that makes a group's pool, the lines after it, and what is answered of the group then.
-struct Case(&'static str, &'static [&'static str], &'static str);
+/// What the group does, the line that makes its pool, the lines after it, and what is answered of the group then.
+struct Case(
+    &'static str,
+    &'static str,
+    &'static [&'static str],
+    &'static str,
+);
 
 /// What is answered of the group after these lines, the first of which makes its pool.
 fn answer(alloc: Global, first: &str, lines: &[&str]) -> Result<Vec<u8>, Fail> {
@@ -21,9 +26,9 @@ fn answer(alloc: Global, first: &str, lines: &[&str]) -> Result<Vec<u8>, Fail> {
 
 /// Just this is answered in the case.
 fn is_answered<R: Abort + AllocGlobal>(rt: &R, case: &Case) -> Result<(), Fail> {
-    let Case(first, lines, words) = case;
+    let Case(name, first, lines, words) = case;
     let text = answer(rt.alloc(), first, lines)?;
-    assert!(rt; text.as_slice() == words.as_bytes());
+    assert!(rt; text.as_slice() == words.as_bytes(), "{name}");
     Ok(())
 }
 
@@ -53,67 +58,137 @@ const LOST: &str = r#"{"op":"inc","epoch":4,"lost":[[1,2]]}"#;
 /// New sizes open an interval.
 const RESIZED: &str = r#"{"op":"inc","epoch":2,"sizes":[[1,3,1]]}"#;
 
-static NOT_HEARD: Case = Case(
-    COPIES,
-    &[],
-    r#"{"acting":[0,1,2],"acting_primary":0,"best":null,"blocked_by":[],"count":1,"epoch":1,"first":1,"intervals":[],"les":0,"missing":[],"ok":"ask","pg":[1,0],"probe":[[0,0],[1,0],[2,0]],"up":[0],"up_primary":0,"verdict":"Waiting"}"#,
-);
+static CASES: [Case; 13] = [
+    Case(
+        "waits for members that were not heard",
+        COPIES,
+        &[],
+        r#"{"acting":[0,1,2],"acting_primary":0,"best":null,"blocked_by":[],"count":1,"epoch":1,"first":1,"intervals":[],"les":0,"missing":[],"ok":"ask","pg":[1,0],"probe":[[0,0],[1,0],[2,0]],"up":[0],"up_primary":0,"verdict":"Waiting"}"#,
+    ),
+    Case(
+        "has no primary where each shard is down",
+        SHARDS,
+        &[r#"{"op":"inc","epoch":2,"down":[0,1,2]}"#],
+        r#"{"acting":[null,null,null],"acting_primary":null,"best":null,"blocked_by":[],"count":2,"epoch":2,"first":2,"intervals":[{"acting":[0,1,2],"acting_primary":0,"first":1,"last":1,"min_size":2,"rw":false,"size":3,"up":[null,null,null],"up_primary":null}],"les":0,"missing":[],"ok":"ask","pg":[1,0],"probe":[],"up":[null,null,null],"up_primary":null,"verdict":"NoPrimary"}"#,
+    ),
+    Case(
+        "is down where too few shards are left",
+        SHARDS,
+        &[SERVED, MOVED],
+        r#"{"acting":[0,3,4],"acting_primary":0,"best":null,"blocked_by":[1,2],"count":3,"epoch":3,"first":3,"intervals":[{"acting":[0,1,2],"acting_primary":0,"first":1,"last":2,"min_size":2,"rw":true,"size":3,"up":[null,null,null],"up_primary":null}],"les":0,"missing":[],"ok":"ask","pg":[1,0],"probe":[[0,0],[3,1],[4,2]],"up":[null,null,null],"up_primary":null,"verdict":"Down"}"#,
+    ),
+    Case(
+        "waits no more for a lost shard",
+        SHARDS,
+        &[SERVED, MOVED, LOST],
+        r#"{"acting":[0,3,4],"acting_primary":0,"best":null,"blocked_by":[],"count":4,"epoch":4,"first":3,"intervals":[{"acting":[0,1,2],"acting_primary":0,"first":1,"last":2,"min_size":2,"rw":true,"size":3,"up":[null,null,null],"up_primary":null}],"les":0,"missing":[],"ok":"ask","pg":[1,0],"probe":[[0,0],[3,1],[4,2]],"up":[null,null,null],"up_primary":null,"verdict":"Waiting"}"#,
+    ),
+    Case(
+        "is down again once a lost shard is destroyed",
+        SHARDS,
+        &[SERVED, MOVED, LOST, r#"{"op":"inc","epoch":5,"gone":[1]}"#],
+        r#"{"acting":[0,3,4],"acting_primary":0,"best":null,"blocked_by":[2],"count":5,"epoch":5,"first":3,"intervals":[{"acting":[0,1,2],"acting_primary":0,"first":1,"last":2,"min_size":2,"rw":true,"size":3,"up":[null,null,null],"up_primary":null}],"les":0,"missing":[],"ok":"ask","pg":[1,0],"probe":[[0,0],[3,1],[4,2]],"up":[null,null,null],"up_primary":null,"verdict":"Down"}"#,
+    ),
+    Case(
+        "hears no info of an earlier interval",
+        COPIES,
+        &[RESIZED, EMPTY_0, EMPTY_1, EMPTY_2],
+        r#"{"acting":[0,1,2],"acting_primary":0,"best":null,"blocked_by":[],"count":5,"epoch":2,"first":2,"intervals":[{"acting":[0,1,2],"acting_primary":0,"first":1,"last":1,"min_size":2,"rw":false,"size":3,"up":[0],"up_primary":0}],"les":0,"missing":[],"ok":"ask","pg":[1,0],"probe":[[0,0],[1,0],[2,0]],"up":[0],"up_primary":0,"verdict":"Waiting"}"#,
+    ),
+    Case(
+        "hears an info of the current interval",
+        COPIES,
+        &[
+            RESIZED,
+            EMPTY_0,
+            EMPTY_1,
+            EMPTY_2,
+            r#"{"op":"info","pg":[1,0],"from":[0,0],"stamp":2,"les":0,"history_les":0,"last_update":[0,0],"log_tail":[0,0],"complete":true}"#,
+        ],
+        r#"{"acting":[0,1,2],"acting_primary":0,"best":[0,0],"blocked_by":[],"count":6,"epoch":2,"first":2,"intervals":[{"acting":[0,1,2],"acting_primary":0,"first":1,"last":1,"min_size":2,"rw":false,"size":3,"up":[0],"up_primary":0}],"les":0,"missing":[],"ok":"ask","pg":[1,0],"probe":[[0,0],[1,0],[2,0]],"up":[0],"up_primary":0,"verdict":"Waiting"}"#,
+    ),
+    Case(
+        "goes by another copy where that of the primary is not complete",
+        COPIES,
+        &[
+            r#"{"op":"info","pg":[1,0],"from":[0,0],"stamp":1,"les":0,"history_les":0,"last_update":[0,0],"log_tail":[0,0],"complete":false}"#,
+            EMPTY_1,
+            EMPTY_2,
+        ],
+        r#"{"acting":[0,1,2],"acting_primary":0,"best":[1,0],"blocked_by":[],"count":4,"epoch":1,"first":1,"intervals":[],"les":0,"missing":[{"member":[0,0],"state":"backfill"},{"member":[2,0],"objects":{},"state":"missing"}],"ok":"ask","pg":[1,0],"probe":[[0,0],[1,0],[2,0]],"up":[0],"up_primary":0,"verdict":"NeedUpThru"}"#,
+    ),
+    Case(
+        "goes by the shard that was written least",
+        SHARDS,
+        &[
+            r#"{"op":"info","pg":[1,0],"from":[0,0],"stamp":1,"les":0,"history_les":0,"last_update":[1,2],"log_tail":[0,0],"complete":true}"#,
+            r#"{"op":"info","pg":[1,0],"from":[1,1],"stamp":1,"les":0,"history_les":0,"last_update":[1,1],"log_tail":[0,0],"complete":true}"#,
+            r#"{"op":"info","pg":[1,0],"from":[2,2],"stamp":1,"les":0,"history_les":0,"last_update":[1,2],"log_tail":[0,0],"complete":true}"#,
+            r#"{"op":"entries","pg":[1,0],"from":[1,1],"stamp":1,"log":[[1,1,"modify","a"]]}"#,
+        ],
+        r#"{"acting":[0,1,2],"acting_primary":0,"best":[1,1],"blocked_by":[],"count":5,"epoch":1,"first":1,"intervals":[],"les":0,"missing":[{"member":[0,0],"state":"diverged"},{"member":[2,2],"state":"diverged"}],"ok":"ask","pg":[1,0],"probe":[[0,0],[1,1],[2,2]],"up":[null,null,null],"up_primary":null,"verdict":"NeedUpThru"}"#,
+    ),
+    Case(
+        "takes the last entry of each number",
+        COPIES,
+        &[
+            WRITTEN,
+            EMPTY_1,
+            EMPTY_2,
+            r#"{"op":"entries","pg":[1,0],"from":[0,0],"stamp":1,"log":[[1,3,"modify","c"],[1,1,"modify","a"],[1,2,"modify","x"],[1,2,"modify","b"]]}"#,
+        ],
+        r#"{"acting":[0,1,2],"acting_primary":0,"best":[0,0],"blocked_by":[],"count":5,"epoch":1,"first":1,"intervals":[],"les":0,"missing":[{"member":[1,0],"objects":{"a":[1,1],"b":[1,2],"c":[1,3]},"state":"missing"},{"member":[2,0],"objects":{"a":[1,1],"b":[1,2],"c":[1,3]},"state":"missing"}],"ok":"ask","pg":[1,0],"probe":[[0,0],[1,0],[2,0]],"up":[0],"up_primary":0,"verdict":"NeedUpThru"}"#,
+    ),
+    Case(
+        "needs the whole log of the best copy",
+        COPIES,
+        &[
+            WRITTEN,
+            EMPTY_1,
+            EMPTY_2,
+            r#"{"op":"entries","pg":[1,0],"from":[0,0],"stamp":1,"log":[[1,3,"modify","c"],[1,1,"modify","a"]]}"#,
+        ],
+        r#"{"acting":[0,1,2],"acting_primary":0,"best":[0,0],"blocked_by":[],"count":5,"epoch":1,"first":1,"intervals":[],"les":0,"missing":[],"ok":"ask","pg":[1,0],"probe":[[0,0],[1,0],[2,0]],"up":[0],"up_primary":0,"verdict":"NeedLog"}"#,
+    ),
+    Case(
+        "lists no object that was deleted last",
+        COPIES,
+        &[
+            WRITTEN,
+            EMPTY_1,
+            EMPTY_2,
+            r#"{"op":"entries","pg":[1,0],"from":[0,0],"stamp":1,"log":[[1,1,"modify","a"],[1,2,"modify","b"],[1,3,"delete","a"]]}"#,
+        ],
+        r#"{"acting":[0,1,2],"acting_primary":0,"best":[0,0],"blocked_by":[],"count":5,"epoch":1,"first":1,"intervals":[],"les":0,"missing":[{"member":[1,0],"objects":{"b":[1,2]},"state":"missing"},{"member":[2,0],"objects":{"b":[1,2]},"state":"missing"}],"ok":"ask","pg":[1,0],"probe":[[0,0],[1,0],[2,0]],"up":[0],"up_primary":0,"verdict":"NeedUpThru"}"#,
+    ),
+    Case(
+        "serves once its primary is known to be up",
+        COPIES,
+        &[
+            r#"{"op":"info","pg":[1,0],"from":[0,0],"stamp":1,"les":0,"history_les":0,"last_update":[1,2],"log_tail":[0,0],"complete":true}"#,
+            r#"{"op":"info","pg":[1,0],"from":[1,0],"stamp":1,"les":0,"history_les":0,"last_update":[1,1],"log_tail":[0,0],"complete":true}"#,
+            EMPTY_2,
+            r#"{"op":"entries","pg":[1,0],"from":[0,0],"stamp":1,"log":[[1,1,"modify","a"],[1,2,"modify","b"]]}"#,
+            SERVED,
+        ],
+        r#"{"acting":[0,1,2],"acting_primary":0,"best":[0,0],"blocked_by":[],"count":6,"epoch":2,"first":1,"intervals":[],"les":0,"missing":[{"member":[1,0],"objects":{"b":[1,2]},"state":"missing"},{"member":[2,0],"objects":{"a":[1,1],"b":[1,2]},"state":"missing"}],"ok":"ask","pg":[1,0],"probe":[[0,0],[1,0],[2,0]],"up":[0],"up_primary":0,"verdict":"Serve"}"#,
+    ),
+];
 
 #[test]
-fn waits_for_members_that_were_not_heard(rt: HostRuntime) -> Result<(), Fail> {
-    is_answered(&rt, &NOT_HEARD)
+fn groups_are_answered_by_their_lines(rt: HostRuntime) -> Result<(), Fail> {
+    for case in &CASES {
+        is_answered(&rt, case)?;
+    }
+    Ok(())
 }
 
-static ALL_DOWN: Case = Case(
-    SHARDS,
-    &[r#"{"op":"inc","epoch":2,"down":[0,1,2]}"#],
-    r#"{"acting":[null,null,null],"acting_primary":null,"best":null,"blocked_by":[],"count":2,"epoch":2,"first":2,"intervals":[{"acting":[0,1,2],"acting_primary":0,"first":1,"last":1,"min_size":2,"rw":false,"size":3,"up":[null,null,null],"up_primary":null}],"les":0,"missing":[],"ok":"ask","pg":[1,0],"probe":[],"up":[null,null,null],"up_primary":null,"verdict":"NoPrimary"}"#,
-);
-
-#[test]
-fn has_no_primary_where_each_shard_is_down(rt: HostRuntime) -> Result<(), Fail> {
-    is_answered(&rt, &ALL_DOWN)
-}
-
-static TOO_FEW: Case = Case(
-    SHARDS,
-    &[SERVED, MOVED],
-    r#"{"acting":[0,3,4],"acting_primary":0,"best":null,"blocked_by":[1,2],"count":3,"epoch":3,"first":3,"intervals":[{"acting":[0,1,2],"acting_primary":0,"first":1,"last":2,"min_size":2,"rw":true,"size":3,"up":[null,null,null],"up_primary":null}],"les":0,"missing":[],"ok":"ask","pg":[1,0],"probe":[[0,0],[3,1],[4,2]],"up":[null,null,null],"up_primary":null,"verdict":"Down"}"#,
-);
-
-#[test]
-fn is_down_where_too_few_shards_are_left(rt: HostRuntime) -> Result<(), Fail> {
-    is_answered(&rt, &TOO_FEW)
-}
-
-static ONE_LOST: Case = Case(
-    SHARDS,
-    &[SERVED, MOVED, LOST],
-    r#"{"acting":[0,3,4],"acting_primary":0,"best":null,"blocked_by":[],"count":4,"epoch":4,"first":3,"intervals":[{"acting":[0,1,2],"acting_primary":0,"first":1,"last":2,"min_size":2,"rw":true,"size":3,"up":[null,null,null],"up_primary":null}],"les":0,"missing":[],"ok":"ask","pg":[1,0],"probe":[[0,0],[3,1],[4,2]],"up":[null,null,null],"up_primary":null,"verdict":"Waiting"}"#,
-);
-
-#[test]
-fn waits_no_more_for_a_lost_shard(rt: HostRuntime) -> Result<(), Fail> {
-    is_answered(&rt, &ONE_LOST)
-}
-
-static ONE_DESTROYED: Case = Case(
-    SHARDS,
-    &[SERVED, MOVED, LOST, r#"{"op":"inc","epoch":5,"gone":[1]}"#],
-    r#"{"acting":[0,3,4],"acting_primary":0,"best":null,"blocked_by":[2],"count":5,"epoch":5,"first":3,"intervals":[{"acting":[0,1,2],"acting_primary":0,"first":1,"last":2,"min_size":2,"rw":true,"size":3,"up":[null,null,null],"up_primary":null}],"les":0,"missing":[],"ok":"ask","pg":[1,0],"probe":[[0,0],[3,1],[4,2]],"up":[null,null,null],"up_primary":null,"verdict":"Down"}"#,
-);
-
-#[test]
-fn is_down_again_once_a_lost_shard_is_destroyed(rt: HostRuntime) -> Result<(), Fail> {
-    is_answered(&rt, &ONE_DESTROYED)
-}
-
-/// A pool whose first interval may have gone read-write, and then lines with what is answered after each of them.
-struct Outage(&'static [(&'static str, &'static str)]);
+/// What a group does whose first interval may have gone read-write, and lines with what is answered after each of them.
+struct Outage(&'static str, &'static [(&'static str, &'static str)]);
 
 /// Whether just this is answered after each line, by one group that is asked each time.
 fn goes_so(alloc: Global, outage: &Outage) -> Result<bool, Fail> {
-    let Outage(steps) = outage;
+    let Outage(_, steps) = outage;
     let mut told = Told::begin(alloc, SHARDS)?;
     told.take_all(alloc, &[SERVED])?;
     told.answers(alloc, 2, steps)
@@ -127,202 +202,72 @@ const TWO_DOWN: &str =
 const ONE_GIVEN_UP: &str =
     r#"{"acting":[0,3,4],"acting_primary":0,"best":null,"blocked_by":[],"count":4,"epoch":4,"first":3,"intervals":[{"acting":[0,1,2],"acting_primary":0,"first":1,"last":2,"min_size":2,"rw":true,"size":3,"up":[null,null,null],"up_primary":null}],"les":0,"missing":[],"ok":"ask","pg":[1,0],"probe":[[0,0],[3,1],[4,2]],"up":[null,null,null],"up_primary":null,"verdict":"Waiting"}"#;
 
-static LOST_AND_DESTROYED: Outage = Outage(&[
-    (MOVED, TWO_DOWN),
-    (LOST, ONE_GIVEN_UP),
-    (
-        r#"{"op":"inc","epoch":5,"gone":[1]}"#,
-        r#"{"acting":[0,3,4],"acting_primary":0,"best":null,"blocked_by":[2],"count":5,"epoch":5,"first":3,"intervals":[{"acting":[0,1,2],"acting_primary":0,"first":1,"last":2,"min_size":2,"rw":true,"size":3,"up":[null,null,null],"up_primary":null}],"les":0,"missing":[],"ok":"ask","pg":[1,0],"probe":[[0,0],[3,1],[4,2]],"up":[null,null,null],"up_primary":null,"verdict":"Down"}"#,
+static OUTAGES: [Outage; 4] = [
+    Outage(
+        "follows shards that are destroyed after one was lost",
+        &[
+            (MOVED, TWO_DOWN),
+            (LOST, ONE_GIVEN_UP),
+            (
+                r#"{"op":"inc","epoch":5,"gone":[1]}"#,
+                r#"{"acting":[0,3,4],"acting_primary":0,"best":null,"blocked_by":[2],"count":5,"epoch":5,"first":3,"intervals":[{"acting":[0,1,2],"acting_primary":0,"first":1,"last":2,"min_size":2,"rw":true,"size":3,"up":[null,null,null],"up_primary":null}],"les":0,"missing":[],"ok":"ask","pg":[1,0],"probe":[[0,0],[3,1],[4,2]],"up":[null,null,null],"up_primary":null,"verdict":"Down"}"#,
+            ),
+            (
+                r#"{"op":"inc","epoch":6,"gone":[2]}"#,
+                r#"{"acting":[0,3,4],"acting_primary":0,"best":null,"blocked_by":[],"count":6,"epoch":6,"first":3,"intervals":[{"acting":[0,1,2],"acting_primary":0,"first":1,"last":2,"min_size":2,"rw":true,"size":3,"up":[null,null,null],"up_primary":null}],"les":0,"missing":[],"ok":"ask","pg":[1,0],"probe":[[0,0],[3,1],[4,2]],"up":[null,null,null],"up_primary":null,"verdict":"Waiting"}"#,
+            ),
+        ],
     ),
-    (
-        r#"{"op":"inc","epoch":6,"gone":[2]}"#,
-        r#"{"acting":[0,3,4],"acting_primary":0,"best":null,"blocked_by":[],"count":6,"epoch":6,"first":3,"intervals":[{"acting":[0,1,2],"acting_primary":0,"first":1,"last":2,"min_size":2,"rw":true,"size":3,"up":[null,null,null],"up_primary":null}],"les":0,"missing":[],"ok":"ask","pg":[1,0],"probe":[[0,0],[3,1],[4,2]],"up":[null,null,null],"up_primary":null,"verdict":"Waiting"}"#,
+    Outage(
+        "follows a shard that is lost and then is so no more",
+        &[
+            (MOVED, TWO_DOWN),
+            (LOST, ONE_GIVEN_UP),
+            (
+                r#"{"op":"inc","epoch":5,"lost":[[1,1]]}"#,
+                r#"{"acting":[0,3,4],"acting_primary":0,"best":null,"blocked_by":[1,2],"count":5,"epoch":5,"first":3,"intervals":[{"acting":[0,1,2],"acting_primary":0,"first":1,"last":2,"min_size":2,"rw":true,"size":3,"up":[null,null,null],"up_primary":null}],"les":0,"missing":[],"ok":"ask","pg":[1,0],"probe":[[0,0],[3,1],[4,2]],"up":[null,null,null],"up_primary":null,"verdict":"Down"}"#,
+            ),
+            (
+                r#"{"op":"inc","epoch":6,"up":[1]}"#,
+                r#"{"acting":[0,3,4],"acting_primary":0,"best":null,"blocked_by":[],"count":6,"epoch":6,"first":3,"intervals":[{"acting":[0,1,2],"acting_primary":0,"first":1,"last":2,"min_size":2,"rw":true,"size":3,"up":[null,null,null],"up_primary":null}],"les":0,"missing":[],"ok":"ask","pg":[1,0],"probe":[[0,0],[1,1],[3,1],[4,2]],"up":[null,null,null],"up_primary":null,"verdict":"Waiting"}"#,
+            ),
+        ],
     ),
-]);
+    Outage(
+        "waits on for a shard lost before the interval began",
+        &[
+            (MOVED, TWO_DOWN),
+            (
+                r#"{"op":"inc","epoch":4,"lost":[[1,1]]}"#,
+                r#"{"acting":[0,3,4],"acting_primary":0,"best":null,"blocked_by":[1,2],"count":4,"epoch":4,"first":3,"intervals":[{"acting":[0,1,2],"acting_primary":0,"first":1,"last":2,"min_size":2,"rw":true,"size":3,"up":[null,null,null],"up_primary":null}],"les":0,"missing":[],"ok":"ask","pg":[1,0],"probe":[[0,0],[3,1],[4,2]],"up":[null,null,null],"up_primary":null,"verdict":"Down"}"#,
+            ),
+        ],
+    ),
+    Outage(
+        "follows a shard that comes up again",
+        &[
+            (MOVED, TWO_DOWN),
+            (
+                r#"{"op":"inc","epoch":4,"up":[1]}"#,
+                r#"{"acting":[0,3,4],"acting_primary":0,"best":null,"blocked_by":[],"count":4,"epoch":4,"first":3,"intervals":[{"acting":[0,1,2],"acting_primary":0,"first":1,"last":2,"min_size":2,"rw":true,"size":3,"up":[null,null,null],"up_primary":null}],"les":0,"missing":[],"ok":"ask","pg":[1,0],"probe":[[0,0],[1,1],[3,1],[4,2]],"up":[null,null,null],"up_primary":null,"verdict":"Waiting"}"#,
+            ),
+            (
+                r#"{"op":"info","pg":[1,0],"from":[1,1],"stamp":3,"les":0,"history_les":0,"last_update":[0,0],"log_tail":[0,0],"complete":true}"#,
+                r#"{"acting":[0,3,4],"acting_primary":0,"best":null,"blocked_by":[],"count":5,"epoch":4,"first":3,"intervals":[{"acting":[0,1,2],"acting_primary":0,"first":1,"last":2,"min_size":2,"rw":true,"size":3,"up":[null,null,null],"up_primary":null}],"les":0,"missing":[],"ok":"ask","pg":[1,0],"probe":[[0,0],[1,1],[3,1],[4,2]],"up":[null,null,null],"up_primary":null,"verdict":"Waiting"}"#,
+            ),
+            (
+                r#"{"op":"info","pg":[1,0],"from":[0,0],"stamp":3,"les":0,"history_les":0,"last_update":[0,0],"log_tail":[0,0],"complete":true}"#,
+                r#"{"acting":[0,3,4],"acting_primary":0,"best":[0,0],"blocked_by":[],"count":6,"epoch":4,"first":3,"intervals":[{"acting":[0,1,2],"acting_primary":0,"first":1,"last":2,"min_size":2,"rw":true,"size":3,"up":[null,null,null],"up_primary":null}],"les":0,"missing":[],"ok":"ask","pg":[1,0],"probe":[[0,0],[1,1],[3,1],[4,2]],"up":[null,null,null],"up_primary":null,"verdict":"Waiting"}"#,
+            ),
+        ],
+    ),
+];
 
 #[test]
-fn follows_shards_that_are_destroyed_after_one_was_lost(rt: HostRuntime) -> Result<(), Fail> {
-    assert!(rt; goes_so(rt.alloc(), &LOST_AND_DESTROYED)?);
+fn groups_are_answered_after_each_line(rt: HostRuntime) -> Result<(), Fail> {
+    for outage in &OUTAGES {
+        let Outage(name, _) = outage;
+        assert!(rt; goes_so(rt.alloc(), outage)?, "{name}");
+    }
     Ok(())
-}
-
-static LOST_NO_MORE: Outage = Outage(&[
-    (MOVED, TWO_DOWN),
-    (LOST, ONE_GIVEN_UP),
-    (
-        r#"{"op":"inc","epoch":5,"lost":[[1,1]]}"#,
-        r#"{"acting":[0,3,4],"acting_primary":0,"best":null,"blocked_by":[1,2],"count":5,"epoch":5,"first":3,"intervals":[{"acting":[0,1,2],"acting_primary":0,"first":1,"last":2,"min_size":2,"rw":true,"size":3,"up":[null,null,null],"up_primary":null}],"les":0,"missing":[],"ok":"ask","pg":[1,0],"probe":[[0,0],[3,1],[4,2]],"up":[null,null,null],"up_primary":null,"verdict":"Down"}"#,
-    ),
-    (
-        r#"{"op":"inc","epoch":6,"up":[1]}"#,
-        r#"{"acting":[0,3,4],"acting_primary":0,"best":null,"blocked_by":[],"count":6,"epoch":6,"first":3,"intervals":[{"acting":[0,1,2],"acting_primary":0,"first":1,"last":2,"min_size":2,"rw":true,"size":3,"up":[null,null,null],"up_primary":null}],"les":0,"missing":[],"ok":"ask","pg":[1,0],"probe":[[0,0],[1,1],[3,1],[4,2]],"up":[null,null,null],"up_primary":null,"verdict":"Waiting"}"#,
-    ),
-]);
-
-#[test]
-fn follows_a_shard_that_is_lost_and_then_is_so_no_more(rt: HostRuntime) -> Result<(), Fail> {
-    assert!(rt; goes_so(rt.alloc(), &LOST_NO_MORE)?);
-    Ok(())
-}
-
-static TOLD_LOST_TOO_EARLY: Outage = Outage(&[
-    (MOVED, TWO_DOWN),
-    (
-        r#"{"op":"inc","epoch":4,"lost":[[1,1]]}"#,
-        r#"{"acting":[0,3,4],"acting_primary":0,"best":null,"blocked_by":[1,2],"count":4,"epoch":4,"first":3,"intervals":[{"acting":[0,1,2],"acting_primary":0,"first":1,"last":2,"min_size":2,"rw":true,"size":3,"up":[null,null,null],"up_primary":null}],"les":0,"missing":[],"ok":"ask","pg":[1,0],"probe":[[0,0],[3,1],[4,2]],"up":[null,null,null],"up_primary":null,"verdict":"Down"}"#,
-    ),
-]);
-
-#[test]
-fn waits_on_for_a_shard_lost_before_the_interval_began(rt: HostRuntime) -> Result<(), Fail> {
-    assert!(rt; goes_so(rt.alloc(), &TOLD_LOST_TOO_EARLY)?);
-    Ok(())
-}
-
-static UP_AGAIN: Outage = Outage(&[
-    (MOVED, TWO_DOWN),
-    (
-        r#"{"op":"inc","epoch":4,"up":[1]}"#,
-        r#"{"acting":[0,3,4],"acting_primary":0,"best":null,"blocked_by":[],"count":4,"epoch":4,"first":3,"intervals":[{"acting":[0,1,2],"acting_primary":0,"first":1,"last":2,"min_size":2,"rw":true,"size":3,"up":[null,null,null],"up_primary":null}],"les":0,"missing":[],"ok":"ask","pg":[1,0],"probe":[[0,0],[1,1],[3,1],[4,2]],"up":[null,null,null],"up_primary":null,"verdict":"Waiting"}"#,
-    ),
-    (
-        r#"{"op":"info","pg":[1,0],"from":[1,1],"stamp":3,"les":0,"history_les":0,"last_update":[0,0],"log_tail":[0,0],"complete":true}"#,
-        r#"{"acting":[0,3,4],"acting_primary":0,"best":null,"blocked_by":[],"count":5,"epoch":4,"first":3,"intervals":[{"acting":[0,1,2],"acting_primary":0,"first":1,"last":2,"min_size":2,"rw":true,"size":3,"up":[null,null,null],"up_primary":null}],"les":0,"missing":[],"ok":"ask","pg":[1,0],"probe":[[0,0],[1,1],[3,1],[4,2]],"up":[null,null,null],"up_primary":null,"verdict":"Waiting"}"#,
-    ),
-    (
-        r#"{"op":"info","pg":[1,0],"from":[0,0],"stamp":3,"les":0,"history_les":0,"last_update":[0,0],"log_tail":[0,0],"complete":true}"#,
-        r#"{"acting":[0,3,4],"acting_primary":0,"best":[0,0],"blocked_by":[],"count":6,"epoch":4,"first":3,"intervals":[{"acting":[0,1,2],"acting_primary":0,"first":1,"last":2,"min_size":2,"rw":true,"size":3,"up":[null,null,null],"up_primary":null}],"les":0,"missing":[],"ok":"ask","pg":[1,0],"probe":[[0,0],[1,1],[3,1],[4,2]],"up":[null,null,null],"up_primary":null,"verdict":"Waiting"}"#,
-    ),
-]);
-
-#[test]
-fn follows_a_shard_that_comes_up_again(rt: HostRuntime) -> Result<(), Fail> {
-    assert!(rt; goes_so(rt.alloc(), &UP_AGAIN)?);
-    Ok(())
-}
-
-static EARLIER_INFOS: Case = Case(
-    COPIES,
-    &[RESIZED, EMPTY_0, EMPTY_1, EMPTY_2],
-    r#"{"acting":[0,1,2],"acting_primary":0,"best":null,"blocked_by":[],"count":5,"epoch":2,"first":2,"intervals":[{"acting":[0,1,2],"acting_primary":0,"first":1,"last":1,"min_size":2,"rw":false,"size":3,"up":[0],"up_primary":0}],"les":0,"missing":[],"ok":"ask","pg":[1,0],"probe":[[0,0],[1,0],[2,0]],"up":[0],"up_primary":0,"verdict":"Waiting"}"#,
-);
-
-#[test]
-fn hears_no_info_of_an_earlier_interval(rt: HostRuntime) -> Result<(), Fail> {
-    is_answered(&rt, &EARLIER_INFOS)
-}
-
-static CURRENT_INFO: Case = Case(
-    COPIES,
-    &[
-        RESIZED,
-        EMPTY_0,
-        EMPTY_1,
-        EMPTY_2,
-        r#"{"op":"info","pg":[1,0],"from":[0,0],"stamp":2,"les":0,"history_les":0,"last_update":[0,0],"log_tail":[0,0],"complete":true}"#,
-    ],
-    r#"{"acting":[0,1,2],"acting_primary":0,"best":[0,0],"blocked_by":[],"count":6,"epoch":2,"first":2,"intervals":[{"acting":[0,1,2],"acting_primary":0,"first":1,"last":1,"min_size":2,"rw":false,"size":3,"up":[0],"up_primary":0}],"les":0,"missing":[],"ok":"ask","pg":[1,0],"probe":[[0,0],[1,0],[2,0]],"up":[0],"up_primary":0,"verdict":"Waiting"}"#,
-);
-
-#[test]
-fn hears_an_info_of_the_current_interval(rt: HostRuntime) -> Result<(), Fail> {
-    is_answered(&rt, &CURRENT_INFO)
-}
-
-static PRIMARY_NOT_COMPLETE: Case = Case(
-    COPIES,
-    &[
-        r#"{"op":"info","pg":[1,0],"from":[0,0],"stamp":1,"les":0,"history_les":0,"last_update":[0,0],"log_tail":[0,0],"complete":false}"#,
-        EMPTY_1,
-        EMPTY_2,
-    ],
-    r#"{"acting":[0,1,2],"acting_primary":0,"best":[1,0],"blocked_by":[],"count":4,"epoch":1,"first":1,"intervals":[],"les":0,"missing":[{"member":[0,0],"state":"backfill"},{"member":[2,0],"objects":{},"state":"missing"}],"ok":"ask","pg":[1,0],"probe":[[0,0],[1,0],[2,0]],"up":[0],"up_primary":0,"verdict":"NeedUpThru"}"#,
-);
-
-#[test]
-fn goes_by_another_copy_where_that_of_the_primary_is_not_complete(
-    rt: HostRuntime,
-) -> Result<(), Fail> {
-    is_answered(&rt, &PRIMARY_NOT_COMPLETE)
-}
-
-static WRITTEN_LEAST: Case = Case(
-    SHARDS,
-    &[
-        r#"{"op":"info","pg":[1,0],"from":[0,0],"stamp":1,"les":0,"history_les":0,"last_update":[1,2],"log_tail":[0,0],"complete":true}"#,
-        r#"{"op":"info","pg":[1,0],"from":[1,1],"stamp":1,"les":0,"history_les":0,"last_update":[1,1],"log_tail":[0,0],"complete":true}"#,
-        r#"{"op":"info","pg":[1,0],"from":[2,2],"stamp":1,"les":0,"history_les":0,"last_update":[1,2],"log_tail":[0,0],"complete":true}"#,
-        r#"{"op":"entries","pg":[1,0],"from":[1,1],"stamp":1,"log":[[1,1,"modify","a"]]}"#,
-    ],
-    r#"{"acting":[0,1,2],"acting_primary":0,"best":[1,1],"blocked_by":[],"count":5,"epoch":1,"first":1,"intervals":[],"les":0,"missing":[{"member":[0,0],"state":"diverged"},{"member":[2,2],"state":"diverged"}],"ok":"ask","pg":[1,0],"probe":[[0,0],[1,1],[2,2]],"up":[null,null,null],"up_primary":null,"verdict":"NeedUpThru"}"#,
-);
-
-#[test]
-fn goes_by_the_shard_that_was_written_least(rt: HostRuntime) -> Result<(), Fail> {
-    is_answered(&rt, &WRITTEN_LEAST)
-}
-
-static ENTRIES_AGAIN: Case = Case(
-    COPIES,
-    &[
-        WRITTEN,
-        EMPTY_1,
-        EMPTY_2,
-        r#"{"op":"entries","pg":[1,0],"from":[0,0],"stamp":1,"log":[[1,3,"modify","c"],[1,1,"modify","a"],[1,2,"modify","x"],[1,2,"modify","b"]]}"#,
-    ],
-    r#"{"acting":[0,1,2],"acting_primary":0,"best":[0,0],"blocked_by":[],"count":5,"epoch":1,"first":1,"intervals":[],"les":0,"missing":[{"member":[1,0],"objects":{"a":[1,1],"b":[1,2],"c":[1,3]},"state":"missing"},{"member":[2,0],"objects":{"a":[1,1],"b":[1,2],"c":[1,3]},"state":"missing"}],"ok":"ask","pg":[1,0],"probe":[[0,0],[1,0],[2,0]],"up":[0],"up_primary":0,"verdict":"NeedUpThru"}"#,
-);
-
-#[test]
-fn takes_the_last_entry_of_each_number(rt: HostRuntime) -> Result<(), Fail> {
-    is_answered(&rt, &ENTRIES_AGAIN)
-}
-
-static NOT_WHOLE: Case = Case(
-    COPIES,
-    &[
-        WRITTEN,
-        EMPTY_1,
-        EMPTY_2,
-        r#"{"op":"entries","pg":[1,0],"from":[0,0],"stamp":1,"log":[[1,3,"modify","c"],[1,1,"modify","a"]]}"#,
-    ],
-    r#"{"acting":[0,1,2],"acting_primary":0,"best":[0,0],"blocked_by":[],"count":5,"epoch":1,"first":1,"intervals":[],"les":0,"missing":[],"ok":"ask","pg":[1,0],"probe":[[0,0],[1,0],[2,0]],"up":[0],"up_primary":0,"verdict":"NeedLog"}"#,
-);
-
-#[test]
-fn needs_the_whole_log_of_the_best_copy(rt: HostRuntime) -> Result<(), Fail> {
-    is_answered(&rt, &NOT_WHOLE)
-}
-
-static DELETED_LAST: Case = Case(
-    COPIES,
-    &[
-        WRITTEN,
-        EMPTY_1,
-        EMPTY_2,
-        r#"{"op":"entries","pg":[1,0],"from":[0,0],"stamp":1,"log":[[1,1,"modify","a"],[1,2,"modify","b"],[1,3,"delete","a"]]}"#,
-    ],
-    r#"{"acting":[0,1,2],"acting_primary":0,"best":[0,0],"blocked_by":[],"count":5,"epoch":1,"first":1,"intervals":[],"les":0,"missing":[{"member":[1,0],"objects":{"b":[1,2]},"state":"missing"},{"member":[2,0],"objects":{"b":[1,2]},"state":"missing"}],"ok":"ask","pg":[1,0],"probe":[[0,0],[1,0],[2,0]],"up":[0],"up_primary":0,"verdict":"NeedUpThru"}"#,
-);
-
-#[test]
-fn lists_no_object_that_was_deleted_last(rt: HostRuntime) -> Result<(), Fail> {
-    is_answered(&rt, &DELETED_LAST)
-}
-
-static KNOWN_UP: Case = Case(
-    COPIES,
-    &[
-        r#"{"op":"info","pg":[1,0],"from":[0,0],"stamp":1,"les":0,"history_les":0,"last_update":[1,2],"log_tail":[0,0],"complete":true}"#,
-        r#"{"op":"info","pg":[1,0],"from":[1,0],"stamp":1,"les":0,"history_les":0,"last_update":[1,1],"log_tail":[0,0],"complete":true}"#,
-        EMPTY_2,
-        r#"{"op":"entries","pg":[1,0],"from":[0,0],"stamp":1,"log":[[1,1,"modify","a"],[1,2,"modify","b"]]}"#,
-        SERVED,
-    ],
-    r#"{"acting":[0,1,2],"acting_primary":0,"best":[0,0],"blocked_by":[],"count":6,"epoch":2,"first":1,"intervals":[],"les":0,"missing":[{"member":[1,0],"objects":{"b":[1,2]},"state":"missing"},{"member":[2,0],"objects":{"a":[1,1],"b":[1,2]},"state":"missing"}],"ok":"ask","pg":[1,0],"probe":[[0,0],[1,0],[2,0]],"up":[0],"up_primary":0,"verdict":"Serve"}"#,
-);
-
-#[test]
-fn serves_once_its_primary_is_known_to_be_up(rt: HostRuntime) -> Result<(), Fail> {
-    is_answered(&rt, &KNOWN_UP)
 }

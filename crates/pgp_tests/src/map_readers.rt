@@ -1,7 +1,8 @@
 //! What a map says of a device, its pool, its group and its tree, after a few incrementals.
 
-use super::fixtures::{COPIES, group, incremental, places};
-use pgp_ids::{Epoch, Incremental, OsdId};
+use super::fixtures::{COPIES, group, places};
+use super::peering::grow;
+use pgp_ids::{Epoch, OsdId};
 use pgp_map::OsdMap;
 use std::alloc::Global;
 use std::test::Fail;
@@ -17,18 +18,11 @@ static LINES: [&str; 6] = [
     r#"{"op":"inc","epoch":6,"down":[1]}"#,
 ];
 
-fn take(map: &mut OsdMap, inc: &Incremental) -> Result<(), Fail> {
-    map.check(inc)?;
-    map.apply(inc)?;
-    Ok(())
-}
-
 /// The map of all lines.
 fn map_of(alloc: Global) -> Result<OsdMap, Fail> {
     let mut map = OsdMap::empty(alloc);
     for line in &LINES {
-        let inc = incremental(alloc, line).ok_or("no incremental")?;
-        take(&mut map, &inc)?;
+        grow(alloc, &mut map, line)?;
     }
     Ok(map)
 }

@@ -11,7 +11,12 @@ use std::sync::Arc;
 use std::test::Fail;
 
 /// Has the shard read the entry that the line is.
-fn tell(alloc: Global, judge: &mut Judge, state: &mut ShardState, line: &str) -> Result<(), Fail>
+pub fn tell(
+    alloc: Global,
+    judge: &mut Judge,
+    state: &mut ShardState,
+    line: &str,
+) -> Result<(), Fail>
     requires { IsJudgeOf state.old.front judge.old }
     ensures { OnOk result (IsJudgeOf state.new.front judge.new) }
 {
@@ -58,7 +63,7 @@ fn tell_all(
 }
 
 /// Where this many groups may be worked out anew, that many have to be after it.
-fn leaves<R: Abort>(
+pub fn leaves<R: Abort>(
     rt: &R,
     state: &mut ShardState,
     max: usize,

@@ -18,12 +18,12 @@ const WITHOUT_TEMP: &str =
     r#"{"op":"inc","epoch":1,"up":[0,1,2],"weight":[[1,0],[2,0]],"crush":[{"id":-1,"type":1,"alg":"uniform","items":[0,1,2]}],"pools":[{"id":1,"pg_num":1,"kind":"replicated","size":3,"min_size":2,"leaf":0}]}"#;
 
 /// The map with one incremental more.
-fn grow(alloc: Global, map: &mut OsdMap, line: &str) -> Result<(), Fail> {
+pub fn grow(alloc: Global, map: &mut OsdMap, line: &str) -> Result<(), Fail> {
     let inc = incremental(alloc, line).ok_or("no incremental")?;
     take(map, &inc)
 }
 
-fn take(map: &mut OsdMap, inc: &Incremental) -> Result<(), Fail> {
+pub fn take(map: &mut OsdMap, inc: &Incremental) -> Result<(), Fail> {
     map.check(inc)?;
     map.apply(inc)?;
     Ok(())

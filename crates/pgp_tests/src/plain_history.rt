@@ -1,7 +1,7 @@
 //! A group's history as maps and infos tell it: each epoch is kept, and each answer is worked out from scratch.
 
 use super::fixtures::group;
-use super::peering::{facts_of, members_of};
+use super::peering::{facts_of, members_of, take};
 use pgp_code::{AnyCode, Recoverable};
 use pgp_ids::{
     Entry, Epoch, EpochState, Incremental, Info, Membership, Osds, Past, PgId, SLOT_LIMIT, SlotSet,
@@ -65,8 +65,7 @@ impl History {
     pub fn begin(alloc: Global, inc: &Incremental) -> Result<History, Fail> {
         let pg = group()?;
         let mut map = OsdMap::empty(alloc);
-        map.check(inc)?;
-        map.apply(inc)?;
+        take(&mut map, inc)?;
         let Some(pool) = map.pool(pg.pool) else {
             return Err(Fail::new("no pool"));
         };
@@ -91,8 +90,7 @@ impl History {
     }
 
     fn take_inc(&mut self, inc: &Incremental) -> Result<(), Fail> {
-        self.map.check(inc)?;
-        self.map.apply(inc)?;
+        take(&mut self.map, inc)?;
         let state = state_of(&self.map, self.pg).ok_or("no such group")?;
         self.states.push(state)?;
         Ok(())

@@ -6,7 +6,7 @@ use pgp_ids::{
     AskRefusal, Epoch, Member, MissingObject, ObjectName, OsdId, Osds, PeerMissing, PeerState,
     Refusal, Seq, Verdict, Version, View,
 };
-use pgp_text::{LineReader, Refused, Reply, read_line};
+use pgp_text::{Command, LineReader, Refused, Reply, read_line};
 use std::alloc::{AllocError, Global};
 use std::test::Fail;
 
@@ -55,7 +55,11 @@ static LINES: [(&str, &str); 10] = [
 /// The command that the line is, as `Debug` writes it.
 fn words_of(alloc: Global, line: &str) -> Result<String, Fail> {
     let command = read_line(alloc, line.as_bytes())?;
-    Ok(format!(in alloc; "{command:?}")?)
+    Ok(debug_of(alloc, &command)?)
+}
+
+fn debug_of(alloc: Global, command: &Command) -> Result<String, AllocError> {
+    format!(in alloc; "{command:?}")
 }
 
 #[test]
@@ -79,9 +83,13 @@ static IN_ROOM: [&str; 4] = [
 const LONG: &str =
     r#"{"op":"inc","v":2,"epoch":1,"up":[0,1,2,3,4,5],"pools":[{"id":1,"pg_num":1,"kind":"grouped","groups":[[[0,1],1],[[2],1]],"size":3,"min_size":2,"leaf":0}],"temp":[[1,0,[0,1,2]]]}"#;
 
+fn is_read(alloc: Global, reader: &mut LineReader, line: &str) -> bool {
+    reader.read(alloc, line.as_bytes()).is_ok()
+}
+
 /// Whether the line is read. One allocation may be refused, and then it is read once more.
 fn is_read_surely(alloc: Global, reader: &mut LineReader, line: &str) -> bool {
-    reader.read(alloc, line.as_bytes()).is_ok() || reader.read(alloc, line.as_bytes()).is_ok()
+    is_read(alloc, reader, line) || is_read(alloc, reader, line)
 }
 
 /// None of these lines takes memory: under `rt try --test --fail-alloc N`, where the Nth allocation is refused, each is read
@@ -91,7 +99,7 @@ fn reads_lines_in_room_that_is_there(rt: HostRuntime) {
     let mut reader = LineReader::new(rt.alloc());
     assert!(rt; is_read_surely(rt.alloc(), &mut reader, LONG));
     for line in &IN_ROOM {
-        assert!(rt; reader.read(rt.alloc(), line.as_bytes()).is_ok(), "{line}");
+        assert!(rt; is_read(rt.alloc(), &mut reader, line), "{line}");
     }
 }
 
