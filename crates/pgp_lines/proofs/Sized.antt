@@ -23,12 +23,13 @@ use Rattle.pgp_lines.specs.Ids.{osd_in, pool_id_in, word_in}
 use Rattle.pgp_lines.specs.Incremental.{inc_of}
 use Rattle.pgp_lines.specs.ReportParts.{pg_in, member_in, name_in, log_entry_in}
 use Rattle.pgp_lines.specs.Reports.{history_of, reach_of, info_of, entries_of, locate_of}
-use Rattle.pgp_lines.specs.Command.{op_in, op_keys, trace_of, values_of, command_with, known, command_in, IsTraceCode, IsGroup, IsMember, IsEntry, IsInRange}
+use Rattle.pgp_lines.specs.Command.{trace_of, values_of, command_with, known, command_in, IsTraceCode, IsGroup, IsMember, IsEntry, IsInRange}
+use Rattle.pgp_lines.specs.Op.{op_in, op_keys}
 use Rattle.pgp_lines.specs.declared.command.Command.{Command}
 use Rattle.pgp_lines.specs.declared.command.Command.TheVariants.{Locate}
 use Rattle.pgp_lines.specs.declared.command.format.Format.{Format}
-use Rattle.pgp_lines.specs.declared.command.Op.{Op}
-use Rattle.pgp_lines.specs.declared.command.Op.TheVariants as op
+use Rattle.pgp_lines.specs.declared.command.op.Op.{Op}
+use Rattle.pgp_lines.specs.declared.command.op.Op.TheVariants as op
 
 -- ---- what holds of a value that is read step by step
 

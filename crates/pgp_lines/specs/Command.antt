@@ -1,9 +1,8 @@
 -- The command that a line is, in this project's own format over JSON (RFC 8259).
-use Rattle.std.specs.Prelude.{◌≡◌, ◌≤◌, ℕ, true, List, [], ◌∷◌, length, codes, if◌then◌else◌, Option, Some, None, Result, Ok, Err, option_and_then}
+use Rattle.std.specs.Prelude.{◌≡◌, ◌≤◌, ℕ, true, List, length, codes, if◌then◌else◌, Option, Some, None, Result, Ok, Err}
 use Rattle.std.specs.Option.{ok_or}
-use Rattle.std.specs.Str.{bytes_eq, is_utf8}
+use Rattle.std.specs.Str.{is_utf8}
 use Rattle.serde_json.specs.Data.{Data}
-use Rattle.serde_json.specs.Find.{as_str}
 use Rattle.serde_json.specs.Read.{read}
 use Rattle.pgp_ids.specs.Parts.{are_parts}
 use Rattle.pgp_ids.specs.Pool.{is_by_place}
@@ -14,41 +13,17 @@ use Rattle.pgp_ids.specs.declared.pg_id.PgId.{PgId}
 use Rattle.pgp_ids.specs.declared.pool.PoolKind.{PoolKind}
 use Rattle.pgp_ids.specs.declared.pool.PoolKind.TheVariants.{Replicated, Erasure, Grouped}
 use Rattle.pgp_lines.specs.LineFault.{LineFault, not_json, no_op, unknown_key, ◌>>=◌}
-use Rattle.pgp_lines.specs.Shapes.{unknown_key_in, field, required}
+use Rattle.pgp_lines.specs.Op.{op_in, op_keys}
+use Rattle.pgp_lines.specs.Shapes.{unknown_key_in, required}
 use Rattle.pgp_lines.specs.Format.{format_of, read_in, judged}
-use Rattle.pgp_lines.specs.Incremental.{inc_keys, inc_of}
-use Rattle.pgp_lines.specs.Reports.{info_keys, info_of, entries_keys, entries_of, ask_keys, ask_of, locate_keys, locate_of}
-use Rattle.pgp_lines.specs.Trace.{trace_keys, code_in, epochs_in}
+use Rattle.pgp_lines.specs.Incremental.{inc_of}
+use Rattle.pgp_lines.specs.Reports.{info_of, entries_of, ask_of, locate_of}
+use Rattle.pgp_lines.specs.Trace.{code_in, epochs_in}
 use Rattle.pgp_lines.specs.declared.command.Command.{Command}
 use Rattle.pgp_lines.specs.declared.command.Command.TheVariants.{Submit, Ask, Locate, Trace}
 use Rattle.pgp_lines.specs.declared.command.format.Format.{Format}
-use Rattle.pgp_lines.specs.declared.command.Op.{Op}
-use Rattle.pgp_lines.specs.declared.command.Op.TheVariants as op
-
--- the operation of this name
-abbrev pub op_named : List ℕ → Option Op
-op_named name =
-    if bytes_eq name (codes "ask") then Some op.Ask
-    else (if bytes_eq name (codes "close") then Some op.Close
-    else (if bytes_eq name (codes "entries") then Some op.Entries
-    else (if bytes_eq name (codes "inc") then Some op.Inc
-    else (if bytes_eq name (codes "info") then Some op.Info
-    else (if bytes_eq name (codes "locate") then Some op.Locate
-    else (if bytes_eq name (codes "trace") then Some op.Trace else None))))))
-
--- the operation that a line names
-abbrev pub op_in : Data → Option Op
-op_in d = option_and_then op_named (field (codes "op") as_str d)
-
--- the keys that its line may have
-abbrev pub op_keys : Op → List (List ℕ)
-op_keys op.Ask = ask_keys
-op_keys op.Close = codes "op" ∷ codes "v" ∷ []
-op_keys op.Entries = entries_keys
-op_keys op.Inc = inc_keys
-op_keys op.Info = info_keys
-op_keys op.Locate = locate_keys
-op_keys op.Trace = trace_keys
+use Rattle.pgp_lines.specs.declared.command.op.Op.{Op}
+use Rattle.pgp_lines.specs.declared.command.op.Op.TheVariants as op
 
 -- the line of a trace in this version: its keys are judged in ascending byte order, so the least bad one is named
 abbrev pub trace_of : Format → Data → Result Command LineFault

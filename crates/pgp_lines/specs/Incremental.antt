@@ -1,5 +1,5 @@
 -- The line of a map incremental, in this project's own format over JSON.
-use Rattle.std.specs.Prelude.{ℕ, List, [], ◌∷◌, codes, Option, None, Result, Ok}
+use Rattle.std.specs.Prelude.{ℕ, List, [], codes, Option, None, Result, Ok}
 use Rattle.serde_json.specs.Data.{Data}
 use Rattle.pgp_ids.specs.declared.bucket.BucketSpec.{BucketSpec}
 use Rattle.pgp_ids.specs.declared.incremental.Incremental.{Incremental}
@@ -14,24 +14,6 @@ use Rattle.pgp_lines.specs.declared.command.format.Format.{Format}
 use Rattle.pgp_lines.specs.declared.command.incremental.Coming.{Coming}
 use Rattle.pgp_lines.specs.declared.command.incremental.Going.{Going}
 use Rattle.pgp_lines.specs.declared.command.incremental.Pools.{Pools}
-
--- the keys that the line of an incremental may have
-abbrev pub inc_keys : List (List ℕ)
-inc_keys =
-    codes "crush"
-    ∷ codes "down"
-    ∷ codes "epoch"
-    ∷ codes "gone"
-    ∷ codes "lost"
-    ∷ codes "op"
-    ∷ codes "pools"
-    ∷ codes "sizes"
-    ∷ codes "temp"
-    ∷ codes "up"
-    ∷ codes "up_thru"
-    ∷ codes "v"
-    ∷ codes "weight"
-    ∷ []
 
 -- the list at a key, which is empty where the key is absent
 abbrev pub list_at : {A : Type 0} → List ℕ → (Data → Option A) → Data → Result (List A) LineFault

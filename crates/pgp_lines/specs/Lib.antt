@@ -12,4 +12,5 @@ pub mod Incremental
 pub mod Trace
 pub mod ReportParts
 pub mod Reports
+pub mod Op
 pub mod Command

@@ -1,5 +1,5 @@
 -- The lines of reports and of questions, in this project's own format over JSON.
-use Rattle.std.specs.Prelude.{ℕ, List, [], ◌∷◌, codes, Result, Ok}
+use Rattle.std.specs.Prelude.{ℕ, List, codes, Result, Ok}
 use Rattle.serde_json.specs.Data.{Data}
 use Rattle.serde_json.specs.Find.{as_bool}
 use Rattle.pgp_ids.specs.declared.pg_id.PgId.{PgId}
@@ -11,22 +11,6 @@ use Rattle.pgp_lines.specs.LineFault.{LineFault, ◌>>=◌}
 use Rattle.pgp_lines.specs.Shapes.{list_in, required, optional}
 use Rattle.pgp_lines.specs.Ids.{pool_id_in, word_in}
 use Rattle.pgp_lines.specs.ReportParts.{pg_in, member_in, version_in, name_in, log_entry_in}
-
--- the keys that the line of an info may have
-abbrev pub info_keys : List (List ℕ)
-info_keys =
-    codes "complete"
-    ∷ codes "from"
-    ∷ codes "history_les"
-    ∷ codes "last_epoch_clean"
-    ∷ codes "last_update"
-    ∷ codes "les"
-    ∷ codes "log_tail"
-    ∷ codes "op"
-    ∷ codes "pg"
-    ∷ codes "stamp"
-    ∷ codes "v"
-    ∷ []
 
 -- what a member knows of its group's history; a line without `last_epoch_clean` has epoch 0 for it
 abbrev pub history_of : Data → Result History LineFault
@@ -64,10 +48,6 @@ info_of d = do
     complete = complete;
   })
 
--- the keys that the line of log entries may have
-abbrev pub entries_keys : List (List ℕ)
-entries_keys = codes "from" ∷ codes "log" ∷ codes "op" ∷ codes "pg" ∷ codes "stamp" ∷ codes "v" ∷ []
-
 -- the line of 1 to 256 log entries
 abbrev pub entries_of : Data → Result Report LineFault
 entries_of d = do
@@ -77,17 +57,9 @@ entries_of d = do
   stamp ← required (codes "stamp") word_in d
   Ok (record { pg = pg; member = member; stamp = stamp; log = log })
 
--- the keys that the line of a question may have
-abbrev pub ask_keys : List (List ℕ)
-ask_keys = codes "op" ∷ codes "pg" ∷ codes "v" ∷ []
-
 -- the group that a line asks about
 abbrev pub ask_of : Data → Result PgId LineFault
 ask_of d = required (codes "pg") pg_in d
-
--- the keys that a line may have which asks where an object lies
-abbrev pub locate_keys : List (List ℕ)
-locate_keys = codes "name" ∷ codes "op" ∷ codes "pool" ∷ codes "v" ∷ []
 
 -- the pool and the name of the object that a line asks for
 abbrev pub locate_of : Data → Result (ℕ × List ℕ) LineFault

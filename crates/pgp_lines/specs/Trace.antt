@@ -103,7 +103,3 @@ epoch_state_in nulls d = if has_only epoch_keys d then epoch_fields_in nulls d e
 -- 1 to 4,096 epochs
 abbrev pub epochs_in : Bool → Data → Option (List EpochState)
 epochs_in nulls d = list_in 1 4096 (epoch_state_in nulls) d
-
--- the keys that the line of a trace may have
-abbrev pub trace_keys : List (List ℕ)
-trace_keys = codes "code" ∷ codes "epochs" ∷ codes "op" ∷ codes "v" ∷ []

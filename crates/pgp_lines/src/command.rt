@@ -1,10 +1,11 @@
 //! What a line says: the command that it is, or its first fault.
-ghost use Rattle.std.specs.Prelude.{◌≡◌, true, map, is_some, Err, IfOk, IfErr, IfSome};
+ghost use Rattle.std.specs.Prelude.{◌≡◌, true, is_some, Err, IfOk, IfErr, IfSome};
 ghost use Rattle.std.specs.Str.{is_utf8};
 ghost use Rattle.pgp_lines.specs.Value.{view};
 ghost use Rattle.serde_json.specs.Read.{read};
 ghost use Rattle.pgp_lines.specs.LineFault.{told, not_json};
-ghost use Rattle.pgp_lines.specs.Command.{op_in, op_keys, trace_of, values_of, command_with, command_in, data_of, command_of, IsInRange};
+ghost use Rattle.pgp_lines.specs.Command.{trace_of, values_of, command_with, command_in, data_of, command_of, IsInRange};
+ghost use Rattle.pgp_lines.specs.Op.{op_in};
 
 mod buckets;
 mod devices;
@@ -21,6 +22,7 @@ mod members;
 mod number;
 mod numbers;
 mod objects;
+mod op;
 mod pools;
 mod trace;
 mod value;
@@ -35,6 +37,7 @@ use info::read_info;
 use json::{Error, Scratch, Tape};
 use locate::read_locate;
 use objects::unknown_key;
+pub use op::Op;
 use pgp_ids::{Entry, EpochState, ObjectName, PgId, PoolId, PoolKind, Seq, TextFault};
 use simdutf8::compat::from_utf8;
 use std::alloc::Global;
@@ -62,18 +65,6 @@ pub enum Command {
         /// 1 to 4,096 epochs, the first of which is epoch 1.
         epochs: Seq<EpochState>,
     },
-}
-
-/// The operations, each with its own keys.
-#[derive(Clone, Copy)]
-enum Op {
-    Ask,
-    Close,
-    Entries,
-    Inc,
-    Info,
-    Locate,
-    Trace,
 }
 
 /// Reads a line, without its line feed, as one JSON text.
@@ -255,48 +246,7 @@ fn read_op_values(
 fn read_op(value: &Value<'_, '_>) -> Option<Op>
     ensures { result ≡ op_in (view value.now) }
 {
-    match value.get("op")?.as_str()? {
-        "ask" => Some(Op::Ask),
-        "close" => Some(Op::Close),
-        "entries" => Some(Op::Entries),
-        "inc" => Some(Op::Inc),
-        "info" => Some(Op::Info),
-        "locate" => Some(Op::Locate),
-        "trace" => Some(Op::Trace),
-        _ => None,
-    }
-}
-
-impl Op {
-    /// The keys that its line may have, in ascending byte order.
-    fn keys(self) -> &'static [&'static str]
-        ensures { map (λ k. k.now) result.now ≡ op_keys self }
-    {
-        match self {
-            Op::Ask => &["op", "pg", "v"],
-            Op::Close => &["op", "v"],
-            Op::Entries => &["from", "log", "op", "pg", "stamp", "v"],
-            Op::Inc => &[
-                "crush", "down", "epoch", "gone", "lost", "op", "pools", "sizes", "temp", "up",
-                "up_thru", "v", "weight",
-            ],
-            Op::Info => &[
-                "complete",
-                "from",
-                "history_les",
-                "last_epoch_clean",
-                "last_update",
-                "les",
-                "log_tail",
-                "op",
-                "pg",
-                "stamp",
-                "v",
-            ],
-            Op::Locate => &["name", "op", "pool", "v"],
-            Op::Trace => &["code", "epochs", "op", "v"],
-        }
-    }
+    Op::named(value.get("op")?.as_str()?)
 }
 
 /// The values of a trace in this version, `code` first: whether a place may be empty depends on it.

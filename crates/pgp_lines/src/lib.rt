@@ -8,4 +8,4 @@
 
 mod command;
 
-pub use command::{Command, LineReader, MAX_EPOCHS, read_line};
+pub use command::{Command, LineReader, MAX_EPOCHS, Op, read_line};

@@ -1,0 +1,59 @@
+-- The operations of lines: the name of each, and the keys that its line may have, in ascending byte order (this project's own format).
+use Rattle.std.specs.Prelude.{ℕ, List, [], ◌∷◌, codes, if◌then◌else◌, Option, Some, None, option_and_then}
+use Rattle.std.specs.Str.{bytes_eq}
+use Rattle.serde_json.specs.Data.{Data}
+use Rattle.serde_json.specs.Find.{as_str}
+use Rattle.pgp_lines.specs.Shapes.{field}
+use Rattle.pgp_lines.specs.declared.command.op.Op.{Op}
+use Rattle.pgp_lines.specs.declared.command.op.Op.TheVariants as op
+
+-- the operation of this name
+abbrev pub op_named : List ℕ → Option Op
+op_named name =
+    if bytes_eq name (codes "ask") then Some op.Ask
+    else (if bytes_eq name (codes "close") then Some op.Close
+    else (if bytes_eq name (codes "entries") then Some op.Entries
+    else (if bytes_eq name (codes "inc") then Some op.Inc
+    else (if bytes_eq name (codes "info") then Some op.Info
+    else (if bytes_eq name (codes "locate") then Some op.Locate
+    else (if bytes_eq name (codes "trace") then Some op.Trace else None))))))
+
+-- the operation that a line names
+abbrev pub op_in : Data → Option Op
+op_in d = option_and_then op_named (field (codes "op") as_str d)
+
+-- the keys that its line may have
+abbrev pub op_keys : Op → List (List ℕ)
+op_keys op.Ask = codes "op" ∷ codes "pg" ∷ codes "v" ∷ []
+op_keys op.Close = codes "op" ∷ codes "v" ∷ []
+op_keys op.Entries = codes "from" ∷ codes "log" ∷ codes "op" ∷ codes "pg" ∷ codes "stamp" ∷ codes "v" ∷ []
+op_keys op.Inc =
+    codes "crush"
+    ∷ codes "down"
+    ∷ codes "epoch"
+    ∷ codes "gone"
+    ∷ codes "lost"
+    ∷ codes "op"
+    ∷ codes "pools"
+    ∷ codes "sizes"
+    ∷ codes "temp"
+    ∷ codes "up"
+    ∷ codes "up_thru"
+    ∷ codes "v"
+    ∷ codes "weight"
+    ∷ []
+op_keys op.Info =
+    codes "complete"
+    ∷ codes "from"
+    ∷ codes "history_les"
+    ∷ codes "last_epoch_clean"
+    ∷ codes "last_update"
+    ∷ codes "les"
+    ∷ codes "log_tail"
+    ∷ codes "op"
+    ∷ codes "pg"
+    ∷ codes "stamp"
+    ∷ codes "v"
+    ∷ []
+op_keys op.Locate = codes "name" ∷ codes "op" ∷ codes "pool" ∷ codes "v" ∷ []
+op_keys op.Trace = codes "code" ∷ codes "epochs" ∷ codes "op" ∷ codes "v" ∷ []
