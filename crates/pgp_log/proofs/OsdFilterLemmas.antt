@@ -1,7 +1,10 @@
 -- Sets of devices that may have more than was put in.
-use Rattle.std.proofs.Common.{◌≡◌, ℕ, ◌*◌, ◌/◌, ◌%◌, ◌<◌, ◌≤◌, ◌^◌, true, not, nat_eq, bit_and, bit_or, w64, ap, inl, inr, arith}
+use Rattle.std.proofs.Common.{◌≡◌, ℕ, ◌+◌, ◌*◌, ◌/◌, ◌%◌, ◌<◌, ◌≤◌, ◌^◌, Bool, true, not, nat_eq, List, length, take, get_or, bit_and, bit_or, w64, ap, sym, ◌∙◌, inl, inr, arith}
 use Rattle.std.specs.Int.{bit_at}
-use Rattle.std.proofs.lemmas.Bool.{cases_Bool, eqb-true}
+use Rattle.std.specs.List.{list_any}
+use Rattle.std.proofs.lemmas.Bool.{cases_Bool, eqb-true, or_cases}
+use Rattle.std.proofs.lemmas.List.{take_all}
+use Rattle.std.proofs.lemmas.List.Folds.{list_any_more}
 use Rattle.std.proofs.lemmas.Nat.Bits.{bit_at_and, bit_at_or, bit_at-lt, bit_at-zero, bit_at_set_same}
 use Rattle.pgp_log.specs.OsdFilter.{Covers, CoversStill}
 use Rattle.pgp_log.specs.declared.osd_filter.OsdFilter.{OsdFilter}
@@ -9,7 +12,12 @@ use Rattle.pgp_log.specs.declared.osd_filter.OsdFilter.{OsdFilter}
 -- ---- one device more
 
 abbrev pub with_osd : OsdFilter → ℕ → OsdFilter
-with_osd set osd = record { low = bit_or set.low (1 * 2 ^ (osd % 64) % 18446744073709551616); high = bit_or set.high (1 * 2 ^ (osd / 64) % 18446744073709551616) }
+with_osd set osd =
+    record {
+      low = bit_or set.low (1 * 2 ^ (osd % 64) % 18446744073709551616);
+      high = bit_or set.high (1 * 2 ^ (osd / 64) % 18446744073709551616);
+      sum = bit_or set.sum (1 * 2 ^ ((osd % 64 + osd / 64) % 64) % 18446744073709551616);
+    }
 
 kept-bit : (n m i : ℕ) → bit_at n i ≡ 1 → bit_at (bit_or n m) i ≡ 1
 kept-bit n m i on = omega (arith, bit_at_or n m i, bit_at-lt m i, on)
@@ -21,19 +29,58 @@ pub added : (set : OsdFilter) (osd : ℕ) → osd ≤ 4095 → Covers (with_osd 
 added set osd fits =
     let low : osd % 64 < 64 = omega arith in
     let high : osd / 64 < 64 = omega (arith, fits) in
-    record { low = bit_at_set_same w64 set.low (osd % 64) low; high = bit_at_set_same w64 set.high (osd / 64) high }
+    let sum : (osd % 64 + osd / 64) % 64 < 64 = omega arith in
+    record {
+      low = bit_at_set_same w64 set.low (osd % 64) low;
+      high = bit_at_set_same w64 set.high (osd / 64) high;
+      sum = bit_at_set_same w64 set.sum ((osd % 64 + osd / 64) % 64) sum;
+    }
 
 pub still-added : (set : OsdFilter) (osd : ℕ) → CoversStill set (with_osd set osd)
 still-added set osd other is =
-    record { low = kept-bit set.low _ (other % 64) is.low; high = kept-bit set.high _ (other / 64) is.high }
+    record {
+      low = kept-bit set.low _ (other % 64) is.low;
+      high = kept-bit set.high _ (other / 64) is.high;
+      sum = kept-bit set.sum _ ((other % 64 + other / 64) % 64) is.sum;
+    }
+
+-- ---- the devices of a list, one after the other
+
+-- the set has the devices of the first elements, and takes those of the next one
+pub covers-more : {X : Type 0} (p : ℕ → X → Bool) (xs : List X) (i : ℕ) (x : X) (old new : OsdFilter) → i < length xs → CoversStill old new
+    → ((osd : ℕ) → p osd (get_or xs i x) ≡ true → Covers new osd) → ((osd : ℕ) → list_any (p osd) (take i xs) ≡ true → Covers old osd)
+    → (osd : ℕ) → list_any (p osd) (take (i + 1) xs) ≡ true → Covers new osd
+covers-more p xs i x old new within still here there osd is =
+    elim (or_cases _ _ (sym (list_any_more (p osd) xs i x within) ∙ is)) [
+      | inl before ↦ still osd (there osd before)
+      | inr next ↦ here osd next
+    ]
+
+-- the set has the devices of the whole list
+pub covers-all : {X : Type 0} (p : ℕ → X → Bool) (xs : List X) (i : ℕ) (set : OsdFilter) → length xs ≤ i
+    → ((osd : ℕ) → list_any (p osd) (take i xs) ≡ true → Covers set osd) → (osd : ℕ) → list_any (p osd) xs ≡ true → Covers set osd
+covers-all p xs i set whole there osd is = there osd (ap (list_any (p osd)) (take_all i xs whole) ∙ is)
 
 -- ---- two sets
 
-pub both-kept : (one two : OsdFilter) → CoversStill one (record { low = bit_or one.low two.low; high = bit_or one.high two.high }) × CoversStill two (record { low = bit_or one.low two.low; high = bit_or one.high two.high })
-both-kept one two = (
-  λ osd is. record { low = kept-bit one.low two.low (osd % 64) is.low; high = kept-bit one.high two.high (osd / 64) is.high },
-  λ osd is. record { low = added-bit one.low two.low (osd % 64) is.low; high = added-bit one.high two.high (osd / 64) is.high },
-)
+abbrev pub joined : OsdFilter → OsdFilter → OsdFilter
+joined one two = record { low = bit_or one.low two.low; high = bit_or one.high two.high; sum = bit_or one.sum two.sum }
+
+pub first-kept : (one two : OsdFilter) → CoversStill one (joined one two)
+first-kept one two osd is =
+    record {
+      low = kept-bit one.low two.low (osd % 64) is.low;
+      high = kept-bit one.high two.high (osd / 64) is.high;
+      sum = kept-bit one.sum two.sum ((osd % 64 + osd / 64) % 64) is.sum;
+    }
+
+pub second-kept : (one two : OsdFilter) → CoversStill two (joined one two)
+second-kept one two osd is =
+    record {
+      low = added-bit one.low two.low (osd % 64) is.low;
+      high = added-bit one.high two.high (osd / 64) is.high;
+      sum = added-bit one.sum two.sum ((osd % 64 + osd / 64) % 64) is.sum;
+    }
 
 -- a bit that both words have
 pub both : (a b i : ℕ) → bit_at a i ≡ 1 → bit_at b i ≡ 1 → not (nat_eq (bit_and a b) 0) ≡ true

@@ -1,24 +1,31 @@
 //! Sets of devices of which two are compared in a few steps.
 
-ghost use Rattle.std.specs.Prelude.{◌≡◌, ℕ, true, nat_eq};
+ghost use Rattle.std.specs.Prelude.{◌≡◌, ℕ, Some, true, nat_eq};
 ghost use Rattle.std.specs.List.{list_any};
+ghost use Rattle.std.specs.Option.{option_eq};
 ghost use Rattle.pgp_group.specs.Touched.{has_osd};
 ghost use Rattle.pgp_log.specs.OsdFilter.{Covers, CoversStill};
 
 use pgp_ids::{DeviceEpoch, DeviceWeight, OsdId};
 
-/// A set of devices, in two words. It may say of a device that it is in the set when it isn't, and never the other way.
+/// A set of devices, in three words. It may say of a device that it is in the set when it isn't, and never the other way.
 #[derive(Clone, Copy)]
 pub(crate) struct OsdFilter {
     /// Bit `osd % 64` of each device.
     low: u64,
     /// Bit `osd / 64` of each device.
     high: u64,
+    /// Bit `(osd % 64 + osd / 64) % 64` of each device: seldom set where `low` and `high` are set by two others.
+    sum: u64,
 }
 
 impl OsdFilter {
     pub(crate) fn empty() -> Self {
-        OsdFilter { low: 0, high: 0 }
+        OsdFilter {
+            low: 0,
+            high: 0,
+            sum: 0,
+        }
     }
 
     pub(crate) fn add(&mut self, osd: OsdId)
@@ -28,6 +35,7 @@ impl OsdFilter {
         let number = osd.number();
         self.low |= 1 << (number % 64);
         self.high |= 1 << (number / 64);
+        self.sum |= 1 << ((number % 64 + number / 64) % 64);
     }
 
     /// Adds what the other set has.
@@ -37,6 +45,7 @@ impl OsdFilter {
     {
         self.low |= other.low;
         self.high |= other.high;
+        self.sum |= other.sum;
     }
 
     /// Adds each of the devices.
@@ -75,16 +84,24 @@ impl OsdFilter {
         ensures still { CoversStill self.old self.new }
     {
         for place in places {
-            if let Some(osd) = place {
-                self.add(*osd);
-            }
+            self.add_place(*place);
         }
     }
 
-    /// Whether some device may be in both sets. Both words are looked at, since a branch between them would seldom be foreseen.
+    /// Adds the device that stands on the place, if one does.
+    fn add_place(&mut self, place: Option<OsdId>)
+        ensures there { (osd : ℕ) → option_eq nat_eq (Some osd) place ≡ true → Covers self.new osd }
+        ensures still { CoversStill self.old self.new }
+    {
+        if let Some(osd) = place {
+            self.add(osd);
+        }
+    }
+
+    /// Whether some device may be in both sets. All words are looked at, since a branch between them would seldom be foreseen.
     pub(crate) fn shares(self, other: OsdFilter) -> bool
         ensures { (osd : ℕ) → Covers self osd → Covers other osd → result ≡ true }
     {
-        (self.low & other.low != 0) & (self.high & other.high != 0)
+        (self.low & other.low != 0) & (self.high & other.high != 0) & (self.sum & other.sum != 0)
     }
 }

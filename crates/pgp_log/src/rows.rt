@@ -121,7 +121,16 @@ impl Block {
     fn is_passed_by(&self, changes: &Changes) -> bool
         ensures { result ≡ true → (inc : AnyIncremental) (row : AnyRow) → IsInBlock row self.now → IsPassedByRow changes.now inc row }
     {
-        !changes.may_place(self.marked) && !self.devices.shares(changes.devices_for(self.marked))
+        // Most blocks are passed by at the first test, which is the same for marked groups and others.
+        self.is_apart(changes, false) || self.marked && self.is_apart(changes, true)
+    }
+
+    /// Whether nothing that the incremental changes concerns one of the groups: of what concerns marked groups, or of all.
+    fn is_apart(&self, changes: &Changes, marked: bool) -> bool
+        ensures { result ≡ true → (inc : AnyIncremental) (row : AnyRow) → IsInBlock row self.now → (marked ≡ true → row.marked ≡ true)
+            → IsPassedByRow changes.now inc row }
+    {
+        !changes.may_place(marked) && !self.devices.shares(changes.devices_for(marked))
     }
 }
 

@@ -1,7 +1,9 @@
-use Rattle.pgp_log.proofs.OsdFilterLemmas.{both-kept}
+use Rattle.pgp_log.proofs.OsdFilterLemmas.{first-kept, second-kept}
 use Rattle.pgp_log.proofs.osd_filter.OsdFilter.add_set.Goals as goal
 
 pub returns : goal.returns
 returns c =
-    let both = both-kept c.args.self.now c.args.other in
-    record { there = both.1; still = both.0 }
+    record {
+      there = second-kept c.args.self.now c.args.other;
+      still = first-kept c.args.self.now c.args.other;
+    }

@@ -1,11 +1,9 @@
-use Rattle.std.proofs.Common.{sym, inl, subst, ◌∙◌}
-use Rattle.std.proofs.lemmas.Bool.{not-true, true≢false}
-use Rattle.pgp_log.specs.OsdFilter.{Covers}
-use Rattle.pgp_log.specs.declared.osd_filter.OsdFilter.{OsdFilter}
-use Rattle.pgp_log.proofs.RowLemmas.{passed-by}
+use Rattle.std.proofs.Common.{sym}
+use Rattle.std.proofs.lemmas.Bool.{true≢false}
 use Rattle.pgp_log.proofs.rows.Block.is_passed_by.Goals as goal
 
-pub returns-then-not-may_place : goal.returns-then-not-may_place
-returns-then-not-may_place c = λ passed inc row is.
-    passed-by c.args.self.now.marked inc c.args.changes.now row is.marked (inl (sym c.may_place.ensures ∙ c.if-not-may_place.true))
-    (λ osd one two. true≢false (sym (c.shares.ensures osd (is.devices osd one) (subst (λ (set : OsdFilter). Covers set osd) (sym c.devices_for.ensures) two)) ∙ not-true c.shares.result passed))
+pub returns-then-is_apart : goal.returns-then-is_apart
+returns-then-is_apart c = λ passed inc row is. c.is_apart.ensures passed inc row is (λ never. absurd (true≢false (sym never)))
+
+pub returns-then-self : goal.returns-then-self
+returns-then-self c = λ passed inc row is. c.is_apart-then-self.ensures passed inc row is (λ _. is.marked c.if-self.true)

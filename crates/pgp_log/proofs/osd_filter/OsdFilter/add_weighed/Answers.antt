@@ -1,0 +1,18 @@
+use Rattle.std.proofs.Common.{◌∙◌, nat_eq, sym, ap, subst, arith}
+use Rattle.std.proofs.lemmas.Bool.{eqb-true}
+use Rattle.pgp_ids.specs.declared.incremental.DeviceWeight.{DeviceWeight}
+use Rattle.pgp_log.specs.OsdFilter.{Covers}
+use Rattle.pgp_log.proofs.OsdFilterLemmas.{covers-all, covers-more}
+use Rattle.pgp_log.proofs.osd_filter.OsdFilter.add_weighed.Goals as goal
+
+pub loop-given-preserved : goal.loop-given-preserved
+loop-given-preserved c =
+    let item = c.given-item.result in
+    record {
+      there = covers-more (λ osd (given : DeviceWeight). nat_eq osd given.osd) c.args.all.now c.loop-given.given-index item c.loop-given.self c.add.new.self c.loop-given-test.true c.add.ensures.still
+          (λ osd is. subst (Covers c.add.new.self) (sym (eqb-true osd _ is ∙ ap (λ (given : DeviceWeight). given.osd) (sym c.given-item.is))) c.add.ensures.there) c.loop-given.invariant.there;
+      still = λ osd is. c.add.ensures.still osd (c.loop-given.invariant.still osd is);
+    }
+
+pub returns-clause-there : goal.returns-clause-there
+returns-clause-there c = covers-all (λ osd (given : DeviceWeight). nat_eq osd given.osd) c.args.all.now c.loop-given.given-index c.loop-given.self (omega (arith, c.loop-given-test.false)) c.loop-given.invariant.there
