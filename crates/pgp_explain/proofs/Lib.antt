@@ -1,6 +1,4 @@
 pub mod FieldLemmas
-pub mod SpanLemmas
-pub mod TextLemmas
 pub mod SummaryLemmas
 pub mod SummaryCounts
 pub mod SummaryDevices

@@ -1,10 +1,10 @@
 -- The groups of a log, one after another.
-use Rattle.std.proofs.Common.{◌≡◌, ℕ, ◌+◌, ◌<◌, List, [], ◌∷◌, ◌++◌, true, false, not, cond, Option, Some, None, is_some, map, nat_eq, slice_index, option_map, refl, ap, sym, ◌∙◌, inl, inr, subst, arith}
+use Rattle.std.proofs.Common.{◌≡◌, ℕ, ◌+◌, ◌<◌, List, [], ◌∷◌, ◌++◌, true, false, not, cond, Option, Some, None, is_some, map, nat_eq, slice_index, option_map, refl, ap, sym, ◌∙◌, subst, arith}
 use Rattle.std.specs.HashMap as hash
 use Rattle.std.specs.HashMap.{HashMap}
 use Rattle.std.specs.HashSet as bag
 use Rattle.std.specs.HashSet.{HashSet}
-use Rattle.std.specs.List.{Contains, cons_option, count_by, filter, filter_map, list_any}
+use Rattle.std.specs.List.{Contains, count_by, filter, filter_map, list_any}
 use Rattle.std.proofs.lemmas.Bool.{and_parts, eq-eqb, false_from_ne_true, true≢false}
 use Rattle.pgp_ids.specs.declared.entry.Entry.{Entry}
 use Rattle.pgp_ids.specs.declared.member.Member.{Member}
@@ -13,7 +13,7 @@ use Rattle.pgp_ids.specs.declared.verdict.Verdict.TheVariants.{Waiting}
 use Rattle.pgp_ids.specs.declared.view.View.{View}
 use Rattle.pgp_lists.specs.Last.{last_where}
 use Rattle.pgp_lists.proofs.Last.{last_where-some, last_where-found}
-use Rattle.pgp_lists.proofs.Members.{Contains-cases, Contains-first, Contains-later, Contains-nil, contains-any}
+use Rattle.pgp_lists.proofs.Members.{contains-any}
 use Rattle.pgp_lists.proofs.Options.{some_is}
 use Rattle.pgp_map.specs.MapOf.{IsMapOf}
 use Rattle.pgp_map.specs.Pools.{is_same_group}

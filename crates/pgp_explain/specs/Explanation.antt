@@ -9,17 +9,17 @@ use Rattle.pgp_group.specs.GroupLog.{GroupLog, group_in}
 use Rattle.pgp_group.specs.View.{scratch}
 use Rattle.pgp_reasons.specs.Reasons.{AreReasons}
 use Rattle.pgp_core.specs.Output.{FrontWent}
-use Rattle.pgp_explain.specs.Json.{json_of}
+use Rattle.pgp_group_words.specs.Json.{json_of}
+use Rattle.pgp_group_words.specs.Text.{Text}
+use Rattle.pgp_group_words.specs.Words.{words_of}
+use Rattle.pgp_group_words.specs.declared.explained.Explained.{Explained}
+use Rattle.pgp_group_words.specs.declared.offset.EpochOffset.{EpochOffset}
 use Rattle.pgp_explain.specs.Pools.{pool_facts}
 use Rattle.pgp_explain.specs.Reading.{IsLogOfScript}
 use Rattle.pgp_explain.specs.Summary.{summary_of}
 use Rattle.pgp_explain.specs.SummaryText.{summary_text}
-use Rattle.pgp_explain.specs.Text.{Text}
-use Rattle.pgp_explain.specs.Words.{words_of}
-use Rattle.pgp_explain.specs.declared.explained.Explained.{Explained}
 use Rattle.pgp_explain.specs.declared.explain_fault.ExplainFault.{ExplainFault}
 use Rattle.pgp_explain.specs.declared.explain_fault.ExplainFault.TheVariants.{Read, TooLarge, Write, UnknownGroup, Memory}
-use Rattle.pgp_explain.specs.declared.offset.EpochOffset.{EpochOffset}
 
 -- what is asked for: a group, or else a summary of all; as JSON, or else in words; and by how much epochs are ahead
 pub record Question : Type 0 where

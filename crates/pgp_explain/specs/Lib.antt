@@ -1,10 +1,3 @@
-pub mod Text
-pub mod Names
-pub mod Spans
-pub mod Lags
-pub mod Sentence
-pub mod Words
-pub mod Json
 pub mod Pools
 pub mod Summary
 pub mod Ranks

@@ -6,11 +6,11 @@ use Rattle.pgp_ids.specs.Names.{verdict_name}
 use Rattle.pgp_ids.specs.declared.verdict.Verdict.{Verdict}
 use Rattle.pgp_ids.specs.declared.verdict.Verdict.TheVariants.{NoPrimary, Down, Waiting, Incomplete, Short, NeedLog, NeedUpThru, Serve}
 use Rattle.pgp_replies.specs.Json.{Field, object_with, number_data, list_data}
-use Rattle.pgp_explain.specs.Text.{Text, joined, line}
-use Rattle.pgp_explain.specs.Names.{epoch_name, device_name, plural}
-use Rattle.pgp_explain.specs.Json.{epoch_data}
+use Rattle.pgp_group_words.specs.Text.{Text, joined, line}
+use Rattle.pgp_group_words.specs.Names.{epoch_name, device_name, plural}
+use Rattle.pgp_group_words.specs.Json.{epoch_data}
+use Rattle.pgp_group_words.specs.declared.offset.EpochOffset.{EpochOffset}
 use Rattle.pgp_explain.specs.Summary.{Awaited, verdict_count, group_total}
-use Rattle.pgp_explain.specs.declared.offset.EpochOffset.{EpochOffset}
 use Rattle.pgp_explain.specs.declared.summary.Summary.{Summary}
 use Rattle.pgp_explain.specs.declared.waits.Waits.{Waits}
 use Rattle.pgp_explain.specs.declared.tally.Tally.{Tally}

@@ -1,6 +1,6 @@
 //! The devices for which groups wait, those for which most do first.
 
-ghost use Rattle.std.specs.Prelude.{◌≡◌, ℕ, List, slice_index, map, filter, IfOk};
+ghost use Rattle.std.specs.Prelude.{◌≡◌, map, filter, IfOk};
 ghost use Rattle.pgp_lists.specs.Ordered.{ascending};
 ghost use Rattle.pgp_explain.specs.Summary.{devices_of, device_numbers, is_waited_for, stands_first};
 ghost use Rattle.pgp_explain.specs.Ranks.{rank_of, waits_in};

@@ -1,6 +1,6 @@
 //! What the views of groups tell of them together.
 
-ghost use Rattle.std.specs.Prelude.{◌≡◌, ℕ, ◌+◌, ◌<◌, List, [], ◌∷◌, ◌++◌, slice_index, OnOk, IfOk, if◌then◌else◌, option_map};
+ghost use Rattle.std.specs.Prelude.{◌≡◌, ℕ, ◌+◌, ◌<◌, List, [], ◌∷◌, ◌++◌, slice_index, OnOk, IfOk, if◌then◌else◌};
 ghost use Rattle.std.specs.HashMap as hash;
 ghost use Rattle.pgp_ids.specs.declared.pg_id.PgId.{PgId as Group};
 ghost use Rattle.pgp_map.specs.Pools.{is_same_group};

@@ -3,9 +3,9 @@ ghost use Rattle.std.specs.Prelude.{◌≡◌, None, IfOk, IfSome, IfNone};
 ghost use Rattle.pgp_group.specs.View.{scratch};
 ghost use Rattle.pgp_explain.specs.Explanation.{IsExplainedBy};
 
-use super::explained::Explained;
 use super::pools::PoolFacts;
 use pgp_core::Log;
+use pgp_group_words::Explained;
 use pgp_ids::PgId;
 use pgp_reasons::reasons_of;
 use std::alloc::{AllocError, Global};

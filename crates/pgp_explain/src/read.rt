@@ -1,5 +1,5 @@
 //! Reading a script whole, for the log that it makes.
-ghost use Rattle.std.specs.Prelude.{◌≡◌, ◌≢◌, ◌⊎◌, [], true, Err, IfOk, IfErr, OnOk, OnErr};
+ghost use Rattle.std.specs.Prelude.{◌≡◌, ◌≢◌, ◌⊎◌, [], true, Err, IfOk, IfErr, OnOk};
 ghost use Rattle.std.specs.String.{string_bytes};
 ghost use Rattle.pgp_core.specs.Added.{added_by, log_of_lines, with_added};
 ghost use Rattle.pgp_core.specs.Lines.{lines_of};
@@ -8,8 +8,8 @@ ghost use Rattle.pgp_core.specs.Whole.{GivesTooMuch};
 ghost use Rattle.pgp_explain.specs.Reading.{HasRefused, IsLogOfScript, IsOfReading, IsRefusedInPart, IsRefusedLine};
 
 use super::explain_fault::ExplainFault;
-use super::fault::put_fault;
 use pgp_core::{LineOutcome, Log, SCRIPT_BOUNDS, Source, WholeFault, first_line, read_whole};
+use pgp_line_words::put_fault;
 use pgp_text::LineReader;
 use std::alloc::{AllocError, Global};
 use std::io::Write;

@@ -10,15 +10,12 @@ ghost use Rattle.pgp_explain.specs.Summary.{summary_of};
 ghost use Rattle.pgp_explain.specs.SummaryText.{summary_text as text_of_all};
 
 use super::explain_fault::ExplainFault;
-use super::explained::Explained;
-use super::group_json::put_json;
-use super::group_words::put_words;
 use super::groups::explained;
-use super::offset::EpochOffset;
 use super::read::read_log;
 use super::summary::summary_of;
 use super::summary_text::text_of_summary;
 use pgp_core::{Log, Sink, Source, WriteFault, write_out};
+use pgp_group_words::{EpochOffset, Explained, put_json, put_words};
 use pgp_ids::PgId;
 use std::alloc::{AllocError, Global};
 use std::io::Write;

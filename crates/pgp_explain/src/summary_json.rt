@@ -1,16 +1,15 @@
 //! A summary as JSON.
 
-ghost use Rattle.std.specs.Prelude.{◌≡◌, ◌++◌, ◌∷◌, [], flat_map, IfOk, OnOk, OnErr, string_bytes};
+ghost use Rattle.std.specs.Prelude.{◌≡◌, ◌++◌, ◌∷◌, [], codes, flat_map, IfOk, OnOk, string_bytes};
+ghost use Rattle.pgp_replies.specs.Json.{list_data};
 ghost use Rattle.pgp_replies.specs.Written.{fields_tokens, tokens_of};
 ghost use Rattle.pgp_explain.specs.SummaryText.{device_data, summary_data, summary_json, tally_data, verdict_field, verdict_fields};
 
-use super::group_json::into_line;
-use super::json_parts::{Json, write_field};
-use super::offset::EpochOffset;
 use super::summary::Summary;
 use super::tally::Tally;
 use super::waits::Waits;
 use json::Writer;
+use pgp_group_words::{EpochOffset, Json, into_line, write_field};
 use pgp_ids::{OsdId, Verdict};
 use std::alloc::{AllocError, Global};
 
@@ -48,26 +47,62 @@ fn write_summary(out: &mut Writer, offset: EpochOffset, summary: &Summary) -> Re
     ensures before { out.new.before ≡ out.old.before }
 {
     out.begin_object()?;
-    write_field(out, offset, "devices", &summary.devices)?;
+    write_devices(out, offset, summary.devices.as_slice())?;
     write_field(out, offset, "epoch", &summary.epoch)?;
     write_field(out, offset, "groups", &summary.tally.groups())?;
     write_field(out, offset, "verdicts", &summary.tally)?;
     out.end_object()
 }
 
-/// For how many groups the device is waited.
-impl Json for (OsdId, Waits) {
-    ghost value = { λ _ device. device_data device };
+/// The devices for which groups wait.
+#[tactic(auto, unfolding(pgp_replies::specs::Written::fields_tokens))]
+fn write_devices(
+    out: &mut Writer,
+    offset: EpochOffset,
+    devices: &[(OsdId, Waits)],
+) -> Result<(), AllocError>
+    ensures ok { OnOk result (out.new.tokens
+        ≡ out.old.tokens ++ fields_tokens ((codes "devices", list_data device_data devices.now) ∷ [])) }
+    ensures before { out.new.before ≡ out.old.before }
+{
+    out.key("devices")?;
+    write_each_device(out, offset, devices)
+}
 
-    #[tactic(auto, using(pgp_replies::proofs::Tokens::token_steps))]
-    fn write(&self, out: &mut Writer, offset: EpochOffset) -> Result<(), AllocError> {
-        let (osd, waits) = self;
-        out.begin_object()?;
-        write_field(out, offset, "awaited", &waits.awaited)?;
-        write_field(out, offset, "blocks", &waits.blocks)?;
-        write_field(out, offset, "osd", osd)?;
-        out.end_object()
+/// Writes the devices as a list, in order.
+fn write_each_device(
+    out: &mut Writer,
+    offset: EpochOffset,
+    devices: &[(OsdId, Waits)],
+) -> Result<(), AllocError>
+    ensures ok { OnOk result
+        (out.new.tokens ≡ out.old.tokens ++ tokens_of (list_data device_data devices.now)) }
+    ensures before { out.new.before ≡ out.old.before }
+{
+    out.begin_array()?;
+    for device in devices {
+        write_device(out, offset, device)?;
     }
+    out.end_array()
+}
+
+/// For how many groups the device is waited.
+#[tactic(auto, using(pgp_replies::proofs::Tokens::token_steps))]
+fn write_device(
+    out: &mut Writer,
+    offset: EpochOffset,
+    device: &(OsdId, Waits),
+) -> Result<(), AllocError>
+    ensures ok { OnOk result
+        (out.new.tokens ≡ out.old.tokens ++ tokens_of (device_data device.now)) }
+    ensures before { out.new.before ≡ out.old.before }
+{
+    let (osd, waits) = device;
+    out.begin_object()?;
+    write_field(out, offset, "awaited", &waits.awaited)?;
+    write_field(out, offset, "blocks", &waits.blocks)?;
+    write_field(out, offset, "osd", osd)?;
+    out.end_object()
 }
 
 /// How many groups have which verdict; one that no group has is left out.

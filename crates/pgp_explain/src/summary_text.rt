@@ -3,10 +3,10 @@
 ghost use Rattle.std.specs.Prelude.{◌≡◌, IfOk, string_bytes};
 ghost use Rattle.pgp_explain.specs.SummaryText.{summary_text};
 
-use super::offset::EpochOffset;
 use super::summary::Summary;
 use super::summary_json::json_of;
 use super::summary_words::words_of;
+use pgp_group_words::EpochOffset;
 use std::alloc::{AllocError, Global};
 
 /// What there is to say of a summary, in lines that each end in a line feed: as JSON one object in one line, with the keys of

@@ -1,13 +1,12 @@
 //! A summary in words.
 
-ghost use Rattle.std.specs.Prelude.{◌≡◌, ◌++◌, flat_map, IfOk, OnOk, OnErr, string_bytes};
+ghost use Rattle.std.specs.Prelude.{◌≡◌, ◌++◌, flat_map, IfOk, OnOk, string_bytes};
 ghost use Rattle.pgp_explain.specs.SummaryText.{awaited_part, blocks_part, both_part, count_part, device_line, device_lines, summary_words, tally_lines, total_line, verdict_line, verdicts};
 
-use super::names::{Device, plural};
-use super::offset::EpochOffset;
 use super::summary::Summary;
 use super::tally::Tally;
 use super::waits::Waits;
+use pgp_group_words::{Device, EpochOffset, plural};
 use pgp_ids::{OsdId, Verdict};
 use std::alloc::{AllocError, Global};
 

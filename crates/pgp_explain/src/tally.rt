@@ -1,7 +1,7 @@
-ghost use Rattle.std.specs.Prelude.{◌≡◌, ◌+◌, ◌<◌, [], ◌∷◌, ◌++◌, List, fold, slice_index, slice_set};
+ghost use Rattle.std.specs.Prelude.{◌≡◌, ◌+◌, ◌<◌, [], ◌∷◌, ◌++◌, List};
 ghost use Rattle.pgp_group.specs.GroupLog.{GroupLog};
 ghost use Rattle.pgp_group.specs.Verdict.{verdict as verdict_of};
-ghost use Rattle.pgp_explain.specs.Summary.{counted, group_total, one_more, place_of as place_among_all, tally_of, verdict_count};
+ghost use Rattle.pgp_explain.specs.Summary.{group_total, place_of as place_among_all, tally_of, verdict_count};
 
 use pgp_ids::Verdict;
 

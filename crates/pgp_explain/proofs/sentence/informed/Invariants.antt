@@ -1,6 +1,0 @@
-use Rattle.std.proofs.Common.{◌≡◌, take, fold}
-use Rattle.pgp_explain.specs.Sentence.{later_of}
-use Rattle.pgp_explain.proofs.sentence.informed.Given as goal
-
-abbrev pub invariant-loop-info : goal.invariant-loop-info
-invariant-loop-info l = l.informed ≡ fold later_of l.initial.informed (take l.info-index l.others)

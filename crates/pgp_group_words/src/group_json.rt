@@ -1,0 +1,154 @@
+//! A group as JSON.
+
+ghost use Rattle.std.specs.Prelude.{◌≡◌, ◌++◌, ◌∷◌, [], IfOk, OnOk, OnErr, string_bytes};
+ghost use Rattle.json.specs.Print.{print};
+ghost use Rattle.pgp_replies.specs.Written.{fields_tokens, tokens_of};
+ghost use Rattle.pgp_group_words.specs.Json.{explained_data, json_of, place_fields, reason_fields, sentence_fields, verdict_fields};
+
+use super::explained::Explained;
+use super::json_parts::write_field;
+use super::offset::EpochOffset;
+use super::sentence::sentence;
+use json::Writer;
+use pgp_ids::Seq;
+use std::alloc::{AllocError, Global};
+
+/// Puts what there is to say of a group behind what `text` has: one object in one line, which ends in a line feed, with the
+/// keys of each object in ascending byte order. Where memory is wanting, `text` stays as it was.
+pub fn put_json(
+    alloc: Global,
+    explained: &Explained,
+    offset: EpochOffset,
+    text: &mut String,
+) -> Result<(), AllocError>
+    ensures ok { OnOk result (string_bytes text.new
+        ≡ string_bytes text.old ++ json_of explained.now offset) }
+    ensures err { OnErr result (string_bytes text.new ≡ string_bytes text.old) }
+{
+    let line = line_of(alloc, explained, offset)?;
+    text.push_str(line.as_str())
+}
+
+/// The object in one line.
+#[tactic(auto, using(pgp_replies::proofs::Tokens::text_steps), unfolding(crate::specs::Json::json_of))]
+fn line_of(alloc: Global, explained: &Explained, offset: EpochOffset) -> Result<String, AllocError>
+    ensures { IfOk result (λ text. string_bytes text ≡ json_of explained.now offset) }
+{
+    let mut out = Writer::new(Vec::new(alloc));
+    write_explained(alloc, &mut out, offset, explained)?;
+    into_line(out)
+}
+
+#[tactic(auto, using(pgp_replies::proofs::Tokens::token_steps))]
+fn write_explained(
+    alloc: Global,
+    out: &mut Writer,
+    offset: EpochOffset,
+    explained: &Explained,
+) -> Result<(), AllocError>
+    ensures ok { OnOk result
+        (out.new.tokens ≡ out.old.tokens ++ tokens_of (explained_data offset explained.now)) }
+    ensures before { out.new.before ≡ out.old.before }
+{
+    out.begin_object()?;
+    write_place(out, offset, explained)?;
+    write_reasons(out, offset, explained)?;
+    write_sentence(alloc, out, offset, explained)?;
+    write_verdict(out, offset, explained)?;
+    out.end_object()
+}
+
+/// Where the group lies, what blocks it, and since when.
+#[tactic(auto, using(pgp_replies::proofs::Tokens::token_steps))]
+fn write_place(
+    out: &mut Writer,
+    offset: EpochOffset,
+    explained: &Explained,
+) -> Result<(), AllocError>
+    ensures ok { OnOk result
+        (out.new.tokens ≡ out.old.tokens ++ fields_tokens (place_fields offset explained.now)) }
+    ensures before { out.new.before ≡ out.old.before }
+{
+    let view = &explained.view;
+    write_field(out, offset, "acting", &view.acting)?;
+    write_field(out, offset, "acting_primary", &view.acting_primary)?;
+    write_field(out, offset, "blocking", &explained.reasons.blocking)?;
+    write_field(out, offset, "epoch", &view.epoch)?;
+    write_field(out, offset, "first", &view.first)
+}
+
+/// What its log lacks, whom it has heard, when it last served, and what may be given up.
+#[tactic(auto, using(pgp_replies::proofs::Tokens::token_steps))]
+fn write_reasons(
+    out: &mut Writer,
+    offset: EpochOffset,
+    explained: &Explained,
+) -> Result<(), AllocError>
+    ensures ok { OnOk result
+        (out.new.tokens ≡ out.old.tokens ++ fields_tokens (reason_fields offset explained.now)) }
+    ensures before { out.new.before ≡ out.old.before }
+{
+    let reasons = &explained.reasons;
+    write_field(out, offset, "gaps", &reasons.gaps)?;
+    write_field(out, offset, "heard", &reasons.heard)?;
+    write_field(out, offset, "les", &explained.view.les)?;
+    write_field(out, offset, "losses", &reasons.losses)
+}
+
+/// The group, the sentence on its verdict, what may be started, and whom it has to hear yet.
+#[tactic(auto, using(pgp_replies::proofs::Tokens::token_steps))]
+fn write_sentence(
+    alloc: Global,
+    out: &mut Writer,
+    offset: EpochOffset,
+    explained: &Explained,
+) -> Result<(), AllocError>
+    ensures ok { OnOk result
+        (out.new.tokens ≡ out.old.tokens ++ fields_tokens (sentence_fields offset explained.now)) }
+    ensures before { out.new.before ≡ out.old.before }
+{
+    let says = sentence(alloc, explained, offset)?;
+    let unheard = Seq::from_vec(explained.unheard(alloc)?);
+    write_field(out, offset, "pg", &explained.pg)?;
+    write_field(out, offset, "says", &says.as_str())?;
+    write_field(out, offset, "starts", &explained.reasons.starts)?;
+    write_field(out, offset, "unheard", &unheard)
+}
+
+/// Where placement puts it, and its verdict.
+#[tactic(auto, using(pgp_replies::proofs::Tokens::token_steps))]
+fn write_verdict(
+    out: &mut Writer,
+    offset: EpochOffset,
+    explained: &Explained,
+) -> Result<(), AllocError>
+    ensures ok { OnOk result
+        (out.new.tokens ≡ out.old.tokens ++ fields_tokens (verdict_fields explained.now)) }
+    ensures before { out.new.before ≡ out.old.before }
+{
+    let view = &explained.view;
+    write_field(out, offset, "up", &view.up)?;
+    write_field(out, offset, "up_primary", &view.up_primary)?;
+    write_field(out, offset, "verdict", &view.verdict.name())
+}
+
+/// What was written, with a line feed behind it.
+pub fn into_line(out: Writer) -> Result<String, AllocError>
+    requires { out.before ≡ [] }
+    ensures { IfOk result (λ text. string_bytes text ≡ print out.tokens ++ 10 ∷ []) }
+{
+    let mut line = text_of(out);
+    line.push('\n')?;
+    Ok(line)
+}
+
+/// What a writer wrote that had nothing before.
+fn text_of(out: Writer) -> String
+    requires { out.before ≡ [] }
+    ensures { string_bytes result ≡ print out.tokens }
+{
+    match String::from_utf8(out.into_inner()) {
+        Ok(text) => text,
+        Err(_) => unreachable!(),
+    }
+}

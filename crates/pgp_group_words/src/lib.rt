@@ -1,0 +1,25 @@
+//! What is told of one group, in words for an operator and as JSON: why it doesn't serve, and what brings it back.
+//!
+//! This layer decides the text of an [`Explained`], and nothing else: that has the group's view, the reasons of pgp_reasons, and
+//! what is told of its pool. [`put_words`] and [`put_json`] put the text, and their contracts define it whole. A summary of
+//! groups names devices, counts and epochs in the same way, and is written as JSON by the same parts.
+#![tactic(auto)]
+
+mod explained;
+mod group_json;
+mod group_words;
+mod json_parts;
+mod lags;
+mod names;
+mod offset;
+mod sentence;
+mod spans;
+mod ways_words;
+mod words;
+
+pub use explained::Explained;
+pub use group_json::{into_line, put_json};
+pub use group_words::put_words;
+pub use json_parts::{Json, write_field};
+pub use names::{Device, plural};
+pub use offset::EpochOffset;

@@ -1,0 +1,140 @@
+//! What is told of a line that is refused.
+ghost use Rattle.std.specs.Prelude.{◌≡◌, ◌++◌, ◌∷◌, [], List, ℕ, codes, decimal, IfOk, OnOk, OnErr};
+ghost use Rattle.std.specs.String.{string_bytes};
+
+use super::lines::{format_of, op_of, shape_at};
+use super::walk::fault_in;
+use super::wrong::shown_key;
+use pgp_ids::{Refusal, TextFault};
+use pgp_replies::Refused;
+use serde_json::Value;
+use std::alloc::{AllocError, Global};
+use std::str::from_utf8;
+
+const LINE_FEED: u8 = b'\n';
+
+/// Puts one text line, with a line feed, for the line of this number, which is answered with a refusal: the refusal's name, and
+/// what is wrong. Where memory is wanting, `errors` stays as it was.
+pub fn put_fault(
+    alloc: Global,
+    line: &[u8],
+    number: u64,
+    refused: &Refused,
+    errors: &mut String,
+) -> Result<(), AllocError>
+    ensures ok { OnOk result ((told : List ℕ)
+        × (string_bytes errors.new ≡ string_bytes errors.old
+        ++ (codes "line " ++ (decimal number ++ (codes ": " ++ (told ++ LINE_FEED ∷ [])))))) }
+    ensures err { OnErr result (string_bytes errors.new ≡ string_bytes errors.old) }
+{
+    let told = told_of(alloc, line, refused)?;
+    let text = line_of(alloc, number, told.as_str())?;
+    errors.push_str(text.as_str())
+}
+
+/// What is told of the line of this number, with its line feed.
+fn line_of(alloc: Global, number: u64, told: &str) -> Result<String, AllocError>
+    ensures { IfOk result (λ text. string_bytes text
+        ≡ codes "line " ++ (decimal number ++ (codes ": " ++ (told.now ++ LINE_FEED ∷ [])))) }
+{
+    format!(in alloc; "line {number}: {told}\n")
+}
+
+/// The name of a refusal, and what is wrong. What the log refuses, and what has no answer, has its number behind its name.
+fn told_of(alloc: Global, line: &[u8], refused: &Refused) -> Result<String, AllocError> {
+    let name = refused.name();
+    let number = refused.number();
+    match refused {
+        Refused::Line(fault) => {
+            let what = line_fault(alloc, line, fault)?;
+            format!(in alloc; "{name}: {what}")
+        }
+        Refused::Entry(refusal) => {
+            let what = entry_fault(alloc, *refusal)?;
+            format!(in alloc; "{name} ({number}): {what}")
+        }
+        Refused::Ask(refusal) => format!(in alloc; "{name} ({number}): {refusal}"),
+        Refused::Locate(refusal) => format!(in alloc; "{name} ({number}): {refusal}"),
+    }
+}
+
+/// Why the log doesn't take an entry.
+fn entry_fault(alloc: Global, refusal: Refusal) -> Result<String, AllocError> {
+    match refusal.tree() {
+        Some(fault) => {
+            let what = tree_fault(fault);
+            format!(in alloc; "{refusal}: {what}")
+        }
+        None => format!(in alloc; "{refusal}"),
+    }
+}
+
+/// A fault of the placement tree by its number, 1 to 7.
+fn tree_fault(fault: u8) -> &'static str {
+    match fault {
+        1 => "it has no root, or more than one",
+        2 => "an id is there twice, or an item is in two places",
+        3 => "a type is 0, or not above that of a bucket within",
+        4 => "an item is no bucket of the tree and no device",
+        5 => "a path has more than 10 buckets",
+        6 => "it has more than 1024 buckets, or one with more than 256 items",
+        _ => "the weights of a bucket make more than 4294967295",
+    }
+}
+
+/// Why a line is no command.
+fn line_fault(alloc: Global, line: &[u8], fault: &TextFault) -> Result<String, AllocError> {
+    match fault {
+        TextFault::LineTooLong => String::from_str(alloc, "it has more than 1048576 bytes"),
+        TextFault::NotJson => String::from_str(alloc, "it is no JSON text"),
+        TextFault::NoOp => String::from_str(alloc, "it has no op, or one that is not known"),
+        TextFault::UnknownKey(key) => key_fault(alloc, line, key.as_str()),
+        TextFault::BadField(key) => field_fault(alloc, line, key.as_str()),
+        TextFault::Memory => String::from_str(alloc, "out of memory"),
+    }
+}
+
+/// That a line has a key that its operation doesn't have.
+fn key_fault(alloc: Global, line: &[u8], key: &str) -> Result<String, AllocError> {
+    let key = shown_key(alloc, key)?;
+    let value = read(alloc, line)?;
+    match op_of(&value) {
+        Some(op) => format!(in alloc; "{key} is no key of {op}"),
+        None => format!(in alloc; "{key} is no key of its operation"),
+    }
+}
+
+/// What is wrong with the value that a line has at a key, or that it has none.
+fn field_fault(alloc: Global, line: &[u8], key: &str) -> Result<String, AllocError> {
+    let value = read(alloc, line)?;
+    let Some(field) = value.get(key) else {
+        return format!(in alloc; "{key} is absent");
+    };
+    let Some(shape) = shape_at(&value, key) else {
+        return whole_field(alloc, key);
+    };
+    match fault_in(alloc, format_of(&value), shape, field)? {
+        Some(wrong) => wrong.told(alloc, key),
+        None => whole_field(alloc, key),
+    }
+}
+
+/// The key alone.
+fn whole_field(alloc: Global, key: &str) -> Result<String, AllocError> {
+    format!(in alloc; "{key}: the value is not what the key has to have")
+}
+
+/// The value of a line. One that is no JSON text counts as null.
+fn read(alloc: Global, line: &[u8]) -> Result<Value, AllocError> {
+    let Ok(text) = from_utf8(line) else {
+        return Ok(Value::Null);
+    };
+    match Value::from_str(alloc, text) {
+        Ok(value) => Ok(value),
+        Err(error) => if error.is_memory() {
+            Err(AllocError)
+        } else {
+            Ok(Value::Null)
+        },
+    }
+}

@@ -1,0 +1,161 @@
+//! The keys of each operation, and what the values at them have to be.
+
+use super::numbers::{DEVICE, EPOCH, FORMAT, GROUP, PLACE, POOL, SIZE, SLOT, WEIGHT, WRITE};
+use super::objects::{CODE, CRUSH, PLACED_EPOCHS, PLAIN_EPOCHS, POOLS};
+use super::shape::{Field, Format, Shape};
+use serde_json::Value;
+
+const DEVICES: Shape = Shape::List(&DEVICE);
+
+const PLACES: Shape = Shape::List(&PLACE);
+
+const DEVICE_WEIGHT: Shape = Shape::Fixed(&[DEVICE, WEIGHT]);
+
+const DEVICE_WEIGHTS: Shape = Shape::List(&DEVICE_WEIGHT);
+
+const DEVICE_EPOCH: Shape = Shape::Fixed(&[DEVICE, EPOCH]);
+
+const DEVICE_EPOCHS: Shape = Shape::List(&DEVICE_EPOCH);
+
+const POOL_SIZES: Shape = Shape::Fixed(&[POOL, SIZE, SIZE]);
+
+const SIZES: Shape = Shape::List(&POOL_SIZES);
+
+const TEMP_LIST: Shape = Shape::Fixed(&[POOL, GROUP, PLACES]);
+
+const TEMP: Shape = Shape::List(&TEMP_LIST);
+
+const PG: Shape = Shape::Fixed(&[POOL, GROUP]);
+
+const MEMBER: Shape = Shape::Fixed(&[DEVICE, SLOT]);
+
+const VERSION: Shape = Shape::Fixed(&[EPOCH, WRITE]);
+
+const CHANGE: Shape = Shape::Word(&["modify", "delete"]);
+
+const LOG_ENTRY: Shape = Shape::Fixed(&[EPOCH, WRITE, CHANGE, Shape::Name]);
+
+const LOG: Shape = Shape::ListWithin {
+    item: &LOG_ENTRY,
+    low: 1,
+    high: 256,
+};
+
+const ASK: &[Field] = &[Field("pg", PG), Field("v", FORMAT)];
+
+const CLOSE: &[Field] = &[Field("v", FORMAT)];
+
+const ENTRIES: &[Field] = &[
+    Field("from", MEMBER),
+    Field("log", LOG),
+    Field("pg", PG),
+    Field("stamp", EPOCH),
+    Field("v", FORMAT),
+];
+
+const INC: &[Field] = &[
+    Field("crush", CRUSH),
+    Field("down", DEVICES),
+    Field("epoch", EPOCH),
+    Field("gone", DEVICES),
+    Field("lost", DEVICE_EPOCHS),
+    Field("pools", POOLS),
+    Field("sizes", SIZES),
+    Field("temp", TEMP),
+    Field("up", DEVICES),
+    Field("up_thru", DEVICE_EPOCHS),
+    Field("v", FORMAT),
+    Field("weight", DEVICE_WEIGHTS),
+];
+
+const INFO: &[Field] = &[
+    Field("complete", Shape::Flag),
+    Field("from", MEMBER),
+    Field("history_les", EPOCH),
+    Field("last_epoch_clean", EPOCH),
+    Field("last_update", VERSION),
+    Field("les", EPOCH),
+    Field("log_tail", VERSION),
+    Field("pg", PG),
+    Field("stamp", EPOCH),
+    Field("v", FORMAT),
+];
+
+const LOCATE: &[Field] = &[
+    Field("name", Shape::Name),
+    Field("pool", POOL),
+    Field("v", FORMAT),
+];
+
+const PLAIN_TRACE: &[Field] = &[
+    Field("code", CODE),
+    Field("epochs", PLAIN_EPOCHS),
+    Field("v", FORMAT),
+];
+
+const PLACED_TRACE: &[Field] = &[
+    Field("code", CODE),
+    Field("epochs", PLACED_EPOCHS),
+    Field("v", FORMAT),
+];
+
+/// What the value at a key of a line has to be, where the line names an operation that has the key.
+pub(crate) fn shape_at(line: &Value, key: &str) -> Option<Shape> {
+    let fields = fields_of(line)?;
+    for field in fields {
+        if field.0 == key {
+            return Some(field.1);
+        }
+    }
+    None
+}
+
+/// The keys of a line's operation.
+fn fields_of(line: &Value) -> Option<&'static [Field]> {
+    match op_of(line)? {
+        "ask" => Some(ASK),
+        "close" => Some(CLOSE),
+        "entries" => Some(ENTRIES),
+        "inc" => Some(INC),
+        "info" => Some(INFO),
+        "locate" => Some(LOCATE),
+        "trace" => Some(trace_fields(line)),
+        _ => None,
+    }
+}
+
+/// The operation that a line names.
+pub(crate) fn op_of(line: &Value) -> Option<&str> {
+    line.get("op")?.as_str()
+}
+
+/// The keys of a trace, whose code says whether a place may be empty.
+fn trace_fields(line: &Value) -> &'static [Field] {
+    if is_replicated(line) {
+        PLAIN_TRACE
+    } else {
+        PLACED_TRACE
+    }
+}
+
+fn is_replicated(line: &Value) -> bool {
+    let Some(code) = line.get("code") else {
+        return false;
+    };
+    let Some(kind) = code.get("kind") else {
+        return false;
+    };
+    kind.as_str() == Some("replicated")
+}
+
+/// The version in which a line is read: the second where it names none that there is.
+pub(crate) fn format_of(line: &Value) -> Format {
+    let Some(v) = line.get("v") else {
+        return Format::One;
+    };
+    if v.as_u64() == Some(1) {
+        Format::One
+    } else {
+        Format::Two
+    }
+}

@@ -1,0 +1,111 @@
+//! Values that hold no others: what is wrong with them.
+
+use super::shape::Range;
+use super::wrong::{Found, Wrong, shown};
+use serde_json::Value;
+use std::alloc::{AllocError, Global};
+
+/// How many bytes the name of an object has at most.
+const MAX_NAME: usize = 255;
+
+/// A whole number of this range.
+pub(crate) fn number_fault(alloc: Global, range: Range, value: &Value) -> Found {
+    if is_in(range, value) {
+        return Ok(None);
+    }
+    let Range { noun, low, high } = range;
+    let shown = shown(alloc, value)?;
+    let what = format!(in alloc; "{shown} is not {noun} ({low} to {high})")?;
+    Wrong::here(alloc, what)
+}
+
+/// A whole number of this range, or null.
+pub(crate) fn number_or_null_fault(alloc: Global, range: Range, value: &Value) -> Found {
+    if value.is_null() || is_in(range, value) {
+        return Ok(None);
+    }
+    let Range { noun, low, high } = range;
+    let shown = shown(alloc, value)?;
+    let what = format!(in alloc; "{shown} is not {noun} ({low} to {high}) or null")?;
+    Wrong::here(alloc, what)
+}
+
+fn is_in(range: Range, value: &Value) -> bool {
+    match value.as_i64() {
+        Some(number) => range.low <= number && number <= range.high,
+        None => false,
+    }
+}
+
+/// `true` or `false`.
+pub(crate) fn flag_fault(alloc: Global, value: &Value) -> Found {
+    match value.as_bool() {
+        Some(_) => Ok(None),
+        None => not_one(alloc, value, "true or false"),
+    }
+}
+
+/// A name of 1 to 255 bytes.
+pub(crate) fn name_fault(alloc: Global, value: &Value) -> Found {
+    let Some(name) = value.as_str() else {
+        return not_one(alloc, value, "a name");
+    };
+    let len = name.len();
+    if len == 0 {
+        let what = String::from_str(alloc, "the name is empty")?;
+        return Wrong::here(alloc, what);
+    }
+    if len > MAX_NAME {
+        let what = format!(in alloc; "the name has {len} bytes, and may have {MAX_NAME} at most")?;
+        return Wrong::here(alloc, what);
+    }
+    Ok(None)
+}
+
+/// One of these words.
+pub(crate) fn word_fault(alloc: Global, words: &[&str], value: &Value) -> Found {
+    if let Some(text) = value.as_str() {
+        for word in words {
+            if text == *word {
+                return Ok(None);
+            }
+        }
+    }
+    let wanted = one_of(alloc, words)?;
+    not_one(alloc, value, wanted.as_str())
+}
+
+/// These words in quotes, the last behind an "or".
+fn one_of(alloc: Global, words: &[&str]) -> Result<String, AllocError> {
+    let mut text = String::new(alloc);
+    for (index, word) in words.iter().enumerate() {
+        let left = words.len() - index;
+        text.push_str(joint(index, left))?;
+        put_quoted(word, &mut text)?;
+    }
+    Ok(text)
+}
+
+/// What stands before the word at `index`, from which on `left` words are left.
+fn joint(index: usize, left: usize) -> &'static str {
+    if index == 0 {
+        ""
+    } else if left == 1 {
+        " or "
+    } else {
+        ", "
+    }
+}
+
+fn put_quoted(word: &str, text: &mut String) -> Result<(), AllocError> {
+    text.push('"')?;
+    text.push_str(word)?;
+    text.push('"')
+}
+
+/// That a value is not what is wanted.
+pub(crate) fn not_one(alloc: Global, value: &Value, wanted: &str) -> Found {
+    let shown = shown(alloc, value)?;
+    let what = format!(in alloc; "{shown} is not {wanted}")?;
+    Wrong::here(alloc, what)
+}

@@ -1,0 +1,212 @@
+//! The first place in a value that is not of its shape.
+
+use super::rules::rule_fault;
+use super::scalars::{
+    flag_fault, name_fault, not_one, number_fault, number_or_null_fault, word_fault,
+};
+use super::shape::{Field, Fields, Format, Kind, Shape};
+use super::wrong::{Found, Wrong, counted, shown_key};
+use serde_json::{Map, Value};
+use std::alloc::Global;
+
+/// What is wrong with a value that has to be of this shape, in a line of this version.
+#[cycle(walk)]
+pub(crate) fn fault_in(alloc: Global, format: Format, shape: Shape, value: &Value) -> Found {
+    match shape {
+        Shape::Number(range) => number_fault(alloc, range, value),
+        Shape::NumberOrNull(range) => number_or_null_fault(alloc, range, value),
+        Shape::Flag => flag_fault(alloc, value),
+        Shape::Name => name_fault(alloc, value),
+        Shape::Word(words) => word_fault(alloc, words, value),
+        Shape::Fixed(shapes) => fixed_fault(alloc, format, shapes, value),
+        Shape::List(item) => items_fault(alloc, format, *item, value),
+        Shape::ListWithin { item, low, high } => {
+            if let Some(wrong) = length_fault(alloc, low, high, value)? {
+                return Ok(Some(wrong));
+            }
+            items_fault(alloc, format, *item, value)
+        }
+        Shape::Object(fields) => object_fault(alloc, format, fields, value),
+        Shape::Kinds { key, words, kinds } => {
+            if let Some(wrong) = kind_fault(alloc, key, words, value)? {
+                return Ok(Some(wrong));
+            }
+            kinds_fault(alloc, format, key, kinds, value)
+        }
+    }
+}
+
+/// A list of items of this shape.
+#[cycle(walk)]
+fn items_fault(alloc: Global, format: Format, shape: Shape, value: &Value) -> Found {
+    let Some(items) = value.as_array() else {
+        return not_one(alloc, value, "a list");
+    };
+    for (index, item) in items.iter().enumerate() {
+        if let Some(wrong) = fault_in(alloc, format, shape, item)? {
+            return wrong.in_item(alloc, index);
+        }
+    }
+    Ok(None)
+}
+
+/// A list of as many items as shapes.
+#[cycle(walk)]
+fn fixed_fault(alloc: Global, format: Format, shapes: &[Shape], value: &Value) -> Found {
+    let Some(items) = value.as_array() else {
+        return not_one(alloc, value, "a list");
+    };
+    let items = items.as_slice();
+    if let Some(wrong) = count_fault(alloc, shapes.len(), items.len())? {
+        return Ok(Some(wrong));
+    }
+    for (index, shape) in shapes.iter().enumerate() {
+        if let Some(item) = items.get(index) {
+            if let Some(wrong) = fault_in(alloc, format, *shape, item)? {
+                return wrong.in_item(alloc, index);
+            }
+        }
+    }
+    Ok(None)
+}
+
+/// An object of the kind that its word at `key` names.
+#[cycle(walk)]
+fn kinds_fault(alloc: Global, format: Format, key: &str, kinds: &[Kind], value: &Value) -> Found {
+    for kind in kinds {
+        if has_word(value, key, kind.word) {
+            if !has_kind(format, kind.since) {
+                return later_kind(alloc, key, kind.word);
+            }
+            return object_fault(alloc, format, kind.fields, value);
+        }
+    }
+    Ok(None)
+}
+
+/// An object with all of these keys and no other.
+#[cycle(walk)]
+fn object_fault(alloc: Global, format: Format, fields: Fields, value: &Value) -> Found {
+    let Some(object) = value.as_object() else {
+        return not_one(alloc, value, "an object");
+    };
+    if let Some(wrong) = unknown_fault(alloc, fields.noun, fields.keys, object)? {
+        return Ok(Some(wrong));
+    }
+    if let Some(wrong) = fields_fault(alloc, format, fields.keys, value)? {
+        return Ok(Some(wrong));
+    }
+    rule_fault(alloc, fields.rule, value)
+}
+
+/// An object with all of these keys.
+#[cycle(walk)]
+fn fields_fault(alloc: Global, format: Format, fields: &[Field], value: &Value) -> Found {
+    for field in fields {
+        let Some(at_key) = value.get(field.0) else {
+            return absent(alloc, field.0);
+        };
+        if let Some(wrong) = fault_in(alloc, format, field.1, at_key)? {
+            return wrong.in_key(alloc, field.0);
+        }
+    }
+    Ok(None)
+}
+
+/// The least key of an object that is none of these.
+fn unknown_fault(
+    alloc: Global,
+    noun: &str,
+    fields: &[Field],
+    object: &Map<String, Value>,
+) -> Found {
+    for key in object.keys() {
+        if !is_key(fields, key.as_str()) {
+            let key = shown_key(alloc, key.as_str())?;
+            let what = format!(in alloc; "{key} is no key of {noun}")?;
+            return Wrong::here(alloc, what);
+        }
+    }
+    Ok(None)
+}
+
+fn is_key(fields: &[Field], key: &str) -> bool {
+    fields.iter().any(|field| field.0 == key)
+}
+
+/// Of an object that doesn't have this key.
+fn absent(alloc: Global, key: &str) -> Found {
+    let what = format!(in alloc; "{key} is absent")?;
+    Wrong::here(alloc, what)
+}
+
+/// Of an object that names its kind by one of these words.
+fn kind_fault(alloc: Global, key: &str, words: &[&str], value: &Value) -> Found {
+    if !value.is_object() {
+        return not_one(alloc, value, "an object");
+    }
+    let Some(word) = value.get(key) else {
+        return absent(alloc, key);
+    };
+    match word_fault(alloc, words, word)? {
+        Some(wrong) => wrong.in_key(alloc, key),
+        None => Ok(None),
+    }
+}
+
+/// Whether an object has this word at a key.
+fn has_word(value: &Value, key: &str, word: &str) -> bool {
+    match value.get(key) {
+        Some(text) => text.as_str() == Some(word),
+        None => false,
+    }
+}
+
+/// Of a list that has to have `low` to `high` items. What is no list is told elsewhere.
+fn length_fault(alloc: Global, low: usize, high: usize, value: &Value) -> Found {
+    let Some(items) = value.as_array() else {
+        return Ok(None);
+    };
+    let len = items.len();
+    if len >= low && len <= high {
+        return Ok(None);
+    }
+    let items = counted(alloc, len)?;
+    let bound = if len < low {
+        format!(in alloc; "has to have {low} at least")?
+    } else {
+        format!(in alloc; "may have {high} at most")?
+    };
+    let what = format!(in alloc; "the list has {items}, and {bound}")?;
+    Wrong::here(alloc, what)
+}
+
+/// Of a list that has to have this number of items.
+fn count_fault(alloc: Global, count: usize, len: usize) -> Found {
+    if len == count {
+        return Ok(None);
+    }
+    let items = counted(alloc, len)?;
+    let what = format!(in alloc; "the list has {items} in place of {count}")?;
+    Wrong::here(alloc, what)
+}
+
+/// Whether a line of this version may have what is there since `since`.
+fn has_kind(format: Format, since: Format) -> bool {
+    match since {
+        Format::One => true,
+        Format::Two => match format {
+            Format::One => false,
+            Format::Two => true,
+        },
+    }
+}
+
+/// Of a kind that only the second version has.
+fn later_kind(alloc: Global, key: &str, word: &str) -> Found {
+    let what = format!(in alloc; "{word:?} needs version 2 of the format")?;
+    match Wrong::here(alloc, what)? {
+        Some(wrong) => wrong.in_key(alloc, key),
+        None => Ok(None),
+    }
+}
