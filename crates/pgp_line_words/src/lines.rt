@@ -3,6 +3,7 @@
 use super::numbers::{DEVICE, EPOCH, FORMAT, GROUP, PLACE, POOL, SIZE, SLOT, WEIGHT, WRITE};
 use super::objects::{CODE, CRUSH, PLACED_EPOCHS, PLAIN_EPOCHS, POOLS};
 use super::shape::{Field, Format, Shape};
+use pgp_lines::Op;
 use serde_json::Value;
 
 const DEVICES: Shape = Shape::List(&DEVICE);
@@ -110,21 +111,21 @@ pub(crate) fn shape_at(line: &Value, key: &str) -> Option<Shape> {
     None
 }
 
-/// The keys of a line's operation.
+/// The keys of a line's operation, without `op`.
 fn fields_of(line: &Value) -> Option<&'static [Field]> {
-    match op_of(line)? {
-        "ask" => Some(ASK),
-        "close" => Some(CLOSE),
-        "entries" => Some(ENTRIES),
-        "inc" => Some(INC),
-        "info" => Some(INFO),
-        "locate" => Some(LOCATE),
-        "trace" => Some(trace_fields(line)),
-        _ => None,
-    }
+    let op = Op::named(op_of(line)?)?;
+    Some(match op {
+        Op::Ask => ASK,
+        Op::Close => CLOSE,
+        Op::Entries => ENTRIES,
+        Op::Inc => INC,
+        Op::Info => INFO,
+        Op::Locate => LOCATE,
+        Op::Trace => trace_fields(line),
+    })
 }
 
-/// The operation that a line names.
+/// The name that a line gives as its operation.
 pub(crate) fn op_of(line: &Value) -> Option<&str> {
     line.get("op")?.as_str()
 }
