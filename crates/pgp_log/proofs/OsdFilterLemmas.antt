@@ -1,8 +1,8 @@
 -- Sets of devices that may have more than was put in.
-use Rattle.std.proofs.Common.{◌≡◌, ℕ, ◌+◌, ◌*◌, ◌/◌, ◌%◌, ◌<◌, ◌≤◌, ◌^◌, Bool, true, not, nat_eq, List, length, take, get_or, bit_and, bit_or, w64, ap, sym, ◌∙◌, inl, inr, arith}
+use Rattle.std.proofs.Common.{◌≡◌, ◌≢◌, ℕ, ◌+◌, ◌*◌, ◌/◌, ◌%◌, ◌<◌, ◌≤◌, ◌^◌, Bool, true, not, nat_eq, min, List, length, take, get_or, bit_and, bit_or, w64, ap, sym, ◌∙◌, inl, inr, arith}
 use Rattle.std.specs.Int.{bit_at}
 use Rattle.std.specs.List.{list_any}
-use Rattle.std.proofs.lemmas.Bool.{cases_Bool, eqb-true, or_cases}
+use Rattle.std.proofs.lemmas.Bool.{cases_Bool, cases_eq, eqb-true, or_cases}
 use Rattle.std.proofs.lemmas.List.{take_all}
 use Rattle.std.proofs.lemmas.List.Folds.{list_any_more}
 use Rattle.std.proofs.lemmas.Nat.Bits.{bit_at_and, bit_at_or, bit_at-lt, bit_at-zero, bit_at_set_same}
@@ -83,8 +83,21 @@ second-kept one two osd is =
     }
 
 -- a bit that both words have
-pub both : (a b i : ℕ) → bit_at a i ≡ 1 → bit_at b i ≡ 1 → not (nat_eq (bit_and a b) 0) ≡ true
-both a b i one two = elim (cases_Bool (nat_eq (bit_and a b) 0)) [
-  | inl none ↦ absurd (omega (arith, bit_at_and a b i, one, two, ap (λ n. bit_at n i) (eqb-true (bit_and a b) 0 none), bit_at-zero i))
-  | inr some ↦ ap not some
+both : (a b i : ℕ) → bit_at a i ≡ 1 → bit_at b i ≡ 1 → 0 < bit_and a b
+both a b i one two = elim (cases_eq (bit_and a b) 0) [
+  | inl none ↦ absurd (omega (arith, bit_at_and a b i, one, two, ap (λ n. bit_at n i) none, bit_at-zero i))
+  | inr some ↦ omega (arith, some)
 ]
+
+least : (a b c : ℕ) → 0 < a → 0 < b → 0 < c → min (min a b) c ≢ 0
+least a b c some_a some_b some_c none = omega (arith, some_a, some_b, some_c, none)
+
+not-zero : (n : ℕ) → n ≢ 0 → not (nat_eq n 0) ≡ true
+not-zero n some = elim (cases_Bool (nat_eq n 0)) [ inl none ↦ absurd (some (eqb-true n 0 none)) | inr other ↦ ap not other ]
+
+-- a device that both sets have: no word's common part is 0
+pub shared : (one two : OsdFilter) (osd : ℕ) → Covers one osd → Covers two osd
+    → not (nat_eq (min (min (bit_and one.low two.low) (bit_and one.high two.high)) (bit_and one.sum two.sum)) 0) ≡ true
+shared one two osd here there =
+    not-zero _ (least _ _ _ (both one.low two.low (osd % 64) here.low there.low) (both one.high two.high (osd / 64) here.high there.high)
+    (both one.sum two.sum ((osd % 64 + osd / 64) % 64) here.sum there.sum))

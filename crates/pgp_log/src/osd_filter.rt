@@ -98,10 +98,13 @@ impl OsdFilter {
         }
     }
 
-    /// Whether some device may be in both sets. All words are looked at, since a branch between them would seldom be foreseen.
+    /// Whether some device may be in both sets: each word has a bit that the other set's has. The least of what the words share
+    /// is looked at, since a branch for each word would seldom be foreseen.
     pub(crate) fn shares(self, other: OsdFilter) -> bool
         ensures { (osd : ℕ) → Covers self osd → Covers other osd → result ≡ true }
     {
-        (self.low & other.low != 0) & (self.high & other.high != 0) & (self.sum & other.sum != 0)
+        let high = self.high & other.high;
+        let sum = self.sum & other.sum;
+        (self.low & other.low).min(high).min(sum) != 0
     }
 }
