@@ -50,8 +50,11 @@ fn codes_count_slots(rt: HostRuntime) {
     }
 }
 
-/// The kind of pool that a trace of this code asks about.
-fn kind_of(alloc: Global, line: &str) -> Result<PoolKind, Fail> {
+/// The kind of pool that a trace of a grouped code of these parts asks about.
+fn kind_of(alloc: Global, parts: &str) -> Result<PoolKind, Fail> {
+    let line = format!(in alloc;
+        r#"{{"op":"trace","v":2,"code":{{"kind":"grouped","groups":{parts}}},"epochs":[{{"up":[],"acting":[],"size":1,"min_size":1,"up_from":0,"up_thru":0}}]}}"#
+    )?;
     let command = read_line(alloc, line.as_bytes())?;
     Ok(code_in(&command).ok_or("no trace")?)
 }
@@ -64,8 +67,7 @@ fn code_in(command: &Command) -> Option<PoolKind> {
 }
 
 /// Of the slots 0 and 1 one has to be there, and both 2 and 3; slot 4 is in no part.
-const PARTS: &str =
-    r#"{"op":"trace","v":2,"code":{"kind":"grouped","groups":[[[1,0],1],[[2,3],2]]},"epochs":[{"up":[],"acting":[],"size":1,"min_size":1,"up_from":0,"up_thru":0}]}"#;
+const PARTS: &str = "[[[1,0],1],[[2,3],2]]";
 
 /// All sets of the slots 0 to 4 that are enough of these parts.
 static ENOUGH_OF_PARTS: [&[u8]; 6] = [
@@ -76,6 +78,16 @@ static ENOUGH_OF_PARTS: [&[u8]; 6] = [
     &[1, 2, 3, 4],
     &[0, 1, 2, 3, 4],
 ];
+
+#[test]
+fn each_part_has_to_have_its_least_number(rt: HostRuntime) -> Result<(), Fail> {
+    let code = AnyCode::of_pool(kind_of(rt.alloc(), PARTS)?);
+    for list in &ENOUGH_OF_PARTS {
+        assert!(rt; code.enough(slots(list)), "{list:?}");
+    }
+    assert!(rt; count_enough(&code) == ENOUGH_OF_PARTS.len());
+    Ok(())
+}
 
 /// How many sets of the slots 0 to 4 there are.
 const SETS: u8 = 32;
@@ -102,17 +114,6 @@ fn count_enough(code: &AnyCode) -> usize {
     count
 }
 
-#[test]
-fn each_part_has_to_have_its_least_number(rt: HostRuntime) -> Result<(), Fail> {
-    let code = AnyCode::of_pool(kind_of(rt.alloc(), PARTS)?);
-    assert!(rt; code.by_place());
-    for list in &ENOUGH_OF_PARTS {
-        assert!(rt; code.enough(slots(list)), "{list:?}");
-    }
-    assert!(rt; count_enough(&code) == ENOUGH_OF_PARTS.len());
-    Ok(())
-}
-
 /// Whether no set within this one is enough, unless this one is.
 fn holds_enough_if_any_within(code: &AnyCode, bits: u8) -> bool {
     let set = set_of(bits);
@@ -125,42 +126,41 @@ fn holds_enough_if_any_within(code: &AnyCode, bits: u8) -> bool {
     true
 }
 
-/// Traces of grouped codes over the slots 0 to 4.
-static CODES: [&str; 4] = [
-    PARTS,
-    r#"{"op":"trace","v":2,"code":{"kind":"grouped","groups":[[[0],1],[[1],1],[[2],1],[[3],1],[[4],1]]},"epochs":[{"up":[],"acting":[],"size":1,"min_size":1,"up_from":0,"up_thru":0}]}"#,
-    r#"{"op":"trace","v":2,"code":{"kind":"grouped","groups":[[[4,3,2,1,0],3]]},"epochs":[{"up":[],"acting":[],"size":1,"min_size":1,"up_from":0,"up_thru":0}]}"#,
-    r#"{"op":"trace","v":2,"code":{"kind":"grouped","groups":[[[4],1]]},"epochs":[{"up":[],"acting":[],"size":1,"min_size":1,"up_from":0,"up_thru":0}]}"#,
+/// The parts of grouped codes, and how many of the sets are enough of each.
+static CODES: [(&str, usize); 4] = [
+    (PARTS, 6),
+    ("[[[0],1],[[1],1],[[2],1],[[3],1],[[4],1]]", 1),
+    ("[[[4,3,2,1,0],3]]", 16),
+    ("[[[4],1]]", 16),
 ];
-
-/// How many of the sets are enough of each of these codes.
-static COUNTS: [usize; 4] = [6, 1, 16, 16];
 
 #[test]
 fn more_slots_are_never_less(rt: HostRuntime) -> Result<(), Fail> {
-    for (line, count) in CODES.iter().zip(COUNTS.iter()) {
-        let code = AnyCode::of_pool(kind_of(rt.alloc(), line)?);
-        assert!(rt;
-            !code.enough(SlotSet::empty()) && count_enough(&code) == *count,
-            "{line}"
-        );
+    for (parts, count) in &CODES {
+        let code = AnyCode::of_pool(kind_of(rt.alloc(), parts)?);
+        let none = code.enough(SlotSet::empty());
+        assert!(rt; !none && count_enough(&code) == *count, "{parts}");
         for bits in 0..SETS {
-            assert!(rt; holds_enough_if_any_within(&code, bits), "{bits} of {line}");
+            assert!(rt;
+                holds_enough_if_any_within(&code, bits),
+                "{bits} of {parts}"
+            );
         }
     }
     Ok(())
 }
 
-/// Whether the code of a pool of this kind places members as the pool does, by place or not.
-fn places_so(kind: PoolKind, by_place: bool) -> bool {
-    kind.is_by_place() == by_place && AnyCode::of_pool(kind).by_place() == by_place
-}
-
 #[test]
 fn codes_place_members_as_their_pools(rt: HostRuntime) -> Result<(), Fail> {
-    assert!(rt; places_so(PoolKind::Replicated, false));
-    assert!(rt; places_so(PoolKind::Erasure { k: 2 }, true));
-    assert!(rt; places_so(kind_of(rt.alloc(), PARTS)?, true));
+    let grouped = kind_of(rt.alloc(), PARTS)?;
+    for (kind, by_place) in [
+        (PoolKind::Replicated, false),
+        (PoolKind::Erasure { k: 2 }, true),
+        (grouped, true),
+    ] {
+        let code = AnyCode::of_pool(kind);
+        assert!(rt; kind.is_by_place() == by_place && code.by_place() == by_place);
+    }
     Ok(())
 }
 

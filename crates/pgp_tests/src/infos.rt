@@ -1,49 +1,40 @@
 //! The best of infos as they come, by both preferences.
 
-use super::fixtures::group;
-use pgp_ids::{Epoch, Info, Member, OsdId, Version};
+use pgp_fixtures::{empty_copy, member, version};
+use pgp_ids::{Epoch, Info};
 use pgp_info::{Best, NewestFirst, OldestFirst, Prefer};
-use std::alloc::Global;
+use std::alloc::{AllocError, Global};
 use std::test::Fail;
 
 /// What a member tells: its device and slot, the epochs of its last start and of the group's, the number of its last write,
 /// which was in epoch 1 if there was one, and whether its copy is complete.
 #[derive(Clone, Copy)]
-struct Told(u16, u8, u32, u32, u32, bool);
+struct Told(u8, u8, u32, u32, u32, bool);
 
-pub fn member(osd: u16, slot: u8) -> Result<Member, Fail> {
-    let osd = OsdId::new(osd).ok_or("a device")?;
-    Ok(Member { osd, slot })
-}
-
-pub fn version(epoch: u32, v: u32) -> Version {
-    Version {
-        epoch: Epoch::new(epoch),
-        v,
-    }
-}
-
-fn info(told: Told) -> Result<Info, Fail> {
+fn info(told: Told) -> Info {
     let Told(osd, slot, les, history_les, v, complete) = told;
-    Ok(Info {
-        pg: group()?,
-        member: member(osd, slot)?,
-        stamp: Epoch::new(1),
+    Info {
+        member: member(osd, slot),
         les: Epoch::new(les),
         history_les: Epoch::new(history_les),
-        last_epoch_clean: Epoch::new(0),
         last_update: version(u32::from(v > 0), v),
-        log_tail: version(0, 0),
         complete,
-    })
+        ..empty_copy()
+    }
 }
 
-/// Puts the first of these infos.
-fn put<P: Prefer + Drop>(heard: &mut Best<P>, infos: &[Told], count: usize) -> Result<(), Fail> {
+/// What is heard by this preference once the first of these infos have come.
+fn heard_of<P: Prefer + Drop>(
+    alloc: Global,
+    prefer: P,
+    infos: &[Told],
+    count: usize,
+) -> Result<Best<P>, AllocError> {
+    let mut heard = Best::new(alloc, prefer);
     for told in infos.iter().take(count) {
-        heard.put(info(*told)?)?;
+        heard.put(info(*told))?;
     }
-    Ok(())
+    Ok(heard)
 }
 
 /// The device whose copy is the one to follow.
@@ -52,24 +43,6 @@ fn leader<P: Prefer>(heard: &Best<P>) -> Option<u16> {
         Some(info) => Some(info.member.osd.number()),
         None => None,
     }
-}
-
-/// The leader after the first of these infos.
-fn leader_of<P: Prefer + Drop>(
-    alloc: Global,
-    prefer: P,
-    infos: &[Told],
-    count: usize,
-) -> Result<Option<u16>, Fail> {
-    let mut heard = Best::new(alloc, prefer);
-    put(&mut heard, infos, count)?;
-    Ok(leader(&heard))
-}
-
-/// The leader once this device is forgotten.
-fn leader_without<P: Prefer>(heard: &mut Best<P>, osd: u16) -> Result<Option<u16>, Fail> {
-    heard.drop_member(&member(osd, 0)?);
-    Ok(leader(heard))
 }
 
 /// Three copies, of which the first one tells again that it isn't complete, and that it is.
@@ -112,26 +85,25 @@ static BEST: [(&[Told], usize, Option<u16>, Option<u16>); 9] = [
 
 #[test]
 fn finds_the_best(rt: HostRuntime) -> Result<(), Fail> {
-    let primary = Some(member(0, 0)?);
+    let primary = Some(member(0, 0));
     for (row, (infos, count, newest, oldest)) in BEST.iter().enumerate() {
-        let copy = leader_of(rt.alloc(), NewestFirst { primary }, infos, *count)?;
-        let shard = leader_of(rt.alloc(), OldestFirst { primary }, infos, *count)?;
-        assert!(rt; copy == *newest && shard == *oldest, "row {row}");
+        let copies = heard_of(rt.alloc(), NewestFirst { primary }, infos, *count)?;
+        let shards = heard_of(rt.alloc(), OldestFirst { primary }, infos, *count)?;
+        assert!(rt;
+            leader(&copies) == *newest && leader(&shards) == *oldest,
+            "row {row}"
+        );
     }
     Ok(())
 }
 
-/// Devices that are forgotten one after the other, and the leader then.
-static LEFT: [(u16, Option<u16>); 3] = [(0, Some(1)), (1, Some(2)), (2, None)];
-
 #[test]
 fn forgets_members(rt: HostRuntime) -> Result<(), Fail> {
-    let primary = Some(member(0, 0)?);
-    let mut heard = Best::new(rt.alloc(), NewestFirst { primary });
-    put(&mut heard, &AGAIN, 3)?;
-    for (osd, best) in &LEFT {
-        let leader = leader_without(&mut heard, *osd)?;
-        assert!(rt; leader == *best);
+    let primary = Some(member(0, 0));
+    let mut heard = heard_of(rt.alloc(), NewestFirst { primary }, &AGAIN, 3)?;
+    for (osd, best) in [(0, Some(1)), (1, Some(2)), (2, None)] {
+        heard.drop_member(&member(osd, 0));
+        assert!(rt; leader(&heard) == best, "without {osd}");
     }
     Ok(())
 }

@@ -11,9 +11,7 @@ mod cleans;
 #[cfg(test)]
 mod codes;
 #[cfg(test)]
-mod fixtures;
-#[cfg(test)]
-mod fresh_shards;
+mod counting;
 #[cfg(test)]
 mod groups;
 #[cfg(test)]
@@ -44,6 +42,8 @@ mod prior_sets;
 mod scripts;
 #[cfg(test)]
 mod texts;
+#[cfg(test)]
+mod transcripts;
 #[cfg(test)]
 mod trees;
 #[cfg(test)]

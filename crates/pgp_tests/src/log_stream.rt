@@ -1,8 +1,8 @@
 //! Logs of a member as they are kept, against all entries that it reported, over seeded streams in which entries come and
 //! the bounds of the log change.
 
-use super::fixtures::Dice;
-use super::missing::{At, Held, add, info, judged, tell_object};
+use super::missing::{add, info, judged};
+use pgp_fixtures::{Dice, tell_object, version};
 use pgp_ids::{Change, Info, Version};
 use pgp_missing::MemberLog;
 use std::alloc::{AllocError, Global};
@@ -22,23 +22,23 @@ struct Wrote {
     name: usize,
 }
 
-/// The info that came last, and all entries that were reported, in the order in which they came.
+/// How many numbers of writes there are, from 0 on.
+const NUMBERS: usize = 10;
+
+/// The info that came last, and of each number the entry that was reported last.
 #[derive(Drop)]
 struct Reported {
     info: Info,
-    entries: Vec<Wrote>,
+    entries: [Option<Wrote>; NUMBERS],
 }
 
 impl Reported {
-    /// The entry of the log with this number, the last one that was reported.
+    /// The entry of the log with this number.
     fn entry(&self, v: u32) -> Option<Wrote> {
-        let mut last = None;
-        for wrote in &self.entries {
-            if wrote.version.v == v && self.info.log_tail.v < v && v <= self.info.last_update.v {
-                last = Some(*wrote);
-            }
+        if v <= self.info.log_tail.v || self.info.last_update.v < v {
+            return None;
         }
-        last
+        *self.entries.get(v as usize)?
     }
 
     /// Whether no number of the log lacks an entry, its last is last_update, and epochs never fall.
@@ -55,11 +55,9 @@ impl Reported {
         before == self.info.last_update
     }
 
-    fn has(&self, version: Version) -> bool {
-        match self.entry(version.v) {
-            Some(wrote) => wrote.version == version,
-            None => false,
-        }
+    /// The version with this number.
+    fn version(&self, v: u32) -> Option<Version> {
+        Some(self.entry(v)?.version)
     }
 
     /// The last entry of the object above this number.
@@ -101,7 +99,7 @@ impl Reported {
             String::from_str(alloc, "not whole")
         } else if !peer.complete || last < tail {
             String::from_str(alloc, "backfill")
-        } else if last != tail && !self.has(last) {
+        } else if last != tail && self.version(last.v) != Some(last) {
             String::from_str(alloc, "diverged")
         } else {
             self.lacking(alloc, last.v)
@@ -110,34 +108,34 @@ impl Reported {
 }
 
 /// The version with this number, mostly in the epoch in which most writes with the number were.
-fn at(v: u32, dice: &mut Dice) -> At {
+fn at(v: u32, dice: &mut Dice) -> Version {
     let epoch = if dice.below(8) == 0 {
         dice.below(4) as u32
     } else {
         v.div_ceil(3)
     };
-    At(epoch, v)
+    version(epoch, v)
 }
 
 /// A copy with some bounds.
-fn any_copy(dice: &mut Dice) -> Result<Info, Fail> {
+fn any_copy(dice: &mut Dice) -> Info {
     let tail = dice.below(7) as u32;
     let last = tail + dice.below(4) as u32;
     let tail = at(tail, dice);
     let last = at(last, dice);
-    info(Held(tail, last, dice.below(8) > 0))
+    info(tail, last, dice.below(8) > 0)
 }
 
 fn any_write(dice: &mut Dice) -> Wrote {
     let v = dice.below(9) as u32 + 1;
-    let change = if dice.below(3) == 0 {
-        Change::Delete
-    } else {
-        Change::Modify
-    };
+    let deletes = dice.below(3) == 0;
     Wrote {
-        version: at(v, dice).version(),
-        change,
+        version: at(v, dice),
+        change: if deletes {
+            Change::Delete
+        } else {
+            Change::Modify
+        },
         name: dice.below(4) as usize,
     }
 }
@@ -150,13 +148,15 @@ fn step(
     dice: &mut Dice,
 ) -> Result<(), Fail> {
     if dice.below(3) == 0 {
-        reported.info = any_copy(dice)?;
+        reported.info = any_copy(dice);
         log.renew(&reported.info);
     } else {
         let wrote = any_write(dice);
         let name = *NAMES.get(wrote.name).ok_or("a place")?;
         add(alloc, log, wrote.version, wrote.change, name)?;
-        reported.entries.push(wrote)?;
+        if let Some(last) = reported.entries.get_mut(wrote.version.v as usize) {
+            *last = Some(wrote);
+        }
     }
     Ok(())
 }
@@ -167,40 +167,30 @@ fn says_the_same(
     log: &MemberLog,
     reported: &Reported,
     dice: &mut Dice,
-) -> Result<bool, Fail> {
-    let peer = any_copy(dice)?;
+) -> Result<bool, AllocError> {
+    let peer = any_copy(dice);
     let kept = judged(alloc, log, &peer)?;
     let plain = reported.state_of(alloc, &peer)?;
     Ok(kept.as_str() == plain.as_str())
 }
 
-/// Whether both say the same at each step of a stream.
-fn follow(
-    alloc: Global,
-    log: &mut MemberLog,
-    reported: &mut Reported,
-    dice: &mut Dice,
-) -> Result<bool, Fail> {
-    let mut same = true;
-    for _ in 0..300 {
-        step(alloc, log, reported, dice)?;
-        for _ in 0..4 {
-            same = says_the_same(alloc, log, reported, dice)? && same;
-        }
-    }
-    Ok(same)
-}
-
-/// The same of the stream from this seed.
+/// Whether both say the same at each step of the stream from this seed.
 fn run(alloc: Global, seed: u64) -> Result<bool, Fail> {
     let mut dice = Dice::seeded(seed);
-    let info = any_copy(&mut dice)?;
+    let info = any_copy(&mut dice);
     let mut log = MemberLog::begin(alloc, &info);
     let mut reported = Reported {
         info,
-        entries: Vec::new(alloc),
+        entries: [None; NUMBERS],
     };
-    follow(alloc, &mut log, &mut reported, &mut dice)
+    let mut same = true;
+    for _ in 0..300 {
+        step(alloc, &mut log, &mut reported, &mut dice)?;
+        for _ in 0..4 {
+            same = says_the_same(alloc, &log, &reported, &mut dice)? && same;
+        }
+    }
+    Ok(same)
 }
 
 #[test]

@@ -1,10 +1,9 @@
 //! What a map says of a device, its pool, its group and its tree, after a few incrementals.
 
-use super::fixtures::{COPIES, group, places};
 use super::peering::grow;
+use pgp_fixtures::{COPIES, group, osd, places};
 use pgp_ids::{Epoch, OsdId};
 use pgp_map::OsdMap;
-use std::alloc::Global;
 use std::test::Fail;
 
 /// Device 1 was known to be up in epoch 1, went down, was given up for lost as of epoch 2, came up with another weight, and
@@ -17,15 +16,6 @@ static LINES: [&str; 6] = [
     r#"{"op":"inc","epoch":5,"up":[1],"weight":[[1,32768]]}"#,
     r#"{"op":"inc","epoch":6,"down":[1]}"#,
 ];
-
-/// The map of all lines.
-fn map_of(alloc: Global) -> Result<OsdMap, Fail> {
-    let mut map = OsdMap::empty(alloc);
-    for line in &LINES {
-        grow(alloc, &mut map, line)?;
-    }
-    Ok(map)
-}
 
 /// Whether the map says so of device 1.
 fn knows_the_device(map: &OsdMap, osd: OsdId) -> bool {
@@ -40,7 +30,7 @@ fn knows_the_device(map: &OsdMap, osd: OsdId) -> bool {
 
 /// Whether the map says so of its pool, its group and its tree.
 fn knows_the_group(map: &OsdMap) -> Result<bool, Fail> {
-    let pg = group()?;
+    let pg = group();
     let made = map.pool(pg.pool).ok_or("no pool")?;
     let lies = map.temp(pg) == places(&[0, 1, 2]).as_slice();
     Ok(made.pg_num == 1 && lies && map.tree().is_some())
@@ -48,10 +38,12 @@ fn knows_the_group(map: &OsdMap) -> Result<bool, Fail> {
 
 #[test]
 fn a_map_says_what_its_incrementals_say(rt: HostRuntime) -> Result<(), Fail> {
-    let map = map_of(rt.alloc())?;
-    let osd = OsdId::new(1).ok_or("a device")?;
+    let mut map = OsdMap::empty(rt.alloc());
+    for line in &LINES {
+        grow(rt.alloc(), &mut map, line)?;
+    }
     assert!(rt; map.epoch() == Epoch::new(6));
-    assert!(rt; knows_the_device(&map, osd), "another device");
+    assert!(rt; knows_the_device(&map, osd(1)), "another device");
     assert!(rt; knows_the_group(&map)?, "another group");
     Ok(())
 }

@@ -1,54 +1,21 @@
 //! The states of peers by small logs, told in words, and by a log whose numbers go up to the last one.
 
-use super::fixtures::group;
-use pgp_ids::{Change, Epoch, Info, LogEntry, Member, ObjectName, OsdId, PeerState, Version};
+use pgp_fixtures::{empty_copy, peer_in_words, version};
+use pgp_ids::{Change, Epoch, Info, LogEntry, ObjectName, Version};
 use pgp_missing::MemberLog;
 use std::alloc::{AllocError, Global};
 use std::test::Fail;
 
-/// An epoch and the number of a write in it.
-#[derive(Clone, Copy)]
-pub struct At(pub u32, pub u32);
-
-impl At {
-    pub fn version(self) -> Version {
-        Version {
-            epoch: Epoch::new(self.0),
-            v: self.1,
-        }
-    }
-}
-
-/// A copy whose log goes from the first version to the second, and whether it is complete.
-#[derive(Clone, Copy)]
-pub struct Held(pub At, pub At, pub bool);
-
-pub fn info(told: Held) -> Result<Info, Fail> {
-    let Held(tail, last, complete) = told;
-    let osd = OsdId::new(0).ok_or("a device")?;
-    Ok(Info {
-        pg: group()?,
-        member: Member { osd, slot: 0 },
+/// A copy whose log goes from after the first version to the second.
+pub fn info(log_tail: Version, last_update: Version, complete: bool) -> Info {
+    Info {
         stamp: Epoch::new(2),
         les: Epoch::new(1),
-        history_les: Epoch::new(0),
-        last_epoch_clean: Epoch::new(0),
-        last_update: last.version(),
-        log_tail: tail.version(),
+        last_update,
+        log_tail,
         complete,
-    })
-}
-
-/// Entries of a log, each a version, whether it made or changed the object or deleted it, and the object's name.
-type Entries = &'static [(At, Change, &'static str)];
-
-/// The log of the member with this info, after these entries.
-fn log_of(alloc: Global, info: &Info, entries: Entries) -> Result<MemberLog, Fail> {
-    let mut log = MemberLog::begin(alloc, info);
-    for (at, change, name) in entries {
-        add(alloc, &mut log, at.version(), *change, name)?;
+        ..empty_copy()
     }
-    Ok(log)
 }
 
 /// Adds an entry of this object.
@@ -68,231 +35,118 @@ pub fn add(
     Ok(())
 }
 
-/// A peer's state in words.
-fn told(alloc: Global, state: &PeerState) -> Result<String, AllocError> {
-    let mut text = String::from_str(alloc, state.name())?;
-    if let PeerState::Missing(objects) = state {
-        for missing in objects.as_slice() {
-            tell_object(&mut text, missing.object.as_str(), missing.version)?;
-        }
-    }
-    Ok(text)
-}
-
-/// Writes an object with a version.
-pub fn tell_object(text: &mut String, name: &str, version: Version) -> Result<(), AllocError> {
-    let epoch = version.epoch;
-    let v = version.v;
-    write!(text, " {name} [{epoch},{v}]")
-}
-
 /// The state of the peer by this log in words, or that the log isn't whole.
 pub fn judged(alloc: Global, log: &MemberLog, peer: &Info) -> Result<String, AllocError> {
     if !log.whole() {
         return String::from_str(alloc, "not whole");
     }
     let state = log.missing_of(alloc, peer)?;
-    told(alloc, &state)
+    peer_in_words(alloc, &state)
 }
+
+/// Entries of a log, each with its epoch and number, whether it made or changed the object or deleted it, and the object's
+/// name.
+type Entries = &'static [(u32, u32, Change, &'static str)];
 
 const MADE: Change = Change::Modify;
 
 const GONE: Change = Change::Delete;
 
-const TWO: Entries = &[(At(1, 2), MADE, "a"), (At(2, 3), MADE, "b")];
+const TWO: Entries = &[(1, 2, MADE, "a"), (2, 3, MADE, "b")];
 
+const IN_ONE_EPOCH: Entries = &[(1, 2, MADE, "a"), (1, 3, MADE, "b")];
+
+/// Of number 2 the last entry holds.
 const THREE: Entries = &[
-    (At(1, 3), MADE, "c"),
-    (At(1, 1), MADE, "a"),
-    (At(1, 2), MADE, "x"),
-    (At(1, 2), MADE, "b"),
+    (1, 3, MADE, "c"),
+    (1, 1, MADE, "a"),
+    (1, 2, MADE, "x"),
+    (1, 2, MADE, "b"),
 ];
 
-const DELETED: Entries = &[
-    (At(1, 1), MADE, "a"),
-    (At(1, 2), MADE, "b"),
-    (At(1, 3), GONE, "a"),
-];
+const WITHOUT_2: Entries = &[(1, 3, MADE, "c"), (1, 1, MADE, "a")];
 
-const CHANGED: Entries = &[
-    (At(1, 1), MADE, "a"),
-    (At(1, 2), MADE, "b"),
-    (At(1, 3), MADE, "a"),
-];
+const DELETED: Entries = &[(1, 1, MADE, "a"), (1, 2, MADE, "b"), (1, 3, GONE, "a")];
 
-const MADE_AGAIN: Entries = &[
-    (At(1, 1), MADE, "a"),
-    (At(1, 2), GONE, "a"),
-    (At(1, 3), MADE, "a"),
-];
+const TWICE: Entries = &[(1, 1, MADE, "a"), (1, 2, MADE, "b"), (1, 3, MADE, "a")];
 
-const FAR: Entries = &[
-    (At(1, 1), MADE, "a"),
-    (At(1, 2), MADE, "b"),
-    (At(2, u32::MAX), MADE, "c"),
-];
+const AGAIN: Entries = &[(1, 1, MADE, "a"), (1, 2, GONE, "a"), (1, 3, MADE, "a")];
 
-/// The copy of the best info, its log entries, a peer's copy, and the peer's state.
-static STATES: [(Held, Entries, Held, &str); 24] = [
+const FAR: Entries = &[(1, 1, MADE, "a"), (1, 2, MADE, "b"), (2, MAX, MADE, "c")];
+
+const MAX: u32 = u32::MAX;
+
+/// The version before the best copy's log and that of its last write, each an epoch and a number; its log entries; the same
+/// two versions of a peer's copy; and the peer's state.
+static STATES: [([u32; 4], Entries, [u32; 4], &str); 23] = [
+    ([1, 1, 2, 3], TWO, [1, 2, 1, 2], "missing b [2,3]"),
+    ([1, 1, 2, 3], TWO, [1, 1, 1, 1], "missing a [1,2] b [2,3]"),
+    ([1, 1, 2, 3], TWO, [2, 2, 2, 2], "diverged"),
+    ([1, 1, 2, 3], TWO, [0, 0, 0, 0], "backfill"),
+    ([1, 1, 2, 3], TWO, [1, 1, 2, 3], "missing"),
+    ([2, 1, 2, 3], TWO, [2, 1, 2, 3], "not whole"),
+    ([1, 0, 2, 3], TWO, [1, 0, 2, 3], "not whole"),
+    ([1, 1, 3, 3], TWO, [1, 1, 3, 3], "not whole"),
+    ([1, 1, 2, 3], IN_ONE_EPOCH, [1, 1, 2, 3], "not whole"),
+    ([1, 1, 2, 3], &[], [1, 1, 2, 3], "not whole"),
+    ([2, 3, 2, 3], &[], [2, 3, 2, 3], "missing"),
     (
-        Held(At(1, 1), At(2, 3), true),
-        TWO,
-        Held(At(1, 2), At(1, 2), true),
-        "missing b [2,3]",
-    ),
-    (
-        Held(At(1, 1), At(2, 3), true),
-        TWO,
-        Held(At(1, 1), At(1, 1), true),
-        "missing a [1,2] b [2,3]",
-    ),
-    (
-        Held(At(1, 1), At(2, 3), true),
-        TWO,
-        Held(At(2, 2), At(2, 2), true),
-        "diverged",
-    ),
-    (
-        Held(At(1, 1), At(2, 3), true),
-        TWO,
-        Held(At(0, 0), At(0, 0), true),
-        "backfill",
-    ),
-    (
-        Held(At(1, 1), At(2, 3), true),
-        TWO,
-        Held(At(1, 1), At(2, 3), true),
-        "missing",
-    ),
-    (
-        Held(At(1, 1), At(2, 3), true),
-        TWO,
-        Held(At(1, 1), At(2, 3), false),
-        "backfill",
-    ),
-    (
-        Held(At(2, 1), At(2, 3), true),
-        TWO,
-        Held(At(2, 1), At(2, 3), true),
-        "not whole",
-    ),
-    (
-        Held(At(1, 0), At(2, 3), true),
-        TWO,
-        Held(At(1, 0), At(2, 3), true),
-        "not whole",
-    ),
-    (
-        Held(At(1, 1), At(3, 3), true),
-        TWO,
-        Held(At(1, 1), At(3, 3), true),
-        "not whole",
-    ),
-    (
-        Held(At(1, 1), At(2, 3), true),
-        &[(At(1, 2), MADE, "a"), (At(1, 3), MADE, "b")],
-        Held(At(1, 1), At(2, 3), true),
-        "not whole",
-    ),
-    (
-        Held(At(1, 1), At(2, 3), true),
-        &[],
-        Held(At(1, 1), At(2, 3), true),
-        "not whole",
-    ),
-    (
-        Held(At(2, 3), At(2, 3), true),
-        &[],
-        Held(At(2, 3), At(2, 3), true),
-        "missing",
-    ),
-    (
-        Held(At(0, 0), At(1, 3), true),
+        [0, 0, 1, 3],
         THREE,
-        Held(At(0, 0), At(0, 0), true),
+        [0, 0, 0, 0],
         "missing a [1,1] b [1,2] c [1,3]",
     ),
+    ([0, 0, 1, 3], THREE, [0, 0, 1, 4], "diverged"),
+    ([0, 0, 1, 3], WITHOUT_2, [0, 0, 0, 0], "not whole"),
+    ([1, 1, 1, 3], THREE, [0, 0, 0, 0], "backfill"),
+    ([1, 1, 1, 3], THREE, [0, 0, 1, 1], "missing b [1,2] c [1,3]"),
+    ([0, 0, 1, 3], DELETED, [0, 0, 0, 0], "missing b [1,2]"),
+    ([0, 0, 1, 3], TWICE, [0, 0, 0, 0], "missing a [1,3] b [1,2]"),
+    ([0, 0, 1, 3], AGAIN, [0, 0, 0, 0], "missing a [1,3]"),
+    ([0, 0, 2, MAX], FAR, [0, 0, 2, MAX], "not whole"),
     (
-        Held(At(0, 0), At(1, 3), true),
-        THREE,
-        Held(At(0, 0), At(1, 4), true),
-        "diverged",
-    ),
-    (
-        Held(At(0, 0), At(1, 3), true),
-        &[(At(1, 3), MADE, "c"), (At(1, 1), MADE, "a")],
-        Held(At(0, 0), At(0, 0), true),
-        "not whole",
-    ),
-    (
-        Held(At(1, 1), At(1, 3), true),
-        THREE,
-        Held(At(0, 0), At(0, 0), true),
-        "backfill",
-    ),
-    (
-        Held(At(1, 1), At(1, 3), true),
-        THREE,
-        Held(At(0, 0), At(1, 1), true),
-        "missing b [1,2] c [1,3]",
-    ),
-    (
-        Held(At(0, 0), At(1, 3), true),
-        DELETED,
-        Held(At(0, 0), At(0, 0), true),
-        "missing b [1,2]",
-    ),
-    (
-        Held(At(0, 0), At(1, 3), true),
-        CHANGED,
-        Held(At(0, 0), At(0, 0), true),
-        "missing a [1,3] b [1,2]",
-    ),
-    (
-        Held(At(0, 0), At(1, 3), true),
-        MADE_AGAIN,
-        Held(At(0, 0), At(0, 0), true),
-        "missing a [1,3]",
-    ),
-    (
-        Held(At(0, 0), At(2, u32::MAX), true),
+        [2, MAX - 1, 2, MAX],
         FAR,
-        Held(At(0, 0), At(2, u32::MAX), true),
-        "not whole",
-    ),
-    (
-        Held(At(2, u32::MAX - 1), At(2, u32::MAX), true),
-        FAR,
-        Held(At(2, 1), At(2, u32::MAX - 1), true),
+        [2, 1, 2, MAX - 1],
         "missing c [2,4294967295]",
     ),
-    (
-        Held(At(2, 3), At(2, 3), true),
-        TWO,
-        Held(At(2, 3), At(2, 3), true),
-        "missing",
-    ),
-    (
-        Held(At(2, 3), At(2, 3), true),
-        TWO,
-        Held(At(2, 2), At(2, 2), true),
-        "backfill",
-    ),
+    ([2, 3, 2, 3], TWO, [2, 3, 2, 3], "missing"),
+    ([2, 3, 2, 3], TWO, [2, 2, 2, 2], "backfill"),
 ];
 
-/// What is told of the peer's copy, by the log of the best one's entries.
-fn found(alloc: Global, best: Held, entries: Entries, peer: Held) -> Result<String, Fail> {
-    let best = info(best)?;
-    let peer = info(peer)?;
-    let log = log_of(alloc, &best, entries)?;
-    Ok(judged(alloc, &log, &peer)?)
+/// The copy by these numbers, which is complete.
+fn copy_of(numbers: [u32; 4]) -> Info {
+    let [tail_epoch, tail, epoch, v] = numbers;
+    info(version(tail_epoch, tail), version(epoch, v), true)
+}
+
+/// The log of the member with this info, after these entries.
+fn log_of(alloc: Global, info: &Info, entries: Entries) -> Result<MemberLog, Fail> {
+    let mut log = MemberLog::begin(alloc, info);
+    for (epoch, v, change, name) in entries {
+        add(alloc, &mut log, version(*epoch, *v), *change, name)?;
+    }
+    Ok(log)
 }
 
 #[test]
 fn finds_what_peers_miss(rt: HostRuntime) -> Result<(), Fail> {
     for (best, entries, peer, words) in &STATES {
-        let found = found(rt.alloc(), *best, entries, *peer)?;
-        assert!(rt; found.as_str() == *words, "{found}");
+        let log = log_of(rt.alloc(), &copy_of(*best), entries)?;
+        let found = judged(rt.alloc(), &log, &copy_of(*peer))?;
+        assert!(rt; found.as_str() == *words, "{found}: {best:?}, {peer:?}");
     }
+    Ok(())
+}
+
+#[test]
+fn a_peer_that_is_not_complete_is_backfilled(rt: HostRuntime) -> Result<(), Fail> {
+    let best = copy_of([1, 1, 2, 3]);
+    let log = log_of(rt.alloc(), &best, TWO)?;
+    let peer = Info {
+        complete: false,
+        ..best
+    };
+    assert!(rt; judged(rt.alloc(), &log, &peer)?.as_str() == "backfill");
     Ok(())
 }

@@ -1,23 +1,19 @@
 //! What the maps of a list of incrementals say of a placement group: its intervals, its prior sets and the statuses of its
 //! devices.
 
-use super::fixtures::{COPIES, SHARDS, group, incremental, text_of};
-use super::prior_sets::told;
+use super::prior_sets::{DOWN, GONE, LOST, UP, told};
 use pgp_code::AnyCode;
-use pgp_ids::{Epoch, Incremental, Membership, OsdId, PgId, PrimaryFacts, Seq};
+use pgp_fixtures::{COPIES, SHARDS, WITHOUT_TEMP, group, incremental, osd, text_of};
+use pgp_ids::{Epoch, EpochState, Incremental, PrimaryFacts, Seq};
 use pgp_interval::Intervals;
 use pgp_map::OsdMap;
-use pgp_prior::{Prior, prior};
+use pgp_prior::prior;
 use pgp_sets::{Status, StatusOf, up_acting};
 use pgp_text::Reply;
 use std::alloc::Global;
 use std::test::Fail;
 
-/// [`COPIES`] without pg_temp.
-const WITHOUT_TEMP: &str =
-    r#"{"op":"inc","epoch":1,"up":[0,1,2],"weight":[[1,0],[2,0]],"crush":[{"id":-1,"type":1,"alg":"uniform","items":[0,1,2]}],"pools":[{"id":1,"pg_num":1,"kind":"replicated","size":3,"min_size":2,"leaf":0}]}"#;
-
-/// The map with one incremental more.
+/// The map takes the incremental that the line is.
 pub fn grow(alloc: Global, map: &mut OsdMap, line: &str) -> Result<(), Fail> {
     let inc = incremental(alloc, line).ok_or("no incremental")?;
     take(map, &inc)
@@ -29,46 +25,33 @@ pub fn take(map: &mut OsdMap, inc: &Incremental) -> Result<(), Fail> {
     Ok(())
 }
 
-/// Where the group lies.
-pub fn members_of(map: &OsdMap, pg: PgId) -> Option<Membership> {
+/// Where the group lies by this map, and what that says of its primary.
+pub fn state_of(map: &OsdMap) -> Option<EpochState> {
+    let pg = group();
     // Not `?`, of which the toolchain has no proof at a type that holds the parts of a grouped pool.
     let Some(pool) = map.pool(pg.pool) else {
         return None;
     };
-    if pg.pg < pool.pg_num && pool.size <= 16 {
-        Some(up_acting(map, pg))
-    } else {
-        None
+    if pg.pg >= pool.pg_num || pool.size > 16 {
+        return None;
     }
-}
-
-/// What the map says of the primary, if there is one.
-pub fn facts_of(map: &OsdMap, primary: Option<OsdId>) -> PrimaryFacts {
-    match primary {
-        Some(osd) => PrimaryFacts {
-            up_from: map.up_from(osd),
-            up_thru: map.up_thru(osd),
-        },
-        None => PrimaryFacts {
-            up_from: Epoch::new(0),
-            up_thru: Epoch::new(0),
-        },
-    }
-}
-
-/// What the map says of the group's primary.
-fn facts_in(map: &OsdMap) -> Result<PrimaryFacts, Fail> {
-    let members = members_of(map, group()?).ok_or("no such group")?;
-    Ok(facts_of(map, members.acting_primary))
+    let members = up_acting(map, pg);
+    let (up_from, up_thru) = match members.acting_primary {
+        Some(osd) => (map.up_from(osd), map.up_thru(osd)),
+        None => (Epoch::new(0), Epoch::new(0)),
+    };
+    Some(EpochState {
+        members,
+        facts: PrimaryFacts { up_from, up_thru },
+    })
 }
 
 /// The group's history by the map that makes it.
 fn opened(alloc: Global, map: &OsdMap) -> Result<Intervals<AnyCode>, Fail> {
-    let pg = group()?;
-    let pool = map.pool(pg.pool).ok_or("no pool")?;
-    let members = members_of(map, pg).ok_or("no such group")?;
+    let pool = map.pool(group().pool).ok_or("no pool")?;
+    let state = state_of(map).ok_or("no such group")?;
     let code = AnyCode::of_pool(pool.kind);
-    Ok(Intervals::begin(alloc, code, Epoch::new(1), members))
+    Ok(Intervals::begin(alloc, code, Epoch::new(1), state.members))
 }
 
 /// The map and the group's history with one incremental more.
@@ -78,11 +61,11 @@ fn step(
     history: &mut Intervals<AnyCode>,
     line: &str,
 ) -> Result<(), Fail> {
-    let facts = facts_in(map)?;
+    let before = state_of(map).ok_or("no such group")?;
     grow(alloc, map, line)?;
+    let after = state_of(map).ok_or("no such group")?;
     let epoch = history.last().next().ok_or("no next epoch")?;
-    let members = members_of(map, group()?).ok_or("no such group")?;
-    history.step(epoch, members, facts)?;
+    history.step(epoch, after.members, before.facts)?;
     Ok(())
 }
 
@@ -105,20 +88,15 @@ fn intervals(alloc: Global, lines: &[&str]) -> Result<Vec<u8>, Fail> {
     Ok(text_of(alloc, Reply::Traced { first, past })?)
 }
 
-/// The group's prior set.
-fn prior_set(alloc: Global, map: &OsdMap, history: &Intervals<AnyCode>) -> Result<Prior, Fail> {
-    let members = members_of(map, group()?).ok_or("no such group")?;
-    let past = history.past(alloc)?;
-    let les = Epoch::new(0);
-    Ok(prior(alloc, history.code(), past.as_slice(), &members, les, map)?)
-}
-
 /// The group's prior set by these incrementals, in words.
 fn prior_words(alloc: Global, lines: &[&str]) -> Result<String, Fail> {
     let mut map = OsdMap::empty(alloc);
     let history = follow(alloc, &mut map, lines)?;
-    let prior = prior_set(alloc, &map, &history)?;
-    Ok(told(alloc, &prior)?)
+    let past = history.past(alloc)?;
+    let (_, members) = history.current();
+    let les = Epoch::new(0);
+    let found = prior(alloc, history.code(), past.as_slice(), &members, les, &map)?;
+    Ok(told(alloc, &found)?)
 }
 
 /// Incrementals, and the group's intervals.
@@ -173,7 +151,7 @@ static INTERVALS: [(&[&str], &str); 7] = [
     ),
     // A group whose devices are all down has no primary, and nothing was written before it was known to be up.
     (
-        &[SHARDS, r#"{"op":"inc","epoch":2,"down":[0,1,2]}"#],
+        &[SHARDS, ALL_DOWN],
         r#"{"first":2,"intervals":[{"acting":[0,1,2],"acting_primary":0,"first":1,"last":1,"min_size":2,"rw":false,"size":3,"up":[null,null,null],"up_primary":null}],"ok":"trace"}"#,
     ),
 ];
@@ -193,46 +171,39 @@ const SERVED: &str = r#"{"op":"inc","epoch":2,"up_thru":[[0,1]]}"#;
 /// Two of its three shards went down, and it lies elsewhere.
 const MOVED: &str = r#"{"op":"inc","epoch":3,"down":[1,2],"temp":[[1,0,[0,3,4]]]}"#;
 
+/// Device 1 is given up for lost.
+const LOST_1: &str = r#"{"op":"inc","epoch":4,"lost":[[1,2]]}"#;
+
+/// The same, but as of an epoch before the group may have gone read-write.
+const LOST_BEFORE: &str = r#"{"op":"inc","epoch":4,"lost":[[1,1]]}"#;
+
+const GONE_1: &str = r#"{"op":"inc","epoch":5,"gone":[1]}"#;
+
+const UP_1: &str = r#"{"op":"inc","epoch":4,"up":[1]}"#;
+
+const ALL_DOWN: &str = r#"{"op":"inc","epoch":2,"down":[0,1,2]}"#;
+
 /// Incrementals, and the group's prior set. It waits for both shards that are down, until one is given up for lost after the
 /// interval began, and then for the other again where that one is destroyed.
 static PRIOR_SETS: [(&[&str], &str); 6] = [
     (&[SHARDS, SERVED, MOVED], "asks 0:0 3:1 4:2, down 1 2"),
     (
-        &[
-            SHARDS,
-            SERVED,
-            MOVED,
-            r#"{"op":"inc","epoch":4,"lost":[[1,1]]}"#,
-        ],
+        &[SHARDS, SERVED, MOVED, LOST_BEFORE],
         "asks 0:0 3:1 4:2, down 1 2",
     ),
     (
-        &[
-            SHARDS,
-            SERVED,
-            MOVED,
-            r#"{"op":"inc","epoch":4,"lost":[[1,2]]}"#,
-        ],
+        &[SHARDS, SERVED, MOVED, LOST_1],
         "asks 0:0 3:1 4:2, not down",
     ),
     (
-        &[
-            SHARDS,
-            SERVED,
-            MOVED,
-            r#"{"op":"inc","epoch":4,"lost":[[1,2]]}"#,
-            r#"{"op":"inc","epoch":5,"gone":[1]}"#,
-        ],
+        &[SHARDS, SERVED, MOVED, LOST_1, GONE_1],
         "asks 0:0 3:1 4:2, down 2",
     ),
     (
-        &[SHARDS, SERVED, MOVED, r#"{"op":"inc","epoch":4,"up":[1]}"#],
+        &[SHARDS, SERVED, MOVED, UP_1],
         "asks 0:0 1:1 3:1 4:2, not down",
     ),
-    (
-        &[SHARDS, r#"{"op":"inc","epoch":2,"down":[0,1,2]}"#],
-        "asks, not down",
-    ),
+    (&[SHARDS, ALL_DOWN], "asks, not down"),
 ];
 
 #[test]
@@ -247,44 +218,29 @@ fn follows_prior_sets(rt: HostRuntime) -> Result<(), Fail> {
 /// Incrementals, one after the other, and what has become of device 1 since an interval that began in epoch 1, and since one
 /// that began in epoch 2: it is down until it is given up for lost, gone once it is destroyed, and up whenever it is up.
 static STATUSES: [(&str, Status, Status); 6] = [
-    (COPIES, Status::Up, Status::Up),
-    (
-        r#"{"op":"inc","epoch":2,"down":[1]}"#,
-        Status::Down,
-        Status::Down,
-    ),
-    (
-        r#"{"op":"inc","epoch":3,"lost":[[1,2]]}"#,
-        Status::Lost,
-        Status::Down,
-    ),
-    (
-        r#"{"op":"inc","epoch":4,"gone":[1]}"#,
-        Status::Gone,
-        Status::Gone,
-    ),
-    (r#"{"op":"inc","epoch":5,"up":[1]}"#, Status::Up, Status::Up),
-    (
-        r#"{"op":"inc","epoch":6,"down":[1]}"#,
-        Status::Lost,
-        Status::Down,
-    ),
+    (COPIES, UP, UP),
+    (r#"{"op":"inc","epoch":2,"down":[1]}"#, DOWN, DOWN),
+    (r#"{"op":"inc","epoch":3,"lost":[[1,2]]}"#, LOST, DOWN),
+    (r#"{"op":"inc","epoch":4,"gone":[1]}"#, GONE, GONE),
+    (r#"{"op":"inc","epoch":5,"up":[1]}"#, UP, UP),
+    (r#"{"op":"inc","epoch":6,"down":[1]}"#, LOST, DOWN),
 ];
 
-/// Whether these are the statuses of the device since an interval that began in epoch 1, and since one that began in epoch
-/// 2.
-fn are(map: &OsdMap, osd: OsdId, first: Status, second: Status) -> bool {
-    map.status(osd, Epoch::new(1)) == first && map.status(osd, Epoch::new(2)) == second
+/// The statuses of device 1 since an interval that began in epoch 1, and since one that began in epoch 2.
+fn statuses(map: &OsdMap) -> (Status, Status) {
+    (
+        map.status(osd(1), Epoch::new(1)),
+        map.status(osd(1), Epoch::new(2)),
+    )
 }
 
 #[test]
 fn follows_statuses(rt: HostRuntime) -> Result<(), Fail> {
-    let osd = OsdId::new(1).ok_or("a device")?;
     let mut map = OsdMap::empty(rt.alloc());
-    assert!(rt; are(&map, osd, Status::Gone, Status::Gone));
+    assert!(rt; statuses(&map) == (GONE, GONE));
     for (line, first, second) in &STATUSES {
         grow(rt.alloc(), &mut map, line)?;
-        assert!(rt; are(&map, osd, *first, *second), "{line}");
+        assert!(rt; statuses(&map) == (*first, *second), "{line}");
     }
     Ok(())
 }

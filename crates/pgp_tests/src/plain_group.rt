@@ -1,42 +1,12 @@
-//! A group with seven devices and short past intervals, whose prior set is worked out from scratch, and a code that counts
-//! how often it is asked.
+//! A group with seven devices and short past intervals, whose prior set is worked out from scratch.
 
-use super::fixtures::{Dice, places};
-use pgp_code::{Erasure, Recoverable};
-use pgp_ids::{Epoch, Membership, OsdId, Past, SlotSet};
+use super::counting::Index;
+use pgp_code::Erasure;
+use pgp_fixtures::{Dice, lying_on, two_epochs};
+use pgp_ids::{Epoch, OsdId, Past};
 use pgp_prior::{Prior, prior};
 use pgp_sets::{Status, StatusOf};
 use std::alloc::{AllocError, Global};
-use std::sync::atomic::{AtomicU64, Ordering};
-
-/// Two shards of three are enough, and each question is counted.
-#[derive(Clone, Copy)]
-pub struct Counting<'a> {
-    pub code: Erasure,
-    pub asked: &'a AtomicU64,
-}
-
-impl<'a> Recoverable for Counting<'a> {
-    ghost use Rattle.std.specs.Prelude.{true};
-    ghost use Rattle.pgp_code.specs.Enough.{enough_shards, enough_shards-mono, enough_shards-nil};
-
-    ghost enough = { λ counting slots. enough_shards counting.code.k slots };
-
-    ghost by_place = { λ _. true };
-
-    ghost monotone = { λ counting a b. enough_shards-mono counting.code.k a b };
-
-    ghost empty_is_short = { λ counting. enough_shards-nil counting.code.k counting.code.at_least_one };
-
-    fn enough(&self, have: SlotSet) -> bool {
-        let _before = self.asked.fetch_add(1, Ordering::SeqCst);
-        self.code.enough(have)
-    }
-
-    fn by_place(&self) -> bool {
-        true
-    }
-}
 
 /// How many first epochs the statuses of a device tell apart.
 const EPOCHS: usize = 16;
@@ -51,21 +21,32 @@ pub struct Table {
 }
 
 impl Table {
-    /// Every device is up.
-    pub fn all_up(alloc: Global) -> Result<Self, AllocError> {
+    /// The devices 0, 1, 2, .. have these statuses for each interval, and the others are up.
+    pub fn of(alloc: Global, statuses: &[Status]) -> Result<Self, AllocError> {
         let mut cells = Vec::new(alloc);
-        for _ in 0..DEVICES * EPOCHS {
-            cells.push(Status::Up)?;
+        for place in 0..DEVICES * EPOCHS {
+            let status = statuses.get(place / EPOCHS).copied();
+            cells.push(status.unwrap_or(Status::Up))?;
         }
         Ok(Table { cells })
     }
 
     /// The device has this status for each interval.
-    pub fn set(&mut self, osd: OsdId, status: Status) {
+    pub fn set(&mut self, osd: u8, status: Status) {
         for epoch in 0..EPOCHS {
-            let place = usize::from(osd.number()) * EPOCHS + epoch;
+            let place = usize::from(osd) * EPOCHS + epoch;
             if let Some(cell) = self.cells.get_mut(place) {
                 *cell = status;
+            }
+        }
+    }
+
+    /// Changes the statuses of the device.
+    pub fn turn(&mut self, turn: Turn, osd: u8, dice: &mut Dice) {
+        for epoch in 0..EPOCHS {
+            let place = usize::from(osd) * EPOCHS + epoch;
+            if let Some(cell) = self.cells.get_mut(place) {
+                *cell = turned(turn, *cell, dice);
             }
         }
     }
@@ -103,6 +84,15 @@ impl Turn {
             Turn::Gone => true,
         }
     }
+
+    /// Tells the index that the device has changed so.
+    pub fn tell(self, index: &mut Index<'_>, osd: OsdId, table: &Table) {
+        match self {
+            Turn::Better => index.device_better(osd, table),
+            Turn::Worse => index.device_worse(osd, table),
+            Turn::Gone => index.device_gone(osd, table),
+        }
+    }
 }
 
 /// A status that this one may turn to.
@@ -119,20 +109,6 @@ fn turned(turn: Turn, old: Status, dice: &mut Dice) -> Status {
     }
 }
 
-/// A membership on three devices.
-pub fn lying_on(acting: &[u16; 3]) -> Membership {
-    let up = places(acting);
-    let acting = places(acting);
-    Membership {
-        up_primary: up.first(),
-        up,
-        acting_primary: acting.first(),
-        acting,
-        size: 3,
-        min_size: 2,
-    }
-}
-
 /// An interval two epochs long.
 #[derive(Clone, Copy)]
 pub struct Ended {
@@ -143,21 +119,16 @@ pub struct Ended {
 
 impl Ended {
     pub fn past(&self) -> Past {
-        Past {
-            first: Epoch::new(self.first),
-            last: Epoch::new(self.first.saturating_add(1)),
-            members: lying_on(&self.acting),
-            rw: self.rw,
-        }
+        two_epochs(self.first, lying_on(&self.acting, &self.acting), self.rw)
     }
 
-    fn names(&self, osd: u16) -> bool {
-        let [a, b, c] = self.acting;
-        a == osd || b == osd || c == osd
+    fn names(&self, osd: u8) -> bool {
+        self.acting.contains(&u16::from(osd))
     }
 }
 
 /// What the index has to stand for.
+#[derive(Drop)]
 pub struct Group {
     pub ended: Vec<Ended>,
     pub current: [u16; 3],
@@ -165,66 +136,33 @@ pub struct Group {
     pub table: Table,
 }
 
-// Written out, so that a function which lets one go has nothing to prove of what lies within.
-impl Drop for Group {
-    fn drop(self) {
-        let Group {
-            ended: _,
-            current: _,
-            les: _,
-            table: _,
-        } = self;
-    }
-}
-
-/// The past intervals that these are.
-fn pasts(alloc: Global, ended: &[Ended]) -> Result<Vec<Past>, AllocError> {
-    let mut past = Vec::new(alloc);
-    for one in ended {
-        past.push(one.past())?;
-    }
-    Ok(past)
-}
-
 impl Group {
     /// The plain prior set of these intervals.
     pub fn prior_of(&self, alloc: Global, ended: &[Ended]) -> Result<Prior, AllocError> {
-        let past = pasts(alloc, ended)?;
+        let mut past = Vec::new(alloc);
+        for one in ended {
+            past.push(one.past())?;
+        }
         prior(
             alloc,
             &Erasure::with_shards(2),
             past.as_slice(),
-            &lying_on(&self.current),
+            &lying_on(&self.current, &self.current),
             Epoch::new(self.les),
             &self.table,
         )
     }
 
-    /// Whether the interval alone blocks the group.
-    fn is_blocked_by(&self, alloc: Global, one: Ended) -> Result<bool, AllocError> {
-        let prior = self.prior_of(alloc, &[one])?;
-        Ok(prior.down)
-    }
-
     /// How many intervals of the device a change of this kind judges anew.
-    pub fn judged(&self, alloc: Global, turn: Turn, osd: u16) -> Result<u64, AllocError> {
+    pub fn judged(&self, alloc: Global, turn: Turn, osd: u8) -> Result<u64, AllocError> {
         let mut judged = 0u64;
         for one in &self.ended {
-            if one.names(osd) && turn.judges(self.is_blocked_by(alloc, *one)?) {
+            let alone = self.prior_of(alloc, &[*one])?;
+            if one.names(osd) && turn.judges(alone.down) {
                 judged = judged.saturating_add(1);
             }
         }
         Ok(judged)
-    }
-
-    /// Changes the statuses of the device.
-    pub fn turn(&mut self, turn: Turn, osd: u16, dice: &mut Dice) {
-        for epoch in 0..EPOCHS {
-            let place = usize::from(osd) * EPOCHS + epoch;
-            if let Some(cell) = self.table.cells.get_mut(place) {
-                *cell = turned(turn, *cell, dice);
-            }
-        }
     }
 }
 
@@ -238,14 +176,4 @@ pub fn three(dice: &mut Dice) -> [u16; 3] {
         (start + 2 * step + 2) % 7
     };
     [start, (start + step + 1) % 7, last]
-}
-
-/// A group with no past intervals, whose devices are up.
-pub fn young(alloc: Global) -> Result<Group, AllocError> {
-    Ok(Group {
-        ended: Vec::new(alloc),
-        current: [0, 1, 2],
-        les: 0,
-        table: Table::all_up(alloc)?,
-    })
 }

@@ -1,19 +1,17 @@
 //! A group's history as maps and infos tell it: each epoch is kept, and each answer is worked out from scratch.
 
-use super::fixtures::group;
-use super::peering::{facts_of, members_of, take};
+use super::peering::{state_of, take};
 use pgp_code::{AnyCode, Recoverable};
-use pgp_ids::{
-    Entry, Epoch, EpochState, Incremental, Info, Membership, Osds, Past, PgId, SLOT_LIMIT, SlotSet,
-};
+use pgp_fixtures::group;
+use pgp_ids::{Entry, Epoch, EpochState, Incremental, Membership, Osds, Past, SLOT_LIMIT, SlotSet};
 use pgp_map::OsdMap;
 use pgp_prior::{Prior, prior};
 use std::alloc::{AllocError, Global};
 use std::test::Fail;
 
 /// Group 0 of pool 1, which the map of epoch 1 makes.
+#[derive(Drop)]
 pub struct History {
-    pg: PgId,
     code: AnyCode,
     pub map: OsdMap,
     /// Where the group lay in epoch 1, 2, .., and what the map of that epoch says of its primary.
@@ -22,27 +20,6 @@ pub struct History {
     cleans: Vec<Epoch>,
     /// The last epoch in which it began to serve, as its infos tell.
     pub les: Epoch,
-}
-
-// Written out, so that a function which lets one go has nothing to prove of what lies within.
-impl Drop for History {
-    fn drop(self) {
-        let History {
-            pg: _,
-            code: _,
-            map: _,
-            states: _,
-            cleans: _,
-            les: _,
-        } = self;
-    }
-}
-
-/// Where the group lies by this map, and what that says of its primary.
-fn state_of(map: &OsdMap, pg: PgId) -> Option<EpochState> {
-    let members = members_of(map, pg)?;
-    let facts = facts_of(map, members.acting_primary);
-    Some(EpochState { members, facts })
 }
 
 /// The slots of these acting members: their places, or 0 where each has a whole copy.
@@ -63,17 +40,16 @@ fn slots_of(by_place: bool, acting: &Osds) -> SlotSet {
 impl History {
     /// The history of one epoch, by the incremental that makes the pool.
     pub fn begin(alloc: Global, inc: &Incremental) -> Result<History, Fail> {
-        let pg = group()?;
         let mut map = OsdMap::empty(alloc);
         take(&mut map, inc)?;
-        let Some(pool) = map.pool(pg.pool) else {
+        let Some(pool) = map.pool(group().pool) else {
             return Err(Fail::new("no pool"));
         };
+        let code = AnyCode::of_pool(pool.kind);
         let mut states = Vec::new(alloc);
-        states.push(state_of(&map, pg).ok_or("no such group")?)?;
+        states.push(state_of(&map).ok_or("no such group")?)?;
         Ok(History {
-            pg,
-            code: AnyCode::of_pool(pool.kind),
+            code,
             map,
             states,
             cleans: Vec::new(alloc),
@@ -83,23 +59,16 @@ impl History {
 
     pub fn take(&mut self, entry: &Entry) -> Result<(), Fail> {
         match entry {
-            Entry::Inc(inc) => self.take_inc(inc),
-            Entry::Info(info) => Ok(self.take_info(info)?),
-            _ => Ok(()),
-        }
-    }
-
-    fn take_inc(&mut self, inc: &Incremental) -> Result<(), Fail> {
-        take(&mut self.map, inc)?;
-        let state = state_of(&self.map, self.pg).ok_or("no such group")?;
-        self.states.push(state)?;
-        Ok(())
-    }
-
-    fn take_info(&mut self, info: &Info) -> Result<(), AllocError> {
-        if info.pg == self.pg {
-            self.cleans.push(info.last_epoch_clean)?;
-            self.les = self.les.max(info.history_les);
+            Entry::Inc(inc) => {
+                take(&mut self.map, inc)?;
+                self.states
+                    .push(state_of(&self.map).ok_or("no such group")?)?;
+            }
+            Entry::Info(info) if info.pg == group() => {
+                self.cleans.push(info.last_epoch_clean)?;
+                self.les = self.les.max(info.history_les);
+            }
+            _ => {}
         }
         Ok(())
     }
@@ -176,7 +145,7 @@ impl History {
 
     /// Whom the group has to hear, and for whom it waits.
     pub fn prior(&self, alloc: Global, past: &[Past]) -> Result<Prior, Fail> {
-        let members = members_of(&self.map, self.pg).ok_or("no such group")?;
-        Ok(prior(alloc, &self.code, past, &members, self.les, &self.map)?)
+        let state = self.states.last().ok_or("no epoch")?;
+        Ok(prior(alloc, &self.code, past, &state.members, self.les, &self.map)?)
     }
 }

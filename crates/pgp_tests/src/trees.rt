@@ -2,8 +2,8 @@
 
 ghost use Rattle.std.specs.Prelude.{◌≤ℤ◌, ◌<ℤ◌, pos, negsuc};
 
-use super::fixtures::{incremental, places};
 use pgp_crush::{Rule, Tree, TreeFault, place};
+use pgp_fixtures::{NO_OSD, incremental, places};
 use pgp_ids::{BucketAlg, BucketSpec, Incremental, Seq};
 use std::alloc::{AllocError, Global};
 use std::test::Fail;
@@ -22,16 +22,13 @@ fn bucket(alloc: Global, id: i32, kind: u8, items: &[i32]) -> Result<BucketSpec,
     })
 }
 
-/// The bucket that holds this one: the root, of number 0, holds the first four, and these hold the others.
-fn holder(number: u16) -> u16 {
-    if number <= 4 { 0 } else { 1 + number % 4 }
-}
-
 /// The ids of the buckets that the bucket of this number holds, of this many buckets. The id of number 0 is -1, that of 1 is -2.
+/// The root, of number 0, holds the first four, and these hold the others.
 fn held(alloc: Global, holding: u16, count: u16) -> Result<Vec<i32>, AllocError> {
     let mut items = Vec::new(alloc);
     for number in 1..count {
-        if holder(number) == holding {
+        let holder = if number <= 4 { 0 } else { 1 + number % 4 };
+        if holder == holding {
             items.push(-1 - i32::from(number))?;
         }
     }
@@ -78,9 +75,6 @@ fn tree_of(alloc: Global, line: &str) -> Result<Tree, Fail> {
     Ok(Tree::check(alloc, buckets.into_vec())?)
 }
 
-/// An empty place.
-const NONE: u16 = 9999;
-
 /// Whether a rule keeps places, the type of its items, an input, and the placement that `crushtool --test` of Ceph 16.2.15
 /// (pacific) makes on this tree, as `tools/compare_with_ceph.py` asks it.
 static PLACEMENTS: [(bool, u8, u32, &[u16]); 16] = [
@@ -96,10 +90,10 @@ static PLACEMENTS: [(bool, u8, u32, &[u16]); 16] = [
     (true, 0, 2, &[6, 2, 5]),
     (true, 0, 3, &[1, 2, 0]),
     (true, 0, 6, &[4, 2, 0]),
-    (true, 2, 0, &[5, 4, NONE, 2]),
-    (true, 2, 2, &[6, NONE, 2, 4]),
-    (true, 2, 3, &[1, 4, NONE, NONE]),
-    (true, 2, 6, &[4, NONE, 2, NONE]),
+    (true, 2, 0, &[5, 4, NO_OSD, 2]),
+    (true, 2, 2, &[6, NO_OSD, 2, 4]),
+    (true, 2, 3, &[1, 4, NO_OSD, NO_OSD]),
+    (true, 2, 6, &[4, NO_OSD, 2, NO_OSD]),
 ];
 
 /// Device 1 is in for half of the inputs, device 6 for a quarter, and device 3 is out.

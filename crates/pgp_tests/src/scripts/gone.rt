@@ -49,16 +49,10 @@ fn given(alloc: Global, script: &[u8], fails_at: usize) -> (Option<ScriptFault>,
 }
 
 #[test]
-fn answers_the_lines_before(rt: HostRuntime) {
+fn answers_the_lines_before_and_tells_a_failed_write_first(rt: HostRuntime) {
     for script in &SCRIPTS {
         let (fault, out) = given(rt.alloc(), script, NEVER);
         assert!(rt; fault == Some(ScriptFault::Gone) && out.as_slice() == ANSWERS);
-    }
-}
-
-#[test]
-fn tells_a_failed_write_first(rt: HostRuntime) {
-    for script in &SCRIPTS {
         for fails_at in 0..7 {
             let (fault, out) = given(rt.alloc(), script, fails_at);
             assert!(rt; fault == Some(ScriptFault::Write), "call {fails_at}");

@@ -1,0 +1,55 @@
+//! Devices, members, groups and versions by their numbers.
+
+ghost use Rattle.std.specs.Prelude.{◌≡◌};
+
+use pgp_ids::{Epoch, MAX_OSDS, Member, OsdId, Osds, PgId, PoolId, Version};
+
+/// A number that no device has: an empty place of a list.
+pub const NO_OSD: u16 = 9999;
+
+/// The device of this number.
+pub fn osd(number: u8) -> OsdId
+    ensures { result ≡ number }
+{
+    OsdId::new(u16::from(number)).unwrap()
+}
+
+/// The device of this number in this slot.
+pub fn member(number: u8, slot: u8) -> Member {
+    Member {
+        osd: osd(number),
+        slot,
+    }
+}
+
+/// The list of these devices; a number out of range is an empty place.
+pub fn places(numbers: &[u16]) -> Osds {
+    let mut places = Osds::new();
+    for number in numbers {
+        if places.len() < MAX_OSDS {
+            places.push(OsdId::new(*number));
+        }
+    }
+    places
+}
+
+/// Pool 1, which is the pool of most tests.
+pub fn pool() -> PoolId {
+    PoolId::new(1).unwrap()
+}
+
+/// Group 0 of pool 1.
+pub fn group() -> PgId {
+    PgId {
+        pool: pool(),
+        pg: 0,
+    }
+}
+
+/// The write with this number, in this epoch.
+pub fn version(epoch: u32, v: u32) -> Version {
+    Version {
+        epoch: Epoch::new(epoch),
+        v,
+    }
+}

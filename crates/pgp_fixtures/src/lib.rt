@@ -1,0 +1,27 @@
+//! Values that tests need, each made in one place: ids and versions, memberships, infos, incrementals, entries by their
+//! lines, lines that make a small pool, and seeded numbers and streams.
+//!
+//! A key more in one of these types is a change of one file here. Nothing but tests stands on this crate.
+#![tactic(auto)]
+
+mod dice;
+mod ids;
+mod incrementals;
+mod infos;
+mod intervals;
+mod lines;
+mod maps;
+mod streams;
+mod words;
+
+pub use dice::Dice;
+pub use ids::{NO_OSD, group, member, osd, places, pool, version};
+pub use incrementals::changing_nothing;
+pub use infos::empty_copy;
+pub use intervals::{lying_on, two_epochs};
+pub use lines::{entry, entry_surely, incremental, text_of};
+pub use maps::{
+    COPIES, MANY_GROUPS, ONE_DEVICE, SHARDS, TWO_GROUPS, TWO_GROUPS_OF_EACH_KIND, WITHOUT_TEMP,
+};
+pub use streams::any_line;
+pub use words::{peer_in_words, tell_object};

@@ -1,0 +1,33 @@
+//! Lines that make a small pool, each the incremental of epoch 1.
+
+/// Pool 1 of three copies over the devices 0, 1 and 2, of which device 0 alone has weight; pg_temp puts its one group on
+/// all three.
+pub const COPIES: &str =
+    r#"{"op":"inc","epoch":1,"up":[0,1,2],"weight":[[1,0],[2,0]],"crush":[{"id":-1,"type":1,"alg":"uniform","items":[0,1,2]}],"pools":[{"id":1,"pg_num":1,"kind":"replicated","size":3,"min_size":2,"leaf":0}],"temp":[[1,0,[0,1,2]]]}"#;
+
+/// Pool 1 of two data shards and one more over six devices without weight; pg_temp puts its one group on the first three.
+pub const SHARDS: &str =
+    r#"{"op":"inc","epoch":1,"up":[0,1,2,3,4,5],"weight":[[0,0],[1,0],[2,0],[3,0],[4,0],[5,0]],"crush":[{"id":-1,"type":1,"alg":"uniform","items":[0,1,2,3,4,5]}],"pools":[{"id":1,"pg_num":1,"kind":"erasure","k":2,"size":3,"min_size":2,"leaf":0}],"temp":[[1,0,[0,1,2]]]}"#;
+
+/// Pool 1 of one copy and one group, and device 0. There is no tree, so the group lies nowhere.
+pub const ONE_DEVICE: &str =
+    r#"{"op":"inc","epoch":1,"up":[0],"pools":[{"id":1,"pg_num":1,"kind":"replicated","size":1,"min_size":1,"leaf":0}]}"#;
+
+/// Pool 1 of 256 groups of three copies, over sixteen devices in one bucket.
+pub const MANY_GROUPS: &str =
+    r#"{"op":"inc","epoch":1,"up":[0,1,2,3,4,5,6,7,8,9,10,11,12,13,14,15],"crush":[{"id":-1,"type":1,"alg":"uniform","items":[0,1,2,3,4,5,6,7,8,9,10,11,12,13,14,15]}],"pools":[{"id":1,"pg_num":256,"kind":"replicated","size":3,"min_size":2,"leaf":0}]}"#;
+
+/// Pool 1 of two groups on three of six devices, of each kind of pool.
+pub const TWO_GROUPS_OF_EACH_KIND: [&str; 3] = [
+    r#"{"op":"inc","epoch":1,"up":[0,1,2,3,4,5],"crush":[{"id":-1,"type":1,"alg":"uniform","items":[0,1,2,3,4,5]}],"pools":[{"id":1,"pg_num":2,"kind":"replicated","size":3,"min_size":2,"leaf":0}]}"#,
+    r#"{"op":"inc","epoch":1,"up":[0,1,2,3,4,5],"crush":[{"id":-1,"type":1,"alg":"uniform","items":[0,1,2,3,4,5]}],"pools":[{"id":1,"pg_num":2,"kind":"erasure","k":2,"size":3,"min_size":2,"leaf":0}]}"#,
+    r#"{"op":"inc","v":2,"epoch":1,"up":[0,1,2,3,4,5],"crush":[{"id":-1,"type":1,"alg":"uniform","items":[0,1,2,3,4,5]}],"pools":[{"id":1,"pg_num":2,"kind":"grouped","groups":[[[0,1],1],[[2],1]],"size":3,"min_size":2,"leaf":0}]}"#,
+];
+
+/// Pool 1 of two groups of three copies.
+pub const TWO_GROUPS: &str =
+    r#"{"op":"inc","epoch":1,"up":[0,1,2],"weight":[[1,0],[2,0]],"crush":[{"id":-1,"type":1,"alg":"uniform","items":[0,1,2]}],"pools":[{"id":1,"pg_num":2,"kind":"replicated","size":3,"min_size":2,"leaf":0}]}"#;
+
+/// [`COPIES`] without pg_temp.
+pub const WITHOUT_TEMP: &str =
+    r#"{"op":"inc","epoch":1,"up":[0,1,2],"weight":[[1,0],[2,0]],"crush":[{"id":-1,"type":1,"alg":"uniform","items":[0,1,2]}],"pools":[{"id":1,"pg_num":1,"kind":"replicated","size":3,"min_size":2,"leaf":0}]}"#;
