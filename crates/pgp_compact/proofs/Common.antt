@@ -1,63 +1,79 @@
 -- The names that most proofs of this crate cite, passed on from one place. Declares nothing.
-pub use Rattle.std.proofs.Common.{AllPairs, Bool, Bor, Err, IfOk, IfSome, List, None, Ok, Option, Result, Some, [], add-zero, ap, append-nil, append_assoc, ap₂, arith, cond, drop, false, fold, get_or, if◌then◌else◌, inl, inr, is_none, is_some, length, length-append, map, max, nat_eq, nat_le, nat_lt, not, refl, reverse, rules, set, subst, suc, sym, take, true, zero, ℕ, ◌&&◌, ◌++◌, ◌+◌, ◌-◌, ◌<◌, ◌||◌, ◌∙◌, ◌∷◌, ◌≡◌, ◌≢◌, ◌≤◌}
-pub use Rattle.std.proofs.lemmas.Bool.{and_parts, cases_Bool, cases_eq, cases_lt, cases_order, or_parts, true≢false}
-pub use Rattle.std.proofs.lemmas.Bool.Decides.{nat_tests}
-pub use Rattle.std.proofs.lemmas.List.{drop_all, drop_more, get_or-map, get_or_append_left, get_or_default, get_or_push, length-map, length_push, map-append, map_more, reverse-append, take_all, with_items_is}
-pub use Rattle.std.proofs.lemmas.List.Elements.{All-contains, filter-append, filter_map-append}
-pub use Rattle.std.proofs.lemmas.List.Folds.{list_any-append, list_any_more}
-pub use Rattle.std.proofs.lemmas.Option.{get_or_from_slice_get, same_Some, slice_get_read, slice_get_within}
+pub use Rattle.pgp_group.proofs.Common.{AnyCode, AreNumbered, Bool, Contains, Entry, GroupLog, History, Incremental, Info, IsAfter, IsPresent, IsSilent, List, LogEntry, Member, Membership, None, Option, OsdMap, Past, PgId, PrimaryFacts, Report, Some, Verdict, [], ap, append_assoc, ap₂, are_checked, arith, begun, best, by_number, code_of, cond, counted_infos, current_first, drop, enough_of, epoch, false, filter, filter_map, find, flat_map, fold, get_or, group_history, group_in, group_with, has_group, has_member, heard, holds, if◌then◌else◌, inc_of, incs, incs_of, infos_of, inl, inr, is_by_place, is_counted, is_same, is_same_group, is_same_member, is_some, last_of_each_member, last_or, last_place, leader, length, les, list_any, map, map_fault, max, may_lie_on, may_move, membership, nat_cmp, nat_eq, nat_le, nat_lt, not, option_and_then, option_map, option_map_or, past, past_intervals, peer_states, pool, pool_membership, present_members, primary_facts, prior, refl, report_of, reported, reports_of, rules, scratch, set, stepped, subst, suc, sym, take, then_with, true, view_of, whole_best, zero, ℕ, ◌&&◌, ◌++◌, ◌+◌, ◌<◌, ◌||◌, ◌∙◌, ◌∷◌, ◌≡◌, ◌≢◌, ◌≤◌}
+pub use Rattle.pgp_group.proofs.Common.{All-contains, AllPairs-first, AllPairs-rest, Contains-cases, Contains-here, Contains-later, Contains-nil, IfOk-weaker, and_parts, any-contains, append-nil, cases_Bool, cases_lt, cases_order, contains-any, contains-filter, contains-map, current_first-continues, current_first-ends, eq-is_same, filter-append, filter-contains, filter_map-append, find-some, fold-append, get_or_default, get_or_from_slice_get, if_some, is_same-eq, last_where-some, length-append, length-map, length_push, list_any-append, list_any_more, map-append, map-contains, map_some, nat_cmp_total, nat_tests, or-false, or-true, past_intervals-continues, past_intervals-ends, same_Some, slice_get_within, take_all, true≢false, with_items_is, ◌-◌}
+pub use Rattle.std.proofs.Common.{AllPairs, Bor, IfSome, reverse}
+pub use Rattle.std.proofs.Math.Seq.{drop-cons, drop-length}
+pub use Rattle.std.proofs.lemmas.Bool.{cases_eq}
+pub use Rattle.std.proofs.lemmas.List.{drop_all, drop_more, get_or-map, get_or_append_left, get_or_push, map_more, reverse-append}
+pub use Rattle.std.proofs.lemmas.List.Sorted.{IsPartitionPoint-from_clause, IsPartitionedBy-leb}
+pub use Rattle.std.proofs.lemmas.Map.Lookups.{exact_unsigned}
+pub use Rattle.std.proofs.lemmas.Option.{slice_get_read}
 pub use Rattle.std.specs.Arc.{arc_value}
-pub use Rattle.std.specs.List.{Contains, filter, filter_map, find, flat_map, last_or, list_any}
-pub use Rattle.std.specs.Option.{IfNone, option_and_then, option_map, option_map_or, unwrap_or}
+pub use Rattle.std.specs.HashMap.{HashMap}
+pub use Rattle.std.specs.List.Sorted.{IsNonDecreasingBy, IsPartitionPoint}
+pub use Rattle.std.specs.Option.{IfNone}
 pub use Rattle.std.specs.Prelude.{slice_get}
-pub use Rattle.pgp_code.specs.AnyCode.{enough_of, is_by_place}
-pub use Rattle.pgp_code.specs.declared.any.AnyCode.{AnyCode}
-pub use Rattle.pgp_compact.specs.Compacted.{are_needed_in, are_of_one_interval, compacted, has_clean_with, infos_in, is_needed, may_be_heard, needs_info, needs_report, opening_epoch, replaces, replaces_number, reports_in, starts_as_late, tells_last_clean, tells_last_start}
+pub use Rattle.std.specs.Vec.{with_items}
+pub use Rattle.pgp_compact.specs.Compacted.{are_needed_in, are_of_one_interval, compacted, has_clean_with, infos_in, is_needed, needs_info, needs_report, opening_epoch, replaces, replaces_number, reports_in, starts_as_late}
 pub use Rattle.pgp_compact.specs.Course.{IsCourse, IsNext, IsUnderWay, LiesAt, firsts_of, lies_on, may_leave}
 pub use Rattle.pgp_compact.specs.Courses.{AreCourses, EachIsCourse, HasReport, IsCourseIn, IsReportOf, IsSameButCourse, started_by}
 pub use Rattle.pgp_compact.specs.Greatest.{IsGreatestOf, reaches}
-pub use Rattle.pgp_compact.specs.Later.{IsLater, clean_in, is_same_number, is_same_opening, is_same_sender, numbers, opening_at, sender_of, sent, started, written}
+pub use Rattle.pgp_compact.specs.Later.{IsLater, clean_in, is_same_number, is_same_opening, is_same_sender, number_of, numbers, opening_at, sender_of, sent, started, written}
 pub use Rattle.pgp_compact.specs.Needed.{are_needed, chosen, needed_of}
 pub use Rattle.pgp_compact.specs.Standing.{HasReached, opening_in, standing_at}
 pub use Rattle.pgp_compact.specs.Whole.{HasRead}
 pub use Rattle.pgp_compact.specs.declared.course.Course.{Course}
 pub use Rattle.pgp_compact.specs.declared.courses.Courses.{Courses}
 pub use Rattle.pgp_compact.specs.declared.keys.Number.{Number}
+pub use Rattle.pgp_compact.specs.declared.keys.Opening.{Opening}
 pub use Rattle.pgp_compact.specs.declared.lying.Lying.{Lying}
 pub use Rattle.pgp_compact.specs.declared.standing.Standing.{Standing}
+pub use Rattle.pgp_compact.specs.declared.whole.Whole.{Whole}
+pub use Rattle.pgp_group.proofs.FirstLemmas.{along}
 pub use Rattle.pgp_group.proofs.GroupLemmas.{infos-new, infos-other, infos-same, on_ok, reports-other, reports-same}
 pub use Rattle.pgp_group.proofs.GrowthLemmas.{checked-numbered, epoch-snoc, has_group-grows, history-begins-made, history-grows, history-last, next_epoch, unmade}
+pub use Rattle.pgp_group.proofs.HeardLemmas.{HasDistinctMembers-last_of}
+pub use Rattle.pgp_group.proofs.HistoryLemmas.{history-current}
+pub use Rattle.pgp_group.proofs.InterleavingLemmas.{any-found, find-last_of, is_of, last_of-found}
 pub use Rattle.pgp_group.proofs.LaterLemmas.{counts_by, histories, is_after, log-in}
 pub use Rattle.pgp_group.proofs.Lists.{contains-push, filter-both, filter-none, filter_map-from, last_or-any, none-narrower}
-pub use Rattle.pgp_group.specs.Entries.{inc_of, incs_of, infos_of, report_of, reports_of}
-pub use Rattle.pgp_group.specs.GroupHistory.{AreNumbered, group_history, makes, primary_facts}
-pub use Rattle.pgp_group.specs.GroupLog.{GroupLog, group_in, group_with, incs}
-pub use Rattle.pgp_group.specs.Heard.{counted_infos, has_member, heard, is_counted, last_of_each_member, les, reported}
-pub use Rattle.pgp_group.specs.Peering.{best, leader, past, peer_states, present_members, prior, whole_best}
-pub use Rattle.pgp_ids.specs.Member.{is_same_member}
-pub use Rattle.pgp_ids.specs.declared.entry.Entry.{Entry}
-pub use Rattle.pgp_ids.specs.declared.incremental.Incremental.{Incremental}
-pub use Rattle.pgp_ids.specs.declared.log_entry.LogEntry.{LogEntry}
-pub use Rattle.pgp_ids.specs.declared.member.Member.{Member}
-pub use Rattle.pgp_ids.specs.declared.past.Past.{Past}
-pub use Rattle.pgp_ids.specs.declared.pg_id.PgId.{PgId}
-pub use Rattle.pgp_ids.specs.declared.report.Info.{Info}
-pub use Rattle.pgp_ids.specs.declared.report.Report.{Report}
-pub use Rattle.pgp_interval.specs.History.{History, begun, current_state, last_place, members_at, stepped}
-pub use Rattle.pgp_interval.specs.Runs.{current_ending, current_first, ends_at, opening_of, opens_at, past_ending, past_ends, past_intervals}
-pub use Rattle.pgp_interval.specs.SameMembers.{is_same}
+pub use Rattle.pgp_group.proofs.PeerLemmas.{contains-filter_map, same_member}
+pub use Rattle.pgp_group.proofs.ReachingLemmas.{left-unmoved, lies-as-before}
+pub use Rattle.pgp_group.proofs.UntoldLemmas.{temp-same}
+pub use Rattle.pgp_group.proofs.ViewLemmas.{prefers_is_preference}
+pub use Rattle.pgp_group.specs.Entries.{info_of}
+pub use Rattle.pgp_group.specs.Interleaving.{with_count}
+pub use Rattle.pgp_group.specs.Peering.{info_of as info_by}
+pub use Rattle.pgp_group.specs.Prefers.{prefers}
+pub use Rattle.pgp_info.proofs.SameInfos.{same_best}
+pub use Rattle.pgp_interval.proofs.IntervalLemmas.{lie_end_to_end, members_at-last_place}
+pub use Rattle.pgp_interval.proofs.Openings.{opening_of-le, opening_of-opens, opening_of-stays}
+pub use Rattle.pgp_interval.specs.Interval.{LieEndToEnd}
+pub use Rattle.pgp_interval.specs.Runs.{ends_at, opening_of, opens_at, past_ending, past_ends}
+pub use Rattle.pgp_lists.proofs.Last.{last_or-append}
 pub use Rattle.pgp_lists.proofs.Lists.{any-mapped, any-same, get-last, get-set_other, get-set_same}
-pub use Rattle.pgp_lists.proofs.Members.{Contains-cases, Contains-here, Contains-later, Contains-nil, any-contains, contains-any, contains-filter, contains-map, filter-contains, find-some, map-agree, map-contains}
-pub use Rattle.pgp_lists.proofs.Options.{if_some, map_some}
+pub use Rattle.pgp_lists.proofs.Members.{map-agree}
+pub use Rattle.pgp_lists.proofs.Ordered.{ascending-unique}
+pub use Rattle.pgp_lists.proofs.Pairs.{AllPairs-weaker}
+pub use Rattle.pgp_lists.specs.Last.{last_where}
+pub use Rattle.pgp_log.proofs.ComingLemmas.{comes-with_pool, has_group-same}
+pub use Rattle.pgp_log.proofs.FitsLemmas.{nothing_ahead}
 pub use Rattle.pgp_log.proofs.GroupsLemmas.{same-self}
 pub use Rattle.pgp_log.proofs.LogLemmas.{front-legal, legal-checked, legal-counts, legal-induction, legal-last, legal-snoc}
+pub use Rattle.pgp_log.proofs.MarksLemmas.{ok-two}
+pub use Rattle.pgp_log.proofs.SharedLemmas.{map-next, next-front}
 pub use Rattle.pgp_log.proofs.TakeLemmas.{epoch-inc, epoch-other, faultless-inc, faultless-tree, fits-faultless, incs-inc, incs-other}
+pub use Rattle.pgp_log.proofs.TouchLemmas.{none-moved, turned-parts}
+pub use Rattle.pgp_log.specs.Fits.{entry_fault, fits, is_close, is_closed}
 pub use Rattle.pgp_log.specs.Log.{is_legal}
+pub use Rattle.pgp_log.specs.RawSets.{IsRawSet}
+pub use Rattle.pgp_log.specs.ReportFault.{report_fault}
+pub use Rattle.pgp_log.specs.Touch.{moves_none}
 pub use Rattle.pgp_map.proofs.CheckedLemmas.{checked-has_group, checked-more, front-checked, last-checked}
-pub use Rattle.pgp_map.specs.Checked.{are_checked}
-pub use Rattle.pgp_map.specs.Map.{epoch}
-pub use Rattle.pgp_map.specs.MapFault.{map_fault, then_with}
-pub use Rattle.pgp_map.specs.Pools.{has_group, is_same_group, pool}
-pub use Rattle.pgp_missing.specs.Log.{are_whole, by_number, has_number, within}
-pub use Rattle.pgp_sets.specs.Sets.{membership, moves, pool_membership, raw_set}
+pub use Rattle.pgp_map.specs.MapOf.{IsMapOf, Says}
+pub use Rattle.pgp_missing.proofs.LastLemmas.{last_of_each-ordered}
+pub use Rattle.pgp_missing.specs.Last.{put_in}
+pub use Rattle.pgp_missing.specs.Log.{are_whole, has_number, within}
+pub use Rattle.pgp_missing.specs.Missing.{peer_state_by}
+pub use Rattle.pgp_sets.proofs.RawSetLemmas.{raw_set-stays, unmoved-unplaced}
 pub use Rattle.pgp_tables.proofs.Told.{same_group}

@@ -1,12 +1,9 @@
 -- What holds of the elements of a list that are needed.
-use Rattle.pgp_compact.proofs.Common.{Bool, Contains, Contains-here, Contains-later, List, None, Option, Some, [], ap, append-nil, append_assoc, are_needed, arith, cases_Bool, chosen, drop, drop_all, drop_more, false, filter, filter_map, get_or, if◌then◌else◌, is_some, last_or, last_or-any, length, list_any, list_any-append, needed_of, refl, sym, true, ℕ, ◌++◌, ◌+◌, ◌<◌, ◌∙◌, ◌∷◌, ◌≡◌, ◌≤◌}
-use Rattle.pgp_lists.proofs.Last.{last_where-some}
+use Rattle.pgp_compact.proofs.Common.{Bool, Contains, Contains-here, Contains-later, List, None, Option, Some, [], ap, append-nil, append_assoc, are_needed, arith, cases_Bool, chosen, drop, drop_all, drop_more, false, filter, filter_map, get_or, if◌then◌else◌, is_some, last_or, last_or-any, last_where-some, length, list_any, list_any-append, needed_of, refl, sym, true, ℕ, ◌++◌, ◌+◌, ◌<◌, ◌∙◌, ◌∷◌, ◌≡◌, ◌≤◌}
 
 pub needed-length : {X : Type 0} (test : List X → X → Bool) (xs : List X) → length (needed_of test xs) ≤ length xs
 needed-length test [] = omega arith
 needed-length test (x ∷ xs) = grind (arith, cases_Bool (test xs x), needed-length test xs)
-
--- ---- those that pass another test
 
 -- of elements of which all this holds, the last that passes is needed
 abbrev pub NeedsLast : {X : Type 0} → (X → Type 0) → (List X → X → Bool) → (X → Bool) → Type 0
@@ -21,14 +18,7 @@ needed-last Holds test passes needs before [] more each = refl
 needed-last {X = X} Holds test passes needs before (x ∷ xs) more each =
     let later = λ (y : X) (there : Contains xs y). each y (Contains-later x xs y there) in
     let rest = λ (o : Option X). needed-last Holds test passes needs o xs more later in
-    grind (
-      arith,
-      rest before,
-      rest (Some x),
-      needs xs x (each x (Contains-here x xs)) later,
-      last_or-any passes before (Some x) (xs ++ more),
-      list_any-append passes xs more,
-    )
+    grind (arith, rest before, rest (Some x), needs xs x (each x (Contains-here x xs)) later, last_or-any, list_any-append)
 
 pub needed-any : {X : Type 0} (Holds : X → Type 0) (test : List X → X → Bool) (passes : X → Bool) → NeedsLast Holds test passes
     → (xs more : List X) → ((y : X) → Contains xs y → Holds y) → list_any passes (needed_of test xs ++ more) ≡ list_any passes (xs ++ more)
@@ -60,8 +50,6 @@ pub needed-whole : {X Y : Type 0} (part : X → Option Y) (needs : List X → X 
 needed-whole part needs each [] more = refl
 needed-whole part needs each (x ∷ xs) more = grind (arith, cases_Bool (needs xs x), each xs x, needed-whole part needs each xs more)
 
--- ---- what is needed of what is needed
-
 pub needed-twice : {X : Type 0} (needs again : List X → X → Bool) → ((later : List X) (x : X) → needs later x ≡ true → again (needed_of needs later) x ≡ true) → (xs : List X)
     → needed_of again (needed_of needs xs) ≡ needed_of needs xs
 needed-twice needs again still [] = refl
@@ -72,8 +60,6 @@ pub needed-each : {X : Type 0} (needs : List X → X → Bool) → ((later : Lis
 needed-each needs each [] = refl
 needed-each needs each (x ∷ xs) = grind (arith, each xs x, needed-each needs each xs)
 
--- ---- which of them are needed
-
 pub chosen-needed : {X : Type 0} (test : List X → X → Bool) (xs : List X) → chosen (are_needed test xs) xs ≡ needed_of test xs
 chosen-needed test [] = refl
 chosen-needed test (x ∷ xs) = grind (arith, cases_Bool (test xs x), chosen-needed test xs)
@@ -81,8 +67,6 @@ chosen-needed test (x ∷ xs) = grind (arith, cases_Bool (test xs x), chosen-nee
 pub are_needed-length : {X : Type 0} (test : List X → X → Bool) (xs : List X) → length (are_needed test xs) ≡ length xs
 are_needed-length test [] = refl
 are_needed-length test (x ∷ xs) = let rest : length (are_needed test xs) ≡ length xs = are_needed-length test xs in omega arith
-
--- ---- those that are chosen
 
 -- this one, if it is
 abbrev pub one_if : {X : Type 0} → Bool → X → List X
@@ -93,9 +77,7 @@ pub chosen-next : {X : Type 0} (done all : List X) (choices : List Bool) (xs : L
     → choice ≡ get_or choices i choice → x ≡ get_or xs i x → done ++ chosen (drop i choices) (drop i xs) ≡ all
     → (done ++ one_if choice x) ++ chosen (drop (i + 1) choices) (drop (i + 1) xs) ≡ all
 chosen-next done all choices xs i choice x some more is at before =
-    let first = drop_more choices i choice some in
-    let here = drop_more xs i x more in
-    grind (arith, cases_Bool choice, append_assoc done (one_if choice x) (chosen (drop (i + 1) choices) (drop (i + 1) xs)))
+    grind (arith, cases_Bool choice, drop_more choices i choice some, drop_more xs i x more, append_assoc)
 
 -- after the last choice
 pub chosen-all : {X : Type 0} (done all : List X) (choices : List Bool) (xs : List X) (i : ℕ) → length xs ≤ i → done ++ chosen choices (drop i xs) ≡ all → done ≡ all

@@ -1,15 +1,5 @@
 -- The last log entry of each number.
-use Rattle.pgp_compact.proofs.Common.{All-contains, AllPairs, Bool, Contains, Contains-cases, Contains-nil, List, LogEntry, None, Option, Report, Some, [], ap, arith, by_number, cases_order, cond, filter, filter-append, filter-both, filter-none, find, find-some, flat_map, fold, has_number, last_or, last_or-any, list_any, nat_eq, nat_lt, nat_tests, option_and_then, refl, sym, true, ℕ, ◌&&◌, ◌∙◌, ◌∷◌, ◌≡◌}
-use Rattle.pgp_lists.proofs.Last.{last_or-append}
-use Rattle.pgp_lists.proofs.Ordered.{ascending-unique}
-use Rattle.pgp_lists.proofs.Pairs.{AllPairs-first, AllPairs-rest, AllPairs-weaker}
-use Rattle.pgp_lists.specs.Last.{last_where}
-use Rattle.pgp_missing.proofs.LastLemmas.{last_of_each-ordered}
-use Rattle.pgp_missing.specs.Last.{put_in}
-use Rattle.std.proofs.lemmas.Cmp.{nat_cmp_total}
-use Rattle.std.proofs.lemmas.Map.Lookups.{exact_unsigned}
-use Rattle.std.specs.Ordering.{nat_cmp}
-use Rattle.std.specs.declared.cmp.Ordering.TheVariants.{Less}
+use Rattle.pgp_compact.proofs.Common.{All-contains, AllPairs, AllPairs-first, AllPairs-rest, AllPairs-weaker, Bool, Contains, Contains-cases, Contains-nil, List, LogEntry, None, Option, Report, Some, [], arith, ascending-unique, by_number, cases_order, cond, exact_unsigned, filter, filter-append, filter-both, filter-none, find, find-some, flat_map, fold, has_number, last_of_each-ordered, last_or, last_or-any, last_or-append, last_where, list_any, nat_cmp, nat_cmp_total, nat_eq, nat_lt, nat_tests, option_and_then, put_in, refl, sym, true, ℕ, ◌&&◌, ◌∷◌, ◌≡◌}
 use Rattle.pgp_missing.specs.Log.{number_of}
 
 -- the entry has this number
@@ -31,18 +21,11 @@ find-all acc (x ∷ xs) v = grind (arith, find-put acc x v, find-all (put_in num
 found : (xs : List LogEntry) (z : LogEntry) → AllPairs (λ a b. below a b ≡ true) xs → Contains xs z → find (has (number_of z)) xs ≡ Some z
 found [] z up there = absurd (Contains-nil z there)
 found (x ∷ xs) z up there =
-    grind (
-      arith,
-      nat_tests,
-      Contains-cases x xs z there,
-      All-contains (λ b. below x b ≡ true) xs z (AllPairs-first (λ a b. below a b ≡ true) x xs up),
-      found xs z (AllPairs-rest (λ a b. below a b ≡ true) x xs up),
-    )
+    let first = All-contains (λ b. below x b ≡ true) xs z (AllPairs-first (λ a b. below a b ≡ true) x xs up) in
+    grind (arith, nat_tests, Contains-cases x xs z there, first, found xs z (AllPairs-rest (λ a b. below a b ≡ true) x xs up))
 
 ascends : (xs : List LogEntry) → AllPairs (λ a b. below a b ≡ true) (by_number xs)
-ascends xs =
-    AllPairs-weaker (λ a b. nat_cmp (number_of a) (number_of b) ≡ Less) (λ a b. below a b ≡ true) (λ a b less. grind (arith, nat_tests)) (by_number xs)
-    (last_of_each-ordered number_of nat_cmp nat_cmp_total exact_unsigned xs)
+ascends xs = grind (arith, nat_tests, AllPairs-weaker, last_of_each-ordered number_of nat_cmp nat_cmp_total exact_unsigned xs)
 
 -- both lists have the same last entry of each number
 abbrev pub AlikeByNumber : List LogEntry → List LogEntry → Type 0
@@ -50,8 +33,7 @@ AlikeByNumber xs ys = (v : ℕ) → last_where (has v) xs ≡ last_where (has v)
 
 among : (xs ys : List LogEntry) → AlikeByNumber xs ys → (z : LogEntry) → Contains (by_number xs) z → Contains (by_number ys) z
 among xs ys same z there =
-    let v : ℕ = number_of z in
-    (find-some (has v) (by_number ys) z (find-all [] ys v ∙ sym (same v) ∙ sym (find-all [] xs v) ∙ found (by_number xs) z (ascends xs) there)).0
+    grind (arith, find-some, find-all [] xs, find-all [] ys, same (number_of z), found (by_number xs) z (ascends xs) there)
 
 pub by_number-same : (xs ys : List LogEntry) → AlikeByNumber xs ys → by_number xs ≡ by_number ys
 by_number-same xs ys same =
@@ -64,15 +46,7 @@ pub last-in : {X Y : Type 0} (f : X → List Y) (test : Y → Bool) (before : Op
     ≡ option_and_then (λ x. last_where test (f x)) (last_or before (filter (λ x. list_any test (f x)) xs))
 last-in f test before [] = refl
 last-in f test before (x ∷ xs) =
-    grind (
-      arith,
-      filter-append test (f x) (flat_map f xs),
-      last_or-append (option_and_then (λ y. last_where test (f y)) before) (filter test (f x)) (filter test (flat_map f xs)),
-      last_or-any test (option_and_then (λ y. last_where test (f y)) before) None (f x),
-      filter-none test (f x),
-      last-in f test before xs,
-      last-in f test (Some x) xs,
-    )
+    grind (arith, filter-append, last_or-append, last_or-any, filter-none, last-in f test before xs, last-in f test (Some x) xs)
 
 -- the log entries of the reports that pass a test
 abbrev pub entries_in : (Report → Bool) → List Report → List LogEntry
@@ -82,5 +56,5 @@ entries_in passes reports = flat_map (λ report. report.log) (filter passes repo
 pub last-number : (v : ℕ) (passes : Report → Bool) (reports : List Report) → last_where (has v) (entries_in passes reports)
     ≡ option_and_then (λ report. last_where (has v) report.log) (last_or None (filter (λ report. passes report && has_number v report.log) reports))
 last-number v passes reports =
-    last-in (λ (report : Report). report.log) (has v) None (filter passes reports)
-    ∙ ap (λ (l : List Report). option_and_then (λ report. last_where (has v) report.log) (last_or None l)) (sym (filter-both passes (λ (report : Report). has_number v report.log) reports))
+    rw (filter-both passes (λ (report : Report). has_number v report.log) reports)
+    (last-in (λ (report : Report). report.log) (has v) None (filter passes reports))

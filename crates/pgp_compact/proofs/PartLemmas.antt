@@ -1,40 +1,24 @@
 -- What is left of a compacted log: its incrementals, and of the reports of a group those that say of it what all of them say,
 -- whatever follows.
-use Rattle.pgp_compact.proofs.Common.{AnyCode, Bool, Contains, Contains-here, Contains-later, Entry, GroupLog, History, Incremental, Info, List, LogEntry, Member, None, Option, PgId, Report, Some, [], and_parts, any-contains, ap, append-nil, arith, by_number, cases_lt, compacted, contains-any, counts_by, ends_at, false, fold, group_in, has_clean_with, has_number, inc_of, incs, incs_of, infos_in, is_counted, is_needed, is_same_group, is_same_member, is_some, last_place, les, list_any, map, map-append, max, nat_eq, nat_le, nat_tests, needed_of, needs_info, needs_report, none-narrower, not, opening_of, option_and_then, option_map_or, refl, replaces, replaces_number, report_of, reports_in, same_Some, same_group, starts_as_late, suc, sym, true, ℕ, ◌&&◌, ◌++◌, ◌+◌, ◌<◌, ◌||◌, ◌∙◌, ◌∷◌, ◌≡◌, ◌≤◌}
+use Rattle.pgp_compact.proofs.Common.{AnyCode, Bool, Contains, Contains-here, Contains-later, Entry, GroupLog, History, Incremental, Info, List, LogEntry, Member, None, Option, PgId, Report, Some, [], and_parts, any-contains, ap, append-nil, arith, by_number, cases_lt, compacted, contains-any, counts_by, ends_at, false, fold, fold-append, group_in, has_clean_with, has_number, inc_of, incs, incs_of, info_of, infos_in, is_counted, is_needed, is_of, is_same_group, is_same_member, last_place, last_where, les, list_any, map, map-append, max, nat_eq, nat_le, nat_tests, needed_of, needs_info, needs_report, none-narrower, not, opening_of, option_and_then, option_map_or, or-false, or-true, refl, replaces, replaces_number, report_of, reports_in, same_Some, same_group, same_member, sent, starts_as_late, suc, sym, true, ℕ, ◌&&◌, ◌++◌, ◌+◌, ◌<◌, ◌||◌, ◌∙◌, ◌∷◌, ◌≡◌, ◌≤◌}
 use Rattle.pgp_compact.proofs.IntervalLemmas.{GoesOn, stays-within}
 use Rattle.pgp_compact.proofs.NeededLemmas.{NeedsLast, needed-any, needed-last, needed-none, needed-part, needed-whole}
 use Rattle.pgp_compact.proofs.NumberLemmas.{by_number-same, entries_in, has, last-number}
-use Rattle.pgp_group.proofs.InterleavingLemmas.{is_of}
-use Rattle.pgp_group.proofs.PeerLemmas.{same_member}
-use Rattle.pgp_lists.specs.Last.{last_where}
-use Rattle.std.proofs.Math.Bool.{or-false, or-true}
-use Rattle.std.proofs.lemmas.List.Sums.{fold-append}
 use Rattle.pgp_ids.specs.declared.entry.Entry.TheVariants as entry
-use Rattle.pgp_group.specs.Entries.{info_of}
 
--- ---- what stays whole
-
-inc-needed : (log later : List Entry) (x : Entry) → is_some (inc_of x) ≡ true → is_needed log later x ≡ true
-inc-needed log later (entry.Inc inc) is = refl
-inc-needed log later x is = cc
-
+-- its incrementals stay whole
 pub incs-gone_on : (log more : List Entry) → incs_of (compacted log ++ more) ≡ incs_of (log ++ more)
-incs-gone_on log more = needed-whole inc_of (is_needed log) (inc-needed log) log more
+incs-gone_on log more = needed-whole inc_of (is_needed log) (λ later x is. grind arith) log more
 
 pub incs-same : (log : List Entry) → incs_of (compacted log) ≡ incs_of log
 incs-same log = simp append-nil at (incs-gone_on log [])
-
--- ---- the infos of one group
 
 abbrev pub wants_info : Option GroupLog → List Info → Info → Bool
 wants_info found later info = option_map_or (λ g. needs_info g later info) found true
 
 info-decides : (log : List Entry) (pg : PgId) (later : List Entry) (x : Entry) (info : Info) → info_of x ≡ Some info → is_same_group info.pg pg ≡ true
     → is_needed log later x ≡ wants_info (group_in log pg) (infos_in pg later) info
-info-decides log pg later (entry.Info sent) info is here =
-    let it : sent ≡ info = same_Some sent info is in
-    let of_it : sent.pg ≡ pg = ap (λ (i : Info). i.pg) it ∙ same_group info.pg pg here in
-    λ k. wants_info (group_in log (of_it k)) (infos_in (of_it k) later) (it k)
+info-decides log pg later (entry.Info sent) info is here = rw (← same_group info.pg pg here, ← same_Some sent info is) refl
 info-decides log pg later x info is here = cc
 
 pub infos-needed : (log rest more : List Entry) (pg : PgId)
@@ -42,17 +26,12 @@ pub infos-needed : (log rest more : List Entry) (pg : PgId)
 infos-needed log rest more pg =
     needed-part info_of (λ info. is_same_group info.pg pg) (is_needed log) (wants_info (group_in log pg)) (info-decides log pg) rest more
 
--- ---- the reports of log entries of one group
-
 abbrev pub wants_report : Option GroupLog → List Report → Report → Bool
 wants_report found later report = option_map_or (λ g. needs_report g later report) found true
 
 report-decides : (log : List Entry) (pg : PgId) (later : List Entry) (x : Entry) (report : Report) → report_of x ≡ Some report → is_same_group report.pg pg ≡ true
     → is_needed log later x ≡ wants_report (group_in log pg) (reports_in pg later) report
-report-decides log pg later (entry.Entries sent) report is here =
-    let it : sent ≡ report = same_Some sent report is in
-    let of_it : sent.pg ≡ pg = ap (λ (r : Report). r.pg) it ∙ same_group report.pg pg here in
-    λ k. wants_report (group_in log (of_it k)) (reports_in (of_it k) later) (it k)
+report-decides log pg later (entry.Entries sent) report is here = rw (← same_group report.pg pg here, ← same_Some sent report is) refl
 report-decides log pg later x report is here = cc
 
 pub reports-needed : (log rest more : List Entry) (pg : PgId)
@@ -90,14 +69,9 @@ start-reaches n start (info ∷ told) = grind (arith, nat_tests, start-reaches n
 -- the greatest start of those that are needed is that of all, whatever follows
 starts-needed : (least : ℕ) (found : Option GroupLog) → 0 < least → ((g : GroupLog) → found ≡ Some g → les g ≡ least)
     → NeedsLast (λ (info : Info). Unit {0}) (wants_info found) (λ info. nat_le least info.history_les)
-starts-needed least None above is later info any all starts none = refl
-starts-needed least (Some g) above is later info any all starts none =
-    grind (
-      arith,
-      nat_tests,
-      is g refl,
-      none-narrower (starts_as_late info) (λ other. nat_le least other.history_les) (λ other again. grind (arith, nat_tests)) later none,
-    )
+starts-needed least found above is later info any all starts none =
+    let reaches : Info → Bool = λ info. nat_le least info.history_les in
+    grind (arith, nat_tests, is, none-narrower (starts_as_late info) reaches (λ other again. grind (arith, nat_tests)) later none)
 
 pub starts-same : (found : Option GroupLog) (told more : List Info) → ((g : GroupLog) → found ≡ Some g → les g ≡ greatest_start told)
     → greatest_start (needed_of (wants_info found) told ++ more) ≡ greatest_start (told ++ more)
@@ -107,16 +81,8 @@ starts-same found told more is =
     let reached : 0 < n → list_any (λ info. nat_le n info.history_les) kept ≡ list_any (λ info. nat_le n info.history_les) told =
     λ above. simp append-nil at (needed-any (λ (info : Info). Unit {0}) (wants_info found) (λ info. nat_le n info.history_les) (starts-needed n found above is) told [] (λ info there. tt)) in
     let no_more = needed-none (wants_info found) (λ info. nat_le (suc n) info.history_les) told in
-    let same : greatest_start kept ≡ n =
-    grind (arith, nat_tests, cases_lt 0 n, reached, no_more, start-reaches n 0 kept, start-reaches n 0 told, start-reaches (suc n) 0 kept, start-reaches (suc n) 0 told) in
-    grind (
-      arith,
-      same,
-      map-append start_of kept more,
-      map-append start_of told more,
-      fold-append max 0 (map start_of kept) (map start_of more),
-      fold-append max 0 (map start_of told) (map start_of more),
-    )
+    let same : greatest_start kept ≡ n = grind (arith, nat_tests, cases_lt 0 n, reached, no_more, start-reaches n 0, start-reaches (suc n) 0) in
+    grind (arith, same, map-append, fold-append)
 
 -- ---- what counts later
 
@@ -140,16 +106,10 @@ module _ (incs : List Incremental) (after : History AnyCode) (epoch : ℕ) where
   Before found = (g : GroupLog) → found ≡ Some g → ComesBefore g incs after epoch
 
   -- the last info of each member that counts is needed
-  heard-replaced : (member : Member) (info other : Info) → is_heard incs after member info ≡ true → replaces info other ≡ true → is_heard incs after member other ≡ true
-  heard-replaced member info other counts again = grind (arith, nat_tests, same_member other.member info.member)
-
   pub heard-needed : (member : Member) (found : Option GroupLog) → Before found → NeedsLast (λ (info : Info). info.stamp ≤ epoch) (wants_info found) (is_heard incs after member)
-  heard-needed member None before later info early all counts none = refl
-  heard-needed member (Some g) before later info early all counts none =
-      let alone = none-narrower (replaces info) (is_heard incs after member) (λ other. heard-replaced member info other counts) later none in
-      let a = and_parts (counts_by incs after info.member info.stamp) (is_of member info) counts in
-      let now = (before g refl).counted info.member info.stamp early a.0 in
-      rw (now, alone) refl
+  heard-needed member found before later info early all counts none =
+      let alone = none-narrower (replaces info) (is_heard incs after member) (λ other again. grind (arith, nat_tests, same_member)) later none in
+      grind (arith, nat_tests, alone, before)
 
   -- so is the last one with a clean epoch in an interval
   pub clean-needed : (last : ℕ) → ends_at after last ≡ true → (found : Option GroupLog) → Before found
@@ -157,34 +117,24 @@ module _ (incs : List Incremental) (after : History AnyCode) (epoch : ℕ) where
   clean-needed last ends None before later info known all clean none = refl
   clean-needed last ends (Some g) before later info known all clean none =
       let b = before g refl in
-      let first : after.first ≡ g.history.first = b.on.first in
-      let alone : list_any (has_clean_with g info) later ≡ false =
-      none-among (has_clean_with g info) (is_clean after last) later
-      (λ other there one. grind (
-        arith,
-        nat_tests,
-        stays-within g after b.on last info.last_epoch_clean other.last_epoch_clean ends (omega (arith, b.known)) (omega (arith, b.known, all other there)) one,
-      ))
-      none in
-      let lives : nat_le g.history.first info.last_epoch_clean ≡ true = grind (arith, nat_tests) in
+      let stays = stays-within g after b.on last info.last_epoch_clean in
+      let alone = none-among (has_clean_with g info) (is_clean after last) later
+      (λ other there one. grind (arith, nat_tests, b.known, all other there, stays other.last_epoch_clean ends)) none in
+      let lives : nat_le g.history.first info.last_epoch_clean ≡ true = grind (arith, nat_tests, b.on.first) in
       rw (lives, alone, or-true) refl
 
   -- and the last report that counts with an entry of a number
-  told-replaced : (member : Member) (v : ℕ) (report other : Report) → tells_of incs after member v report ≡ true
-      → replaces_number report v other ≡ true → tells_of incs after member v other ≡ true
-  told-replaced member v report other told again = grind (arith, nat_tests, same_member other.member report.member)
-
-  pub told-needed : (member : Member) (v : ℕ) (found : Option GroupLog) → Before found
+  told-needed : (member : Member) (v : ℕ) (found : Option GroupLog) → Before found
       → NeedsLast (λ (report : Report). report.stamp ≤ epoch) (wants_report found) (tells_of incs after member v)
   told-needed member v None before later report early all told none = refl
   told-needed member v (Some g) before later report early all told none =
-      let alone = none-narrower (replaces_number report v) (tells_of incs after member v) (λ other. told-replaced member v report other told) later none in
+      let alone = none-narrower (replaces_number report v) (tells_of incs after member v)
+      (λ other again. grind (arith, nat_tests, same_member)) later none in
       let a = and_parts (is_told incs after member report) (has_number v report.log) told in
       let found = any-contains (λ (entry : LogEntry). nat_eq entry.version.v v) report.log a.1 in
-      let same : found.0.version.v ≡ v = let is : nat_eq found.0.version.v v ≡ true = found.1.1 in grind (arith, nat_tests) in
-      let kept = contains-any (λ (entry : LogEntry). not (list_any (replaces_number report entry.version.v) later)) report.log found.0 found.1.0
-      (ap (λ (n : ℕ). not (list_any (replaces_number report n) later)) same ∙ ap not alone) in
-      grind (arith, nat_tests, a.0, (before g refl).counted report.member report.stamp early)
+      let is : nat_eq found.0.version.v v ≡ true = found.1.1 in
+      let kept = contains-any (λ (entry : LogEntry). not (list_any (replaces_number report entry.version.v) later)) report.log in
+      grind (arith, nat_tests, a.0, alone, kept found.0 found.1.0, (before g refl).counted report.member report.stamp early)
 
   -- the last entry of each number is the same, whatever follows
   pub told-same : (member : Member) (found : Option GroupLog) → Before found → (told more : List Report) → ((report : Report) → Contains told report → report.stamp ≤ epoch)

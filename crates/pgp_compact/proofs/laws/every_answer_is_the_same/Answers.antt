@@ -1,4 +1,4 @@
-use Rattle.pgp_compact.proofs.Common.{[], ap, append-nil, are_checked, compacted, incs_of, sym, true, ◌++◌, ◌∙◌, ◌≡◌}
+use Rattle.pgp_compact.proofs.Common.{[], append-nil, are_checked, arith, incs_of, true, ◌++◌, ◌≡◌}
 use Rattle.pgp_compact.proofs.GoneOnLemmas.{same-answer}
 use Rattle.pgp_compact.proofs.LegalLemmas.{legal-sent}
 use Rattle.pgp_compact.proofs.PartLemmas.{incs-gone_on}
@@ -13,6 +13,4 @@ pub returns-clause-after : goal.returns-clause-after
 returns-clause-after c = λ log more pg legal checked. same-answer c.what_does_not_count_never_counts_again.ensures log more pg checked (legal-sent log legal)
 
 pub returns-clause-taken : goal.returns-clause-taken
-returns-clause-taken c = λ log more pg legal then'.
-    same-answer c.what_does_not_count_never_counts_again.ensures log more pg
-    (sym (ap are_checked (incs-gone_on log more)) ∙ c.legal_logs_are_checked_and_short.ensures.checked (compacted log ++ more) then') (legal-sent log legal)
+returns-clause-taken c = grind (arith, same-answer, incs-gone_on, legal-sent)

@@ -1,4 +1,4 @@
-use Rattle.pgp_compact.proofs.Common.{Bool, Entry, List, LogEntry, Report, ap, arith, contains-any, false, list_any, list_any_more, not, replaces_number, reports_in, sym, take_all, true, ◌||◌, ◌∙◌, ◌≡◌}
+use Rattle.pgp_compact.proofs.Common.{Bool, Entry, List, LogEntry, Report, arith, contains-any, list_any, list_any_more, nat_tests, not, replaces_number, reports_in, sym, take_all}
 use Rattle.pgp_compact.proofs.later.Later.has_last_number.Goals as goal
 
 -- the reports that come later have no entry of this number
@@ -7,19 +7,15 @@ lacks report later entry = not (list_any (replaces_number report entry.version.v
 
 pub returns-then-not-replaces : goal.returns-then-not-replaces
 returns-then-not-replaces c = λ log later kept.
-    let test : LogEntry → Bool = lacks c.args.report.now later in
-    let passes : test c.entry-item.result ≡ true = ap not (sym (c.replaces.ensures log later kept)) ∙ ap not c.if-not-replaces.true in
-    sym (sym (ap (list_any test) c.as_slice-entry-items.ensures)
-    ∙ contains-any test c.as_slice-entry-items.result.now c.entry-item.result (c.loop-entry.entry-index, c.loop-entry-test.true, sym c.entry-item.is) passes)
+    let found = contains-any (lacks c.args.report.now later) _ c.entry-item.result (_, c.loop-entry-test.true, sym c.entry-item.is) in
+    grind (arith, nat_tests, c.replaces.ensures log later kept, found)
 
 pub loop-entry-preserved : goal.loop-entry-preserved
 loop-entry-preserved c = λ log later kept.
-    let test : LogEntry → Bool = lacks c.args.report.now later in
-    let fails : test c.entry-item.result ≡ false = ap not (sym (c.replaces.ensures log later kept)) ∙ ap not c.if-not-replaces.false in
-    list_any_more test c.as_slice-entry-items.result.now c.loop-entry.entry-index c.entry-item.result c.loop-entry-test.true
-    ∙ (λ i. c.loop-entry.invariant log later kept i || ap test (sym c.entry-item.is) i) ∙ fails
+    let items = c.as_slice-entry-items.result.now in
+    let more = list_any_more (lacks c.args.report.now later) items c.loop-entry.entry-index c.entry-item.result c.loop-entry-test.true in
+    grind (arith, nat_tests, c.replaces.ensures log later kept, c.loop-entry.invariant log later kept, more)
 
 pub returns : goal.returns
 returns c = λ log later kept.
-    sym (sym (ap (list_any (lacks c.args.report.now later)) (take_all c.loop-entry.entry-index c.as_slice-entry-items.result.now (omega arith) ∙ c.as_slice-entry-items.ensures))
-    ∙ c.loop-entry.invariant log later kept)
+    grind (arith, c.loop-entry.invariant log later kept, take_all c.loop-entry.entry-index c.as_slice-entry-items.result.now)

@@ -1,7 +1,5 @@
-use Rattle.pgp_compact.proofs.Common.{List, Option, subst, sym, then_with, ℕ, ◌∙◌}
+use Rattle.pgp_compact.proofs.Common.{IsRawSet, List, Option, raw_set-stays, subst, sym, then_with, unmoved-unplaced, ℕ, ◌∙◌}
 use Rattle.pgp_compact.proofs.CoursesLemmas.{fine}
-use Rattle.pgp_log.specs.RawSets.{IsRawSet}
-use Rattle.pgp_sets.proofs.RawSetLemmas.{raw_set-stays, unmoved-unplaced}
 use Rattle.pgp_compact.proofs.lying.Lying.next.Goals as goal
 
 pub returns-else-moves : goal.returns-else-moves
