@@ -14,15 +14,10 @@ use Rattle.pgp_ids.specs.declared.peer.PeerMissing.{PeerMissing}
 use Rattle.pgp_ids.specs.declared.peer.PeerState.{PeerState}
 use Rattle.pgp_ids.specs.declared.report.Info.{Info}
 use Rattle.pgp_ids.specs.declared.version.Version.{Version}
+use Rattle.pgp_ids.specs.Examples.{empty_copy}
+pub use Rattle.pgp_ids.specs.Examples.{at, in_slot}
 use Rattle.pgp_map.specs.Examples.{empty_step, grouped, part_of}
 use Rattle.pgp_sets.specs.Examples.{of_device, copies_group, shards_group, stands_on, copies_on_three, shards_on_three, take_down, lies_on}
-
-abbrev pub in_slot : ℕ → ℕ → Member
-in_slot osd slot = record { osd = osd; slot = slot }
-
--- the version of this epoch and number
-abbrev pub at : ℕ → ℕ → Version
-at epoch v = record { epoch = epoch; v = v }
 
 -- ---- maps
 
@@ -81,18 +76,7 @@ unrecorded = copies_on_three ∷ empty_step 2 ∷ take_down 3 (1 ∷ []) ∷ []
 
 -- the info of a complete copy with no write, of a device in slot 0 of the group of three copies, sent at this epoch
 abbrev pub copy : ℕ → ℕ → Info
-copy osd stamp =
-    record {
-      pg = copies_group;
-      member = in_slot osd 0;
-      stamp = stamp;
-      les = 0;
-      history_les = 0;
-      last_epoch_clean = 0;
-      last_update = at 0 0;
-      log_tail = at 0 0;
-      complete = true;
-    }
+copy osd stamp = record empty_copy { pg = copies_group; member = in_slot osd 0; stamp = stamp }
 
 -- the same with the writes up to this one, sent at epoch 1
 abbrev pub copy_up_to : ℕ → Version → Info

@@ -13,3 +13,4 @@ pub mod Refusal
 pub mod AskRefusal
 pub mod LocateRefusal
 pub mod TextFault
+pub mod Examples

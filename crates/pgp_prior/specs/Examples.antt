@@ -5,6 +5,7 @@ use Rattle.pgp_ids.specs.Osds.{first_osd}
 use Rattle.pgp_ids.specs.declared.member.Member.{Member}
 use Rattle.pgp_ids.specs.declared.membership.Membership.{Membership}
 use Rattle.pgp_ids.specs.declared.past.Past.{Past}
+pub use Rattle.pgp_ids.specs.Examples.{in_slot}
 use Rattle.pgp_code.specs.Enough.{enough_shards}
 use Rattle.pgp_sets.specs.declared.status.Status.{Status}
 use Rattle.pgp_sets.specs.declared.status.Status.TheVariants.{Up, Lost, Down}
@@ -52,5 +53,3 @@ prior_with one two les = prior_set (enough_shards 2) true (with_statuses one two
 abbrev pub lost_at : ℕ → ℕ → Status
 lost_at lost first = if nat_lt first lost then Lost else Down
 
-abbrev pub in_slot : ℕ → ℕ → Member
-in_slot osd slot = record { osd = osd; slot = slot }
