@@ -1,5 +1,6 @@
 //! Placement groups by transcripts: map incrementals and what members told, and what is answered of the group after them.
 
+mod alone;
 mod grouped;
 
 use super::transcripts::{Script, go_so};

@@ -1,0 +1,237 @@
+//! One group by itself, over maps of its own, as whoever keeps no shard has it. Where a call finds no memory it is made once
+//! more, so that a run in which one allocation is refused gives the answers of one in which none is.
+
+ghost use Rattle.std.specs.Prelude.{◌≡◌, [], ◌∷◌, List, None, IfOk, OnOk};
+ghost use Rattle.pgp_ids.specs.declared.incremental.Incremental.{Incremental as AnyIncremental};
+ghost use Rattle.pgp_map.specs.MapFault.{map_fault, given_fault, then_with};
+ghost use Rattle.pgp_map.specs.MapOf.{IsMapOf, Says};
+ghost use Rattle.pgp_group.specs.Entries.{inc_of};
+ghost use Rattle.pgp_group.specs.GroupHistory.{makes};
+ghost use Rattle.pgp_tests.specs.Alone.{AreTold, IsNext, TakesMap, TakesReport, tells_ahead};
+
+use pgp_fixtures::{COPIES, entry_surely, group, text_of};
+use pgp_group::Group;
+use pgp_group::laws::growth::{
+    checked_incrementals_are_numbered, history_begins_with_its_pool, the_next_map_follows,
+};
+use pgp_ids::{Entry, Epoch, Incremental, PgId, View};
+use pgp_log::has_group;
+use pgp_map::laws::{checked_lists_grow_by_incrementals_without_fault, pools_of_checked_lists};
+use pgp_map::{MapFault, OsdMap};
+use pgp_text::Reply;
+use std::alloc::{AllocError, Global};
+use std::test::Fail;
+
+/// The info of a copy without a write.
+const EMPTY_0: &str =
+    r#"{"op":"info","pg":[1,0],"from":[0,0],"stamp":1,"les":0,"history_les":0,"last_update":[0,0],"log_tail":[0,0],"complete":true}"#;
+
+const EMPTY_1: &str =
+    r#"{"op":"info","pg":[1,0],"from":[1,0],"stamp":1,"les":0,"history_les":0,"last_update":[0,0],"log_tail":[0,0],"complete":true}"#;
+
+const EMPTY_2: &str =
+    r#"{"op":"info","pg":[1,0],"from":[2,0],"stamp":1,"les":0,"history_les":0,"last_update":[0,0],"log_tail":[0,0],"complete":true}"#;
+
+/// Device 0 is known to have been up in epoch 1.
+const KNOWN_UP: &str = r#"{"op":"inc","epoch":2,"up_thru":[[0,1]]}"#;
+
+/// What is answered of the group then: it serves.
+const SERVES: &str =
+    r#"{"acting":[0,1,2],"acting_primary":0,"best":[0,0],"blocked_by":[],"count":5,"epoch":2,"first":1,"intervals":[],"les":0,"missing":[{"member":[1,0],"objects":{},"state":"missing"},{"member":[2,0],"objects":{},"state":"missing"}],"ok":"ask","pg":[1,0],"probe":[[0,0],[1,0],[2,0]],"up":[0],"up_primary":0,"verdict":"Serve"}"#;
+
+/// A group, and the map twice: each incremental is applied to `after`, shown to the group, and applied to `before`.
+struct GroupAlone {
+    before: OsdMap,
+    after: OsdMap,
+    group: Group,
+}
+
+// Written out, so that a function which lets one go has nothing to prove of what lies within.
+impl Drop for GroupAlone {
+    fn drop(self) {
+        let GroupAlone {
+            before: _,
+            after: _,
+            group: _,
+        } = self;
+    }
+}
+
+impl GroupAlone {
+    /// The group after the incremental that makes its pool.
+    fn begin(alloc: Global, line: &str) -> Result<GroupAlone, Fail>
+        ensures { IfOk result (λ alone. AreTold alone.before alone.after alone.group) }
+    {
+        match entry_surely(alloc, line) {
+            Some(Entry::Inc(inc)) => GroupAlone::made_by(alloc, &inc),
+            _ => Err(Fail::new("no incremental")),
+        }
+    }
+
+    fn made_by(alloc: Global, inc: &Incremental) -> Result<GroupAlone, Fail>
+        ensures { IfOk result (λ alone. AreTold alone.before alone.after alone.group) }
+    {
+        checked_incrementals_are_numbered();
+        history_begins_with_its_pool();
+        checked_lists_grow_by_incrementals_without_fault();
+        pools_of_checked_lists();
+        let pg = group();
+        if !makes(inc, &pg) {
+            return Err(Fail::new("no such pool"));
+        }
+        let after = first_map(alloc, inc)?;
+        if !has_group(&after, &pg) {
+            return Err(Fail::new("no such group"));
+        }
+        let before = first_map(alloc, inc)?;
+        let group = Group::begin(alloc, &after, pg);
+        Ok(GroupAlone {
+            before,
+            after,
+            group,
+        })
+    }
+
+    fn take_line(&mut self, alloc: Global, line: &str) -> Result<(), Fail>
+        requires { AreTold self.old.before self.old.after self.old.group }
+        ensures { OnOk result (AreTold self.new.before self.new.after self.new.group) }
+    {
+        let told = entry_surely(alloc, line).ok_or("no entry")?;
+        self.take(&told)
+    }
+
+    fn take(&mut self, told: &Entry) -> Result<(), Fail>
+        requires { AreTold self.old.before self.old.after self.old.group }
+        ensures { OnOk result (AreTold self.new.before self.new.after self.new.group) }
+    {
+        match told {
+            Entry::Inc(inc) => self.take_inc(inc),
+            _ => self.take_report(told),
+        }
+    }
+
+    fn take_inc(&mut self, inc: &Incremental) -> Result<(), Fail>
+        requires { AreTold self.old.before self.old.after self.old.group }
+        ensures { OnOk result (AreTold self.new.before self.new.after self.new.group) }
+    {
+        checked_lists_grow_by_incrementals_without_fault();
+        check(&self.after, inc)?;
+        apply(&mut self.after, inc)?;
+        absorb_map(&mut self.group, &self.before, &self.after)?;
+        apply(&mut self.before, inc)?;
+        Ok(())
+    }
+
+    fn take_report(&mut self, entry: &Entry) -> Result<(), Fail>
+        requires told { AreTold self.old.before self.old.after self.old.group }
+        requires report { inc_of entry.now ≡ None }
+        ensures { OnOk result (AreTold self.new.before self.new.after self.new.group) }
+    {
+        if tells_ahead(entry, self.after.epoch()) {
+            return Err(Fail::new("an info of an epoch to come"));
+        }
+        absorb_report(&mut self.group, entry)?;
+        Ok(())
+    }
+
+    /// What is answered of the group after this many entries.
+    fn answer(&mut self, alloc: Global, count: usize) -> Result<Vec<u8>, Fail>
+        requires { AreTold self.old.before self.old.after self.old.group }
+        ensures { AreTold self.new.before self.new.after self.new.group }
+    {
+        let pg = group();
+        let view = self.view(count)?;
+        Ok(text_of(alloc, Reply::Asked(pg, view))?)
+    }
+
+    fn view(&mut self, count: usize) -> Result<View, AllocError>
+        requires { AreTold self.old.before self.old.after self.old.group }
+        ensures { AreTold self.new.before self.new.after self.new.group }
+    {
+        match self.group.view(&self.after, count) {
+            Ok(view) => Ok(view),
+            Err(_) => self.group.view(&self.after, count),
+        }
+    }
+}
+
+/// The map of the first incremental.
+fn first_map(alloc: Global, inc: &Incremental) -> Result<OsdMap, Fail>
+    ensures fine { OnOk result (map_fault [] inc.now ≡ None) }
+    ensures map { IfOk result (IsMapOf (inc.now ∷ [])) }
+{
+    let mut map = OsdMap::empty(alloc);
+    check(&map, inc)?;
+    apply(&mut map, inc)?;
+    Ok(map)
+}
+
+fn check(map: &OsdMap, inc: &Incremental) -> Result<(), MapFault>
+    ensures fine { OnOk result (Says map.now (λ incs. map_fault incs inc.now ≡ None)) }
+    ensures tree { OnOk result (given_fault inc.now.crush ≡ None) }
+{
+    match map.check(inc) {
+        Ok(()) => Ok(()),
+        Err(_) => map.check(inc),
+    }
+}
+
+fn apply(map: &mut OsdMap, inc: &Incremental) -> Result<(), AllocError>
+    requires { given_fault inc.now.crush ≡ None }
+    ensures { OnOk result (Says map.old (λ incs. map_fault incs inc.now ≡ None → IsMapOf (then_with incs inc.now) map.new)) }
+{
+    match map.apply(inc) {
+        Ok(()) => Ok(()),
+        Err(_) => map.apply(inc),
+    }
+}
+
+fn absorb_map(group: &mut Group, before: &OsdMap, after: &OsdMap) -> Result<(), AllocError>
+    requires { IsNext before.now after.now group.old }
+    ensures { OnOk result (TakesMap before.now after.now group.old group.new) }
+{
+    the_next_map_follows();
+    match group.absorb_map(before, after) {
+        Ok(()) => Ok(()),
+        Err(_) => group.absorb_map(before, after),
+    }
+}
+
+fn absorb_report(group: &mut Group, entry: &Entry) -> Result<(), AllocError>
+    ensures { OnOk result (TakesReport entry.now group.old group.new) }
+{
+    match group.absorb_report(entry) {
+        Ok(()) => Ok(()),
+        Err(_) => group.absorb_report(entry),
+    }
+}
+
+/// The entry is an info that tells of an epoch to come that the group was clean in it.
+fn tells_ahead(entry: &Entry, epoch: Epoch) -> bool
+    ensures { result ≡ tells_ahead epoch entry.now }
+{
+    match entry {
+        Entry::Info(info) => epoch < info.last_epoch_clean,
+        _ => false,
+    }
+}
+
+/// The incremental makes the group's pool.
+fn makes(inc: &Incremental, pg: &PgId) -> bool
+    ensures { result ≡ makes pg.now.pool inc.now }
+{
+    inc.pools.as_slice().iter().any(|made| made.id == pg.pool)
+}
+
+#[test]
+fn a_group_by_itself_comes_to_serve(rt: HostRuntime) -> Result<(), Fail> {
+    let alloc = rt.alloc();
+    let mut alone = GroupAlone::begin(alloc, COPIES)?;
+    alone.take_line(alloc, EMPTY_0)?;
+    alone.take_line(alloc, EMPTY_1)?;
+    alone.take_line(alloc, EMPTY_2)?;
+    alone.take_line(alloc, KNOWN_UP)?;
+    let told = alone.answer(alloc, 5)?;
+    assert!(&rt; told.as_slice() == SERVES.as_bytes());
+    Ok(())
+}
