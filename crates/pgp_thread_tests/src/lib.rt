@@ -8,4 +8,8 @@ mod engine;
 #[cfg(test)]
 mod feed;
 #[cfg(test)]
+mod lines;
+#[cfg(test)]
 mod look_ups;
+#[cfg(test)]
+mod ticket;

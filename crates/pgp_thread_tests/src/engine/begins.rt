@@ -7,36 +7,34 @@ ghost use Rattle.pgp_feed.specs.Taps.{last_of};
 ghost use Rattle.pgp_thread_tests.specs.Opened.{IsOpened};
 ghost use Rattle.pgp_thread_tests.specs.declared.engine.opened.TheConstants.{TAPS};
 
-use crate::engine::desk::{Desk, Placer, Ticket};
-use crate::engine::lines::{EMPTY_0, EMPTY_1, SHARD, TO_SERVE, group};
+use crate::engine::desk::Desk;
+use crate::engine::lines::{EMPTY_0, EMPTY_1, MAP, SHARD, TO_SERVE, group};
 use crate::engine::opened::{SHARDS, TAPS, WORKERS};
-use crate::engine::steps::{ask, given, is_count, is_level, is_serving, put, put_map};
+use crate::engine::steps::{is_count, is_serving};
+use crate::lines::given;
+use crate::ticket::Ticket;
 use pgp_compact::compact;
 use pgp_compact::laws::a_compacted_log_is_legal;
-use pgp_engine::{Client, Engine, MakeFault, Naming};
-use pgp_feed::{Feed, Tap};
+use pgp_engine::{Engine, MakeFault, Naming};
+use pgp_feed::{Feed, ReadFault, Tap};
 use pgp_ids::Entry;
 use pgp_log::World;
+use std::alloc::Global;
 use std::marker::Brand;
 use std::process::Abort;
 use std::sync::{Arc, Wait};
 
 #[test]
-fn an_engine_goes_on_with_what_is_needed_of_a_log(rt: HostRuntime) {
-    assert!(rt; made_twice(&rt).is_ok(), "both engines");
-}
-
-// An engine, and one that goes on with what is needed of its log.
-fn made_twice<R: Wait + Abort + AllocGlobal>(rt: &R) -> Result<(), MakeFault> {
-    let (feed, mut taps) = Feed::make(rt, rt.alloc(), TAPS + 1)?;
+fn an_engine_goes_on_with_what_is_needed_of_a_log(rt: HostRuntime) -> Result<(), MakeFault> {
+    let (feed, mut taps) = Feed::make(&rt, rt.alloc(), TAPS + 1)?;
     let tap = taps.pop().unwrap();
-    let needed = older::<Brand, R>(rt, feed, taps, tap)?;
-    world_over(rt, needed.as_slice());
-    let (feed, taps) = Feed::make(rt, rt.alloc(), TAPS)?;
-    newer::<Brand, R>(rt, feed, taps, needed.as_slice())
+    let needed = older::<Brand, _>(&rt, feed, taps, tap)?;
+    world_over(&rt, needed.as_slice());
+    let (feed, taps) = Feed::make(&rt, rt.alloc(), TAPS)?;
+    newer::<Brand, _>(&rt, feed, taps, needed.as_slice())
 }
 
-// The entries that are needed of the older one's log, as the tap gave it.
+// Submits what it takes to serve, and before it an info that a later one replaces. Gives the entries that are needed of the log.
 fn older<J: Naming, R: Wait + Abort + AllocGlobal>(
     rt: &R,
     feed: Feed,
@@ -49,20 +47,15 @@ fn older<J: Naming, R: Wait + Abort + AllocGlobal>(
     ensures { IfOk result (λ needed. is_legal (map arc_value needed.items) ≡ true) }
 {
     let (engine, _clients) = Engine::<J>::make(rt, rt.alloc(), feed, taps, SHARDS, WORKERS)?;
-    let desk = Desk::over(engine, WORKERS);
-    let needed = needed_of(rt, &put_more(rt, &desk), tap);
+    let desk = Desk {
+        engine,
+        workers: WORKERS,
+    };
+    desk.put_all(rt, &[MAP, EMPTY_0]);
+    let told = desk.put_all(rt, &TO_SERVE[1..]);
+    let needed = needed_of(rt, &told, tap);
     desk.end(rt);
     Ok(needed)
-}
-
-// Submits what it takes to serve, and before it an info that a later one replaces.
-fn put_more<J: Naming, R: Wait + Abort + AllocGlobal>(rt: &R, desk: &Desk<J>) -> Ticket<J> {
-    let mut told = put_map(rt, desk);
-    told = put(rt, desk, EMPTY_0, &told);
-    for line in &TO_SERVE[1..] {
-        told = put(rt, desk, line, &told);
-    }
-    told
 }
 
 // The entries that are needed of the log that the ticket names: all but one.
@@ -74,8 +67,7 @@ fn needed_of<J: Naming, R: Wait + Abort + AllocGlobal>(
     requires { feed_of (last_of tap) ≡ J.feed }
     ensures { is_legal (map arc_value result.items) ≡ true }
 {
-    let mut tap = tap;
-    let log = told.read(rt.alloc(), &mut tap).ok().expect(rt, "the log");
+    let log = log_of(rt.alloc(), told, tap).ok().expect(rt, "the log");
     let needed = compact(rt.alloc(), log.as_slice())
         .ok()
         .expect(rt, "memory");
@@ -83,6 +75,22 @@ fn needed_of<J: Naming, R: Wait + Abort + AllocGlobal>(
     is_count(rt, log.len(), TO_SERVE.len() + 1);
     is_count(rt, needed.len(), TO_SERVE.len());
     needed
+}
+
+// All entries of the ticket's front, read by a tap of the same feed.
+fn log_of<J: Naming>(
+    alloc: Global,
+    told: &Ticket<J>,
+    tap: Tap,
+) -> Result<Vec<Arc<Entry>>, ReadFault>
+    requires { feed_of (last_of tap) ≡ J.feed }
+    ensures { IfOk result (λ log. is_legal (map arc_value log.items) ≡ true) }
+{
+    prove!(told.receipt.len() <= told.receipt.len());
+    let mut tap = tap;
+    let mut log = Vec::new(alloc);
+    tap.read(&told.receipt, 0, &mut log)?;
+    Ok(log)
 }
 
 // The newer one answers as if the entries had been submitted, and takes and answers what follows.
@@ -97,31 +105,24 @@ fn newer<J: Naming, R: Wait + Abort + AllocGlobal>(
     requires legal { is_legal (map arc_value entries.now) ≡ true }
 {
     let alloc = rt.alloc();
-    let (engine, clients, told) = Engine::<J>::over(
+    let (engine, mut clients, told) = Engine::<J>::over(
         rt, alloc, feed, taps, SHARDS, WORKERS, entries,
     )?;
-    let desk = Desk::over(engine, WORKERS);
-    answers_and_goes_on(rt, &desk, &Ticket::over(told), clients);
+    let desk = Desk {
+        engine,
+        workers: WORKERS,
+    };
+    let told = Ticket::over(told);
+    is_count(rt, told.len(), TO_SERVE.len());
+    is_serving(rt, desk.ask(rt, &told).0);
+    is_count(rt, desk.told(rt).len(), told.len());
+    let next = desk.put(rt, EMPTY_1, &told);
+    is_count(rt, next.len(), TO_SERVE.len() + 1);
+    is_count(rt, desk.ask(rt, &told).0.count, TO_SERVE.len() + 1);
+    let mut client = clients.pop().expect(rt, "a client");
+    is_count(rt, client.newest().len(), next.len());
     desk.end(rt);
     Ok(())
-}
-
-fn answers_and_goes_on<J: Naming, R: Wait + Abort + AllocGlobal>(
-    rt: &R,
-    desk: &Desk<J>,
-    told: &Ticket<J>,
-    clients: Vec<Client<J>>,
-) {
-    let mut clients = clients;
-    let mut client = Placer::over(clients.pop().expect(rt, "a client"));
-    is_count(rt, told.len(), TO_SERVE.len());
-    is_serving(rt, ask(rt, desk, told).into_view());
-    is_level(rt, &mut client, &desk.told(rt), told);
-    let next = put(rt, desk, EMPTY_1, told);
-    is_count(rt, next.len(), TO_SERVE.len() + 1);
-    is_count(rt, ask(rt, desk, told).view.count, TO_SERVE.len() + 1);
-    let newest = client.newest();
-    is_level(rt, &mut client, &newest, &next);
 }
 
 // A world that begins with them answers as well, once the group's shard has read them, and takes what follows.

@@ -1,80 +1,45 @@
 //! That a call which lacked memory has changed no log and shortened no front, and can be made again. Under
 //! `rt try --test --fail-alloc N` the Nth allocation is refused; in the gate none is.
 ghost use Rattle.std.specs.Prelude.{◌<◌};
+ghost use Rattle.pgp_thread_tests.specs.declared.engine.opened.TheConstants.{SHARDS};
 
-use crate::engine::desk::{Desk, Placed, Placer, Ticket, Told};
-use crate::engine::lines::{SHARD, TO_SERVE, entry, group, object};
+use crate::engine::desk::Desk;
+use crate::engine::lines::{SHARD, TO_SERVE, group};
 use crate::engine::opened::{SHARDS, Trial, tried};
-use crate::engine::steps::{is_count, is_serving, put};
-use pgp_engine::{AskFault, LocateFault, Naming};
-use pgp_ids::{Entry, ObjectName, PoolId, View};
-use std::alloc::Global;
+use crate::engine::steps::{is_count, is_serving, sought};
+use crate::lines::given;
+use crate::ticket::Ticket;
+use pgp_engine::{AskFault, Client, LocateFault, Naming, SubmitFault};
+use pgp_ids::View;
 use std::process::Abort;
 use std::sync::Wait;
 
+// Submits each entry and asks about the group by a front that holds it, has the shard read that the asks passed by, and
+// places an object by the whole log.
 pub fn call_again<J: Naming, R: Wait + Abort + AllocGlobal>(
     rt: &R,
     desk: &Desk<J>,
-    client: &mut Placer<J>,
+    client: &mut Client<J>,
 ) {
-    submit_and_ask(rt, desk);
-    read_on(rt, desk, TO_SERVE.len() - 1);
-    read_on(rt, desk, TO_SERVE.len());
-    place(rt, client, TO_SERVE.len());
-}
-
-// Submits each entry, and asks about the group by a front that holds it.
-fn submit_and_ask<J: Naming, R: Wait + Abort + AllocGlobal>(rt: &R, desk: &Desk<J>) {
+    let whole = TO_SERVE.len();
     let mut told = desk.told(rt);
     for taken in 0..TO_SERVE.len() {
         told = submit_surely(rt, desk, TO_SERVE[taken], &told);
         is_count(rt, told.len(), taken + 1);
-        view_of(rt, desk, &told, taken + 1);
+        let view = ask_surely(rt, desk, &told);
+        is_count(rt, view.count, taken + 1);
     }
-    is_serving(rt, view_of(rt, desk, &told, TO_SERVE.len()));
-}
-
-// What is answered of the group by a log of this many entries.
-fn view_of<J: Naming, R: Wait + Abort>(
-    rt: &R,
-    desk: &Desk<J>,
-    known: &Ticket<J>,
-    count: usize,
-) -> View {
-    let answer = ask_surely(rt, desk, known).ok().expect(rt, "an answer");
-    is_count(rt, answer.at.len(), count);
-    is_count(rt, answer.view.count, count);
-    answer.into_view()
-}
-
-// Lets the first shard read, which asks passed by, and which has then read this many entries.
-fn read_on<J: Naming, R: Wait + Abort>(rt: &R, desk: &Desk<J>, count: usize) {
-    let read = absorb_surely(rt, desk, 0, count).ok().expect(rt, "read");
-    assert!(rt; read.len() >= count);
-}
-
-// Places an object by the whole log.
-fn place<J: Naming, R: Abort + AllocGlobal>(rt: &R, client: &mut Placer<J>, whole: usize) {
-    let (pool, name) = object_surely(rt.alloc()).expect(rt, "an object");
-    let place = locate_surely(client, pool, &name)
-        .ok()
-        .expect(rt, "a place");
+    is_serving(rt, ask_surely(rt, desk, &told));
+    absorb_surely(rt, desk, 0, whole - 1);
+    absorb_surely(rt, desk, 0, whole);
+    let (pool, name) = sought(rt);
+    let place = match client.locate(pool, &name) {
+        Err(LocateFault::Memory) => client.locate(pool, &name),
+        located => located,
+    };
+    let place = place.ok().expect(rt, "a place");
     is_count(rt, place.at.len(), whole);
     assert!(rt; place.pg == group());
-}
-
-fn object_surely(alloc: Global) -> Option<(PoolId, ObjectName)> {
-    match object(alloc) {
-        Some(object) => Some(object),
-        None => object(alloc),
-    }
-}
-
-fn entry_surely(alloc: Global, line: &str) -> Option<Entry> {
-    match entry(alloc, line) {
-        Some(entry) => Some(entry),
-        None => entry(alloc, line),
-    }
 }
 
 fn submit_surely<J: Naming, R: Wait + Abort + AllocGlobal>(
@@ -83,82 +48,45 @@ fn submit_surely<J: Naming, R: Wait + Abort + AllocGlobal>(
     line: &str,
     known: &Ticket<J>,
 ) -> Ticket<J> {
-    let next = entry_surely(rt.alloc(), line).expect(rt, "an entry");
-    match desk.submit(rt, next, known) {
-        Ok(told) => told,
-        Err(refused) => {
-            is_count(rt, usize::from(refused.number), 51);
+    match desk.engine.submit(rt, given(rt, line), &known.receipt) {
+        Ok(told) => Ticket::over(told),
+        Err(SubmitFault::Memory) => {
             is_count(rt, desk.told(rt).len(), known.len());
-            put(rt, desk, line, known)
+            desk.put(rt, line, known)
         }
+        Err(_) => panic!(rt; "only memory may lack"),
     }
 }
 
-// How many entries the shard has read.
-fn read_by<J: Naming, R: Wait>(rt: &R, desk: &Desk<J>, shard: usize) -> Result<usize, AskFault>
-    requires { shard < SHARDS }
-{
-    let front = desk.absorb(rt, shard, 0)?;
-    Ok(front.len())
-}
-
-// The shard has read as much as before.
-fn has_read<J: Naming, R: Wait + Abort>(
-    rt: &R,
-    desk: &Desk<J>,
-    shard: usize,
-    before: usize,
-) -> Result<(), AskFault>
-    requires { shard < SHARDS }
-{
-    let read = read_by(rt, desk, shard)?;
-    assert!(rt; read >= before);
-    Ok(())
-}
-
-fn ask_surely<J: Naming, R: Wait + Abort>(
-    rt: &R,
-    desk: &Desk<J>,
-    known: &Ticket<J>,
-) -> Result<Told<J>, AskFault> {
-    let before = read_by(rt, desk, SHARD)?;
-    match desk.ask(rt, group(), known) {
+// What is answered of the group by a front of the same length.
+fn ask_surely<J: Naming, R: Wait + Abort>(rt: &R, desk: &Desk<J>, known: &Ticket<J>) -> View {
+    let before = desk.read_on(rt, SHARD, 0).len();
+    let answer = match desk.engine.ask(rt, group(), &known.receipt) {
         Err(AskFault::Memory) => {
             is_count(rt, desk.told(rt).len(), known.len());
-            has_read(rt, desk, SHARD, before)?;
-            desk.ask(rt, group(), known)
+            assert!(rt; desk.read_on(rt, SHARD, 0).len() >= before);
+            desk.engine.ask(rt, group(), &known.receipt)
         }
         answered => answered,
-    }
+    };
+    let answer = answer.ok().expect(rt, "an answer");
+    is_count(rt, answer.at.len(), known.len());
+    answer.view
 }
 
-fn absorb_surely<J: Naming, R: Wait + Abort>(
-    rt: &R,
-    desk: &Desk<J>,
-    shard: usize,
-    max: usize,
-) -> Result<Ticket<J>, AskFault>
+// Lets the shard read, which has then read this many entries.
+fn absorb_surely<J: Naming, R: Wait + Abort>(rt: &R, desk: &Desk<J>, shard: usize, count: usize)
     requires { shard < SHARDS }
 {
-    let before = read_by(rt, desk, shard)?;
-    match desk.absorb(rt, shard, max) {
+    let before = desk.read_on(rt, shard, 0).len();
+    let read = match desk.engine.absorb_some(rt, shard, count) {
         Err(AskFault::Memory) => {
-            has_read(rt, desk, shard, before)?;
-            desk.absorb(rt, shard, max)
+            assert!(rt; desk.read_on(rt, shard, 0).len() >= before);
+            desk.engine.absorb_some(rt, shard, count)
         }
         absorbed => absorbed,
-    }
-}
-
-fn locate_surely<J: Naming>(
-    client: &mut Placer<J>,
-    pool: PoolId,
-    name: &ObjectName,
-) -> Result<Placed<J>, LocateFault> {
-    match client.locate(pool, name) {
-        Err(LocateFault::Memory) => client.locate(pool, name),
-        located => located,
-    }
+    };
+    assert!(rt; read.ok().expect(rt, "read").len() >= count);
 }
 
 #[test]

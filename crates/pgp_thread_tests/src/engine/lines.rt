@@ -1,9 +1,5 @@
 //! What the tests submit and ask, by lines of the project's own format.
-use crate::engine::desk::Placed;
-use pgp_engine::Naming;
-use pgp_ids::{Entry, ObjectName, PgId, PoolId, View};
-use pgp_text::{Command, Reply, read_line, write_reply};
-use std::alloc::{AllocError, Global};
+use pgp_ids::{PgId, PoolId};
 
 /// Pool 1 of three copies over the devices 0, 1 and 2, of which device 0 alone has weight; pg_temp puts its one group on
 /// all three. The second of two shards answers for the group.
@@ -55,47 +51,5 @@ pub fn group() -> PgId {
     PgId {
         pool: PoolId::new(1).unwrap(),
         pg: 0,
-    }
-}
-
-/// The entry that the line is.
-pub fn entry(alloc: Global, line: &str) -> Option<Entry> {
-    match read_line(alloc, line.as_bytes()) {
-        Ok(Command::Submit(entry)) => Some(entry),
-        _ => None,
-    }
-}
-
-/// The object that clients look for, and its pool.
-pub fn object(alloc: Global) -> Option<(PoolId, ObjectName)> {
-    let name = ObjectName::new(alloc, "a").ok()??;
-    Some((PoolId::new(1)?, name))
-}
-
-/// This is what is answered of the group.
-pub fn is_told(alloc: Global, view: View, answer: &str) -> Result<bool, AllocError> {
-    is_written(alloc, Reply::Asked(group(), view), answer)
-}
-
-/// This is what is answered of an object that lies there.
-pub fn is_placed<J: Naming>(
-    alloc: Global,
-    place: Placed<J>,
-    answer: &str,
-) -> Result<bool, AllocError> {
-    is_written(alloc, place.into_reply(), answer)
-}
-
-// This is the reply's text.
-fn is_written(alloc: Global, reply: Reply, answer: &str) -> Result<bool, AllocError> {
-    let text = text_of(alloc, reply)?;
-    Ok(text.as_slice() == answer.as_bytes())
-}
-
-// The reply's text, for which one allocation may be refused.
-fn text_of(alloc: Global, reply: Reply) -> Result<Vec<u8>, AllocError> {
-    match write_reply(alloc, &reply) {
-        Ok(text) => Ok(text),
-        Err(_) => write_reply(alloc, &reply),
     }
 }

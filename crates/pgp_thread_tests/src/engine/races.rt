@@ -1,59 +1,47 @@
 //! What threads are answered that submit at once.
-use crate::engine::desk::{Desk, Placer, Refused, Ticket};
+use crate::engine::desk::{Desk, Outcome};
 use crate::engine::lines::STEP;
 use crate::engine::opened::{Trial, tried};
-use crate::engine::refusals::{is_refused, was_refused};
-use crate::engine::steps::{given, is_count};
+use crate::engine::steps::{is_count, was_refused};
+use crate::ticket::Ticket;
 use pgp_engine::Naming;
-use pgp_ids::Entry;
+use pgp_ids::Refusal;
 use std::process::Abort;
 use std::sync::Wait;
-use std::thread::{Threads, join};
+use std::thread::{Threads, map_indices};
 
-/// What a submit is answered.
-pub type Outcome<J> = Result<Ticket<J>, Refused<J>>;
-
-/// What two threads are answered that submit these entries with one receipt.
-pub fn both_submit<J: Naming + Send + Sync, R: Threads + Wait + Sync>(
+/// What threads are answered that submit these lines, each on a thread of its own and all with one ticket.
+pub fn submit_each<J: Naming + Send + Sync, R: Threads + Wait + Abort + AllocGlobal + Sync>(
     rt: &R,
     desk: &Desk<J>,
-    entries: (Entry, Entry),
+    lines: &[&str],
     known: &Ticket<J>,
-) -> (Outcome<J>, Outcome<J>) {
-    let (one, other) = entries;
-    join(
+) -> Vec<Outcome<J>> {
+    let outcomes = map_indices(
         rt,
-        || desk.submit(rt, one, known),
-        || desk.submit(rt, other, known),
-    )
+        rt.alloc(),
+        lines.len(),
+        &|i| desk.submit(rt, lines[i], known),
+    );
+    outcomes.ok().expect(rt, "memory")
 }
 
-// No gate forces an interleaving: whichever thread takes the intake's lock first is answered Ok.
+// No gate forces an interleaving: whichever thread takes the intake's lock first is answered Ok, and the other is refused by
+// a front that holds that entry.
 pub fn race<J: Naming + Send + Sync, R: Threads + Wait + Abort + AllocGlobal + Sync>(
     rt: &R,
     desk: &Desk<J>,
-    client: &mut Placer<J>,
 ) {
     let start = desk.told(rt);
-    let (one, other) = both_submit(rt, desk, (given(rt, STEP), given(rt, STEP)), &start);
+    let mut outcomes = submit_each(rt, desk, &[STEP, STEP], &start);
+    let one = outcomes.pop().expect(rt, "an outcome");
+    let other = outcomes.pop().expect(rt, "two outcomes");
     is_count(rt, desk.told(rt).len(), 1);
-    is_taken_once(rt, client, one, other);
-}
-
-// One was taken, and the other refused by a front that holds it.
-fn is_taken_once<J: Naming, R: Abort>(
-    rt: &R,
-    client: &mut Placer<J>,
-    one: Outcome<J>,
-    other: Outcome<J>,
-) {
-    match one {
-        Ok(taken) => is_refused(rt, client, &taken, other, 10),
-        Err(refused) => {
-            let taken = other.ok().expect(rt, "one is taken");
-            was_refused(rt, client, &taken, refused, 10);
-        }
-    }
+    let (taken, refused) = match one {
+        Ok(taken) => (taken, other.err().expect(rt, "one is refused")),
+        Err(refused) => (other.ok().expect(rt, "one is taken"), refused),
+    };
+    was_refused(rt, refused, Refusal::EpochGap, &taken);
 }
 
 #[test]

@@ -1,12 +1,13 @@
 //! Which entries the log has after many submits.
-use crate::engine::desk::{Desk, Ticket};
-use crate::engine::lines::EMPTY_0;
+use crate::engine::desk::Desk;
+use crate::engine::lines::{EMPTY_0, MAP};
 use crate::engine::opened::{Trial, tried};
-use crate::engine::steps::{ask, is_count, put, put_map, read_on};
+use crate::engine::steps::is_count;
+use crate::ticket::Ticket;
 use pgp_engine::Naming;
 use std::process::Abort;
 use std::sync::Wait;
-use std::thread::{Threads, join};
+use std::thread::{Threads, map_indices};
 
 /// How often one thread submits.
 const AGAIN: usize = 100;
@@ -18,51 +19,21 @@ fn submit_again<J: Naming, R: Wait + Abort + AllocGlobal>(
     known: &Ticket<J>,
 ) {
     for _ in 0..AGAIN {
-        let told = put(rt, desk, EMPTY_0, known);
+        let told = desk.put(rt, EMPTY_0, known);
         assert!(rt; told.len() > known.len());
     }
 }
 
-// By which front it is answered, which has as many entries as the view counts.
-fn asked_at<J: Naming, R: Wait + Abort>(rt: &R, desk: &Desk<J>, known: &Ticket<J>) -> Ticket<J> {
-    let answer = ask(rt, desk, known);
-    is_count(rt, answer.view.count, answer.at.len());
-    answer.into_at()
-}
-
-// It asks and reads on meanwhile.
+// Asks and reads on as often. Each front that answers has as many entries as the view counts.
 fn ask_again<J: Naming, R: Wait + Abort>(rt: &R, desk: &Desk<J>, known: &Ticket<J>) {
-    let mut newest = known.again();
+    let mut newest = known.len();
     for _ in 0..AGAIN {
-        let at = asked_at(rt, desk, known);
-        assert!(rt; at.len() >= newest.len(), "no shard goes back");
-        newest = at;
-        let _read = read_on(rt, desk, 0, 1);
+        let (view, at) = desk.ask(rt, known);
+        is_count(rt, view.count, at.len());
+        assert!(rt; at.len() >= newest, "no shard goes back");
+        newest = at.len();
+        let _read = desk.read_on(rt, 0, 1);
     }
-}
-
-fn both_submit<J: Naming + Send + Sync, R: Threads + Wait + Abort + AllocGlobal + Sync>(
-    rt: &R,
-    desk: &Desk<J>,
-    known: &Ticket<J>,
-) {
-    join(
-        rt,
-        || submit_again(rt, desk, known),
-        || submit_again(rt, desk, known),
-    );
-}
-
-fn submit_beside<J: Naming + Send + Sync, R: Threads + Wait + Abort + AllocGlobal + Sync>(
-    rt: &R,
-    desk: &Desk<J>,
-    known: &Ticket<J>,
-) {
-    join(
-        rt,
-        || both_submit(rt, desk, known),
-        || ask_again(rt, desk, known),
-    );
 }
 
 // No gate forces an interleaving: two threads submit and a third asks as they are scheduled, which makes it likely that
@@ -71,11 +42,23 @@ pub fn submit_many_times<J: Naming + Send + Sync, R: Threads + Wait + Abort + Al
     rt: &R,
     desk: &Desk<J>,
 ) {
-    let map = put_map(rt, desk);
-    submit_beside(rt, desk, &map);
+    let map = &desk.put_all(rt, &[MAP]);
+    let all = map_indices(
+        rt,
+        rt.alloc(),
+        3,
+        &|thread| {
+            if thread < 2 {
+                submit_again(rt, desk, map);
+            } else {
+                ask_again(rt, desk, map);
+            }
+        },
+    );
+    assert!(rt; all.is_ok(), "memory");
     let told = desk.told(rt);
     is_count(rt, told.len(), 1 + 2 * AGAIN);
-    is_count(rt, ask(rt, desk, &told).view.count, 1 + 2 * AGAIN);
+    is_count(rt, desk.ask(rt, &told).0.count, 1 + 2 * AGAIN);
 }
 
 #[test]
@@ -84,9 +67,9 @@ fn one_info_is_published_as_often_as_it_is_submitted(rt: HostRuntime) {
 }
 
 pub fn submit_twice<J: Naming, R: Wait + Abort + AllocGlobal>(rt: &R, desk: &Desk<J>) {
-    let map = put_map(rt, desk);
-    let first = put(rt, desk, EMPTY_0, &map);
-    let second = put(rt, desk, EMPTY_0, &first);
+    let map = desk.put_all(rt, &[MAP]);
+    let first = desk.put(rt, EMPTY_0, &map);
+    let second = desk.put(rt, EMPTY_0, &first);
     is_count(rt, first.len(), 2);
     is_count(rt, second.len(), 3);
 }

@@ -1,15 +1,13 @@
 //! Two taps read on threads of their own while the writer publishes.
-ghost use Rattle.pgp_thread_tests.specs.Opened.{IsOpened};
-
-use crate::feed::entries::{number_of, numbered};
-use crate::feed::run::{Naming, Press, Reader, Ticket, next_reader};
-use pgp_feed::{Feed, Tap};
-use std::alloc::Global;
+use crate::feed::entries::are_first;
+use crate::feed::opened::{Trial, tried};
+use crate::feed::press::Press;
+use crate::feed::reader::Reader;
+use crate::ticket::Ticket;
+use pgp_engine::Naming;
 use std::cmp::Ordering;
-use std::marker::Brand;
 use std::process::Abort;
 use std::sync::Wait;
-use std::test::Fail;
 use std::thread::{Threads, join, yield_now};
 
 /// How many entries are published.
@@ -19,78 +17,41 @@ const COUNT: u32 = 500;
 const LOOKS: u32 = 100_000_000;
 
 #[test]
-fn taps_read_beside_the_writer(rt: HostRuntime) -> Result<(), Fail> {
-    let (feed, taps) = Feed::make(&rt, rt.alloc(), 2)?;
-    read_beside::<Brand, _>(&rt, rt.alloc(), feed, taps).ok_or("two taps")?;
-    Ok(())
+fn taps_read_beside_the_writer(rt: HostRuntime) {
+    tried(&rt, 2, Trial::Threads);
 }
 
-fn read_beside<N: Naming + Send + Sync, R: Threads + Wait + Abort + Sync>(
+/// Both taps see all entries in the end.
+pub fn read_beside<J: Naming + Send + Sync, R: Threads + Wait + Abort + AllocGlobal + Sync>(
     rt: &R,
-    alloc: Global,
-    feed: Feed,
-    taps: Vec<Tap>,
-) -> Option<()>
-    requires { IsOpened feed taps.items N.feed }
-{
-    let mut taps = taps;
-    let mut press: Press<N> = Press::over(alloc, feed);
-    let (Some(one), Some(other)) = (next_reader(&mut taps), next_reader(&mut taps)) else {
-        press.end(rt);
-        return None;
-    };
-    let (seen, told) = join(
+    press: &mut Press<J>,
+) {
+    let mut one = press.reader(rt);
+    let mut other = press.reader(rt);
+    let ((first, second), told) = join(
         rt,
-        || read_both(rt, alloc, one, other),
-        || publish_all(rt, alloc, &mut press),
+        || join(rt, || read_all(rt, &mut one), || read_all(rt, &mut other)),
+        || publish_all(rt, press),
     );
-    press.end(rt);
-    all_is_seen(rt, seen, &told);
-    Some(())
-}
-
-type Seen<N> = (Reader<N>, Ticket<N>);
-
-fn all_is_seen<N: Naming, R: Abort>(rt: &R, seen: (Seen<N>, Seen<N>), told: &Ticket<N>) {
-    let (first, second) = seen;
-    let (mut reader, one) = first;
-    let (_reader, other) = second;
     assert_eq!(rt; told.len(), COUNT as usize);
-    assert_eq!(rt; reader.meet(&one, told), Ordering::Equal);
-    assert_eq!(rt; reader.meet(&one, &other), Ordering::Equal);
+    assert_eq!(rt; one.meet(&first, &told), Ordering::Equal);
+    assert_eq!(rt; one.meet(&first, &second), Ordering::Equal);
 }
 
-/// What each of two readers had, and saw last.
-fn read_both<N: Naming + Send + Sync, R: Threads + Abort + Sync>(
+fn publish_all<J: Naming, R: Wait + Abort + AllocGlobal>(
     rt: &R,
-    alloc: Global,
-    one: Reader<N>,
-    other: Reader<N>,
-) -> (Seen<N>, Seen<N>) {
-    join(
-        rt,
-        || read_all(rt, alloc, one),
-        || read_all(rt, alloc, other),
-    )
-}
-
-fn publish_all<N: Naming, R: Wait + Abort>(
-    rt: &R,
-    alloc: Global,
-    press: &mut Press<N>,
-) -> Ticket<N> {
+    press: &mut Press<J>,
+) -> Ticket<J> {
     for number in 0..COUNT {
-        let entry = numbered(alloc, number).expect(rt, "an entry");
-        assert!(rt; press.publish(rt, entry).is_ok());
+        press.put(rt, number);
         yield_now();
     }
     press.told()
 }
 
-/// Reads what is new until all is there.
-fn read_all<N: Naming, R: Abort>(rt: &R, alloc: Global, reader: Reader<N>) -> Seen<N> {
-    let mut reader = reader;
-    let mut entries = Vec::new(alloc);
+// Reads what is new until all is there, and says what it saw last.
+fn read_all<J: Naming, R: Abort + AllocGlobal>(rt: &R, reader: &mut Reader<J>) -> Ticket<J> {
+    let mut entries = Vec::new(rt.alloc());
     for _ in 0..LOOKS {
         let newest = reader.newest();
         assert!(rt; entries.len() <= newest.len(), "newest never goes back");
@@ -102,9 +63,6 @@ fn read_all<N: Naming, R: Abort>(rt: &R, alloc: Global, reader: Reader<N>) -> Se
         }
         yield_now();
     }
-    for (number, entry) in (0..COUNT).zip(entries.iter()) {
-        assert_eq!(rt; number_of(entry), number);
-    }
-    let newest = reader.newest();
-    (reader, newest)
+    are_first(rt, entries.as_slice(), COUNT);
+    reader.newest()
 }

@@ -1,6 +1,6 @@
 use Rattle.pgp_feed.specs.Receipts.{feed_of}
 use Rattle.pgp_feed.specs.Feeds.{told_of}
-use Rattle.pgp_thread_tests.proofs.engine.opened.made_and_tried.Given as goal
+use Rattle.pgp_thread_tests.proofs.engine.opened.tried.Given as goal
 
 -- the feed that was just made
 abbrev pub ghosts-over : goal.ghosts-over

@@ -1,7 +1,0 @@
-use Rattle.pgp_feed.specs.Feeds.{told_of}
-use Rattle.pgp_feed.specs.Receipts.{feed_of}
-use Rattle.pgp_thread_tests.proofs.look_ups.by_clients.Given as goal
-
--- the feed that was just made
-abbrev pub ghosts-found : goal.ghosts-found
-ghosts-found g a = record { feed = feed_of (told_of a.feed) }

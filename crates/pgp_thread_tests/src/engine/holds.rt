@@ -1,0 +1,93 @@
+//! What is answered while workers are held, each under its own shard's lock. The gate forces it: whom it holds gets on once what
+//! is done beside it is done.
+use crate::engine::desk::Desk;
+use crate::engine::gates::Held;
+use crate::engine::lines::{EMPTY_0, EMPTY_1, MOVE, MOVED, PLACE};
+use crate::engine::opened::{Trial, tried};
+use crate::engine::races::submit_each;
+use crate::engine::steps::{find, is_count, is_written};
+use crate::engine::workers::{Beside, wait_until_read};
+use crate::ticket::Ticket;
+use pgp_engine::{Client, Naming};
+use std::process::Abort;
+use std::sync::Wait;
+use std::thread::Threads;
+use std::time::Clock;
+
+// What another thread is told that submits the line, while this one submits an info.
+fn told_elsewhere<J: Naming + Send + Sync, R: Threads + Wait + Abort + AllocGlobal + Sync>(
+    rt: &R,
+    desk: &Desk<J>,
+    line: &str,
+    known: &Ticket<J>,
+) -> Ticket<J> {
+    let mut outcomes = submit_each(rt, desk, &[line, EMPTY_1], known);
+    let here = outcomes.pop().expect(rt, "an outcome");
+    assert!(rt; here.is_ok(), "taken here");
+    let there = outcomes.pop().expect(rt, "two outcomes");
+    there.ok().expect(rt, "taken there")
+}
+
+/// Once the first shard is held, the second answers by what was told after that.
+pub fn ask_past<J: Naming + Send + Sync, R: Threads + Wait + Abort + Clock + AllocGlobal + Sync>(
+    rt: &R,
+    desk: &Desk<J>,
+    gate: &Held<R>,
+    map: &Ticket<J>,
+) {
+    gate.fills();
+    let told = told_elsewhere(rt, desk, EMPTY_0, map);
+    let (view, at) = desk.ask(rt, &told);
+    assert!(rt; at.len() >= told.len());
+    is_count(rt, at.len(), 3);
+    is_count(rt, view.count, at.len());
+    is_count(rt, desk.told(rt).len(), at.len());
+    assert!(rt; desk.ask(rt, map).1.len() >= at.len());
+    gate.open();
+}
+
+#[test]
+fn a_shard_answers_while_another_is_held(rt: HostRuntime) {
+    tried(&rt, Trial::Works(Beside::HeldShard));
+}
+
+/// Neither worker gets on before both are in at once. Then both read on by themselves.
+pub fn open_both<J: Naming, R: Wait + Abort + Clock>(
+    rt: &R,
+    desk: &Desk<J>,
+    gate: &Held<R>,
+    map: &Ticket<J>,
+) {
+    gate.fills();
+    gate.open();
+    wait_until_read(rt, desk, map.len());
+}
+
+#[test]
+fn two_workers_are_in_at_once(rt: HostRuntime) {
+    tried(&rt, Trial::Works(Beside::BothAtOnce));
+}
+
+/// Once both shards are held, a client places an object by a front that holds what it learnt, and by another map than it did
+/// before.
+pub fn place_past<J: Naming + Send + Sync, R: Threads + Wait + Abort + Clock + AllocGlobal + Sync>(
+    rt: &R,
+    desk: &Desk<J>,
+    gate: &Held<R>,
+    map: &Ticket<J>,
+    client: &mut Client<J>,
+) {
+    is_written(rt, &find(rt, client).0, PLACE);
+    gate.fills();
+    let told = told_elsewhere(rt, desk, MOVE, map);
+    client.learn(&told.receipt);
+    let (place, at) = find(rt, client);
+    assert!(rt; at.len() >= told.len());
+    is_written(rt, &place, MOVED);
+    gate.open();
+}
+
+#[test]
+fn a_client_places_while_both_shards_are_held(rt: HostRuntime) {
+    tried(&rt, Trial::Works(Beside::ClientPasses));
+}

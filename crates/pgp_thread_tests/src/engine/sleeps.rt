@@ -1,0 +1,67 @@
+//! What is told, and who sleeps or ends, beside workers that nobody holds.
+use crate::engine::desk::Desk;
+use crate::engine::lines::{CLOSE, EMPTY_0, EMPTY_1};
+use crate::engine::opened::{Trial, tried};
+use crate::engine::races::submit_each;
+use crate::engine::steps::{is_count, was_refused};
+use crate::engine::workers::{Beside, wait_until_read};
+use crate::ticket::Ticket;
+use pgp_engine::Naming;
+use pgp_ids::Refusal;
+use std::process::Abort;
+use std::sync::Wait;
+use std::thread;
+use std::thread::Threads;
+use std::time::{Clock, Duration};
+
+/// Three threads submit two infos and a Close. Each info is taken before the Close, or refused for it. No gate forces an
+/// interleaving: the Close comes before, between or after the infos.
+pub fn submit_and_close<
+    J: Naming + Send + Sync,
+    R: Threads + Wait + Abort + Clock + AllocGlobal + Sync,
+>(rt: &R, desk: &Desk<J>, known: &Ticket<J>) -> Ticket<J> {
+    let mut outcomes = submit_each(rt, desk, &[EMPTY_0, EMPTY_1, CLOSE], known);
+    let closed = outcomes.pop().expect(rt, "an outcome");
+    let closed = closed.ok().expect(rt, "closed");
+    is_count(rt, outcomes.len(), 2);
+    for info in outcomes {
+        match info {
+            Ok(told) => assert!(rt; told.len() < closed.len(), "before the Close"),
+            Err(refused) => was_refused(rt, refused, Refusal::Closed, &closed),
+        }
+    }
+    closed
+}
+
+#[test]
+fn infos_beside_a_close_are_taken_or_refused_by_it(rt: HostRuntime) {
+    tried(&rt, Trial::Works(Beside::Submits));
+}
+
+/// How many infos are submitted, each to workers that sleep.
+const INFOS: usize = 20;
+
+/// Both shards read each info by themselves, though the workers had time to fall asleep before it. No gate forces it that they
+/// sleep: a millisecond is ample for them to find that there is nothing to read.
+pub fn wake_each<J: Naming, R: Wait + Abort + Clock + AllocGlobal>(
+    rt: &R,
+    desk: &Desk<J>,
+    map: &Ticket<J>,
+) {
+    wait_until_read(rt, desk, map.len());
+    for _ in 0..INFOS {
+        thread::sleep(rt, Duration::from_millis(1));
+        let told = desk.put_all(rt, &[EMPTY_0]);
+        wait_until_read(rt, desk, told.len());
+    }
+}
+
+#[test]
+fn each_submit_wakes_the_workers(rt: HostRuntime) {
+    tried(&rt, Trial::Works(Beside::EachWoken));
+}
+
+#[test]
+fn a_worker_without_a_shard_ends_at_once(rt: HostRuntime) {
+    tried(&rt, Trial::Works(Beside::Idle));
+}

@@ -1,0 +1,71 @@
+//! How a test gets its feed.
+ghost use Rattle.std.specs.Prelude.{◌≤◌};
+ghost use Rattle.pgp_thread_tests.specs.Opened.{IsOpened};
+
+use crate::feed::counts::all_read;
+use crate::feed::ended::outlived;
+use crate::feed::longest::fill_and_read;
+use crate::feed::memory::use_again;
+use crate::feed::pairs::all_meet;
+use crate::feed::press::Press;
+use crate::feed::refusals::refuse_at;
+use crate::feed::threads::read_beside;
+use pgp_engine::Naming;
+use pgp_feed::{Feed, MakeFault, Tap};
+use std::marker::Brand;
+use std::process::Abort;
+use std::sync::Wait;
+use std::thread::Threads;
+
+/// What is tried with a feed in which nothing was published yet.
+pub enum Trial {
+    AllRead,
+    Ended,
+    Longest,
+    Memory,
+    Pairs,
+    /// One publish is refused, that of the entry at this place.
+    Refused(u32),
+    Threads,
+}
+
+/// Tries it with a feed of this many taps. Where one allocation is refused as the feed is made, it is made once more.
+pub fn tried<R: Threads + Wait + Abort + AllocGlobal + Sync>(rt: &R, taps: usize, trial: Trial)
+    requires { (1 ≤ taps) × (taps ≤ 129) }
+{
+    match Feed::make(rt, rt.alloc(), taps) {
+        Ok((feed, made)) => {
+            assert_eq!(rt; made.len(), taps);
+            over::<Brand, R>(rt, trial, feed, made);
+        }
+        Err(fault) => {
+            assert!(rt; matches!(&trial, Trial::Memory), "a feed is made");
+            assert_eq!(rt; fault, MakeFault::Memory);
+            let (feed, made) = Feed::make(rt, rt.alloc(), taps)
+                .ok()
+                .expect(rt, "a feed is made at the second try");
+            over::<Brand, R>(rt, trial, feed, made);
+        }
+    }
+}
+
+fn over<J: Naming + Send + Sync, R: Threads + Wait + Abort + AllocGlobal + Sync>(
+    rt: &R,
+    trial: Trial,
+    feed: Feed,
+    taps: Vec<Tap>,
+)
+    requires { IsOpened feed taps.items J.feed }
+{
+    let mut press: Press<J> = Press::over(rt.alloc(), feed, taps);
+    match trial {
+        Trial::AllRead => all_read(rt, &mut press),
+        Trial::Ended => return outlived(rt, press),
+        Trial::Longest => fill_and_read(rt, &mut press),
+        Trial::Memory => use_again(rt, &mut press),
+        Trial::Pairs => all_meet(rt, &mut press),
+        Trial::Refused(place) => refuse_at(rt, &mut press, place),
+        Trial::Threads => read_beside(rt, &mut press),
+    }
+    press.end(rt);
+}
