@@ -52,4 +52,3 @@ prior_with one two les = prior_set (enough_shards 2) true (with_statuses one two
 -- the status of a device that isn't up and was given up for lost at the epoch `lost`, for an interval that began at `first`
 abbrev pub lost_at : ℕ → ℕ → Status
 lost_at lost first = if nat_lt first lost then Lost else Down
-

@@ -1,10 +1,8 @@
 //! What the tests submit and ask, by lines of the project's own format.
 use pgp_ids::{PgId, PoolId};
 
-/// Pool 1 of three copies over the devices 0, 1 and 2, of which device 0 alone has weight; pg_temp puts its one group on
-/// all three. The second of two shards answers for the group.
-pub const MAP: &str =
-    r#"{"op":"inc","epoch":1,"up":[0,1,2],"weight":[[1,0],[2,0]],"crush":[{"id":-1,"type":1,"alg":"uniform","items":[0,1,2]}],"pools":[{"id":1,"pg_num":1,"kind":"replicated","size":3,"min_size":2,"leaf":0}],"temp":[[1,0,[0,1,2]]]}"#;
+/// The map of one group, for which the second of two shards answers.
+pub use pgp_fixtures::COPIES as MAP;
 
 /// The shard that answers for the group.
 pub const SHARD: usize = 1;

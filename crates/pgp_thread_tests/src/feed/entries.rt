@@ -1,13 +1,10 @@
 //! The entries that the tests publish: a map with one group, and then infos of it, which differ in their last write.
 
 use crate::lines::given;
+use pgp_fixtures::ONE_DEVICE;
 use pgp_ids::Entry;
 use std::process::Abort;
 use std::sync::Arc;
-
-/// The map with one device, and one pool of one group.
-const MAP: &str =
-    r#"{"op":"inc","epoch":1,"up":[0],"pools":[{"id":1,"pg_num":1,"kind":"replicated","size":1,"min_size":1,"leaf":0}]}"#;
 
 /// The map where the number is 0, else the info whose last write has this number. One allocation may be refused.
 pub fn numbered<R: Abort + AllocGlobal>(rt: &R, number: u32) -> Arc<Entry> {
@@ -17,7 +14,11 @@ pub fn numbered<R: Abort + AllocGlobal>(rt: &R, number: u32) -> Arc<Entry> {
             r#"{{"op":"info","pg":[1,0],"from":[0,0],"stamp":1,"les":0,"history_les":0,"last_update":[1,{number}],"log_tail":[0,0],"complete":true}}"#
         );
         if let Ok(info) = info {
-            let line = if number == 0 { MAP } else { info.as_str() };
+            let line = if number == 0 {
+                ONE_DEVICE
+            } else {
+                info.as_str()
+            };
             if let Ok(entry) = Arc::new(alloc, given(rt, line)) {
                 return entry;
             }

@@ -3,10 +3,11 @@ ghost use Rattle.std.specs.Prelude.{◌≡◌, ◌≤◌, length};
 ghost use Rattle.pgp_thread_tests.specs.Opened.{IsOpened};
 
 use crate::lines::given;
-use crate::look_ups::entries::{END_EPOCH, FIRST_MAP, NAMES, names, step};
+use crate::look_ups::entries::{END_EPOCH, NAMES, names, step};
 use crate::ticket::Ticket;
 use pgp_engine::{Client, Engine, Naming};
 use pgp_feed::{Feed, Tap};
+use pgp_fixtures::MANY_GROUPS;
 use pgp_ids::{ObjectName, PoolId};
 use std::marker::Brand;
 use std::process::Abort;
@@ -43,7 +44,7 @@ fn over<J: Naming + Send + Sync, R: Threads + Wait + Abort + AllocGlobal + Sync>
         .ok()
         .expect(rt, "an engine");
     let names = &names(rt.alloc()).expect(rt, "memory");
-    let first = engine.submit(rt, given(rt, FIRST_MAP), &engine.told(rt));
+    let first = engine.submit(rt, given(rt, MANY_GROUPS), &engine.told(rt));
     let told = Ticket::over(first.ok().expect(rt, "taken"));
     let ended = AtomicBool::new(false);
     let (_, looked) = thread::join(

@@ -2,7 +2,8 @@
 ghost use Rattle.std.specs.Prelude.{◌≡◌, ◌+◌, true, false};
 
 use crate::lines::given;
-use crate::look_ups::entries::{END_EPOCH, FIRST_MAP, NAMES, names, step};
+use crate::look_ups::entries::{END_EPOCH, NAMES, names, step};
+use pgp_fixtures::MANY_GROUPS;
 use pgp_ids::{Entry, ObjectName, PoolId};
 use pgp_log::{Judge, RawSets};
 use std::marker::Model;
@@ -63,7 +64,7 @@ pub fn look_up_under_a_lock<R: Threads + Wait + Abort + AllocGlobal + Sync>(
         judge: Judge::start(rt.alloc()),
         sets: RawSets::new(rt.alloc()),
     };
-    assert!(rt; start.take(&given(rt, FIRST_MAP)), "taken");
+    assert!(rt; start.take(&given(rt, MANY_GROUPS)), "taken");
     let shared = &Mutex::new(start);
     let names = &names(rt.alloc()).expect(rt, "memory");
     let ended = AtomicBool::new(false);
