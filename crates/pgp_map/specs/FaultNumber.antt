@@ -1,26 +1,11 @@
--- The numbers of the faults of a map incremental, and the refusals of entries that they are.
+-- The refusals of entries that the faults of a map incremental are, and their numbers.
 use Rattle.std.specs.Prelude.{ℕ, Option, Some, None}
-use Rattle.pgp_crush.specs.TreeFault.{refusal_number, fault_number as tree_fault_number}
+use Rattle.pgp_crush.specs.TreeFault.{fault_number as tree_fault_number}
+use Rattle.pgp_ids.specs.Refusal.{refusal_number}
 use Rattle.pgp_ids.specs.declared.refusal.Refusal.{Refusal}
 use Rattle.pgp_ids.specs.declared.refusal.Refusal.TheVariants as refusal
 use Rattle.pgp_map.specs.declared.fault.MapFault.{MapFault}
 use Rattle.pgp_map.specs.declared.fault.MapFault.TheVariants.{EpochGap, Twice, UnknownDevice, AlreadyUp, AlreadyDown, StillUp, UpThruBack, Ahead, BadPool, PoolKnown, BadTemp, TreeFault, Memory}
-
--- the number of a fault in answers
-abbrev pub fault_number : MapFault → ℕ
-fault_number EpochGap = 10
-fault_number Twice = 11
-fault_number UnknownDevice = 12
-fault_number AlreadyUp = 13
-fault_number AlreadyDown = 14
-fault_number StillUp = 15
-fault_number UpThruBack = 16
-fault_number Ahead = 17
-fault_number BadPool = 18
-fault_number PoolKnown = 19
-fault_number BadTemp = 20
-fault_number (TreeFault fault) = refusal_number fault
-fault_number Memory = 51
 
 -- the refusal of a tree's fault, by its number; one without a number is out of memory
 abbrev pub tree_refusal : Option ℕ → Refusal
@@ -42,3 +27,7 @@ refusal_of PoolKnown = refusal.PoolKnown
 refusal_of BadTemp = refusal.BadTemp
 refusal_of (TreeFault fault) = tree_refusal (tree_fault_number fault)
 refusal_of Memory = refusal.Memory
+
+-- the number of a fault in answers: that of its refusal
+abbrev pub fault_number : MapFault → ℕ
+fault_number fault = refusal_number (refusal_of fault)

@@ -45,40 +45,7 @@ impl MapFault {
     pub fn number(self) -> u8
         ensures { result ≡ fault_number self }
     {
-        match self {
-            MapFault::EpochGap => 10,
-            MapFault::Twice => 11,
-            MapFault::UnknownDevice => 12,
-            MapFault::AlreadyUp => 13,
-            MapFault::AlreadyDown => 14,
-            MapFault::StillUp => 15,
-            MapFault::UpThruBack => 16,
-            MapFault::Ahead => 17,
-            MapFault::BadPool => 18,
-            MapFault::PoolKnown => 19,
-            MapFault::BadTemp => 20,
-            MapFault::TreeFault(fault) => fault.number(),
-            MapFault::Memory => 51,
-        }
-    }
-
-    /// What it says to a person, a tree's fault aside.
-    fn text(self) -> &'static str {
-        match self {
-            MapFault::EpochGap => "the epoch does not follow that of the map",
-            MapFault::Twice => "a device, pool or group is named twice",
-            MapFault::UnknownDevice => "unknown device",
-            MapFault::AlreadyUp => "the device is already up",
-            MapFault::AlreadyDown => "the device is already down",
-            MapFault::StillUp => "the device is still up",
-            MapFault::UpThruBack => "up_thru goes back",
-            MapFault::Ahead => "an epoch is ahead of the map",
-            MapFault::BadPool => "bad pool",
-            MapFault::PoolKnown => "the pool is already known",
-            MapFault::BadTemp => "bad pg_temp",
-            MapFault::TreeFault(_) => "the placement tree has a fault",
-            MapFault::Memory => "out of memory",
-        }
+        Refusal::from(self).number()
     }
 }
 
@@ -86,7 +53,7 @@ impl fmt::Display for MapFault {
     fn fmt<W: fmt::Write>(&self, f: &mut fmt::Formatter<W>) -> fmt::Result {
         match self {
             MapFault::TreeFault(fault) => fault.fmt(f),
-            _ => f.write_str(self.text()),
+            _ => Refusal::from(*self).fmt(f),
         }
     }
 }
