@@ -59,7 +59,7 @@ impl TreeFault {
     fn text(self) -> &'static str {
         match self {
             TreeFault::NoRoot => "the tree has not exactly one root",
-            TreeFault::TwiceHeld => "a bucket or an item stands twice",
+            TreeFault::TwiceHeld => "a bucket's id or an item is twice in the tree",
             TreeFault::WrongType => "a bucket's type is 0, or not above that of a bucket in it",
             TreeFault::Unknown => "an item is neither a bucket of the tree nor a device",
             TreeFault::TooDeep => "the tree has more than 10 levels of buckets",
