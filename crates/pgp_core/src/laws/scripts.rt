@@ -8,7 +8,7 @@ ghost use Rattle.pgp_core.specs.Script.{script_text, answer, answers, log_past, 
 ghost use Rattle.pgp_core.specs.Examples.{without_want, copies_line, copies_located, copies_asked};
 
 /// What is written for one line more depends on the log after the lines before it, and so does the log after that line.
-pub fn answers_go_by_the_lines_before()
+pub fn answers_depend_on_the_lines_before()
     ensures text { (met : List (Option Want)) (lines : List (List ℕ)) (last : Option Want) (line : List ℕ)
         → length met ≡ length lines
         → answers [] (met ++ last ∷ []) (lines ++ line ∷ [])
