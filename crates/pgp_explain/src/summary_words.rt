@@ -49,7 +49,7 @@ fn put_total(summary: &Summary, offset: EpochOffset, text: &mut String) -> Resul
         text,
         "{groups} {} at epoch {}",
         plural(groups, "group", "groups"),
-        offset.told(summary.epoch),
+        offset.cluster_epoch(summary.epoch),
     )
 }
 

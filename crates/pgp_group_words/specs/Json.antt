@@ -11,17 +11,17 @@ use Rattle.pgp_reasons.specs.declared.ways.Ways.{Ways}
 use Rattle.pgp_replies.specs.Answered.{pair_data, group_data, member_data, place_data, osds_data}
 use Rattle.pgp_replies.specs.Json.{Field, object_with, number_data, list_data, option_data}
 use Rattle.pgp_group_words.specs.Text.{Text}
-use Rattle.pgp_group_words.specs.Names.{told_epoch}
+use Rattle.pgp_group_words.specs.Names.{cluster_epoch}
 use Rattle.pgp_group_words.specs.Sentence.{sentence_of, unheard_of}
 use Rattle.pgp_group_words.specs.declared.explained.Explained.{Explained}
 use Rattle.pgp_group_words.specs.declared.offset.EpochOffset.{EpochOffset}
 
 abbrev pub epoch_data : EpochOffset → ℕ → Data
-epoch_data offset epoch = number_data (told_epoch offset epoch)
+epoch_data offset epoch = number_data (cluster_epoch offset epoch)
 
 -- [epoch, number]
 abbrev pub write_data : EpochOffset → Version → Data
-write_data offset version = pair_data (told_epoch offset version.epoch) version.v
+write_data offset version = pair_data (cluster_epoch offset version.epoch) version.v
 
 -- [first, last]
 abbrev pub gap_data : Gap → Data

@@ -8,12 +8,12 @@ use Rattle.pgp_group_words.specs.Text.{Text, joined, listed_with}
 use Rattle.pgp_group_words.specs.declared.names.Naming.{Naming}
 use Rattle.pgp_group_words.specs.declared.offset.EpochOffset.{EpochOffset}
 
--- the number by which an epoch is told, with an offset; epoch 0, before the first map, is told as 0
-abbrev pub told_epoch : EpochOffset → ℕ → ℕ
-told_epoch offset epoch = if epoch == 0 then 0 else epoch + offset.0
+-- an epoch as the cluster counts it, with an offset; epoch 0, before the first map, stays 0
+abbrev pub cluster_epoch : EpochOffset → ℕ → ℕ
+cluster_epoch offset epoch = if epoch == 0 then 0 else epoch + offset.0
 
 abbrev pub epoch_name : EpochOffset → ℕ → Text
-epoch_name offset epoch = decimal (told_epoch offset epoch)
+epoch_name offset epoch = decimal (cluster_epoch offset epoch)
 
 -- a group: its pool, and its number in hexadecimal
 abbrev pub group_name : PgId → Text

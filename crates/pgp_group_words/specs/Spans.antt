@@ -3,7 +3,7 @@ use Rattle.std.specs.Prelude.{ℕ, ◌+◌, ◌==◌, List, [], ◌∷◌, ◌++
 use Rattle.pgp_reasons.specs.declared.blocking.Blocking.{Blocking}
 use Rattle.pgp_reasons.specs.declared.gap.Gap.{Gap}
 use Rattle.pgp_group_words.specs.Text.{Text, joined, listed}
-use Rattle.pgp_group_words.specs.Names.{told_epoch}
+use Rattle.pgp_group_words.specs.Names.{cluster_epoch}
 use Rattle.pgp_group_words.specs.declared.offset.EpochOffset.{EpochOffset}
 use Rattle.pgp_group_words.specs.declared.spans.Span.{Span}
 
@@ -16,7 +16,7 @@ span_name run = if run.first == run.last then decimal run.first else joined (dec
 
 -- the epochs of an interval, as they are told
 abbrev pub epochs_of : EpochOffset → Blocking → Span
-epochs_of offset interval = from_to (told_epoch offset interval.first) (told_epoch offset interval.last)
+epochs_of offset interval = from_to (cluster_epoch offset interval.first) (cluster_epoch offset interval.last)
 
 -- runs with one behind them: the last is longer by it where it follows upon that
 abbrev pub then_run : List Span → Span → List Span

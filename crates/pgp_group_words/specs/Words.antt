@@ -8,7 +8,7 @@ use Rattle.pgp_ids.specs.declared.verdict.Verdict.{Verdict}
 use Rattle.pgp_ids.specs.declared.verdict.Verdict.TheVariants.{Down}
 use Rattle.pgp_reasons.specs.declared.blocking.Blocking.{Blocking}
 use Rattle.pgp_group_words.specs.Text.{Text, joined, line, listed, each_after_first}
-use Rattle.pgp_group_words.specs.Names.{told_epoch, epoch_name, group_name, device_name, leader_name, member_name, version_name, places_name, are, plural}
+use Rattle.pgp_group_words.specs.Names.{cluster_epoch, epoch_name, group_name, device_name, leader_name, member_name, version_name, places_name, are, plural}
 use Rattle.pgp_group_words.specs.Spans.{epochs_of, epochs_name, runs_name}
 use Rattle.pgp_group_words.specs.Sentence.{naming_of, unheard_of, sentence_of}
 use Rattle.pgp_group_words.specs.declared.explained.Explained.{Explained}
@@ -61,7 +61,7 @@ unfoldable pub place_lines : Explained → EpochOffset → Text
 place_lines explained offset = joined (
     acting_line explained offset
     ∷ up_line explained.view.up
-    ∷ served_line (told_epoch offset explained.view.les)
+    ∷ served_line (cluster_epoch offset explained.view.les)
     ∷ [])
 
 -- when the sender of an info last served
@@ -89,8 +89,8 @@ sender_part naming info = joined (
 unfoldable pub info_line : Naming → Info → Text
 info_line naming info = joined (
     sender_part naming info
-    ∷ has_served (told_epoch naming.offset info.les)
-    ∷ knows_of (told_epoch naming.offset info.history_les)
+    ∷ has_served (cluster_epoch naming.offset info.les)
+    ∷ knows_of (cluster_epoch naming.offset info.history_les)
     ∷ [])
 
 -- what stands where nobody was heard

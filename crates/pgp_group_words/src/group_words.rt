@@ -14,8 +14,8 @@ use pgp_ids::{Epoch, Info, Member, OsdId, Osds};
 use pgp_reasons::Blocking;
 use std::alloc::{AllocError, Global};
 
-/// Puts what there is to say of a group behind what `text` has, in lines that each end in a line feed. Where memory is
-/// wanting, `text` stays as it was.
+/// Puts what there is to say of a group behind what `text` has, in lines that each end in a line feed. Where there is
+/// no memory, `text` stays as it was.
 pub fn put_words(
     alloc: Global,
     explained: &Explained,
@@ -79,7 +79,7 @@ fn put_heading(
         text,
         "group {} at epoch {}: {}",
         Group(explained.pg),
-        offset.told(explained.view.epoch),
+        offset.cluster_epoch(explained.view.epoch),
         explained.view.verdict.name(),
     )
 }
@@ -97,7 +97,7 @@ fn put_place(
 {
     put_acting(alloc, explained, offset, text)?;
     put_up(alloc, &explained.view.up, explained.naming(offset), text)?;
-    put_served(offset.told(explained.view.les), text)
+    put_served(offset.cluster_epoch(explained.view.les), text)
 }
 
 /// Who serves the group, and since when.
@@ -117,7 +117,7 @@ fn put_acting(
         text,
         "\nacting {acting}, led by {}, since epoch {} (of size {}, at least {})",
         Leader(view.acting_primary),
-        offset.told(view.first),
+        offset.cluster_epoch(view.first),
         explained.size,
         explained.min_size,
     )

@@ -53,7 +53,7 @@ impl Json for Epoch {
     ghost value = { epoch_data };
 
     fn write(&self, out: &mut Writer, offset: EpochOffset) -> Result<(), AllocError> {
-        out.u64(offset.told(*self))
+        out.u64(offset.cluster_epoch(*self))
     }
 }
 
@@ -130,7 +130,7 @@ impl Json for Version {
     ghost value = { write_data };
 
     fn write(&self, out: &mut Writer, offset: EpochOffset) -> Result<(), AllocError> {
-        write_pair(out, offset.told(self.epoch), u64::from(self.v))
+        write_pair(out, offset.cluster_epoch(self.epoch), u64::from(self.v))
     }
 }
 

@@ -1,7 +1,7 @@
 //! How groups, devices, members and epochs are named in words.
 
 ghost use Rattle.std.specs.Prelude.{◌≡◌, Some};
-ghost use Rattle.pgp_group_words.specs.Names.{are as verb_for, device_name, group_name, leader_name, plural as noun_for, told_epoch};
+ghost use Rattle.pgp_group_words.specs.Names.{are as verb_for, cluster_epoch, device_name, group_name, leader_name, plural as noun_for};
 
 use super::offset::EpochOffset;
 use pgp_ids::{Epoch, OsdId, PgId};
@@ -56,9 +56,9 @@ pub(crate) struct Naming {
 
 impl Naming {
     pub fn epoch(self, epoch: Epoch) -> u64
-        ensures { result ≡ told_epoch self.offset epoch }
+        ensures { result ≡ cluster_epoch self.offset epoch }
     {
-        self.offset.told(epoch)
+        self.offset.cluster_epoch(epoch)
     }
 }
 

@@ -1,5 +1,5 @@
 ghost use Rattle.std.specs.Prelude.{◌≡◌};
-ghost use Rattle.pgp_group_words.specs.Names.{told_epoch};
+ghost use Rattle.pgp_group_words.specs.Names.{cluster_epoch};
 
 use pgp_ids::Epoch;
 
@@ -8,9 +8,9 @@ use pgp_ids::Epoch;
 pub struct EpochOffset(pub u32);
 
 impl EpochOffset {
-    /// The number by which the epoch is told. Epoch 0, before the first map, is told as 0.
-    pub fn told(self, epoch: Epoch) -> u64
-        ensures { result ≡ told_epoch self epoch }
+    /// The epoch as the cluster counts it. Epoch 0, before the first map, stays 0.
+    pub fn cluster_epoch(self, epoch: Epoch) -> u64
+        ensures { result ≡ cluster_epoch self epoch }
     {
         match epoch.number() {
             0 => 0,

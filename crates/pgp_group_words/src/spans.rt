@@ -37,8 +37,8 @@ pub(crate) fn epochs_of(interval: &Blocking, offset: EpochOffset) -> Span
     ensures { result ≡ epochs_told offset interval.now }
 {
     Span {
-        first: offset.told(interval.first),
-        last: offset.told(interval.last),
+        first: offset.cluster_epoch(interval.first),
+        last: offset.cluster_epoch(interval.last),
     }
 }
 

@@ -14,7 +14,7 @@ use std::str::from_utf8;
 const LINE_FEED: u8 = b'\n';
 
 /// Puts one text line, with a line feed, for the line of this number, which is answered with a refusal: the refusal's name, and
-/// what is wrong. Where memory is wanting, `errors` stays as it was.
+/// what is wrong. Where there is no memory, `errors` stays as it was.
 pub fn put_fault(
     alloc: Global,
     line: &[u8],
@@ -114,7 +114,7 @@ fn field_fault(alloc: Global, line: &[u8], key: &str) -> Result<String, AllocErr
         return whole_field(alloc, key);
     };
     match fault_in(alloc, format_of(&value), shape, field)? {
-        Some(wrong) => wrong.told(alloc, key),
+        Some(wrong) => wrong.text(alloc, key),
         None => whole_field(alloc, key),
     }
 }

@@ -41,7 +41,7 @@ impl Wrong {
     }
 
     /// What is wrong, of a line that has this value at a key.
-    pub(crate) fn told(&self, alloc: Global, key: &str) -> Result<String, AllocError> {
+    pub(crate) fn text(&self, alloc: Global, key: &str) -> Result<String, AllocError> {
         let way = self.way.as_str();
         let what = self.what.as_str();
         format!(in alloc; "{key}{way}: {what}")

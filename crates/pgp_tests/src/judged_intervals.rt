@@ -4,7 +4,7 @@
 use super::counting::{Asked, Index};
 use super::plain_group::{Table, Turn};
 use super::prior_index::begun;
-use super::prior_sets::{DOWN, GONE, LOST, UP, told};
+use super::prior_sets::{DOWN, GONE, LOST, UP, prior_text};
 use pgp_fixtures::{NO_OSD, lying_on, osd, two_epochs};
 use pgp_sets::Status;
 use std::alloc::{AllocError, Global};
@@ -155,7 +155,7 @@ fn first_wrong(alloc: Global, scene: &Scene) -> Result<Option<usize>, AllocError
     let mut index = index_of(alloc, scene, &asked, &table)?;
     for (place, Told(step, counts, words)) in scene.steps.iter().enumerate() {
         take(&mut index, &mut table, *step);
-        let found = told(alloc, &index.prior()?)?;
+        let found = prior_text(alloc, &index.prior()?)?;
         if asked.counts() != *counts || found.as_str() != *words {
             return Ok(Some(place));
         }

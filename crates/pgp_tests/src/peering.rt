@@ -1,7 +1,7 @@
 //! What the maps of a list of incrementals say of a placement group: its intervals, its prior sets and the statuses of its
 //! devices.
 
-use super::prior_sets::{DOWN, GONE, LOST, UP, told};
+use super::prior_sets::{DOWN, GONE, LOST, UP, prior_text};
 use pgp_code::AnyCode;
 use pgp_fixtures::{COPIES, SHARDS, WITHOUT_TEMP, group, incremental, osd, text_of};
 use pgp_ids::{Epoch, EpochState, Incremental, PrimaryFacts, Seq};
@@ -96,7 +96,7 @@ fn prior_words(alloc: Global, lines: &[&str]) -> Result<String, Fail> {
     let (_, members) = history.current();
     let les = Epoch::new(0);
     let found = prior(alloc, history.code(), past.as_slice(), &members, les, &map)?;
-    Ok(told(alloc, &found)?)
+    Ok(prior_text(alloc, &found)?)
 }
 
 /// Incrementals, and the group's intervals.

@@ -22,7 +22,7 @@ fn written_on(alloc: Global, actings: &[&[u16]]) -> Result<Vec<Past>, AllocError
 }
 
 /// A prior set in words.
-pub fn told(alloc: Global, prior: &Prior) -> Result<String, AllocError> {
+pub fn prior_text(alloc: Global, prior: &Prior) -> Result<String, AllocError> {
     let mut text = String::from_str(alloc, "asks")?;
     tell_members(&mut text, prior.probe.as_slice())?;
     text.push_str(if prior.down { ", down" } else { ", not down" })?;
@@ -116,7 +116,7 @@ fn found(alloc: Global, lived: Lived, statuses: &[Status]) -> Result<String, All
         Epoch::new(les),
         &Table::of(alloc, statuses)?,
     )?;
-    told(alloc, &found)
+    prior_text(alloc, &found)
 }
 
 #[test]
