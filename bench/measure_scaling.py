@@ -4,7 +4,7 @@
     bench/measure_scaling.py [--program PATH] [--runs R]
 
 PATH is the built program (by default crates/pgpeer/out/pgpeer), or another that reads a script where it is called without an
-argument, as that of pgp_scripts. Each script makes so many groups of two copies on a quarter as many devices, so that eight
+argument, as that of pgp_scripts. Each script makes a number of groups of two copies on a quarter as many devices, so that eight
 groups lie on a device on average, and asks about each of them. Then come incrementals of which each takes one device down or
 boots one, with a single question at the end or with one after each, about a group on the device. Each script is run R times
 (5), and so is what comes before its incrementals, which is taken off. Prints two tables in Markdown, one with a single question
@@ -30,7 +30,7 @@ HOST_SIZE = 8  # devices
 
 
 def pools(size):
-    """Gives the pools that have so many groups in all."""
+    """Gives the pools that have this many groups in all."""
     kind = {"kind": "replicated", "size": 2, "min_size": 1, "leaf": HOST}
     groups = min(size, LARGEST_POOL)
     return [{"id": pool, "pg_num": groups, **kind} for pool in range(1, size // groups + 1)]

@@ -24,7 +24,7 @@ stands-absent log course clean is last = at course.lying refl where
   at None none = rw (is.absent none) refl
   at (Some lying) some = let u = is.there lying some in absurd (grind (arith, u.firsts_are, length-append))
 
--- the group goes by the map of its log
+-- the group depends on the map of its log
 pub present : (log : List Entry) (pg : PgId) (g : GroupLog) (map : OsdMap) (clean : ℕ) (found : Standing) → group_in log pg ≡ Some g → IsMapOf (incs_of log) map → found ≡ standing_at clean g → IsPresent g map found.first
 present log pg g map clean found there is stands' = grind (arith, log-in)
 

@@ -68,7 +68,7 @@ abbrev pub none_recent : Option Info → Naming → Text
 none_recent None naming = codes "No complete copy was heard of."
 none_recent (Some info) naming = not_recent info naming
 
--- no copy may be gone by
+-- no copy may be followed
 unfoldable pub on_incomplete : List Info → Naming → Text
 on_incomplete heard naming = none_recent (informed_beside_complete heard) naming
 

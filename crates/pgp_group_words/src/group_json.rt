@@ -14,7 +14,7 @@ use pgp_ids::Seq;
 use std::alloc::{AllocError, Global};
 
 /// Puts what there is to say of a group behind what `text` has: one object in one line, which ends in a line feed, with the
-/// keys of each object in ascending byte order. Where memory is wanting, `text` stays as it was.
+/// keys of each object in ascending byte order. Where there is no memory, `text` stays as it was.
 pub fn put_json(
     alloc: Global,
     explained: &Explained,

@@ -11,7 +11,7 @@ use std::alloc::{AllocError, Global};
 /// What a member lacks.
 #[derive(Clone, Copy)]
 pub(crate) enum Lag {
-    /// So many objects.
+    /// This many objects.
     Objects(usize),
     /// The log doesn't reach back to it.
     Backfill,

@@ -67,7 +67,7 @@ fn on_waiting(alloc: Global, explained: &Explained, naming: Naming) -> Result<St
     format!(in alloc; "It waits to hear from {members}.")
 }
 
-/// No copy may be gone by.
+/// No copy may be followed.
 #[tactic(auto, unfolding(crate::specs::Sentence::on_incomplete))]
 fn on_incomplete(alloc: Global, heard: &[Info], naming: Naming) -> Result<String, AllocError>
     ensures { IfOk result (λ text. string_bytes text ≡ on_incomplete_of heard.now naming) }

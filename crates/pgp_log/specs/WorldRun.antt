@@ -1,5 +1,5 @@
 -- Runs of a world in which a step may lack memory. Such a step changes nothing, but a shard that was reading may have read
--- the first few of its entries (this project's own choice). No memory is wanting to answer by a front without an incremental.
+-- the first few of its entries (this project's own choice). An answer by a front without an incremental is never out of memory.
 use Rattle.std.specs.Prelude.{◌≡◌, ℕ, ◌<◌, List, [], ◌∷◌, ◌++◌, length, take, drop, slice_index, if◌then◌else◌, ◌⊎◌, Bool, true, false, None, Ok, Err, alloc_error}
 use Rattle.pgp_ids.specs.declared.ask_refusal.AskRefusal.TheVariants as ask
 use Rattle.pgp_ids.specs.declared.entry.Entry.{Entry}

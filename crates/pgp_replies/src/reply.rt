@@ -74,8 +74,8 @@ impl ReplyWriter {
         }
     }
 
-    /// Puts the text of a reply, as [`write_reply`] writes it, behind what `text` has. Where memory is wanting, `text`
-    /// stays as it was.
+    /// Puts the text of a reply, as [`write_reply`] writes it, behind what `text` has. Where there is no memory,
+    /// `text` stays as it was.
     #[tactic(auto, using(crate::proofs::Tokens::text_steps))]
     pub fn put(
         &mut self,

@@ -50,7 +50,7 @@ impl Asked {
     }
 }
 
-/// So many slots are enough, and each question is counted for its interval.
+/// Answers as this code does, and counts each question for its interval.
 #[derive(Clone, Copy)]
 pub struct Counting<'a> {
     pub code: Erasure,

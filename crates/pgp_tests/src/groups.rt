@@ -44,7 +44,7 @@ static SCRIPTS: [Script; 7] = [
         ],
     ),
     Script(
-        "waits for members that were not heard, and goes by another copy where that of the primary is not complete",
+        "waits for members that were not heard, and follows another copy where that of the primary is not complete",
         &[
             COPIES,
             r#"{"acting":[0,1,2],"acting_primary":0,"best":null,"blocked_by":[],"count":1,"epoch":1,"first":1,"intervals":[],"les":0,"missing":[],"ok":"ask","pg":[1,0],"probe":[[0,0],[1,0],[2,0]],"up":[0],"up_primary":0,"verdict":"Waiting"}"#,
@@ -68,7 +68,7 @@ static SCRIPTS: [Script; 7] = [
         ],
     ),
     Script(
-        "goes by the shard that was written least",
+        "follows the shard that was written least",
         &[
             SHARDS,
             r#"{"op":"info","pg":[1,0],"from":[0,0],"stamp":1,"les":0,"history_les":0,"last_update":[1,2],"log_tail":[0,0],"complete":true}"#,

@@ -95,7 +95,7 @@ fn mixes_three_words(rt: HostRuntime) {
     }
 }
 
-/// Names, also with bytes from 128 on, and their hashes, by both tools but for that of no byte and that of 0xff.
+/// Names, also with bytes from 128 on, and their hashes, by both tools, except those of no byte and of 0xff.
 static NAMES: [(&[u8], u32); 10] = [
     (b"", 0xbd49_d10d),
     (b"a", 0x29ee_c818),
@@ -137,7 +137,7 @@ fn group_of(name: &[u8]) -> u32 {
     stable_mod(name_hash(name), 1 << 30, mask_of(1 << 30))
 }
 
-/// The name of so many bytes from 0xff on.
+/// The name of this many bytes, which are 0xff, 0xfe and so on.
 fn falling(alloc: Global, len: u8) -> Result<Vec<u8>, AllocError> {
     let mut name = Vec::new(alloc);
     for less in 0..len {

@@ -84,7 +84,7 @@ fn left(
     Ok(state.renew(*most)?)
 }
 
-/// A shard goes by these steps.
+/// A shard does what these steps say.
 fn goes_so<R: Abort + AllocGlobal>(rt: &R, steps: &[Step]) -> Result<(), Fail> {
     let mut judge = Judge::start(rt.alloc());
     let mut state = ShardState::start(rt.alloc(), 0, 1);

@@ -98,7 +98,7 @@ fn goes_so(alloc: Global, shards: usize, lines: &[&str], often: bool) -> Result<
     Ok(right)
 }
 
-/// Worlds of this many shards go by these transcripts, asked at each of the answers and at each one alone.
+/// Worlds of this many shards answer as these transcripts say, asked at each of the answers and at each one alone.
 pub fn go_so<R: Abort + AllocGlobal>(rt: &R, shards: usize, scripts: &[Script]) -> Result<(), Fail>
     requires { 0 < shards }
 {
