@@ -102,7 +102,9 @@ impl Group {
             → has_group (incs_of log) pg ≡ true → made_at (incs_of log) pg.pool ≡ epoch_of (incs_of log)
             → IsSilent log pg → IsGroupOf log pg result }
     {
-        let members = lies_at(map, &pg);
+        // Not `pg` itself, which the toolchain takes for moved.
+        let id = &pg;
+        let members = up_acting(map, *id);
         Group::begin_members(alloc, map, pg, members)
     }
 
@@ -115,7 +117,7 @@ impl Group {
             → IsGroupOf (log ++ entry.Inc inc ∷ []) pg self.new) }
         ensures err { OnErr result ((log : List Told) (pg : Id) → IsGroupOf log pg self.old → IsGroupOf log pg self.new) }
     {
-        let members = lies_at(after, &self.pg);
+        let members = up_acting(after, self.pg);
         let facts = primary_facts(before, self.primary());
         self.absorb_members(after, members, facts)
     }
@@ -151,7 +153,8 @@ impl Group {
     }
 
     /// Takes an epoch in which the group was clean: it marks the interval of that epoch, current or past, as one in which the
-    /// group may have gone read-write. It takes no memory. An epoch that is still to come, which no log takes, is left out.
+    /// group may have gone read-write. A past one of which the prior set isn't reckoned yet will have its mark when it is. It
+    /// takes no memory. An epoch that is still to come, which no log takes, is left out.
     fn take_clean(&mut self, epoch: Epoch)
         ensures intervals { (h : History Code) (told : List ℕ) → epoch ≤ self.old.intervals.last
             → IsIntervalsOf enough_of is_by_place h told self.old.intervals
@@ -167,7 +170,7 @@ impl Group {
     {
         if epoch <= self.intervals.last() {
             if let Some(place) = self.intervals.clean(epoch) {
-                self.reckoned.raise(place);
+                self.reckoned.index.raise(place);
             }
         }
     }
@@ -221,7 +224,7 @@ impl Group {
         self.infos.look(self.alloc, map, first, prefer)?;
         self.reports.look(self.alloc, map, first)?;
         if let Some(best) = self.infos.heard().best() {
-            self.reports.renew(best);
+            self.reports.logs.renew(best);
         }
         Ok(())
     }
@@ -265,9 +268,9 @@ impl Group {
             → AreHeard g heard.now → AreLogsHeard g self.now.reports.logs.of_members.items → IsFound g found) }
     {
         let Some(best) = heard.best() else {
-            return Ok(nothing_to_go_by(self.alloc, None));
+            return Ok(no_log_to_follow(self.alloc, None));
         };
-        match self.reports.log_of(best.member) {
+        match self.reports.logs.log_of(best.member) {
             Some(log) => self.found_by(map, current, log, best, heard),
             None => self.found_by(
                 map,
@@ -293,7 +296,7 @@ impl Group {
             → IsLogOf best.now (reported g best.now.member) log.now → IsFound g found) }
     {
         if !log.whole() {
-            return Ok(nothing_to_go_by(self.alloc, Some(best.member)));
+            return Ok(no_log_to_follow(self.alloc, Some(best.member)));
         }
         Ok(Found {
             best: Some(best.member),
@@ -328,7 +331,7 @@ impl Group {
     {
         let les = self.infos.les();
         let intervals = self.intervals.past(self.alloc)?;
-        let prior = self.reckoned.prior()?;
+        let prior = self.reckoned.index.prior()?;
         let waiting = is_waiting(prior.probe.as_slice(), heard);
         Ok(Needs {
             intervals: Seq::from_vec(intervals),
@@ -378,16 +381,8 @@ fn kind_of(map: &OsdMap, pg: &PgId) -> PoolKind
     map.pool(pg.pool).unwrap().kind
 }
 
-/// Where the group lies by the map.
-fn lies_at(map: &OsdMap, pg: &PgId) -> Membership
-    requires { HasGroup map.now pg.now }
-    ensures { (incs : List Incremental) → IsMapOf incs map.now → membership incs pg.now ≡ Some result }
-{
-    up_acting(map, *pg)
-}
-
-/// There is no copy to follow, or the log of this member isn't whole.
-fn nothing_to_go_by(alloc: Global, best: Option<Member>) -> Found
+/// There is no best copy, or it is that of this member, whose log isn't whole.
+fn no_log_to_follow(alloc: Global, best: Option<Member>) -> Found
     ensures best { result.best ≡ best }
     ensures whole { result.whole ≡ false }
     ensures states { result.states ≡ [] }

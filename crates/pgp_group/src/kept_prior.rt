@@ -1,21 +1,20 @@
 //! The prior set of a group, in running form.
 
-ghost use Rattle.std.specs.Prelude.{◌≡◌, ◌+◌, ◌≤◌, ℕ, Some, length, slice_get, IfOk, OnOk, OnErr};
+ghost use Rattle.std.specs.Prelude.{◌≡◌, ◌+◌, ◌≤◌, ℕ, Some, length, slice_get, OnOk, OnErr};
 ghost use Rattle.pgp_code.specs.AnyCode.{enough_of, is_by_place};
 ghost use Rattle.pgp_interval.specs.IntervalsOf.{IsIntervalsOf};
-ghost use Rattle.pgp_ids.specs.Past.{raised_at};
 ghost use Rattle.pgp_map.specs.MapOf.{IsMapOf};
 ghost use Rattle.pgp_group.specs.GroupLog.{GroupLog, cleans, incs};
 ghost use Rattle.pgp_group.specs.Heard.{les as les_of};
 ghost use Rattle.pgp_group.specs.KeptPrior.{KeepsPrior, IsAbreast, IsReckoned};
-ghost use Rattle.pgp_group.specs.Peering.{past as past_of, prior as prior_of};
+ghost use Rattle.pgp_group.specs.Peering.{past as past_of};
 
 use super::device_facts::{DeviceFacts, note_members, renew_all};
 use pgp_code::{AnyCode, Recoverable};
 use pgp_ids::{Epoch, Membership, Past};
 use pgp_interval::Intervals;
 use pgp_map::OsdMap;
-use pgp_prior::{Prior, PriorIndex};
+use pgp_prior::PriorIndex;
 use std::alloc::{AllocError, Global};
 
 /// Whom a group has to hear and for whom it waits, as of the last look.
@@ -24,7 +23,7 @@ use std::alloc::{AllocError, Global};
 /// about the past intervals that came since, and about those that have a device of which the map says something else.
 #[derive(Drop)]
 pub(crate) struct KeptPrior {
-    index: PriorIndex<AnyCode>,
+    pub(crate) index: PriorIndex<AnyCode>,
     /// What the map of the last look said of each device of the intervals that the index has.
     noted: Vec<DeviceFacts>,
     /// How many past intervals the index has: the first ones of the group.
@@ -60,22 +59,6 @@ impl KeptPrior {
         let (_, current) = intervals.current();
         self.renew(map, current, les);
         self.add_more(map, intervals)
-    }
-
-    /// Marks the past interval at this place as one in which the group may have gone read-write. One that isn't added yet
-    /// will have its mark when it is. It takes no memory.
-    pub(crate) fn raise(&mut self, place: usize)
-        ensures { (g after : GroupLog) → after.history.code ≡ g.history.code → past_of after ≡ raised_at place (past_of g)
-            → les_of g ≤ les_of after → KeepsPrior g self.old → KeepsPrior after self.new }
-    {
-        self.index.raise(place);
-    }
-
-    /// The prior set, as of the last look.
-    pub(crate) fn prior(&self) -> Result<Prior, AllocError>
-        ensures { IfOk result (λ found. (g : GroupLog) → IsReckoned g self.now.index → found ≡ prior_of g) }
-    {
-        self.index.prior()
     }
 
     /// Takes all that changed for the intervals that it has. It takes no memory.

@@ -6,17 +6,16 @@ ghost use Rattle.std.specs.Option.{option_copied};
 ghost use Rattle.pgp_ids.specs.Member.{is_same_member};
 ghost use Rattle.pgp_ids.specs.declared.log_entry.LogEntry.{LogEntry as Write};
 ghost use Rattle.pgp_ids.specs.declared.member.Member.{Member as Sender};
-ghost use Rattle.pgp_ids.specs.declared.report.Info.{Info as Sent};
 ghost use Rattle.pgp_ids.specs.declared.report.Report.{Report as Told};
 ghost use Rattle.pgp_missing.specs.Kept.{IsLogOf};
 ghost use Rattle.pgp_missing.specs.Log.{by_number};
 ghost use Rattle.pgp_group.specs.GroupLog.{GroupLog};
 ghost use Rattle.pgp_group.specs.KeptReports.{is_of, log_of, entries_of, counts, counts_by, AreLogsOf};
 ghost use Rattle.pgp_group.specs.Present.{IsPresent};
-ghost use Rattle.pgp_group.specs.declared.logs.CountedLog.{CountedLog as Kept};
+ghost use Rattle.pgp_group.specs.declared.logs.CountedLog.{CountedLog as LogOfMember};
 
 use super::counted::is_counted;
-use pgp_ids::{Epoch, Info, LogEntry, Member, Report, Version};
+use pgp_ids::{Epoch, Info, LogEntry, Member, Report};
 use pgp_map::OsdMap;
 use pgp_missing::MemberLog;
 use std::alloc::{AllocError, Global};
@@ -40,7 +39,7 @@ impl CountedLog {
         let mut first = CountedLog {
             member: report.member,
             stamp: report.stamp,
-            log: MemberLog::begin(alloc, &unknown(report)),
+            log: MemberLog::new(alloc),
         };
         first.add(report)?;
         Ok(first)
@@ -55,16 +54,6 @@ impl CountedLog {
     {
         self.stamp = report.stamp;
         add_all(&mut self.log, report.log.as_slice())
-    }
-
-    /// Lets the log follow this info, which sets its bounds.
-    fn renew(&mut self, info: &Info)
-        ensures member { self.new.member ≡ self.old.member }
-        ensures stamp { self.new.stamp ≡ self.old.stamp }
-        ensures bounds { (reported : List Write) → self.old.log.entries ≡ by_number reported
-            → IsLogOf info.now reported self.new.log }
-    {
-        self.log.renew(info);
     }
 }
 
@@ -141,11 +130,11 @@ impl Logs {
             → entries_of member (filter (λ log. test log.member log.stamp) self.new.of_members.items) ≡ by_number reported }
         ensures each { (test : Sender → ℕ → Bool) → All (λ log. test log.member log.stamp ≡ true) self.old.of_members.items
             → All (λ log. test log.member log.stamp ≡ true) self.new.of_members.items }
-        ensures bounds { (log : Kept) (reported : List Write) → entries_of info.now.member self.old.of_members.items ≡ by_number reported
+        ensures bounds { (log : LogOfMember) (reported : List Write) → entries_of info.now.member self.old.of_members.items ≡ by_number reported
             → log_of info.now.member self.new.of_members.items ≡ Some log → IsLogOf info.now reported log.log }
     {
         if let Some(place) = self.place_of(info.member) {
-            self.of_members[place].renew(info);
+            self.of_members[place].log.renew(info);
         }
     }
 
@@ -170,37 +159,10 @@ impl Logs {
     }
 }
 
-/// An info of the report's sender before one is known: by it the log has no number.
-fn unknown(report: &Report) -> Info
-    ensures { result.member ≡ report.now.member }
-{
-    Info {
-        pg: report.pg,
-        member: report.member,
-        stamp: report.stamp,
-        les: Epoch::new(0),
-        history_les: Epoch::new(0),
-        last_epoch_clean: Epoch::new(0),
-        last_update: no_write(),
-        log_tail: no_write(),
-        complete: false,
-    }
-}
-
-/// The version before the first write.
-fn no_write() -> Version
-    ensures { result ≡ record { epoch = 0; v = 0 } }
-{
-    Version {
-        epoch: Epoch::new(0),
-        v: 0,
-    }
-}
-
 /// Adds the entries in their order.
 fn add_all(log: &mut MemberLog, entries: &[LogEntry]) -> Result<(), AllocError>
-    ensures { OnOk result ((info : Sent) (reported : List Write)
-        → IsLogOf info reported log.old → IsLogOf info (reported ++ entries.now) log.new) }
+    ensures { OnOk result ((reported : List Write) → log.old.entries ≡ by_number reported
+        → log.new.entries ≡ by_number (reported ++ entries.now)) }
 {
     for entry in entries {
         log.add(entry)?;

@@ -1,21 +1,16 @@
 //! The reports of log entries of a group, and the logs of its members by them.
 
-ghost use Rattle.std.specs.Prelude.{◌≡◌, ◌≤◌, [], Some, length, drop, option_map, OnOk, OnErr};
-ghost use Rattle.std.specs.Option.{option_copied};
+ghost use Rattle.std.specs.Prelude.{◌≡◌, ◌≤◌, [], length, drop, OnOk, OnErr};
 ghost use Rattle.pgp_map.specs.Map.{epoch as epoch_of};
-ghost use Rattle.pgp_missing.specs.Kept.{IsLogOf};
 ghost use Rattle.pgp_group.specs.GroupLog.{GroupLog, incs, reports};
-ghost use Rattle.pgp_group.specs.Heard.{reported};
-ghost use Rattle.pgp_group.specs.KeptReports.{KeepsReports, IsReportedBy, AreCounted, AreLogsOf, log_of};
+ghost use Rattle.pgp_group.specs.KeptReports.{KeepsReports, IsReportedBy, AreCounted, AreLogsOf};
 ghost use Rattle.pgp_group.specs.Present.{IsPresent};
-ghost use Rattle.pgp_group.specs.declared.logs.CountedLog.{CountedLog as Kept};
 
 use super::copies::copy_of;
 use super::infos::is_ahead;
 use super::logs::Logs;
-use pgp_ids::{Epoch, Info, Member, Report};
+use pgp_ids::{Epoch, Report};
 use pgp_map::OsdMap;
-use pgp_missing::MemberLog;
 use std::alloc::{AllocError, Global};
 
 /// All reports of log entries of a group, and the logs of the members that have reports which count.
@@ -28,7 +23,7 @@ pub(crate) struct Reports {
     /// All reports, counted or not, in the order in which they came.
     all: Vec<Report>,
     /// By the reports that were looked at, the logs of the members.
-    logs: Logs,
+    pub(crate) logs: Logs,
     /// How many were looked at.
     seen: usize,
     /// Whether a report came before the epoch in which it says that it was sent. Such a report may begin to count later, so
@@ -66,13 +61,6 @@ impl Reports {
         Ok(())
     }
 
-    /// The log of this member as of the last look, where it has reports that count.
-    pub(crate) fn log_of(&self, member: Member) -> Option<&MemberLog>
-        ensures { option_copied result ≡ option_map (λ log. log.log) (log_of member self.now.logs.of_members.items) }
-    {
-        self.logs.log_of(member)
-    }
-
     /// Looks at the reports that came since the last look, and again at the logs that are kept, by the last map and the first
     /// epoch of the current interval. Then the logs are those of all reports that count. After an error all reports will be
     /// looked at again.
@@ -91,18 +79,6 @@ impl Reports {
         }
         self.logs.keep_counted(map, first);
         self.hear_unseen(alloc, map, first)
-    }
-
-    /// Lets the log of the member with this info follow it: the info sets the bounds.
-    pub(crate) fn renew(&mut self, info: &Info)
-        ensures logs { (g : GroupLog) → AreLogsOf g (reports g) self.old.logs.of_members.items
-            → AreLogsOf g (reports g) self.new.logs.of_members.items }
-        ensures bounds { (g : GroupLog) (log : Kept) → AreLogsOf g (reports g) self.old.logs.of_members.items
-            → log_of info.now.member self.new.logs.of_members.items ≡ Some log
-            → IsLogOf info.now (reported g info.now.member) log.log }
-        ensures kept { (g : GroupLog) → KeepsReports g self.old → KeepsReports g self.new }
-    {
-        self.logs.renew(info);
     }
 
     /// Adds the entries of the reports that weren't looked at and count to the logs, all of which count.

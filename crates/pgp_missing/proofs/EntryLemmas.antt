@@ -1,5 +1,5 @@
 -- Entries of a map by their numbers.
-use Rattle.std.proofs.Common.{◌≡◌, ℕ, List, [], ◌∷◌, false, ◌&&◌, nat_eq, nat_lt, nat_le, min, max, eqb-true, map, filter, refl, ap, sym, ◌∙◌, inl, inr, arith}
+use Rattle.std.proofs.Common.{◌≡◌, ◌≤◌, ℕ, List, [], ◌∷◌, true, false, ◌&&◌, ◌||◌, nat_eq, nat_lt, nat_le, min, eqb-true, map, filter, refl, ap, sym, ◌∙◌, inl, inr, arith}
 use Rattle.std.specs.List.{All}
 use Rattle.std.specs.List.Sorted.{IsStrictlySortedBy}
 use Rattle.std.specs.Map.{keys_of, lookup}
@@ -20,49 +20,44 @@ use Rattle.std.proofs.lemmas.Map.Iter.{rest_more}
 use Rattle.std.proofs.lemmas.Map.Keys.{sorted_tail}
 use Rattle.std.proofs.lemmas.Map.Lookups.{exact_unsigned, exact_bytes}
 use Rattle.std.proofs.lemmas.Map.Views.{All-after_first, any-filter_same}
-use Rattle.pgp_ids.specs.Version.{is_same_version}
+use Rattle.pgp_ids.specs.Version.{is_older, is_same_version}
 use Rattle.pgp_ids.specs.declared.log_entry.LogEntry.{LogEntry}
+use Rattle.pgp_ids.specs.declared.peer.PeerState.{PeerState}
+use Rattle.pgp_ids.specs.declared.peer.PeerState.TheVariants.{Missing}
 use Rattle.pgp_ids.specs.declared.report.Info.{Info}
 use Rattle.pgp_ids.specs.declared.version.Version.{Version}
 use Rattle.pgp_missing.specs.Last.{put_in}
-use Rattle.pgp_missing.specs.Log.{number_of, is_in_log, within, has_version}
-use Rattle.pgp_missing.specs.Missing.{entries_above, object_of, missing_by, is_modify}
-use Rattle.pgp_missing.specs.Kept.{numbered, named}
+use Rattle.pgp_missing.specs.Log.{number_of, log_of, has_version}
+use Rattle.pgp_missing.specs.Missing.{entries_above, object_of, by_object, missing_by, is_modify, missing_above, peer_state}
+use Rattle.pgp_missing.specs.Kept.{KeptLog, IsLogOf, between, numbered, named}
 use Rattle.pgp_missing.specs.declared.entries.Write.{Write}
 use Rattle.pgp_missing.specs.declared.entries.Newest.{Newest}
 use Rattle.pgp_missing.proofs.LastLemmas.{map-insert_entry}
 use Rattle.pgp_missing.proofs.Lists.{filter-both, map-filter-map}
 
--- ---- the entries of a log above a number
+-- ---- the entries between two numbers
 
--- the numbers of the log above a number lie between it or the log's tail, the greater of these, and the log's end
-between : (low tail last before v : ℕ) → before ≡ min (max low tail) last
-    → range_contains nat_cmp (Excluded before) (Included last) v ≡ ((nat_lt tail v && nat_le v last) && nat_lt low v)
-between low tail last before v is = grind (arith, nat_tests)
+-- a range that begins at its end has none of them, as one that begins after it
+in_range : (above last v : ℕ) → range_contains nat_cmp (Excluded (min above last)) (Included last) v ≡ (nat_lt above v && nat_le v last)
+in_range above last v = grind (arith, nat_tests)
 
-pub above-between : (low : ℕ) (info : Info) (before : ℕ) → before ≡ min (max low info.log_tail.v) info.last_update.v → (es : List (ℕ × Write))
-    → map numbered (entries_between nat_cmp (Excluded before) (Included info.last_update.v) es) ≡ entries_above low (within info (map numbered es))
-above-between low info before is es =
-    let above = λ (entry : LogEntry). is_in_log info entry.version.v && nat_lt low entry.version.v in
-    ap (map numbered) (filter_agree _ (λ e. above (numbered e)) (λ e. between low info.log_tail.v info.last_update.v before e.0 is) es)
-    ∙ sym (filter-both _ _ (map numbered es) ∙ sym (map-id _) ∙ map-filter-map (λ entry. entry) above numbered es)
+pub ranged : (above last : ℕ) (es : List (ℕ × Write))
+    → map numbered (entries_between nat_cmp (Excluded (min above last)) (Included last) es) ≡ between above last (map numbered es)
+ranged above last es =
+    ap (map numbered) (filter_agree _ (λ e. nat_lt above (numbered e).version.v && nat_le (numbered e).version.v last) (λ e. in_range above last e.0) es)
+    ∙ sym (sym (map-id _) ∙ map-filter-map (λ entry. entry) (λ (entry : LogEntry). nat_lt above entry.version.v && nat_le entry.version.v last) numbered es)
 
-pub ruleset above_laws = (nat_tests, above-between)
-
--- all entries of a log are above its tail
-pub within_above : (info : Info) (entries : List LogEntry) → entries_above info.log_tail.v (within info entries) ≡ within info entries
-within_above info entries =
-    filter-both _ _ entries
-    ∙ filter_agree (λ e. is_in_log info e.version.v && nat_lt info.log_tail.v e.version.v) (λ e. is_in_log info e.version.v)
-    (λ e. grind (arith, nat_tests)) entries
+pub ruleset between_laws = (nat_tests, ranged)
 
 -- ---- whether an entry has a version
 
--- the log has it where its number is one of the log's and an entry has it
-pub has_version-within : (info : Info) (version : Version) (entries : List LogEntry) → has_version version (within info entries) ≡ (is_in_log info version.v && has_version version entries)
-has_version-within info version =
-    any-filter_same (λ e. is_same_version e.version version) (λ e. is_in_log info e.version.v) (is_in_log info version.v)
-    (λ e same. ap (is_in_log info) (eqb-true e.version.v version.v (and_parts (nat_eq e.version.epoch version.epoch) _ same).1))
+-- one between two numbers has it where its number is between these and some entry has it
+pub has_version-between : (above last : ℕ) (version : Version) (entries : List LogEntry)
+    → has_version version (between above last entries) ≡ ((nat_lt above version.v && nat_le version.v last) && has_version version entries)
+has_version-between above last version =
+    let inside = λ (v : ℕ). nat_lt above v && nat_le v last in
+    any-filter_same (λ e. is_same_version e.version version) (λ e. inside e.version.v) (inside version.v)
+    (λ e same. ap inside (eqb-true e.version.v version.v (and_parts (nat_eq e.version.epoch version.epoch) _ same).1))
 
 module _ (version : Version) where
   none_after : (es : List (ℕ × Write)) → All (λ k. nat_cmp version.v k ≡ Less) (keys_of es) → has_version version (map numbered es) ≡ false
@@ -82,7 +77,7 @@ module _ (version : Version) where
     | inr other ↦ grind (arith, nat_tests, other.1, has_version-lookup es (sorted_tail nat_cmp e.0 (keys_of es) ordered))
   ]
 
-pub ruleset version_laws = (nat_tests, has_version-within, has_version-lookup)
+pub ruleset version_laws = (nat_tests, has_version-between, has_version-lookup)
 
 -- how many entries there are
 pub ruleset full_laws = (nat_tests, length-filter, count_by-le-length, length-map)
@@ -102,3 +97,32 @@ pub ruleset newest_laws = (rest_more, put_named)
 pub missing_named : (es : List (List ℕ × Newest))
     → map missing_by (filter (λ e. is_modify e.change) (map named es)) ≡ map (λ e. missing_by (named e)) (filter (λ e. is_modify e.1.change) es)
 missing_named = map-filter-map missing_by (λ e. is_modify e.change) named
+
+-- ---- what a copy lacks by the entries above its last write
+
+pub above_between : (tail last above : ℕ) (entries : List LogEntry) → tail ≤ above
+    → entries_above above (between tail last entries) ≡ between above last entries
+above_between tail last above entries more =
+    filter-both _ _ entries
+    ∙ filter_agree (λ e. (nat_lt tail e.version.v && nat_le e.version.v last) && nat_lt above e.version.v)
+    (λ e. nat_lt above e.version.v && nat_le e.version.v last) (λ e. grind (arith, nat_tests)) entries
+
+pub ruleset missing_laws = (arith, missing_named, above_between)
+
+-- by a log that the member's last write is a version of, or at whose tail it stands
+pub missing_after : (info : Info) (reported : List LogEntry) (log : KeptLog) → IsLogOf info reported log → (peer : Info)
+    → peer.complete ≡ true → is_older peer.last_update log.log_tail ≡ false
+    → (is_same_version peer.last_update log.log_tail || has_version peer.last_update (between log.log_tail.v log.last_update.v log.entries)) ≡ true
+    → Missing (missing_above peer.last_update.v (between peer.last_update.v log.last_update.v log.entries)) ≡ peer_state info reported peer
+missing_after info reported log is peer complete valid ended =
+    let last = peer.last_update in
+    let inside = has_version-between log.log_tail.v log.last_update.v last log.entries in
+    let later : log.log_tail.v ≤ last.v = grind (arith, nat_tests, ended, inside) in
+    let same = above_between log.log_tail.v log.last_update.v last.v log.entries later in
+    let own = above_between last.v log.last_update.v last.v log.entries (omega arith) in
+    let of : List LogEntry → PeerState = λ entries. Missing (map missing_by (filter (λ e. is_modify e.change) (by_object entries))) in
+    let valid' : is_older last info.log_tail ≡ false = ap (is_older last) (sym is.from_tail) ∙ valid in
+    let ended' : (is_same_version last info.log_tail || has_version last (log_of info reported)) ≡ true =
+    sym (λ i. is_same_version last (is.from_tail i) || has_version last (between (is.from_tail i).v (is.to_last i).v (is.of_reported i))) ∙ ended in
+    let state : peer_state info reported peer ≡ Missing (missing_above last.v (log_of info reported)) = rw (complete, valid', ended') refl in
+    ap of (own ∙ sym same ∙ (λ i. entries_above last.v (between (is.from_tail i).v (is.to_last i).v (is.of_reported i)))) ∙ sym state

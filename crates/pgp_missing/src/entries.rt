@@ -1,13 +1,13 @@
 //! Log entries by their numbers.
 
-ghost use Rattle.std.specs.Prelude.{◌≡◌, List, [], length, map, filter, nat_eq, IfOk, OnOk, OnErr};
+ghost use Rattle.std.specs.Prelude.{◌≡◌, ◌-◌, [], length, map, nat_eq, IfOk, OnOk, OnErr};
 ghost use Rattle.std.specs.Ordering.{nat_cmp};
 ghost use Rattle.pgp_missing.specs.Last.{put_in};
-ghost use Rattle.pgp_missing.specs.Log.{number_of, is_in_log, within, is_full, has_version, is_rising_from};
-ghost use Rattle.pgp_missing.specs.Missing.{entries_above, by_object, is_modify, missing_by, missing_above};
-ghost use Rattle.pgp_missing.specs.Kept.{numbered, named};
+ghost use Rattle.pgp_missing.specs.Log.{number_of, has_version, is_rising_from};
+ghost use Rattle.pgp_missing.specs.Missing.{by_object, missing_above};
+ghost use Rattle.pgp_missing.specs.Kept.{between, numbered, named};
 
-use pgp_ids::{Change, Epoch, Info, LogEntry, MissingObject, ObjectName, Seq, Version};
+use pgp_ids::{Change, Epoch, LogEntry, MissingObject, ObjectName, Seq, Version};
 use std::alloc::{AllocError, Global};
 use std::collections::BTreeMap;
 use std::collections::btree_map::Range;
@@ -74,42 +74,27 @@ impl Entries {
         Ok(())
     }
 
-    /// The entries of the log of this info with greater numbers than this one, in the order of their numbers. It looks at
-    /// these alone.
-    #[tactic(auto, using(crate::proofs::EntryLemmas::above_laws))]
-    fn above(&self, info: &Info, number: u32) -> Range<'_, u32, Write>
-        ensures { map numbered result ≡ entries_above number (within info.now self.now) }
+    /// The entries with numbers above the first one and up to the last one, in their order. It looks at these alone.
+    #[tactic(auto, using(crate::proofs::EntryLemmas::between_laws))]
+    fn between(&self, above: u32, last: u32) -> Range<'_, u32, Write>
+        ensures { map numbered result ≡ between above last self.now }
     {
-        let last = info.last_update.v;
-        let before = number.max(info.log_tail.v).min(last);
+        let above = above.min(last);
         self.by_number
-            .range((Bound::Excluded(before), Bound::Included(last)))
+            .range((Bound::Excluded(above), Bound::Included(last)))
     }
 
-    /// The entries of the log of this info, in the order of their numbers.
-    #[tactic(auto, using(crate::proofs::EntryLemmas::within_above))]
-    fn of_log(&self, info: &Info) -> Range<'_, u32, Write>
-        ensures { map numbered result ≡ within info.now self.now }
-    {
-        self.above(info, info.log_tail.v)
-    }
-
-    /// There are as many entries within the log of this info as it has numbers. Where fewer are kept, inside and outside of
-    /// it, it looks at none.
+    /// There are as many entries between these numbers as there are numbers. Where fewer are kept, inside and outside, it
+    /// looks at none.
     #[tactic(auto, using(crate::proofs::EntryLemmas::full_laws))]
-    pub(crate) fn is_full(&self, info: &Info) -> bool
-        ensures { result ≡ is_full info.now (within info.now self.now) }
+    pub(crate) fn is_full(&self, above: u32, last: u32) -> bool
+        ensures { result ≡ nat_eq (length (between above last self.now)) (last - above) }
     {
-        let numbers = info.last_update.v.saturating_sub(info.log_tail.v);
-        numbers as usize <= self.by_number.len() && self.has_as_many(info, numbers)
-    }
-
-    /// There are this many entries within the log of this info.
-    fn has_as_many(&self, info: &Info, count: u32) -> bool
-        ensures { result ≡ nat_eq (length (within info.now self.now)) count }
-    {
-        let mut lacking = count;
-        for _ in self.of_log(info) {
+        let mut lacking = last.saturating_sub(above);
+        if lacking as usize > self.by_number.len() {
+            return false;
+        }
+        for _ in self.between(above, last) {
             if lacking == 0 {
                 return false;
             }
@@ -118,12 +103,12 @@ impl Entries {
         lacking == 0
     }
 
-    /// Some entry within the log of this info has the version.
+    /// Some entry between these numbers has the version.
     #[tactic(auto, using(crate::proofs::EntryLemmas::version_laws))]
-    pub(crate) fn has_version(&self, info: &Info, version: Version) -> bool
-        ensures { result ≡ has_version version (within info.now self.now) }
+    pub(crate) fn has_version(&self, above: u32, last: u32, version: Version) -> bool
+        ensures { result ≡ has_version version (between above last self.now) }
     {
-        if !is_in_log(info, version.v) {
+        if version.v <= above || last < version.v {
             return false;
         }
         match self.by_number.get(&version.v) {
@@ -132,48 +117,56 @@ impl Entries {
         }
     }
 
-    /// The epochs within the log of this info don't fall, in the order of the numbers, from that of its log_tail on.
-    pub(crate) fn is_rising(&self, info: &Info) -> bool
-        ensures { result ≡ is_rising_from info.now.log_tail.epoch (within info.now self.now) }
+    /// The epochs of the entries after this version and up to the last number don't fall, in the order of the numbers, from
+    /// that of the version on.
+    pub(crate) fn is_rising(&self, after: Version, last: u32) -> bool
+        ensures { result ≡ is_rising_from after.epoch (between after.v last self.now) }
     {
-        let mut last = info.log_tail.epoch;
-        for (_, write) in self.of_log(info) {
-            if write.epoch < last {
+        let mut epoch = after.epoch;
+        for (_, write) in self.between(after.v, last) {
+            if write.epoch < epoch {
                 return false;
             }
-            last = write.epoch;
+            epoch = write.epoch;
         }
         true
     }
 
-    /// The objects that a copy lacks by the log of this info which has the writes up to this number, in ascending order of
-    /// their names.
-    #[tactic(auto, using(crate::proofs::EntryLemmas::missing_named))]
+    /// The objects that a copy with the writes up to the first number lacks, by the entries up to the last one, in ascending
+    /// order of their names.
+    #[tactic(auto, using(crate::proofs::EntryLemmas::missing_laws))]
     pub(crate) fn missing_above(
         &self,
         alloc: Global,
-        info: &Info,
-        number: u32,
+        above: u32,
+        last: u32,
     ) -> Result<Seq<MissingObject>, AllocError>
-        ensures { IfOk result (λ objects. objects ≡ missing_above number (within info.now self.now)) }
+        ensures { IfOk result (λ objects. objects ≡ missing_above above (between above last self.now)) }
     {
-        let newest = self.newest_above(alloc, info, number)?;
-        Ok(Seq::from_vec(modified(alloc, newest)?))
+        let modified = self
+            .newest(alloc, above, last)?
+            .into_iter()
+            .filter(|(_, newest)| matches!(newest.change, Change::Modify))
+            .map(|(object, newest)| MissingObject {
+                object,
+                version: newest.version,
+            })
+            .collect(alloc)?;
+        Ok(Seq::from_vec(modified))
     }
 
-    /// What the last entry of each object says, of those within the log of this info above the number.
+    /// What the last entry of each object says, of those between these numbers.
     #[tactic(auto, using(crate::proofs::EntryLemmas::newest_laws))]
-    fn newest_above(
+    fn newest(
         &self,
         alloc: Global,
-        info: &Info,
         above: u32,
+        last: u32,
     ) -> Result<BTreeMap<ObjectName, Newest>, AllocError>
-        ensures { IfOk result (λ newest.
-            map named newest.entries ≡ by_object (entries_above above (within info.now self.now))) }
+        ensures { IfOk result (λ newest. map named newest.entries ≡ by_object (between above last self.now)) }
     {
         let mut newest = BTreeMap::new(alloc);
-        for (number, write) in self.above(info, above) {
+        for (number, write) in self.between(above, last) {
             let version = Version {
                 epoch: write.epoch,
                 v: *number,
@@ -183,29 +176,4 @@ impl Entries {
         }
         Ok(newest)
     }
-}
-
-/// The number is one of the log of this info.
-fn is_in_log(info: &Info, number: u32) -> bool
-    ensures { result ≡ is_in_log info.now number }
-{
-    info.log_tail.v < number && number <= info.last_update.v
-}
-
-/// The objects whose last entry is a modify, with its version.
-fn modified(
-    alloc: Global,
-    newest: BTreeMap<ObjectName, Newest>,
-) -> Result<Vec<MissingObject>, AllocError>
-    ensures { IfOk result (λ objects.
-        objects.items ≡ map (λ e. missing_by (named e)) (filter (λ e. is_modify e.1.change) newest.entries)) }
-{
-    newest
-        .into_iter()
-        .filter(|(_, last)| matches!(last.change, Change::Modify))
-        .map(|(object, last)| MissingObject {
-            object,
-            version: last.version,
-        })
-        .collect(alloc)
 }

@@ -3,21 +3,24 @@
 ghost use Rattle.std.specs.Prelude.{◌≡◌, List, [], ◌∷◌, ◌++◌, true, IfOk, OnOk, OnErr};
 ghost use Rattle.pgp_ids.specs.declared.log_entry.LogEntry.{LogEntry};
 ghost use Rattle.pgp_ids.specs.declared.report.Info.{Info};
-ghost use Rattle.pgp_missing.specs.Log.{within, are_whole, is_whole};
-ghost use Rattle.pgp_missing.specs.Missing.{peer_state_by, peer_state};
 ghost use Rattle.pgp_missing.specs.Kept.{IsLogOf};
+ghost use Rattle.pgp_missing.specs.Log.{by_number, is_whole};
+ghost use Rattle.pgp_missing.specs.Missing.{peer_state};
 
 use super::entries::Entries;
-use pgp_ids::{Info, LogEntry, PeerState};
+use pgp_ids::{Epoch, Info, LogEntry, PeerState, Version};
 use std::alloc::{AllocError, Global};
 use std::marker::Model;
 
-/// The log of a member, by its info and the entries that it reported.
+/// The log of a member, by the bounds that its info sets and the entries that it reported.
 ///
 /// It keeps the last entry of each number that was ever reported, also outside of the log, whose bounds another info may
 /// change. A log may span 2^32 numbers: memory depends on the entries that were reported, and time on those within the log.
 pub struct MemberLog {
-    info: Info,
+    /// The version before the first write of the log.
+    log_tail: Version,
+    /// The version of the last write of the log.
+    last_update: Version,
     /// All entries that were reported, by their numbers.
     entries: Entries,
 }
@@ -26,7 +29,8 @@ pub struct MemberLog {
 impl Drop for MemberLog {
     fn drop(self) {
         let MemberLog {
-            info: _,
+            log_tail: _,
+            last_update: _,
             entries: _,
         } = self;
     }
@@ -37,16 +41,33 @@ impl Model for MemberLog {
 
     ghost Value = { KeptLog };
 
-    ghost view = { λ l. record { info = l.info; entries = l.entries } };
+    ghost view = { λ l. record { log_tail = l.log_tail; last_update = l.last_update; entries = l.entries } };
 }
 
 impl MemberLog {
+    /// The log of a member of which nothing is known yet: it ends before the first write. It takes no memory.
+    pub fn new(alloc: Global) -> Self
+        ensures { result ≡ record { log_tail = record { epoch = 0; v = 0 }; last_update = record { epoch = 0; v = 0 }; entries = [] } }
+    {
+        let log_tail = Version {
+            epoch: Epoch::new(0),
+            v: 0,
+        };
+        let last_update = log_tail;
+        MemberLog {
+            log_tail,
+            last_update,
+            entries: Entries::new(alloc),
+        }
+    }
+
     /// The log of the member with this info, of which no entry was reported yet. It takes no memory.
     pub fn begin(alloc: Global, info: &Info) -> Self
         ensures { IsLogOf info.now [] result }
     {
         MemberLog {
-            info: *info,
+            log_tail: info.log_tail,
+            last_update: info.last_update,
             entries: Entries::new(alloc),
         }
     }
@@ -56,6 +77,8 @@ impl MemberLog {
     pub fn add(&mut self, entry: &LogEntry) -> Result<(), AllocError>
         ensures ok { OnOk result ((info : Info) (reported : List LogEntry)
             → IsLogOf info reported self.old → IsLogOf info (reported ++ entry.now ∷ []) self.new) }
+        ensures entries { OnOk result ((reported : List LogEntry) → self.old.entries ≡ by_number reported
+            → self.new.entries ≡ by_number (reported ++ entry.now ∷ [])) }
         ensures err { OnErr result (self.new ≡ self.old) }
     {
         self.entries.put(entry)
@@ -63,10 +86,13 @@ impl MemberLog {
 
     /// Takes the info that the member sent last, which sets the bounds of its log. The entries that were added stay.
     pub fn renew(&mut self, info: &Info)
-        ensures { (before : Info) (reported : List LogEntry)
+        ensures log { (before : Info) (reported : List LogEntry)
             → IsLogOf before reported self.old → IsLogOf info.now reported self.new }
+        ensures bounds { (reported : List LogEntry) → self.old.entries ≡ by_number reported
+            → IsLogOf info.now reported self.new }
     {
-        self.info = *info;
+        self.log_tail = info.log_tail;
+        self.last_update = info.last_update;
     }
 
     /// The log is empty, or each of its numbers has an entry, the last is that of the member's last write, and epochs
@@ -75,7 +101,13 @@ impl MemberLog {
         ensures { (info : Info) (reported : List LogEntry)
             → IsLogOf info reported self.now → result ≡ is_whole info reported }
     {
-        self.is_whole_by_entries()
+        let (tail, last) = (self.log_tail, self.last_update);
+        if last == tail {
+            return true;
+        }
+        self.entries.is_full(tail.v, last.v)
+            && self.entries.has_version(tail.v, last.v, last)
+            && self.entries.is_rising(tail, last.v)
     }
 
     /// How the copy of the member with this info compares with that of the log's member. The log has to be whole.
@@ -85,39 +117,15 @@ impl MemberLog {
         ensures { IfOk result (λ state. (info : Info) (reported : List LogEntry)
             → IsLogOf info reported self.now → state ≡ peer_state info reported peer.now) }
     {
-        self.state_by_entries(alloc, peer)
-    }
-
-    /// The log is whole, by the entries that are kept.
-    fn is_whole_by_entries(&self) -> bool
-        ensures { result ≡ are_whole self.now.info (within self.now.info self.now.entries) }
-    {
-        if self.info.last_update == self.info.log_tail {
-            return true;
-        }
-        if !self.entries.is_full(&self.info) {
-            return false;
-        }
-        if !self.entries.has_version(&self.info, self.info.last_update) {
-            return false;
-        }
-        self.entries.is_rising(&self.info)
-    }
-
-    /// The state of the peer, by the entries that are kept.
-    fn state_by_entries(&self, alloc: Global, peer: &Info) -> Result<PeerState, AllocError>
-        ensures { IfOk result (λ state.
-            state ≡ peer_state_by self.now.info (within self.now.info self.now.entries) peer.now) }
-    {
+        let (tail, end) = (self.log_tail, self.last_update.v);
         let last = peer.last_update;
-        let tail = self.info.log_tail;
         if !peer.complete || last.is_older_than(tail) {
             return Ok(PeerState::Backfill);
         }
-        if last != tail && !self.entries.has_version(&self.info, last) {
+        if last != tail && !self.entries.has_version(tail.v, end, last) {
             return Ok(PeerState::Diverged);
         }
-        let objects = self.entries.missing_above(alloc, &self.info, last.v)?;
+        let objects = self.entries.missing_above(alloc, last.v, end)?;
         Ok(PeerState::Missing(objects))
     }
 }

@@ -1,5 +1,5 @@
 use Rattle.pgp_group.proofs.Common.{◌≡◌, ℕ, [], ◌∷◌, ◌++◌, append-nil, ap, sym, ◌∙◌, enough_of, is_by_place, AnyCode, History, Running, IsIntervalsOf, past_intervals, GroupLog, cleans, past, arith}
-use Rattle.pgp_group.proofs.PriorLemmas.{KeepsPrior-grown}
+use Rattle.pgp_group.proofs.PriorLemmas.{KeepsPrior-grown, KeepsPrior-raised}
 use Rattle.pgp_group.proofs.group.Group.take_clean.Goals as goal
 
 -- the past intervals with one epoch more are those that are kept now
@@ -9,8 +9,8 @@ taken g after epoch now same told is = (λ i. past_intervals enough_of is_by_pla
 
 pub returns-in-Some-clause-prior : goal.returns-in-Some-clause-prior
 returns-in-Some-clause-prior c = λ g after known are same told rises is.
-    c.raise.ensures g after (ap (λ (h : History AnyCode). h.code) same)
-    (grind (arith, taken g after c.args.epoch c.clean.new.self same told (c.clean.ensures.history g.history (cleans g) are))) rises is
+    KeepsPrior-raised g after c.args.self.now.reckoned c.raise.new.self c.in-Some.place (ap (λ (h : History AnyCode). h.code) same)
+    (grind (arith, taken g after c.args.epoch c.clean.new.self same told (c.clean.ensures.history g.history (cleans g) are))) rises c.raise.ensures is
 
 pub returns-in_default-clause-prior : goal.returns-in_default-clause-prior
 returns-in_default-clause-prior c = λ g after known are same told rises is.
