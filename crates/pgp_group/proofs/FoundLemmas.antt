@@ -22,9 +22,9 @@ found-none g found is best' whole states = found_with g found None None is refl 
 pub states-whole : (g : GroupLog) (info : Info) → best g ≡ Some info → has_whole_log g info ≡ true → peer_states g ≡ map (peer_missing g info) (peers g info)
 states-whole g info is log = grind (arith, nat_tests)
 
--- the members of up and acting, by the same code and membership
-pub present-is : (g : GroupLog) (c : AnyCode) (current : Membership) → c ≡ g.history.code → current ≡ g.history.current → ascending is_before (members_of (is_by_place c) current.up ++ members_of (is_by_place c) current.acting) ≡ present_members g
-present-is g c current code_is current_is = λ i. ascending is_before (members_of (is_by_place (code_is i)) (current_is i).up ++ members_of (is_by_place (code_is i)) (current_is i).acting)
+-- the members of up and acting, by the same place rule and membership
+pub present-is : (g : GroupLog) (by_place : Bool) (current : Membership) → by_place ≡ is_by_place g.history.code → current ≡ g.history.current → ascending is_before (members_of by_place current.up ++ members_of by_place current.acting) ≡ present_members g
+present-is g by_place current by_is current_is = λ i. ascending is_before (members_of (by_is i) (current_is i).up ++ members_of (by_is i) (current_is i).acting)
 
 -- the preference of the pool, by the place rule of its code and the member that leads
 pub prefer-is : (g : GroupLog) (by_place : Bool) (primary : Option Member) (current : Membership) → by_place ≡ is_by_place g.history.code → current ≡ g.history.current → primary ≡ slice_get (members_of by_place current.acting) 0

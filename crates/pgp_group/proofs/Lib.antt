@@ -12,6 +12,7 @@ pub mod LaterLemmas
 pub mod UntoldLemmas
 pub mod SameViewLemmas
 pub mod UntouchedLemmas
+pub mod PresentLemmas
 pub mod ReachingLemmas
 pub mod InterleavingLemmas
 pub mod InfosLemmas

@@ -34,7 +34,7 @@ module _ (g after : GroupLog) (same : AreAlike g after) where
 
   states-same : peer_states after ≡ peer_states g
   states-same =
-      let present = present-is g after.history.code after.history.current same.code same.current in
+      let present = present-is g (is_by_place after.history.code) after.history.current (ap is_by_place same.code) same.current in
       λ i. option_map_or (λ best. map (compared (same.reported best.member i) best)
       (filter_map (λ member. same.heard member i) (filter (λ member. not (is_same_member member best.member)) (present i))))
       (whole_best-same i) []

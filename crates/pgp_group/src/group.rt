@@ -56,9 +56,10 @@ use pgp_ids::{
 };
 use pgp_info::{Best, Preference};
 use pgp_interval::Intervals;
+use pgp_lists::insert_in_order;
 use pgp_map::OsdMap;
 use pgp_missing::MemberLog;
-use pgp_prior::prior;
+use pgp_prior::members_of;
 use pgp_sets::up_acting;
 use std::alloc::{AllocError, Global};
 
@@ -243,7 +244,7 @@ impl Group {
             → length g.log ≡ count → view_of g ≡ view) }
     {
         let heard = self.infos.heard();
-        let found = self.found(map, &current, heard)?;
+        let found = self.found(&current, heard)?;
         let needs = self.needs(heard)?;
         let causes = self.causes(map, first, &current, &found, &needs);
         Ok(seen(
@@ -258,12 +259,7 @@ impl Group {
     }
 
     /// The best copy of those that were heard, and the states of the others.
-    fn found(
-        &self,
-        map: &OsdMap,
-        current: &Membership,
-        heard: &Best<Preference>,
-    ) -> Result<Found, AllocError>
+    fn found(&self, current: &Membership, heard: &Best<Preference>) -> Result<Found, AllocError>
         ensures { IfOk result (λ found. (g : GroupLog) → Keeps g self.now → current.now ≡ g.history.current
             → AreHeard g heard.now → AreLogsHeard g self.now.reports.logs.of_members.items → IsFound g found) }
     {
@@ -271,21 +267,17 @@ impl Group {
             return Ok(no_log_to_follow(self.alloc, None));
         };
         match self.reports.logs.log_of(best.member) {
-            Some(log) => self.found_by(map, current, log, best, heard),
-            None => self.found_by(
-                map,
-                current,
-                &MemberLog::begin(self.alloc, best),
-                best,
-                heard,
-            ),
+            Some(log) => self.found_by(current, log, best, heard),
+            None => {
+                let empty = MemberLog::begin(self.alloc, best);
+                self.found_by(current, &empty, best, heard)
+            }
         }
     }
 
     /// The best copy is that of the member with this info and this log; where the log is whole, the states of the others.
     fn found_by(
         &self,
-        map: &OsdMap,
         current: &Membership,
         log: &MemberLog,
         best: &Info,
@@ -301,14 +293,13 @@ impl Group {
         Ok(Found {
             best: Some(best.member),
             whole: true,
-            states: self.states(map, current, log, best.member, heard)?,
+            states: self.states(current, log, best.member, heard)?,
         })
     }
 
     /// The states of the members of up and acting that were heard, except for the best one, by its log, which is whole.
     fn states(
         &self,
-        map: &OsdMap,
         current: &Membership,
         log: &MemberLog,
         best: Member,
@@ -319,7 +310,8 @@ impl Group {
             → AreHeard g heard.now → best_of g ≡ Some info → info.member ≡ best
             → IsLogOf info (reported g info.member) log.now → states ≡ peer_states g) }
     {
-        let members = present_members(self.alloc, self.intervals.code(), map, current)?;
+        let by_place = self.intervals.code().by_place();
+        let members = present_members(self.alloc, by_place, current)?;
         let states = states(self.alloc, log, best, members.as_slice(), heard)?;
         Ok(Seq::from_vec(states))
     }
@@ -394,17 +386,21 @@ fn no_log_to_follow(alloc: Global, best: Option<Member>) -> Found
     }
 }
 
-/// The members of up and acting, in ascending order: those that a group with no past has to hear.
+/// The members of up and acting, in ascending order, each once.
 fn present_members(
     alloc: Global,
-    code: &AnyCode,
-    map: &OsdMap,
+    by_place: bool,
     current: &Membership,
-) -> Result<Seq<Member>, AllocError>
-    ensures { IfOk result (λ members. members ≡ ascending is_before
-        (members_of (is_by_place code.now) current.now.up ++ members_of (is_by_place code.now) current.now.acting)) }
+) -> Result<Vec<Member>, AllocError>
+    ensures { IfOk result (λ members. members.items ≡ ascending is_before
+        (members_of by_place current.now.up ++ members_of by_place current.now.acting)) }
 {
-    Ok(prior(alloc, code, &[], current, Epoch::new(0), map)?.probe)
+    let mut members = Vec::new(alloc);
+    let up = members_of(by_place, &current.up);
+    for member in up.chain(members_of(by_place, &current.acting)) {
+        insert_in_order(&mut members, member)?;
+    }
+    Ok(members)
 }
 
 /// The view that is made of these parts.
