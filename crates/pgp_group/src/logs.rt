@@ -15,7 +15,7 @@ ghost use Rattle.pgp_group.specs.Present.{IsPresent};
 ghost use Rattle.pgp_group.specs.declared.logs.CountedLog.{CountedLog as LogOfMember};
 
 use super::counted::is_counted;
-use pgp_ids::{Epoch, Info, LogEntry, Member, Report};
+use pgp_ids::{Epoch, Info, Member, Report};
 use pgp_map::OsdMap;
 use pgp_missing::MemberLog;
 use std::alloc::{AllocError, Global};
@@ -53,7 +53,11 @@ impl CountedLog {
             → self.new.log.entries ≡ by_number (reported ++ report.now.log)) }
     {
         self.stamp = report.stamp;
-        add_all(&mut self.log, report.log.as_slice())
+        let entries = report.log.as_slice();
+        for entry in entries {
+            self.log.add(entry)?;
+        }
+        Ok(())
     }
 }
 
@@ -157,15 +161,4 @@ impl Logs {
             .iter()
             .position(|log| log.member == member)
     }
-}
-
-/// Adds the entries in their order.
-fn add_all(log: &mut MemberLog, entries: &[LogEntry]) -> Result<(), AllocError>
-    ensures { OnOk result ((reported : List Write) → log.old.entries ≡ by_number reported
-        → log.new.entries ≡ by_number (reported ++ entries.now)) }
-{
-    for entry in entries {
-        log.add(entry)?;
-    }
-    Ok(())
 }
