@@ -1,6 +1,5 @@
 -- The answer to a line from what its buffer holds.
-use Rattle.std.proofs.Common.{◌≡◌, ℕ, ◌<◌, ◌≤◌, List, [], ◌∷◌, ◌++◌, Bool, ◌&&◌, not, nat_le, Some, None, true, false, length, nat_lt, refl, sym, ◌∙◌, subst, append-nil, arith}
-use Rattle.std.proofs.lemmas.Bool.{and_parts, not-true}
+use Rattle.std.proofs.Common.{◌≡◌, ℕ, ◌<◌, ◌≤◌, List, [], ◌∷◌, ◌++◌, Bool, Some, None, true, false, length, nat_lt, refl, sym, ◌∙◌, subst, append-nil, arith}
 use Rattle.std.proofs.lemmas.Bool.Decides.{nat_tests}
 use Rattle.std.proofs.lemmas.List.{nil_from_length}
 use Rattle.pgp_ids.specs.declared.entry.Entry.{Entry}
@@ -16,8 +15,8 @@ use Rattle.pgp_core.specs.Line.{KeptBy, Holds}
 use Rattle.pgp_core.specs.Told.{PutsText, PutsLine, MayLack}
 use Rattle.pgp_core.specs.declared.line.Fate.TheVariants.{Kept, TooLong, NoMemory}
 use Rattle.pgp_core.specs.declared.line.LineBuffer.{LineBuffer}
-use Rattle.pgp_core.specs.declared.want.NoAnswer.{NoAnswer}
-use Rattle.pgp_core.specs.declared.want.NoAnswer.TheVariants as why
+use Rattle.pgp_core.specs.declared.answerer.NoReply.{NoReply}
+use Rattle.pgp_core.specs.declared.answerer.NoReply.TheVariants as why
 use Rattle.pgp_core.proofs.ToldLemmas.{by-itself}
 
 pub puts-blank : (alone : Bool) (log : List Entry) (text line : List ℕ) → is_blank line ≡ true → PutsLine alone log log line text text []
@@ -64,20 +63,11 @@ line-meets line (Locate pool name) some short reads = (some, short)
 line-meets line (Trace code epochs) some short reads = (some, short)
 
 -- what a line lacks, from what its command lacks
-pub lacks-of : (alone : Bool) (line : List ℕ) (command : Command) → command_of line ≡ Ok command → (lack : NoAnswer) → LacksReply alone command lack
+pub lacks-of : (alone : Bool) (line : List ℕ) (command : Command) → command_of line ≡ Ok command → (lack : NoReply) → LacksReply alone command lack
     → is_blank line ≡ false → length line ≤ longest_line → MayLack alone lack line
-lacks-of alone line command reads why.TooLong is some short = absurd is
 lacks-of alone line command reads (why.Memory want) is some short = rw is (line-meets line command some short reads)
 lacks-of alone line command reads why.Gone is some short = record { shared = is; short = short; command = command; reads = reads }
 
 -- no byte was read
 pub is-empty : (line : List ℕ) → nat_lt 0 (length line) ≡ false → line ≡ []
 is-empty line none = nil_from_length line (grind (arith, nat_tests))
-
--- where no byte of the line was read before, a piece that isn't too long is the whole of it
-pub is-whole : (buffer : LineBuffer) (piece line : List ℕ) → (not buffer.started && nat_le (length piece) longest_line) ≡ true → Holds buffer line
-    → (line ≡ []) × (length piece ≤ longest_line)
-is-whole buffer piece line passes holds =
-    let parts = and_parts (not buffer.started) (nat_le (length piece) longest_line) passes in
-    let few : nat_le (length piece) longest_line ≡ true = parts.1 in
-    (is-empty line (sym holds.started ∙ not-true buffer.started parts.0), grind (arith, nat_tests))

@@ -1,5 +1,6 @@
 -- What a reply says of the log.
-use Rattle.std.proofs.Common.{◌≡◌, ℕ, List, [], ◌∷◌, ◌++◌, length, Bool, true, false, Option, Some, None, option_map, Ok, Err, inl, inr, refl, subst, sym, ap, ap₂, ◌∙◌}
+use Rattle.std.proofs.Common.{◌≡◌, ℕ, List, [], ◌∷◌, ◌++◌, length, Bool, true, false, Option, Some, None, option_map, Result, Ok, Err, OnErr, IsOk, inl, inr, refl, subst, sym, ap, ap₂, ◌∙◌}
+use Rattle.std.specs.Result.{result_or}
 use Rattle.std.specs.Prelude.{IfSome}
 use Rattle.std.proofs.lemmas.Bool.{cases_Bool}
 use Rattle.pgp_ids.specs.declared.entry.Entry.{Entry}
@@ -32,9 +33,10 @@ stays log (Locate pool name) other = refl
 stays log (Trace code epochs) other = refl
 
 -- Where no answer could be put, no entry was taken: for that there was room.
-pub stays-unless-put : (alone : Bool) (before after : List Entry) (command : Command) (reply : Reply) → Replies alone before after command reply
-    → (is_accepted reply ≡ true → false ≡ true) → MayAnswerBy alone before after
-stays-unless-put alone before after command reply replies sure = elim (cases_Bool (is_accepted reply)) [
+pub stays-unless-put : {T E F : Type 0} (alone : Bool) (before after : List Entry) (command : Command) (reply : Reply) (put : Result T E) (fault : F)
+    → Replies alone before after command reply → (is_accepted reply ≡ true → IsOk put) → OnErr (result_or put (Err fault)) (MayAnswerBy alone before after)
+stays-unless-put alone before after command reply (Ok done) fault replies sure = tt
+stays-unless-put alone before after command reply (Err lost) fault replies sure = elim (cases_Bool (is_accepted reply)) [
   | inl took ↦ let no : false ≡ true = sure took in cc
   | inr other ↦
       let same : after ≡ replies.by = replies.log ∙ stays replies.by command (sym (ap is_accepted replies.is) ∙ other) in

@@ -14,7 +14,7 @@ use Rattle.pgp_core.specs.Input.{HasRead}
 use Rattle.pgp_core.specs.Output.{Went, FrontWent}
 use Rattle.pgp_core.specs.Script.{Within}
 use Rattle.pgp_core.specs.Run.{IsBeyond}
-use Rattle.pgp_core.specs.Told.{AreTold}
+use Rattle.pgp_core.specs.Told.{AreTold, PutsLine}
 use Rattle.pgp_core.specs.Telling.{Began, Puts, StopsAt, IsAfter, IsDone, WentBy, IsStopped, StoppedAtLast, StopsIn, whole_lines, Taken}
 use Rattle.pgp_core.specs.declared.input.Bounds.{Bounds}
 use Rattle.pgp_core.specs.declared.input.Input.{Input}
@@ -72,6 +72,18 @@ all_read began bytes =
     rw (take_all {A = ℕ} (began.bounds.bytes - length bytes) [] (omega arith)) (take_all (began.bounds.lines - length (cut bytes).whole) [] (omega arith))
 
 -- ---- one step
+
+-- the text of a line was put, and then the rest of it
+pub puts-rest : (alone : Bool) (before after : List Entry) (line : List ℕ) (old new : Option (List ℕ)) (pending put rest still : List ℕ)
+    → PutsLine alone before after line pending put rest → Went old new (put ++ rest) still → Puts alone before after line old new pending still
+puts-rest alone before after line old new pending put rest still puts went =
+    record { text = puts.text; told = puts.told; went = subst (λ l. Went old new l still) puts.whole went }
+
+-- a write failed as the rest was put
+pub stops-at-rest : (alone : Bool) (before after : List Entry) (line : List ℕ) (old new : Option (List ℕ)) (pending put rest : List ℕ)
+    → PutsLine alone before after line pending put rest → FrontWent old new (put ++ rest) → StopsAt alone Write before after line old new pending
+stops-at-rest alone before after line old new pending put rest puts front =
+    inl (refl, record { text = puts.text; told = puts.told; front = subst (FrontWent old new) puts.whole front })
 
 pub after-piece : (alone : Bool) (began : Began) (script : Script) (input : Input) (log : List Entry) (now : Option (List ℕ)) (bytes piece : List ℕ)
     → list_any is_line_feed piece ≡ false → ((bounds : Bounds) (bytes : List ℕ) → HasRead bounds script.input bytes → HasRead bounds input (bytes ++ piece))

@@ -1,5 +1,5 @@
 -- What is written for lines, whoever answers their commands.
-use Rattle.std.specs.Prelude.{◌≡◌, ℕ, ◌<◌, ◌≤◌, List, [], ◌∷◌, ◌++◌, length, Bool, false, Option, Some, None, Ok}
+use Rattle.std.specs.Prelude.{◌≡◌, ℕ, ◌≤◌, List, [], ◌∷◌, ◌++◌, length, Bool, false, Option, Some, None, Ok}
 use Rattle.pgp_ids.specs.declared.entry.Entry.{Entry}
 use Rattle.pgp_text.specs.Command.{command_of}
 use Rattle.pgp_text.specs.LineFault.{LineFault}
@@ -7,11 +7,10 @@ use Rattle.pgp_text.specs.Reply.{reply_text, fault_text}
 use Rattle.pgp_lines.specs.declared.command.Command.{Command}
 use Rattle.pgp_core.specs.Answer.{reply_of, log_after, line_text, line_log}
 use Rattle.pgp_core.specs.Answerer.{MayAnswerBy}
-use Rattle.pgp_core.specs.Lines.{is_blank}
 use Rattle.pgp_core.specs.Script.{MayMeet, answer, log_past, longest_line}
 use Rattle.pgp_core.specs.declared.want.Want.{Want}
-use Rattle.pgp_core.specs.declared.want.NoAnswer.{NoAnswer}
-use Rattle.pgp_core.specs.declared.want.NoAnswer.TheVariants.{TooLong, Memory, Gone}
+use Rattle.pgp_core.specs.declared.answerer.NoReply.{NoReply}
+use Rattle.pgp_core.specs.declared.answerer.NoReply.TheVariants.{Memory, Gone}
 
 -- the answer to a line that has this fault was put behind the text
 abbrev pub PutsFault : Option LineFault → List ℕ → List ℕ → Type 0
@@ -60,8 +59,7 @@ StartsLeft alone [] = ⊥
 StartsLeft alone (line ∷ lines) = IsLeft alone line
 
 -- why the line may have no answer of its own
-abbrev pub MayLack : Bool → NoAnswer → List ℕ → Type 0
-MayLack alone TooLong line = (is_blank line ≡ false) × (longest_line < length line)
+abbrev pub MayLack : Bool → NoReply → List ℕ → Type 0
 MayLack alone (Memory want) line = MayMeet (Some want) line
 MayLack alone Gone line = IsLeft alone line
 

@@ -7,8 +7,8 @@ use Rattle.pgp_lines.specs.declared.command.Command.{Command}
 use Rattle.pgp_lines.specs.declared.command.Command.TheVariants.{Submit, Ask, Locate, Trace}
 use Rattle.pgp_core.specs.declared.want.Want.{Want}
 use Rattle.pgp_core.specs.declared.want.Want.TheVariants as want
-use Rattle.pgp_core.specs.declared.want.NoAnswer.{NoAnswer}
-use Rattle.pgp_core.specs.declared.want.NoAnswer.TheVariants.{TooLong, Memory, Gone}
+use Rattle.pgp_core.specs.declared.answerer.NoReply.{NoReply}
+use Rattle.pgp_core.specs.declared.answerer.NoReply.TheVariants.{Memory, Gone}
 
 -- an entry where it submits one, else its line
 abbrev pub want_of : Command → Want
@@ -27,7 +27,6 @@ MayFindNone log (Trace code epochs) = Unit {0}
 
 -- why the command may have no reply: there was no memory for what it takes, or nobody answers any more, which is so only
 -- where others add to the log too
-abbrev pub LacksReply : Bool → Command → NoAnswer → Type 0
-LacksReply alone command TooLong = ⊥
+abbrev pub LacksReply : Bool → Command → NoReply → Type 0
 LacksReply alone command (Memory want) = want ≡ want_of command
 LacksReply alone command Gone = alone ≡ false

@@ -1,5 +1,5 @@
 //! The answer to a line, as text.
-ghost use Rattle.std.specs.Prelude.{◌≡◌, ◌≢◌, ◌≤◌, ◌+◌, ◌++◌, ◌∷◌, [], length, take, option_copied, option_map, vec_len, vec_capacity, true, false, IsOk, IfErr, OnOk, OnErr, Err};
+ghost use Rattle.std.specs.Prelude.{◌≡◌, ◌≢◌, ◌≤◌, ◌+◌, ◌++◌, ◌∷◌, [], length, take, option_copied, option_map, vec_len, vec_capacity, true, false, IsOk, IfErr, OnOk, OnErr};
 ghost use Rattle.pgp_text.specs.Command.{IsInRange};
 ghost use Rattle.pgp_text.specs.Reply.{reply_text};
 ghost use Rattle.pgp_group.specs.Touched.{told_at};
@@ -9,13 +9,13 @@ ghost use Rattle.pgp_core.specs.Lines.{is_blank};
 ghost use Rattle.pgp_core.specs.Script.{longest_line};
 ghost use Rattle.pgp_core.specs.Told.{PutsFault, PutsReply, PutsText, MayLack};
 ghost use Rattle.pgp_lines.specs.LineFault.{told};
-ghost use Rattle.pgp_core.specs.Wants.{want_of, LacksReply};
+ghost use Rattle.pgp_core.specs.Wants.{LacksReply};
 
 use super::accepted::{LONGEST_ACCEPTED, put_accepted};
 use super::answerer::{Answerer, NoReply};
 use super::codec::Codec;
 use super::replies::asked;
-use super::want::{NoAnswer, Want};
+use super::want::Want;
 use pgp_ids::{Epoch, PgId, TextFault, View};
 use pgp_text::{Command, Refused, Reply, ReplyWriter};
 use std::alloc::{AllocError, Global};
@@ -30,7 +30,7 @@ pub fn answer_line<A: Answerer>(
     line: &[u8],
     answerer: &mut A,
     text: &mut Vec<u8>,
-) -> Result<(), NoAnswer>
+) -> Result<(), NoReply>
     ensures ok { OnOk result (PutsText A.alone (A.log answerer.old) (A.log answerer.new) line.now text.old.items text.new.items) }
     ensures lacks { IfErr result (λ why. is_blank line.now ≡ false → length line.now ≤ longest_line
         → MayLack A.alone why line.now) }
@@ -39,38 +39,16 @@ pub fn answer_line<A: Answerer>(
 {
     match codec.reader.read(alloc, line) {
         Ok(command) => answer_command(alloc, &mut codec.writer, command, answerer, text),
-        Err(TextFault::Memory) => Err(NoAnswer::Memory(Want::Line)),
+        Err(TextFault::Memory) => Err(NoReply::Memory(Want::Line)),
         Err(fault) => put_fault(alloc, &mut codec.writer, fault, text),
     }
 }
 
-/// Puts the answer to a command that was read behind the text, with a line feed.
-fn answer_command<A: Answerer>(
-    alloc: Global,
-    writer: &mut ReplyWriter,
-    command: Command,
-    answerer: &mut A,
-    text: &mut Vec<u8>,
-) -> Result<(), NoAnswer>
-    requires { IsInRange command }
-    ensures ok { OnOk result (PutsReply A.alone (A.log answerer.old) (A.log answerer.new) command text.old.items text.new.items) }
-    ensures lacks { IfErr result (LacksReply A.alone command) }
-    ensures text { OnErr result (text.new.items ≡ text.old.items) }
-    ensures log { OnErr result (MayAnswerBy A.alone (A.log answerer.old) (A.log answerer.new)) }
-{
-    let want = want_of(&command);
-    match ask(alloc, writer, command, answerer, text) {
-        Ok(()) => Ok(()),
-        Err(NoReply::Memory) => Err(NoAnswer::Memory(want)),
-        Err(NoReply::Gone) => Err(NoAnswer::Gone),
-    }
-}
-
-/// Puts the answerer's reply to a command behind the text, with a line feed.
+/// Puts the answerer's reply to a command that was read behind the text, with a line feed.
 ///
 /// There is room for the answer to an entry that is taken before the answerer is asked, so that it can't fail once the log
 /// has the entry.
-fn ask<A: Answerer>(
+fn answer_command<A: Answerer>(
     alloc: Global,
     writer: &mut ReplyWriter,
     command: Command,
@@ -79,27 +57,19 @@ fn ask<A: Answerer>(
 ) -> Result<(), NoReply>
     requires { IsInRange command }
     ensures ok { OnOk result (PutsReply A.alone (A.log answerer.old) (A.log answerer.new) command text.old.items text.new.items) }
+    ensures lacks { IfErr result (LacksReply A.alone command) }
     ensures text { OnErr result (text.new.items ≡ text.old.items) }
     ensures log { OnErr result (MayAnswerBy A.alone (A.log answerer.old) (A.log answerer.new)) }
-    ensures gone { result ≡ Err NoReply.Gone → A.alone ≡ false }
 {
-    if let Command::Ask(pg) = command {
-        return answerer.put_asked(alloc, writer, pg, text);
-    }
-    text.reserve(LONGEST_ACCEPTED)?;
-    let reply = answerer.reply(alloc, command)?;
-    put_reply(alloc, writer, &reply, text)?;
-    Ok(())
-}
-
-/// What a command has no memory for, where it is out of memory.
-fn want_of(command: &Command) -> Want
-    ensures { result ≡ want_of command.now }
-{
-    match command {
+    let want = match command {
+        Command::Ask(pg) => return answerer.put_asked(alloc, writer, pg, text),
         Command::Submit(_) => Want::Entry,
-        Command::Ask(_) | Command::Locate { .. } | Command::Trace { .. } => Want::Line,
-    }
+        Command::Locate { .. } | Command::Trace { .. } => Want::Line,
+    };
+    text.reserve(LONGEST_ACCEPTED)
+        .or(Err(NoReply::Memory(want)))?;
+    let reply = answerer.reply(alloc, command)?;
+    put_reply(alloc, writer, &reply, text).or(Err(NoReply::Memory(want)))
 }
 
 /// Puts the answer to a line that has this fault behind the text, with a line feed.
@@ -108,14 +78,15 @@ fn put_fault(
     writer: &mut ReplyWriter,
     fault: TextFault,
     text: &mut Vec<u8>,
-) -> Result<(), NoAnswer>
+) -> Result<(), NoReply>
     requires { fault ≢ TextFault.Memory }
     ensures ok { OnOk result (PutsFault (told fault) text.old.items text.new.items) }
-    ensures lacks { IfErr result (λ why. why ≡ NoAnswer.Memory Want.Line) }
+    ensures lacks { IfErr result (λ why. why ≡ NoReply.Memory Want.Line) }
     ensures err { OnErr result (text.new.items ≡ text.old.items) }
 {
     let reply = Reply::Refused(Refused::Line(fault));
-    put_reply(alloc, writer, &reply, text).or(Err(NoAnswer::Memory(Want::Line)))
+    put_reply(alloc, writer, &reply, text)?;
+    Ok(())
 }
 
 /// Puts what the log says of a group behind the text, with a line feed: the text of the reply [`asked`], written from where the

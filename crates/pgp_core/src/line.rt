@@ -1,17 +1,17 @@
 //! The line that is being read, and what is written for it.
 
-ghost use Rattle.std.specs.Prelude.{◌≡◌, ◌≤◌, ◌&&◌, not, nat_le, ℕ, List, [], ◌∷◌, ◌++◌, length, OnOk, IfOk, IfErr, OnErr};
+ghost use Rattle.std.specs.Prelude.{◌≡◌, ℕ, List, [], ◌∷◌, ◌++◌, IfOk, IfErr, OnErr};
 ghost use Rattle.pgp_core.specs.Answer.{long_text};
 ghost use Rattle.pgp_core.specs.Answerer.{MayAnswerBy};
 ghost use Rattle.pgp_core.specs.Line.{KeptBy, Holds};
 ghost use Rattle.pgp_core.specs.Lines.{is_blank};
-ghost use Rattle.pgp_core.specs.Script.{longest_line, want_text};
-ghost use Rattle.pgp_core.specs.Told.{PutsLine, MayLack, IsLeft};
+ghost use Rattle.pgp_core.specs.Script.{want_text};
+ghost use Rattle.pgp_core.specs.Told.{PutsLine, MayLack};
 
 use super::answer::answer_line;
-use super::answerer::Answerer;
+use super::answerer::{Answerer, NoReply};
 use super::codec::Codec;
-use super::want::{NoAnswer, Want};
+use super::want::Want;
 use std::alloc::Global;
 
 /// How many bytes a line has at most, without its line feed.
@@ -36,10 +36,6 @@ pub enum Fate {
     /// There was no memory for them, and they are passed over. There are this many, no more than a line may have.
     NoMemory { length: usize },
 }
-
-/// Nobody answers the command of the line any more.
-#[derive(Clone, Copy)]
-pub struct Unanswered;
 
 /// The line that is being read.
 #[derive(Drop)]
@@ -101,8 +97,9 @@ impl LineBuffer {
     }
 
     /// Puts the answer to the line, which ends with this piece, behind the text, and gives what is still to be written of it:
-    /// where the line is too long, or there was no memory, a constant text. Where the line is an entry that the log takes, the
-    /// log has it from now on. Where nobody answers it any more, the text stays.
+    /// where the line is too long, a constant text. A line that lies whole in the piece is read where it lies. Where the line is
+    /// an entry that the log takes, the log has it from now on. Where it has no answer, the text stays and the line adds nothing
+    /// to the log.
     pub fn answer<A: Answerer>(
         &mut self,
         alloc: Global,
@@ -110,71 +107,48 @@ impl LineBuffer {
         piece: &[u8],
         answerer: &mut A,
         text: &mut Vec<u8>,
-    ) -> Result<&'static [u8], Unanswered>
+    ) -> Result<&'static [u8], NoReply>
         ensures ok { IfOk result (λ rest. (line : List ℕ) → Holds self.old line
             → PutsLine A.alone (A.log answerer.old) (A.log answerer.new) (line ++ piece.now) text.old.items text.new.items rest.now) }
-        ensures left { OnErr result ((line : List ℕ) → Holds self.old line → IsLeft A.alone (line ++ piece.now)) }
-        ensures text { OnErr result (text.new.items ≡ text.old.items) }
-    {
-        match self.put_answer(alloc, codec, piece, answerer, text) {
-            Ok(()) => Ok(&[]),
-            Err(NoAnswer::TooLong) => Ok(long_line()),
-            Err(NoAnswer::Memory(want)) => Ok(want_line(want)),
-            Err(NoAnswer::Gone) => Err(Unanswered),
-        }
-    }
-
-    /// Puts the answer to the line, which ends with this piece, behind the text. A line that lies whole in the piece is read
-    /// where it lies. Where the line has no answer, the text stays and the line adds nothing to the log.
-    fn put_answer<A: Answerer>(
-        &mut self,
-        alloc: Global,
-        codec: &mut Codec,
-        piece: &[u8],
-        answerer: &mut A,
-        text: &mut Vec<u8>,
-    ) -> Result<(), NoAnswer>
-        ensures ok { OnOk result ((line : List ℕ) → Holds self.old line
-            → PutsLine A.alone (A.log answerer.old) (A.log answerer.new) (line ++ piece.now) text.old.items text.new.items []) }
         ensures lacks { IfErr result (λ why. (line : List ℕ) → Holds self.old line → MayLack A.alone why (line ++ piece.now)) }
         ensures text { OnErr result (text.new.items ≡ text.old.items) }
         ensures log { OnErr result (MayAnswerBy A.alone (A.log answerer.old) (A.log answerer.new)) }
     {
-        if self.is_whole(piece) {
-            return put_line(alloc, codec, piece, answerer, text);
+        if self.started || piece.len() > LONGEST_LINE {
+            self.add(piece);
+            return self.answer_kept(alloc, codec, answerer, text);
         }
-        self.add(piece);
-        self.put_kept(alloc, codec, answerer, text)
+        if all_blank(piece) {
+            return Ok(&[]);
+        }
+        answer_line(alloc, codec, piece, answerer, text)?;
+        Ok(&[])
     }
 
-    /// Whether the line lies whole in the piece that ends it, and isn't too long.
-    fn is_whole(&self, piece: &[u8]) -> bool
-        ensures { result ≡ (not self.now.started && nat_le (length piece.now) longest_line) }
-    {
-        !self.started && piece.len() <= LONGEST_LINE
-    }
-
-    /// Puts the answer to the line behind the text. Where it has none, the text stays and the line adds nothing to the log.
-    fn put_kept<A: Answerer>(
+    /// The same, where the line has ended.
+    fn answer_kept<A: Answerer>(
         &self,
         alloc: Global,
         codec: &mut Codec,
         answerer: &mut A,
         text: &mut Vec<u8>,
-    ) -> Result<(), NoAnswer>
-        ensures ok { OnOk result ((line : List ℕ) → Holds self.now line
-            → PutsLine A.alone (A.log answerer.old) (A.log answerer.new) line text.old.items text.new.items []) }
+    ) -> Result<&'static [u8], NoReply>
+        ensures ok { IfOk result (λ rest. (line : List ℕ) → Holds self.now line
+            → PutsLine A.alone (A.log answerer.old) (A.log answerer.new) line text.old.items text.new.items rest.now) }
         ensures lacks { IfErr result (λ why. (line : List ℕ) → Holds self.now line → MayLack A.alone why line) }
         ensures text { OnErr result (text.new.items ≡ text.old.items) }
         ensures log { OnErr result (MayAnswerBy A.alone (A.log answerer.old) (A.log answerer.new)) }
     {
         if self.blank {
-            return Ok(());
+            return Ok(&[]);
         }
         match self.fate {
-            Fate::Kept => put_line(alloc, codec, self.bytes.as_slice(), answerer, text),
-            Fate::TooLong => Err(NoAnswer::TooLong),
-            Fate::NoMemory { .. } => Err(NoAnswer::Memory(Want::Line)),
+            Fate::Kept => {
+                answer_line(alloc, codec, self.bytes.as_slice(), answerer, text)?;
+                Ok(&[])
+            }
+            Fate::TooLong => Ok(long_line()),
+            Fate::NoMemory { .. } => Err(NoReply::Memory(Want::Line)),
         }
     }
 }
@@ -196,28 +170,6 @@ fn keep(bytes: &mut Vec<u8>, fate: Fate, piece: &[u8]) -> Fate
         _ => Fate::NoMemory {
             length: length + piece.len(),
         },
-    }
-}
-
-/// Puts the answer to a line that isn't too long behind the text. Where it has none, the text stays and the line adds nothing
-/// to the log.
-fn put_line<A: Answerer>(
-    alloc: Global,
-    codec: &mut Codec,
-    line: &[u8],
-    answerer: &mut A,
-    text: &mut Vec<u8>,
-) -> Result<(), NoAnswer>
-    ensures ok { OnOk result (length line.now ≤ longest_line
-        → PutsLine A.alone (A.log answerer.old) (A.log answerer.new) line.now text.old.items text.new.items []) }
-    ensures lacks { IfErr result (λ why. length line.now ≤ longest_line → MayLack A.alone why line.now) }
-    ensures text { OnErr result (text.new.items ≡ text.old.items) }
-    ensures log { OnErr result (MayAnswerBy A.alone (A.log answerer.old) (A.log answerer.new)) }
-{
-    if all_blank(line) {
-        Ok(())
-    } else {
-        answer_line(alloc, codec, line, answerer, text)
     }
 }
 

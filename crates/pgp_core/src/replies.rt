@@ -10,6 +10,7 @@ ghost use Rattle.pgp_group.specs.View.{scratch};
 use super::answerer::{Answerer, NoReply};
 use super::history::history;
 use super::log::Log;
+use super::want::Want;
 use pgp_code::AnyCode;
 use pgp_ids::{AskRefusal, Entry, Epoch, EpochState, PgId, PoolKind, Refusal, Seq, View};
 use pgp_lines::MAX_EPOCHS;
@@ -22,8 +23,12 @@ impl Answerer for Log {
     ghost log = { λ log. log };
 
     fn reply(&mut self, alloc: Global, command: Command) -> Result<Reply, NoReply> {
-        let reply = reply_to(alloc, command, self)?;
-        Ok(reply)
+        match command {
+            Command::Submit(entry) => submit(entry, self).or(Err(NoReply::Memory(Want::Entry))),
+            Command::Ask(pg) => Ok(asked(pg, self.ask(pg)?)),
+            Command::Locate { pool, name } => Ok(self.locate(pool, &name)),
+            Command::Trace { code, epochs } => Ok(traced(alloc, code, epochs)?),
+        }
     }
 
     fn put_asked(
@@ -35,22 +40,6 @@ impl Answerer for Log {
     ) -> Result<(), NoReply> {
         Log::put_asked(self, alloc, writer, pg, text)?;
         Ok(())
-    }
-}
-
-/// The reply to a command. Where it is an entry that the log takes, the log has it from now on.
-fn reply_to(alloc: Global, command: Command, log: &mut Log) -> Result<Reply, AllocError>
-    requires { IsInRange command }
-    ensures reply { IfOk result (λ reply. reply ≡ reply_of log.old command) }
-    ensures log { IfOk result (λ _. log.new ≡ log_after log.old command) }
-    ensures kept { OnErr result (log.new ≡ log.old) }
-    ensures memory { OnErr result (MayFindNone log.old command) }
-{
-    match command {
-        Command::Submit(entry) => submit(entry, log),
-        Command::Ask(pg) => Ok(asked(pg, log.ask(pg)?)),
-        Command::Locate { pool, name } => Ok(log.locate(pool, &name)),
-        Command::Trace { code, epochs } => traced(alloc, code, epochs),
     }
 }
 

@@ -10,11 +10,11 @@ ghost use Rattle.pgp_core.specs.Account.{account, ReadsFailed, WritesFailed, Wri
 ghost use Rattle.pgp_core.specs.Run.{AllAnswered, Stopped, bounds_of, script_bounds};
 ghost use Rattle.pgp_core.specs.Telling.{Began, Puts, StopsAt, IsAfter, IsDone, StoppedAtLast, WentBy, StopsIn, Reads, Stops, RanToEnd, WasStopped, began_at};
 
-use super::answerer::Answerer;
+use super::answerer::{Answerer, NoReply};
 use super::codec::Codec;
 use super::fault::ScriptFault;
 use super::input::{Bounds, Input, SCRIPT_BOUNDS, split_line};
-use super::line::Unanswered;
+use super::line::want_line;
 use super::log::Log;
 use super::output::Output;
 use super::streams::{Sink, Source};
@@ -66,8 +66,8 @@ impl Script {
         self.input.add(piece);
     }
 
-    /// Answers the line that is being read, which ends with this piece. Where nobody answers it any more, what is pending is
-    /// written.
+    /// Answers the line that is being read, which ends with this piece. Where it was out of memory, its answer is a constant
+    /// text. Where nobody answers it any more, what is pending is written.
     fn put_answer<A: Answerer, W: Sink>(
         &mut self,
         alloc: Global,
@@ -96,7 +96,11 @@ impl Script {
                 self.output.put(rest, writer)?;
                 Ok(())
             }
-            Err(Unanswered) => {
+            Err(NoReply::Memory(want)) => {
+                self.output.put(want_line(want), writer)?;
+                Ok(())
+            }
+            Err(NoReply::Gone) => {
                 self.output.close(writer)?;
                 Err(ScriptFault::Gone)
             }

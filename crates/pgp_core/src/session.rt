@@ -1,21 +1,20 @@
 //! A log that one thread tells and asks, line by line or in values, with no reader and no writer.
 
-ghost use Rattle.std.specs.Prelude.{◌≡◌, ◌≤◌, ◌∷◌, [], ◌++◌, length, map, true, false, Some, OnOk, IfOk, OnErr, IfErr};
+ghost use Rattle.std.specs.Prelude.{◌≡◌, [], map, true, OnOk, IfOk, OnErr};
 ghost use Rattle.std.specs.Arc.{arc_value};
 ghost use Rattle.pgp_log.specs.Log.{is_legal};
 ghost use Rattle.pgp_lines.specs.declared.command.Command.TheVariants.{Locate, Submit};
-ghost use Rattle.pgp_core.specs.Answer.{line_text, line_log};
-ghost use Rattle.pgp_core.specs.Lines.{is_blank};
-ghost use Rattle.pgp_core.specs.Script.{MayMeet, answer, log_past, longest_line};
+ghost use Rattle.pgp_core.specs.Script.{MayMeet, answer, log_past};
 ghost use Rattle.pgp_core.specs.Session.{LogAndAnswer, last_text, log_in, met_by, reply_in, view_in};
 ghost use Rattle.pgp_core.specs.Wants.{MayFindNone};
 
 use super::answer::answer_line;
+use super::answerer::NoReply;
 use super::codec::Codec;
 use super::line::{LONGEST_LINE, all_blank, long_line, want_line};
 use super::log::Log;
 use super::replies::submit;
-use super::want::{NoAnswer, Want};
+use super::want::Want;
 use pgp_ids::{Entry, ObjectName, PgId, PoolId, View};
 use pgp_text::Reply;
 use std::alloc::{AllocError, Global};
@@ -85,17 +84,21 @@ impl Session {
             self.last = LastAnswer::LineTooLong;
             return Ok(());
         }
-        let told = put_text(
+        let told = answer_line(
             self.alloc,
             &mut self.codec,
             line,
             &mut self.log,
             &mut self.text,
         );
-        if let Err(want) = told {
-            self.last = LastAnswer::NoMemory(want);
+        match told {
+            Ok(()) => Ok(()),
+            Err(NoReply::Memory(want)) => {
+                self.last = LastAnswer::NoMemory(want);
+                Err(want)
+            }
+            Err(NoReply::Gone) => unreachable!(),
         }
-        told
     }
 
     /// What was written for the last line, with its line feed.
@@ -158,28 +161,5 @@ impl Session {
     {
         self.log = Log::over(self.alloc, entries)?;
         Ok(())
-    }
-}
-
-/// Puts the answer to a line that is neither blank nor too long behind the text, with a line feed. Where there was no memory,
-/// text and log stay.
-fn put_text(
-    alloc: Global,
-    codec: &mut Codec,
-    line: &[u8],
-    log: &mut Log,
-    text: &mut Vec<u8>,
-) -> Result<(), Want>
-    requires some { is_blank line.now ≡ false }
-    requires short { length line.now ≤ longest_line }
-    ensures ok { OnOk result (text.new.items ≡ text.old.items ++ (line_text log.old line.now ++ 10 ∷ [])) }
-    ensures log { OnOk result (log.new ≡ line_log log.old line.now) }
-    ensures want { IfErr result (λ want. MayMeet (Some want) line.now) }
-    ensures kept { OnErr result (log.new ≡ log.old) }
-{
-    match answer_line(alloc, codec, line, log, text) {
-        Ok(()) => Ok(()),
-        Err(NoAnswer::Memory(want)) => Err(want),
-        Err(NoAnswer::TooLong | NoAnswer::Gone) => unreachable!(),
     }
 }

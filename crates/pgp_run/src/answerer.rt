@@ -1,11 +1,12 @@
 //! The replies of an engine to commands.
-ghost use Rattle.std.specs.Prelude.{◌≡◌, [], false, IfOk, OnErr};
-ghost use Rattle.pgp_lines.specs.declared.command.Command.TheVariants.{Submit, Locate};
+ghost use Rattle.std.specs.Prelude.{◌≡◌, [], false, IfOk, IfErr, OnErr};
+ghost use Rattle.pgp_lines.specs.declared.command.Command.TheVariants.{Submit, Ask, Locate};
 ghost use Rattle.pgp_group.specs.View.{scratch};
 ghost use Rattle.pgp_log.specs.Log.{IsFrontOf};
 ghost use Rattle.pgp_core.specs.Answerer.{Replies};
+ghost use Rattle.pgp_core.specs.Wants.{LacksReply};
 
-use pgp_core::{Answerer, NoReply, asked, traced};
+use pgp_core::{Answerer, NoReply, Want, asked, traced};
 use pgp_engine::{
     Answer, AskFault, Client, Engine, LocateFault, Naming, Place, SubmitFault, Submitted,
 };
@@ -57,6 +58,7 @@ impl<'a, J: Naming, T: Wait> EngineAnswerer<'a, J, T> {
     fn submit(&mut self, entry: Entry) -> Result<Reply, NoReply>
         ensures reply { IfOk result (λ reply. Replies false self.old self.new (Submit entry) reply) }
         ensures kept { OnErr result (IsFrontOf self.old self.new) }
+        ensures lacks { IfErr result (LacksReply false (Submit entry)) }
     {
         let op = EntryOp::of(&entry);
         match self.engine.submit_with_epoch(self.rt, entry, &self.at) {
@@ -69,7 +71,7 @@ impl<'a, J: Naming, T: Wait> EngineAnswerer<'a, J, T> {
                 self.at = at;
                 Ok(Reply::Refused(Refused::Entry(why)))
             }
-            Err(SubmitFault::Memory) => Err(NoReply::Memory),
+            Err(SubmitFault::Memory) => Err(NoReply::Memory(Want::Entry)),
             Err(SubmitFault::NoReader) => Err(NoReply::Gone),
         }
     }
@@ -79,6 +81,7 @@ impl<'a, J: Naming, T: Wait> EngineAnswerer<'a, J, T> {
     fn ask(&mut self, pg: PgId) -> Result<Option<View>, NoReply>
         ensures view { IfOk result (λ view. view ≡ scratch self.new pg) }
         ensures later { IsFrontOf self.old self.new }
+        ensures lacks { IfErr result (LacksReply false (Ask pg)) }
     {
         match self.engine.ask(self.rt, pg, &self.at) {
             Ok(Answer { view, at }) => {
@@ -89,7 +92,7 @@ impl<'a, J: Naming, T: Wait> EngineAnswerer<'a, J, T> {
                 self.at = at;
                 Ok(None)
             }
-            Err(AskFault::Memory) => Err(NoReply::Memory),
+            Err(AskFault::Memory) => Err(NoReply::Memory(Want::Line)),
             Err(AskFault::NoReader) => Err(NoReply::Gone),
         }
     }
@@ -98,6 +101,7 @@ impl<'a, J: Naming, T: Wait> EngineAnswerer<'a, J, T> {
     fn locate(&mut self, pool: PoolId, name: &ObjectName) -> Result<Reply, NoReply>
         ensures reply { IfOk result (λ reply. Replies false self.old self.new (Locate pool name.now) reply) }
         ensures kept { OnErr result (IsFrontOf self.old self.new) }
+        ensures lacks { IfErr result (LacksReply false (Locate pool name.now)) }
     {
         self.client.learn(&self.at);
         match self.client.locate(pool, name) {
@@ -116,7 +120,7 @@ impl<'a, J: Naming, T: Wait> EngineAnswerer<'a, J, T> {
                 self.at = at;
                 Ok(Reply::Refused(Refused::Locate(LocateRefusal::UnknownPool)))
             }
-            Err(LocateFault::Memory) => Err(NoReply::Memory),
+            Err(LocateFault::Memory) => Err(NoReply::Memory(Want::Line)),
             Err(LocateFault::NoReader) => Err(NoReply::Gone),
         }
     }
