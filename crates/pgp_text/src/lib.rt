@@ -4,5 +4,5 @@
 
 pub mod laws;
 
-pub use pgp_lines::{Command, LineReader, read_line};
+pub use pgp_lines::{Command, LineReader, MAX_EPOCHS, read_line};
 pub use pgp_replies::{EntryOp, Refused, Reply, ReplyWriter, write_reply};
