@@ -1,6 +1,5 @@
 -- What a line that adds an entry is, and the log that the lines of a script make.
-use Rattle.std.proofs.Common.{◌≡◌, ℕ, List, [], ◌∷◌, ◌++◌, Bool, true, false, Option, Some, None, Result, Ok, Err, length, map, nat_lt, refl, sym, ap, ◌∙◌, append_assoc, append-nil, inl, inr}
-use Rattle.std.specs.Prelude.{is_none, IfSome}
+use Rattle.std.proofs.Common.{◌≡◌, ℕ, List, [], ◌∷◌, ◌++◌, true, false, Option, Some, None, Result, Ok, Err, length, map, nat_lt, refl, sym, ap, ◌∙◌, append_assoc, append-nil, inl, inr}
 use Rattle.std.proofs.lemmas.Bool.{cases_Bool}
 use Rattle.pgp_ids.specs.declared.entry.Entry.{Entry}
 use Rattle.pgp_ids.specs.declared.refusal.Refusal.{Refusal}
@@ -11,18 +10,11 @@ use Rattle.pgp_lines.specs.declared.command.Command.TheVariants.{Submit, Ask, Lo
 use Rattle.pgp_log.specs.Fits.{fits}
 use Rattle.pgp_log.specs.Log.{is_legal}
 use Rattle.pgp_log.proofs.LogLemmas.{legal-snoc}
-use Rattle.pgp_core.specs.Added.{EntryLine, IsOutcome, IsOutcomeOf, added_by, entries_of, entry_line, entry_lines, taken_by, taken_from, with_added}
+use Rattle.pgp_core.specs.Added.{EntryLine, added_by, entries_of, entry_line, entry_lines, taken_by, taken_from, with_added}
 use Rattle.pgp_core.specs.Answer.{log_of, log_with}
 use Rattle.pgp_core.specs.Lines.{is_blank}
 use Rattle.pgp_core.specs.Script.{log_past, logs, longest_line}
 use Rattle.pgp_core.specs.declared.want.Want.{Want}
-use Rattle.pgp_core.specs.declared.outcome.LineOutcome.{LineOutcome}
-use Rattle.pgp_core.specs.declared.outcome.LineOutcome.TheVariants.{Blank, Taken, Asked, Refused}
-use Rattle.pgp_replies.specs.declared.reply.refused.Refused.TheVariants as why
-use Rattle.pgp_ids.specs.declared.text_fault.TextFault.{TextFault}
-use Rattle.pgp_ids.specs.declared.text_fault.TextFault.TheVariants.{LineTooLong, NotJson, NoOp, UnknownKey, BadField, Memory}
-use Rattle.pgp_lines.specs.LineFault.{told}
-use Rattle.pgp_text.specs.Reply.{reply_text}
 
 -- ---- one line
 

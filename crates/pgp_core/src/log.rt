@@ -13,14 +13,16 @@ ghost use Rattle.pgp_log.specs.Log.{epoch_of, is_legal};
 ghost use Rattle.pgp_log.specs.RawSets.{AreRawSets};
 ghost use Rattle.pgp_log.specs.Running.{IsReading};
 ghost use Rattle.pgp_log.specs.Shard.{HasReadSame, is_marked, is_own};
-ghost use Rattle.pgp_text.specs.Reply.{reply_text};
-ghost use Rattle.pgp_core.specs.Answer.{asked_reply, located_reply};
+ghost use Rattle.pgp_core.specs.Answer.{located_reply};
 
 use super::answer::put_told;
+use super::answerer::{Answerer, NoReply};
+use super::replies::{asked, submit, traced};
+use super::want::Want;
 use pgp_ids::{AskRefusal, Entry, Epoch, LocateRefusal, ObjectName, PgId, PoolId, Refusal, View};
 use pgp_log::{Judge, RawSets, ShardState};
 use pgp_map::OsdMap;
-use pgp_text::{Refused, Reply, ReplyWriter};
+use pgp_text::{Command, Refused, Reply, ReplyWriter};
 use std::alloc::{AllocError, Global};
 use std::marker::Model;
 use std::sync::Arc;
@@ -120,26 +122,6 @@ impl Log {
         }
     }
 
-    /// Puts the reply to a question about a group behind the text, with a line feed, written from where the shard keeps the view.
-    pub fn put_asked(
-        &mut self,
-        alloc: Global,
-        writer: &mut ReplyWriter,
-        pg: PgId,
-        text: &mut Vec<u8>,
-    ) -> Result<(), AllocError>
-        ensures ok { OnOk result (text.new.items ≡ text.old.items ++ (reply_text (asked_reply pg (scratch self.old pg)) ++ 10 ∷ [])) }
-        ensures err { OnErr result (text.new.items ≡ text.old.items) }
-        ensures same { self.new ≡ self.old }
-    {
-        read_on(&mut self.shard, self.entries.as_slice())?;
-        work_out(&mut self.shard, &pg)?;
-        let count = self.judge.count();
-        let epoch = self.judge.map().epoch();
-        let view = self.shard.view_of(&pg);
-        put_told(alloc, writer, pg, view, count, epoch, text)
-    }
-
     /// All that the log says of a group, where its map has it.
     pub fn ask(&mut self, pg: PgId) -> Result<Option<View>, AllocError>
         ensures view { IfOk result (λ view. view ≡ scratch self.old pg) }
@@ -190,6 +172,41 @@ impl Log {
         self.judge.take(&entry)?;
         self.raw_sets.follow(&entry);
         self.entries.push_reserved(entry);
+        Ok(())
+    }
+}
+
+impl Answerer for Log {
+    ghost alone = { true };
+
+    ghost log = { λ log. log };
+
+    fn reply(&mut self, alloc: Global, command: Command) -> Result<Reply, NoReply> {
+        match command {
+            Command::Submit(entry) => match submit(entry, self) {
+                Ok(reply) => Ok(reply),
+                Err(AllocError) => Err(NoReply::Memory(Want::Entry)),
+            },
+            Command::Ask(pg) => Ok(asked(pg, self.ask(pg)?)),
+            Command::Locate { pool, name } => Ok(self.locate(pool, &name)),
+            Command::Trace { code, epochs } => Ok(traced(alloc, code, epochs)?),
+        }
+    }
+
+    /// It is written from where the shard keeps the view.
+    fn put_asked(
+        &mut self,
+        alloc: Global,
+        writer: &mut ReplyWriter,
+        pg: PgId,
+        text: &mut Vec<u8>,
+    ) -> Result<(), NoReply> {
+        read_on(&mut self.shard, self.entries.as_slice())?;
+        work_out(&mut self.shard, &pg)?;
+        let count = self.judge.count();
+        let epoch = self.judge.map().epoch();
+        let view = self.shard.view_of(&pg);
+        put_told(alloc, writer, pg, view, count, epoch, text)?;
         Ok(())
     }
 }

@@ -1,4 +1,4 @@
-use Rattle.std.proofs.Common.{◌≡◌, ℕ, ◌+◌, ◌++◌, length, List, take, arith}
+use Rattle.std.proofs.Common.{◌≡◌, ℕ, ◌++◌, length, List, take, arith}
 use Rattle.std.proofs.lemmas.List.{length-append}
 use Rattle.std.proofs.KnownBytes.{Consumes-trans}
 use Rattle.pgp_core.proofs.whole.read_more.Goals as goal

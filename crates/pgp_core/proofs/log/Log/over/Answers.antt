@@ -1,4 +1,4 @@
-use Rattle.std.proofs.Common.{[], ap, ap₂, ◌∙◌}
+use Rattle.std.proofs.Common.{[], ap₂, ◌∙◌}
 use Rattle.std.specs.Arc.{arc_value}
 use Rattle.pgp_log.specs.Fits.{fits}
 use Rattle.pgp_log.proofs.SharedLemmas.{next-of-legal}
