@@ -11,7 +11,6 @@ use Rattle.pgp_map.specs.Pools.{pool}
 use Rattle.pgp_log.specs.Locate.{place_of_object}
 use Rattle.pgp_log.specs.Log.{IsFrontOf, is_legal}
 use Rattle.pgp_feed.proofs.Fronts.{front_self, front_trans}
-use Rattle.pgp_feed.specs.Appends.{Appends}
 use Rattle.pgp_engine.specs.Clients.{GoesOn, IsChartOf, IsChartWithin}
 use Rattle.pgp_engine.specs.declared.client.chart.Chart.{Chart}
 
@@ -27,10 +26,9 @@ whole-front taken log part same =
 
 -- what was read from behind what was taken makes up the log
 pub read-up : {Z : Type 0} (taken log : List Entry) (n : ℕ) (unread : List (Arc Entry Z)) → IsFrontOf taken log → n ≡ length taken
-    → Appends [] unread (drop n log) → taken ++ map arc_value unread ≡ log
+    → map arc_value unread ≡ drop n log → taken ++ map arc_value unread ≡ log
 read-up taken log n unread part count read =
-    let same : map arc_value unread ≡ drop n log = ap (map arc_value) read.whole ∙ read.read in
-    ap (λ (l : List Entry). taken ++ l) (same ∙ ap₂ drop count part.whole ∙ drop-append_seam taken part.rest) ∙ sym part.whole
+    ap (λ (l : List Entry). taken ++ l) (read ∙ ap₂ drop count part.whole ∙ drop-append_seam taken part.rest) ∙ sym part.whole
 
 -- no more was taken than there is
 pub taken-count : (log : List Entry) (chart : Chart) (here : IsChartWithin log chart) → length here.taken ≤ length log
@@ -42,7 +40,7 @@ whole-chart log chart here same = subst (λ (l : List Entry). IsChartOf l chart)
 
 -- the chart goes on with what was read from behind what it has taken
 pub goes-on : {Z : Type 0} (log : List Entry) (chart : Chart) (n : ℕ) (unread : List (Arc Entry Z)) (here : IsChartWithin log chart)
-    → n ≡ length here.taken → Appends [] unread (drop n log) → is_legal log ≡ true → GoesOn chart (map arc_value unread)
+    → n ≡ length here.taken → map arc_value unread ≡ drop n log → is_legal log ≡ true → GoesOn chart (map arc_value unread)
 goes-on log chart n unread here count read legal = record {
   log = here.taken;
   is = here.is;
@@ -70,14 +68,12 @@ within-longer front log chart here part =
     record { taken = here.taken; within = front_trans here.taken front log here.within part; is = here.is }
 
 -- a chart that has taken what was read is one of the whole front
-pub followed : {Z : Type 0} (front : List Entry) (chart after : Chart) (n : ℕ) (none unread slice : List (Arc Entry Z)) (here : IsChartWithin front chart)
-    → n ≡ length here.taken → none ≡ [] → slice ≡ unread → Appends none unread (drop n front) → is_legal front ≡ true
+pub followed : {Z : Type 0} (front : List Entry) (chart after : Chart) (n : ℕ) (unread slice : List (Arc Entry Z)) (here : IsChartWithin front chart)
+    → n ≡ length here.taken → slice ≡ unread → map arc_value unread ≡ drop n front → is_legal front ≡ true
     → ((log : List Entry) → IsChartOf log chart → is_legal (log ++ map arc_value slice) ≡ true → IsChartOf (log ++ map arc_value slice) after)
     → IsChartOf front after
-followed {Z = Z} front chart after n none unread slice here count empty same read legal takes =
-    let from_none : Appends [] unread (drop n front) = subst (λ (l : List (Arc Entry Z)). Appends l unread (drop n front)) empty read in
-    let whole : here.taken ++ map arc_value slice ≡ front =
-    ap (λ (l : List (Arc Entry Z)). here.taken ++ map arc_value l) same ∙ read-up here.taken front n unread here.within count from_none in
+followed front chart after n unread slice here count same read legal takes =
+    let whole : here.taken ++ map arc_value slice ≡ front = read-up here.taken front n slice here.within count (ap (map arc_value) same ∙ read) in
     subst (λ (l : List Entry). IsChartOf l after) whole (takes here.taken here.is (ap is_legal whole ∙ legal))
 
 -- an object without a place is of a pool that the map lacks

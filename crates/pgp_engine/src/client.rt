@@ -1,5 +1,6 @@
 //! Who places objects.
 use crate::naming::Naming;
+use crate::unread::Unread;
 use chart::Chart;
 use pgp_feed::{Receipt, Tap};
 use std::marker::{Model, PhantomData};
@@ -19,6 +20,8 @@ pub struct Client<J: Naming> {
     front: Receipt,
     // It lags behind the front until an object is placed.
     chart: Chart,
+    // Where what the chart has to take is read to.
+    unread: Unread,
     of: PhantomData<J>,
 }
 
@@ -29,6 +32,7 @@ impl<J: Naming> Drop for Client<J> {
             tap: _,
             front: _,
             chart: _,
+            unread: _,
             of: _,
         } = self;
     }

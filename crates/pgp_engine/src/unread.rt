@@ -1,7 +1,11 @@
 //! Where entries are read to.
-ghost use Rattle.std.specs.Prelude.{◌≡◌, ◌≤◌, [], vec_capacity};
+ghost use Rattle.std.specs.Prelude.{◌≡◌, ◌≤◌, [], drop, length, map, vec_capacity, IfOk, OnOk};
+ghost use Rattle.std.specs.Arc.{arc_value};
+ghost use Rattle.pgp_feed.specs.Receipts.{entries_of, feed_of, Holds};
+ghost use Rattle.pgp_feed.specs.Taps.{last_of};
 ghost use Rattle.pgp_engine.specs.declared.unread.TheConstants.{KEPT_PLACES};
 
+use pgp_feed::{ReadFault, Receipt, Tap};
 use pgp_ids::Entry;
 use std::alloc::Global;
 use std::mem::replace;
@@ -34,11 +38,23 @@ impl Unread {
         }
     }
 
-    /// The list, to read to. Where it isn't kept afterwards, as after a fault, the next one begins without room.
-    pub fn lend(&mut self) -> Vec<Arc<Entry>>
-        ensures { result.items ≡ [] }
+    /// Reads the entries of a front behind those that were taken. Where the list isn't kept afterwards, as after a fault, the
+    /// next one begins without room.
+    pub fn read(
+        &mut self,
+        tap: &mut Tap,
+        front: &Receipt,
+        taken: usize,
+    ) -> Result<Vec<Arc<Entry>>, ReadFault>
+        requires feed { feed_of front.now ≡ feed_of (last_of tap.old) }
+        requires taken { taken ≤ length (entries_of front.now) }
+        ensures read { IfOk result (λ list. map arc_value list.items ≡ drop taken (entries_of front.now)) }
+        ensures seen { OnOk result (Holds (last_of tap.new) front.now) }
+        ensures later { Holds (last_of tap.new) (last_of tap.old) }
     {
-        replace(&mut self.list, Vec::new(self.alloc))
+        let mut list = replace(&mut self.list, Vec::new(self.alloc));
+        tap.read(front, taken, &mut list)?;
+        Ok(list)
     }
 
     /// Lets the entries go that were read, and keeps the list for its room, unless that is for more than [`KEPT_PLACES`].

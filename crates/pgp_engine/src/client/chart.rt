@@ -14,6 +14,7 @@ ghost use Rattle.pgp_engine.specs.Clients.{IsChartOf, IsChartWithin, GoesOn};
 
 use super::fault::LocateFault;
 use super::place::Place;
+use crate::unread::Unread;
 use pgp_feed::{ReadFault, Receipt, Tap};
 use pgp_ids::{Entry, ObjectName, PoolId};
 use pgp_log::{Judge, RawSets};
@@ -22,7 +23,6 @@ use std::sync::Arc;
 
 /// The map of the entries that were taken, which the judge of these has, and where it puts groups.
 pub struct Chart {
-    alloc: Global,
     judge: Judge,
     sets: RawSets,
 }
@@ -30,11 +30,7 @@ pub struct Chart {
 // Written out, so that a crate which lets one go has nothing to prove of what lies within.
 impl Drop for Chart {
     fn drop(self) {
-        let Chart {
-            alloc: _,
-            judge: _,
-            sets: _,
-        } = self;
+        let Chart { judge: _, sets: _ } = self;
     }
 }
 
@@ -44,14 +40,18 @@ impl Chart {
         ensures { IsChartOf [] result }
     {
         Chart {
-            alloc,
             judge: Judge::start(alloc),
             sets: RawSets::new(alloc),
         }
     }
 
     /// Takes what it lacks of the front. Refused, it may have taken some of it.
-    pub fn follow(&mut self, tap: &mut Tap, front: &Receipt) -> Result<(), ReadFault>
+    pub fn follow(
+        &mut self,
+        tap: &mut Tap,
+        unread: &mut Unread,
+        front: &Receipt,
+    ) -> Result<(), ReadFault>
         requires feed { feed_of front.now ≡ feed_of (last_of tap.old) }
         requires taken { IsChartWithin (entries_of front.now) self.old }
         ensures feed { feed_of (last_of tap.new) ≡ feed_of (last_of tap.old) }
@@ -63,10 +63,12 @@ impl Chart {
         if taken == front.len() {
             return Ok(());
         }
-        let mut unread = Vec::new(self.alloc);
-        tap.read(front, taken, &mut unread)?;
-        match self.take_all(unread.as_slice()) {
-            Ok(()) => Ok(()),
+        let list = unread.read(tap, front, taken)?;
+        match self.take_all(list.as_slice()) {
+            Ok(()) => {
+                unread.keep(list);
+                Ok(())
+            }
             Err(AllocError) => Err(ReadFault::Memory),
         }
     }

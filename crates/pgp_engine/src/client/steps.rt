@@ -15,6 +15,7 @@ use super::chart::Chart;
 use super::fault::LocateFault;
 use super::place::Place;
 use crate::naming::Naming;
+use crate::unread::Unread;
 use pgp_feed::{Receipt, Tap};
 use pgp_ids::{ObjectName, PoolId};
 use std::alloc::Global;
@@ -33,6 +34,7 @@ impl<J: Naming> Client<J> {
             tap,
             front,
             chart: Chart::empty(alloc),
+            unread: Unread::new(alloc),
             of: PhantomData,
         }
     }
@@ -85,7 +87,7 @@ impl<J: Naming> Client<J> {
         ensures wants { result ≡ Err Memory → 0 < length (entries_of self.new) }
     {
         let at = self.newest();
-        self.chart.follow(&mut self.tap, &at)?;
+        self.chart.follow(&mut self.tap, &mut self.unread, &at)?;
         self.chart.locate(at, id, name)
     }
 }

@@ -1,5 +1,5 @@
 //! How the judge of an intake keeps up with the log, and what it says of the next entry.
-ghost use Rattle.std.specs.Prelude.{◌≡◌, ◌≢◌, ◌<◌, [], ◌∷◌, ◌++◌, length, map, true, None, Err, IfErr, OnOk, OnErr, MatchResult};
+ghost use Rattle.std.specs.Prelude.{◌≡◌, ◌≢◌, ◌<◌, ◌⊎◌, [], ◌∷◌, ◌++◌, length, map, true, None, Err, IfErr, OnOk, OnErr, MatchResult};
 ghost use Rattle.std.specs.Arc.{arc_value};
 ghost use Rattle.pgp_log.specs.Fits.{fits};
 ghost use Rattle.pgp_log.specs.Judge.{IsJudgeOf, OfItsLog, CanTake, MapMayLack};
@@ -17,7 +17,7 @@ use crate::unread::Unread;
 use pgp_feed::{Feed, Receipt, Tap};
 use pgp_ids::{Entry, Refusal};
 use pgp_log::Judge;
-use std::alloc::AllocError;
+use std::alloc::{AllocError, Global};
 use std::sync::{Arc, Wait};
 
 // Has the judge take an entry that fits. Without memory it has taken what it had before.
@@ -60,15 +60,14 @@ pub(super) fn catch_up(
     if taken == told.len() {
         return Ok(());
     }
-    let mut list = unread.lend();
-    tap.read(told, taken, &mut list)?;
+    let list = unread.read(tap, told, taken)?;
     take_all(judge, list.as_slice())?;
     unread.keep(list);
     Ok(())
 }
 
-/// Why the told log doesn't take the entry, if it doesn't.
-pub(super) fn fits(judge: &Judge, told: &Receipt, entry: &Entry) -> Result<(), SubmitFault>
+// Why the told log doesn't take the entry, if it doesn't.
+fn fits(judge: &Judge, told: &Receipt, entry: &Entry) -> Result<(), SubmitFault>
     requires { IsJudgeOf (entries_of told.now) judge.now }
     ensures fit { MatchResult result (λ _. fits (entries_of told.now) entry.now ≡ None) (MayRefuse (feed_of told.now) (entries_of told.now) entry.now) }
     ensures reads { result ≢ Err submit.NoReader }
@@ -84,23 +83,48 @@ pub(super) fn fits(judge: &Judge, told: &Receipt, entry: &Entry) -> Result<(), S
     }
 }
 
+/// Why the whole log that was told doesn't take the entry, if it doesn't. The judge has taken that log first.
+pub(super) fn judge_next(
+    judge: &mut Judge,
+    feed: &Feed,
+    tap: &mut Tap,
+    unread: &mut Unread,
+    entry: &Entry,
+) -> Result<(), SubmitFault>
+    requires feed { feed_of (told_of feed.now) ≡ feed_of (last_of tap.old) }
+    requires follows { Follows (entries_of (told_of feed.now)) judge.old }
+    ensures ok { OnOk result (IsJudgeOf (entries_of (told_of feed.now)) judge.new) }
+    ensures fit { MatchResult result (λ _. fits (entries_of (told_of feed.now)) entry.now ≡ None) (MayRefuse (feed_of (told_of feed.now)) (entries_of (told_of feed.now)) entry.now) }
+    ensures follows { Follows (entries_of (told_of feed.now)) judge.new }
+    ensures feed { feed_of (last_of tap.new) ≡ feed_of (last_of tap.old) }
+    ensures reads { result ≡ Err submit.NoReader → 0 < length (entries_of (told_of feed.now)) }
+    ensures wants { result ≡ Err submit.Memory → (0 < length (entries_of (told_of feed.now))) ⊎ MapMayLack (entries_of (told_of feed.now)) entry.now }
+{
+    let told = feed.told();
+    catch_up(judge, &told, tap, unread)?;
+    fits(judge, &told, entry)
+}
+
 /// Publishes an entry that fits, and has the judge take it. The judge needs no memory to be there: it may take the entry
 /// later.
+#[tactic(auto, using(crate::proofs::JudgeLemmas::follows_log))]
 pub(super) fn publish<R: Wait>(
     rt: &R,
+    alloc: Global,
     feed: &mut Feed,
     judge: &mut Judge,
-    entry: Arc<Entry>,
+    entry: Entry,
 ) -> Result<Receipt, SubmitFault>
     requires judge { IsJudgeOf (entries_of (told_of feed.old)) judge.old }
-    requires fit { fits (entries_of (told_of feed.old)) (arc_value entry) ≡ None }
+    requires fit { fits (entries_of (told_of feed.old)) entry ≡ None }
     ensures feed { feed_of (told_of feed.new) ≡ feed_of (told_of feed.old) }
-    ensures told { MatchResult result (λ r. (r ≡ told_of feed.new) × (entries_of r ≡ entries_of (told_of feed.old) ++ arc_value entry ∷ [])) (λ fault. (fault ≡ submit.Memory) × (told_of feed.new ≡ told_of feed.old)) }
+    ensures told { MatchResult result (λ r. (r ≡ told_of feed.new) × (entries_of r ≡ entries_of (told_of feed.old) ++ entry ∷ [])) (λ fault. (fault ≡ submit.Memory) × (told_of feed.new ≡ told_of feed.old)) }
     ensures follows { Follows (entries_of (told_of feed.new)) judge.new }
 {
-    let Ok(copy) = Arc::try_clone(&entry) else {
+    let Ok(entry) = Arc::new(alloc, entry) else {
         return Err(SubmitFault::Memory);
     };
+    let copy = Arc::try_clone(&entry)?;
     let Ok(told) = feed.publish(rt, entry) else {
         return Err(SubmitFault::Memory);
     };

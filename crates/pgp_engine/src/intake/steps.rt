@@ -9,7 +9,7 @@ ghost use Rattle.pgp_engine.specs.Intakes.{MayRefuse, MayWant};
 ghost use Rattle.pgp_engine.specs.declared.fault.SubmitFault.TheVariants.{Memory, NoReader};
 
 use super::Intake;
-use super::judging::{catch_up, fits, publish};
+use super::judging::{catch_up, judge_next, publish};
 use crate::fault::SubmitFault;
 use crate::naming::Naming;
 use crate::submitted::Submitted;
@@ -20,7 +20,7 @@ use pgp_log::Judge;
 use std::alloc::Global;
 use std::cmp::Ordering;
 use std::marker::PhantomData;
-use std::sync::{Arc, Wait};
+use std::sync::Wait;
 
 impl<J: Naming> Intake<J> {
     /// The intake over a feed and one of its taps. It takes no memory.
@@ -98,14 +98,15 @@ impl<J: Naming> Intake<J> {
         ensures reads { result ≡ Err NoReader → 0 < length self.old }
         ensures wants { result ≡ Err Memory → MayWant self.old entry }
     {
-        let told = self.feed.told();
-        catch_up(&mut self.judge, &told, &mut self.tap, &mut self.unread)?;
-        fits(&self.judge, &told, &entry)?;
+        judge_next(
+            &mut self.judge,
+            &self.feed,
+            &mut self.tap,
+            &mut self.unread,
+            &entry,
+        )?;
         let epoch = self.judge.epoch_with(&entry);
-        let Ok(entry) = Arc::new(self.alloc, entry) else {
-            return Err(SubmitFault::Memory);
-        };
-        let at = publish(rt, &mut self.feed, &mut self.judge, entry)?;
+        let at = publish(rt, self.alloc, &mut self.feed, &mut self.judge, entry)?;
         Ok(Submitted { at, epoch })
     }
 

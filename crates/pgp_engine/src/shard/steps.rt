@@ -69,8 +69,7 @@ impl<J: Naming> Shard<J> {
         if read == target.len() {
             return Ok(());
         }
-        let mut unread = self.unread.lend();
-        self.tap.read(target, read, &mut unread)?;
+        let unread = self.unread.read(&mut self.tap, target, read)?;
         match self.state.absorb_all(unread.as_slice()) {
             Ok(()) => {
                 self.unread.keep(unread);

@@ -12,8 +12,9 @@ pub returns-clause-follows : goal.returns-clause-follows
 returns-clause-follows g c =
     let log : List Entry = entries_of (told_of c.args.feed.now) in
     let new : Entry = c.deref.result.now in
-    let same : new ≡ arc_value c.args.entry = cc (c.deref.ensures, c.in-Ok.ensures) in
-    let fit : fits log new ≡ None = subst (λ (e : Entry). fits log e ≡ None) (sym same) c.requires.fit in
+    let given : arc_value c.in-Ok.entry ≡ c.args.entry = cc (c.in-Ok.ensures.ok) in
+    let same : new ≡ arc_value c.in-Ok.entry = cc (c.deref.ensures, c.in_ok-copy.ensures) in
+    let fit : fits log new ≡ None = subst (λ (e : Entry). fits log e ≡ None) (sym (same ∙ given)) c.requires.fit in
     let told : entries_of (told_of c.publish.new.self) ≡ log ++ new ∷ [] =
     ap entries_of (sym c.in-Ok-publish.ensures.published.0) ∙ (c.in-Ok-publish.ensures.published.1 ∙ ap (λ (e : Entry). log ++ e ∷ []) (sym same)) in
     subst (λ (l : List Entry). Follows l c.take.new.self) (sym told)
