@@ -1,11 +1,14 @@
-//! Tests of scripts over an engine, and of the program: that the answers are those of one thread, whatever the size of the engine,
-//! also where a read or a write fails, and where one allocation is refused; and what the program tells of faults.
+//! Tests of scripts, on one thread and over an engine, and of the program: that readers and writers may pass on what they like;
+//! that the answers over an engine are those of one thread, whatever its size, also where a read or a write fails, and where one
+//! allocation is refused; and what the program tells of faults.
 //!
-//! They start threads and wait, so they have a crate of their own. Nothing stands on it.
+//! Most of them start threads and wait, so they have a crate of their own. Nothing stands on it.
 #![tactic(auto)]
 
 #[cfg(test)]
 mod command_line;
+#[cfg(test)]
+mod fakes;
 #[cfg(test)]
 mod faults;
 #[cfg(test)]
@@ -21,4 +24,4 @@ mod same;
 #[cfg(test)]
 mod script;
 #[cfg(test)]
-mod streams;
+mod scripts;

@@ -1,7 +1,7 @@
 //! Runs of one script, on one thread and over an engine.
 ghost use Rattle.std.specs.Prelude.{◌≤◌};
 
-use crate::streams::{Given, Taken};
+use crate::fakes::{Giver, Taker};
 use pgp_core::{ScriptFault, run_script};
 use pgp_run::run_engine;
 use std::alloc::Global;
@@ -11,7 +11,10 @@ use std::thread::Threads;
 /// More calls than a run makes.
 pub const ALL: usize = 1_000_000;
 
-/// A script, and how many reads and writes of a run over it go well before one fails.
+/// How many bytes a call passes on at most.
+const PIECE: usize = 100;
+
+/// A script, and how many reads, and calls of the writer, of a run over it go well before one fails.
 #[derive(Clone, Copy)]
 pub struct Trial<'a> {
     pub script: &'a [u8],
@@ -51,12 +54,12 @@ pub struct Ended {
 
 /// Answers the script on this thread alone.
 pub fn alone(alloc: Global, trial: &Trial) -> Ended {
-    let mut reader = Given::new(trial.script, trial.good_reads);
-    let mut writer = Taken::new(alloc, trial.good_writes);
+    let mut reader = Giver::new(trial.script, PIECE, trial.good_reads);
+    let mut writer = Taker::new(alloc, PIECE, trial.good_writes);
     let ended = run_script(alloc, &mut reader, &mut writer);
     Ended {
         fault: ended.err(),
-        bytes: writer.bytes,
+        bytes: writer.taken,
     }
 }
 
@@ -70,8 +73,8 @@ pub fn over_engine<R: Threads + Wait + Sync>(
     requires shards { (1 ≤ size.now.shards) × (size.now.shards ≤ 64) }
     requires workers { (1 ≤ size.now.workers) × (size.now.workers ≤ 64) }
 {
-    let mut reader = Given::new(trial.script, trial.good_reads);
-    let mut writer = Taken::new(alloc, trial.good_writes);
+    let mut reader = Giver::new(trial.script, PIECE, trial.good_reads);
+    let mut writer = Taker::new(alloc, PIECE, trial.good_writes);
     let ended = run_engine(
         rt,
         alloc,
@@ -82,6 +85,6 @@ pub fn over_engine<R: Threads + Wait + Sync>(
     );
     Ended {
         fault: ended.err(),
-        bytes: writer.bytes,
+        bytes: writer.taken,
     }
 }

@@ -39,8 +39,6 @@ mod prior_index;
 #[cfg(test)]
 mod prior_sets;
 #[cfg(test)]
-mod scripts;
-#[cfg(test)]
 mod texts;
 #[cfg(test)]
 mod transcripts;

@@ -1,7 +1,7 @@
 //! Scripts and lines as long as they may be, and longer.
 
-use super::fakes::{Endless, Giver, NEVER};
 use super::{answers, run};
+use crate::fakes::{Endless, Giver, NEVER};
 use pgp_core::ScriptFault;
 use std::alloc::{AllocError, Global};
 use std::test::Fail;

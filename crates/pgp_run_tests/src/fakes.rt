@@ -1,7 +1,5 @@
 //! Readers and writers that give and take little at a time, and that fail when asked to.
 
-ghost use Rattle.std.specs.Prelude.{◌≡◌, ◌≤◌, IfOk, length};
-
 use pgp_core::{Sink, Source};
 use std::alloc::Global;
 use std::io;
@@ -32,9 +30,9 @@ impl<'a> Giver<'a> {
 }
 
 impl Source for Giver<'_> {
-    ghost use Rattle.std.specs.Prelude.{None};
+    ghost use Rattle.std.specs.Prelude.{Some};
 
-    ghost remaining = { λ _. None };
+    ghost remaining = { λ giver. Some giver.left.now };
 
     ghost failed = { λ giver. giver.failed };
 
@@ -96,50 +94,40 @@ impl Taker {
             failed: false,
         }
     }
-
-    /// Counts a call, which fails where it is its turn.
-    fn call(&mut self) -> io::Result<()>
-        ensures { self.new.failed ≡ self.old.failed }
-    {
-        if self.calls_left == 0 {
-            return Err(io::Error::from(ErrorKind::Other));
-        }
-        self.calls_left -= 1;
-        Ok(())
-    }
-
-    /// Takes what a call takes.
-    fn take(&mut self, buf: &[u8]) -> io::Result<usize>
-        ensures failed { self.new.failed ≡ self.old.failed }
-        ensures bound { IfOk result (λ n. n ≤ length buf.now) }
-    {
-        self.call()?;
-        let count = self.step.min(buf.len());
-        self.taken.extend_from_slice(&buf[..count])?;
-        Ok(count)
-    }
 }
 
 impl Sink for Taker {
-    ghost use Rattle.std.specs.Prelude.{None};
+    ghost use Rattle.std.specs.Prelude.{Some};
 
-    ghost contents = { λ _. None };
+    ghost contents = { λ taker. Some taker.taken.items };
 
     ghost failed = { λ taker. taker.failed };
 
     fn write(&mut self, buf: &[u8]) -> io::Result<usize> {
-        let result = self.take(buf);
-        let took_nothing = match result {
-            Ok(count) => count == 0,
-            Err(_) => true,
-        };
-        self.failed = self.failed || took_nothing;
-        result
+        if self.calls_left == 0 {
+            self.failed = true;
+            return Err(io::Error::from(ErrorKind::Other));
+        }
+        self.calls_left -= 1;
+        let count = self.step.min(buf.len());
+        match self.taken.extend_from_slice(&buf[..count]) {
+            Ok(()) => {
+                self.failed = self.failed || count == 0;
+                Ok(count)
+            }
+            Err(_) => {
+                self.failed = true;
+                Err(io::Error::from(ErrorKind::OutOfMemory))
+            }
+        }
     }
 
     fn flush(&mut self) -> io::Result<()> {
-        let result = self.call();
-        self.failed = self.failed || result.is_err();
-        result
+        if self.calls_left == 0 {
+            self.failed = true;
+            return Err(io::Error::from(ErrorKind::Other));
+        }
+        self.calls_left -= 1;
+        Ok(())
     }
 }

@@ -1,6 +1,6 @@
 //! A script whose answerer goes away.
 
-use super::fakes::{Giver, NEVER, Taker};
+use crate::fakes::{Giver, NEVER, Taker};
 use pgp_core::{Answerer, Bounds, NoReply, ScriptFault, answer_script};
 use pgp_ids::LocateRefusal;
 use pgp_text::{Command, Refused, Reply};

@@ -1,7 +1,7 @@
 //! A script that comes in pieces of every size, and reads and writes that fail at each call.
 
-use super::fakes::{Giver, NEVER, Taker};
 use super::run;
+use crate::fakes::{Giver, NEVER, Taker};
 use pgp_core::{ScriptFault, run_script};
 use std::alloc::Global;
 

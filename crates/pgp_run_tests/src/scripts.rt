@@ -1,12 +1,11 @@
 //! Scripts over readers and writers of every kind, and as large as they may be. What their lines are answered is seen in the
 //! stored run of `pgp_scripts`.
 
-mod fakes;
 mod gone;
 mod limits;
 mod streams;
 
-use fakes::{Giver, NEVER, Taker};
+use crate::fakes::{Giver, NEVER, Taker};
 use pgp_core::{ScriptFault, Source, run_script_within};
 use std::alloc::Global;
 
