@@ -16,7 +16,9 @@ use Rattle.pgp_lists.proofs.Lists.{get-append, get-last, none-at, none-each}
 use Rattle.pgp_ids.specs.declared.entry.Entry.{Entry}
 use Rattle.pgp_ids.specs.declared.pg_id.PgId.{PgId}
 use Rattle.pgp_map.specs.Pools.{is_same_group}
-use Rattle.pgp_log.specs.KeptGroup.{AreAllMarked, AreAtPlaces, AreGroupsOf, AreKeptOf, AreRowsOf, IsKeptOf, IsRowOf, ids_of, is_marked, keeps}
+use Rattle.pgp_map.specs.declared.map.OsdMap.{OsdMap}
+use Rattle.pgp_log.specs.Groups.{AreAtPlaces, AreGroupsOf, keeps}
+use Rattle.pgp_log.specs.KeptGroup.{AreAllMarked, AreRowsOf, IsKeptOf, IsRowOf, ids_of, is_marked}
 use Rattle.pgp_log.specs.Shard.{is_among}
 use Rattle.pgp_log.specs.declared.groups.Groups.{Groups}
 use Rattle.pgp_log.specs.declared.kept_group.KeptGroup.{KeptGroup}
@@ -81,22 +83,22 @@ missing-group groups pg j kept are none at = missing-id groups pg kept.pg j are 
 
 -- ---- the log grows
 
--- the groups stay as they are
-pub groups-on : (log later : List Entry) (groups : Groups) → ((place : ℕ) (kept : KeptGroup) → slice_get groups.kept.items place ≡ Some kept → IsKeptOf log kept → IsKeptOf later kept)
-    → AreGroupsOf log groups → AreGroupsOf later groups
-groups-on log later groups on are = record {
+-- the groups stay as they are, by this map
+pub groups-on : (log later : List Entry) (groups : Groups) (map : OsdMap) → ((place : ℕ) (kept : KeptGroup) → slice_get groups.kept.items place ≡ Some kept → IsKeptOf log kept → IsKeptOf later kept)
+    → AreGroupsOf log groups → AreGroupsOf later (record groups { map = map })
+groups-on log later groups map on are = record {
   each = record { each = λ place kept at. on place kept at (are.each.each place kept at) };
-  places_are = are.places_are;
+  places_are = at-places groups _ refl refl are.places_are.rows are.places_are;
   marked_are = are.marked_are;
 }
 
 -- the group at this place is another now, and its row is made anew
-pub groups-anew : (log later : List Entry) (old : Groups) (pg : PgId) (place : ℕ) (kept after : KeptGroup) (row : Row) (worked : Bool) → hash.get is_same_group old.places pg ≡ Some place → slice_get old.kept.items place ≡ Some kept
+pub groups-anew : (log later : List Entry) (old : Groups) (place : ℕ) (kept after : KeptGroup) (row : Row) (worked : Bool) → slice_get old.kept.items place ≡ Some kept
     → after.pg ≡ kept.pg → IsRowOf row after → (worked ≡ false → (old.some_worked_out ≡ false) × (is_marked after ≡ true)) → (IsKeptOf log kept → IsKeptOf later after)
     → ((j : ℕ) (other : KeptGroup) → (j ≡ place → ⊥) → slice_get old.kept.items j ≡ Some other → IsKeptOf log other → IsKeptOf later other)
     → AreGroupsOf log old → AreGroupsOf later (record old { rows = set old.rows place row; kept = with_item old.kept place after; some_worked_out = worked })
-groups-anew log later old pg place kept after row worked is at same shown marked takes others are =
-    let within : place < length old.kept.items = place-within old pg place are.places_are is in
+groups-anew log later old place kept after row worked at same shown marked takes others are =
+    let within : place < length old.kept.items = slice_get_within old.kept.items place kept at in
     record {
       each = record {
         each = each-set (λ j z. IsKeptOf later z) old.kept.items place after within (takes (are.each.each place kept at)) (λ j z differs there. others j z differs there (are.each.each j z there));
@@ -104,10 +106,6 @@ groups-anew log later old pg place kept after row worked is at same shown marked
       places_are = at-places old _ refl (ids-set old.kept.items place kept after at same) (rows-set old.rows old.kept.items place row after within shown are.places_are.rows) are.places_are;
       marked_are = λ none. All-set (λ (k : KeptGroup). is_marked k ≡ true) old.kept.items place after (marked none).1 (are.marked_are (marked none).0);
     }
-
--- each of them is kept, where one is kept anew
-pub each-kept : (log : List Entry) (xs : List KeptGroup) (i : ℕ) (after : KeptGroup) → i < length xs → IsKeptOf log after → AreKeptOf log xs → AreKeptOf log (set xs i after)
-each-kept log xs i after within is are = record { each = each-set (λ j z. IsKeptOf log z) xs i after within is (λ j other differs there. are.each j other there) }
 
 -- ---- a group comes
 

@@ -17,6 +17,6 @@ pub mod RowsLemmas
 pub mod GroupsLemmas
 pub mod PassingLemmas
 pub mod MarksLemmas
-pub mod DerivedLemmas
-pub mod PartLemmas
+pub mod OwnGroupsLemmas
+pub mod KeptBesideLemmas
 pub mod ShardLemmas

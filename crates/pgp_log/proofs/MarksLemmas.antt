@@ -19,7 +19,8 @@ use Rattle.pgp_lists.proofs.Lists.{none-each}
 use Rattle.pgp_lists.specs.Repeats.{has_repeat}
 use Rattle.pgp_map.specs.Pools.{is_same_group}
 use Rattle.pgp_group.specs.Touched.{changes_pool, changes_temp, is_touched, moves_all}
-use Rattle.pgp_log.specs.KeptGroup.{AreAllMarked, AreAtPlaces, ids_of, is_marked, marks_in, marks_of}
+use Rattle.pgp_log.specs.Groups.{AreAtPlaces, marks_of}
+use Rattle.pgp_log.specs.KeptGroup.{AreAllMarked, ids_of, is_marked, marks_in}
 use Rattle.pgp_log.specs.Shard.{is_among, without}
 use Rattle.pgp_log.specs.declared.groups.Groups.{Groups}
 use Rattle.pgp_log.specs.declared.kept_group.KeptGroup.{KeptGroup}
@@ -185,8 +186,3 @@ ok-anyhow (Err e) P holds = tt
 pub ok-two : {T E : Type 0} (r : Result T E) (P Q R : Type 0) → (P → Q → R) → OnOk r P → OnOk r Q → OnOk r R
 ok-two (Ok x) P Q R goes one two = goes one two
 ok-two (Err e) P Q R goes one two = tt
-
--- and what follows from three
-pub ok-three : {T E : Type 0} (r : Result T E) (P Q R S : Type 0) → (P → Q → R → S) → OnOk r P → OnOk r Q → OnOk r R → OnOk r S
-ok-three (Ok x) P Q R S goes one two three = goes one two three
-ok-three (Err e) P Q R S goes one two three = tt

@@ -1,6 +1,5 @@
 -- What a shard keeps of its groups, as far as the entries that it has read tell of them.
 use Rattle.std.specs.Prelude.{◌≡◌, ℕ, nat_eq, List, [], ◌∷◌, ◌++◌, length, map, slice_get, Bool, is_none, Some, None, IfSome, true, false, if◌then◌else◌}
-use Rattle.std.specs.HashMap as hash
 use Rattle.std.specs.List.{All, filter, list_any}
 use Rattle.pgp_ids.specs.declared.entry.Entry.{Entry}
 use Rattle.pgp_ids.specs.declared.entry.Entry.TheVariants as entry
@@ -10,7 +9,7 @@ use Rattle.pgp_ids.specs.declared.view.View.{View}
 use Rattle.pgp_map.specs.Map.{epoch}
 use Rattle.pgp_map.specs.MapFault.{then_with}
 use Rattle.pgp_map.specs.MapOf.{IsMapOf}
-use Rattle.pgp_map.specs.Pools.{is_same_group, temp}
+use Rattle.pgp_map.specs.Pools.{temp}
 use Rattle.pgp_map.specs.declared.map.OsdMap.{OsdMap}
 use Rattle.pgp_group.specs.Entries.{incs_of}
 use Rattle.pgp_group.specs.GroupOf.{IsGroupOf}
@@ -22,10 +21,8 @@ use Rattle.pgp_log.specs.Log.{is_legal}
 use Rattle.pgp_log.specs.MapBefore.{IsMapBefore, moves_some}
 use Rattle.pgp_log.specs.OsdFilter.{Covers}
 use Rattle.pgp_log.specs.RawSets.{IsRawSet}
-use Rattle.pgp_log.specs.Shard.{is_among}
 use Rattle.pgp_log.specs.Touch.{changes_placements}
 use Rattle.pgp_log.specs.declared.before.MapBefore.{MapBefore}
-use Rattle.pgp_log.specs.declared.groups.Groups.{Groups}
 use Rattle.pgp_log.specs.declared.kept_group.KeptGroup.{KeptGroup}
 use Rattle.pgp_log.specs.declared.osd_filter.OsdFilter.{OsdFilter}
 use Rattle.pgp_log.specs.declared.row.Changes.{Changes}
@@ -122,13 +119,6 @@ IsPassedByRow changes inc row =
 pub record AreKeptOf (log : List Entry) (groups : List KeptGroup) : Type 0 where
   pub each : (place : ℕ) (kept : KeptGroup) → slice_get groups place ≡ Some kept → IsKeptOf log kept
 
--- each group has its row, and the incremental comes next in some log of which the groups are kept
-pub record CanStepAll (rows : List Row) (groups : List KeptGroup) (inc : Incremental) (before : MapBefore) (after : OsdMap) : Type 0 where
-  pub rows_are : AreRowsOf rows groups
-  pub log : List Entry
-  pub are : AreKeptOf log groups
-  pub step : IsStep log inc before after
-
 -- which groups they are
 abbrev pub ids_of : List KeptGroup → List PgId
 ids_of groups = map (λ kept. kept.pg) groups
@@ -137,39 +127,6 @@ ids_of groups = map (λ kept. kept.pg) groups
 abbrev pub marks_in : List KeptGroup → List PgId
 marks_in groups = ids_of (filter is_marked groups)
 
--- the table says of each group at which place it stands, and of no other; and so stand the rows
-pub record AreAtPlaces (groups : Groups) : Type 0 where
-  pub there : (pg : PgId) (place : ℕ) → hash.get is_same_group groups.places pg ≡ Some place → slice_get (ids_of groups.kept.items) place ≡ Some pg
-  pub found : (pg : PgId) (place : ℕ) → slice_get (ids_of groups.kept.items) place ≡ Some pg → hash.get is_same_group groups.places pg ≡ Some place
-  pub rows : AreRowsOf groups.rows groups.kept.items
-
 -- each of the groups is marked
 abbrev pub AreAllMarked : List KeptGroup → Type 0
 AreAllMarked groups = All (λ kept. is_marked kept ≡ true) groups
-
--- until one of them is worked out, all are marked
-abbrev pub AreMarkedAtFirst : Groups → Type 0
-AreMarkedAtFirst groups = groups.some_worked_out ≡ false → AreAllMarked groups.kept.items
-
--- the groups are kept, each at its place
-pub record AreGroupsOf (log : List Entry) (groups : Groups) : Type 0 where
-  pub each : AreKeptOf log groups.kept.items
-  pub places_are : AreAtPlaces groups
-  pub marked_are : AreMarkedAtFirst groups
-
--- the groups that are marked: they have to be worked out anew at the next question
-abbrev pub marks_of : Groups → List PgId
-marks_of groups = marks_in groups.kept.items
-
--- the group is one of those that are kept
-abbrev pub keeps : PgId → Groups → Bool
-keeps pg groups = is_among pg (ids_of groups.kept.items)
-
--- each group that was kept is kept still
-abbrev pub KeepsAll : Groups → Groups → Type 0
-KeepsAll before after = (pg : PgId) → keeps pg before ≡ true → keeps pg after ≡ true
-
--- the entry marks only groups that it touches: each other is marked after it where it was before
-abbrev pub MarksTouched : List Entry → Entry → Groups → Groups → Type 0
-MarksTouched log new before after =
-    (pg : PgId) → is_touched log new pg ≡ false → is_among pg (marks_of after) ≡ is_among pg (marks_of before)

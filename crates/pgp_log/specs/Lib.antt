@@ -13,6 +13,6 @@ pub mod MapBefore
 pub mod OsdFilter
 pub mod KeptGroup
 pub mod Rows
-pub mod Derived
+pub mod Groups
 pub mod Examples
 pub mod Worked

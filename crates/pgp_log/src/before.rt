@@ -3,7 +3,6 @@
 ghost use Rattle.std.specs.Prelude.{◌≡◌, ◌++◌, List, true, false, map as each, IfOk, OnOk};
 ghost use Rattle.pgp_ids.specs.declared.incremental.Incremental.{Incremental as AnyIncremental};
 ghost use Rattle.pgp_map.specs.Held.{HasGroup};
-ghost use Rattle.pgp_map.specs.Map.{epoch as epoch_of};
 ghost use Rattle.pgp_map.specs.MapFault.{then_with};
 ghost use Rattle.pgp_map.specs.MapOf.{IsMapOf};
 ghost use Rattle.pgp_sets.specs.Sets.{may_place_elsewhere, moves, switches_any, weighed};
@@ -23,7 +22,7 @@ use std::alloc::{AllocError, Global};
 /// those that the incremental weighs. Of every other device both maps say the same.
 #[derive(Drop)]
 pub(crate) struct MapBefore {
-    epoch: Epoch,
+    pub(crate) epoch: Epoch,
     devices: Vec<DeviceFacts>,
     weights: Vec<DeviceWeight>,
 }
@@ -51,13 +50,6 @@ impl MapBefore {
             devices,
             weights: weights_before(alloc, map, inc.weight.as_slice())?,
         })
-    }
-
-    /// The epoch of that map.
-    pub(crate) fn epoch(&self) -> Epoch
-        ensures { (incs : List AnyIncremental) (inc : AnyIncremental) → IsMapBefore incs inc self.now → result ≡ epoch_of incs }
-    {
-        self.epoch
     }
 
     /// Whether the group is to be placed anew by the incremental, since the tree may put it elsewhere than on these places, its raw

@@ -1,7 +1,7 @@
 //! What a shard keeps of one of its groups.
 
 ghost use Rattle.std.specs.List.{list_any};
-ghost use Rattle.std.specs.Prelude.{◌≡◌, ◌||◌, ◌++◌, [], ◌∷◌, List, Some, None, true, false, length, is_some, option_copied, OnOk, OnErr};
+ghost use Rattle.std.specs.Prelude.{◌≡◌, ◌||◌, ◌++◌, [], ◌∷◌, List, Some, None, true, false, length, is_some, OnOk, OnErr};
 ghost use Rattle.pgp_ids.specs.declared.entry.Entry.{Entry as AnyEntry};
 ghost use Rattle.pgp_ids.specs.declared.entry.Entry.TheVariants as entry;
 ghost use Rattle.pgp_ids.specs.declared.incremental.Incremental.{Incremental as AnyIncremental};
@@ -42,7 +42,7 @@ pub(crate) struct KeptGroup {
     temp: Osds,
     /// What the entries said of the group when it was last worked out, except for count and epoch. Not there before that, and
     /// where something touched the group since.
-    view: Option<View>,
+    pub(crate) view: Option<View>,
     group: Group,
 }
 
@@ -146,15 +146,15 @@ impl KeptGroup {
         ensures ok { OnOk result (StepsOn inc.now before.now after.now self.old (record self.new { view = None })) }
         ensures pg { self.new.pg ≡ self.old.pg }
     {
-        self.place_again(before, after, inc);
+        self.place_anew(before, after, inc);
         let members = filter(after, &self.pg, &self.raw);
-        self.group.stay(before.epoch());
+        self.group.stay(before.epoch);
         let facts = before.facts(after, self.group.primary());
         self.group.absorb_members(after, members, facts)
     }
 
     /// Takes the pg_temp list of the new map, and places the group anew where the tree may put it elsewhere.
-    fn place_again(&mut self, before: &MapBefore, after: &OsdMap, inc: &Incremental)
+    fn place_anew(&mut self, before: &MapBefore, after: &OsdMap, inc: &Incremental)
         requires { HasGroup after.now self.old.pg }
         ensures raw { (log : List AnyEntry) → IsKeptOf log self.old → IsStep log inc.now before.now after.now
             → IsRawSet (incs_of (log ++ entry.Inc inc.now ∷ [])) self.old.pg self.new.raw }
@@ -277,13 +277,6 @@ impl KeptGroup {
         self.view = None;
         self.group.stay(epoch);
         self.group.absorb_report(entry)
-    }
-
-    /// What the entries said of the group when it was last worked out, except for count and epoch. `None` where it is marked.
-    pub(crate) fn view(&self) -> Option<&View>
-        ensures { option_copied result ≡ self.now.view }
-    {
-        self.view.as_ref()
     }
 
     /// Works out what the entries say of the group, where something touched it since that was last done. `map` is the last

@@ -4,7 +4,6 @@
 
 mod before;
 mod copies;
-mod derived;
 mod entry;
 mod groups;
 mod judge;

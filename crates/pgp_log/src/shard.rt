@@ -7,15 +7,14 @@ ghost use Rattle.pgp_map.specs.Pools.{has_group};
 ghost use Rattle.pgp_group.specs.Entries.{incs_of};
 ghost use Rattle.pgp_group.specs.Touched.{told_at};
 ghost use Rattle.pgp_group.specs.View.{scratch};
-ghost use Rattle.pgp_log.specs.Derived.{IsDerivedOf, IsKeptBeside, shard_with};
 ghost use Rattle.pgp_log.specs.Fits.{is_closed, fits};
-ghost use Rattle.pgp_log.specs.KeptGroup.{marks_of};
+ghost use Rattle.pgp_log.specs.Groups.{AreOwnGroupsOf, IsKeptBeside, marks_of, shard_with};
 ghost use Rattle.pgp_log.specs.Log.{HasInc, epoch_of, is_legal};
 ghost use Rattle.pgp_log.specs.Shard.{opening_shard, having_read, having_read_all, HasReadSame, HasReadSome, shard_of, is_own, is_marked, AreMarked, MarksOnlyTouched, IsUnmarked, AreUnmarked};
 
 use super::copies::copy_at;
-use super::derived::Derived;
 use super::entry::is_close;
+use super::groups::Groups;
 use super::owner::Owner;
 use pgp_ids::{AskRefusal, Entry, PgId, View};
 use std::alloc::{AllocError, Global};
@@ -29,7 +28,7 @@ pub struct ShardState {
     front: Vec<Arc<Entry>>,
     /// What follows from the front, for the owner's groups. It isn't there until the first question or the first `renew` makes it,
     /// and again from an entry for which it found no memory until the next of these.
-    derived: Option<Derived>,
+    groups: Option<Groups>,
 }
 
 // Written out, so that a crate which lets one go has nothing to prove of what lies within.
@@ -39,7 +38,7 @@ impl Drop for ShardState {
             alloc: _,
             owner: _,
             front: _,
-            derived: _,
+            groups: _,
         } = self;
     }
 }
@@ -47,14 +46,14 @@ impl Drop for ShardState {
 impl Model for ShardState {
     ghost use Rattle.std.specs.Prelude.{map};
     ghost use Rattle.std.specs.Arc.{arc_value};
-    ghost use Rattle.pgp_log.specs.Derived.{IsKeptBeside, shard_with};
+    ghost use Rattle.pgp_log.specs.Groups.{IsKeptBeside, shard_with};
     ghost use Rattle.pgp_log.specs.Shard.{Shard};
 
     ghost Value = { Shard };
 
-    ghost view = { λ s. shard_with s.owner (map arc_value s.front.items) s.derived };
+    ghost view = { λ s. shard_with s.owner (map arc_value s.front.items) s.groups };
 
-    ghost invariant = { λ s. IsKeptBeside s.owner (map arc_value s.front.items) s.derived };
+    ghost invariant = { λ s. IsKeptBeside s.owner (map arc_value s.front.items) s.groups };
 }
 
 impl ShardState {
@@ -67,7 +66,7 @@ impl ShardState {
             alloc,
             owner: Owner { shard, shards },
             front: Vec::new(alloc),
-            derived: None,
+            groups: None,
         }
     }
 
@@ -104,12 +103,12 @@ impl ShardState {
         ensures err { OnErr result (HasReadSame self.old self.new) }
     {
         self.front.push(Arc::try_clone(entry)?)?;
-        let Some(mut derived) = self.derived.take() else {
+        let Some(mut groups) = self.groups.take() else {
             return Ok(());
         };
-        match derived.absorb(self.owner, entry) {
+        match groups.absorb(self.owner, entry) {
             Ok(()) => {
-                self.derived = Some(derived);
+                self.groups = Some(groups);
                 Ok(())
             }
             Err(error) => {
@@ -146,14 +145,14 @@ impl ShardState {
         ensures same { HasReadSame self.old self.new }
         ensures marks { result ≢ Err Memory → IsUnmarked pg.now self.old self.new }
     {
-        let mut derived = taken(
+        let mut groups = taken(
             self.alloc,
             self.owner,
             self.front.as_slice(),
-            &mut self.derived,
+            &mut self.groups,
         )?;
-        let there = derived.work_out(pg, self.front.len());
-        self.derived = Some(derived);
+        let there = groups.work_out(pg, self.front.len());
+        self.groups = Some(groups);
         if there? {
             Ok(())
         } else {
@@ -169,8 +168,8 @@ impl ShardState {
             ≡ option_map (told_at (length self.now.front) (epoch_of self.now.front)) (option_copied result) }
         ensures marked { is_marked self.now pg.now ≡ true → result ≡ None }
     {
-        match &self.derived {
-            Some(derived) => derived.view_of(pg),
+        match &self.groups {
+            Some(groups) => groups.view_of(pg),
             None => None,
         }
     }
@@ -200,13 +199,13 @@ impl ShardState {
         ensures ok { IfOk result (λ view. scratch self.now.front pg.now ≡ Some view) }
         ensures err { OnErr result (result ≡ Err Memory) }
     {
-        let Some(derived) = &self.derived else {
+        let Some(groups) = &self.groups else {
             unreachable!();
         };
-        let Some(view) = derived.view_of(pg) else {
+        let Some(view) = groups.view_of(pg) else {
             unreachable!();
         };
-        let copy = copy_at(self.alloc, view, derived.epoch(), self.front.len())?;
+        let copy = copy_at(self.alloc, view, groups.map.epoch(), self.front.len())?;
         Ok(copy)
     }
 
@@ -222,14 +221,14 @@ impl ShardState {
         ensures wants_marked { OnErr result (IfSome self.old.marks (λ marks. 0 < min max (length marks))) }
     {
         let count = self.front.len();
-        let mut derived = taken(
+        let mut groups = taken(
             self.alloc,
             self.owner,
             self.front.as_slice(),
-            &mut self.derived,
+            &mut self.groups,
         )?;
-        let left = derived.renew(max, count);
-        self.derived = Some(derived);
+        let left = groups.renew(max, count);
+        self.groups = Some(groups);
         left
     }
 }
@@ -239,19 +238,18 @@ fn taken(
     alloc: Global,
     owner: Owner,
     entries: &[Arc<Entry>],
-    kept: &mut Option<Derived>,
-) -> Result<Derived, AllocError>
+    kept: &mut Option<Groups>,
+) -> Result<Groups, AllocError>
     requires { IsKeptBeside owner (map arc_value entries.now) kept.old }
-    ensures is { IfOk result (IsDerivedOf owner (map arc_value entries.now)) }
-    ensures marks { IfOk result (λ derived. AreMarked (shard_with owner (map arc_value entries.now) kept.old)
-        (marks_of derived.groups)) }
+    ensures is { IfOk result (AreOwnGroupsOf owner (map arc_value entries.now)) }
+    ensures marks { IfOk result (λ groups. AreMarked (shard_with owner (map arc_value entries.now) kept.old) (marks_of groups)) }
     ensures taken { kept.new ≡ None }
     ensures wants { OnErr result (HasInc (map arc_value entries.now)) }
     ensures wants_away { OnErr result (kept.old ≡ None) }
 {
     match kept.take() {
-        Some(derived) => Ok(derived),
-        None => Derived::of(alloc, owner, entries),
+        Some(groups) => Ok(groups),
+        None => Groups::of(alloc, owner, entries),
     }
 }
 

@@ -1,38 +1,66 @@
-use Rattle.std.proofs.Common.{◌≡◌, true, List, [], ◌∷◌, ◌++◌, ℕ, Some, cond, refl, sym, ap, ◌∙◌, subst}
+use Rattle.std.proofs.Common.{◌≡◌, true, false, List, [], ◌∷◌, ◌++◌, ℕ, Some, cond, refl, sym, ap, ◌∙◌, subst}
 use Rattle.std.specs.HashMap as hash
 use Rattle.std.proofs.lemmas.List.Elements.{All-push}
 use Rattle.pgp_ids.specs.declared.entry.Entry.TheVariants as entry
 use Rattle.pgp_ids.specs.declared.pg_id.PgId.{PgId}
-use Rattle.pgp_map.specs.Pools.{is_same_group}
+use Rattle.pgp_map.specs.MapFault.{then_with}
+use Rattle.pgp_map.specs.Pools.{has_group, is_same_group}
+use Rattle.pgp_group.specs.Entries.{incs_of}
+use Rattle.pgp_log.specs.Groups.{keeps}
 use Rattle.pgp_log.specs.KeptGroup.{AreAllMarked, ids_of, is_marked, marks_in}
 use Rattle.pgp_log.specs.Shard.{is_among}
+use Rattle.pgp_log.specs.declared.groups.Groups.{Groups}
 use Rattle.pgp_log.specs.declared.kept_group.KeptGroup.{KeptGroup}
 use Rattle.pgp_log.proofs.GroupsLemmas.{groups-more, keeps-found, keeps-last, keeps-others}
-use Rattle.pgp_log.proofs.MarksLemmas.{marks-push}
+use Rattle.pgp_log.proofs.KeptLemmas.{step-fine}
+use Rattle.pgp_log.proofs.MarksLemmas.{marks-push, other-pool}
+use Rattle.pgp_log.proofs.OwnGroupsLemmas.{absent-before, keeps-still, next-has_group, only-more}
 use Rattle.pgp_log.proofs.groups.Groups.add.Goals as goal
 
-pub returns : goal.returns
-returns c = record {
-  ok = λ log inc before step absent there are.
-      groups-more (log ++ entry.Inc inc ∷ []) c.args.self.now _ c.begin-kept.result c.row.result
-      (rw c.begin-kept.ensures.pg (sym c.contains_key.ensures ∙ c.if-contains_key.false))
-      (λ q. rw c.begin-kept.ensures.pg (c.in_ok-insert.ensures.updates.0 q
-      ∙ ap (λ (n : ℕ). cond (is_same_group c.args.pg q) (Some n) (hash.get is_same_group c.args.self.now.places q)) (c.len-place.ensures ∙ c.args.self.now.kept.ok.0)))
-      c.in_ok-push-2.ensures.items refl c.begin-kept.ensures.marked (c.begin-kept.ensures.is log inc before step absent there)
-      c.row.ensures c.in_ok-push.ensures.ok are;
-  there = λ are.
-      let old : List KeptGroup = c.args.self.now.kept.items in
-      ap (λ (l : List KeptGroup). is_among c.args.pg (ids_of l)) c.in_ok-push-2.ensures.items
-      ∙ subst (λ (p : PgId). is_among p (ids_of (old ++ c.begin-kept.result ∷ [])) ≡ true) c.begin-kept.ensures.pg (keeps-last old c.begin-kept.result);
-  others = λ other differs.
-      ap (λ (l : List KeptGroup). is_among other (ids_of l)) c.in_ok-push-2.ensures.items
-      ∙ keeps-others c.args.self.now.kept.items c.begin-kept.result other (ap (is_same_group other) c.begin-kept.ensures.pg ∙ differs);
-  marks = λ other differs.
-      ap (λ (l : List KeptGroup). is_among other (marks_in l)) c.in_ok-push-2.ensures.items
-      ∙ marks-push c.args.self.now.kept.items c.begin-kept.result other (ap (is_same_group other) c.begin-kept.ensures.pg ∙ differs);
-  marked = λ all.
-      subst AreAllMarked (sym c.in_ok-push-2.ensures.items) (All-push (λ (k : KeptGroup). is_marked k ≡ true) c.args.self.now.kept.items c.begin-kept.result all c.begin-kept.ensures.marked);
-}
+pub returns-then-contains_key-clause-own : goal.returns-then-contains_key-clause-own
+returns-then-contains_key-clause-own c = λ log inc is own there.
+    sym (keeps-found c.args.self.now c.args.pg is.groups_are.places_are) ∙ (sym c.contains_key.ensures ∙ c.if-contains_key.true)
 
-pub returns-then-contains_key-clause-there : goal.returns-then-contains_key-clause-there
-returns-then-contains_key-clause-there c = λ are. sym (keeps-found c.args.self.now c.args.pg are) ∙ (sym c.contains_key.ensures ∙ c.if-contains_key.true)
+pub begin-kept-requires : goal.begin-kept-requires
+begin-kept-requires c =
+    let can = c.requires.can in
+    let inc = c.requires.inc in
+    let there : has_group (then_with (incs_of can.log) inc) c.args.pg ≡ true = sym (c.has_group.ensures (then_with (incs_of can.log) inc) can.is.step.after_is) ∙ c.if-not-has_group.false in
+    next-has_group c.args.owner can.log inc c.args.self.now c.args.pg can.is there
+
+pub returns : goal.returns
+returns c =
+    let pg = c.args.pg in
+    let old : Groups = c.args.self.now in
+    let new : Groups = record old { places = c.insert.new.self; rows = c.push.new.self; kept = c.push-2.new.self } in
+    let kept : KeptGroup = c.begin-kept.result in
+    let begun = c.begin-kept.ensures in
+    let items = c.in_ok-push-2.ensures.items in
+    let here : keeps pg new ≡ true =
+    ap (λ (l : List KeptGroup). is_among pg (ids_of l)) items
+    ∙ subst (λ (p : PgId). is_among p (ids_of (old.kept.items ++ kept ∷ [])) ≡ true) begun.pg (keeps-last old.kept.items kept) in
+    let others : (other : PgId) → is_same_group other pg ≡ false → keeps other new ≡ keeps other old =
+    λ other differs. ap (λ (l : List KeptGroup). is_among other (ids_of l)) items ∙ keeps-others old.kept.items kept other (ap (is_same_group other) begun.pg ∙ differs) in
+    record {
+      ok = λ log inc made is.
+          let there : has_group (then_with (incs_of log) inc) pg ≡ true = sym (c.has_group.ensures (then_with (incs_of log) inc) is.step.after_is) ∙ c.if-not-has_group.false in
+          let absent : has_group (incs_of log) pg ≡ false = absent-before log inc pg (step-fine log inc is.before old.map is.step) made in
+          record {
+            before = is.before;
+            step = is.step;
+            groups_are = groups-more (log ++ entry.Inc inc ∷ []) old new kept c.row.result
+                (rw begun.pg (sym c.contains_key.ensures ∙ c.if-contains_key.false))
+                (λ q. rw begun.pg (c.in_ok-insert.ensures.updates.0 q
+                ∙ ap (λ (n : ℕ). cond (is_same_group pg q) (Some n) (hash.get is_same_group old.places q)) (c.len-place.ensures ∙ old.kept.ok.0)))
+                items refl begun.marked (begun.is log inc is.before is.step absent there) c.row.ensures c.in_ok-push.ensures.ok is.groups_are;
+            own_are = λ other own was. keeps-still old new pg here others other (is.own_are other own was);
+            only_own = only-more c.args.owner (then_with (incs_of log) inc) old new pg (sym c.owns.ensures ∙ c.if-not-owns.false) there others is.only_own;
+          };
+      own = λ log inc is own there. here;
+      still = record {
+        groups_are = keeps-still old new pg here others;
+        marked = λ all. subst AreAllMarked (sym items) (All-push (λ (k : KeptGroup). is_marked k ≡ true) old.kept.items kept all begun.marked);
+      };
+      marks = λ other differs.
+          ap (λ (l : List KeptGroup). is_among other (marks_in l)) items ∙ marks-push old.kept.items kept other (ap (is_same_group other) begun.pg ∙ other-pool pg other differs);
+    }

@@ -2,18 +2,19 @@ use Rattle.std.proofs.Common.{◌≡◌, List, Some, length, map, arith, sym, ap
 use Rattle.std.specs.Arc.{arc_value}
 use Rattle.std.proofs.lemmas.List.{length-map}
 use Rattle.pgp_ids.specs.declared.entry.Entry.{Entry}
+use Rattle.pgp_group.specs.Entries.{incs_of}
 use Rattle.pgp_group.specs.Touched.{told_at}
-use Rattle.pgp_log.specs.Derived.{IsDerivedOf}
+use Rattle.pgp_log.specs.Groups.{AreOwnGroupsOf}
 use Rattle.pgp_log.specs.Log.{epoch_of}
-use Rattle.pgp_log.proofs.PartLemmas.{derived-there}
+use Rattle.pgp_log.proofs.KeptBesideLemmas.{groups-there}
 use Rattle.pgp_log.proofs.shard.ShardState.copy.Goals as goal
 
 pub returns-clause-ok : goal.returns-clause-ok
 returns-clause-ok c =
     let front : List Entry = map arc_value c.self.inside.front.items in
-    let is : IsDerivedOf c.self.inside.owner front c.in-Some.derived = derived-there c.self.inside.owner front c.self.inside.derived c.in-Some.derived c.self.invariant c.in-Some.is in
+    let is : AreOwnGroupsOf c.self.inside.owner front c.in-Some.groups = groups-there c.self.inside.owner front c.self.inside.groups c.in-Some.groups c.self.invariant c.in-Some.is in
     let count : c.len.result ≡ length front = omega (arith, c.len.ensures, length-map c.self.inside.front.items arc_value) in
-    let epoch : c.epoch.result ≡ epoch_of front = c.epoch.ensures c.self.inside.owner front is in
+    let epoch : c.epoch.result ≡ epoch_of front = c.epoch.ensures (incs_of front) is.map_is in
     rw (← c.self.view_is)
     (c.in-Some-view_of.ensures.view c.self.inside.owner front is
     ∙ ap Some (ap₂ (λ n e. told_at n e c.in-Some-view_of.view.now) (sym count) (sym epoch) ∙ sym c.in_ok-copy.ensures))

@@ -5,12 +5,12 @@ use Rattle.pgp_lists.proofs.Options.{some-weaker}
 use Rattle.pgp_ids.specs.declared.entry.Entry.{Entry}
 use Rattle.pgp_group.specs.Touched.{told_at}
 use Rattle.pgp_group.specs.View.{scratch}
-use Rattle.pgp_log.specs.Derived.{IsDerivedOf, owns, shard_with}
+use Rattle.pgp_log.specs.Groups.{AreOwnGroupsOf, owns, shard_with}
 use Rattle.pgp_log.specs.Log.{epoch_of}
 use Rattle.pgp_log.specs.Shard.{Shard, is_marked, is_own}
-use Rattle.pgp_log.specs.declared.derived.Derived.{Derived}
-use Rattle.pgp_log.proofs.DerivedLemmas.{view-told}
-use Rattle.pgp_log.proofs.PartLemmas.{derived-there}
+use Rattle.pgp_log.specs.declared.groups.Groups.{Groups}
+use Rattle.pgp_log.proofs.OwnGroupsLemmas.{view-told}
+use Rattle.pgp_log.proofs.KeptBesideLemmas.{groups-there}
 use Rattle.pgp_log.proofs.shard.ShardState.view_of.Goals as goal
 
 pub returns-in-Some-clause-is : goal.returns-in-Some-clause-is
@@ -18,9 +18,9 @@ returns-in-Some-clause-is c =
     let owner = c.self.inside.owner in
     let front : List Entry = map arc_value c.self.inside.front.items in
     let pg = c.args.pg.now in
-    let is : IsDerivedOf owner front c.in-Some.derived = derived-there owner front c.self.inside.derived c.in-Some.derived c.self.invariant c.in-Some.is in
+    let is : AreOwnGroupsOf owner front c.in-Some.groups = groups-there owner front c.self.inside.groups c.in-Some.groups c.self.invariant c.in-Some.is in
     let own : owns owner pg ≡ true = subst (λ (s : Shard). is_own s.shard s.shards pg ≡ true) (sym c.self.view_is) c.requires in
     subst (λ (s : Shard). is_marked s pg ≡ false → scratch s.front pg ≡ option_map (told_at (length s.front) (epoch_of s.front)) (option_copied c.view_of.result)) c.self.view_is
-    (λ unmarked. view-told front c.in-Some.derived pg c.view_of.result (c.view_of.ensures.there owner front is own)
+    (λ unmarked. view-told front c.in-Some.groups pg c.view_of.result (c.view_of.ensures.there owner front is own)
     (some-weaker c.view_of.result _ _ (λ view given. given owner front is) c.view_of.ensures.view)
-    (subst (λ (o : Option Derived). is_marked (shard_with owner front o) pg ≡ false) c.in-Some.is unmarked))
+    (subst (λ (o : Option Groups). is_marked (shard_with owner front o) pg ≡ false) c.in-Some.is unmarked))

@@ -2,7 +2,7 @@ use Rattle.std.proofs.Common.{sym, subst}
 use Rattle.pgp_group.specs.Entries.{incs_of}
 use Rattle.pgp_log.specs.RawSets.{IsRawSet}
 use Rattle.pgp_log.proofs.KeptLemmas.{kept_raw-stays, raw-anew, temp-anew}
-use Rattle.pgp_log.proofs.kept_group.KeptGroup.place_again.Goals as goal
+use Rattle.pgp_log.proofs.kept_group.KeptGroup.place_anew.Goals as goal
 
 pub returns-then-places_anew-clause-raw : goal.returns-then-places_anew-clause-raw
 returns-then-places_anew-clause-raw c = λ log is step.

@@ -1,8 +1,9 @@
--- What a shard keeps beside its entries, as the log grows.
-use Rattle.std.proofs.Common.{◌≡◌, ℕ, List, [], ◌∷◌, ◌++◌, Bor, Option, Some, None, is_some, option_map, Bool, true, false, not, ◌&&◌, ◌||◌, IfSome, ◌+◌, ◌<◌, length, take, get_or, nat_eq, nat_lt, eq-eqb, inl, inr, arith, refl, sym, ap, ◌∙◌, subst}
+-- The groups of one owner, as the log grows.
+use Rattle.std.proofs.Common.{◌≡◌, ℕ, List, [], ◌∷◌, ◌++◌, Bor, Option, Some, None, is_some, option_map, Bool, true, false, not, ◌&&◌, ◌||◌, IfSome, ◌+◌, ◌<◌, length, set, take, get_or, nat_eq, nat_lt, eq-eqb, inl, inr, arith, refl, sym, ap, ◌∙◌, subst}
 use Rattle.std.specs.List.{list_any}
 use Rattle.std.specs.Option.{option_copied, option_map_or}
 use Rattle.std.specs.Prelude.{slice_get}
+use Rattle.std.specs.Vec.{with_item}
 use Rattle.std.proofs.Math.Bool.{and-true}
 use Rattle.std.proofs.lemmas.Bool.{and_from, and_parts, cases_Bool, cases_lt, eqb-true, false_from_ne_true, true_from_ne_false, true≢false}
 use Rattle.std.proofs.lemmas.List.Folds.{list_any_more}
@@ -26,16 +27,18 @@ use Rattle.pgp_group.specs.Entries.{inc_of, incs_of}
 use Rattle.pgp_group.specs.GroupHistory.{makes}
 use Rattle.pgp_group.specs.Touched.{told_at}
 use Rattle.pgp_group.specs.View.{scratch}
-use Rattle.pgp_log.specs.Derived.{HasOwn, HasStill, IsDerivedOf, IsKeptIfOwn, IsOwnIfKept, IsStepping, owns}
 use Rattle.pgp_log.specs.Fits.{fits}
-use Rattle.pgp_log.specs.KeptGroup.{AreGroupsOf, IsStep, IsViewOf, KeepsAll, ids_of, keeps, marks_of}
-use Rattle.pgp_log.specs.Log.{epoch_of}
+use Rattle.pgp_log.specs.Groups.{AreGroupsOf, AreOwnGroupsOf, HasOwn, HasStill, IsKeptIfOwn, IsOwnIfKept, IsStepping, KeepsAll, keeps, marks_of, owns}
+use Rattle.pgp_log.specs.KeptGroup.{IsKeptOf, IsRowOf, IsStep, IsViewOf, ids_of}
+use Rattle.pgp_log.specs.Log.{epoch_of, is_legal}
 use Rattle.pgp_log.specs.Shard.{is_among}
 use Rattle.pgp_log.specs.MapBefore.{IsMapBefore}
 use Rattle.pgp_log.specs.declared.before.MapBefore.{MapBefore}
-use Rattle.pgp_log.specs.declared.derived.Derived.{Derived}
 use Rattle.pgp_log.specs.declared.groups.Groups.{Groups}
+use Rattle.pgp_log.specs.declared.kept_group.KeptGroup.{KeptGroup}
 use Rattle.pgp_log.specs.declared.owner.Owner.{Owner}
+use Rattle.pgp_log.specs.declared.row.Row.{Row}
+use Rattle.pgp_log.proofs.GroupsLemmas.{groups-anew, ids-set}
 use Rattle.pgp_log.proofs.KeptLemmas.{grown, step-checked, step-fine, still-there}
 use Rattle.pgp_log.proofs.LogLemmas.{legal-snoc}
 use Rattle.pgp_log.proofs.RawSetLemmas.{same_group}
@@ -43,7 +46,7 @@ use Rattle.pgp_log.proofs.ComingLemmas.{comes-with_pool}
 use Rattle.pgp_log.proofs.TakeLemmas.{faultless-inc, fits-faultless, incs-other}
 
 -- the map has taken an incremental
-pub step-begins : (owner : Owner) (log : List Entry) (inc : Incremental) (old : Derived) (before : MapBefore) (after : OsdMap) → IsDerivedOf owner log old → fits log (entry.Inc inc) ≡ None
+pub step-begins : (owner : Owner) (log : List Entry) (inc : Incremental) (old : Groups) (before : MapBefore) (after : OsdMap) → AreOwnGroupsOf owner log old → fits log (entry.Inc inc) ≡ None
     → ((incs : List Incremental) → IsMapOf incs old.map → IsMapBefore incs inc before)
     → ((incs : List Incremental) → IsMapOf incs old.map → map_fault incs inc ≡ None → IsMapOf (then_with incs inc) after) → IsStep log inc before after
 step-begins owner log inc old before after is fit told made = record {
@@ -54,9 +57,9 @@ step-begins owner log inc old before after is fit told made = record {
 }
 
 -- and so have the groups
-pub groups-step : (owner : Owner) (log : List Entry) (inc : Incremental) (old : Derived) (before : MapBefore) (after : OsdMap) (groups : Groups) → IsDerivedOf owner log old → IsStep log inc before after
-    → AreGroupsOf (log ++ entry.Inc inc ∷ []) groups → ids_of groups.kept.items ≡ ids_of old.groups.kept.items → IsStepping owner log inc (record old { map = after; groups = groups })
-groups-step owner log inc old before after groups is step are ids = record {
+pub groups-step : (owner : Owner) (log : List Entry) (inc : Incremental) (old : Groups) (before : MapBefore) (groups : Groups) → AreOwnGroupsOf owner log old → IsStep log inc before groups.map
+    → AreGroupsOf (log ++ entry.Inc inc ∷ []) groups → ids_of groups.kept.items ≡ ids_of old.kept.items → IsStepping owner log inc groups
+groups-step owner log inc old before groups is step are ids = record {
   before = before;
   step = step;
   groups_are = are;
@@ -64,12 +67,12 @@ groups-step owner log inc old before after groups is step are ids = record {
   only_own = λ pg kept.
       let was = and_parts (owns owner pg) (has_group (incs_of log) pg) (sym (is.own_are pg) ∙ sym (ap (is_among pg) ids) ∙ kept) in
       and_from (owns owner pg) (has_group (then_with (incs_of log) inc) pg) was.0
-      (still-there (incs_of log) inc pg (step-fine log inc before after step) was.1);
+      (still-there (incs_of log) inc pg (step-fine log inc before groups.map step) was.1);
 }
 
 -- and the owner's groups that come with it are there
-pub step-ends : (owner : Owner) (log : List Entry) (inc : Incremental) (moved : Derived) → IsStepping owner log inc moved → HasOwn owner (then_with (incs_of log) inc) moved
-    → IsDerivedOf owner (log ++ entry.Inc inc ∷ []) moved
+pub step-ends : (owner : Owner) (log : List Entry) (inc : Incremental) (moved : Groups) → IsStepping owner log inc moved → HasOwn owner (then_with (incs_of log) inc) moved
+    → AreOwnGroupsOf owner (log ++ entry.Inc inc ∷ []) moved
 step-ends owner log inc moved is own = record {
   legal = legal-snoc log (entry.Inc inc) is.step.legal is.step.fits;
   map_is = subst (λ (l : List Incremental). IsMapOf l moved.map) (sym (grown log inc)) is.step.after_is;
@@ -77,26 +80,34 @@ step-ends owner log inc moved is own = record {
   own_are = λ pg. own pg ∙ ap (λ (l : List Incremental). owns owner pg && has_group l pg) (sym (grown log inc));
 }
 
+-- the map stays, where the log grows by an entry that brings none, or not at all
+pub own-stay : (owner : Owner) (log later : List Entry) (old groups : Groups) → is_legal later ≡ true → incs_of later ≡ incs_of log → groups.map ≡ old.map → AreGroupsOf later groups
+    → ids_of groups.kept.items ≡ ids_of old.kept.items → AreOwnGroupsOf owner log old → AreOwnGroupsOf owner later groups
+own-stay owner log later old groups legal same lies are ids is = record {
+  legal = legal;
+  map_is = subst (λ (l : List Incremental). IsMapOf l groups.map) (sym same) (subst (IsMapOf (incs_of log)) (sym lies) is.map_is);
+  groups_are = are;
+  own_are = λ pg. ap (is_among pg) ids ∙ is.own_are pg ∙ ap (λ (l : List Incremental). owns owner pg && has_group l pg) (sym same);
+}
+
 -- the groups have taken an entry that brings no map
-pub told-on : (owner : Owner) (log : List Entry) (new : Entry) (old : Derived) (groups : Groups) → inc_of new ≡ None → fits log new ≡ None → IsDerivedOf owner log old → AreGroupsOf (log ++ new ∷ []) groups
-    → ids_of groups.kept.items ≡ ids_of old.groups.kept.items → IsDerivedOf owner (log ++ new ∷ []) (record old { groups = groups })
-told-on owner log new old groups none fit is are ids =
-    let same : incs_of (log ++ new ∷ []) ≡ incs_of log = incs-other log new none in record {
-      legal = legal-snoc log new is.legal fit;
-      map_is = subst (λ (l : List Incremental). IsMapOf l old.map) (sym same) is.map_is;
-      groups_are = are;
-      own_are = λ pg. ap (is_among pg) ids ∙ is.own_are pg ∙ ap (λ (l : List Incremental). owns owner pg && has_group l pg) (sym same);
-    }
+pub own-told : (owner : Owner) (log : List Entry) (new : Entry) (old groups : Groups) → inc_of new ≡ None → fits log new ≡ None → groups.map ≡ old.map → AreGroupsOf (log ++ new ∷ []) groups
+    → ids_of groups.kept.items ≡ ids_of old.kept.items → AreOwnGroupsOf owner log old → AreOwnGroupsOf owner (log ++ new ∷ []) groups
+own-told owner log new old groups none fit lies are ids is = own-stay owner log (log ++ new ∷ []) old groups (legal-snoc log new is.legal fit) (incs-other log new none) lies are ids is
 
 -- the next map has a group that its list has
-pub next-has_group : (owner : Owner) (log : List Entry) (inc : Incremental) (derived : Derived) (pg : PgId) → IsStepping owner log inc derived → has_group (then_with (incs_of log) inc) pg ≡ true → HasGroup derived.map pg
-next-has_group owner log inc derived pg is there =
-    checked-has_group (then_with (incs_of log) inc) derived.map pg is.step.after_is (step-checked log inc is.before derived.map is.step) there
+pub next-has_group : (owner : Owner) (log : List Entry) (inc : Incremental) (groups : Groups) (pg : PgId) → IsStepping owner log inc groups → has_group (then_with (incs_of log) inc) pg ≡ true → HasGroup groups.map pg
+next-has_group owner log inc groups pg is there =
+    checked-has_group (then_with (incs_of log) inc) groups.map pg is.step.after_is (step-checked log inc is.before groups.map is.step) there
 
--- the groups have answered
-pub asked-on : (owner : Owner) (log : List Entry) (old : Derived) (groups : Groups) → IsDerivedOf owner log old → AreGroupsOf log groups → ids_of groups.kept.items ≡ ids_of old.groups.kept.items → IsDerivedOf owner log (record old { groups = groups })
-asked-on owner log old groups is are ids =
-    record { legal = is.legal; map_is = is.map_is; groups_are = are; own_are = λ pg. ap (is_among pg) ids ∙ is.own_are pg }
+-- one of the groups is worked out, or was to be
+pub worked-out : (owner : Owner) (log : List Entry) (old : Groups) (place : ℕ) (kept after : KeptGroup) (row : Row) (worked : Bool) → slice_get old.kept.items place ≡ Some kept → after.pg ≡ kept.pg → IsRowOf row after
+    → worked ≡ true → (IsKeptOf log kept → IsMapOf (incs_of log) old.map → IsKeptOf log after) → AreOwnGroupsOf owner log old
+    → AreOwnGroupsOf owner log (record old { rows = set old.rows place row; kept = with_item old.kept place after; some_worked_out = worked })
+worked-out owner log old place kept after row worked at same shown one takes is =
+    own-stay owner log log old _ is.legal refl refl
+    (groups-anew log log old place kept after row worked at same shown (λ none. absurd (true≢false (sym one ∙ none))) (λ of. takes of is.map_is) (λ j other differs there of. of) is.groups_are)
+    (ids-set old.kept.items place kept after at same) is
 
 -- a group of a pool that the incremental makes isn't there before
 pub absent-before : (log : List Entry) (inc : Incremental) (pg : PgId) → map_fault (incs_of log) inc ≡ None → makes pg.pool inc ≡ true → has_group (incs_of log) pg ≡ false
@@ -121,10 +132,10 @@ no-view log pg absent = none-there (scratch log pg) (scratch_there log pg ∙ ab
 -- ---- the shard's groups
 
 -- a group that was kept is kept still
-pub has-still : (owner : Owner) (incs : List Incremental) (before after : Derived) (pg : PgId) → HasStill before after → IsKeptIfOwn owner incs before pg → IsKeptIfOwn owner incs after pg
+pub has-still : (owner : Owner) (incs : List Incremental) (before after : Groups) (pg : PgId) → HasStill before after → IsKeptIfOwn owner incs before pg → IsKeptIfOwn owner incs after pg
 has-still owner incs before after pg still has = λ own there. still.groups_are pg (has own there)
 
-pub still-on : (first before after : Derived) → HasStill first before → HasStill before after → HasStill first after
+pub still-on : (first before after : Groups) → HasStill first before → HasStill before after → HasStill first after
 still-on first before after one two = record {
   groups_are = λ pg was. two.groups_are pg (one.groups_are pg was);
   marked = λ all. two.marked (one.marked all);
@@ -138,9 +149,9 @@ keeps-still old groups pg there others = λ other was. elim (cases_Bool (is_same
 ]
 
 -- and it is the only one that comes
-pub only-more : (owner : Owner) (incs : List Incremental) (old : Derived) (groups : Groups) (pg : PgId) → owns owner pg ≡ true → has_group incs pg ≡ true
-    → ((other : PgId) → is_same_group other pg ≡ false → keeps other groups ≡ keeps other old.groups) → ((other : PgId) → IsOwnIfKept owner incs old other)
-    → (other : PgId) → IsOwnIfKept owner incs (record old { groups = groups }) other
+pub only-more : (owner : Owner) (incs : List Incremental) (old groups : Groups) (pg : PgId) → owns owner pg ≡ true → has_group incs pg ≡ true
+    → ((other : PgId) → is_same_group other pg ≡ false → keeps other groups ≡ keeps other old) → ((other : PgId) → IsOwnIfKept owner incs old other)
+    → (other : PgId) → IsOwnIfKept owner incs groups other
 only-more owner incs old groups pg own there others only other kept = elim (cases_Bool (is_same_group other pg)) [
   | inl same ↦
       ap (λ (p : PgId). owns owner p && has_group incs p) (same_group other pg same)
@@ -149,10 +160,10 @@ only-more owner incs old groups pg own there others only other kept = elim (case
 ]
 
 -- those of the map before are kept, so are those of the pools that the incremental makes, and no other
-pub own-next : (owner : Owner) (log : List Entry) (inc : Incremental) (moved : Derived) → IsStepping owner log inc moved → ((pg : PgId) → makes pg.pool inc ≡ true → IsKeptIfOwn owner (then_with (incs_of log) inc) moved pg)
+pub own-next : (owner : Owner) (log : List Entry) (inc : Incremental) (moved : Groups) → IsStepping owner log inc moved → ((pg : PgId) → makes pg.pool inc ≡ true → IsKeptIfOwn owner (then_with (incs_of log) inc) moved pg)
     → HasOwn owner (then_with (incs_of log) inc) moved
-own-next owner log inc moved is made = λ pg. same_tests (keeps pg moved.groups) (owns owner pg && has_group (then_with (incs_of log) inc) pg) (is.only_own pg) (all pg) where
-  all : (pg : PgId) → (owns owner pg && has_group (then_with (incs_of log) inc) pg) ≡ true → keeps pg moved.groups ≡ true
+own-next owner log inc moved is made = λ pg. same_tests (keeps pg moved) (owns owner pg && has_group (then_with (incs_of log) inc) pg) (is.only_own pg) (all pg) where
+  all : (pg : PgId) → (owns owner pg && has_group (then_with (incs_of log) inc) pg) ≡ true → keeps pg moved ≡ true
   all pg is_there =
       let both = and_parts (owns owner pg) (has_group (then_with (incs_of log) inc) pg) is_there in
       elim (cases_Bool (has_group (incs_of log) pg)) [
@@ -163,7 +174,7 @@ own-next owner log inc moved is made = λ pg. same_tests (keeps pg moved.groups)
 -- ---- the groups of a pool
 
 -- one of its groups more is there
-pub pool-more : (owner : Owner) (incs : List Incremental) (before after : Derived) (id number : ℕ) → HasStill before after → ((pg : PgId) → nat_eq id pg.pool ≡ true → pg.pg < number → IsKeptIfOwn owner incs before pg)
+pub pool-more : (owner : Owner) (incs : List Incremental) (before after : Groups) (id number : ℕ) → HasStill before after → ((pg : PgId) → nat_eq id pg.pool ≡ true → pg.pg < number → IsKeptIfOwn owner incs before pg)
     → IsKeptIfOwn owner incs after (record { pool = id; pg = number }) → (pg : PgId) → nat_eq id pg.pool ≡ true → pg.pg < number + 1 → IsKeptIfOwn owner incs after pg
 pool-more owner incs before after id number still has next pg same below = elim (cases_lt pg.pg number) [
   | inl earlier ↦ has-still owner incs before after pg still (has pg same earlier)
@@ -177,7 +188,7 @@ pool-more owner incs before after id number still has next pg same below = elim 
     pg_at in_pool at = record { pool = in_pool; pg = at }
 
 -- and so are those of one pool more that the incremental makes
-pub pools-more : (owner : Owner) (incs : List Incremental) (inc : Incremental) (before after : Derived) (i : ℕ) (new : PoolSpec) → HasStill before after → i < length inc.pools → new ≡ get_or inc.pools i new
+pub pools-more : (owner : Owner) (incs : List Incremental) (inc : Incremental) (before after : Groups) (i : ℕ) (new : PoolSpec) → HasStill before after → i < length inc.pools → new ≡ get_or inc.pools i new
     → ((pg : PgId) → list_any (λ made. nat_eq made.id pg.pool) (take i inc.pools) ≡ true → IsKeptIfOwn owner incs before pg) → ((pg : PgId) → nat_eq new.id pg.pool ≡ true → IsKeptIfOwn owner incs after pg)
     → (pg : PgId) → list_any (λ made. nat_eq made.id pg.pool) (take (i + 1) inc.pools) ≡ true → IsKeptIfOwn owner incs after pg
 pools-more owner incs inc before after i new still within item has next pg made = elim (cases_Bool (list_any (λ (p : PoolSpec). nat_eq p.id pg.pool) (take i inc.pools))) [
@@ -190,8 +201,8 @@ pools-more owner incs inc before after i new still within item has next pg made 
 ]
 
 -- the view of a group that isn't marked, except for count and epoch, is there where the map has the group
-pub view-told : (log : List Entry) (derived : Derived) (pg : PgId) (told : Option (Bor View)) → is_some told ≡ (has_group (incs_of log) pg && not (is_among pg (marks_of derived.groups)))
-    → IfSome told (λ view. IsViewOf log pg view.now) → is_among pg (marks_of derived.groups) ≡ false → scratch log pg ≡ option_map (told_at (length log) (epoch_of log)) (option_copied told)
-view-told log derived pg None there says unmarked =
+pub view-told : (log : List Entry) (groups : Groups) (pg : PgId) (told : Option (Bor View)) → is_some told ≡ (has_group (incs_of log) pg && not (is_among pg (marks_of groups)))
+    → IfSome told (λ view. IsViewOf log pg view.now) → is_among pg (marks_of groups) ≡ false → scratch log pg ≡ option_map (told_at (length log) (epoch_of log)) (option_copied told)
+view-told log groups pg None there says unmarked =
     sym (no-view log pg (sym (there ∙ ap (λ b. has_group (incs_of log) pg && not b) unmarked ∙ and-true (has_group (incs_of log) pg))))
-view-told log derived pg (Some view) there says unmarked = says
+view-told log groups pg (Some view) there says unmarked = says

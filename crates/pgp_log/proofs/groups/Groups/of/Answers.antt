@@ -2,25 +2,25 @@ use Rattle.std.proofs.Common.{◌≡◌, ◌+◌, List, [], ◌∷◌, ◌++◌,
 use Rattle.std.proofs.lemmas.List.{take_all}
 use Rattle.std.specs.Arc.{arc_value}
 use Rattle.pgp_ids.specs.declared.entry.Entry.{Entry}
-use Rattle.pgp_log.specs.Derived.{CanAbsorb, IsDerivedOf}
+use Rattle.pgp_log.specs.Groups.{AreOwnGroupsOf, CanAbsorb}
 use Rattle.pgp_log.specs.Fits.{fits}
 use Rattle.pgp_log.specs.Log.{HasInc}
 use Rattle.pgp_log.proofs.ComingLemmas.{inc-front}
 use Rattle.pgp_log.proofs.SharedLemmas.{map-next, next-front, next-of-legal, on_err}
-use Rattle.pgp_log.proofs.derived.Derived.of.Goals as goal
+use Rattle.pgp_log.proofs.groups.Groups.of.Goals as goal
 
 pub absorb-requires : goal.absorb-requires
 absorb-requires c =
     let i = c.loop-entry.entry-index in
     let shared = c.args.entries.now in
-    subst (CanAbsorb c.args.owner c.loop-entry.derived) (sym c.deref.ensures) (record {
+    subst (CanAbsorb c.args.owner c.loop-entry.groups) (sym c.deref.ensures) (record {
       log = map arc_value (take i shared);
       is = c.loop-entry.invariant.is;
       fits = next-of-legal [] arc_value shared i c.entry-item.result c.requires c.loop-entry-test.true c.entry-item.is;
     })
 
 pub loop-entry-init : goal.loop-entry-init
-loop-entry-init c = record { is = c.start-derived.ensures.is c.args.owner; marked = c.start-derived.ensures.marked }
+loop-entry-init c = record { is = c.new-groups.ensures.is c.args.owner; marked = c.new-groups.ensures.marked }
 
 pub loop-entry-preserved : goal.loop-entry-preserved
 loop-entry-preserved c =
@@ -29,7 +29,7 @@ loop-entry-preserved c =
     let new = c.entry-item.result in
     let log = map arc_value (take i shared) in
     let fit : fits log (arc_value new) ≡ None = next-of-legal [] arc_value shared i new c.requires c.loop-entry-test.true c.entry-item.is in
-    let now : IsDerivedOf c.args.owner (map arc_value (take (i + 1) shared)) c.absorb.new.self =
+    let now : AreOwnGroupsOf c.args.owner (map arc_value (take (i + 1) shared)) c.absorb.new.self =
     rw (map-next arc_value shared i new c.loop-entry-test.true c.entry-item.is, ← c.deref.ensures)
     (c.in_ok-absorb.ensures.ok log c.loop-entry.invariant.is (rw c.deref.ensures fit)) in
     record { is = now; marked = c.in_ok-absorb.ensures.marked c.loop-entry.invariant.marked }
@@ -47,4 +47,4 @@ returns-in_err-absorb-clause-wants c =
 pub returns-clause-is : goal.returns-clause-is
 returns-clause-is c =
     let shared = c.args.entries.now in
-    subst (λ (l : List Entry). IsDerivedOf c.args.owner l c.loop-entry.derived) (ap (map arc_value) (take_all c.loop-entry.entry-index shared c.loop-entry-test.false)) c.loop-entry.invariant.is
+    subst (λ (l : List Entry). AreOwnGroupsOf c.args.owner l c.loop-entry.groups) (ap (map arc_value) (take_all c.loop-entry.entry-index shared c.loop-entry-test.false)) c.loop-entry.invariant.is

@@ -1,0 +1,78 @@
+-- What a shard keeps beside the entries that it has read, or that it keeps nothing, and the marks.
+use Rattle.std.proofs.Common.{◌≡◌, List, [], ◌∷◌, ◌++◌, Option, Some, None, IfSome, true, false, ◌&&◌, map, refl, sym, ap, ◌∙◌, subst}
+use Rattle.std.proofs.lemmas.List.{map-append}
+use Rattle.pgp_ids.specs.declared.entry.Entry.{Entry}
+use Rattle.pgp_ids.specs.declared.entry.Entry.TheVariants as entry
+use Rattle.pgp_ids.specs.declared.pg_id.PgId.{PgId}
+use Rattle.pgp_ids.specs.declared.incremental.Incremental.{Incremental}
+use Rattle.pgp_map.specs.Pools.{has_group}
+use Rattle.pgp_group.specs.Entries.{incs_of}
+use Rattle.pgp_group.specs.Touched.{is_touched}
+use Rattle.pgp_log.specs.Fits.{fits}
+use Rattle.pgp_log.specs.Groups.{AreOwnGroupsOf, IsKeptBeside, marks_of, owns, shard_with}
+use Rattle.pgp_log.specs.KeptGroup.{AreAllMarked}
+use Rattle.pgp_log.specs.Log.{is_legal}
+use Rattle.pgp_log.specs.Shard.{AreMarked, MarksOnlyTouched, is_among}
+use Rattle.pgp_log.specs.declared.groups.Groups.{Groups}
+use Rattle.pgp_log.specs.declared.owner.Owner.{Owner}
+use Rattle.pgp_log.proofs.ComingLemmas.{has_group-same}
+use Rattle.pgp_log.proofs.LogLemmas.{legal-snoc}
+use Rattle.pgp_log.proofs.MarksLemmas.{all-marks, marks-once, pool-left}
+use Rattle.pgp_log.proofs.TakeLemmas.{incs-inc, incs-other}
+
+-- what is there follows from the log
+pub groups-there : (owner : Owner) (log : List Entry) (found : Option Groups) (groups : Groups) → IsKeptBeside owner log found → found ≡ Some groups → AreOwnGroupsOf owner log groups
+groups-there owner log found groups is there = subst (λ (o : Option Groups). IfSome o (AreOwnGroupsOf owner log)) there is.groups_are
+
+-- ---- an entry comes
+
+-- the front with one entry more
+pub front-longer : {X : Type 0} (f : X → Entry) (before after : List X) (copy : X) (new : Entry) → after ≡ before ++ copy ∷ [] → f copy ≡ new → map f after ≡ map f before ++ new ∷ []
+front-longer f before after copy new longer same = ap (map f) longer ∙ map-append f before (copy ∷ []) ∙ ap (λ (e : Entry). map f before ++ e ∷ []) same
+
+-- nothing is there
+pub beside-away : (owner : Owner) (log longer : List Entry) (new : Entry) (found left : Option Groups) → IsKeptBeside owner log found → fits log new ≡ None → longer ≡ log ++ new ∷ [] → left ≡ None → IsKeptBeside owner longer left
+beside-away owner log longer new found left is fit more away =
+    subst (λ (l : List Entry). IsKeptBeside owner l left) (sym more)
+    (subst (IsKeptBeside owner (log ++ new ∷ [])) (sym away) (record { legal = legal-snoc log new is.legal fit; groups_are = tt }))
+
+-- what is there takes the entry
+pub beside-read : (owner : Owner) (log longer : List Entry) (new : Entry) (after : Groups) → is_legal log ≡ true → fits log new ≡ None → longer ≡ log ++ new ∷ [] → AreOwnGroupsOf owner (log ++ new ∷ []) after
+    → IsKeptBeside owner longer (Some after)
+beside-read owner log longer new after legal fit more is =
+    subst (λ (l : List Entry). IsKeptBeside owner l (Some after)) (sym more) (record { legal = legal-snoc log new legal fit; groups_are = is })
+
+-- an entry that doesn't touch a group leaves the map the group, or without it
+has-untouched : (log : List Entry) (new : Entry) (pg : PgId) → is_touched log new pg ≡ false → has_group (incs_of (log ++ new ∷ [])) pg ≡ has_group (incs_of log) pg
+has-untouched log (entry.Inc inc) pg untouched =
+    ap (λ (l : List Incremental). has_group l pg) (incs-inc log (entry.Inc inc) inc refl) ∙ has_group-same (incs_of log) inc pg (pool-left log inc pg untouched)
+has-untouched log new pg untouched = ap (λ (l : List Incremental). has_group l pg) (incs-other log new refl)
+
+pub marks-away : (owner : Owner) (log longer : List Entry) (new : Entry) (found left : Option Groups) → found ≡ None → longer ≡ log ++ new ∷ [] → left ≡ None
+    → MarksOnlyTouched new (shard_with owner log found) (shard_with owner longer left)
+marks-away owner log longer new found left none more away =
+    subst (λ (o : Option Groups). MarksOnlyTouched new (shard_with owner log o) (shard_with owner longer left)) (sym none)
+    (subst (λ (o : Option Groups). MarksOnlyTouched new (shard_with owner log None) (shard_with owner longer o)) (sym away)
+    (subst (λ (l : List Entry). MarksOnlyTouched new (shard_with owner log None) (shard_with owner l None)) (sym more) (record {
+      others = λ pg untouched. ap (λ b. owns owner pg && b) (has-untouched log new pg untouched);
+      there = refl;
+    })))
+
+-- ---- the marks
+
+-- those of what is made anew: all the owner's groups that the map has
+pub marked-anew : (owner : Owner) (log : List Entry) (groups : Groups) (found : Option Groups) → found ≡ None → AreOwnGroupsOf owner log groups → AreAllMarked groups.kept.items
+    → AreMarked (shard_with owner log found) (marks_of groups)
+marked-anew owner log groups found none is all =
+    subst (λ (o : Option Groups). AreMarked (shard_with owner log o) (marks_of groups)) (sym none) (record {
+      each = λ pg. ap (is_among pg) (all-marks groups.kept.items all) ∙ is.own_are pg;
+      once = marks-once groups is.groups_are.places_are;
+      in_order = tt;
+    })
+
+-- those that are there
+pub marked-there : (owner : Owner) (log : List Entry) (groups : Groups) (found : Option Groups) → found ≡ Some groups → AreOwnGroupsOf owner log groups
+    → AreMarked (shard_with owner log found) (marks_of groups)
+marked-there owner log groups found there is =
+    subst (λ (o : Option Groups). AreMarked (shard_with owner log o) (marks_of groups)) (sym there)
+    (record { each = λ pg. refl; once = marks-once groups is.groups_are.places_are; in_order = refl })

@@ -1,0 +1,29 @@
+use Rattle.std.proofs.Common.{◌≡◌, false, ℕ, ◌<◌, ◌≤◌, ◌-◌, List, [], ◌∷◌, ◌++◌, Some, length}
+use Rattle.std.specs.Prelude.{slice_get}
+use Rattle.pgp_ids.specs.declared.entry.Entry.{Entry}
+use Rattle.pgp_ids.specs.declared.entry.Entry.TheVariants as entry
+use Rattle.pgp_ids.specs.declared.pg_id.PgId.{PgId}
+use Rattle.pgp_group.specs.Touched.{is_touched}
+use Rattle.pgp_log.specs.Groups.{marks_of}
+use Rattle.pgp_log.specs.KeptGroup.{AreAllMarked, AreKeptOf, AreRowsOf, IsKeptOf, IsStep, ids_of}
+use Rattle.pgp_log.specs.Shard.{is_among}
+use Rattle.pgp_log.specs.declared.kept_group.KeptGroup.{KeptGroup}
+use Rattle.pgp_log.proofs.groups.Groups.absorb_inc.Given as goal
+
+abbrev pub invariant-loop-place : goal.invariant-loop-place
+invariant-loop-place l = record {
+  map : l.self.map ≡ l.initial.self.map;
+  places : l.self.places ≡ l.initial.self.places;
+  worked : l.self.some_worked_out ≡ l.initial.self.some_worked_out;
+  ids : ids_of l.self.kept.items ≡ ids_of l.initial.self.kept.items;
+  rows : AreRowsOf l.self.rows l.self.kept.items;
+  done : (log : List Entry) → AreKeptOf log l.initial.self.kept.items → IsStep log l.inc l.before l.self.map
+      → (at : ℕ) (kept : KeptGroup) → at < l.from → slice_get l.self.kept.items at ≡ Some kept → IsKeptOf (log ++ entry.Inc l.inc ∷ []) kept;
+  rest : (at : ℕ) → l.from ≤ at → slice_get l.self.kept.items at ≡ slice_get l.initial.self.kept.items at;
+  marks : (log : List Entry) → AreKeptOf log l.initial.self.kept.items → IsStep log l.inc l.before l.self.map
+      → (pg : PgId) → is_touched log (entry.Inc l.inc) pg ≡ false → is_among pg (marks_of l.self) ≡ is_among pg (marks_of l.initial.self);
+  marked : AreAllMarked l.initial.self.kept.items → AreAllMarked l.self.kept.items;
+}
+
+abbrev pub decreases-loop-place : goal.decreases-loop-place
+decreases-loop-place l = length l.self.kept.items - l.from

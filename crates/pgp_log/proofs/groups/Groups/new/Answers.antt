@@ -1,0 +1,14 @@
+use Rattle.std.proofs.Common.{◌≡◌, false, rules, refl, sym, ◌∙◌}
+use Rattle.std.proofs.lemmas.Bool.{and_right}
+use Rattle.pgp_log.specs.Groups.{owns}
+use Rattle.pgp_log.specs.KeptGroup.{ids_of}
+use Rattle.pgp_log.specs.Shard.{is_among}
+use Rattle.pgp_log.proofs.groups.Groups.new.Goals as goal
+
+pub returns-clause-is : goal.returns-clause-is
+returns-clause-is c = λ owner. record {
+  legal = refl;
+  map_is = c.empty.ensures;
+  groups_are = search rules;
+  own_are = λ pg. let none : is_among pg (ids_of c.new-3.result.items) ≡ false = search rules in none ∙ sym (and_right (owns owner pg) _ refl);
+}

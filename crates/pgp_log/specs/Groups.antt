@@ -1,0 +1,135 @@
+-- What follows for a shard from the entries that it has read: the map that they make, and the shard's groups.
+use Rattle.std.specs.Prelude.{◌≡◌, ℕ, ◌++◌, ◌&&◌, List, [], ◌∷◌, slice_get, Option, None, Some, IfSome, option_map, Bool, true, false}
+use Rattle.std.specs.HashMap as hash
+use Rattle.pgp_ids.specs.declared.entry.Entry.{Entry}
+use Rattle.pgp_ids.specs.declared.entry.Entry.TheVariants as entry
+use Rattle.pgp_ids.specs.declared.incremental.Incremental.{Incremental}
+use Rattle.pgp_ids.specs.declared.pg_id.PgId.{PgId}
+use Rattle.pgp_map.specs.MapFault.{then_with}
+use Rattle.pgp_map.specs.MapOf.{IsMapOf}
+use Rattle.pgp_map.specs.Pools.{has_group, is_same_group}
+use Rattle.pgp_group.specs.Entries.{incs_of}
+use Rattle.pgp_group.specs.GroupHistory.{makes}
+use Rattle.pgp_group.specs.Touched.{is_touched}
+use Rattle.pgp_log.specs.Fits.{fits}
+use Rattle.pgp_log.specs.KeptGroup.{AreAllMarked, AreKeptOf, AreRowsOf, IsStep, ids_of, marks_in}
+use Rattle.pgp_log.specs.Log.{is_legal}
+use Rattle.pgp_log.specs.Shard.{Shard, is_among, is_own}
+use Rattle.pgp_log.specs.declared.before.MapBefore.{MapBefore}
+use Rattle.pgp_log.specs.declared.groups.Groups.{Groups}
+use Rattle.pgp_log.specs.declared.owner.Owner.{Owner}
+
+-- ---- the groups that are kept
+
+-- the table says of each group at which place it stands, and of no other; and so stand the rows
+pub record AreAtPlaces (groups : Groups) : Type 0 where
+  pub there : (pg : PgId) (place : ℕ) → hash.get is_same_group groups.places pg ≡ Some place → slice_get (ids_of groups.kept.items) place ≡ Some pg
+  pub found : (pg : PgId) (place : ℕ) → slice_get (ids_of groups.kept.items) place ≡ Some pg → hash.get is_same_group groups.places pg ≡ Some place
+  pub rows : AreRowsOf groups.rows groups.kept.items
+
+-- until one of them is worked out, all are marked
+abbrev pub AreMarkedAtFirst : Groups → Type 0
+AreMarkedAtFirst groups = groups.some_worked_out ≡ false → AreAllMarked groups.kept.items
+
+-- the groups are kept, each at its place
+pub record AreGroupsOf (log : List Entry) (groups : Groups) : Type 0 where
+  pub each : AreKeptOf log groups.kept.items
+  pub places_are : AreAtPlaces groups
+  pub marked_are : AreMarkedAtFirst groups
+
+-- the groups that are marked: they have to be worked out anew at the next question
+abbrev pub marks_of : Groups → List PgId
+marks_of groups = marks_in groups.kept.items
+
+-- the group is one of those that are kept
+abbrev pub keeps : PgId → Groups → Bool
+keeps pg groups = is_among pg (ids_of groups.kept.items)
+
+-- each group that was kept is kept still
+abbrev pub KeepsAll : Groups → Groups → Type 0
+KeepsAll before after = (pg : PgId) → keeps pg before ≡ true → keeps pg after ≡ true
+
+-- each group that was kept is kept still; and if all were marked, all are
+pub record HasStill (before after : Groups) : Type 0 where
+  pub groups_are : KeepsAll before after
+  pub marked : AreAllMarked before.kept.items → AreAllMarked after.kept.items
+
+-- the entry marks only groups that it touches: each other is marked after it where it was before
+abbrev pub MarksTouched : List Entry → Entry → Groups → Groups → Type 0
+MarksTouched log new before after =
+    (pg : PgId) → is_touched log new pg ≡ false → is_among pg (marks_of after) ≡ is_among pg (marks_of before)
+
+-- ---- the owner's groups
+
+-- the group is one of the owner's
+abbrev pub owns : Owner → PgId → Bool
+owns owner pg = is_own owner.shard owner.shards pg
+
+-- if the group is the owner's and the map has it, it is kept
+abbrev pub IsKeptIfOwn : Owner → List Incremental → Groups → PgId → Type 0
+IsKeptIfOwn owner incs groups pg = owns owner pg ≡ true → has_group incs pg ≡ true → keeps pg groups ≡ true
+
+-- if the group is kept, it is the owner's and the map has it
+abbrev pub IsOwnIfKept : Owner → List Incremental → Groups → PgId → Type 0
+IsOwnIfKept owner incs groups pg = keeps pg groups ≡ true → (owns owner pg && has_group incs pg) ≡ true
+
+-- just those groups are kept that are the owner's and that the map has
+abbrev pub HasOwn : Owner → List Incremental → Groups → Type 0
+HasOwn owner incs groups = (pg : PgId) → keeps pg groups ≡ (owns owner pg && has_group incs pg)
+
+-- ---- as the log grows
+
+-- the log is legal, the map is the one that it makes, what is kept of each group is what the log says of it, and just the
+-- owner's groups that the map has are kept
+pub record AreOwnGroupsOf (owner : Owner) (log : List Entry) (groups : Groups) : Type 0 where
+  pub legal : is_legal log ≡ true
+  pub map_is : IsMapOf (incs_of log) groups.map
+  pub groups_are : AreGroupsOf log groups
+  pub own_are : HasOwn owner (incs_of log) groups
+
+-- the map has an incremental that comes next in the log; the owner's groups that the map before has are kept, and only groups
+-- of the owner that the map after has
+pub record IsStepping (owner : Owner) (log : List Entry) (inc : Incremental) (groups : Groups) : Type 0 where
+  pub before : MapBefore
+  pub step : IsStep log inc before groups.map
+  pub groups_are : AreGroupsOf (log ++ entry.Inc inc ∷ []) groups
+  pub own_are : (pg : PgId) → IsKeptIfOwn owner (incs_of log) groups pg
+  pub only_own : (pg : PgId) → IsOwnIfKept owner (then_with (incs_of log) inc) groups pg
+
+-- it does in some log
+pub record CanStepOn (owner : Owner) (groups : Groups) (inc : Incremental) : Type 0 where
+  pub log : List Entry
+  pub is : IsStepping owner log inc groups
+
+-- and the incremental makes the pool
+pub record CanAddTo (owner : Owner) (groups : Groups) (id : ℕ) : Type 0 where
+  pub inc : Incremental
+  pub can : CanStepOn owner groups inc
+  pub made : makes id inc ≡ true
+
+-- the entry comes next in some log
+pub record CanAbsorb (owner : Owner) (groups : Groups) (new : Entry) : Type 0 where
+  pub log : List Entry
+  pub is : AreOwnGroupsOf owner log groups
+  pub fits : fits log new ≡ None
+
+-- the incremental does, for some owner
+pub record CanAbsorbInc (groups : Groups) (inc : Incremental) : Type 0 where
+  pub owner : Owner
+  pub can : CanAbsorb owner groups (entry.Inc inc)
+
+-- ---- beside the entries
+
+-- the log is legal, and what a shard keeps beside it, if anything, follows from it
+pub record IsKeptBeside (owner : Owner) (log : List Entry) (groups : Option Groups) : Type 0 where
+  pub legal : is_legal log ≡ true
+  pub groups_are : IfSome groups (AreOwnGroupsOf owner log)
+
+-- the owner's shard, which has read these entries and keeps this beside them
+abbrev pub shard_with : Owner → List Entry → Option Groups → Shard
+shard_with owner log groups = record {
+  front = log;
+  shard = owner.shard;
+  shards = owner.shards;
+  marks = option_map marks_of groups;
+}
