@@ -18,7 +18,8 @@ pub struct Giver<'a> {
 }
 
 impl<'a> Giver<'a> {
-    /// A reader of these bytes that gives `step` of them at a time and fails at its call `fails_at`, counted from 0.
+    /// A reader of these bytes that gives `step` of them at a time, at least one, and fails at its call `fails_at`, counted
+    /// from 0.
     pub fn new(bytes: &'a [u8], step: usize, fails_at: usize) -> Self {
         Giver {
             left: bytes,
@@ -42,7 +43,7 @@ impl Source for Giver<'_> {
             return Err(io::Error::from(ErrorKind::Other));
         }
         self.calls_left -= 1;
-        let count = self.step.min(buf.len()).min(self.left.len());
+        let count = self.step.max(1).min(buf.len()).min(self.left.len());
         let (given, left) = self.left.split_at(count);
         buf[..count].copy_from_slice(given);
         self.left = left;
