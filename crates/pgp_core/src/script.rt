@@ -53,19 +53,6 @@ impl Script {
         }
     }
 
-    /// Takes bytes of the line, none of them a line feed.
-    fn add(&mut self, piece: &[u8])
-        requires one_line { list_any is_line_feed piece.now ≡ false }
-        requires room { 0 < self.old.input.left.lines }
-        requires fits { length piece.now ≤ self.old.input.left.bytes }
-        ensures left { self.new.input.left.bytes + length piece.now ≡ self.old.input.left.bytes }
-        ensures lines { self.new.input.left.lines ≡ self.old.input.left.lines }
-        ensures after { (alone : Bool) (began : Began) (log : List Entry) (now : Option (List ℕ)) (bytes : List ℕ)
-            → IsAfter alone began self.old log now bytes → IsAfter alone began self.new log now (bytes ++ piece.now) }
-    {
-        self.input.add(piece);
-    }
-
     /// Answers the line that is being read, which ends with this piece. Where it was out of memory, its answer is a constant
     /// text. Where nobody answers it any more, what is pending is written.
     fn put_answer<A: Answerer, W: Sink>(
@@ -175,7 +162,7 @@ impl Script {
                     rest = others;
                 }
                 None => {
-                    self.add(rest);
+                    self.input.add(rest);
                     rest = &[];
                 }
             }

@@ -1,7 +1,7 @@
 use Rattle.std.proofs.Common.{◌<◌, [], ◌∷◌, ◌++◌, length, sym, ◌∙◌, ap, subst, append-nil, append_assoc, arith, length-append}
 use Rattle.std.proofs.lemmas.Bool.Decides.{nat_tests}
 use Rattle.pgp_core.specs.Telling.{StopsIn}
-use Rattle.pgp_core.proofs.RunLemmas.{passed_on, stopped, all_lines, beyond_lines, taken-more, regroup, regroup_line}
+use Rattle.pgp_core.proofs.RunLemmas.{passed_on, after-piece, stopped, all_lines, beyond_lines, taken-more, regroup, regroup_line}
 use Rattle.pgp_core.proofs.script.Script.take_allowed.Goals as goal
 
 pub returns-then-self-eq0-clause-err : goal.returns-then-self-eq0-clause-err
@@ -50,5 +50,6 @@ loop-rest-preserved g c =
       fits = omega arith;
       left = omega (arith, after_add, invariant.fits, invariant.left);
       kept = invariant.kept;
-      taken = taken-more _ _ _ _ _ _ _ _ _ _ _ _ c.loop-rest.rest.now [] invariant.taken (sym (append-nil c.loop-rest.rest.now)) (λ began bytes. c.add.ensures.after g.A.Answerer.alone began _ _ bytes);
+      taken = taken-more _ _ _ _ _ _ _ _ _ _ _ _ c.loop-rest.rest.now [] invariant.taken (sym (append-nil c.loop-rest.rest.now))
+          (λ began bytes. after-piece g.A.Answerer.alone began c.loop-rest.self c.add.new.self _ _ bytes c.loop-rest.rest.now c.in-None.ensures.none c.add.ensures.read);
     }
