@@ -1,4 +1,4 @@
-pub mod Held
+pub mod HeldSession
 pub mod Status
 pub mod Place
 pub mod View

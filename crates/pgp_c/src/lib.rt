@@ -16,7 +16,7 @@ ghost use Rattle.pgp_c.specs.Objects.{Objects};
 mod ask;
 mod compact;
 mod each;
-mod held;
+mod held_session;
 mod info;
 mod lists;
 mod locate;

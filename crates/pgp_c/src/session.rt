@@ -2,7 +2,7 @@
 
 ghost use Rattle.std.specs.Prelude.{◌≡◌, Some, None, is_some, option_map};
 
-use super::held::Held;
+use super::held_session::HeldSession;
 use pgp_core::Session;
 use std::alloc::Global;
 
@@ -14,7 +14,7 @@ pub struct PgpSession {
     /// Whether there is a session.
     pub is_open: bool,
     /// The session.
-    pub held: Held,
+    pub held: HeldSession,
     ghost agrees: { is_open ≡ is_some held.session },
 }
 
@@ -28,7 +28,7 @@ impl PgpSession {
             self,
             PgpSession {
                 is_open: false,
-                held: Held::none(alloc),
+                held: HeldSession::none(alloc),
             },
         );
         if taken.is_open {
@@ -44,7 +44,7 @@ impl PgpSession {
     {
         *self = for_any_thread(PgpSession {
             is_open: true,
-            held: Held::of(session),
+            held: HeldSession::of(session),
         });
     }
 }

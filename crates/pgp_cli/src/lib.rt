@@ -2,7 +2,7 @@
 //!
 //! [`status_of`] does what the words ask for, over any reader and writers: `pgp_core` answers a script on one thread, and
 //! `pgp_run` one with workers; `pgp_explain` explains one, and
-//! `pgp_compact_script` compacts one. [`Watched`] is a stream with an account of whether a call of it
+//! `pgp_compact_script` compacts one. [`WatchedStream`] is a stream with an account of whether a call of it
 //! failed, on which the contract of a run depends.
 #![tactic(auto)]
 
@@ -32,6 +32,6 @@ pub use laws::{
 pub use request::{Request, read_request};
 pub use run_options::RunOptions;
 pub use status::status_of;
-pub use streams::Watched;
+pub use streams::WatchedStream;
 pub use tell::without_words;
 pub use words::options;

@@ -7,17 +7,17 @@ use std::io::{Read, Write};
 
 /// A stream, and whether a call of it failed.
 #[derive(Drop)]
-pub struct Watched<S: Drop> {
+pub struct WatchedStream<S: Drop> {
     stream: S,
     failed: bool,
 }
 
-impl<S: Drop> Watched<S> {
+impl<S: Drop> WatchedStream<S> {
     /// A stream of which no call has failed.
     pub fn new(stream: S) -> Self
         ensures { (result.stream ≡ stream) × (result.failed ≡ false) }
     {
-        Watched {
+        WatchedStream {
             stream,
             failed: false,
         }
@@ -30,7 +30,7 @@ impl<S: Drop> Watched<S> {
     }
 }
 
-impl<R: Read + Drop> Source for Watched<R> {
+impl<R: Read + Drop> Source for WatchedStream<R> {
     ghost remaining = { λ watched. R.remaining watched.stream };
 
     ghost failed = { λ watched. watched.failed };
@@ -46,7 +46,7 @@ impl<R: Read + Drop> Source for Watched<R> {
     }
 }
 
-impl<W: Write + Drop> Sink for Watched<W> {
+impl<W: Write + Drop> Sink for WatchedStream<W> {
     ghost contents = { λ watched. W.contents watched.stream };
 
     ghost failed = { λ watched. watched.failed };

@@ -26,7 +26,7 @@ pub use Rattle.pgp_compact.specs.declared.course.Course.{Course}
 pub use Rattle.pgp_compact.specs.declared.courses.Courses.{Courses}
 pub use Rattle.pgp_compact.specs.declared.keys.Number.{Number}
 pub use Rattle.pgp_compact.specs.declared.keys.Opening.{Opening}
-pub use Rattle.pgp_compact.specs.declared.lying.Lying.{Lying}
+pub use Rattle.pgp_compact.specs.declared.group_place.GroupPlace.{GroupPlace}
 pub use Rattle.pgp_compact.specs.declared.standing.Standing.{Standing}
 pub use Rattle.pgp_compact.specs.declared.whole.Whole.{Whole}
 pub use Rattle.pgp_group.proofs.FirstLemmas.{along}
@@ -76,4 +76,4 @@ pub use Rattle.pgp_missing.specs.Last.{put_in}
 pub use Rattle.pgp_missing.specs.Log.{are_whole, has_number, within}
 pub use Rattle.pgp_missing.specs.Missing.{peer_state_by}
 pub use Rattle.pgp_sets.proofs.RawSetLemmas.{raw_set-stays, unmoved-unplaced}
-pub use Rattle.pgp_tables.proofs.Told.{same_group}
+pub use Rattle.pgp_tables.proofs.Common.{same_group}

@@ -1,25 +1,25 @@
 -- What is kept of the groups that have reports, as entries are noted and maps follow.
-use Rattle.pgp_compact.proofs.Common.{AnyCode, AreCourses, AreNumbered, Bor, Course, Courses, EachIsCourse, Entry, History, IfNone, IfSome, Incremental, Info, IsCourse, IsCourseIn, IsNext, IsReportOf, IsSameButCourse, IsSilent, IsUnderWay, LiesAt, List, Lying, None, Option, OsdMap, PgId, PrimaryFacts, Report, Some, [], any-same, arith, begun, cases_Bool, cases_eq, checked-numbered, code_of, comes-with_pool, cond, current_first-continues, current_first-ends, enough_of, epoch, epoch-snoc, eq-is_same, false, fold-append, front-checked, get-last, get-set_other, get-set_same, get_or, get_or_from_slice_get, has_group, has_group-same, history-begins-made, history-current, history-grows, history-last, incs, info_of, infos-new, infos-other, infos-same, inl, inr, is_by_place, is_same, is_same-eq, is_same_group, is_some, last-checked, left-unmoved, length, lies-as-before, lies_on, map-append, map_fault, map_some, max, may_leave, may_lie_on, may_move, moves_none, nat_lt, nat_tests, next_epoch, none-moved, past_intervals-continues, past_intervals-ends, pool, pool_membership, primary_facts, raw_set-stays, refl, report_of, reports-other, reports-same, same-self, same_group, set, slice_get, slice_get_within, started_by, stepped, subst, suc, temp-same, then_with, true, turned-parts, unmade, unmoved-unplaced, ℕ, ◌++◌, ◌∙◌, ◌∷◌, ◌≡◌, ◌≢◌}
+use Rattle.pgp_compact.proofs.Common.{AnyCode, AreCourses, AreNumbered, Bor, Course, Courses, EachIsCourse, Entry, History, IfNone, IfSome, Incremental, Info, IsCourse, IsCourseIn, IsNext, IsReportOf, IsSameButCourse, IsSilent, IsUnderWay, LiesAt, List, GroupPlace, None, Option, OsdMap, PgId, PrimaryFacts, Report, Some, [], any-same, arith, begun, cases_Bool, cases_eq, checked-numbered, code_of, comes-with_pool, cond, current_first-continues, current_first-ends, enough_of, epoch, epoch-snoc, eq-is_same, false, fold-append, front-checked, get-last, get-set_other, get-set_same, get_or, get_or_from_slice_get, has_group, has_group-same, history-begins-made, history-current, history-grows, history-last, incs, info_of, infos-new, infos-other, infos-same, inl, inr, is_by_place, is_same, is_same-eq, is_same_group, is_some, last-checked, left-unmoved, length, lies-as-before, lies_on, map-append, map_fault, map_some, max, may_leave, may_lie_on, may_move, moves_none, nat_lt, nat_tests, next_epoch, none-moved, past_intervals-continues, past_intervals-ends, pool, pool_membership, primary_facts, raw_set-stays, refl, report_of, reports-other, reports-same, same-self, same_group, set, slice_get, slice_get_within, started_by, stepped, subst, suc, temp-same, then_with, true, turned-parts, unmade, unmoved-unplaced, ℕ, ◌++◌, ◌∙◌, ◌∷◌, ◌≡◌, ◌≢◌}
 use Rattle.std.specs.HashMap as hash
 use Rattle.pgp_ids.specs.declared.entry.Entry.TheVariants as entry
 
 -- ---- a group that stays where it lies
 
-may_lie-there : (incs : List Incremental) (pg : PgId) (lying : Lying) → LiesAt incs pg lying → (osd : ℕ) → may_lie_on incs pg osd ≡ lies_on lying osd
-may_lie-there incs pg lying lies osd = grind (arith, map_some)
+may_lie-there : (incs : List Incremental) (pg : PgId) (place : GroupPlace) → LiesAt incs pg place → (osd : ℕ) → may_lie_on incs pg osd ≡ lies_on place osd
+may_lie-there incs pg place lies osd = grind (arith, map_some)
 
-pub unmoved : (incs : List Incremental) (inc : Incremental) (pg : PgId) (lying : Lying) → map_fault incs inc ≡ None → LiesAt incs pg lying → may_leave lying pg inc ≡ false → may_move incs inc pg ≡ false
-unmoved incs inc pg lying fine lies stays =
+pub unmoved : (incs : List Incremental) (inc : Incremental) (pg : PgId) (place : GroupPlace) → map_fault incs inc ≡ None → LiesAt incs pg place → may_leave place pg inc ≡ false → may_move incs inc pg ≡ false
+unmoved incs inc pg place fine lies stays =
     grind (arith, nat_tests, unmade, map_some, any-same, may_lie-there, turned-parts, unmoved-unplaced)
 
-lies-still : (incs : List Incremental) (inc : Incremental) (pg : PgId) (lying : Lying) → map_fault incs inc ≡ None → may_move incs inc pg ≡ false → LiesAt incs pg lying → LiesAt (then_with incs inc) pg lying
-lies-still incs inc pg lying fine still lies =
+lies-still : (incs : List Incremental) (inc : Incremental) (pg : PgId) (place : GroupPlace) → map_fault incs inc ≡ None → may_move incs inc pg ≡ false → LiesAt incs pg place → LiesAt (then_with incs inc) pg place
+lies-still incs inc pg place fine still lies =
     let left = left-unmoved incs inc pg still in
     grind (arith, raw_set-stays, temp-same, lies-as-before raw_set-stays incs inc pg fine still)
 
 -- what is kept of a group that is under way
-pub under-way : (incs : List Incremental) (course : Course) (lying : Lying) → course.lying ≡ Some lying → IsUnderWay incs course.pg course.firsts.items lying → IsCourse incs course
-under-way incs course lying is on = grind arith
+pub under-way : (incs : List Incremental) (course : Course) (place : GroupPlace) → course.place ≡ Some place → IsUnderWay incs course.pg course.firsts.items place → IsCourse incs course
+under-way incs course place is on = grind arith
 
 module _ (incs : List Incremental) (inc : Incremental) (after : OsdMap) (next : IsNext incs inc after) where
   abbrev later : List Incremental
@@ -32,21 +32,21 @@ module _ (incs : List Incremental) (inc : Incremental) (after : OsdMap) (next : 
   counts = checked-numbered front-checked last-checked incs (front-checked incs (inc ∷ []) next.checked)
 
   -- the group lies there by the map
-  pub moved : (pg : PgId) (firsts firsts' : List ℕ) (lying to : Lying) → IsUnderWay incs pg firsts lying → LiesAt later pg to
-      → firsts' ≡ cond (is_same lying.members to.members) firsts (firsts ++ epoch later ∷ []) → IsUnderWay later pg firsts' to
-  moved pg firsts firsts' lying to is lies are =
+  pub moved : (pg : PgId) (firsts firsts' : List ℕ) (place to : GroupPlace) → IsUnderWay incs pg firsts place → LiesAt later pg to
+      → firsts' ≡ cond (is_same place.members to.members) firsts (firsts ++ epoch later ∷ []) → IsUnderWay later pg firsts' to
+  moved pg firsts firsts' place to is lies are =
       let h : History AnyCode = is.history in
       let facts : PrimaryFacts = primary_facts incs h.current.acting_primary in
-      let here : lying.members ≡ h.current = grind (arith, history-current incs pg h is.history_is) in
+      let here : place.members ≡ h.current = grind (arith, history-current incs pg h is.history_is) in
       record {
         history = stepped h to.members facts;
         history_is = grind (arith, history-grows incs inc pg h counts fine is.history_is);
-        firsts_are = are ∙ elim (cases_Bool (is_same lying.members to.members)) [
+        firsts_are = are ∙ elim (cases_Bool (is_same place.members to.members)) [
           | inl same ↦
               let past = past_intervals-continues enough_of is_by_place [] h facts in
-              grind (arith, is_same-eq lying.members to.members same, past, current_first-continues h facts)
+              grind (arith, is_same-eq place.members to.members same, past, current_first-continues h facts)
           | inr differ ↦
-              let apart : to.members ≢ h.current = λ e. grind (arith, eq-is_same lying.members to.members) in
+              let apart : to.members ≢ h.current = λ e. grind (arith, eq-is_same place.members to.members) in
               let past = past_intervals-ends enough_of is_by_place [] h to.members facts apart in
               let last = history-last incs pg h counts is.history_is in
               grind (arith, past, current_first-ends h to.members facts apart, map-append, epoch-snoc incs inc, next_epoch incs inc fine, last)
@@ -59,16 +59,16 @@ module _ (incs : List Incremental) (inc : Incremental) (after : OsdMap) (next : 
   course-unmoved course still is = record {
     absent = λ none. grind (arith, nat_tests, has_group-same incs inc course.pg, left-unmoved incs inc course.pg still, is.absent none);
     unbegun = is.unbegun;
-    there = λ lying some.
-        let u = is.there lying some in
-        let lies = lies-still incs inc course.pg lying fine still u.lies in
-        moved course.pg course.firsts.items course.firsts.items lying lying u lies (grind (arith, eq-is_same));
+    there = λ place some.
+        let u = is.there place some in
+        let lies = lies-still incs inc course.pg place fine still u.lies in
+        moved course.pg course.firsts.items course.firsts.items place place u lies (grind (arith, eq-is_same));
   }
 
   -- the group comes
-  pub begins : (pg : PgId) (lying : Lying) → has_group incs pg ≡ false → has_group later pg ≡ true → LiesAt later pg lying → IsUnderWay later pg (epoch later ∷ []) lying
-  begins pg lying absent there lies =
-      let m = map_some (pool_membership later pg) (pool later pg.pool) lying.members lies.members_are in
+  pub begins : (pg : PgId) (place : GroupPlace) → has_group incs pg ≡ false → has_group later pg ≡ true → LiesAt later pg place → IsUnderWay later pg (epoch later ∷ []) place
+  begins pg place absent there lies =
+      let m = map_some (pool_membership later pg) (pool later pg.pool) place.members lies.members_are in
       record {
         history = begun (code_of m.0.kind) inc.epoch (pool_membership later pg m.0);
         history_is = grind (arith, history-begins-made incs inc pg (comes-with_pool incs inc pg absent there) there);

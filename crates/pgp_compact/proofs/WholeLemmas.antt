@@ -1,5 +1,5 @@
 -- What the whole log says of a group, and which entries are left of a log that is walked from its end.
-use Rattle.pgp_compact.proofs.Common.{Contains, Contains-nil, Course, Entry, GroupLog, HasReached, HasRead, HasReport, Incremental, Info, IsCourse, IsMapOf, IsNext, IsPresent, List, Lying, None, Option, OsdMap, PgId, Report, Says, Some, Standing, Whole, [], ap, arith, checked-more, contains-filter, contains-filter_map, current_first, drop, drop-cons, epoch, faultless-inc, firsts_of, fits-faultless, front-legal, get_or, get_or_push, group_in, group_with, history-last, inc_of, incs-other, incs_of, info_of, infos_of, is_legal, is_same_group, legal-checked, legal-counts, legal-last, length, length-append, log-in, map, map_fault, opening_in, option_map, refl, report_of, reports_of, same-self, standing_at, started, started_by, suc, then_with, true, within, ℕ, ◌++◌, ◌+◌, ◌-◌, ◌<◌, ◌∷◌, ◌≡◌, ◌≤◌}
+use Rattle.pgp_compact.proofs.Common.{Contains, Contains-nil, Course, Entry, GroupLog, HasReached, HasRead, HasReport, Incremental, Info, IsCourse, IsMapOf, IsNext, IsPresent, List, GroupPlace, None, Option, OsdMap, PgId, Report, Says, Some, Standing, Whole, [], ap, arith, checked-more, contains-filter, contains-filter_map, current_first, drop, drop-cons, epoch, faultless-inc, firsts_of, fits-faultless, front-legal, get_or, get_or_push, group_in, group_with, history-last, inc_of, incs-other, incs_of, info_of, infos_of, is_legal, is_same_group, legal-checked, legal-counts, legal-last, length, length-append, log-in, map, map_fault, opening_in, option_map, refl, report_of, reports_of, same-self, standing_at, started, started_by, suc, then_with, true, within, ℕ, ◌++◌, ◌+◌, ◌-◌, ◌<◌, ◌∷◌, ◌≡◌, ◌≤◌}
 use Rattle.pgp_compact.proofs.LegalLemmas.{legal-sent}
 use Rattle.pgp_ids.specs.declared.entry.Entry.TheVariants as entry
 
@@ -7,11 +7,11 @@ use Rattle.pgp_ids.specs.declared.entry.Entry.TheVariants as entry
 pub stands : (log : List Entry) (course : Course) (clean first : ℕ) (opening : Option ℕ) → is_legal log ≡ true → IsCourse (incs_of log) course → course.les ≡ started_by log course.pg → clean ≤ epoch (incs_of log)
     → 0 < length course.firsts.items → first ≡ get_or course.firsts.items (length course.firsts.items - 1) first → ((g : GroupLog) → course.firsts.items ≡ firsts_of g.history → HasReached g clean → opening ≡ opening_in g clean)
     → Some (record { first = first; les = course.les; opening = opening }) ≡ option_map (standing_at clean) (group_in log course.pg)
-stands log course clean first opening legal is started known some last opens = at course.lying refl where
-  at : (lying : Option Lying) → course.lying ≡ lying → Some (record { first = first; les = course.les; opening = opening }) ≡ option_map (standing_at clean) (group_in log course.pg)
+stands log course clean first opening legal is started known some last opens = at course.place refl where
+  at : (place : Option GroupPlace) → course.place ≡ place → Some (record { first = first; les = course.les; opening = opening }) ≡ option_map (standing_at clean) (group_in log course.pg)
   at None none = absurd (omega (arith, some, ap length (is.unbegun none)))
-  at (Some lying) some =
-      let u = is.there lying some in
+  at (Some place) some =
+      let u = is.there place some in
       let g : GroupLog = group_with log course.pg u.history in
       let ends = history-last (incs_of log) course.pg u.history (legal-counts log legal) u.history_is in
       let o : opening ≡ opening_in g clean = opens g u.firsts_are (omega (arith, ends, known)) in
@@ -19,10 +19,10 @@ stands log course clean first opening legal is started known some last opens = a
       rw u.history_is (λ i. Some (record { first = e i; les = started i; opening = o i }))
 
 pub stands-absent : (log : List Entry) (course : Course) (clean : ℕ) → IsCourse (incs_of log) course → length course.firsts.items ≡ 0 → None ≡ option_map (standing_at clean) (group_in log course.pg)
-stands-absent log course clean is last = at course.lying refl where
-  at : (lying : Option Lying) → course.lying ≡ lying → None ≡ option_map (standing_at clean) (group_in log course.pg)
+stands-absent log course clean is last = at course.place refl where
+  at : (place : Option GroupPlace) → course.place ≡ place → None ≡ option_map (standing_at clean) (group_in log course.pg)
   at None none = rw (is.absent none) refl
-  at (Some lying) some = let u = is.there lying some in absurd (grind (arith, u.firsts_are, length-append))
+  at (Some place) some = let u = is.there place some in absurd (grind (arith, u.firsts_are, length-append))
 
 -- the group depends on the map of its log
 pub present : (log : List Entry) (pg : PgId) (g : GroupLog) (map : OsdMap) (clean : ℕ) (found : Standing) → group_in log pg ≡ Some g → IsMapOf (incs_of log) map → found ≡ standing_at clean g → IsPresent g map found.first

@@ -17,26 +17,26 @@ use Rattle.pgp_group.specs.GroupHistory.{group_history}
 use Rattle.pgp_group.specs.Touched.{changes_temp, has_osd}
 use Rattle.pgp_log.specs.RawSets.{IsRawSet}
 use Rattle.pgp_compact.specs.declared.course.Course.{Course}
-use Rattle.pgp_compact.specs.declared.lying.Lying.{Lying}
+use Rattle.pgp_compact.specs.declared.group_place.GroupPlace.{GroupPlace}
 
 -- ---- where the group lies
 
 -- the map that these incrementals make puts the group there
-pub record LiesAt (incs : List Incremental) (pg : PgId) (lying : Lying) : Type 0 where
-  pub raw_is : IsRawSet incs pg lying.raw
-  pub temp_is : lying.temp ≡ temp incs pg
-  pub members_are : membership incs pg ≡ Some lying.members
+pub record LiesAt (incs : List Incremental) (pg : PgId) (place : GroupPlace) : Type 0 where
+  pub raw_is : IsRawSet incs pg place.raw
+  pub temp_is : place.temp ≡ temp incs pg
+  pub members_are : membership incs pg ≡ Some place.members
 
 -- the device stands in the raw set or in pg_temp
-abbrev pub lies_on : Lying → ℕ → Bool
-lies_on lying osd = has_osd osd lying.raw || has_osd osd lying.temp
+abbrev pub lies_on : GroupPlace → ℕ → Bool
+lies_on place osd = has_osd osd place.raw || has_osd osd place.temp
 
 -- the group, which lies so, may lie elsewhere by the incremental
-abbrev pub may_leave : Lying → PgId → Incremental → Bool
-may_leave lying pg inc =
+abbrev pub may_leave : GroupPlace → PgId → Incremental → Bool
+may_leave place pg inc =
     moves inc pg.pool
     || changes_temp inc pg
-    || (list_any (lies_on lying) inc.up || list_any (lies_on lying) inc.down || list_any (lies_on lying) inc.gone)
+    || (list_any (lies_on place) inc.up || list_any (lies_on place) inc.down || list_any (lies_on place) inc.gone)
 
 -- ---- the group's intervals
 
@@ -45,17 +45,17 @@ abbrev pub firsts_of : History AnyCode → List ℕ
 firsts_of h = map (λ p. p.first) (past_intervals enough_of is_by_place [] h) ++ current_first h ∷ []
 
 -- the map of these incrementals has the group, which lies so, and whose intervals began in these epochs
-pub record IsUnderWay (incs : List Incremental) (pg : PgId) (firsts : List ℕ) (lying : Lying) : Type 0 where
+pub record IsUnderWay (incs : List Incremental) (pg : PgId) (firsts : List ℕ) (place : GroupPlace) : Type 0 where
   pub history : History AnyCode
   pub history_is : group_history incs pg ≡ Some history
   pub firsts_are : firsts ≡ firsts_of history
-  pub lies : LiesAt incs pg lying
+  pub lies : LiesAt incs pg place
 
 -- what is kept of the group is what these incrementals say of it
 pub record IsCourse (incs : List Incremental) (course : Course) : Type 0 where
-  pub absent : course.lying ≡ None → has_group incs course.pg ≡ false
-  pub unbegun : course.lying ≡ None → course.firsts.items ≡ []
-  pub there : (lying : Lying) → course.lying ≡ Some lying → IsUnderWay incs course.pg course.firsts.items lying
+  pub absent : course.place ≡ None → has_group incs course.pg ≡ false
+  pub unbegun : course.place ≡ None → course.firsts.items ≡ []
+  pub there : (place : GroupPlace) → course.place ≡ Some place → IsUnderWay incs course.pg course.firsts.items place
 
 -- the incremental comes next, and this is the map after it
 pub record IsNext (incs : List Incremental) (inc : Incremental) (after : OsdMap) : Type 0 where

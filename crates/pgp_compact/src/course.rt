@@ -14,7 +14,7 @@ ghost use Rattle.pgp_compact.specs.Course.{IsCourse, IsNext, CanGoOn, firsts_of}
 ghost use Rattle.pgp_compact.specs.Courses.{started_by};
 ghost use Rattle.pgp_compact.specs.Standing.{HasReached, opening_in, standing_at};
 
-use super::lying::Lying;
+use super::group_place::GroupPlace;
 use super::standing::Standing;
 use pgp_ids::{Epoch, Incremental, Membership, PgId};
 use pgp_log::has_group;
@@ -28,7 +28,7 @@ pub(crate) struct Course {
     /// The last epoch in which the group is known to have begun to serve.
     pub(crate) les: Epoch,
     /// Where the group lies by the last map, where that has the group.
-    lying: Option<Lying>,
+    place: Option<GroupPlace>,
     /// The first epochs of its intervals, in ascending order.
     firsts: Vec<Epoch>,
 }
@@ -43,7 +43,7 @@ impl Course {
         Course {
             pg,
             les,
-            lying: None,
+            place: None,
             firsts: Vec::new(alloc),
         }
     }
@@ -64,17 +64,17 @@ impl Course {
         ensures pg { self.new.pg ≡ self.old.pg }
         ensures les { self.new.les ≡ self.old.les }
     {
-        let Some(lying) = &self.lying else {
+        let Some(place) = &self.place else {
             return self.begin(after);
         };
-        if !lying.may_leave(&self.pg, inc) {
+        if !place.may_leave(&self.pg, inc) {
             return Ok(());
         }
-        let next = lying.next(after, &self.pg, inc);
-        if !is_same(&lying.members, &next.members) {
+        let next = place.next(after, &self.pg, inc);
+        if !is_same(&place.members, &next.members) {
             self.firsts.push(after.epoch())?;
         }
-        self.lying = Some(next);
+        self.place = Some(next);
         Ok(())
     }
 
@@ -82,13 +82,13 @@ impl Course {
     fn begin(&mut self, after: &OsdMap) -> Result<(), AllocError>
         requires { IsCheckedMap after.now }
         ensures ok { OnOk result ((incs : List AnyIncremental) (inc : AnyIncremental) → IsNext incs inc after.now
-            → self.old.lying ≡ None → IsCourse incs self.old → IsCourse (then_with incs inc) self.new) }
+            → self.old.place ≡ None → IsCourse incs self.old → IsCourse (then_with incs inc) self.new) }
         ensures pg { self.new.pg ≡ self.old.pg }
         ensures les { self.new.les ≡ self.old.les }
     {
         if has_group(after, &self.pg) {
             self.firsts.push(after.epoch())?;
-            self.lying = Some(Lying::at(after, &self.pg));
+            self.place = Some(GroupPlace::at(after, &self.pg));
         }
         Ok(())
     }

@@ -8,10 +8,10 @@
 mod course;
 mod courses;
 mod greatest;
+mod group_place;
 mod keys;
 mod later;
 pub mod laws;
-mod lying;
 mod standing;
 mod walk;
 mod whole;

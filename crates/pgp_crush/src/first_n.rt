@@ -6,7 +6,7 @@ ghost use Rattle.pgp_crush.specs.FirstN.{is_failure, taken_by, pick_of, first_n}
 
 use super::candidate::{Candidate, Input, Pick};
 use super::descent::Rank;
-use super::taken::Taken;
+use super::taken_items::TakenItems;
 use pgp_ids::{MAX_OSDS, Osds};
 
 /// How many tries a replica or a position has.
@@ -19,7 +19,7 @@ impl Input<'_> {
         requires { n ≤ MAX_OSDS }
         ensures { result ≡ first_n (input_of self.now.tree.now self.now.weights.now self.now.x self.now.kind) n }
     {
-        let mut taken = Taken::new();
+        let mut taken = TakenItems::new();
         for rep in 0..n {
             let found = self.pick(&taken, rep);
             taken.push(found);
@@ -29,7 +29,7 @@ impl Input<'_> {
 
     /// What replica `rep` takes, if it finds something.
     #[tactic(auto, using(crate::proofs::FirstNLemmas::try_steps))]
-    fn pick(&self, taken: &Taken, rep: u8) -> Option<Pick>
+    fn pick(&self, taken: &TakenItems, rep: u8) -> Option<Pick>
         ensures { result ≡ pick_of (input_of self.now.tree.now self.now.weights.now self.now.x self.now.kind) taken.now rep }
     {
         for f in 0..TRIES {
@@ -43,7 +43,7 @@ impl Input<'_> {
 }
 
 /// The try is a failure, after which the next one follows.
-fn is_failure(taken: &Taken, candidate: &Candidate) -> bool
+fn is_failure(taken: &TakenItems, candidate: &Candidate) -> bool
     ensures { result ≡ is_failure taken.now candidate.now }
 {
     match candidate {

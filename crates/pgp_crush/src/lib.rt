@@ -22,7 +22,7 @@ mod list;
 mod out;
 mod placement;
 mod rule;
-mod taken;
+mod taken_items;
 mod tree;
 mod uniform;
 

@@ -12,7 +12,7 @@ use Rattle.pgp_core.specs.Output.{FrontWent}
 use Rattle.pgp_group_words.specs.Json.{json_of}
 use Rattle.pgp_group_words.specs.Text.{Text}
 use Rattle.pgp_group_words.specs.Words.{words_of}
-use Rattle.pgp_group_words.specs.declared.explained.Explained.{Explained}
+use Rattle.pgp_group_words.specs.declared.explanation.Explanation.{Explanation}
 use Rattle.pgp_group_words.specs.declared.offset.EpochOffset.{EpochOffset}
 use Rattle.pgp_explain.specs.Pools.{pool_facts}
 use Rattle.pgp_explain.specs.Reading.{IsLogOfScript}
@@ -31,29 +31,29 @@ abbrev pub question : Option PgId → Bool → ℕ → Question
 question pg json epoch_offset = record { pg = pg; json = json; offset = record { 0 = epoch_offset } }
 
 -- what is told of the group's pool is so by the map of these incrementals
-pub record AreOfPool (incs : List Incremental) (explained : Explained) : Type 0 where
-  pub places_are : explained.by_place ≡ (pool_facts incs explained.pg.pool).by_place
-  pub size_is : explained.size ≡ (pool_facts incs explained.pg.pool).size
-  pub min_size_is : explained.min_size ≡ (pool_facts incs explained.pg.pool).min_size
+pub record AreOfPool (incs : List Incremental) (explanation : Explanation) : Type 0 where
+  pub places_are : explanation.by_place ≡ (pool_facts incs explanation.pg.pool).by_place
+  pub size_is : explanation.size ≡ (pool_facts incs explanation.pg.pool).size
+  pub min_size_is : explanation.min_size ≡ (pool_facts incs explanation.pg.pool).min_size
 
 -- This is what there is to say of the group: its view from scratch, the reasons for that, and its pool by the last map.
-pub record IsExplainedBy (log : List Entry) (pg : PgId) (explained : Explained) : Type 0 where
-  pub pg_is : explained.pg ≡ pg
-  pub view_is : scratch log pg ≡ Some explained.view
+pub record IsExplainedBy (log : List Entry) (pg : PgId) (explanation : Explanation) : Type 0 where
+  pub pg_is : explanation.pg ≡ pg
+  pub view_is : scratch log pg ≡ Some explanation.view
   pub group : GroupLog
   pub there : group_in log pg ≡ Some group
-  pub reasons_are : AreReasons group explained.reasons
-  pub pool_is : AreOfPool (incs_of log) explained
+  pub reasons_are : AreReasons group explanation.reasons
+  pub pool_is : AreOfPool (incs_of log) explanation
 
 -- as JSON, or else in words
-abbrev pub group_text : Bool → Explained → EpochOffset → Text
-group_text json explained offset = if json then json_of explained offset else words_of explained offset
+abbrev pub group_text : Bool → Explanation → EpochOffset → Text
+group_text json explanation offset = if json then json_of explanation offset else words_of explanation offset
 
 -- this text says what there is to say of the group by the log
 pub record IsGroupText (log : List Entry) (pg : PgId) (json : Bool) (offset : EpochOffset) (text : Text) : Type 0 where
-  pub explained : Explained
-  pub is : IsExplainedBy log pg explained
-  pub says : text ≡ group_text json explained offset
+  pub explanation : Explanation
+  pub is : IsExplainedBy log pg explanation
+  pub says : text ≡ group_text json explanation offset
 
 -- the text says what is asked for
 abbrev pub SaysAsked : List Entry → Option PgId → Bool → EpochOffset → Text → Type 0

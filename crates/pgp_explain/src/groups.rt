@@ -5,13 +5,17 @@ ghost use Rattle.pgp_explain.specs.Explanation.{IsExplainedBy};
 
 use super::pools::PoolFacts;
 use pgp_core::Log;
-use pgp_group_words::Explained;
+use pgp_group_words::Explanation;
 use pgp_ids::PgId;
 use pgp_reasons::reasons_of;
 use std::alloc::{AllocError, Global};
 
 /// The view of a group by the log, and the reasons for its verdict. None where the map has no such group.
-pub fn explained(alloc: Global, log: &mut Log, pg: PgId) -> Result<Option<Explained>, AllocError>
+pub fn explanation_of(
+    alloc: Global,
+    log: &mut Log,
+    pg: PgId,
+) -> Result<Option<Explanation>, AllocError>
     ensures some { IfOk result (λ found. IfSome found (IsExplainedBy log.old pg)) }
     ensures none { IfOk result (λ found. IfNone found (scratch log.old pg ≡ None)) }
     ensures same { log.new ≡ log.old }
@@ -21,7 +25,7 @@ pub fn explained(alloc: Global, log: &mut Log, pg: PgId) -> Result<Option<Explai
     };
     let reasons = reasons_of(alloc, log.map(), log.entries(), copy_of(&pg), &view)?;
     let pool = PoolFacts::of(log.map(), pg.pool);
-    Ok(Some(Explained {
+    Ok(Some(Explanation {
         pg,
         by_place: pool.by_place,
         size: pool.size,

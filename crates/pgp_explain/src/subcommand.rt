@@ -10,12 +10,12 @@ ghost use Rattle.pgp_explain.specs.Summary.{summary_of};
 ghost use Rattle.pgp_explain.specs.SummaryText.{summary_text as text_of_all};
 
 use super::explain_fault::ExplainFault;
-use super::groups::explained;
+use super::groups::explanation_of;
 use super::read::read_log;
 use super::summary::summary_of;
 use super::summary_text::text_of_summary;
 use pgp_core::{Log, Sink, Source, WriteFault, write_out};
-use pgp_group_words::{EpochOffset, Explained, put_json, put_words};
+use pgp_group_words::{EpochOffset, Explanation, put_json, put_words};
 use pgp_ids::PgId;
 use std::alloc::{AllocError, Global};
 use std::io::Write;
@@ -102,26 +102,26 @@ fn group_text(
     ensures ok { IfOk result (λ text. IsGroupText log.old pg json offset (string_bytes text)) }
     ensures err { IfErr result (λ fault. StopsText fault log.old (Some pg)) }
 {
-    let Some(explained) = explained(alloc, log, pg)? else {
+    let Some(explanation) = explanation_of(alloc, log, pg)? else {
         return Err(ExplainFault::UnknownGroup);
     };
-    Ok(text_of_group(alloc, &explained, json, offset)?)
+    Ok(text_of_group(alloc, &explanation, json, offset)?)
 }
 
 /// What is told of a group, in words or as JSON.
 fn text_of_group(
     alloc: Global,
-    explained: &Explained,
+    explanation: &Explanation,
     json: bool,
     offset: EpochOffset,
 ) -> Result<String, AllocError>
-    ensures { IfOk result (λ text. string_bytes text ≡ text_of_explained json explained.now offset) }
+    ensures { IfOk result (λ text. string_bytes text ≡ text_of_explained json explanation.now offset) }
 {
     let mut text = String::new(alloc);
     if json {
-        put_json(alloc, explained, offset, &mut text)?;
+        put_json(alloc, explanation, offset, &mut text)?;
     } else {
-        put_words(alloc, explained, offset, &mut text)?;
+        put_words(alloc, explanation, offset, &mut text)?;
     }
     Ok(text)
 }

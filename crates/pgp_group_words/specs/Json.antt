@@ -13,7 +13,7 @@ use Rattle.pgp_replies.specs.Json.{Field, object_with, number_data, list_data, o
 use Rattle.pgp_group_words.specs.Text.{Text}
 use Rattle.pgp_group_words.specs.Names.{cluster_epoch}
 use Rattle.pgp_group_words.specs.Sentence.{sentence_of, unheard_of}
-use Rattle.pgp_group_words.specs.declared.explained.Explained.{Explained}
+use Rattle.pgp_group_words.specs.declared.explanation.Explanation.{Explanation}
 use Rattle.pgp_group_words.specs.declared.offset.EpochOffset.{EpochOffset}
 
 abbrev pub epoch_data : EpochOffset → ℕ → Data
@@ -76,47 +76,47 @@ ways_data ways = object_with ((codes "more", boolean ways.more) ∷ (codes "sets
 -- ---- a group
 
 -- where the group lies, what blocks it, and since when
-abbrev pub place_fields : EpochOffset → Explained → List Field
-place_fields offset explained =
-    (codes "acting", osds_data explained.view.acting)
-    ∷ (codes "acting_primary", place_data explained.view.acting_primary)
-    ∷ (codes "blocking", list_data (blocking_data offset) explained.reasons.blocking)
-    ∷ (codes "epoch", epoch_data offset explained.view.epoch)
-    ∷ (codes "first", epoch_data offset explained.view.first)
+abbrev pub place_fields : EpochOffset → Explanation → List Field
+place_fields offset explanation =
+    (codes "acting", osds_data explanation.view.acting)
+    ∷ (codes "acting_primary", place_data explanation.view.acting_primary)
+    ∷ (codes "blocking", list_data (blocking_data offset) explanation.reasons.blocking)
+    ∷ (codes "epoch", epoch_data offset explanation.view.epoch)
+    ∷ (codes "first", epoch_data offset explanation.view.first)
     ∷ []
 
 -- what its log lacks, whom it has heard, when it last served, and what may be given up
-abbrev pub reason_fields : EpochOffset → Explained → List Field
-reason_fields offset explained =
-    (codes "gaps", list_data gap_data explained.reasons.gaps)
-    ∷ (codes "heard", list_data (info_data offset) explained.reasons.heard)
-    ∷ (codes "les", epoch_data offset explained.view.les)
-    ∷ (codes "losses", ways_data explained.reasons.losses)
+abbrev pub reason_fields : EpochOffset → Explanation → List Field
+reason_fields offset explanation =
+    (codes "gaps", list_data gap_data explanation.reasons.gaps)
+    ∷ (codes "heard", list_data (info_data offset) explanation.reasons.heard)
+    ∷ (codes "les", epoch_data offset explanation.view.les)
+    ∷ (codes "losses", ways_data explanation.reasons.losses)
     ∷ []
 
 -- the group, the sentence on its verdict, what may be started, and whom it has to hear yet
-abbrev pub sentence_fields : EpochOffset → Explained → List Field
-sentence_fields offset explained =
-    (codes "pg", group_data explained.pg)
-    ∷ (codes "says", string (sentence_of explained offset))
-    ∷ (codes "starts", ways_data explained.reasons.starts)
-    ∷ (codes "unheard", list_data member_data (unheard_of explained))
+abbrev pub sentence_fields : EpochOffset → Explanation → List Field
+sentence_fields offset explanation =
+    (codes "pg", group_data explanation.pg)
+    ∷ (codes "says", string (sentence_of explanation offset))
+    ∷ (codes "starts", ways_data explanation.reasons.starts)
+    ∷ (codes "unheard", list_data member_data (unheard_of explanation))
     ∷ []
 
 -- where placement puts it, and its verdict
-abbrev pub verdict_fields : Explained → List Field
-verdict_fields explained =
-    (codes "up", osds_data explained.view.up)
-    ∷ (codes "up_primary", place_data explained.view.up_primary)
-    ∷ (codes "verdict", string (verdict_name explained.view.verdict))
+abbrev pub verdict_fields : Explanation → List Field
+verdict_fields explanation =
+    (codes "up", osds_data explanation.view.up)
+    ∷ (codes "up_primary", place_data explanation.view.up_primary)
+    ∷ (codes "verdict", string (verdict_name explanation.view.verdict))
     ∷ []
 
 -- what is said of a group
-abbrev pub explained_data : EpochOffset → Explained → Data
-explained_data offset explained = object_with (
-    place_fields offset explained
-    ++ (reason_fields offset explained ++ (sentence_fields offset explained ++ verdict_fields explained)))
+abbrev pub explanation_data : EpochOffset → Explanation → Data
+explanation_data offset explanation = object_with (
+    place_fields offset explanation
+    ++ (reason_fields offset explanation ++ (sentence_fields offset explanation ++ verdict_fields explanation)))
 
 -- as one line
-unfoldable pub json_of : Explained → EpochOffset → Text
-json_of explained offset = compact_text (explained_data offset explained) ++ 10 ∷ []
+unfoldable pub json_of : Explanation → EpochOffset → Text
+json_of explanation offset = compact_text (explanation_data offset explanation) ++ 10 ∷ []

@@ -12,34 +12,34 @@ use Rattle.pgp_group_words.specs.Text.{Text, joined, listed}
 use Rattle.pgp_group_words.specs.Lags.{laggard_of, laggard_name}
 use Rattle.pgp_group_words.specs.Names.{epoch_name, device_name, leader_name, member_name, are, plural}
 use Rattle.pgp_group_words.specs.Spans.{epochs_name, writes_name}
-use Rattle.pgp_group_words.specs.declared.explained.Explained.{Explained}
+use Rattle.pgp_group_words.specs.declared.explanation.Explanation.{Explanation}
 use Rattle.pgp_group_words.specs.declared.lags.Laggard.{Laggard}
 use Rattle.pgp_group_words.specs.declared.names.Naming.{Naming}
 use Rattle.pgp_group_words.specs.declared.offset.EpochOffset.{EpochOffset}
 
 -- how the members and epochs of a group are told
-abbrev pub naming_of : Explained → EpochOffset → Naming
-naming_of explained offset = record { by_place = explained.by_place; offset = offset }
+abbrev pub naming_of : Explanation → EpochOffset → Naming
+naming_of explanation offset = record { by_place = explanation.by_place; offset = offset }
 
 -- the members that have to be heard and haven't been, in ascending order
-unfoldable pub unheard_of : Explained → List Member
-unheard_of explained = filter (λ member. not (has_member member explained.reasons.heard)) explained.view.probe
+unfoldable pub unheard_of : Explanation → List Member
+unheard_of explanation = filter (λ member. not (has_member member explanation.reasons.heard)) explanation.view.probe
 
 -- writes may be on devices that are down alone
-unfoldable pub on_down : Explained → EpochOffset → Text
-on_down explained offset = joined (
+unfoldable pub on_down : Explanation → EpochOffset → Text
+on_down explanation offset = joined (
     codes "It waits for "
-    ∷ listed (map device_name explained.view.blocked_by)
+    ∷ listed (map device_name explanation.view.blocked_by)
     ∷ codes ", which "
-    ∷ are (length explained.view.blocked_by)
+    ∷ are (length explanation.view.blocked_by)
     ∷ codes " down: writes may have been taken in "
-    ∷ epochs_name offset explained.reasons.blocking
+    ∷ epochs_name offset explanation.reasons.blocking
     ∷ codes ", and too few of the devices that took them are up."
     ∷ [])
 
 -- members that are up haven't told of their copies
-unfoldable pub on_waiting : Explained → Naming → Text
-on_waiting explained naming = joined (codes "It waits to hear from " ∷ listed (map (member_name naming) (unheard_of explained)) ∷ codes "." ∷ [])
+unfoldable pub on_waiting : Explanation → Naming → Text
+on_waiting explanation naming = joined (codes "It waits to hear from " ∷ listed (map (member_name naming) (unheard_of explanation)) ∷ codes "." ∷ [])
 
 -- of two infos the one that knows of the later epoch in which the group served; the second, where both know of the same
 abbrev pub later_of : Info → Info → Info
@@ -99,10 +99,10 @@ few_shards lacks = joined (
     ∷ [])
 
 -- either of these
-abbrev pub few : Explained → Text
-few explained =
-    if nat_le explained.min_size (osd_count explained.view.acting) then few_shards explained.reasons.short.lacks
-    else few_members (osd_count explained.view.acting) explained.min_size
+abbrev pub few : Explanation → Text
+few explanation =
+    if nat_le explanation.min_size (osd_count explanation.view.acting) then few_shards explanation.reasons.short.lacks
+    else few_members (osd_count explanation.view.acting) explanation.min_size
 
 -- who of those that served the group last is down
 unfoldable pub fallen_part : List ℕ → Text
@@ -117,8 +117,8 @@ fallen_part osds =
     ∷ [])
 
 -- the acting set has too few members, or they hold too few shards; and who might be started
-unfoldable pub on_short : Explained → Text
-on_short explained = few explained ++ fallen_part explained.reasons.short.fallen
+unfoldable pub on_short : Explanation → Text
+on_short explanation = few explanation ++ fallen_part explanation.reasons.short.fallen
 
 -- the log of this member lacks these numbers of writes
 unfoldable pub lacking_log : Text → List Gap → Text
@@ -159,22 +159,22 @@ behind_part laggards naming =
     if length laggards == 0 then [] else joined (codes " " ∷ listed (map (laggard_name naming) laggards) ∷ codes "." ∷ [])
 
 -- it serves, and members that lag behind catch up
-unfoldable pub on_serving : Explained → Naming → Text
-on_serving explained naming =
-    joined (codes "It serves, led by " ∷ leader_name explained.view.acting_primary ∷ codes "." ∷ [])
-    ++ behind_part (filter_map laggard_of explained.view.missing) naming
+unfoldable pub on_serving : Explanation → Naming → Text
+on_serving explanation naming =
+    joined (codes "It serves, led by " ∷ leader_name explanation.view.acting_primary ∷ codes "." ∷ [])
+    ++ behind_part (filter_map laggard_of explanation.view.missing) naming
 
 -- the sentence on this verdict
-abbrev pub sentence_on : Verdict → Explained → EpochOffset → Text
-sentence_on NoPrimary explained offset = codes "No device of its acting set is up, so nobody leads it."
-sentence_on Down explained offset = on_down explained offset
-sentence_on Waiting explained offset = on_waiting explained (naming_of explained offset)
-sentence_on Incomplete explained offset = on_incomplete explained.reasons.heard (naming_of explained offset)
-sentence_on Short explained offset = on_short explained
-sentence_on NeedLog explained offset = on_log explained.view.best explained.reasons.gaps (naming_of explained offset)
-sentence_on NeedUpThru explained offset = on_up_thru explained.view.acting_primary (epoch_name offset explained.view.first)
-sentence_on Serve explained offset = on_serving explained (naming_of explained offset)
+abbrev pub sentence_on : Verdict → Explanation → EpochOffset → Text
+sentence_on NoPrimary explanation offset = codes "No device of its acting set is up, so nobody leads it."
+sentence_on Down explanation offset = on_down explanation offset
+sentence_on Waiting explanation offset = on_waiting explanation (naming_of explanation offset)
+sentence_on Incomplete explanation offset = on_incomplete explanation.reasons.heard (naming_of explanation offset)
+sentence_on Short explanation offset = on_short explanation
+sentence_on NeedLog explanation offset = on_log explanation.view.best explanation.reasons.gaps (naming_of explanation offset)
+sentence_on NeedUpThru explanation offset = on_up_thru explanation.view.acting_primary (epoch_name offset explanation.view.first)
+sentence_on Serve explanation offset = on_serving explanation (naming_of explanation offset)
 
 -- the sentence on the verdict of a group
-unfoldable pub sentence_of : Explained → EpochOffset → Text
-sentence_of explained offset = sentence_on explained.view.verdict explained offset
+unfoldable pub sentence_of : Explanation → EpochOffset → Text
+sentence_of explanation offset = sentence_on explanation.view.verdict explanation offset

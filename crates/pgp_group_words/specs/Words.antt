@@ -11,24 +11,24 @@ use Rattle.pgp_group_words.specs.Text.{Text, joined, line, listed, each_after_fi
 use Rattle.pgp_group_words.specs.Names.{cluster_epoch, epoch_name, group_name, device_name, leader_name, member_name, version_name, places_name, are, plural}
 use Rattle.pgp_group_words.specs.Spans.{epochs_of, epochs_name, runs_name}
 use Rattle.pgp_group_words.specs.Sentence.{naming_of, unheard_of, sentence_of}
-use Rattle.pgp_group_words.specs.declared.explained.Explained.{Explained}
+use Rattle.pgp_group_words.specs.declared.explanation.Explanation.{Explanation}
 use Rattle.pgp_group_words.specs.declared.names.Naming.{Naming}
 use Rattle.pgp_group_words.specs.declared.offset.EpochOffset.{EpochOffset}
 
 -- the group and its verdict
-unfoldable pub heading : Explained → EpochOffset → Text
-heading explained offset = line (
+unfoldable pub heading : Explanation → EpochOffset → Text
+heading explanation offset = line (
     codes "group "
-    ∷ group_name explained.pg
+    ∷ group_name explanation.pg
     ∷ codes " at epoch "
-    ∷ epoch_name offset explained.view.epoch
+    ∷ epoch_name offset explanation.view.epoch
     ∷ codes ": "
-    ∷ verdict_name explained.view.verdict
+    ∷ verdict_name explanation.view.verdict
     ∷ [])
 
 -- the group, its verdict and the sentence on it
-unfoldable pub verdict_lines : Explained → EpochOffset → Text
-verdict_lines explained offset = heading explained offset ++ line (sentence_of explained offset ∷ [])
+unfoldable pub verdict_lines : Explanation → EpochOffset → Text
+verdict_lines explanation offset = heading explanation offset ++ line (sentence_of explanation offset ∷ [])
 
 -- when the group last served, if it is known to have done so; epoch 0 stands for never
 unfoldable pub served_line : ℕ → Text
@@ -37,18 +37,18 @@ served_line les =
     else line (codes "It is known to have last begun to serve in epoch " ∷ decimal les ∷ codes "." ∷ [])
 
 -- who serves the group, and since when
-unfoldable pub acting_line : Explained → EpochOffset → Text
-acting_line explained offset = line (
+unfoldable pub acting_line : Explanation → EpochOffset → Text
+acting_line explanation offset = line (
     codes "\nacting "
-    ∷ places_name explained.view.acting
+    ∷ places_name explanation.view.acting
     ∷ codes ", led by "
-    ∷ leader_name explained.view.acting_primary
+    ∷ leader_name explanation.view.acting_primary
     ∷ codes ", since epoch "
-    ∷ epoch_name offset explained.view.first
+    ∷ epoch_name offset explanation.view.first
     ∷ codes " (of size "
-    ∷ decimal explained.size
+    ∷ decimal explanation.size
     ∷ codes ", at least "
-    ∷ decimal explained.min_size
+    ∷ decimal explanation.min_size
     ∷ codes ")"
     ∷ [])
 
@@ -57,11 +57,11 @@ unfoldable pub up_line : List (Option ℕ) → Text
 up_line up = line (codes "up     " ∷ places_name up ∷ [])
 
 -- where the group lies, since when, and when it last served
-unfoldable pub place_lines : Explained → EpochOffset → Text
-place_lines explained offset = joined (
-    acting_line explained offset
-    ∷ up_line explained.view.up
-    ∷ served_line (cluster_epoch offset explained.view.les)
+unfoldable pub place_lines : Explanation → EpochOffset → Text
+place_lines explanation offset = joined (
+    acting_line explanation offset
+    ∷ up_line explanation.view.up
+    ∷ served_line (cluster_epoch offset explanation.view.les)
     ∷ [])
 
 -- when the sender of an info last served
@@ -185,39 +185,39 @@ abbrev pub is_empty : List (List ℕ) → Bool
 is_empty sets = length sets == 0
 
 -- there may be ways that aren't listed
-abbrev pub may_be_more : Explained → Bool
-may_be_more explained = explained.reasons.starts.more || explained.reasons.losses.more
+abbrev pub may_be_more : Explanation → Bool
+may_be_more explanation = explanation.reasons.starts.more || explanation.reasons.losses.more
 
 abbrev pub more_line : Bool → Text
 more_line true = codes "  (there may be others)\n"
 more_line false = []
 
 -- the ways in which a group stops being down
-unfoldable pub listed_ways : Explained → EpochOffset → Text
-listed_ways explained offset = joined (
-    ways_heading explained.view.verdict
-    ∷ start_lines explained.reasons.starts.sets
-    ∷ loss_lines explained.reasons.losses.sets explained.reasons.starts.sets (epochs_name offset explained.reasons.blocking)
-    ∷ more_line (may_be_more explained)
+unfoldable pub listed_ways : Explanation → EpochOffset → Text
+listed_ways explanation offset = joined (
+    ways_heading explanation.view.verdict
+    ∷ start_lines explanation.reasons.starts.sets
+    ∷ loss_lines explanation.reasons.losses.sets explanation.reasons.starts.sets (epochs_name offset explanation.reasons.blocking)
+    ∷ more_line (may_be_more explanation)
     ∷ [])
 
 -- no way is listed, and there is no other: the group isn't down
-abbrev pub has_no_way : Explained → Bool
-has_no_way explained =
-    is_empty explained.reasons.starts.sets && (is_empty explained.reasons.losses.sets && not (may_be_more explained))
+abbrev pub has_no_way : Explanation → Bool
+has_no_way explanation =
+    is_empty explanation.reasons.starts.sets && (is_empty explanation.reasons.losses.sets && not (may_be_more explanation))
 
-unfoldable pub ways_lines : Explained → EpochOffset → Text
-ways_lines explained offset = if has_no_way explained then [] else listed_ways explained offset
+unfoldable pub ways_lines : Explanation → EpochOffset → Text
+ways_lines explanation offset = if has_no_way explanation then [] else listed_ways explanation offset
 
 -- ---- all of it
 
 -- what is said of a group in words
-unfoldable pub words_of : Explained → EpochOffset → Text
-words_of explained offset = joined (
-    verdict_lines explained offset
-    ∷ place_lines explained offset
-    ∷ heard_lines explained.reasons.heard (naming_of explained offset)
-    ∷ unheard_lines (unheard_of explained) (naming_of explained offset)
-    ∷ flat_map (interval_lines offset) explained.reasons.blocking
-    ∷ ways_lines explained offset
+unfoldable pub words_of : Explanation → EpochOffset → Text
+words_of explanation offset = joined (
+    verdict_lines explanation offset
+    ∷ place_lines explanation offset
+    ∷ heard_lines explanation.reasons.heard (naming_of explanation offset)
+    ∷ unheard_lines (unheard_of explanation) (naming_of explanation offset)
+    ∷ flat_map (interval_lines offset) explanation.reasons.blocking
+    ∷ ways_lines explanation offset
     ∷ [])

@@ -3,9 +3,9 @@
 ghost use Rattle.std.specs.Prelude.{◌≡◌, ◌++◌, ◌∷◌, [], IfOk, OnOk, OnErr, string_bytes};
 ghost use Rattle.json.specs.Print.{print};
 ghost use Rattle.pgp_replies.specs.Written.{fields_tokens, tokens_of};
-ghost use Rattle.pgp_group_words.specs.Json.{explained_data, json_of, place_fields, reason_fields, sentence_fields, verdict_fields};
+ghost use Rattle.pgp_group_words.specs.Json.{explanation_data, json_of, place_fields, reason_fields, sentence_fields, verdict_fields};
 
-use super::explained::Explained;
+use super::explanation::Explanation;
 use super::json_parts::write_field;
 use super::offset::EpochOffset;
 use super::sentence::sentence;
@@ -17,44 +17,48 @@ use std::alloc::{AllocError, Global};
 /// keys of each object in ascending byte order. Where there is no memory, `text` stays as it was.
 pub fn put_json(
     alloc: Global,
-    explained: &Explained,
+    explanation: &Explanation,
     offset: EpochOffset,
     text: &mut String,
 ) -> Result<(), AllocError>
     ensures ok { OnOk result (string_bytes text.new
-        ≡ string_bytes text.old ++ json_of explained.now offset) }
+        ≡ string_bytes text.old ++ json_of explanation.now offset) }
     ensures err { OnErr result (string_bytes text.new ≡ string_bytes text.old) }
 {
-    let line = line_of(alloc, explained, offset)?;
+    let line = line_of(alloc, explanation, offset)?;
     text.push_str(line.as_str())
 }
 
 /// The object in one line.
 #[tactic(auto, using(pgp_replies::proofs::Tokens::text_steps), unfolding(crate::specs::Json::json_of))]
-fn line_of(alloc: Global, explained: &Explained, offset: EpochOffset) -> Result<String, AllocError>
-    ensures { IfOk result (λ text. string_bytes text ≡ json_of explained.now offset) }
+fn line_of(
+    alloc: Global,
+    explanation: &Explanation,
+    offset: EpochOffset,
+) -> Result<String, AllocError>
+    ensures { IfOk result (λ text. string_bytes text ≡ json_of explanation.now offset) }
 {
     let mut out = Writer::new(Vec::new(alloc));
-    write_explained(alloc, &mut out, offset, explained)?;
+    write_explanation(alloc, &mut out, offset, explanation)?;
     into_line(out)
 }
 
 #[tactic(auto, using(pgp_replies::proofs::Tokens::token_steps))]
-fn write_explained(
+fn write_explanation(
     alloc: Global,
     out: &mut Writer,
     offset: EpochOffset,
-    explained: &Explained,
+    explanation: &Explanation,
 ) -> Result<(), AllocError>
     ensures ok { OnOk result
-        (out.new.tokens ≡ out.old.tokens ++ tokens_of (explained_data offset explained.now)) }
+        (out.new.tokens ≡ out.old.tokens ++ tokens_of (explanation_data offset explanation.now)) }
     ensures before { out.new.before ≡ out.old.before }
 {
     out.begin_object()?;
-    write_place(out, offset, explained)?;
-    write_reasons(out, offset, explained)?;
-    write_sentence(alloc, out, offset, explained)?;
-    write_verdict(out, offset, explained)?;
+    write_place(out, offset, explanation)?;
+    write_reasons(out, offset, explanation)?;
+    write_sentence(alloc, out, offset, explanation)?;
+    write_verdict(out, offset, explanation)?;
     out.end_object()
 }
 
@@ -63,16 +67,16 @@ fn write_explained(
 fn write_place(
     out: &mut Writer,
     offset: EpochOffset,
-    explained: &Explained,
+    explanation: &Explanation,
 ) -> Result<(), AllocError>
     ensures ok { OnOk result
-        (out.new.tokens ≡ out.old.tokens ++ fields_tokens (place_fields offset explained.now)) }
+        (out.new.tokens ≡ out.old.tokens ++ fields_tokens (place_fields offset explanation.now)) }
     ensures before { out.new.before ≡ out.old.before }
 {
-    let view = &explained.view;
+    let view = &explanation.view;
     write_field(out, offset, "acting", &view.acting)?;
     write_field(out, offset, "acting_primary", &view.acting_primary)?;
-    write_field(out, offset, "blocking", &explained.reasons.blocking)?;
+    write_field(out, offset, "blocking", &explanation.reasons.blocking)?;
     write_field(out, offset, "epoch", &view.epoch)?;
     write_field(out, offset, "first", &view.first)
 }
@@ -82,16 +86,16 @@ fn write_place(
 fn write_reasons(
     out: &mut Writer,
     offset: EpochOffset,
-    explained: &Explained,
+    explanation: &Explanation,
 ) -> Result<(), AllocError>
     ensures ok { OnOk result
-        (out.new.tokens ≡ out.old.tokens ++ fields_tokens (reason_fields offset explained.now)) }
+        (out.new.tokens ≡ out.old.tokens ++ fields_tokens (reason_fields offset explanation.now)) }
     ensures before { out.new.before ≡ out.old.before }
 {
-    let reasons = &explained.reasons;
+    let reasons = &explanation.reasons;
     write_field(out, offset, "gaps", &reasons.gaps)?;
     write_field(out, offset, "heard", &reasons.heard)?;
-    write_field(out, offset, "les", &explained.view.les)?;
+    write_field(out, offset, "les", &explanation.view.les)?;
     write_field(out, offset, "losses", &reasons.losses)
 }
 
@@ -101,17 +105,17 @@ fn write_sentence(
     alloc: Global,
     out: &mut Writer,
     offset: EpochOffset,
-    explained: &Explained,
+    explanation: &Explanation,
 ) -> Result<(), AllocError>
     ensures ok { OnOk result
-        (out.new.tokens ≡ out.old.tokens ++ fields_tokens (sentence_fields offset explained.now)) }
+        (out.new.tokens ≡ out.old.tokens ++ fields_tokens (sentence_fields offset explanation.now)) }
     ensures before { out.new.before ≡ out.old.before }
 {
-    let says = sentence(alloc, explained, offset)?;
-    let unheard = Seq::from_vec(explained.unheard(alloc)?);
-    write_field(out, offset, "pg", &explained.pg)?;
+    let says = sentence(alloc, explanation, offset)?;
+    let unheard = Seq::from_vec(explanation.unheard(alloc)?);
+    write_field(out, offset, "pg", &explanation.pg)?;
     write_field(out, offset, "says", &says.as_str())?;
-    write_field(out, offset, "starts", &explained.reasons.starts)?;
+    write_field(out, offset, "starts", &explanation.reasons.starts)?;
     write_field(out, offset, "unheard", &unheard)
 }
 
@@ -120,13 +124,13 @@ fn write_sentence(
 fn write_verdict(
     out: &mut Writer,
     offset: EpochOffset,
-    explained: &Explained,
+    explanation: &Explanation,
 ) -> Result<(), AllocError>
     ensures ok { OnOk result
-        (out.new.tokens ≡ out.old.tokens ++ fields_tokens (verdict_fields explained.now)) }
+        (out.new.tokens ≡ out.old.tokens ++ fields_tokens (verdict_fields explanation.now)) }
     ensures before { out.new.before ≡ out.old.before }
 {
-    let view = &explained.view;
+    let view = &explanation.view;
     write_field(out, offset, "up", &view.up)?;
     write_field(out, offset, "up_primary", &view.up_primary)?;
     write_field(out, offset, "verdict", &view.verdict.name())

@@ -3,7 +3,7 @@
 ghost use Rattle.std.specs.Prelude.{◌≡◌, ◌++◌, codes, flat_map, if◌then◌else◌, IfOk, OnOk, OnErr, string_bytes};
 ghost use Rattle.pgp_group_words.specs.Words.{acting_line, down_line, has_served, heading, heard_lines, info_line, interval_lines, knows_of, place_lines, read_write_line, member_line, sender_part, served_line, unheard_lines, up_line, verdict_lines, waits_line, words_of as words_of_group};
 
-use super::explained::Explained;
+use super::explanation::Explanation;
 use super::names::{Group, Leader, Naming, are, plural};
 use super::offset::EpochOffset;
 use super::sentence::sentence;
@@ -18,69 +18,78 @@ use std::alloc::{AllocError, Global};
 /// no memory, `text` stays as it was.
 pub fn put_words(
     alloc: Global,
-    explained: &Explained,
+    explanation: &Explanation,
     offset: EpochOffset,
     text: &mut String,
 ) -> Result<(), AllocError>
     ensures ok { OnOk result (string_bytes text.new
-        ≡ string_bytes text.old ++ words_of_group explained.now offset) }
+        ≡ string_bytes text.old ++ words_of_group explanation.now offset) }
     ensures err { OnErr result (string_bytes text.new ≡ string_bytes text.old) }
 {
-    let words = words_of(alloc, explained, offset)?;
+    let words = words_of(alloc, explanation, offset)?;
     text.push_str(words.as_str())
 }
 
 #[tactic(auto, unfolding(crate::specs::Words::words_of))]
-fn words_of(alloc: Global, explained: &Explained, offset: EpochOffset) -> Result<String, AllocError>
-    ensures { IfOk result (λ text. string_bytes text ≡ words_of_group explained.now offset) }
+fn words_of(
+    alloc: Global,
+    explanation: &Explanation,
+    offset: EpochOffset,
+) -> Result<String, AllocError>
+    ensures { IfOk result (λ text. string_bytes text ≡ words_of_group explanation.now offset) }
 {
-    let naming = explained.naming(offset);
-    let unheard = explained.unheard(alloc)?;
+    let naming = explanation.naming(offset);
+    let unheard = explanation.unheard(alloc)?;
     let mut text = String::new(alloc);
-    put_verdict(alloc, explained, offset, &mut text)?;
-    put_place(alloc, explained, offset, &mut text)?;
-    put_heard(alloc, explained.reasons.heard.as_slice(), naming, &mut text)?;
-    put_unheard(alloc, unheard.as_slice(), naming, &mut text)?;
-    put_intervals(
+    put_verdict(alloc, explanation, offset, &mut text)?;
+    put_place(alloc, explanation, offset, &mut text)?;
+    put_heard(
         alloc,
-        explained.reasons.blocking.as_slice(),
+        explanation.reasons.heard.as_slice(),
         naming,
         &mut text,
     )?;
-    put_ways(alloc, explained, offset, &mut text)?;
+    put_unheard(alloc, unheard.as_slice(), naming, &mut text)?;
+    put_intervals(
+        alloc,
+        explanation.reasons.blocking.as_slice(),
+        naming,
+        &mut text,
+    )?;
+    put_ways(alloc, explanation, offset, &mut text)?;
     Ok(text)
 }
 
 #[tactic(auto, unfolding(crate::specs::Words::verdict_lines))]
 fn put_verdict(
     alloc: Global,
-    explained: &Explained,
+    explanation: &Explanation,
     offset: EpochOffset,
     text: &mut String,
 ) -> Result<(), AllocError>
     ensures { OnOk result (string_bytes text.new
-        ≡ string_bytes text.old ++ verdict_lines explained.now offset) }
+        ≡ string_bytes text.old ++ verdict_lines explanation.now offset) }
 {
-    let says = sentence(alloc, explained, offset)?;
-    put_heading(explained, offset, text)?;
+    let says = sentence(alloc, explanation, offset)?;
+    put_heading(explanation, offset, text)?;
     writeln!(text, "{says}")
 }
 
 #[tactic(auto, unfolding(crate::specs::Words::heading))]
 fn put_heading(
-    explained: &Explained,
+    explanation: &Explanation,
     offset: EpochOffset,
     text: &mut String,
 ) -> Result<(), AllocError>
     ensures { OnOk result (string_bytes text.new
-        ≡ string_bytes text.old ++ heading explained.now offset) }
+        ≡ string_bytes text.old ++ heading explanation.now offset) }
 {
     writeln!(
         text,
         "group {} at epoch {}: {}",
-        Group(explained.pg),
-        offset.cluster_epoch(explained.view.epoch),
-        explained.view.verdict.name(),
+        Group(explanation.pg),
+        offset.cluster_epoch(explanation.view.epoch),
+        explanation.view.verdict.name(),
     )
 }
 
@@ -88,38 +97,43 @@ fn put_heading(
 #[tactic(auto, unfolding(crate::specs::Words::place_lines))]
 fn put_place(
     alloc: Global,
-    explained: &Explained,
+    explanation: &Explanation,
     offset: EpochOffset,
     text: &mut String,
 ) -> Result<(), AllocError>
     ensures { OnOk result (string_bytes text.new
-        ≡ string_bytes text.old ++ place_lines explained.now offset) }
+        ≡ string_bytes text.old ++ place_lines explanation.now offset) }
 {
-    put_acting(alloc, explained, offset, text)?;
-    put_up(alloc, &explained.view.up, explained.naming(offset), text)?;
-    put_served(offset.cluster_epoch(explained.view.les), text)
+    put_acting(alloc, explanation, offset, text)?;
+    put_up(
+        alloc,
+        &explanation.view.up,
+        explanation.naming(offset),
+        text,
+    )?;
+    put_served(offset.cluster_epoch(explanation.view.les), text)
 }
 
 /// Who serves the group, and since when.
 #[tactic(auto, unfolding(crate::specs::Words::acting_line))]
 fn put_acting(
     alloc: Global,
-    explained: &Explained,
+    explanation: &Explanation,
     offset: EpochOffset,
     text: &mut String,
 ) -> Result<(), AllocError>
     ensures { OnOk result (string_bytes text.new
-        ≡ string_bytes text.old ++ acting_line explained.now offset) }
+        ≡ string_bytes text.old ++ acting_line explanation.now offset) }
 {
-    let view = &explained.view;
-    let acting = places(alloc, explained.naming(offset), &view.acting)?;
+    let view = &explanation.view;
+    let acting = places(alloc, explanation.naming(offset), &view.acting)?;
     writeln!(
         text,
         "\nacting {acting}, led by {}, since epoch {} (of size {}, at least {})",
         Leader(view.acting_primary),
         offset.cluster_epoch(view.first),
-        explained.size,
-        explained.min_size,
+        explanation.size,
+        explanation.min_size,
     )
 }
 

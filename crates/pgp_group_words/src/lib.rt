@@ -1,11 +1,11 @@
 //! What is told of one group, in words for an operator and as JSON: why it doesn't serve, and what brings it back.
 //!
-//! This layer decides the text of an [`Explained`], and nothing else: that has the group's view, the reasons of pgp_reasons, and
+//! This layer decides the text of an [`Explanation`], and nothing else: that has the group's view, the reasons of pgp_reasons, and
 //! what is told of its pool. [`put_words`] and [`put_json`] put the text, and their contracts define it whole. A summary of
 //! groups names devices, counts and epochs in the same way, and is written as JSON by the same parts.
 #![tactic(auto)]
 
-mod explained;
+mod explanation;
 mod group_json;
 mod group_words;
 mod json_parts;
@@ -17,7 +17,7 @@ mod spans;
 mod ways_words;
 mod words;
 
-pub use explained::Explained;
+pub use explanation::Explanation;
 pub use group_json::{into_line, put_json};
 pub use group_words::put_words;
 pub use json_parts::{Json, write_field};

@@ -5,7 +5,7 @@ ghost use Rattle.pgp_group_words.specs.Sentence.{informed as informed_of, inform
 ghost use Rattle.std.specs.List.{list_any};
 ghost use Rattle.std.specs.Option.{option_copied};
 
-use super::explained::Explained;
+use super::explanation::Explanation;
 use super::lags::{Laggard, laggards};
 use super::names::{Leader, Naming, are, plural};
 use super::offset::EpochOffset;
@@ -19,38 +19,42 @@ use std::alloc::{AllocError, Global};
 #[tactic(auto, unfolding(crate::specs::Sentence::sentence_of))]
 pub(crate) fn sentence(
     alloc: Global,
-    explained: &Explained,
+    explanation: &Explanation,
     offset: EpochOffset,
 ) -> Result<String, AllocError>
-    ensures { IfOk result (λ text. string_bytes text ≡ sentence_of explained.now offset) }
+    ensures { IfOk result (λ text. string_bytes text ≡ sentence_of explanation.now offset) }
 {
-    let view = &explained.view;
-    let reasons = &explained.reasons;
-    let naming = explained.naming(offset);
+    let view = &explanation.view;
+    let reasons = &explanation.reasons;
+    let naming = explanation.naming(offset);
     match view.verdict {
         Verdict::NoPrimary => String::from_str(
             alloc,
             "No device of its acting set is up, so nobody leads it.",
         ),
-        Verdict::Down => on_down(alloc, explained, offset),
-        Verdict::Waiting => on_waiting(alloc, explained, naming),
+        Verdict::Down => on_down(alloc, explanation, offset),
+        Verdict::Waiting => on_waiting(alloc, explanation, naming),
         Verdict::Incomplete => on_incomplete(alloc, reasons.heard.as_slice(), naming),
-        Verdict::Short => on_short(alloc, explained, naming),
+        Verdict::Short => on_short(alloc, explanation, naming),
         Verdict::NeedLog => on_log(alloc, view.best, reasons.gaps.as_slice(), naming),
         Verdict::NeedUpThru => on_up_thru(alloc, view.acting_primary, naming.epoch(view.first)),
-        Verdict::Serve => on_serving(alloc, explained, naming),
+        Verdict::Serve => on_serving(alloc, explanation, naming),
     }
 }
 
 /// Writes may be on devices that are down alone.
 #[tactic(auto, unfolding(crate::specs::Sentence::on_down))]
-fn on_down(alloc: Global, explained: &Explained, offset: EpochOffset) -> Result<String, AllocError>
-    ensures { IfOk result (λ text. string_bytes text ≡ on_down_of explained.now offset) }
+fn on_down(
+    alloc: Global,
+    explanation: &Explanation,
+    offset: EpochOffset,
+) -> Result<String, AllocError>
+    ensures { IfOk result (λ text. string_bytes text ≡ on_down_of explanation.now offset) }
 {
-    let naming = explained.naming(offset);
-    let blocked_by = explained.view.blocked_by.as_slice();
+    let naming = explanation.naming(offset);
+    let blocked_by = explanation.view.blocked_by.as_slice();
     let down = devices(alloc, naming, blocked_by)?;
-    let epochs = epochs(alloc, naming, explained.reasons.blocking.as_slice())?;
+    let epochs = epochs(alloc, naming, explanation.reasons.blocking.as_slice())?;
     format!(in alloc;
         "It waits for {down}, which {} down: writes may have been taken in {epochs}, and too few of the devices that took them are up.",
         are(blocked_by.len()),
@@ -59,10 +63,14 @@ fn on_down(alloc: Global, explained: &Explained, offset: EpochOffset) -> Result<
 
 /// Members that are up haven't told of their copies.
 #[tactic(auto, unfolding(crate::specs::Sentence::on_waiting))]
-fn on_waiting(alloc: Global, explained: &Explained, naming: Naming) -> Result<String, AllocError>
-    ensures { IfOk result (λ text. string_bytes text ≡ on_waiting_of explained.now naming) }
+fn on_waiting(
+    alloc: Global,
+    explanation: &Explanation,
+    naming: Naming,
+) -> Result<String, AllocError>
+    ensures { IfOk result (λ text. string_bytes text ≡ on_waiting_of explanation.now naming) }
 {
-    let unheard = explained.unheard(alloc)?;
+    let unheard = explanation.unheard(alloc)?;
     let members = members(alloc, naming, unheard.as_slice())?;
     format!(in alloc; "It waits to hear from {members}.")
 }
@@ -124,13 +132,13 @@ fn informed(heard: &[Info]) -> Option<&Info>
 
 /// The acting set has too few members, or they hold too few shards.
 #[tactic(auto, unfolding(crate::specs::Sentence::on_short))]
-fn on_short(alloc: Global, explained: &Explained, naming: Naming) -> Result<String, AllocError>
-    ensures { IfOk result (λ text. string_bytes text ≡ on_short_of explained.now) }
+fn on_short(alloc: Global, explanation: &Explanation, naming: Naming) -> Result<String, AllocError>
+    ensures { IfOk result (λ text. string_bytes text ≡ on_short_of explanation.now) }
 {
-    let mut text = few(alloc, explained)?;
+    let mut text = few(alloc, explanation)?;
     put_fallen(
         alloc,
-        explained.reasons.short.fallen.as_slice(),
+        explanation.reasons.short.fallen.as_slice(),
         naming,
         &mut text,
     )?;
@@ -138,13 +146,13 @@ fn on_short(alloc: Global, explained: &Explained, naming: Naming) -> Result<Stri
 }
 
 /// What the acting set lacks.
-fn few(alloc: Global, explained: &Explained) -> Result<String, AllocError>
-    ensures { IfOk result (λ text. string_bytes text ≡ few_of explained.now) }
+fn few(alloc: Global, explanation: &Explanation) -> Result<String, AllocError>
+    ensures { IfOk result (λ text. string_bytes text ≡ few_of explanation.now) }
 {
-    let members = explained.view.acting.osd_count();
-    let least = usize::from(explained.min_size);
+    let members = explanation.view.acting.osd_count();
+    let least = usize::from(explanation.min_size);
     if members >= least {
-        few_shards(alloc, explained.reasons.short.lacks)
+        few_shards(alloc, explanation.reasons.short.lacks)
     } else {
         few_members(alloc, members, least)
     }
@@ -265,11 +273,15 @@ fn on_up_thru(alloc: Global, primary: Option<OsdId>, first: u64) -> Result<Strin
 
 /// It serves, and members that lag behind catch up.
 #[tactic(auto, unfolding(crate::specs::Sentence::on_serving))]
-fn on_serving(alloc: Global, explained: &Explained, naming: Naming) -> Result<String, AllocError>
-    ensures { IfOk result (λ text. string_bytes text ≡ on_serving_of explained.now naming) }
+fn on_serving(
+    alloc: Global,
+    explanation: &Explanation,
+    naming: Naming,
+) -> Result<String, AllocError>
+    ensures { IfOk result (λ text. string_bytes text ≡ on_serving_of explanation.now naming) }
 {
-    let laggards = laggards(alloc, explained.view.missing.as_slice())?;
-    let leader = Leader(explained.view.acting_primary);
+    let laggards = laggards(alloc, explanation.view.missing.as_slice())?;
+    let leader = Leader(explanation.view.acting_primary);
     let mut text = format!(in alloc; "It serves, led by {leader}.")?;
     put_behind(alloc, laggards.as_slice(), naming, &mut text)?;
     Ok(text)

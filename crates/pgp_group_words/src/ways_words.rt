@@ -3,7 +3,7 @@
 ghost use Rattle.std.specs.Prelude.{◌≡◌, ◌++◌, codes, flat_map, OnOk, string_bytes};
 ghost use Rattle.pgp_group_words.specs.Words.{has_no_way as has_no_way_of, listed_ways, loss_line, loss_lines, more_line, start_line, start_lines, ways_heading, ways_lines};
 
-use super::explained::Explained;
+use super::explanation::Explanation;
 use super::names::Naming;
 use super::offset::EpochOffset;
 use super::spans::epochs;
@@ -15,25 +15,25 @@ use std::alloc::{AllocError, Global};
 #[tactic(auto, unfolding(crate::specs::Words::ways_lines))]
 pub(crate) fn put_ways(
     alloc: Global,
-    explained: &Explained,
+    explanation: &Explanation,
     offset: EpochOffset,
     text: &mut String,
 ) -> Result<(), AllocError>
     ensures { OnOk result (string_bytes text.new
-        ≡ string_bytes text.old ++ ways_lines explained.now offset) }
+        ≡ string_bytes text.old ++ ways_lines explanation.now offset) }
 {
-    if has_no_way(explained) {
+    if has_no_way(explanation) {
         Ok(())
     } else {
-        put_listed(alloc, explained, offset, text)
+        put_listed(alloc, explanation, offset, text)
     }
 }
 
 /// Whether no way is listed, and there is no other.
-fn has_no_way(explained: &Explained) -> bool
-    ensures { result ≡ has_no_way_of explained.now }
+fn has_no_way(explanation: &Explanation) -> bool
+    ensures { result ≡ has_no_way_of explanation.now }
 {
-    let reasons = &explained.reasons;
+    let reasons = &explanation.reasons;
     reasons.starts.sets.is_empty()
         && reasons.losses.sets.is_empty()
         && !(reasons.starts.more || reasons.losses.more)
@@ -42,22 +42,22 @@ fn has_no_way(explained: &Explained) -> bool
 #[tactic(auto, unfolding(crate::specs::Words::listed_ways))]
 fn put_listed(
     alloc: Global,
-    explained: &Explained,
+    explanation: &Explanation,
     offset: EpochOffset,
     text: &mut String,
 ) -> Result<(), AllocError>
     ensures { OnOk result (string_bytes text.new
-        ≡ string_bytes text.old ++ listed_ways explained.now offset) }
+        ≡ string_bytes text.old ++ listed_ways explanation.now offset) }
 {
-    let naming = explained.naming(offset);
-    let starts = explained.reasons.starts.sets.as_slice();
-    let losses = explained.reasons.losses.sets.as_slice();
-    let written = epochs(alloc, naming, explained.reasons.blocking.as_slice())?;
-    text.push_str(heading(explained.view.verdict))?;
+    let naming = explanation.naming(offset);
+    let starts = explanation.reasons.starts.sets.as_slice();
+    let losses = explanation.reasons.losses.sets.as_slice();
+    let written = epochs(alloc, naming, explanation.reasons.blocking.as_slice())?;
+    text.push_str(heading(explanation.view.verdict))?;
     put_starts(alloc, naming, starts, text)?;
     put_losses(alloc, naming, losses, starts, written.as_str(), text)?;
     put_more(
-        explained.reasons.starts.more || explained.reasons.losses.more,
+        explanation.reasons.starts.more || explanation.reasons.losses.more,
         text,
     )
 }

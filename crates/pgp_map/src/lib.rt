@@ -15,7 +15,7 @@ mod map;
 mod new_pools;
 mod ranges;
 mod repeats;
-mod searched;
+mod searched_devices;
 mod standing;
 mod temp_check;
 mod trees;

@@ -15,7 +15,7 @@ ghost use Rattle.pgp_map.specs.Findings.{AreFindings};
 use super::fault::MapFault;
 use super::findings::Findings;
 use super::new_pools::NewPools;
-use super::searched::Searched;
+use super::searched_devices::SearchedDevices;
 use super::trees::{check_tree, given_tree};
 use super::weights::Weights;
 use super::{ranges, repeats, standing, temp_check};
@@ -127,7 +127,7 @@ impl OsdMap {
         ensures value { IfOk result (λ unknown. Says self.now (λ incs. unknown ≡ has_unknown_device incs inc.now)) }
         ensures wants { OnErr result (has_long_list inc.now ≡ true) }
     {
-        let boots = Searched::of(self.alloc, inc.up.as_slice())?;
+        let boots = SearchedDevices::of(self.alloc, inc.up.as_slice())?;
         Ok(standing::has_unknown(&self.devices, &boots, inc))
     }
 
@@ -149,9 +149,9 @@ impl OsdMap {
         if inc.lost.is_empty() {
             return Ok(false);
         }
-        let boots = Searched::of(self.alloc, inc.up.as_slice())?;
-        let downs = Searched::of(self.alloc, inc.down.as_slice())?;
-        let destroyed = Searched::of(self.alloc, inc.gone.as_slice())?;
+        let boots = SearchedDevices::of(self.alloc, inc.up.as_slice())?;
+        let downs = SearchedDevices::of(self.alloc, inc.down.as_slice())?;
+        let destroyed = SearchedDevices::of(self.alloc, inc.gone.as_slice())?;
         let told = inc.lost.as_slice();
         Ok(standing::has_lost_up(&self.devices, &boots, &downs, &destroyed, told))
     }

@@ -85,7 +85,7 @@ impl<'a> NewPools<'a> {
 }
 
 /// The last of these pools that has the id.
-#[tactic(auto, using(pgp_tables::proofs::Told::write_steps))]
+#[tactic(auto, using(pgp_tables::proofs::Common::write_steps))]
 fn last_made(made: &[PoolSpec], id: PoolId) -> Option<PoolSpec>
     ensures { result ≡ last_where (λ pool. nat_eq pool.id id) made.now }
 {
@@ -99,7 +99,7 @@ fn last_made(made: &[PoolSpec], id: PoolId) -> Option<PoolSpec>
 }
 
 /// The last of these sizes that the pool is given.
-#[tactic(auto, using(pgp_tables::proofs::Told::write_steps))]
+#[tactic(auto, using(pgp_tables::proofs::Common::write_steps))]
 fn last_sizes(sizes: &[PoolSizes], id: PoolId) -> Option<PoolSizes>
     ensures { result ≡ last_where (λ given. nat_eq given.pool id) sizes.now }
 {
@@ -113,7 +113,7 @@ fn last_sizes(sizes: &[PoolSizes], id: PoolId) -> Option<PoolSizes>
 }
 
 /// The table of these pools; an empty one where they are few.
-#[tactic(auto, using(pgp_tables::proofs::Told::write_steps, std::proofs::lemmas::Bool::Decides::nat_tests))]
+#[tactic(auto, using(pgp_tables::proofs::Common::write_steps, std::proofs::lemmas::Bool::Decides::nat_tests))]
 fn made_by_id(alloc: Global, made: &[PoolSpec]) -> Result<HashMap<PoolId, PoolSpec>, AllocError>
     ensures value { IfOk result (λ table. is_long made.now ≡ true → (q : ℕ) → hash.get nat_eq table q ≡ last_where (λ pool. nat_eq pool.id q) made.now) }
     ensures wants { OnErr result (is_long made.now ≡ true) }
@@ -129,7 +129,7 @@ fn made_by_id(alloc: Global, made: &[PoolSpec]) -> Result<HashMap<PoolId, PoolSp
 }
 
 /// The table of these sizes; an empty one where they are few.
-#[tactic(auto, using(pgp_tables::proofs::Told::write_steps, std::proofs::lemmas::Bool::Decides::nat_tests))]
+#[tactic(auto, using(pgp_tables::proofs::Common::write_steps, std::proofs::lemmas::Bool::Decides::nat_tests))]
 fn sizes_by_pool(
     alloc: Global,
     sizes: &[PoolSizes],

@@ -5,21 +5,21 @@ ghost use Rattle.std.specs.List.{list_any};
 ghost use Rattle.pgp_map.specs.MapFault.{told_devices};
 ghost use Rattle.pgp_tables.specs.DeviceTable.{device_at};
 
-use super::searched::Searched;
+use super::searched_devices::SearchedDevices;
 use pgp_ids::{DeviceEpoch, DeviceWeight, Epoch, Incremental, OsdId};
 use pgp_tables::Device;
 use pgp_tables::devices::device_at;
 use std::collections::HashMap;
 
 /// The device neither exists nor is one of those that boot.
-fn is_unknown(table: &HashMap<OsdId, Device>, boots: &Searched, osd: OsdId) -> bool
+fn is_unknown(table: &HashMap<OsdId, Device>, boots: &SearchedDevices, osd: OsdId) -> bool
     ensures { result ≡ not ((device_at table.now osd).exists || list_any (nat_eq osd) boots.now.osds.now) }
 {
     !(device_at(table, osd).exists || boots.contains(&osd))
 }
 
 /// One of the devices is unknown.
-fn any_unknown(table: &HashMap<OsdId, Device>, boots: &Searched, osds: &[OsdId]) -> bool
+fn any_unknown(table: &HashMap<OsdId, Device>, boots: &SearchedDevices, osds: &[OsdId]) -> bool
     ensures { result ≡ list_any (λ osd. not ((device_at table.now osd).exists || list_any (nat_eq osd) boots.now.osds.now)) osds.now }
 {
     osds.iter().any(|osd| is_unknown(table, boots, *osd))
@@ -28,7 +28,7 @@ fn any_unknown(table: &HashMap<OsdId, Device>, boots: &Searched, osds: &[OsdId])
 /// A device that is given a weight is unknown.
 fn weighs_unknown(
     table: &HashMap<OsdId, Device>,
-    boots: &Searched,
+    boots: &SearchedDevices,
     weights: &[DeviceWeight],
 ) -> bool
     ensures { result ≡ list_any (λ entry. not ((device_at table.now entry.osd).exists || list_any (nat_eq entry.osd) boots.now.osds.now)) weights.now }
@@ -39,7 +39,11 @@ fn weighs_unknown(
 }
 
 /// A device of which an epoch is told is unknown.
-fn tells_unknown(table: &HashMap<OsdId, Device>, boots: &Searched, told: &[DeviceEpoch]) -> bool
+fn tells_unknown(
+    table: &HashMap<OsdId, Device>,
+    boots: &SearchedDevices,
+    told: &[DeviceEpoch],
+) -> bool
     ensures { result ≡ list_any (λ entry. not ((device_at table.now entry.osd).exists || list_any (nat_eq entry.osd) boots.now.osds.now)) told.now }
 {
     told.iter().any(|entry| is_unknown(table, boots, entry.osd))
@@ -49,7 +53,7 @@ fn tells_unknown(table: &HashMap<OsdId, Device>, boots: &Searched, told: &[Devic
 #[tactic(auto, using(crate::proofs::CheckLemmas::told_steps))]
 pub(crate) fn has_unknown(
     table: &HashMap<OsdId, Device>,
-    boots: &Searched,
+    boots: &SearchedDevices,
     inc: &Incremental,
 ) -> bool
     ensures { result ≡ list_any (λ osd. not ((device_at table.now osd).exists || list_any (nat_eq osd) boots.now.osds.now)) (told_devices inc.now) }
@@ -82,9 +86,9 @@ pub(crate) fn has_down(table: &HashMap<OsdId, Device>, osds: &[OsdId]) -> bool
 /// A device is given up for lost that is up after some boot and others are taken down or destroyed.
 pub(crate) fn has_lost_up(
     table: &HashMap<OsdId, Device>,
-    boots: &Searched,
-    downs: &Searched,
-    destroyed: &Searched,
+    boots: &SearchedDevices,
+    downs: &SearchedDevices,
+    destroyed: &SearchedDevices,
     told: &[DeviceEpoch],
 ) -> bool
     ensures { result ≡ list_any (λ entry. list_any (nat_eq entry.osd) boots.now.osds.now || not (list_any (nat_eq entry.osd) downs.now.osds.now || list_any (nat_eq entry.osd) destroyed.now.osds.now) && (device_at table.now entry.osd).is_up) told.now }

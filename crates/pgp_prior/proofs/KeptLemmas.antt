@@ -9,7 +9,7 @@ use Rattle.pgp_sets.specs.declared.status.Status.{Status}
 use Rattle.pgp_prior.specs.declared.change.Change.{Change}
 use Rattle.pgp_prior.specs.declared.change.Change.TheVariants as change
 use Rattle.pgp_prior.specs.declared.judged_interval.JudgedInterval.{JudgedInterval}
-use Rattle.pgp_prior.specs.declared.statuses.Known.{Known}
+use Rattle.pgp_prior.specs.declared.statuses.KnownStatus.{KnownStatus}
 use Rattle.pgp_prior.specs.declared.statuses.Statuses.{Statuses}
 use Rattle.pgp_prior.specs.Members.{members_of}
 use Rattle.pgp_prior.specs.Blocks.{blocks}
@@ -36,7 +36,7 @@ module _ (by_place : Bool) (kind : Change) (osd : ℕ) (told' old new : ℕ → 
   ]
 
   -- what was known of each acting member, with the new status of the device
-  pub renamed-known : (known : List Known) → ((m : Member) → Contains (members_of by_place p.members.acting) m → told known m.osd ≡ Some (old m.osd p.first)) → (m : Member) → Contains (members_of by_place p.members.acting) m → told (map (renamed osd (told' osd p.first)) known) m.osd ≡ Some (new m.osd p.first)
+  pub renamed-known : (known : List KnownStatus) → ((m : Member) → Contains (members_of by_place p.members.acting) m → told known m.osd ≡ Some (old m.osd p.first)) → (m : Member) → Contains (members_of by_place p.members.acting) m → told (map (renamed osd (told' osd p.first)) known) m.osd ≡ Some (new m.osd p.first)
   renamed-known known were m in' = elim (cases_eq m.osd osd) [
     | inl it ↦ rw it (told-renamed osd (told' osd p.first) (old osd p.first) known (rw it at (were m in')) ∙ ap Some (sym (is.of_it m in' it)))
     | inr other ↦ told-others osd (told' osd p.first) known m.osd other ∙ were m in' ∙ ap Some (sym (is.of_others m in' other))

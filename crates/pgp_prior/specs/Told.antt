@@ -3,20 +3,20 @@ use Rattle.std.specs.Prelude.{ℕ, List, [], ◌∷◌, Option, Some, None, unwr
 use Rattle.pgp_ids.specs.declared.member.Member.{Member}
 use Rattle.pgp_sets.specs.declared.status.Status.{Status}
 use Rattle.pgp_sets.specs.declared.status.Status.TheVariants.{Gone}
-use Rattle.pgp_prior.specs.declared.statuses.Known.{Known}
+use Rattle.pgp_prior.specs.declared.statuses.KnownStatus.{KnownStatus}
 
 -- what the first entry of the device says
-abbrev pub told : List Known → ℕ → Option Status
+abbrev pub told : List KnownStatus → ℕ → Option Status
 told [] osd = None
 told (known ∷ rest) osd = if nat_eq known.osd osd then Some known.status else told rest osd
 
-abbrev pub told_or_gone : List Known → ℕ → Status
+abbrev pub told_or_gone : List KnownStatus → ℕ → Status
 told_or_gone known osd = unwrap_or (told known osd) Gone
 
 -- the entry of a member of an interval that began at this epoch
-abbrev pub known_of : (ℕ → ℕ → Status) → ℕ → Member → Known
+abbrev pub known_of : (ℕ → ℕ → Status) → ℕ → Member → KnownStatus
 known_of status first member = record { osd = member.osd; status = status member.osd first }
 
 -- the entry, with this status where it is of this device
-abbrev pub renamed : ℕ → Status → Known → Known
+abbrev pub renamed : ℕ → Status → KnownStatus → KnownStatus
 renamed osd status known = if nat_eq known.osd osd then record known { status = status } else known

@@ -9,7 +9,7 @@ use std::alloc::{AllocError, Global};
 
 /// What has become of a device.
 #[derive(Clone, Copy)]
-pub(crate) struct Known {
+pub(crate) struct KnownStatus {
     osd: OsdId,
     status: Status,
 }
@@ -17,7 +17,7 @@ pub(crate) struct Known {
 /// What has become of the devices of a past interval.
 #[derive(Drop)]
 pub(crate) struct Statuses {
-    known: Vec<Known>,
+    known: Vec<KnownStatus>,
 }
 
 impl Statuses {
@@ -33,7 +33,7 @@ impl Statuses {
     {
         let mut known = Vec::new(alloc);
         for member in members_of(by_place, &past.members.acting) {
-            known.push(Known {
+            known.push(KnownStatus {
                 osd: member.osd,
                 status: statuses.status(member.osd, past.first),
             })?;
@@ -62,7 +62,7 @@ impl Statuses {
 }
 
 /// Gives each entry of the device this status.
-fn rename(entries: &mut [Known], osd: OsdId, status: Status)
+fn rename(entries: &mut [KnownStatus], osd: OsdId, status: Status)
     ensures { entries.new ≡ map (renamed osd status) entries.old }
 {
     for known in entries.iter_mut() {

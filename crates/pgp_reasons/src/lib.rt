@@ -7,9 +7,8 @@
 #![tactic(auto)]
 
 mod blocking;
-mod changed;
+mod changed_statuses;
 mod enough;
-mod found;
 mod gap;
 pub mod gap_laws;
 mod gaps;
@@ -20,6 +19,7 @@ mod outcome;
 mod reasons;
 mod relief;
 mod search;
+mod set_walk;
 mod short;
 mod waits;
 mod ways;

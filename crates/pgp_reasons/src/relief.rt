@@ -3,7 +3,7 @@ ghost use Rattle.pgp_prior.specs.Prior.{is_group_down};
 ghost use Rattle.pgp_reasons.specs.Smallest.{smallest, AreSome};
 ghost use Rattle.pgp_reasons.specs.Ways.{is_relieved};
 
-use super::changed::Changed;
+use super::changed_statuses::ChangedStatuses;
 use super::enough::Enough;
 use super::search::smallest_of;
 use super::ways::{Way, Ways};
@@ -33,7 +33,7 @@ impl<R: Recoverable, S: StatusOf> Enough for Relief<'_, R, S> {
         (S.status_of r.statuses.now) r.les r.past.now r.way };
 
     fn is_enough(&self, these: &[OsdId], those: &[OsdId]) -> bool {
-        let after = Changed {
+        let after = ChangedStatuses {
             statuses: self.statuses,
             way: self.way,
             these,

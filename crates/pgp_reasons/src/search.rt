@@ -2,7 +2,7 @@ ghost use Rattle.std.specs.Prelude.{◌≡◌, ◌≤◌, true, false, length, C
 ghost use Rattle.pgp_reasons.specs.Smallest.{most_sets, smallest, AreFirstOf, AreMany, AreSome};
 
 use super::enough::Enough;
-use super::found::Found;
+use super::set_walk::SetWalk;
 use super::ways::Ways;
 use pgp_ids::{OsdId, Seq};
 use std::alloc::{AllocError, Global};
@@ -19,7 +19,7 @@ pub(crate) fn smallest_of<E: Enough>(
 ) -> Result<Ways, AllocError>
     ensures { IfOk result (λ ways. AreSome among.now (smallest (E.enough judge.now) among.now) ways.sets ways.more) }
 {
-    let mut found = Found::new(alloc);
+    let mut found = SetWalk::new(alloc);
     if !judge.is_enough(among, &[]) {
         return Ok(Ways {
             sets: found.sets,

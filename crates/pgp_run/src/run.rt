@@ -83,7 +83,7 @@ fn run_over<J: Naming + Send + Sync, R: Source, W: Sink, T: Threads + Wait + Syn
 
 /// How a run ended, with what was lent to it.
 #[derive(Drop)]
-struct Ended<'r, 'w, R, W> {
+struct RunEnd<'r, 'w, R, W> {
     reader: &'r mut R,
     writer: &'w mut W,
     outcome: Result<(), ScriptFault>,
@@ -101,7 +101,7 @@ fn run_among_workers<'r, 'w, J: Naming + Send + Sync, R: Source, W: Sink, T: Thr
     reader: &'r mut R,
     writer: &'w mut W,
     workers: usize,
-) -> Ended<'r, 'w, R, W>
+) -> RunEnd<'r, 'w, R, W>
     requires { workers ≤ engine.now.workers }
     ensures reader { result.reader.ghost_name ≡ reader.entry.ghost_name }
     ensures writer { result.writer.ghost_name ≡ writer.entry.ghost_name }
@@ -114,7 +114,7 @@ fn run_among_workers<'r, 'w, J: Naming + Send + Sync, R: Source, W: Sink, T: Thr
     thread::scope(
         thread::scope_env(),
         rt,
-        move |scope| -> Ended<R, W>
+        move |scope| -> RunEnd<R, W>
             requires { workers ≤ engine.now.workers }
             ensures reader { result.reader.ghost_name ≡ reader.entry.ghost_name }
             ensures writer { result.writer.ghost_name ≡ writer.entry.ghost_name }
@@ -126,7 +126,7 @@ fn run_among_workers<'r, 'w, J: Naming + Send + Sync, R: Source, W: Sink, T: Thr
         {
             if !all_started(rt, scope, engine, workers) {
                 close(rt, engine);
-                return Ended {
+                return RunEnd {
                     reader,
                     writer,
                     outcome: Err(ScriptFault::Gone),
@@ -134,7 +134,7 @@ fn run_among_workers<'r, 'w, J: Naming + Send + Sync, R: Source, W: Sink, T: Thr
             }
             let outcome = answer_by(rt, alloc, engine, client, reader, writer);
             close(rt, engine);
-            Ended {
+            RunEnd {
                 reader,
                 writer,
                 outcome,

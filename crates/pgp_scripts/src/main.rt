@@ -13,7 +13,7 @@ use split::{first_line, first_script};
 use std::alloc::Global;
 use std::io;
 use std::io::{ErrorKind, Read, Write};
-use streams::{Given, Taken};
+use streams::{AnswerWriter, ScriptReader};
 
 fn main(rt: HostRuntime) -> io::Result<()> {
     let mut stored = Vec::new(rt.alloc());
@@ -26,7 +26,7 @@ fn main(rt: HostRuntime) -> io::Result<()> {
 
 /// The names of the scripts, each with the answers of its script.
 fn answer_all(alloc: Global, stored: &[u8]) -> io::Result<Vec<u8>> {
-    let mut taken = Taken::new(alloc);
+    let mut taken = AnswerWriter::new(alloc);
     let mut rest = stored;
     while !rest.is_empty() {
         let (named, others) = first_script(rest);
@@ -37,14 +37,14 @@ fn answer_all(alloc: Global, stored: &[u8]) -> io::Result<Vec<u8>> {
 }
 
 /// Puts the name of the script, if it has one, and its answers.
-fn answer(alloc: Global, named: &[u8], taken: &mut Taken) -> io::Result<()> {
+fn answer(alloc: Global, named: &[u8], taken: &mut AnswerWriter) -> io::Result<()> {
     let (name, script) = if named.starts_with(b"# ") {
         first_line(named)
     } else {
         named.split_at(0)
     };
     taken.bytes.extend_from_slice(name)?;
-    match run_script(alloc, &mut Given { left: script }, taken) {
+    match run_script(alloc, &mut ScriptReader { left: script }, taken) {
         Ok(()) => Ok(()),
         Err(_) => Err(io::Error::from(ErrorKind::Other)),
     }

@@ -7,11 +7,11 @@ use std::io::ErrorKind;
 
 /// The part of a script that is still to be read.
 #[derive(Drop)]
-pub struct Given<'a> {
+pub struct ScriptReader<'a> {
     pub left: &'a [u8],
 }
 
-impl Source for Given<'_> {
+impl Source for ScriptReader<'_> {
     ghost use Rattle.std.specs.Prelude.{Some, false};
 
     ghost remaining = { λ given. Some given.left.now };
@@ -33,21 +33,21 @@ impl Source for Given<'_> {
 
 /// What was written so far, and whether there was no memory for some of it.
 #[derive(Drop)]
-pub struct Taken {
+pub struct AnswerWriter {
     pub bytes: Vec<u8>,
     failed: bool,
 }
 
-impl Taken {
+impl AnswerWriter {
     pub fn new(alloc: Global) -> Self {
-        Taken {
+        AnswerWriter {
             bytes: Vec::new(alloc),
             failed: false,
         }
     }
 }
 
-impl Sink for Taken {
+impl Sink for AnswerWriter {
     ghost use Rattle.std.specs.Prelude.{Some};
 
     ghost contents = { λ taken. Some taken.bytes.items };

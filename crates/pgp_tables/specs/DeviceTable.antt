@@ -10,8 +10,8 @@ use Rattle.pgp_ids.specs.declared.incremental.Incremental.{Incremental}
 use Rattle.pgp_tables.specs.declared.device.Device.{Device}
 use Rattle.pgp_tables.specs.declared.devices.Event.{Event}
 use Rattle.pgp_tables.specs.declared.devices.Event.TheVariants.{Boots, GoesDown, IsDestroyed}
-use Rattle.pgp_tables.specs.declared.devices.Told.{Told}
-use Rattle.pgp_tables.specs.declared.devices.Told.TheVariants.{UpThru, LostAt}
+use Rattle.pgp_tables.specs.declared.devices.EpochKind.{EpochKind}
+use Rattle.pgp_tables.specs.declared.devices.EpochKind.TheVariants.{UpThru, LostAt}
 
 -- a device of which nothing was told
 abbrev pub absent : Device
@@ -34,15 +34,15 @@ downed epoch device = record device { is_up = false; down_at = max device.down_a
 abbrev pub destroyed : Device → Device
 destroyed device = record device { exists = false; is_up = false }
 
--- the device with the up_thru that is told, where one is
+-- the device with its up_thru set, where an entry sets it
 abbrev pub with_up_thru : Option DeviceEpoch → Device → Device
 with_up_thru None device = device
-with_up_thru (Some told) device = record device { up_thru = told.epoch }
+with_up_thru (Some entry) device = record device { up_thru = entry.epoch }
 
--- the device with the epoch at which it is told to be lost, where one is
+-- the device with the epoch set at which it was given up for lost, where an entry sets it
 abbrev pub with_lost_at : Option DeviceEpoch → Device → Device
 with_lost_at None device = device
-with_lost_at (Some told) device = record device { lost_at = told.epoch }
+with_lost_at (Some entry) device = record device { lost_at = entry.epoch }
 
 -- the device after the event
 abbrev pub after_event : Event → Device → Device
@@ -50,10 +50,10 @@ after_event (Boots epoch) = booted epoch
 after_event (GoesDown epoch) = downed epoch
 after_event IsDestroyed = destroyed
 
--- the device with what is told, where something is
-abbrev pub with_told : Told → Option DeviceEpoch → Device → Device
-with_told UpThru = with_up_thru
-with_told LostAt = with_lost_at
+-- the device with its epoch of this kind set, where an entry sets it
+abbrev pub with_epoch : EpochKind → Option DeviceEpoch → Device → Device
+with_epoch UpThru = with_up_thru
+with_epoch LostAt = with_lost_at
 
 abbrev pub after_down : Bool → ℕ → Device → Device
 after_down is_named epoch device = if is_named then downed epoch device else device
@@ -79,8 +79,8 @@ destroys osd inc = list_any (nat_eq osd) inc.gone
 -- the device after the incremental
 abbrev pub changed : Incremental → ℕ → Device → Device
 changed inc osd device =
-    with_lost_at (last_where (λ told. nat_eq told.osd osd) inc.lost)
-    (with_up_thru (last_where (λ told. nat_eq told.osd osd) inc.up_thru)
+    with_lost_at (last_where (λ entry. nat_eq entry.osd osd) inc.lost)
+    (with_up_thru (last_where (λ entry. nat_eq entry.osd osd) inc.up_thru)
     (after_up (boots osd inc) inc.epoch (after_gone (destroys osd inc) (after_down (takes_down osd inc) inc.epoch device))))
 
 -- each device that the incremental names has a place in the table, its weight aside
@@ -88,8 +88,8 @@ pub record HasPlaces {S : Type 0} (inc : Incremental) (table : HashMap ℕ Devic
   pub up : (q : ℕ) → list_any (nat_eq q) inc.up ≡ true → has_place table q ≡ true
   pub down : (q : ℕ) → list_any (nat_eq q) inc.down ≡ true → has_place table q ≡ true
   pub gone : (q : ℕ) → list_any (nat_eq q) inc.gone ≡ true → has_place table q ≡ true
-  pub up_thru : (q : ℕ) → list_any (λ told. nat_eq told.osd q) inc.up_thru ≡ true → has_place table q ≡ true
-  pub lost : (q : ℕ) → list_any (λ told. nat_eq told.osd q) inc.lost ≡ true → has_place table q ≡ true
+  pub up_thru : (q : ℕ) → list_any (λ entry. nat_eq entry.osd q) inc.up_thru ≡ true → has_place table q ≡ true
+  pub lost : (q : ℕ) → list_any (λ entry. nat_eq entry.osd q) inc.lost ≡ true → has_place table q ≡ true
 
 -- the incremental names a device that doesn't exist, its weight aside; by a test which devices exist
 abbrev pub names_absent : (ℕ → Bool) → Incremental → Bool
@@ -97,5 +97,5 @@ names_absent exists inc =
     list_any (λ osd. not (exists osd)) inc.up
     || list_any (λ osd. not (exists osd)) inc.down
     || list_any (λ osd. not (exists osd)) inc.gone
-    || list_any (λ told. not (exists told.osd)) inc.up_thru
-    || list_any (λ told. not (exists told.osd)) inc.lost
+    || list_any (λ entry. not (exists entry.osd)) inc.up_thru
+    || list_any (λ entry. not (exists entry.osd)) inc.lost

@@ -3,7 +3,7 @@
 ghost use Rattle.std.specs.Prelude.{◌≡◌, ℕ, true, false, not, max, nat_eq, OnOk, OnErr, if◌then◌else◌};
 ghost use Rattle.std.specs.List.{list_any};
 ghost use Rattle.pgp_lists.specs.Last.{last_where};
-ghost use Rattle.pgp_tables.specs.DeviceTable.{absent, device_at, has_place, after_event, with_told, changed, names_absent, HasPlaces};
+ghost use Rattle.pgp_tables.specs.DeviceTable.{absent, device_at, has_place, after_event, with_epoch, changed, names_absent, HasPlaces};
 
 use super::device::Device;
 use pgp_ids::{DeviceEpoch, Epoch, Incremental, OsdId};
@@ -60,17 +60,17 @@ pub fn place_all(table: &mut HashMap<OsdId, Device>, osds: &[OsdId]) -> Result<(
     Ok(())
 }
 
-/// Gives each device that is told of a place.
-pub fn place_told(
+/// Gives each device of these entries a place in the table.
+pub fn place_entries(
     table: &mut HashMap<OsdId, Device>,
-    told: &[DeviceEpoch],
+    entries: &[DeviceEpoch],
 ) -> Result<(), AllocError>
     ensures same { (q : ℕ) → device_at table.new q ≡ device_at table.old q }
-    ensures placed { OnOk result ((q : ℕ) → list_any (λ entry. nat_eq entry.osd q) told.now ≡ true → has_place table.new q ≡ true) }
+    ensures placed { OnOk result ((q : ℕ) → list_any (λ entry. nat_eq entry.osd q) entries.now ≡ true → has_place table.new q ≡ true) }
     ensures kept { (q : ℕ) → has_place table.old q ≡ true → has_place table.new q ≡ true }
-    ensures wants { OnErr result (list_any (λ entry. not (device_at table.old entry.osd).exists) told.now ≡ true) }
+    ensures wants { OnErr result (list_any (λ entry. not (device_at table.old entry.osd).exists) entries.now ≡ true) }
 {
-    for entry in told {
+    for entry in entries {
         place(table, entry.osd)?;
     }
     Ok(())
@@ -139,36 +139,36 @@ fn change_all(table: &mut HashMap<OsdId, Device>, osds: &[OsdId], event: &Event)
     }
 }
 
-/// What an epoch that is told of a device says.
+/// Which epoch of a device an incremental sets.
 #[derive(Clone, Copy)]
-enum Told {
-    /// Through which epoch it was up.
+enum EpochKind {
+    /// The one through which it was up.
     UpThru,
-    /// At which epoch it was given up for lost.
+    /// The one at which it was given up for lost.
     LostAt,
 }
 
-/// The device of which the epoch is told.
-fn with_told(said: Told, entry: &DeviceEpoch, before: Device) -> Device
-    ensures { result ≡ with_told said (Some entry.now) before }
+/// The device with its epoch of this kind set.
+fn with_epoch(kind: EpochKind, entry: &DeviceEpoch, before: Device) -> Device
+    ensures { result ≡ with_epoch kind (Some entry.now) before }
 {
     let mut device = before;
-    match said {
-        Told::UpThru => device.up_thru = entry.epoch,
-        Told::LostAt => device.lost_at = entry.epoch,
+    match kind {
+        EpochKind::UpThru => device.up_thru = entry.epoch,
+        EpochKind::LostAt => device.lost_at = entry.epoch,
     }
     device
 }
 
-/// Tells these epochs of devices, each of which has a place.
-#[tactic(auto, using(crate::proofs::Told::write_steps))]
-fn tell_all(table: &mut HashMap<OsdId, Device>, told: &[DeviceEpoch], said: Told)
-    requires { (q : ℕ) → list_any (λ entry. nat_eq entry.osd q) told.now ≡ true → has_place table.old q ≡ true }
-    ensures after { (q : ℕ) → device_at table.new q ≡ with_told said (last_where (λ entry. nat_eq entry.osd q) told.now) (device_at table.old q) }
+/// Sets these epochs of devices, each of which has a place.
+#[tactic(auto, using(crate::proofs::Common::write_steps))]
+fn set_epochs(table: &mut HashMap<OsdId, Device>, entries: &[DeviceEpoch], kind: EpochKind)
+    requires { (q : ℕ) → list_any (λ entry. nat_eq entry.osd q) entries.now ≡ true → has_place table.old q ≡ true }
+    ensures after { (q : ℕ) → device_at table.new q ≡ with_epoch kind (last_where (λ entry. nat_eq entry.osd q) entries.now) (device_at table.old q) }
     ensures kept { (q : ℕ) → has_place table.new q ≡ has_place table.old q }
 {
-    for entry in told {
-        let device = with_told(said, entry, device_at(table, entry.osd));
+    for entry in entries {
+        let device = with_epoch(kind, entry, device_at(table, entry.osd));
         set_device(table, entry.osd, device);
     }
 }
@@ -182,8 +182,8 @@ pub fn place_named(table: &mut HashMap<OsdId, Device>, inc: &Incremental) -> Res
     place_all(table, inc.up.as_slice())?;
     place_all(table, inc.down.as_slice())?;
     place_all(table, inc.gone.as_slice())?;
-    place_told(table, inc.up_thru.as_slice())?;
-    place_told(table, inc.lost.as_slice())
+    place_entries(table, inc.up_thru.as_slice())?;
+    place_entries(table, inc.lost.as_slice())
 }
 
 /// Changes the devices as the incremental says. Each has a place.
@@ -194,6 +194,6 @@ pub fn change(table: &mut HashMap<OsdId, Device>, inc: &Incremental)
     change_all(table, inc.down.as_slice(), &Event::GoesDown(inc.epoch));
     change_all(table, inc.gone.as_slice(), &Event::IsDestroyed);
     change_all(table, inc.up.as_slice(), &Event::Boots(inc.epoch));
-    tell_all(table, inc.up_thru.as_slice(), Told::UpThru);
-    tell_all(table, inc.lost.as_slice(), Told::LostAt);
+    set_epochs(table, inc.up_thru.as_slice(), EpochKind::UpThru);
+    set_epochs(table, inc.lost.as_slice(), EpochKind::LostAt);
 }

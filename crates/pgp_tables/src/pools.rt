@@ -11,7 +11,7 @@ use pgp_ids::{PoolId, PoolSizes, PoolSpec};
 use std::collections::HashMap;
 
 /// Makes these pools. The table has room for them.
-#[tactic(auto, using(crate::proofs::Told::write_steps))]
+#[tactic(auto, using(crate::proofs::Common::write_steps))]
 pub fn make_all(table: &mut HashMap<PoolId, PoolSpec>, made: &[PoolSpec])
     requires { length made.now ≤ spare table.old }
     ensures { (q : ℕ) → hash.get nat_eq table.new q ≡ or_made (last_where (λ pool. nat_eq pool.id q) made.now) (hash.get nat_eq table.old q) }
@@ -33,7 +33,7 @@ fn resize(table: &mut HashMap<PoolId, PoolSpec>, given: &PoolSizes)
 }
 
 /// Gives these pools new sizes.
-#[tactic(auto, using(crate::proofs::Told::write_steps))]
+#[tactic(auto, using(crate::proofs::Common::write_steps))]
 pub fn resize_all(table: &mut HashMap<PoolId, PoolSpec>, sizes: &[PoolSizes])
     ensures { (q : ℕ) → hash.get nat_eq table.new q ≡ option_map (with_sizes (last_where (λ given. nat_eq given.pool q) sizes.now)) (hash.get nat_eq table.old q) }
 {

@@ -1,5 +1,5 @@
 use Rattle.std.proofs.Common.{arith}
-use Rattle.pgp_tables.proofs.Told.{write_steps}
+use Rattle.pgp_tables.proofs.Common.{write_steps}
 use Rattle.pgp_tables.proofs.devices.place.Goals as goal
 
 pub returns-in_ok-insert-clause-same : goal.returns-in_ok-insert-clause-same

@@ -1,6 +1,6 @@
 use Rattle.std.proofs.Common.{nat_eq, rules, arith, IsSome}
 use Rattle.std.specs.HashMap as hash
-use Rattle.pgp_tables.proofs.Told.{write_steps}
+use Rattle.pgp_tables.proofs.Common.{write_steps}
 use Rattle.pgp_tables.proofs.devices.set_device.Goals as goal
 
 pub returns-in-Some-clause-kept : goal.returns-in-Some-clause-kept

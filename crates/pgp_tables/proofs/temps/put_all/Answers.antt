@@ -1,5 +1,5 @@
 use Rattle.std.proofs.Common.{arith}
-use Rattle.pgp_tables.proofs.Told.{write_steps}
+use Rattle.pgp_tables.proofs.Common.{write_steps}
 use Rattle.pgp_tables.proofs.temps.put_all.Goals as goal
 
 pub loop-given-preserved : goal.loop-given-preserved

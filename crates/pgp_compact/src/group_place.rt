@@ -1,0 +1,92 @@
+//! Where a group lies.
+
+ghost use Rattle.std.specs.List.{list_any};
+ghost use Rattle.std.specs.Prelude.{◌≡◌, ◌||◌, List};
+ghost use Rattle.pgp_ids.specs.declared.incremental.Incremental.{Incremental as AnyIncremental};
+ghost use Rattle.pgp_map.specs.Held.{HasGroup};
+ghost use Rattle.pgp_map.specs.MapFault.{map_fault, then_with};
+ghost use Rattle.pgp_map.specs.MapOf.{IsMapOf};
+ghost use Rattle.pgp_log.specs.RawSets.{IsRawSet};
+ghost use Rattle.pgp_compact.specs.Course.{LiesAt, IsNext, lies_on, may_leave};
+
+use pgp_ids::{Incremental, Membership, OsdId, Osds, PgId};
+use pgp_log::{changes_temp, has_osd, moves, temp_of};
+use pgp_map::OsdMap;
+use pgp_sets::{filter, raw};
+
+/// Where a group lies by a map, and on what that depends.
+#[derive(Drop)]
+pub(crate) struct GroupPlace {
+    /// Where the tree of the map puts the group.
+    raw: Osds,
+    /// The group's pg_temp list.
+    temp: Osds,
+    pub(crate) members: Membership,
+}
+
+impl GroupPlace {
+    /// Where the group lies by the map. It takes no memory.
+    pub(crate) fn at(map: &OsdMap, pg: &PgId) -> Self
+        requires { HasGroup map.now pg.now }
+        ensures { (incs : List AnyIncremental) → IsMapOf incs map.now → LiesAt incs pg.now result }
+    {
+        GroupPlace::on(map, pg, raw(map, pg))
+    }
+
+    /// Where the group lies by the map, whose tree puts it on these places.
+    fn on(map: &OsdMap, pg: &PgId, raw: Osds) -> Self
+        requires { HasGroup map.now pg.now }
+        ensures { (incs : List AnyIncremental) → IsMapOf incs map.now → IsRawSet incs pg.now raw → LiesAt incs pg.now result }
+    {
+        let members = filter(map, pg, &raw);
+        GroupPlace {
+            raw,
+            temp: temp_of(map, *pg),
+            members,
+        }
+    }
+
+    /// Where the group lies by the map after the incremental. The tree is asked only where it may put the group elsewhere.
+    pub(crate) fn next(&self, after: &OsdMap, pg: &PgId, inc: &Incremental) -> Self
+        requires { HasGroup after.now pg.now }
+        ensures { (incs : List AnyIncremental) → IsNext incs inc.now after.now → LiesAt incs pg.now self.now
+            → LiesAt (then_with incs inc.now) pg.now result }
+    {
+        if moves(inc, pg.pool) {
+            GroupPlace::at(after, pg)
+        } else {
+            GroupPlace::on(after, pg, self.raw.copy())
+        }
+    }
+
+    /// Whether the group may lie elsewhere by the incremental.
+    pub(crate) fn may_leave(&self, pg: &PgId, inc: &Incremental) -> bool
+        ensures { result ≡ may_leave self.now pg.now inc.now }
+    {
+        moves(inc, pg.pool) || changes_temp(inc, pg) || self.lies_on_turned(inc)
+    }
+
+    /// Whether the group may lie on a device that the incremental boots, takes down or destroys.
+    fn lies_on_turned(&self, inc: &Incremental) -> bool
+        ensures { result ≡ (list_any (lies_on self.now) inc.now.up || list_any (lies_on self.now) inc.now.down
+            || list_any (lies_on self.now) inc.now.gone) }
+    {
+        self.lies_on_any(inc.up.as_slice())
+            || self.lies_on_any(inc.down.as_slice())
+            || self.lies_on_any(inc.gone.as_slice())
+    }
+
+    /// Whether the group may lie on one of these devices.
+    fn lies_on_any(&self, osds: &[OsdId]) -> bool
+        ensures { result ≡ list_any (lies_on self.now) osds.now }
+    {
+        osds.iter().any(|osd| self.lies_on(*osd))
+    }
+
+    /// Whether the group may lie on the device: it stands in the raw set or in pg_temp.
+    fn lies_on(&self, osd: OsdId) -> bool
+        ensures { result ≡ lies_on self.now osd }
+    {
+        has_osd(self.raw.as_slice(), osd) || has_osd(self.temp.as_slice(), osd)
+    }
+}

@@ -1,0 +1,57 @@
+ghost use Rattle.std.specs.Prelude.{◌≡◌, IfOk};
+ghost use Rattle.pgp_group.specs.Heard.{has_member};
+ghost use Rattle.pgp_group_words.specs.Sentence.{naming_of, unheard_of};
+
+use super::names::Naming;
+use super::offset::EpochOffset;
+use pgp_ids::{Info, Member, PgId, View};
+use pgp_reasons::Reasons;
+use std::alloc::{AllocError, Global};
+
+/// What there is to say of a group.
+#[derive(Drop)]
+pub struct Explanation {
+    pub pg: PgId,
+    /// Whether each member has a place of its own, so that it is told with its slot.
+    pub by_place: bool,
+    /// How many copies or shards its pool keeps.
+    pub size: u8,
+    /// With how many members it may serve.
+    pub min_size: u8,
+    pub view: View,
+    pub reasons: Reasons,
+}
+
+impl Explanation {
+    /// How its members and epochs are told.
+    pub(crate) fn naming(&self, offset: EpochOffset) -> Naming
+        ensures { result ≡ naming_of self.now offset }
+    {
+        Naming {
+            by_place: self.by_place,
+            offset,
+        }
+    }
+
+    /// The members that have to be heard and haven't been, in ascending order.
+    #[tactic(auto, unfolding(crate::specs::Sentence::unheard_of))]
+    pub(crate) fn unheard(&self, alloc: Global) -> Result<Vec<Member>, AllocError>
+        ensures { IfOk result (λ members. members.items ≡ unheard_of self.now) }
+    {
+        let heard = self.reasons.heard.as_slice();
+        self.view
+            .probe
+            .as_slice()
+            .iter()
+            .copied()
+            .filter(|member| !is_heard(heard, *member))
+            .collect(alloc)
+    }
+}
+
+/// Whether one of the infos is of this member.
+fn is_heard(infos: &[Info], member: Member) -> bool
+    ensures { result ≡ has_member member infos.now }
+{
+    infos.iter().any(|info| info.member == member)
+}

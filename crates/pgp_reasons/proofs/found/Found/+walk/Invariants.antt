@@ -1,8 +1,0 @@
-use Rattle.std.proofs.Common.{◌+◌, ◌*◌, length}
-use Rattle.pgp_reasons.proofs.found.Found.+walk.Given as goal
-
-abbrev pub decreases-walk : goal.decreases-walk
-decreases-walk g l = 2 * length l.rest.now + 1
-
-abbrev pub decreases-walk_on : goal.decreases-walk_on
-decreases-walk_on g l = 2 * length l.rest.now
