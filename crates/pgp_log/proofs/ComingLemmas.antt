@@ -1,35 +1,8 @@
 -- A group comes into a log, and is absent before.
-use Rattle.std.proofs.Common.{◌≡◌, ℕ, ◌<◌, List, [], ◌∷◌, ◌++◌, Option, Some, None, Bool, true, false, nat_eq, nat_lt, option_map, length, length-append, refl, ap, sym, ◌∙◌, subst, arith}
-use Rattle.std.specs.List.{flat_map}
-use Rattle.std.specs.Option.{option_map_or}
-use Rattle.std.proofs.lemmas.Bool.{false_from_ne_true, true_from_ne_false, true≢false}
-use Rattle.std.proofs.lemmas.List.Elements.{filter_map-append}
-use Rattle.pgp_ids.specs.declared.entry.Entry.{Entry}
+use Rattle.pgp_log.proofs.Common.{◌≡◌, ℕ, ◌<◌, List, [], ◌∷◌, ◌++◌, Option, Some, None, Bool, true, false, nat_eq, nat_lt, option_map, length, length-append, refl, ap, sym, ◌∙◌, subst, arith, flat_map, option_map_or, false_from_ne_true, true_from_ne_false, true≢false, filter_map-append, Entry, Incremental, PgId, PoolSizes, PoolSpec, Refusal, checked-has_group, are_checked, HasGroup, epoch, map_fault, then_with, IsMapOf, with_sizes, has_group, is_same_group, OsdMap, infos-other, infos-same, reports-other, reports-same, epoch-snoc, has_group-grows, history-last, made_at-made, next_epoch, told-stays, inc_of, incs_of, group_history, makes, made_at, IsGroupOf, IsSilent, Follows, Group, entry_fault, HasInc, has_unknown_group, report_fault}
 use Rattle.pgp_ids.specs.declared.entry.Entry.TheVariants as entry
-use Rattle.pgp_ids.specs.declared.incremental.Incremental.{Incremental}
 use Rattle.pgp_ids.specs.declared.member.Member.{Member}
-use Rattle.pgp_ids.specs.declared.pg_id.PgId.{PgId}
-use Rattle.pgp_ids.specs.declared.pool.PoolSizes.{PoolSizes}
-use Rattle.pgp_ids.specs.declared.pool.PoolSpec.{PoolSpec}
-use Rattle.pgp_ids.specs.declared.refusal.Refusal.{Refusal}
-use Rattle.pgp_map.proofs.CheckedLemmas.{checked-has_group}
-use Rattle.pgp_map.specs.Checked.{are_checked}
-use Rattle.pgp_map.specs.Held.{HasGroup}
 use Rattle.pgp_map.specs.Last.{last_where}
-use Rattle.pgp_map.specs.Map.{epoch}
-use Rattle.pgp_map.specs.MapFault.{map_fault, then_with}
-use Rattle.pgp_map.specs.MapOf.{IsMapOf}
-use Rattle.pgp_map.specs.Pools.{with_sizes, has_group, is_same_group}
-use Rattle.pgp_map.specs.declared.map.OsdMap.{OsdMap}
-use Rattle.pgp_group.proofs.GroupLemmas.{infos-other, infos-same, reports-other, reports-same}
-use Rattle.pgp_group.proofs.GrowthLemmas.{epoch-snoc, has_group-grows, history-last, made_at-made, next_epoch, told-stays}
-use Rattle.pgp_group.specs.Entries.{inc_of, incs_of}
-use Rattle.pgp_group.specs.GroupHistory.{group_history, makes, made_at}
-use Rattle.pgp_group.specs.GroupOf.{IsGroupOf, IsSilent, Follows}
-use Rattle.pgp_group.specs.declared.group.Group.{Group}
-use Rattle.pgp_log.specs.Fits.{entry_fault}
-use Rattle.pgp_log.specs.Log.{HasInc}
-use Rattle.pgp_log.specs.ReportFault.{has_unknown_group, report_fault}
 use Rattle.pgp_log.proofs.RawSetLemmas.{same_group}
 use Rattle.pgp_log.proofs.TakeLemmas.{incs-inc, incs-other}
 

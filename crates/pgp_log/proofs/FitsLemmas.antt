@@ -1,19 +1,7 @@
 -- In which order an entry is refused.
-use Rattle.std.proofs.Common.{◌≡◌, ◌<◌, ◌≤◌, List, Option, Some, None, Bool, true, false, length, nat_le, nat_lt, refl, subst, arith, if◌then◌else◌}
-use Rattle.std.specs.Option.{option_or}
-use Rattle.std.proofs.lemmas.Bool.{cases_Bool}
-use Rattle.std.proofs.lemmas.Bool.Decides.{nat_tests}
-use Rattle.pgp_ids.specs.declared.entry.Entry.{Entry}
+use Rattle.pgp_log.proofs.Common.{◌≡◌, ◌<◌, ◌≤◌, List, Option, Some, None, Bool, true, false, length, nat_le, nat_lt, refl, subst, arith, if◌then◌else◌, option_or, cases_Bool, nat_tests, Entry, PgId, Info, epoch, incs_of, TellsNothingAhead, Refusal, fits, entry_fault, full_fault, is_close, is_closed, has_bad_info, has_future_stamp, has_unknown_group, has_unknown_member, info_fault}
 use Rattle.pgp_ids.specs.declared.entry.Entry.TheVariants as entry
-use Rattle.pgp_ids.specs.declared.pg_id.PgId.{PgId}
-use Rattle.pgp_ids.specs.declared.report.Info.{Info}
-use Rattle.pgp_map.specs.Map.{epoch}
-use Rattle.pgp_group.specs.Entries.{incs_of}
-use Rattle.pgp_group.specs.GroupOf.{TellsNothingAhead}
-use Rattle.pgp_ids.specs.declared.refusal.Refusal.{Refusal}
 use Rattle.pgp_ids.specs.declared.refusal.Refusal.TheVariants as refusal
-use Rattle.pgp_log.specs.Fits.{fits, entry_fault, full_fault, is_close, is_closed}
-use Rattle.pgp_log.specs.ReportFault.{has_bad_info, has_future_stamp, has_unknown_group, has_unknown_member, info_fault}
 
 pub fits-closed : (log : List Entry) (new : Entry) → is_closed log ≡ true → fits log new ≡ Some refusal.Closed
 fits-closed log new closed = rw closed refl

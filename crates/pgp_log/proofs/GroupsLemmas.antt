@@ -1,28 +1,6 @@
 -- Lists of groups of which one changes, or with one more, and the table of their places.
-use Rattle.std.proofs.Common.{◌≡◌, ℕ, ◌<◌, List, [], ◌∷◌, ◌++◌, Bool, true, false, ◌||◌, cond, Option, Some, None, is_some, length, get_or, set, refl, sym, ap, ◌∙◌, subst, arith, eq-eqb}
+use Rattle.pgp_log.proofs.Common.{◌≡◌, ℕ, ◌<◌, List, [], ◌∷◌, ◌++◌, Bool, true, false, ◌||◌, cond, Option, Some, None, is_some, length, get_or, set, refl, sym, ap, ◌∙◌, subst, arith, eq-eqb, list_any, option_map, slice_get, map-set_same, false_from_ne_true, true_from_ne_false, true≢false, or-false, or-true, with_item, length-map, map-append, All-get_or, All-push, All-set, list_any-append, get_or_from_slice_get, slice_get_read, same_Some, slice_get-map, slice_get_within, none-some, get-append, get-last, none-at, none-each, Entry, PgId, is_same_group, OsdMap, AreAtPlaces, AreGroupsOf, keeps, AreAllMarked, AreRowsOf, IsKeptOf, IsRowOf, ids_of, is_marked, is_among, Groups, KeptGroup, Row}
 use Rattle.std.specs.HashMap as hash
-use Rattle.std.specs.List.{list_any}
-use Rattle.std.specs.Option.{option_map}
-use Rattle.std.specs.Prelude.{slice_get}
-use Rattle.std.proofs.Math.Seq.{map-set_same}
-use Rattle.std.proofs.lemmas.Bool.{false_from_ne_true, true_from_ne_false, true≢false}
-use Rattle.std.proofs.Math.Bool.{or-false, or-true}
-use Rattle.std.specs.Vec.{with_item}
-use Rattle.std.proofs.lemmas.List.{length-map, map-append}
-use Rattle.std.proofs.lemmas.List.Elements.{All-get_or, All-push, All-set}
-use Rattle.std.proofs.lemmas.List.Folds.{list_any-append}
-use Rattle.std.proofs.lemmas.Option.{get_or_from_slice_get, slice_get_read, same_Some, slice_get-map, slice_get_within, none-some}
-use Rattle.pgp_lists.proofs.Lists.{get-append, get-last, none-at, none-each}
-use Rattle.pgp_ids.specs.declared.entry.Entry.{Entry}
-use Rattle.pgp_ids.specs.declared.pg_id.PgId.{PgId}
-use Rattle.pgp_map.specs.Pools.{is_same_group}
-use Rattle.pgp_map.specs.declared.map.OsdMap.{OsdMap}
-use Rattle.pgp_log.specs.Groups.{AreAtPlaces, AreGroupsOf, keeps}
-use Rattle.pgp_log.specs.KeptGroup.{AreAllMarked, AreRowsOf, IsKeptOf, IsRowOf, ids_of, is_marked}
-use Rattle.pgp_log.specs.Shard.{is_among}
-use Rattle.pgp_log.specs.declared.groups.Groups.{Groups}
-use Rattle.pgp_log.specs.declared.kept_group.KeptGroup.{KeptGroup}
-use Rattle.pgp_log.specs.declared.row.Row.{Row}
 use Rattle.pgp_log.proofs.RawSetLemmas.{same_group}
 use Rattle.pgp_log.proofs.RowLemmas.{each-push, each-set, rows-push, rows-set}
 

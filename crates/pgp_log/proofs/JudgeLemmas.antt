@@ -1,22 +1,14 @@
 -- Why a judge may lack memory to judge an entry.
-use Rattle.std.proofs.Common.{◌≡◌, ◌≢◌, ◌⊎◌, inl, inr, Bool, true, false, List, map, Option, Some, None, if◌then◌else◌, refl, subst}
-use Rattle.std.specs.Prelude.{option_map}
+use Rattle.pgp_log.proofs.Common.{◌≡◌, ◌≢◌, ◌⊎◌, inl, inr, Bool, true, false, List, map, Option, Some, None, if◌then◌else◌, refl, subst, option_map, Entry, Incremental, refusal_of, tree_refusal, given_fault, IsMapOf, Says, MapFault, OsdMap, incs_of}
 use Rattle.pgp_crush.specs.Bucket.{Bucket, bucket_of}
 use Rattle.pgp_crush.specs.TreeFault as tree
 use Rattle.pgp_crush.specs.declared.fault.TreeFault.{TreeFault}
 use Rattle.pgp_crush.specs.declared.fault.TreeFault.TheVariants.{NoRoot, TwiceHeld, WrongType, Unknown, TooDeep, TooMany, WeightSum}
 use Rattle.pgp_ids.specs.declared.bucket.BucketSpec.{BucketSpec}
-use Rattle.pgp_ids.specs.declared.entry.Entry.{Entry}
-use Rattle.pgp_ids.specs.declared.incremental.Incremental.{Incremental}
 use Rattle.pgp_ids.specs.declared.refusal.Refusal.TheVariants as refusal
-use Rattle.pgp_map.specs.FaultNumber.{refusal_of, tree_refusal}
-use Rattle.pgp_map.specs.MapFault.{map_fault, given_fault}
-use Rattle.pgp_map.specs.MapOf.{IsMapOf, Says}
+use Rattle.pgp_map.specs.MapFault.{map_fault}
 use Rattle.pgp_map.specs.Memory.{MayLackMemory}
-use Rattle.pgp_map.specs.declared.fault.MapFault.{MapFault}
 use Rattle.pgp_map.specs.declared.fault.MapFault.TheVariants as fault
-use Rattle.pgp_map.specs.declared.map.OsdMap.{OsdMap}
-use Rattle.pgp_group.specs.Entries.{incs_of}
 
 -- the fault that was found, if one was, passes the test
 abbrev Passes : {F : Type 0} → (F → Type 0) → Option F → Type 0

@@ -1,20 +1,6 @@
 -- What a shard keeps beside the entries that it has read, or that it keeps nothing, and the marks.
-use Rattle.std.proofs.Common.{◌≡◌, List, [], ◌∷◌, ◌++◌, Option, Some, None, IfSome, true, false, ◌&&◌, map, refl, sym, ap, ◌∙◌, subst}
-use Rattle.std.proofs.lemmas.List.{map-append}
-use Rattle.pgp_ids.specs.declared.entry.Entry.{Entry}
+use Rattle.pgp_log.proofs.Common.{◌≡◌, List, [], ◌∷◌, ◌++◌, Option, Some, None, IfSome, true, false, ◌&&◌, map, refl, sym, ap, ◌∙◌, subst, map-append, Entry, PgId, Incremental, has_group, incs_of, is_touched, fits, AreOwnGroupsOf, IsKeptBeside, marks_of, owns, shard_with, AreAllMarked, is_legal, AreMarked, MarksOnlyTouched, is_among, Groups, Owner}
 use Rattle.pgp_ids.specs.declared.entry.Entry.TheVariants as entry
-use Rattle.pgp_ids.specs.declared.pg_id.PgId.{PgId}
-use Rattle.pgp_ids.specs.declared.incremental.Incremental.{Incremental}
-use Rattle.pgp_map.specs.Pools.{has_group}
-use Rattle.pgp_group.specs.Entries.{incs_of}
-use Rattle.pgp_group.specs.Touched.{is_touched}
-use Rattle.pgp_log.specs.Fits.{fits}
-use Rattle.pgp_log.specs.Groups.{AreOwnGroupsOf, IsKeptBeside, marks_of, owns, shard_with}
-use Rattle.pgp_log.specs.KeptGroup.{AreAllMarked}
-use Rattle.pgp_log.specs.Log.{is_legal}
-use Rattle.pgp_log.specs.Shard.{AreMarked, MarksOnlyTouched, is_among}
-use Rattle.pgp_log.specs.declared.groups.Groups.{Groups}
-use Rattle.pgp_log.specs.declared.owner.Owner.{Owner}
 use Rattle.pgp_log.proofs.ComingLemmas.{has_group-same}
 use Rattle.pgp_log.proofs.LogLemmas.{legal-snoc}
 use Rattle.pgp_log.proofs.MarksLemmas.{all-marks, marks-once, pool-left}

@@ -1,50 +1,11 @@
 -- What a shard keeps of its groups, as the log grows.
-use Rattle.std.proofs.Common.{◌≡◌, ℕ, List, [], ◌∷◌, ◌++◌, true, false, Bor, Option, Some, None, IfSome, is_none, is_some, not, length, option_map, refl, sym, ap, ◌∙◌, subst}
-use Rattle.std.specs.List.{filter}
-use Rattle.std.specs.Option.{option_copied}
-use Rattle.std.proofs.lemmas.Bool.{false_from_ne_true, true≢false}
-use Rattle.pgp_lists.proofs.Options.{some_is}
-use Rattle.pgp_ids.specs.declared.entry.Entry.{Entry}
+use Rattle.pgp_log.proofs.Common.{◌≡◌, ℕ, List, [], ◌∷◌, ◌++◌, true, false, Bor, Option, Some, None, IfSome, is_none, is_some, not, length, option_map, refl, sym, ap, ◌∙◌, subst, filter, option_copied, false_from_ne_true, true≢false, some_is, Entry, Incremental, Membership, PgId, Info, View, checked-more, front-checked, last-checked, are_checked, device, HasGroup, epoch, map_fault, then_with, IsMapOf, has_group, is_same_group, pool, temp, OsdMap, raw_set-stays, may_place_elsewhere, members_from_up, membership, raw_set_of, without_down, infos-kept, infos-other, infos-same, names-kept, past-same, reports-kept, reports-other, reports-same, IsGroupOf-other, has_group-grows, reached-now, history_there, inc_of, incs_of, infos_of, reports_of, AreNumbered, group_facts, group_history, made_at, IsGroupOf, IsSilent, Follows, group_with, reaching, is_touched, told_at, scratch, view_of, Group, MapBefore, fits, IsKeptOf, IsStep, IsViewOf, HasInc, is_legal, IsRawSet, KeptGroup}
 use Rattle.pgp_ids.specs.declared.entry.Entry.TheVariants as entry
 use Rattle.pgp_ids.specs.declared.history.PrimaryFacts.{PrimaryFacts}
-use Rattle.pgp_ids.specs.declared.incremental.Incremental.{Incremental}
-use Rattle.pgp_ids.specs.declared.membership.Membership.{Membership}
-use Rattle.pgp_ids.specs.declared.pg_id.PgId.{PgId}
-use Rattle.pgp_ids.specs.declared.report.Info.{Info}
 use Rattle.pgp_ids.specs.declared.report.Report.{Report}
-use Rattle.pgp_ids.specs.declared.view.View.{View}
 use Rattle.pgp_interval.proofs.StepLemmas.{current_first-continues, past_intervals-continues}
-use Rattle.pgp_map.proofs.CheckedLemmas.{checked-more, front-checked, last-checked}
-use Rattle.pgp_map.specs.Checked.{are_checked}
-use Rattle.pgp_map.specs.Devices.{device}
-use Rattle.pgp_map.specs.Held.{HasGroup}
-use Rattle.pgp_map.specs.Map.{epoch}
-use Rattle.pgp_map.specs.MapFault.{map_fault, then_with}
-use Rattle.pgp_map.specs.MapOf.{IsMapOf}
-use Rattle.pgp_map.specs.Pools.{has_group, is_same_group, pool, temp}
-use Rattle.pgp_map.specs.declared.map.OsdMap.{OsdMap}
-use Rattle.pgp_sets.proofs.RawSetLemmas.{raw_set-stays}
-use Rattle.pgp_sets.specs.Sets.{may_place_elsewhere, members_from_up, membership, raw_set_of, without_down}
-use Rattle.pgp_group.proofs.GroupLemmas.{infos-kept, infos-other, infos-same, names-kept, past-same, reports-kept, reports-other, reports-same, IsGroupOf-other}
-use Rattle.pgp_group.proofs.GrowthLemmas.{has_group-grows}
-use Rattle.pgp_group.proofs.ReachingLemmas.{reached-now}
 use Rattle.pgp_group.proofs.SameViewLemmas.{view-same}
 use Rattle.pgp_group.proofs.UntouchedLemmas.{Stays, untouched-stays}
-use Rattle.pgp_group.proofs.ViewLemmas.{history_there}
-use Rattle.pgp_group.specs.Entries.{inc_of, incs_of, infos_of, reports_of}
-use Rattle.pgp_group.specs.GroupHistory.{AreNumbered, group_facts, group_history, made_at}
-use Rattle.pgp_group.specs.GroupOf.{IsGroupOf, IsSilent, Follows}
-use Rattle.pgp_group.specs.GroupLog.{group_with}
-use Rattle.pgp_group.specs.Reaching.{reaching}
-use Rattle.pgp_group.specs.Touched.{is_touched, told_at}
-use Rattle.pgp_group.specs.View.{scratch, view_of}
-use Rattle.pgp_group.specs.declared.group.Group.{Group}
-use Rattle.pgp_log.specs.declared.before.MapBefore.{MapBefore}
-use Rattle.pgp_log.specs.Fits.{fits}
-use Rattle.pgp_log.specs.KeptGroup.{IsKeptOf, IsStep, IsViewOf}
-use Rattle.pgp_log.specs.Log.{HasInc, is_legal}
-use Rattle.pgp_log.specs.RawSets.{IsRawSet}
-use Rattle.pgp_log.specs.declared.kept_group.KeptGroup.{KeptGroup}
 use Rattle.pgp_log.proofs.LogLemmas.{legal-checked, legal-induction, numbered}
 use Rattle.pgp_log.proofs.RawSetLemmas.{filtered}
 use Rattle.pgp_log.proofs.ComingLemmas.{IsAbsent, absent-other, inc-of-group, made-now, next-follows, silent-inc}

@@ -1,3 +1,4 @@
+pub mod Common
 pub mod FitsLemmas
 pub mod JudgeLemmas
 pub mod SharedLemmas

@@ -1,18 +1,5 @@
 -- The map has the group in which an object of a pool that is there lies.
-use Rattle.std.proofs.Common.{◌≡◌, ℕ, ◌<◌, List, true, false, Some, nat_lt, ap, ◌∙◌, arith}
-use Rattle.std.proofs.lemmas.Bool.Decides.{nat_tests}
-use Rattle.std.proofs.lemmas.Bool.{and_parts}
-use Rattle.std.specs.Option.{option_map_or}
-use Rattle.pgp_ids.specs.declared.incremental.Incremental.{Incremental}
-use Rattle.pgp_ids.specs.declared.pg_id.PgId.{PgId}
-use Rattle.pgp_ids.specs.declared.pool.PoolSpec.{PoolSpec}
-use Rattle.pgp_map.specs.declared.map.OsdMap.{OsdMap}
-use Rattle.pgp_map.specs.Checked.{are_checked}
-use Rattle.pgp_map.specs.Held.{HasGroup}
-use Rattle.pgp_map.specs.MapFault.{is_within}
-use Rattle.pgp_map.specs.MapOf.{IsMapOf}
-use Rattle.pgp_map.specs.Pools.{pool}
-use Rattle.pgp_map.proofs.CheckedLemmas.{pools-in_range, checked-has_group}
+use Rattle.pgp_log.proofs.Common.{◌≡◌, ℕ, ◌<◌, List, true, false, Some, nat_lt, ap, ◌∙◌, arith, nat_tests, and_parts, option_map_or, Incremental, PgId, PoolSpec, OsdMap, are_checked, HasGroup, is_within, IsMapOf, pool, pools-in_range, checked-has_group}
 
 above_0 : (most n : ℕ) → is_within most n ≡ true → 0 < n
 above_0 most n within = grind (arith, nat_tests)

@@ -1,20 +1,7 @@
 -- What holds of legal logs.
-use Rattle.std.proofs.Common.{◌≡◌, ℕ, ◌<◌, ◌≤◌, List, [], ◌∷◌, ◌++◌, Option, None, is_none, true, false, length, take, refl, ap, ap₂, sym, ◌∙◌, arith, length-append}
-use Rattle.std.specs.Option.{option_map_or}
-use Rattle.std.proofs.lemmas.List.{take-append-le}
-use Rattle.pgp_lists.proofs.Lists.{get-append}
-use Rattle.pgp_lists.proofs.Options.{none_is}
+use Rattle.pgp_log.proofs.Common.{◌≡◌, ℕ, ◌<◌, ◌≤◌, List, [], ◌∷◌, ◌++◌, Option, None, is_none, true, false, length, take, refl, ap, ap₂, sym, ◌∙◌, arith, length-append, option_map_or, take-append-le, get-append, none_is, Entry, Incremental, front-checked, last-checked, are_checked, checked-numbered, incs_of, AreNumbered, fits, is_close, is_closed, is_accepted, is_taken_at, is_legal, EndsWithClose, EpochsCount}
 use Rattle.pgp_lists.proofs.Taken.{taken-front, taken-induction, taken-last, taken-more, taken-take}
-use Rattle.pgp_ids.specs.declared.entry.Entry.{Entry}
 use Rattle.pgp_ids.specs.declared.entry.Entry.TheVariants as entry
-use Rattle.pgp_ids.specs.declared.incremental.Incremental.{Incremental}
-use Rattle.pgp_map.proofs.CheckedLemmas.{front-checked, last-checked}
-use Rattle.pgp_map.specs.Checked.{are_checked}
-use Rattle.pgp_group.proofs.GrowthLemmas.{checked-numbered}
-use Rattle.pgp_group.specs.Entries.{incs_of}
-use Rattle.pgp_group.specs.GroupHistory.{AreNumbered}
-use Rattle.pgp_log.specs.Fits.{fits, is_close, is_closed}
-use Rattle.pgp_log.specs.Log.{is_accepted, is_taken_at, is_legal, EndsWithClose, EpochsCount}
 use Rattle.pgp_log.proofs.TakeLemmas.{checked-push, closed-push, fits-faultless, fits-open_log, room-push}
 
 -- ---- fronts, and one entry more

@@ -1,21 +1,5 @@
 -- What is kept of the map before an incremental.
-use Rattle.std.proofs.Common.{◌≡◌, ℕ, ◌+◌, ◌<◌, List, [], ◌∷◌, ◌++◌, false, Option, Some, None, map, option_map, length, get_or, take, refl, sym, ap, ◌∙◌, eq-eqb, append_assoc}
-use Rattle.std.specs.List.{list_any}
-use Rattle.std.specs.Prelude.{nat_eq, slice_get}
-use Rattle.std.proofs.lemmas.Bool.{eqb-true}
-use Rattle.std.proofs.lemmas.List.{map_more}
-use Rattle.std.proofs.lemmas.Option.{slice_get-map, slice_get_read}
-use Rattle.pgp_ids.specs.declared.incremental.DeviceEpoch.{DeviceEpoch}
-use Rattle.pgp_ids.specs.declared.incremental.Incremental.{Incremental}
-use Rattle.pgp_lists.proofs.Lists.{any-mapped}
-use Rattle.pgp_map.specs.Devices.{boots}
-use Rattle.pgp_map.specs.MapFault.{then_with}
-use Rattle.pgp_group.proofs.Lists.{none-append, none-narrower}
-use Rattle.pgp_group.proofs.UntoldLemmas.{facts-stay}
-use Rattle.pgp_group.specs.GroupHistory.{primary_facts}
-use Rattle.pgp_log.specs.MapBefore.{IsMapBefore, renamed_devices, with_facts}
-use Rattle.pgp_log.specs.declared.before.DeviceFacts.{DeviceFacts}
-use Rattle.pgp_log.specs.declared.before.MapBefore.{MapBefore}
+use Rattle.pgp_log.proofs.Common.{◌≡◌, ℕ, ◌+◌, ◌<◌, List, [], ◌∷◌, ◌++◌, false, Option, Some, None, map, option_map, length, get_or, take, refl, sym, ap, ◌∙◌, eq-eqb, append_assoc, list_any, nat_eq, slice_get, eqb-true, map_more, slice_get-map, slice_get_read, DeviceEpoch, Incremental, any-mapped, boots, then_with, none-append, none-narrower, facts-stay, primary_facts, IsMapBefore, renamed_devices, with_facts, DeviceFacts, MapBefore}
 
 -- each of them has what the map said of it
 pub facts-at : (incs : List Incremental) (inc : Incremental) (before : MapBefore) (i : ℕ) (device : DeviceFacts) → IsMapBefore incs inc before → i < length before.devices.items

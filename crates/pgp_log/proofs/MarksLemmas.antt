@@ -1,29 +1,7 @@
 -- Which groups have to be worked out anew, as the groups change.
-use Rattle.std.proofs.Common.{◌≡◌, ℕ, zero, suc, ◌+◌, ◌-◌, ◌<◌, ◌≤◌, List, [], ◌∷◌, ◌++◌, Bool, true, false, ◌&&◌, ◌||◌, Option, Some, None, is_some, is_none, Result, Ok, Err, OnOk, length, drop, set, slice_get, refl, sym, ap, ◌∙◌, arith, eq-eqb, length-append}
+use Rattle.pgp_log.proofs.Common.{◌≡◌, ℕ, zero, suc, ◌+◌, ◌-◌, ◌<◌, ◌≤◌, List, [], ◌∷◌, ◌++◌, Bool, true, false, ◌&&◌, ◌||◌, Option, Some, None, is_some, is_none, Result, Ok, Err, OnOk, length, drop, set, slice_get, refl, sym, ap, ◌∙◌, arith, eq-eqb, length-append, list_any, nat_eq, cases_Bool, false_from_ne_true, or_parts, true≢false, nat_tests, All-head, All-tail, list_any-append, same_Some, and-false, and-true, or-false, Entry, Incremental, View, PgId, or3_parts, none-each, has_repeat, is_same_group, changes_pool, changes_temp, is_touched, moves_all, AreAtPlaces, marks_of, AreAllMarked, ids_of, is_marked, marks_in, is_among, without, Groups, KeptGroup}
 use Rattle.std.specs.HashMap as hash
-use Rattle.std.specs.List.{list_any}
-use Rattle.std.specs.Prelude.{nat_eq}
-use Rattle.std.proofs.lemmas.Bool.{cases_Bool, false_from_ne_true, or_parts, true≢false}
-use Rattle.std.proofs.lemmas.Bool.Decides.{nat_tests}
-use Rattle.std.proofs.lemmas.List.Elements.{All-head, All-tail}
-use Rattle.std.proofs.lemmas.List.Folds.{list_any-append}
-use Rattle.std.proofs.lemmas.Option.{same_Some}
-use Rattle.std.proofs.Math.Bool.{and-false, and-true, or-false}
-use Rattle.pgp_ids.specs.declared.entry.Entry.{Entry}
 use Rattle.pgp_ids.specs.declared.entry.Entry.TheVariants as entry
-use Rattle.pgp_ids.specs.declared.incremental.Incremental.{Incremental}
-use Rattle.pgp_ids.specs.declared.view.View.{View}
-use Rattle.pgp_ids.specs.declared.pg_id.PgId.{PgId}
-use Rattle.pgp_lists.proofs.Bools.{or3_parts}
-use Rattle.pgp_lists.proofs.Lists.{none-each}
-use Rattle.pgp_lists.specs.Repeats.{has_repeat}
-use Rattle.pgp_map.specs.Pools.{is_same_group}
-use Rattle.pgp_group.specs.Touched.{changes_pool, changes_temp, is_touched, moves_all}
-use Rattle.pgp_log.specs.Groups.{AreAtPlaces, marks_of}
-use Rattle.pgp_log.specs.KeptGroup.{AreAllMarked, ids_of, is_marked, marks_in}
-use Rattle.pgp_log.specs.Shard.{is_among, without}
-use Rattle.pgp_log.specs.declared.groups.Groups.{Groups}
-use Rattle.pgp_log.specs.declared.kept_group.KeptGroup.{KeptGroup}
 use Rattle.pgp_log.proofs.GroupsLemmas.{missing-group, other-group, place-holds, same-self}
 use Rattle.pgp_log.proofs.PassingLemmas.{all-other, any-passing, drop-few, drop-more, passing-once, unmarked}
 use Rattle.pgp_log.proofs.RawSetLemmas.{same_group}

@@ -1,13 +1,7 @@
 -- Sets of devices that may have more than was put in.
-use Rattle.std.proofs.Common.{◌≡◌, ◌≢◌, ℕ, ◌+◌, ◌*◌, ◌/◌, ◌%◌, ◌<◌, ◌≤◌, ◌^◌, Bool, true, not, nat_eq, min, List, length, take, get_or, bit_and, bit_or, w64, ap, sym, ◌∙◌, inl, inr, arith}
+use Rattle.pgp_log.proofs.Common.{◌≡◌, ◌≢◌, ℕ, ◌+◌, ◌*◌, ◌/◌, ◌%◌, ◌<◌, ◌≤◌, ◌^◌, Bool, true, not, nat_eq, min, List, length, take, get_or, bit_and, bit_or, w64, ap, sym, ◌∙◌, inl, inr, arith, list_any, cases_Bool, cases_eq, eqb-true, or_cases, take_all, list_any_more, Covers, CoversStill, OsdFilter}
 use Rattle.std.specs.Int.{bit_at}
-use Rattle.std.specs.List.{list_any}
-use Rattle.std.proofs.lemmas.Bool.{cases_Bool, cases_eq, eqb-true, or_cases}
-use Rattle.std.proofs.lemmas.List.{take_all}
-use Rattle.std.proofs.lemmas.List.Folds.{list_any_more}
 use Rattle.std.proofs.lemmas.Nat.Bits.{bit_at_and, bit_at_or, bit_at-lt, bit_at-zero, bit_at_set_same}
-use Rattle.pgp_log.specs.OsdFilter.{Covers, CoversStill}
-use Rattle.pgp_log.specs.declared.osd_filter.OsdFilter.{OsdFilter}
 
 -- ---- one device more
 

@@ -1,44 +1,8 @@
 -- The groups of one owner, as the log grows.
-use Rattle.std.proofs.Common.{◌≡◌, ℕ, List, [], ◌∷◌, ◌++◌, Bor, Option, Some, None, is_some, option_map, Bool, true, false, not, ◌&&◌, ◌||◌, IfSome, ◌+◌, ◌<◌, length, set, take, get_or, nat_eq, nat_lt, eq-eqb, inl, inr, arith, refl, sym, ap, ◌∙◌, subst}
-use Rattle.std.specs.List.{list_any}
-use Rattle.std.specs.Option.{option_copied, option_map_or}
-use Rattle.std.specs.Prelude.{slice_get}
-use Rattle.std.specs.Vec.{with_item}
-use Rattle.std.proofs.Math.Bool.{and-true}
-use Rattle.std.proofs.lemmas.Bool.{and_from, and_parts, cases_Bool, cases_lt, eqb-true, false_from_ne_true, true_from_ne_false, true≢false}
-use Rattle.std.proofs.lemmas.List.Folds.{list_any_more}
-use Rattle.pgp_lists.proofs.Bools.{same_tests}
-use Rattle.pgp_lists.proofs.Lists.{none-at}
-use Rattle.pgp_ids.specs.declared.entry.Entry.{Entry}
+use Rattle.pgp_log.proofs.Common.{◌≡◌, ℕ, List, [], ◌∷◌, ◌++◌, Bor, Option, Some, None, is_some, option_map, Bool, true, false, not, ◌&&◌, ◌||◌, IfSome, ◌+◌, ◌<◌, length, set, take, get_or, nat_eq, nat_lt, eq-eqb, inl, inr, arith, refl, sym, ap, ◌∙◌, subst, list_any, option_copied, option_map_or, slice_get, with_item, and-true, and_from, and_parts, cases_Bool, cases_lt, eqb-true, false_from_ne_true, true_from_ne_false, true≢false, list_any_more, same_tests, none-at, Entry, Incremental, PgId, PoolSpec, View, checked-has_group, HasGroup, map_fault, then_with, IsMapOf, has_group, is_same_group, pool, OsdMap, unmade, scratch_there, inc_of, incs_of, makes, told_at, scratch, fits, AreGroupsOf, AreOwnGroupsOf, HasOwn, HasStill, IsKeptIfOwn, IsOwnIfKept, IsStepping, KeepsAll, keeps, marks_of, owns, IsKeptOf, IsRowOf, IsStep, IsViewOf, ids_of, epoch_of, is_legal, is_among, IsMapBefore, MapBefore, Groups, KeptGroup, Owner, Row}
 use Rattle.pgp_ids.specs.declared.entry.Entry.TheVariants as entry
-use Rattle.pgp_ids.specs.declared.incremental.Incremental.{Incremental}
-use Rattle.pgp_ids.specs.declared.pg_id.PgId.{PgId}
-use Rattle.pgp_ids.specs.declared.pool.PoolSpec.{PoolSpec}
-use Rattle.pgp_ids.specs.declared.view.View.{View}
-use Rattle.pgp_map.proofs.CheckedLemmas.{checked-has_group}
-use Rattle.pgp_map.specs.Held.{HasGroup}
-use Rattle.pgp_map.specs.MapFault.{map_fault, then_with}
-use Rattle.pgp_map.specs.MapOf.{IsMapOf}
-use Rattle.pgp_map.specs.Pools.{has_group, is_same_group, pool}
-use Rattle.pgp_map.specs.declared.map.OsdMap.{OsdMap}
-use Rattle.pgp_group.proofs.GrowthLemmas.{unmade}
-use Rattle.pgp_group.proofs.ViewLemmas.{scratch_there}
-use Rattle.pgp_group.specs.Entries.{inc_of, incs_of}
-use Rattle.pgp_group.specs.GroupHistory.{makes}
-use Rattle.pgp_group.specs.Touched.{told_at}
-use Rattle.pgp_group.specs.View.{scratch}
-use Rattle.pgp_log.specs.Fits.{fits}
-use Rattle.pgp_log.specs.Groups.{AreGroupsOf, AreOwnGroupsOf, HasOwn, HasStill, IsKeptIfOwn, IsOwnIfKept, IsStepping, KeepsAll, keeps, marks_of, owns}
-use Rattle.pgp_log.specs.KeptGroup.{IsKeptOf, IsRowOf, IsStep, IsViewOf, ids_of}
-use Rattle.pgp_log.specs.Log.{epoch_of, is_legal}
-use Rattle.pgp_log.specs.Shard.{is_among}
-use Rattle.pgp_log.specs.MapBefore.{IsMapBefore}
-use Rattle.pgp_log.specs.declared.before.MapBefore.{MapBefore}
-use Rattle.pgp_log.specs.declared.groups.Groups.{Groups}
-use Rattle.pgp_log.specs.declared.kept_group.KeptGroup.{KeptGroup}
-use Rattle.pgp_log.specs.declared.owner.Owner.{Owner}
-use Rattle.pgp_log.specs.declared.row.Row.{Row}
-use Rattle.pgp_log.proofs.GroupsLemmas.{groups-anew, ids-set}
+use Rattle.std.specs.HashMap as hash
+use Rattle.pgp_log.proofs.GroupsLemmas.{groups-anew, ids-set, keeps-found}
 use Rattle.pgp_log.proofs.KeptLemmas.{grown, step-checked, step-fine, still-there}
 use Rattle.pgp_log.proofs.LogLemmas.{legal-snoc}
 use Rattle.pgp_log.proofs.RawSetLemmas.{same_group}
@@ -101,13 +65,17 @@ next-has_group owner log inc groups pg is there =
     checked-has_group (then_with (incs_of log) inc) groups.map pg is.step.after_is (step-checked log inc is.before groups.map is.step) there
 
 -- one of the groups is worked out, or was to be
-pub worked-out : (owner : Owner) (log : List Entry) (old : Groups) (place : ℕ) (kept after : KeptGroup) (row : Row) (worked : Bool) → slice_get old.kept.items place ≡ Some kept → after.pg ≡ kept.pg → IsRowOf row after
-    → worked ≡ true → (IsKeptOf log kept → IsMapOf (incs_of log) old.map → IsKeptOf log after) → AreOwnGroupsOf owner log old
-    → AreOwnGroupsOf owner log (record old { rows = set old.rows place row; kept = with_item old.kept place after; some_worked_out = worked })
-worked-out owner log old place kept after row worked at same shown one takes is =
+pub worked-out : (owner : Owner) (log : List Entry) (old : Groups) (place : ℕ) (kept after : KeptGroup) (row : Row) → slice_get old.kept.items place ≡ Some kept → after.pg ≡ kept.pg → IsRowOf row after
+    → (IsKeptOf log kept → IsMapOf (incs_of log) old.map → IsKeptOf log after) → AreOwnGroupsOf owner log old
+    → AreOwnGroupsOf owner log (record old { rows = set old.rows place row; kept = with_item old.kept place after; some_worked_out = true })
+worked-out owner log old place kept after row at same shown takes is =
     own-stay owner log log old _ is.legal refl refl
-    (groups-anew log log old place kept after row worked at same shown (λ none. absurd (true≢false (sym one ∙ none))) (λ of. takes of is.map_is) (λ j other differs there of. of) is.groups_are)
+    (groups-anew log log old place kept after row true at same shown (λ none. absurd (true≢false none)) (λ of. takes of is.map_is) (λ j other differs there of. of) is.groups_are)
     (ids-set old.kept.items place kept after at same) is
+
+-- the table has a group of the owner just where the map has it
+pub found-own : (owner : Owner) (log : List Entry) (groups : Groups) (pg : PgId) (found : Option ℕ) → hash.get is_same_group groups.places pg ≡ found → AreOwnGroupsOf owner log groups → owns owner pg ≡ true → is_some found ≡ has_group (incs_of log) pg
+found-own owner log groups pg found is are own = ap is_some (sym is) ∙ keeps-found groups pg are.groups_are.places_are ∙ are.own_are pg ∙ ap (λ b. b && has_group (incs_of log) pg) own
 
 -- a group of a pool that the incremental makes isn't there before
 pub absent-before : (log : List Entry) (inc : Incremental) (pg : PgId) → map_fault (incs_of log) inc ≡ None → makes pg.pool inc ≡ true → has_group (incs_of log) pg ≡ false

@@ -1,13 +1,6 @@
 -- The names of the elements that pass a test, as one of the elements comes to fail it.
-use Rattle.std.proofs.Common.{◌≡◌, ℕ, zero, suc, ◌+◌, ◌<◌, ◌≤◌, List, [], ◌∷◌, ◌++◌, Bool, true, false, not, ◌&&◌, Some, map, length, take, drop, set, slice_get, append-nil, length-append, refl, sym, ap, ◌∙◌, arith}
-use Rattle.std.specs.List.{filter, list_any}
-use Rattle.std.proofs.lemmas.Bool.{cases_Bool, or_parts}
-use Rattle.std.proofs.lemmas.Bool.Decides.{nat_tests}
-use Rattle.std.proofs.lemmas.List.{map-append, drop-append-le}
-use Rattle.std.proofs.lemmas.List.Elements.{filter-append, filter_more}
-use Rattle.std.proofs.lemmas.Option.{get_or_from_slice_get, slice_get_within}
+use Rattle.pgp_log.proofs.Common.{◌≡◌, ℕ, zero, suc, ◌+◌, ◌<◌, ◌≤◌, List, [], ◌∷◌, ◌++◌, Bool, true, false, not, ◌&&◌, Some, map, length, take, drop, set, slice_get, append-nil, length-append, refl, sym, ap, ◌∙◌, arith, filter, list_any, cases_Bool, or_parts, nat_tests, map-append, drop-append-le, filter-append, filter_more, get_or_from_slice_get, slice_get_within, has_repeat}
 use Rattle.std.proofs.Math.ListN.{drop_of_length-le}
-use Rattle.pgp_lists.specs.Repeats.{has_repeat}
 
 -- a name of one that passes, found from the elements
 pub any-passing : {X Y : Type 0} (m : X → Bool) (f : X → Y) (q : Y → Bool) (xs : List X) → list_any q (map f (filter m xs)) ≡ list_any (λ x. m x && q (f x)) xs

@@ -1,27 +1,7 @@
 -- The membership of a group from its raw set, and a table of raw sets with one more.
+use Rattle.pgp_log.proofs.Common.{list_any, option_map_or, Result, Ok, Err, OnOk, OnErr, is_some, length, nat_eq, nat_lt, ◌≡◌, ℕ, List, [], ◌∷◌, ◌++◌, Bool, true, false, ◌||◌, cond, Option, Some, None, IfSome, option_map, refl, sym, ap, ◌∙◌, subst, arith, and_parts, or_parts, eqb-true, nat_tests, same_Some, some-weaker, Entry, Incremental, Membership, PgId, PoolSizes, PoolSpec, inc_of, incs_of, then_with, pool, is_same_group, raw_set-stays, unmoved-unplaced, membership, moves, pool_membership, raw_set, without_down, members_from_up, fits, AreRawSets, IsRawSet, moves_any}
 use Rattle.std.specs.HashMap as hash
-use Rattle.std.specs.List.{list_any}
-use Rattle.std.specs.Option.{option_map_or}
-use Rattle.std.specs.Prelude.{Result, Ok, Err, OnOk, OnErr, is_some, length, nat_eq, nat_lt}
-use Rattle.std.proofs.Common.{◌≡◌, ℕ, List, [], ◌∷◌, ◌++◌, Bool, true, false, ◌||◌, cond, Option, Some, None, IfSome, option_map, refl, sym, ap, ◌∙◌, subst, arith}
-use Rattle.std.proofs.lemmas.Bool.{and_parts, or_parts, eqb-true}
-use Rattle.std.proofs.lemmas.Bool.Decides.{nat_tests}
-use Rattle.std.proofs.lemmas.Option.{same_Some}
-use Rattle.pgp_lists.proofs.Options.{some-weaker}
-use Rattle.pgp_ids.specs.declared.entry.Entry.{Entry}
 use Rattle.pgp_ids.specs.declared.entry.Entry.TheVariants as entry
-use Rattle.pgp_ids.specs.declared.incremental.Incremental.{Incremental}
-use Rattle.pgp_ids.specs.declared.membership.Membership.{Membership}
-use Rattle.pgp_ids.specs.declared.pg_id.PgId.{PgId}
-use Rattle.pgp_ids.specs.declared.pool.PoolSizes.{PoolSizes}
-use Rattle.pgp_ids.specs.declared.pool.PoolSpec.{PoolSpec}
-use Rattle.pgp_group.specs.Entries.{inc_of, incs_of}
-use Rattle.pgp_map.specs.MapFault.{then_with}
-use Rattle.pgp_map.specs.Pools.{pool, is_same_group}
-use Rattle.pgp_sets.proofs.RawSetLemmas.{raw_set-stays, unmoved-unplaced}
-use Rattle.pgp_sets.specs.Sets.{membership, moves, pool_membership, raw_set, without_down, members_from_up}
-use Rattle.pgp_log.specs.Fits.{fits}
-use Rattle.pgp_log.specs.RawSets.{AreRawSets, IsRawSet, moves_any}
 use Rattle.pgp_log.specs.declared.raw_sets.RawSets.{RawSets}
 use Rattle.pgp_log.proofs.TakeLemmas.{faultless-inc, fits-faultless, incs-inc, incs-other}
 

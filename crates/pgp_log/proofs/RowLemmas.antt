@@ -1,40 +1,7 @@
 -- Rows of groups, and the incrementals by which they are passed by.
-use Rattle.std.proofs.Common.{◌≡◌, ℕ, ◌+◌, ◌<◌, List, [], ◌∷◌, ◌++◌, Bool, true, false, ◌&&◌, not, ◌||◌, Option, Some, length, map, set, nat_eq, refl, sym, ap, ◌∙◌, subst, inl, inr, ◌⊎◌, is_some, arith, eq-eqb, length-append}
-use Rattle.std.specs.List.{list_any}
-use Rattle.std.specs.Option.{option_map, option_map_or}
-use Rattle.std.specs.Prelude.{slice_get}
-use Rattle.std.proofs.Math.Bool.{or-true}
-use Rattle.std.proofs.lemmas.Bool.{cases_Bool, cases_eq, cases_lt, true≢false, not-false, not-true}
-use Rattle.std.proofs.lemmas.List.{length-set}
-use Rattle.std.proofs.lemmas.List.Folds.{list_any-append}
-use Rattle.std.proofs.lemmas.Option.{same_Some, slice_get_cases, slice_get_within}
-use Rattle.pgp_lists.proofs.Bools.{and3_parts, or3_parts}
-use Rattle.pgp_ids.specs.declared.pool.PoolSizes.{PoolSizes}
-use Rattle.pgp_lists.proofs.Lists.{any-mapped, get-append, get-last, get-set_other, get-set_same}
-use Rattle.pgp_ids.specs.declared.entry.Entry.{Entry}
+use Rattle.pgp_log.proofs.Common.{◌≡◌, ℕ, ◌+◌, ◌<◌, List, [], ◌∷◌, ◌++◌, Bool, true, false, ◌&&◌, not, ◌||◌, Option, Some, length, map, set, nat_eq, refl, sym, ap, ◌∙◌, subst, inl, inr, ◌⊎◌, is_some, arith, eq-eqb, length-append, list_any, option_map, option_map_or, slice_get, or-true, cases_Bool, cases_eq, cases_lt, true≢false, not-false, not-true, length-set, list_any-append, same_Some, slice_get_cases, slice_get_within, and3_parts, or3_parts, PoolSizes, any-mapped, get-append, get-last, get-set_other, get-set_same, Entry, DeviceEpoch, DeviceWeight, Incremental, PgId, pool, temp, OsdMap, then_with, may_place_elsewhere, raw_places, raw_set, switches_any, weighed, lighter-elsewhere, or3_false, unplaced, incs_of, group_in, changed_devices, changes_pool, changes_temp, has_osd, has_to_do_with, may_lie_on, moves_all, names, turned_devices, MapBefore, AreRowsOf, IsChangesOf, IsKeptOf, IsPassedBy, IsPassedByRow, IsRowOf, IsStep, devices_for, is_marked, may_place, Covers, CoversStill, makes_heavier, only_lightens, changes_no_pool, changes_placements, KeptGroup, OsdFilter, Row}
 use Rattle.pgp_ids.specs.declared.entry.Entry.TheVariants as entry
-use Rattle.pgp_ids.specs.declared.incremental.DeviceEpoch.{DeviceEpoch}
-use Rattle.pgp_ids.specs.declared.incremental.DeviceWeight.{DeviceWeight}
-use Rattle.pgp_ids.specs.declared.incremental.Incremental.{Incremental}
-use Rattle.pgp_ids.specs.declared.pg_id.PgId.{PgId}
-use Rattle.pgp_map.specs.Pools.{pool, temp}
-use Rattle.pgp_map.specs.declared.map.OsdMap.{OsdMap}
-use Rattle.pgp_map.specs.MapFault.{then_with}
-use Rattle.pgp_sets.specs.Sets.{may_place_elsewhere, raw_places, raw_set, switches_any, weighed}
-use Rattle.pgp_sets.proofs.RawSetLemmas.{lighter-elsewhere, or3_false}
-use Rattle.pgp_group.proofs.UntoldLemmas.{unplaced}
-use Rattle.pgp_group.specs.Entries.{incs_of}
-use Rattle.pgp_group.specs.GroupLog.{group_in}
-use Rattle.pgp_group.specs.Touched.{changed_devices, changes_pool, changes_temp, has_osd, has_to_do_with, may_lie_on, moves_all, names, turned_devices}
-use Rattle.pgp_log.specs.declared.before.MapBefore.{MapBefore}
-use Rattle.pgp_log.specs.KeptGroup.{AreRowsOf, IsChangesOf, IsKeptOf, IsPassedBy, IsPassedByRow, IsRowOf, IsStep, devices_for, is_marked, may_place}
-use Rattle.pgp_log.specs.OsdFilter.{Covers, CoversStill}
-use Rattle.pgp_log.specs.MapBefore.{makes_heavier, only_lightens}
-use Rattle.pgp_log.specs.Touch.{changes_no_pool, changes_placements}
-use Rattle.pgp_log.specs.declared.kept_group.KeptGroup.{KeptGroup}
-use Rattle.pgp_log.specs.declared.osd_filter.OsdFilter.{OsdFilter}
 use Rattle.pgp_log.specs.declared.row.Changes.{Changes}
-use Rattle.pgp_log.specs.declared.row.Row.{Row}
 use Rattle.pgp_log.proofs.TouchLemmas.{kept-stays, kept-unseen, no-pools, nothing-placed}
 
 -- ---- rows by their places

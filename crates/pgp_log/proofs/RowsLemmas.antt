@@ -1,13 +1,5 @@
 -- Rows in blocks of eight.
-use Rattle.std.proofs.Common.{◌≡◌, ℕ, ◌+◌, ◌*◌, ◌-◌, ◌/◌, ◌%◌, ◌<◌, ◌≤◌, List, [], ◌∷◌, ◌++◌, Some, length, set, refl, sym, ap, ◌∙◌, subst, inl, inr, arith, length-append}
-use Rattle.std.specs.Prelude.{slice_get}
-use Rattle.std.proofs.lemmas.Bool.{cases_eq}
-use Rattle.std.proofs.lemmas.List.{length-set}
-use Rattle.std.proofs.lemmas.Option.{same_Some, slice_get_within}
-use Rattle.pgp_lists.proofs.Lists.{get-append, get-set_other, get-set_same}
-use Rattle.pgp_log.specs.Rows.{AreInBlocks, IsInBlock}
-use Rattle.pgp_log.specs.declared.row.Row.{Row}
-use Rattle.pgp_log.specs.declared.rows.Block.{Block}
+use Rattle.pgp_log.proofs.Common.{◌≡◌, ℕ, ◌+◌, ◌*◌, ◌-◌, ◌/◌, ◌%◌, ◌<◌, ◌≤◌, List, [], ◌∷◌, ◌++◌, Some, length, set, refl, sym, ap, ◌∙◌, subst, inl, inr, arith, length-append, slice_get, cases_eq, length-set, same_Some, slice_get_within, get-append, get-set_other, get-set_same, AreInBlocks, IsInBlock, Row, Block}
 use Rattle.pgp_log.proofs.RowLemmas.{each-push}
 
 -- the block of a place

@@ -1,29 +1,11 @@
 -- What the code of a world keeps of it.
-use Rattle.std.proofs.Common.{◌≡◌, ℕ, zero, suc, ◌+◌, ◌<◌, ◌≤◌, List, [], ◌∷◌, ◌++◌, inl, inr, Result, Ok, Err, OnOk, OnErr, IfOk, Some, None, true, false, length, map, min, take, drop, get_or, set, replicate, refl, ap, sym, ◌∙◌, subst, append_assoc, add-one, zero-add, arith, eq-eqb, length-append}
-use Rattle.std.specs.List.{range_with_len}
+use Rattle.pgp_log.proofs.Common.{◌≡◌, ℕ, zero, suc, ◌+◌, ◌<◌, ◌≤◌, List, [], ◌∷◌, ◌++◌, inl, inr, Result, Ok, Err, OnOk, OnErr, IfOk, Some, None, true, false, length, map, min, take, drop, get_or, set, replicate, refl, ap, sym, ◌∙◌, subst, append_assoc, add-one, zero-add, arith, eq-eqb, length-append, range_with_len, drop-append_seam, map-set_same, take-append-add, cases_eq, drop-map, get_or-map, get_or_default, get_or-set_other, get_or-set_same, length-map, length-set, length-take, map-append, map-set, take-append-drop, take-map, take-take, take-front, Entry, PgId, View, has_group, incs_of, scratch, IsJudgeOf, HasInc, IsFrontOf, is_legal, Shard, HasReadSame, HasReadSome, having_read_all, is_own, opening_shard, shard_of, World, front_of, view_reply, Absorb, Ask, Absorbed, Asked, MayReply}
 use Rattle.std.specs.declared.alloc.AllocError.{AllocError}
-use Rattle.std.proofs.Math.Seq.{drop-append_seam, map-set_same, take-append-add}
-use Rattle.std.proofs.lemmas.Bool.{cases_eq}
-use Rattle.std.proofs.lemmas.List.{drop-map, get_or-map, get_or_default, get_or-set_other, get_or-set_same, length-map, length-set, length-take, map-append, map-set, take-append-drop, take-map, take-take}
 use Rattle.std.proofs.lemmas.List.FromFn.{get_or-map-range_with_len}
-use Rattle.pgp_lists.proofs.Lists.{take-front}
 use Rattle.pgp_lists.proofs.Ranges.{range_with_len-suc}
 use Rattle.pgp_ids.specs.declared.ask_refusal.AskRefusal.{AskRefusal}
 use Rattle.pgp_ids.specs.declared.ask_refusal.AskRefusal.TheVariants.{UnknownGroup, Memory}
-use Rattle.pgp_ids.specs.declared.entry.Entry.{Entry}
-use Rattle.pgp_ids.specs.declared.pg_id.PgId.{PgId}
-use Rattle.pgp_ids.specs.declared.view.View.{View}
-use Rattle.pgp_map.specs.Pools.{has_group}
-use Rattle.pgp_group.specs.Entries.{incs_of}
-use Rattle.pgp_group.specs.View.{scratch}
-use Rattle.pgp_log.specs.Judge.{IsJudgeOf}
-use Rattle.pgp_log.specs.Log.{HasInc, IsFrontOf, is_legal}
 use Rattle.pgp_log.specs.Running.{IsReading, IsRunning}
-use Rattle.pgp_log.specs.Shard.{Shard, HasReadSame, HasReadSome, having_read_all, is_own, opening_shard, shard_of}
-use Rattle.pgp_log.specs.World.{World, front_of, view_reply}
-use Rattle.pgp_log.specs.World.Step.{Absorb, Ask}
-use Rattle.pgp_log.specs.World.Reply.{Absorbed, Asked}
-use Rattle.pgp_log.specs.WorldRun.{MayReply}
 use Rattle.pgp_log.specs.declared.judge.Judge.{Judge}
 use Rattle.pgp_log.proofs.LogLemmas.{legal-take}
 

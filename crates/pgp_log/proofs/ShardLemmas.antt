@@ -1,14 +1,6 @@
 -- What a shard has read.
-use Rattle.std.proofs.Common.{◌≡◌, ℕ, ◌+◌, ◌<◌, List, [], ◌∷◌, ◌++◌, Bool, false, not, Option, length, get_or, map, take, refl, ap, sym, ◌∙◌, arith}
-use Rattle.std.specs.List.{filter, list_any}
-use Rattle.std.specs.Option.{option_map_or}
-use Rattle.std.proofs.lemmas.Bool.{cases_Bool}
-use Rattle.std.proofs.lemmas.Bool.Decides.{nat_tests}
-use Rattle.std.proofs.lemmas.List.{length-map, take-map}
-use Rattle.pgp_ids.specs.declared.entry.Entry.{Entry}
-use Rattle.pgp_ids.specs.declared.pg_id.PgId.{PgId}
-use Rattle.pgp_map.specs.Pools.{is_same_group}
-use Rattle.pgp_log.specs.Shard.{HasReadSame, HasReadSome, IsUnmarked, Shard, has_own, having_read, having_read_all, is_among, is_marked}
+use Rattle.pgp_log.proofs.Common.{◌≡◌, ℕ, ◌+◌, ◌<◌, List, [], ◌∷◌, ◌++◌, Bool, false, not, Option, length, get_or, map, take, refl, ap, sym, ◌∙◌, arith, filter, list_any, option_map_or, cases_Bool, nat_tests, length-map, take-map, Entry, PgId, is_same_group, HasReadSame, HasReadSome, IsUnmarked, Shard, has_own, having_read, having_read_all, is_among}
+use Rattle.pgp_log.specs.Shard.{is_marked}
 use Rattle.pgp_log.proofs.SharedLemmas.{next-after}
 
 -- one entry more is read

@@ -1,10 +1,6 @@
 -- Logs whose entries have other owners too: each element of a list stands for an entry.
-use Rattle.std.proofs.Common.{◌≡◌, ℕ, ◌+◌, ◌<◌, List, [], ◌∷◌, ◌++◌, None, Result, Ok, Err, IfOk, true, length, map, take, drop, get_or, ap, sym, ◌∙◌, arith, append_assoc}
-use Rattle.std.proofs.lemmas.List.{map-append, map_more, take-append-drop, take_all}
-use Rattle.pgp_ids.specs.declared.entry.Entry.{Entry}
+use Rattle.pgp_log.proofs.Common.{◌≡◌, ℕ, ◌+◌, ◌<◌, List, [], ◌∷◌, ◌++◌, None, Result, Ok, Err, IfOk, true, length, map, take, drop, get_or, ap, sym, ◌∙◌, arith, append_assoc, map-append, map_more, take-append-drop, take_all, Entry, fits, is_close, is_closed, is_legal}
 pub use Rattle.pgp_lists.proofs.Results.{on_err}
-use Rattle.pgp_log.specs.Fits.{fits, is_close, is_closed}
-use Rattle.pgp_log.specs.Log.{is_legal}
 use Rattle.pgp_log.proofs.LogLemmas.{front-legal, legal-last}
 use Rattle.pgp_log.proofs.TakeLemmas.{closed-push, fits-open_log}
 

@@ -1,27 +1,8 @@
 -- What one entry more does to a log.
-use Rattle.std.proofs.Common.{◌≡◌, ◌<◌, ◌≤◌, inl, inr, length-append, append-nil, List, [], ◌∷◌, ◌++◌, Bool, true, false, Option, Some, None, IfSome, length, nat_le, if◌then◌else◌, refl, sym, ap, ◌∙◌, arith}
-use Rattle.std.specs.Option.{option_map, option_or}
-use Rattle.std.proofs.lemmas.Bool.{cases_Bool}
-use Rattle.std.proofs.lemmas.Bool.Decides.{leb_tells, nat_tests}
-use Rattle.std.proofs.lemmas.List.Elements.{filter_map-append}
-use Rattle.std.proofs.Math.Bool.{or-false}
-use Rattle.pgp_lists.proofs.Options.{if_none}
-use Rattle.pgp_ids.specs.declared.entry.Entry.{Entry}
+use Rattle.pgp_log.proofs.Common.{◌≡◌, ◌<◌, ◌≤◌, inl, inr, length-append, append-nil, List, [], ◌∷◌, ◌++◌, Bool, true, false, Option, Some, None, IfSome, length, nat_le, if◌then◌else◌, refl, sym, ap, ◌∙◌, arith, option_map, option_or, cases_Bool, leb_tells, nat_tests, filter_map-append, or-false, if_none, Entry, Incremental, Refusal, checked-more, are_checked, refusal_of, epoch, map_fault, given_fault, MapFault, epoch-snoc, inc_of, incs_of, is_close, is_closed, entry_fault, full_fault, fits, epoch_of}
 use Rattle.pgp_ids.specs.declared.entry.Entry.TheVariants as entry
-use Rattle.pgp_ids.specs.declared.incremental.Incremental.{Incremental}
-use Rattle.pgp_ids.specs.declared.refusal.Refusal.{Refusal}
 use Rattle.pgp_ids.specs.declared.refusal.Refusal.TheVariants as refusal
-use Rattle.pgp_map.proofs.CheckedLemmas.{checked-more}
 use Rattle.pgp_map.proofs.FaultLemmas.{no_fault}
-use Rattle.pgp_map.specs.Checked.{are_checked}
-use Rattle.pgp_map.specs.FaultNumber.{refusal_of}
-use Rattle.pgp_map.specs.Map.{epoch}
-use Rattle.pgp_map.specs.MapFault.{map_fault, given_fault}
-use Rattle.pgp_map.specs.declared.fault.MapFault.{MapFault}
-use Rattle.pgp_group.proofs.GrowthLemmas.{epoch-snoc}
-use Rattle.pgp_group.specs.Entries.{inc_of, incs_of}
-use Rattle.pgp_log.specs.Fits.{is_close, is_closed, entry_fault, full_fault, fits}
-use Rattle.pgp_log.specs.Log.{epoch_of}
 
 -- ---- its incrementals
 

@@ -1,31 +1,7 @@
 -- A group that an incremental doesn't touch, and the devices with which a group has to do.
-use Rattle.std.proofs.Common.{◌≡◌, ℕ, List, [], ◌∷◌, ◌++◌, Bool, true, false, not, ◌||◌, Option, Some, None, IfSome, map, length, refl, sym, ap, ◌∙◌, arith}
-use Rattle.std.specs.List.{list_any}
-use Rattle.std.specs.Prelude.{is_none, ◌==◌}
-use Rattle.std.proofs.lemmas.Bool.{not-false, not-true, or_parts, true_from_ne_false, true≢false}
-use Rattle.std.proofs.lemmas.Bool.Decides.{nat_tests}
-use Rattle.std.proofs.lemmas.List.Folds.{list_any-append}
-use Rattle.pgp_lists.proofs.Bools.{and3_parts}
-use Rattle.pgp_ids.specs.declared.entry.Entry.{Entry}
+use Rattle.pgp_log.proofs.Common.{◌≡◌, ℕ, List, [], ◌∷◌, ◌++◌, Bool, true, false, not, ◌||◌, Option, Some, None, IfSome, map, length, refl, sym, ap, ◌∙◌, arith, list_any, is_none, ◌==◌, not-false, not-true, or_parts, true_from_ne_false, true≢false, nat_tests, list_any-append, and3_parts, Entry, DeviceEpoch, Incremental, PgId, View, map_fault, temp, OsdMap, raw_set-stays, may_place_elsewhere, left-unmoved, lies-as-before, reaches-next, untouched-unmoved, IsLeft, temp-same, unplaced, incs_of, changed_devices, changes_pool, changes_temp, is_touched, may_lie_on, may_move, moves_all, turned_devices, MapBefore, IsKeptOf, IsStep, IsViewOf, is_marked, changes_no_pool, changes_nothing, changes_placements, moves_none, tells_nothing, turns_none, KeptGroup}
 use Rattle.pgp_ids.specs.declared.entry.Entry.TheVariants as entry
-use Rattle.pgp_ids.specs.declared.incremental.DeviceEpoch.{DeviceEpoch}
-use Rattle.pgp_ids.specs.declared.incremental.Incremental.{Incremental}
-use Rattle.pgp_ids.specs.declared.pg_id.PgId.{PgId}
-use Rattle.pgp_ids.specs.declared.view.View.{View}
-use Rattle.pgp_map.specs.MapFault.{map_fault}
-use Rattle.pgp_map.specs.Pools.{temp}
-use Rattle.pgp_map.specs.declared.map.OsdMap.{OsdMap}
-use Rattle.pgp_sets.proofs.RawSetLemmas.{raw_set-stays}
-use Rattle.pgp_sets.specs.Sets.{may_place_elsewhere}
 use Rattle.pgp_group.proofs.Lists.{any-mapped}
-use Rattle.pgp_group.proofs.ReachingLemmas.{left-unmoved, lies-as-before, reaches-next, untouched-unmoved}
-use Rattle.pgp_group.proofs.UntoldLemmas.{IsLeft, temp-same, unplaced}
-use Rattle.pgp_group.specs.Entries.{incs_of}
-use Rattle.pgp_group.specs.Touched.{changed_devices, changes_pool, changes_temp, is_touched, may_lie_on, may_move, moves_all, turned_devices}
-use Rattle.pgp_log.specs.declared.before.MapBefore.{MapBefore}
-use Rattle.pgp_log.specs.KeptGroup.{IsKeptOf, IsStep, IsViewOf, is_marked}
-use Rattle.pgp_log.specs.Touch.{changes_no_pool, changes_nothing, changes_placements, moves_none, tells_nothing, turns_none}
-use Rattle.pgp_log.specs.declared.kept_group.KeptGroup.{KeptGroup}
 use Rattle.pgp_log.proofs.KeptLemmas.{grown, kept_raw-stays, step-fine, untouched-inc, view-stays}
 
 -- ---- an incremental by which the group lies as before

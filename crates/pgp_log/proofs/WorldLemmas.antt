@@ -1,19 +1,8 @@
 -- What becomes of a world's log.
-use Rattle.std.proofs.Common.{◌≡◌, ℕ, suc, ◌<◌, drop, if◌then◌else◌, Err, List, [], ◌∷◌, ◌++◌, inl, inr, Option, Some, None, Bool, true, false, refl, sym, ap, ap₂, ◌∙◌, append-nil, append_assoc, subst, arith}
-use Rattle.std.specs.Prelude.{slice_index, alloc_error}
-use Rattle.std.proofs.lemmas.List.{length-take}
-use Rattle.std.specs.List.{list_any}
-use Rattle.std.proofs.lemmas.Bool.{or_parts, true≢false}
-use Rattle.pgp_ids.specs.declared.entry.Entry.{Entry}
+use Rattle.pgp_log.proofs.Common.{◌≡◌, ℕ, suc, ◌<◌, drop, if◌then◌else◌, Err, List, [], ◌∷◌, ◌++◌, inl, inr, Option, Some, None, Bool, true, false, refl, sym, ap, ap₂, ◌∙◌, append-nil, append_assoc, subst, arith, slice_index, alloc_error, length-take, list_any, or_parts, true≢false, Entry, Refusal, fits, is_legal, World, Step, Reply, after, after_absorb, after_all, after_submit, replies, reply_to, submit_reply, Submit, Absorb, Ask, Submitted, Absorbed, Asked, HasReadPart, IsTaken, IsWanting, MayReply, MayRun, IsFewer, IsDone, done_at, done_of, is_want, taken_at, taken_of}
 use Rattle.pgp_ids.specs.declared.ask_refusal.AskRefusal.TheVariants as ask
-use Rattle.pgp_ids.specs.declared.refusal.Refusal.{Refusal}
 use Rattle.pgp_ids.specs.declared.refusal.Refusal.TheVariants as refusal
-use Rattle.pgp_log.specs.Fits.{fits}
-use Rattle.pgp_log.specs.Log.{is_legal}
-use Rattle.pgp_log.specs.World.{World, Step, Reply, after, after_absorb, after_all, after_submit, replies, reply_to, submit_reply}
-use Rattle.pgp_log.specs.World.Step.{Submit, Absorb, Ask}
-use Rattle.pgp_log.specs.World.Reply.{Submitted, Absorbed, Asked}
-use Rattle.pgp_log.specs.WorldRun.{HasReadPart, IsTaken, IsWanting, MayReply, MayRun, IsFewer, IsDone, done_at, done_of, told_at, is_want, taken_at, taken_of}
+use Rattle.pgp_log.specs.WorldRun.{told_at}
 use Rattle.pgp_log.proofs.LogLemmas.{legal-snoc}
 
 submit-legal : (w : World) (new : Entry) (why : Option Refusal) → fits w.log new ≡ why → is_legal w.log ≡ true → is_legal (after_submit w new why).log ≡ true

@@ -1,6 +1,8 @@
--- What follows for a shard from the entries that it has read: the map that they make, and the shard's groups.
-use Rattle.std.specs.Prelude.{◌≡◌, ℕ, ◌++◌, ◌&&◌, List, [], ◌∷◌, slice_get, Option, None, Some, IfSome, option_map, Bool, true, false}
+-- What follows for a shard from the entries that it has read: the map that they make, and the shard's groups (this project's
+-- own choice).
+use Rattle.std.specs.Prelude.{◌≡◌, ℕ, ◌++◌, ◌&&◌, List, [], ◌∷◌, slice_get, set, Option, None, Some, IfSome, is_some, option_map, Result, OnOk, OnErr, Bool, true, false}
 use Rattle.std.specs.HashMap as hash
+use Rattle.std.specs.declared.alloc.AllocError.{AllocError}
 use Rattle.pgp_ids.specs.declared.entry.Entry.{Entry}
 use Rattle.pgp_ids.specs.declared.entry.Entry.TheVariants as entry
 use Rattle.pgp_ids.specs.declared.incremental.Incremental.{Incremental}
@@ -12,11 +14,12 @@ use Rattle.pgp_group.specs.Entries.{incs_of}
 use Rattle.pgp_group.specs.GroupHistory.{makes}
 use Rattle.pgp_group.specs.Touched.{is_touched}
 use Rattle.pgp_log.specs.Fits.{fits}
-use Rattle.pgp_log.specs.KeptGroup.{AreAllMarked, AreKeptOf, AreRowsOf, IsStep, ids_of, marks_in}
+use Rattle.pgp_log.specs.KeptGroup.{AreAllMarked, AreKeptOf, AreRowsOf, IsStep, ids_of, is_marked, marks_in}
 use Rattle.pgp_log.specs.Log.{is_legal}
 use Rattle.pgp_log.specs.Shard.{Shard, is_among, is_own}
 use Rattle.pgp_log.specs.declared.before.MapBefore.{MapBefore}
 use Rattle.pgp_log.specs.declared.groups.Groups.{Groups}
+use Rattle.pgp_log.specs.declared.kept_group.KeptGroup.{KeptGroup}
 use Rattle.pgp_log.specs.declared.owner.Owner.{Owner}
 
 -- ---- the groups that are kept
@@ -96,27 +99,39 @@ pub record IsStepping (owner : Owner) (log : List Entry) (inc : Incremental) (gr
   pub own_are : (pg : PgId) → IsKeptIfOwn owner (incs_of log) groups pg
   pub only_own : (pg : PgId) → IsOwnIfKept owner (then_with (incs_of log) inc) groups pg
 
--- it does in some log
+-- In some log the incremental comes next, and the map has it.
 pub record CanStepOn (owner : Owner) (groups : Groups) (inc : Incremental) : Type 0 where
   pub log : List Entry
   pub is : IsStepping owner log inc groups
 
--- and the incremental makes the pool
+-- An incremental that comes next in some log makes the pool, and the map has it.
 pub record CanAddTo (owner : Owner) (groups : Groups) (id : ℕ) : Type 0 where
   pub inc : Incremental
   pub can : CanStepOn owner groups inc
   pub made : makes id inc ≡ true
 
--- the entry comes next in some log
+-- Some log, of which these are the owner's groups, takes the entry next.
 pub record CanAbsorb (owner : Owner) (groups : Groups) (new : Entry) : Type 0 where
   pub log : List Entry
   pub is : AreOwnGroupsOf owner log groups
   pub fits : fits log new ≡ None
 
--- the incremental does, for some owner
+-- Some log, of which these are the groups of some owner, takes the incremental next.
 pub record CanAbsorbInc (groups : Groups) (inc : Incremental) : Type 0 where
   pub owner : Owner
   pub can : CanAbsorb owner groups (entry.Inc inc)
+
+-- of the groups only the one at this place was to be worked out, where it is marked: it is another now, whose view is there, unless
+-- there was no memory
+pub record IsRenewedAt (place : ℕ) (result : Result (Unit {0}) AllocError) (old new : Groups) : Type 0 where
+  pub before : KeptGroup
+  pub after : KeptGroup
+  pub there : slice_get old.kept.items place ≡ Some before
+  pub pg : after.pg ≡ before.pg
+  pub kept : new.kept.items ≡ set old.kept.items place after
+  pub places : new.places ≡ old.places
+  pub view : OnOk result (is_some after.view ≡ true)
+  pub wants : OnErr result (is_marked before ≡ true)
 
 -- ---- beside the entries
 

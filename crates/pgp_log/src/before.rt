@@ -28,7 +28,7 @@ pub(crate) struct MapBefore {
 }
 
 /// What a map says of a device as a primary.
-#[derive(Clone, Copy)]
+#[derive(Drop)]
 pub(crate) struct DeviceFacts {
     osd: OsdId,
     facts: PrimaryFacts,

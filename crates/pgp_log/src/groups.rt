@@ -14,7 +14,7 @@ ghost use Rattle.pgp_group.specs.Entries.{inc_of, incs_of};
 ghost use Rattle.pgp_group.specs.GroupHistory.{makes};
 ghost use Rattle.pgp_group.specs.Touched.{is_touched};
 ghost use Rattle.pgp_log.specs.Fits.{fits};
-ghost use Rattle.pgp_log.specs.Groups.{AreAtPlaces, AreOwnGroupsOf, IsStepping, CanStepOn, CanAddTo, CanAbsorb, CanAbsorbInc, IsKeptIfOwn, HasOwn, HasStill, MarksTouched, marks_of, owns};
+ghost use Rattle.pgp_log.specs.Groups.{AreAtPlaces, AreOwnGroupsOf, IsStepping, CanStepOn, CanAddTo, CanAbsorb, CanAbsorbInc, IsKeptIfOwn, HasOwn, HasStill, IsRenewedAt, MarksTouched, marks_of, owns};
 ghost use Rattle.pgp_log.specs.KeptGroup.{AreAllMarked, IsViewOf};
 ghost use Rattle.pgp_log.specs.Log.{HasInc, is_legal};
 ghost use Rattle.pgp_log.specs.Shard.{is_among, without};
@@ -37,6 +37,7 @@ use std::sync::Arc;
 #[derive(Drop)]
 pub(crate) struct Groups {
     alloc: Global,
+    /// The map that the entries make.
     pub(crate) map: OsdMap,
     /// At which place of the lists each group stands.
     places: HashMap<PgId, usize>,
@@ -102,9 +103,9 @@ impl Groups {
         }
     }
 
-    /// Takes an incremental, except for the groups that come with it. What groups need of the map before is noted before the map
-    /// takes it. Groups that it can't touch by their rows are passed by. One that changes the epoch alone goes to none of them, nor
-    /// does one that moves none, while all are marked. After an `Err` they are of no further use.
+    /// Takes an incremental, except for the groups that come with it. What groups need of the map before is noted first. Groups
+    /// that the incremental can't touch by their rows are passed by. An incremental that changes the epoch alone goes to no group.
+    /// While all groups are marked, nor does one that moves no group. After an `Err` they are of no further use.
     fn absorb_inc(&mut self, inc: &Incremental) -> Result<(), AllocError>
         requires { CanAbsorbInc self.old inc.now }
         ensures ok { OnOk result ((owner : AnyOwner) (log : List AnyEntry) → AreOwnGroupsOf owner log self.old
@@ -240,17 +241,28 @@ impl Groups {
             → has_group (incs_of log) pg.now ≡ true) }
         ensures wants_marked { OnErr result (is_among pg.now (marks_of self.old) ≡ true) }
     {
-        match self.find(pg) {
-            Some(place) => {
-                self.some_worked_out = true;
-                let found = &mut self.kept[place];
-                let done = found.renew(&self.map, count);
-                self.rows.set(place, found.row());
-                done?;
-                Ok(true)
-            }
-            None => Ok(false),
-        }
+        let Some(place) = self.find(pg) else {
+            return Ok(false);
+        };
+        self.renew_at(place, count)?;
+        Ok(true)
+    }
+
+    /// Works out the group at the place, where it is marked, and makes its row anew. `count` is the number of the entries. After an
+    /// error the groups follow from the same entries.
+    fn renew_at(&mut self, place: usize, count: usize) -> Result<(), AllocError>
+        requires within { place < length self.old.kept.items }
+        requires at { AreAtPlaces self.old }
+        ensures at { AreAtPlaces self.new }
+        ensures is { (owner : AnyOwner) (log : List AnyEntry) → AreOwnGroupsOf owner log self.old → length log ≡ count
+            → AreOwnGroupsOf owner log self.new }
+        ensures one { IsRenewedAt place result self.old self.new }
+    {
+        self.some_worked_out = true;
+        let group = &mut self.kept[place];
+        let done = group.renew(&self.map, count);
+        self.rows.set(place, group.row());
+        done
     }
 
     /// What the entries say of a group of the owner, except for count and epoch, where the map has it and it isn't marked.
@@ -276,16 +288,12 @@ impl Groups {
         ensures wants { OnErr result ((owner : AnyOwner) (log : List AnyEntry) → AreOwnGroupsOf owner log self.old → HasInc log) }
         ensures wants_marked { OnErr result (0 < min max (length (marks_of self.old))) }
     {
-        self.some_worked_out = true;
         let mut more = max;
         let mut left = 0;
         for place in 0..self.kept.len() {
             if self.kept[place].is_marked() {
                 if more > 0 {
-                    let kept = &mut self.kept[place];
-                    let done = kept.renew(&self.map, count);
-                    self.rows.set(place, kept.row());
-                    done?;
+                    self.renew_at(place, count)?;
                     more -= 1;
                 } else {
                     left += 1;

@@ -16,7 +16,7 @@ use pgp_map::OsdMap;
 use pgp_sets::up_acting;
 
 /// Where an object lies: its group, and where the map puts the group.
-#[derive(Debug, PartialEq, Eq, Drop)]
+#[derive(Drop)]
 pub struct Place {
     pub pg: PgId,
     pub members: Membership,

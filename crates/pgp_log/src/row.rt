@@ -37,7 +37,7 @@ impl Row {
 }
 
 /// What an incremental changes, as far as rows are held against it.
-#[derive(Clone, Copy)]
+#[derive(Drop)]
 pub(crate) struct Changes {
     /// It may change where some group lies, whatever becomes of devices.
     places: bool,

@@ -24,7 +24,7 @@ pub(crate) struct Rows {
 }
 
 /// What the rows of a block have in common.
-#[derive(Clone, Copy)]
+#[derive(Drop)]
 pub(crate) struct Block {
     /// Each of the groups is marked.
     marked: bool,

@@ -145,7 +145,7 @@ impl ShardState {
         ensures same { HasReadSame self.old self.new }
         ensures marks { result ≢ Err Memory → IsUnmarked pg.now self.old self.new }
     {
-        let mut groups = taken(
+        let mut groups = take_or_make(
             self.alloc,
             self.owner,
             self.front.as_slice(),
@@ -221,7 +221,7 @@ impl ShardState {
         ensures wants_marked { OnErr result (IfSome self.old.marks (λ marks. 0 < min max (length marks))) }
     {
         let count = self.front.len();
-        let mut groups = taken(
+        let mut groups = take_or_make(
             self.alloc,
             self.owner,
             self.front.as_slice(),
@@ -234,7 +234,7 @@ impl ShardState {
 }
 
 /// Takes out what is kept beside the entries, or makes it of them where nothing is.
-fn taken(
+fn take_or_make(
     alloc: Global,
     owner: Owner,
     entries: &[Arc<Entry>],

@@ -2,7 +2,7 @@
 
 ghost use Rattle.std.specs.List.{list_any};
 ghost use Rattle.std.specs.Prelude.{◌≡◌, ◌||◌, nat_eq};
-ghost use Rattle.pgp_log.specs.Touch.{turns_none, tells_nothing, changes_no_pool, changes_placements, moves_none, changes_nothing};
+ghost use Rattle.pgp_log.specs.Touch.{turns_none, changes_no_pool, changes_placements, moves_none, changes_nothing};
 ghost use Rattle.pgp_group.specs.Touched.{changes_pool, changes_temp, moves_all};
 ghost use Rattle.pgp_sets.specs.Sets.{moves};
 
@@ -75,7 +75,11 @@ pub(crate) fn changes_placements(inc: &Incremental) -> bool
 pub(crate) fn changes_nothing(inc: &Incremental) -> bool
     ensures { result ≡ changes_nothing inc.now }
 {
-    !moves_all(inc) && changes_no_pool(inc) && tells_nothing(inc)
+    !moves_all(inc)
+        && changes_no_pool(inc)
+        && turns_none(inc)
+        && inc.up_thru.is_empty()
+        && inc.lost.is_empty()
 }
 
 /// The incremental makes no pool, and changes none, and no pg_temp list.
@@ -83,13 +87,6 @@ pub(crate) fn changes_no_pool(inc: &Incremental) -> bool
     ensures { result ≡ changes_no_pool inc.now }
 {
     inc.pools.is_empty() && inc.sizes.is_empty() && inc.temp.is_empty()
-}
-
-/// The incremental tells nothing of devices.
-fn tells_nothing(inc: &Incremental) -> bool
-    ensures { result ≡ tells_nothing inc.now }
-{
-    turns_none(inc) && inc.up_thru.is_empty() && inc.lost.is_empty()
 }
 
 /// The incremental boots no device, takes none down and destroys none.

@@ -75,7 +75,7 @@ impl World {
     {
         let all = opening_shards(alloc, shards)?;
         let judge = Judge::of(alloc, entries)?;
-        let owned = shared(alloc, entries)?;
+        let owned = share_all(alloc, entries)?;
         let world = World {
             alloc,
             entries: owned,
@@ -116,7 +116,7 @@ impl World {
     {
         let state = &mut self.shards[shard];
         let read = state.count();
-        let next = unread(self.entries.as_slice(), read, count);
+        let next = unread_entries(self.entries.as_slice(), read, count);
         state.absorb_all(next)
     }
 
@@ -132,7 +132,7 @@ impl World {
 }
 
 /// One more owner of each entry.
-fn shared(alloc: Global, entries: &[Arc<Entry>]) -> Result<Vec<Arc<Entry>>, AllocError>
+fn share_all(alloc: Global, entries: &[Arc<Entry>]) -> Result<Vec<Arc<Entry>>, AllocError>
     ensures { IfOk result (λ all. map arc_value all.items ≡ map arc_value entries.now) }
 {
     let mut all = Vec::with_capacity(alloc, entries.len())?;
@@ -144,7 +144,7 @@ fn shared(alloc: Global, entries: &[Arc<Entry>]) -> Result<Vec<Arc<Entry>>, Allo
 }
 
 /// The entries after those that were read, at most `count` of them.
-fn unread(entries: &[Arc<Entry>], read: usize, count: usize) -> &[Arc<Entry>]
+fn unread_entries(entries: &[Arc<Entry>], read: usize, count: usize) -> &[Arc<Entry>]
     requires { read ≤ length entries.now }
     ensures { result.now ≡ take count (drop read entries.now) }
 {

@@ -1,5 +1,4 @@
-use Rattle.pgp_log.specs.MapBefore.{with_facts}
-use Rattle.std.proofs.Common.{◌∙◌}
+use Rattle.pgp_log.proofs.Common.{with_facts, ◌∙◌}
 use Rattle.pgp_log.proofs.MapBeforeLemmas.{noted-more}
 use Rattle.pgp_log.proofs.before.note_booted.Goals as goal
 

@@ -1,7 +1,4 @@
-use Rattle.std.proofs.Common.{◌≡◌, List, ◌++◌, map, take}
-use Rattle.pgp_ids.specs.declared.incremental.Incremental.{Incremental}
-use Rattle.pgp_map.specs.MapOf.{IsMapOf}
-use Rattle.pgp_log.specs.MapBefore.{with_facts}
+use Rattle.pgp_log.proofs.Common.{◌≡◌, List, ◌++◌, map, take, Incremental, IsMapOf, with_facts}
 use Rattle.pgp_log.proofs.before.note_booted.Given as goal
 
 abbrev pub invariant-loop-osd : goal.invariant-loop-osd

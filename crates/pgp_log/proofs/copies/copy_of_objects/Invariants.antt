@@ -1,4 +1,4 @@
-use Rattle.std.proofs.Common.{◌≡◌, take}
+use Rattle.pgp_log.proofs.Common.{◌≡◌, take}
 use Rattle.pgp_log.proofs.copies.copy_of_objects.Given as goal
 
 abbrev pub invariant-loop-missing : goal.invariant-loop-missing

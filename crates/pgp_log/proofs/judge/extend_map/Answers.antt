@@ -1,9 +1,4 @@
-use Rattle.std.proofs.Common.{◌≡◌, ◌∷◌, ◌++◌, [], List, None, is_some, ap, sym}
-use Rattle.std.proofs.lemmas.Result.{on_ok_weaker}
-use Rattle.pgp_ids.specs.declared.entry.Entry.{Entry}
-use Rattle.pgp_map.specs.MapOf.{IsMapOf}
-use Rattle.pgp_group.specs.Entries.{incs_of}
-use Rattle.pgp_log.specs.Fits.{entry_fault}
+use Rattle.pgp_log.proofs.Common.{◌≡◌, ◌∷◌, ◌++◌, [], List, None, is_some, ap, sym, on_ok_weaker, Entry, IsMapOf, incs_of, entry_fault}
 use Rattle.pgp_log.proofs.SharedLemmas.{on_err}
 use Rattle.pgp_log.proofs.TakeLemmas.{incs-inc, incs-other, faultless-inc}
 use Rattle.pgp_log.proofs.judge.extend_map.Goals as goal

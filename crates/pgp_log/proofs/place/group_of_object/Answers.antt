@@ -1,4 +1,4 @@
-use Rattle.std.proofs.Common.{sym, ◌∙◌}
+use Rattle.pgp_log.proofs.Common.{sym, ◌∙◌}
 use Rattle.pgp_log.proofs.LocateLemmas.{some-group, group-there}
 use Rattle.pgp_log.proofs.place.group_of_object.Goals as goal
 

@@ -1,4 +1,4 @@
-use Rattle.std.proofs.Common.{◌≡◌, take}
+use Rattle.pgp_log.proofs.Common.{◌≡◌, take}
 use Rattle.pgp_log.proofs.place.temp_of.Given as goal
 
 abbrev pub invariant-loop-place : goal.invariant-loop-place

@@ -1,4 +1,4 @@
-use Rattle.std.proofs.Common.{refl, ◌∙◌}
+use Rattle.pgp_log.proofs.Common.{refl, ◌∙◌}
 use Rattle.pgp_log.proofs.report.entries_fault.Goals as goal
 
 pub returns-clause-fault : goal.returns-clause-fault

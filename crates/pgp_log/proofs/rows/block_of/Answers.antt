@@ -1,9 +1,4 @@
-use Rattle.std.proofs.Common.{◌≡◌, ◌+◌, ◌*◌, ◌<◌, length, Some, refl, sym, ap, ◌∙◌, subst, inl, inr, arith}
-use Rattle.std.specs.Prelude.{slice_get}
-use Rattle.std.proofs.lemmas.Bool.{cases_lt}
-use Rattle.std.proofs.lemmas.Option.{same_Some, slice_get_read, slice_get_within}
-use Rattle.pgp_log.specs.Rows.{IsInBlock}
-use Rattle.pgp_log.specs.declared.row.Row.{Row}
+use Rattle.pgp_log.proofs.Common.{◌≡◌, ◌+◌, ◌*◌, ◌<◌, length, Some, refl, sym, ap, ◌∙◌, subst, inl, inr, arith, slice_get, cases_lt, same_Some, slice_get_read, slice_get_within, IsInBlock, Row}
 use Rattle.pgp_log.proofs.rows.block_of.Goals as goal
 
 pub loop-place-preserved : goal.loop-place-preserved

@@ -1,7 +1,4 @@
-use Rattle.std.proofs.Common.{◌≡◌, ◌<◌, ◌*◌, ◌+◌, ℕ, Some}
-use Rattle.std.specs.Prelude.{slice_get}
-use Rattle.pgp_log.specs.Rows.{IsInBlock}
-use Rattle.pgp_log.specs.declared.row.Row.{Row}
+use Rattle.pgp_log.proofs.Common.{◌≡◌, ◌<◌, ◌*◌, ◌+◌, ℕ, Some, slice_get, IsInBlock, Row}
 use Rattle.pgp_log.proofs.rows.block_of.Given as goal
 
 abbrev pub invariant-loop-place : goal.invariant-loop-place

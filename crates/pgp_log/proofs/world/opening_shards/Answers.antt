@@ -1,5 +1,4 @@
-use Rattle.std.proofs.Common.{[], ◌∷◌, ◌++◌, List, ap₂, sym, ◌∙◌}
-use Rattle.pgp_log.specs.Shard.{Shard}
+use Rattle.pgp_log.proofs.Common.{[], ◌∷◌, ◌++◌, List, ap₂, sym, ◌∙◌, Shard}
 use Rattle.pgp_log.proofs.RunningLemmas.{openings-more}
 use Rattle.pgp_log.proofs.world.opening_shards.Goals as goal
 

@@ -1,6 +1,4 @@
-use Rattle.std.proofs.Common.{◌≡◌, map}
-use Rattle.std.specs.List.{range_with_len}
-use Rattle.pgp_log.specs.Shard.{opening_shard}
+use Rattle.pgp_log.proofs.Common.{◌≡◌, map, range_with_len, opening_shard}
 use Rattle.pgp_log.proofs.world.opening_shards.Given as goal
 
 abbrev pub invariant-loop-shard : goal.invariant-loop-shard

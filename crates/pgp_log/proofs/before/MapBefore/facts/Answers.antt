@@ -1,12 +1,4 @@
-use Rattle.std.proofs.Common.{◌≡◌, ℕ, ◌<◌, List, Some, false, length, get_or, sym, ap, ◌∙◌}
-use Rattle.std.specs.List.{list_any}
-use Rattle.std.specs.Prelude.{nat_eq}
-use Rattle.std.proofs.lemmas.Bool.{eqb-true}
-use Rattle.std.proofs.lemmas.List.{take_all}
-use Rattle.pgp_map.specs.MapFault.{then_with}
-use Rattle.pgp_group.specs.GroupHistory.{primary_facts}
-use Rattle.pgp_log.specs.declared.before.DeviceFacts.{DeviceFacts}
-use Rattle.pgp_log.specs.declared.before.MapBefore.{MapBefore}
+use Rattle.pgp_log.proofs.Common.{◌≡◌, ℕ, ◌<◌, List, Some, false, length, get_or, sym, ap, ◌∙◌, list_any, nat_eq, eqb-true, take_all, then_with, primary_facts, DeviceFacts, MapBefore}
 use Rattle.pgp_log.proofs.MapBeforeLemmas.{facts-at, facts-else}
 use Rattle.pgp_log.proofs.before.MapBefore.facts.Goals as goal
 

@@ -1,6 +1,4 @@
-use Rattle.std.proofs.Common.{◌≡◌, false, take}
-use Rattle.std.specs.List.{list_any}
-use Rattle.std.specs.Prelude.{nat_eq}
+use Rattle.pgp_log.proofs.Common.{◌≡◌, false, take, list_any, nat_eq}
 use Rattle.pgp_log.proofs.before.MapBefore.facts.Given as goal
 
 -- none of the devices so far is the one

@@ -1,11 +1,5 @@
-use Rattle.std.proofs.Common.{◌≡◌, [], ◌∷◌, None, refl, ap, sym, ◌∙◌, subst}
-use Rattle.std.proofs.lemmas.Result.{on_err_weaker, on_ok_weaker}
-use Rattle.pgp_ids.specs.declared.entry.Entry.{Entry}
+use Rattle.pgp_log.proofs.Common.{◌≡◌, [], ◌∷◌, None, refl, ap, sym, ◌∙◌, subst, on_err_weaker, on_ok_weaker, Entry, inc_of, is_touched, fits, CanAbsorb}
 use Rattle.pgp_ids.specs.declared.entry.Entry.TheVariants as entry
-use Rattle.pgp_group.specs.Entries.{inc_of}
-use Rattle.pgp_group.specs.Touched.{is_touched}
-use Rattle.pgp_log.specs.Fits.{fits}
-use Rattle.pgp_log.specs.Groups.{CanAbsorb}
 use Rattle.pgp_log.proofs.ComingLemmas.{inc-after, inc-front}
 use Rattle.pgp_log.proofs.GroupsLemmas.{groups-on}
 use Rattle.pgp_log.proofs.KeptLemmas.{kept-untold}

@@ -1,15 +1,5 @@
-use Rattle.std.proofs.Common.{◌≡◌, ◌+◌, ◌<◌, List, [], ◌∷◌, ◌++◌, Some, true, length, refl, sym, ap, ◌∙◌, inl, inr, arith}
-use Rattle.std.specs.Prelude.{slice_get}
-use Rattle.std.proofs.lemmas.Bool.{cases_lt}
-use Rattle.std.proofs.lemmas.List.Elements.{All-set}
-use Rattle.std.proofs.lemmas.Option.{slice_get_read}
-use Rattle.pgp_lists.proofs.Lists.{get-set_other}
+use Rattle.pgp_log.proofs.Common.{◌≡◌, ◌+◌, ◌<◌, List, [], ◌∷◌, ◌++◌, Some, true, length, refl, sym, ap, ◌∙◌, inl, inr, arith, slice_get, cases_lt, All-set, slice_get_read, get-set_other, incs_of, is_touched, AreAllMarked, IsChangesOf, IsKeptOf, IsStep, is_marked, Groups, KeptGroup}
 use Rattle.pgp_ids.specs.declared.entry.Entry.TheVariants as entry
-use Rattle.pgp_group.specs.Entries.{incs_of}
-use Rattle.pgp_group.specs.Touched.{is_touched}
-use Rattle.pgp_log.specs.KeptGroup.{AreAllMarked, IsChangesOf, IsKeptOf, IsStep, is_marked}
-use Rattle.pgp_log.specs.declared.groups.Groups.{Groups}
-use Rattle.pgp_log.specs.declared.kept_group.KeptGroup.{KeptGroup}
 use Rattle.pgp_log.proofs.GroupsLemmas.{at-places, groups-on, ids-set, marked-there}
 use Rattle.pgp_log.proofs.MarksLemmas.{marks-set}
 use Rattle.pgp_log.proofs.OwnGroupsLemmas.{groups-step, step-begins}

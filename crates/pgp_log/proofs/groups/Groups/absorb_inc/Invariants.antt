@@ -1,13 +1,5 @@
-use Rattle.std.proofs.Common.{◌≡◌, false, ℕ, ◌<◌, ◌≤◌, ◌-◌, List, [], ◌∷◌, ◌++◌, Some, length}
-use Rattle.std.specs.Prelude.{slice_get}
-use Rattle.pgp_ids.specs.declared.entry.Entry.{Entry}
+use Rattle.pgp_log.proofs.Common.{◌≡◌, false, ℕ, ◌<◌, ◌≤◌, ◌-◌, List, [], ◌∷◌, ◌++◌, Some, length, slice_get, Entry, PgId, is_touched, marks_of, AreAllMarked, AreKeptOf, AreRowsOf, IsKeptOf, IsStep, ids_of, is_among, KeptGroup}
 use Rattle.pgp_ids.specs.declared.entry.Entry.TheVariants as entry
-use Rattle.pgp_ids.specs.declared.pg_id.PgId.{PgId}
-use Rattle.pgp_group.specs.Touched.{is_touched}
-use Rattle.pgp_log.specs.Groups.{marks_of}
-use Rattle.pgp_log.specs.KeptGroup.{AreAllMarked, AreKeptOf, AreRowsOf, IsKeptOf, IsStep, ids_of}
-use Rattle.pgp_log.specs.Shard.{is_among}
-use Rattle.pgp_log.specs.declared.kept_group.KeptGroup.{KeptGroup}
 use Rattle.pgp_log.proofs.groups.Groups.absorb_inc.Given as goal
 
 abbrev pub invariant-loop-place : goal.invariant-loop-place

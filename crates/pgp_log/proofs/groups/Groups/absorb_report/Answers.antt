@@ -1,13 +1,5 @@
-use Rattle.std.proofs.Common.{◌≡◌, [], ◌∷◌, ◌++◌, Some, true, refl, sym, ◌∙◌}
+use Rattle.pgp_log.proofs.Common.{◌≡◌, [], ◌∷◌, ◌++◌, Some, true, refl, sym, ◌∙◌, slice_get, All-set, on_ok_weaker, is_same_group, incs_of, is_marked, Groups, KeptGroup}
 use Rattle.std.specs.HashMap as hash
-use Rattle.std.specs.Prelude.{slice_get}
-use Rattle.std.proofs.lemmas.List.Elements.{All-set}
-use Rattle.std.proofs.lemmas.Result.{on_ok_weaker}
-use Rattle.pgp_map.specs.Pools.{is_same_group}
-use Rattle.pgp_group.specs.Entries.{incs_of}
-use Rattle.pgp_log.specs.KeptGroup.{is_marked}
-use Rattle.pgp_log.specs.declared.groups.Groups.{Groups}
-use Rattle.pgp_log.specs.declared.kept_group.KeptGroup.{KeptGroup}
 use Rattle.pgp_log.proofs.FitsLemmas.{nothing_ahead}
 use Rattle.pgp_log.proofs.GroupsLemmas.{groups-anew, groups-on, ids-set, kept-at, kept-within, missing-group, other-group, place-holds, row-within}
 use Rattle.pgp_log.proofs.KeptLemmas.{kept-inc, kept-untold}

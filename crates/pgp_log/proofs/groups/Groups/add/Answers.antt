@@ -1,16 +1,6 @@
-use Rattle.std.proofs.Common.{◌≡◌, true, false, List, [], ◌∷◌, ◌++◌, ℕ, Some, cond, refl, sym, ap, ◌∙◌, subst}
+use Rattle.pgp_log.proofs.Common.{◌≡◌, true, false, List, [], ◌∷◌, ◌++◌, ℕ, Some, cond, refl, sym, ap, ◌∙◌, subst, All-push, PgId, then_with, has_group, is_same_group, incs_of, keeps, AreAllMarked, ids_of, is_marked, marks_in, is_among, Groups, KeptGroup}
 use Rattle.std.specs.HashMap as hash
-use Rattle.std.proofs.lemmas.List.Elements.{All-push}
 use Rattle.pgp_ids.specs.declared.entry.Entry.TheVariants as entry
-use Rattle.pgp_ids.specs.declared.pg_id.PgId.{PgId}
-use Rattle.pgp_map.specs.MapFault.{then_with}
-use Rattle.pgp_map.specs.Pools.{has_group, is_same_group}
-use Rattle.pgp_group.specs.Entries.{incs_of}
-use Rattle.pgp_log.specs.Groups.{keeps}
-use Rattle.pgp_log.specs.KeptGroup.{AreAllMarked, ids_of, is_marked, marks_in}
-use Rattle.pgp_log.specs.Shard.{is_among}
-use Rattle.pgp_log.specs.declared.groups.Groups.{Groups}
-use Rattle.pgp_log.specs.declared.kept_group.KeptGroup.{KeptGroup}
 use Rattle.pgp_log.proofs.GroupsLemmas.{groups-more, keeps-found, keeps-last, keeps-others}
 use Rattle.pgp_log.proofs.KeptLemmas.{step-fine}
 use Rattle.pgp_log.proofs.MarksLemmas.{marks-push, other-pool}

@@ -1,7 +1,4 @@
-use Rattle.std.proofs.Common.{refl, ◌∙◌, arith}
-use Rattle.pgp_map.specs.MapFault.{then_with}
-use Rattle.pgp_group.specs.Entries.{incs_of}
-use Rattle.pgp_log.specs.declared.groups.Groups.{Groups}
+use Rattle.pgp_log.proofs.Common.{refl, ◌∙◌, arith, then_with, incs_of, Groups}
 use Rattle.pgp_log.proofs.OwnGroupsLemmas.{pool-more, still-on}
 use Rattle.pgp_log.proofs.groups.Groups.add_pool.Goals as goal
 

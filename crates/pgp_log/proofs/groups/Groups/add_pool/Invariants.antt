@@ -1,13 +1,4 @@
-use Rattle.std.proofs.Common.{◌≡◌, ◌<◌, true, false, List}
-use Rattle.std.specs.Prelude.{nat_eq}
-use Rattle.pgp_ids.specs.declared.entry.Entry.{Entry}
-use Rattle.pgp_ids.specs.declared.incremental.Incremental.{Incremental}
-use Rattle.pgp_ids.specs.declared.pg_id.PgId.{PgId}
-use Rattle.pgp_map.specs.MapFault.{then_with}
-use Rattle.pgp_group.specs.Entries.{incs_of}
-use Rattle.pgp_group.specs.GroupHistory.{makes}
-use Rattle.pgp_log.specs.Groups.{HasStill, IsKeptIfOwn, IsStepping, marks_of}
-use Rattle.pgp_log.specs.Shard.{is_among}
+use Rattle.pgp_log.proofs.Common.{◌≡◌, ◌<◌, true, false, List, nat_eq, Entry, Incremental, PgId, then_with, incs_of, makes, HasStill, IsKeptIfOwn, IsStepping, marks_of, is_among}
 use Rattle.pgp_log.proofs.groups.Groups.add_pool.Given as goal
 
 abbrev pub invariant-loop-number : goal.invariant-loop-number

@@ -1,13 +1,4 @@
-use Rattle.std.proofs.Common.{◌≡◌, ◌<◌, Some, length, slice_get, get_or, refl, ap, ◌∙◌}
-use Rattle.std.specs.List.{list_any}
-use Rattle.std.specs.Prelude.{nat_eq}
-use Rattle.std.proofs.lemmas.List.{take_all}
-use Rattle.std.proofs.lemmas.Option.{slice_get_read}
-use Rattle.pgp_ids.specs.declared.pool.PoolSpec.{PoolSpec}
-use Rattle.pgp_lists.proofs.Lists.{none-at}
-use Rattle.pgp_map.specs.MapFault.{then_with}
-use Rattle.pgp_group.specs.Entries.{incs_of}
-use Rattle.pgp_log.specs.declared.groups.Groups.{Groups}
+use Rattle.pgp_log.proofs.Common.{◌≡◌, ◌<◌, Some, length, slice_get, get_or, refl, ap, ◌∙◌, list_any, nat_eq, take_all, slice_get_read, PoolSpec, none-at, then_with, incs_of, Groups}
 use Rattle.pgp_log.proofs.OwnGroupsLemmas.{made-here, own-next, pools-more, still-on}
 use Rattle.pgp_log.proofs.groups.Groups.add_pools.Goals as goal
 

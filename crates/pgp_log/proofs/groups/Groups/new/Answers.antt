@@ -1,8 +1,4 @@
-use Rattle.std.proofs.Common.{◌≡◌, false, rules, refl, sym, ◌∙◌}
-use Rattle.std.proofs.lemmas.Bool.{and_right}
-use Rattle.pgp_log.specs.Groups.{owns}
-use Rattle.pgp_log.specs.KeptGroup.{ids_of}
-use Rattle.pgp_log.specs.Shard.{is_among}
+use Rattle.pgp_log.proofs.Common.{◌≡◌, false, rules, refl, sym, ◌∙◌, and_right, owns, ids_of, is_among}
 use Rattle.pgp_log.proofs.groups.Groups.new.Goals as goal
 
 pub returns-clause-is : goal.returns-clause-is

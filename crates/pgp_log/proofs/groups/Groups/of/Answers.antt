@@ -1,10 +1,4 @@
-use Rattle.std.proofs.Common.{◌≡◌, ◌+◌, List, [], ◌∷◌, ◌++◌, None, map, take, drop, ap, sym, subst}
-use Rattle.std.proofs.lemmas.List.{take_all}
-use Rattle.std.specs.Arc.{arc_value}
-use Rattle.pgp_ids.specs.declared.entry.Entry.{Entry}
-use Rattle.pgp_log.specs.Groups.{AreOwnGroupsOf, CanAbsorb}
-use Rattle.pgp_log.specs.Fits.{fits}
-use Rattle.pgp_log.specs.Log.{HasInc}
+use Rattle.pgp_log.proofs.Common.{◌≡◌, ◌+◌, List, [], ◌∷◌, ◌++◌, None, map, take, drop, ap, sym, subst, take_all, arc_value, Entry, AreOwnGroupsOf, CanAbsorb, fits, HasInc}
 use Rattle.pgp_log.proofs.ComingLemmas.{inc-front}
 use Rattle.pgp_log.proofs.SharedLemmas.{map-next, next-front, next-of-legal, on_err}
 use Rattle.pgp_log.proofs.groups.Groups.of.Goals as goal

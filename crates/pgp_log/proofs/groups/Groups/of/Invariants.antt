@@ -1,7 +1,4 @@
-use Rattle.std.proofs.Common.{map, take}
-use Rattle.std.specs.Arc.{arc_value}
-use Rattle.pgp_log.specs.Groups.{AreOwnGroupsOf}
-use Rattle.pgp_log.specs.KeptGroup.{AreAllMarked}
+use Rattle.pgp_log.proofs.Common.{map, take, arc_value, AreOwnGroupsOf, AreAllMarked}
 use Rattle.pgp_log.proofs.groups.Groups.of.Given as goal
 
 abbrev pub invariant-loop-entry : goal.invariant-loop-entry

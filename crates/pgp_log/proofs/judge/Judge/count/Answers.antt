@@ -1,4 +1,4 @@
-use Rattle.std.proofs.Common.{arith}
+use Rattle.pgp_log.proofs.Common.{arith}
 use Rattle.pgp_log.proofs.LogLemmas.{legal-short}
 use Rattle.pgp_log.proofs.judge.Judge.count.Goals as goal
 

@@ -1,5 +1,4 @@
-use Rattle.std.proofs.Common.{sym, ◌∙◌}
-use Rattle.pgp_group.specs.Entries.{incs_of}
+use Rattle.pgp_log.proofs.Common.{sym, ◌∙◌, incs_of}
 use Rattle.pgp_log.proofs.TakeLemmas.{epoch-inc, epoch-other}
 use Rattle.pgp_log.proofs.judge.Judge.epoch_with.Goals as goal
 

@@ -1,6 +1,5 @@
-use Rattle.std.proofs.Common.{◌≡◌, Err, ap, sym, ◌∙◌}
+use Rattle.pgp_log.proofs.Common.{◌≡◌, Err, ap, sym, ◌∙◌, inc_of}
 use Rattle.pgp_ids.specs.declared.refusal.Refusal.TheVariants.{Memory}
-use Rattle.pgp_group.specs.Entries.{inc_of}
 use Rattle.pgp_log.proofs.JudgeLemmas.{lacked}
 use Rattle.pgp_log.proofs.judge.Judge.fault_of.Goals as goal
 

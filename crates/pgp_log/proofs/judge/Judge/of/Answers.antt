@@ -1,9 +1,4 @@
-use Rattle.std.proofs.Common.{◌≡◌, [], ◌∷◌, ◌++◌, List, None, map, take, ap, sym, ◌∙◌, subst, arith}
-use Rattle.std.proofs.lemmas.List.{take_all}
-use Rattle.std.specs.Arc.{arc_value}
-use Rattle.pgp_ids.specs.declared.entry.Entry.{Entry}
-use Rattle.pgp_log.specs.Fits.{fits}
-use Rattle.pgp_log.specs.Judge.{IsJudgeOf}
+use Rattle.pgp_log.proofs.Common.{◌≡◌, [], ◌∷◌, ◌++◌, List, None, map, take, ap, sym, ◌∙◌, subst, arith, take_all, arc_value, Entry, fits, IsJudgeOf}
 use Rattle.pgp_log.proofs.SharedLemmas.{next-after, next-of-legal}
 use Rattle.pgp_log.proofs.judge.Judge.of.Goals as goal
 

@@ -1,6 +1,4 @@
-use Rattle.std.proofs.Common.{map, take}
-use Rattle.std.specs.Arc.{arc_value}
-use Rattle.pgp_log.specs.Judge.{IsJudgeOf}
+use Rattle.pgp_log.proofs.Common.{map, take, arc_value, IsJudgeOf}
 use Rattle.pgp_log.proofs.judge.Judge.of.Given as goal
 
 abbrev pub invariant-loop-entry : goal.invariant-loop-entry

@@ -1,4 +1,4 @@
-use Rattle.std.proofs.Common.{◌≤◌, ◌∷◌, [], sym, ◌∙◌, arith, length-append}
+use Rattle.pgp_log.proofs.Common.{◌≤◌, ◌∷◌, [], sym, ◌∙◌, arith, length-append}
 use Rattle.pgp_log.proofs.LogLemmas.{legal-short, legal-snoc}
 use Rattle.pgp_log.proofs.TakeLemmas.{closed-push, faultless-tree, fits-faultless, fits-open_log}
 use Rattle.pgp_log.proofs.judge.Judge.take.Goals as goal

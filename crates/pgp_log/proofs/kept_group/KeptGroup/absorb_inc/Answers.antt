@@ -1,5 +1,4 @@
-use Rattle.std.proofs.Common.{sym, ◌∙◌}
-use Rattle.std.proofs.lemmas.Bool.{true≢false}
+use Rattle.pgp_log.proofs.Common.{sym, ◌∙◌, true≢false}
 use Rattle.pgp_log.proofs.KeptLemmas.{kept-there}
 use Rattle.pgp_log.proofs.SharedLemmas.{on_err}
 use Rattle.pgp_log.proofs.kept_group.KeptGroup.absorb_inc.Goals as goal

@@ -1,6 +1,4 @@
-use Rattle.std.proofs.Common.{refl}
-use Rattle.std.proofs.lemmas.Result.{on_ok_weaker}
-use Rattle.pgp_log.specs.declared.kept_group.KeptGroup.{KeptGroup}
+use Rattle.pgp_log.proofs.Common.{refl, on_ok_weaker, KeptGroup}
 use Rattle.pgp_log.proofs.KeptLemmas.{group-still, kept-told}
 use Rattle.pgp_log.proofs.kept_group.KeptGroup.absorb_report.Goals as goal
 

@@ -1,4 +1,4 @@
-use Rattle.std.proofs.Common.{refl}
+use Rattle.pgp_log.proofs.Common.{refl}
 use Rattle.pgp_log.proofs.KeptLemmas.{kept-begun}
 use Rattle.pgp_log.proofs.kept_group.KeptGroup.begin.Goals as goal
 

@@ -1,6 +1,4 @@
-use Rattle.std.proofs.Common.{◌||◌, ap, sym, ◌∙◌}
-use Rattle.std.specs.List.{list_any}
-use Rattle.pgp_group.specs.Touched.{changed_devices, has_to_do_with}
+use Rattle.pgp_log.proofs.Common.{◌||◌, ap, sym, ◌∙◌, list_any, changed_devices, has_to_do_with}
 use Rattle.pgp_log.proofs.TouchLemmas.{changed-parts}
 use Rattle.pgp_log.proofs.kept_group.KeptGroup.is_touched.Goals as goal
 

@@ -1,5 +1,4 @@
-use Rattle.std.proofs.Common.{sym, ◌∙◌}
-use Rattle.std.proofs.lemmas.Bool.{true≢false}
+use Rattle.pgp_log.proofs.Common.{sym, ◌∙◌, true≢false}
 use Rattle.pgp_log.proofs.TouchLemmas.{kept-marked, kept-stays, kept-unseen}
 use Rattle.pgp_log.proofs.kept_group.KeptGroup.mark.Goals as goal
 

@@ -1,6 +1,4 @@
-use Rattle.std.proofs.Common.{sym, ◌∙◌}
-use Rattle.pgp_group.specs.Entries.{incs_of}
-use Rattle.pgp_group.specs.Touched.{may_lie_on}
+use Rattle.pgp_log.proofs.Common.{sym, ◌∙◌, incs_of, may_lie_on}
 use Rattle.pgp_log.proofs.TouchLemmas.{lies-touches, turned-parts}
 use Rattle.pgp_log.proofs.kept_group.KeptGroup.may_move.Goals as goal
 

@@ -1,12 +1,4 @@
-use Rattle.std.proofs.Common.{◌≡◌, Some, sym, ap, ◌∙◌, subst}
-use Rattle.std.specs.Option.{option_map}
-use Rattle.std.proofs.lemmas.Result.{on_ok_weaker}
-use Rattle.pgp_group.specs.Entries.{incs_of}
-use Rattle.pgp_group.specs.GroupHistory.{primary_facts}
-use Rattle.pgp_group.specs.GroupOf.{Follows, IsGroupOf}
-use Rattle.pgp_group.specs.Reaching.{reaching}
-use Rattle.pgp_group.specs.declared.group.Group.{Group}
-use Rattle.pgp_log.specs.declared.kept_group.KeptGroup.{KeptGroup}
+use Rattle.pgp_log.proofs.Common.{◌≡◌, Some, sym, ap, ◌∙◌, subst, option_map, on_ok_weaker, incs_of, primary_facts, Follows, IsGroupOf, reaching, Group, KeptGroup}
 use Rattle.pgp_log.proofs.KeptLemmas.{group-still, kept-follows, kept-moved, kept-there}
 use Rattle.pgp_log.proofs.kept_group.KeptGroup.move_on.Goals as goal
 

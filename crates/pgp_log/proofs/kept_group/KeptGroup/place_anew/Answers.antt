@@ -1,6 +1,4 @@
-use Rattle.std.proofs.Common.{sym, subst}
-use Rattle.pgp_group.specs.Entries.{incs_of}
-use Rattle.pgp_log.specs.RawSets.{IsRawSet}
+use Rattle.pgp_log.proofs.Common.{sym, subst, incs_of, IsRawSet}
 use Rattle.pgp_log.proofs.KeptLemmas.{kept_raw-stays, raw-anew, temp-anew}
 use Rattle.pgp_log.proofs.kept_group.KeptGroup.place_anew.Goals as goal
 

@@ -1,5 +1,4 @@
-use Rattle.std.proofs.Common.{refl}
-use Rattle.pgp_group.specs.Entries.{incs_of}
+use Rattle.pgp_log.proofs.Common.{refl, incs_of}
 use Rattle.pgp_log.proofs.KeptLemmas.{group-still, kept-anew, kept-worked_out}
 use Rattle.pgp_log.proofs.kept_group.KeptGroup.renew.Goals as goal
 

@@ -1,7 +1,4 @@
-use Rattle.std.proofs.Common.{sym, ◌∙◌}
-use Rattle.std.proofs.lemmas.Bool.{true≢false}
-use Rattle.pgp_map.specs.Map.{epoch}
-use Rattle.pgp_group.specs.Entries.{incs_of}
+use Rattle.pgp_log.proofs.Common.{sym, ◌∙◌, true≢false, epoch, incs_of}
 use Rattle.pgp_log.proofs.RowLemmas.{row-is}
 use Rattle.pgp_log.proofs.kept_group.KeptGroup.row.Goals as goal
 use Rattle.pgp_log.proofs.kept_group.KeptGroup.row.Goals.{then-not-marked, else-not-marked}

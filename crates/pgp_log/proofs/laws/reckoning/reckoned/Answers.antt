@@ -1,5 +1,4 @@
-use Rattle.std.proofs.Common.{◌++◌}
-use Rattle.pgp_group.proofs.LaterLemmas.{is_after}
+use Rattle.pgp_log.proofs.Common.{◌++◌, is_after}
 use Rattle.pgp_log.proofs.laws.reckoning.reckoned.Goals as goal
 
 pub returns : goal.returns

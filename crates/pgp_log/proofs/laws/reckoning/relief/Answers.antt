@@ -1,9 +1,5 @@
-use Rattle.std.proofs.Common.{List, [], ◌∷◌, ◌++◌, sym, subst}
-use Rattle.pgp_ids.specs.declared.entry.Entry.{Entry}
+use Rattle.pgp_log.proofs.Common.{List, [], ◌∷◌, ◌++◌, sym, subst, Entry, is_after, log-in, incs_of, TakesNothingAway}
 use Rattle.pgp_ids.specs.declared.entry.Entry.TheVariants as entry
-use Rattle.pgp_group.proofs.LaterLemmas.{is_after, log-in}
-use Rattle.pgp_group.specs.Entries.{incs_of}
-use Rattle.pgp_group.specs.Reckoning.{TakesNothingAway}
 use Rattle.pgp_log.proofs.laws.reckoning.relief.Goals as goal
 
 pub returns : goal.returns

@@ -1,11 +1,4 @@
-use Rattle.std.proofs.Common.{◌≡◌, ◌++◌, ◌⊎◌, is_some, ap, sym, subst, ◌∙◌}
-use Rattle.std.specs.List.{Contains}
-use Rattle.pgp_ids.specs.declared.view.View.{View}
-use Rattle.pgp_lists.proofs.Options.{map_some, some_mapped}
-use Rattle.pgp_group.proofs.LaterLemmas.{is_after}
-use Rattle.pgp_group.specs.GroupLog.{group_in}
-use Rattle.pgp_group.specs.Reckoning.{WentReadWrite}
-use Rattle.pgp_group.specs.View.{view_of}
+use Rattle.pgp_log.proofs.Common.{◌≡◌, ◌++◌, ◌⊎◌, is_some, ap, sym, subst, ◌∙◌, Contains, View, map_some, some_mapped, is_after, group_in, WentReadWrite, view_of}
 use Rattle.pgp_log.proofs.laws.reckoning.served.Goals as goal
 
 pub returns : goal.returns

@@ -1,5 +1,4 @@
-use Rattle.std.proofs.Common.{ℕ, subst}
-use Rattle.pgp_log.specs.OsdFilter.{Covers}
+use Rattle.pgp_log.proofs.Common.{ℕ, subst, Covers}
 use Rattle.pgp_log.proofs.OsdFilterLemmas.{added, still-added, with_osd}
 use Rattle.pgp_log.proofs.osd_filter.OsdFilter.add.Goals as goal
 

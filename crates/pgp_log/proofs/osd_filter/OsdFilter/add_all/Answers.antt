@@ -1,6 +1,4 @@
-use Rattle.std.proofs.Common.{◌∙◌, nat_eq, sym, subst, arith}
-use Rattle.std.proofs.lemmas.Bool.{eqb-true}
-use Rattle.pgp_log.specs.OsdFilter.{Covers}
+use Rattle.pgp_log.proofs.Common.{◌∙◌, nat_eq, sym, subst, arith, eqb-true, Covers}
 use Rattle.pgp_log.proofs.OsdFilterLemmas.{covers-all, covers-more}
 use Rattle.pgp_log.proofs.osd_filter.OsdFilter.add_all.Goals as goal
 

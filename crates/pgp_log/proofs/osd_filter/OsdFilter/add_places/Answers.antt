@@ -1,5 +1,4 @@
-use Rattle.std.proofs.Common.{◌≡◌, ℕ, Option, Some, true, nat_eq, sym, subst, arith}
-use Rattle.std.specs.Option.{option_eq}
+use Rattle.pgp_log.proofs.Common.{◌≡◌, ℕ, Option, Some, true, nat_eq, sym, subst, arith, option_eq}
 use Rattle.pgp_log.proofs.OsdFilterLemmas.{covers-all, covers-more}
 use Rattle.pgp_log.proofs.osd_filter.OsdFilter.add_places.Goals as goal
 

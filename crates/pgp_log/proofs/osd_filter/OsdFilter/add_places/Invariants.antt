@@ -1,6 +1,4 @@
-use Rattle.std.proofs.Common.{◌≡◌, ℕ, true, take}
-use Rattle.pgp_group.specs.Touched.{has_osd}
-use Rattle.pgp_log.specs.OsdFilter.{Covers, CoversStill}
+use Rattle.pgp_log.proofs.Common.{◌≡◌, ℕ, true, take, has_osd, Covers, CoversStill}
 use Rattle.pgp_log.proofs.osd_filter.OsdFilter.add_places.Given as goal
 
 abbrev pub invariant-loop-place : goal.invariant-loop-place

@@ -1,7 +1,4 @@
-use Rattle.std.proofs.Common.{◌∙◌, nat_eq, sym, ap, subst, arith}
-use Rattle.std.proofs.lemmas.Bool.{eqb-true}
-use Rattle.pgp_ids.specs.declared.incremental.DeviceEpoch.{DeviceEpoch}
-use Rattle.pgp_log.specs.OsdFilter.{Covers}
+use Rattle.pgp_log.proofs.Common.{◌∙◌, nat_eq, sym, ap, subst, arith, eqb-true, DeviceEpoch, Covers}
 use Rattle.pgp_log.proofs.OsdFilterLemmas.{covers-all, covers-more}
 use Rattle.pgp_log.proofs.osd_filter.OsdFilter.add_told.Goals as goal
 

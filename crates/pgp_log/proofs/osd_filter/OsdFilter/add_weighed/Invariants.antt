@@ -1,6 +1,4 @@
-use Rattle.std.proofs.Common.{◌≡◌, ℕ, true, nat_eq, take}
-use Rattle.std.specs.List.{list_any}
-use Rattle.pgp_log.specs.OsdFilter.{Covers, CoversStill}
+use Rattle.pgp_log.proofs.Common.{◌≡◌, ℕ, true, nat_eq, take, list_any, Covers, CoversStill}
 use Rattle.pgp_log.proofs.osd_filter.OsdFilter.add_weighed.Given as goal
 
 abbrev pub invariant-loop-given : goal.invariant-loop-given

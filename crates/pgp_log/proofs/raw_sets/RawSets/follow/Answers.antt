@@ -1,4 +1,4 @@
-use Rattle.std.proofs.Common.{sym, ◌∙◌}
+use Rattle.pgp_log.proofs.Common.{sym, ◌∙◌}
 use Rattle.pgp_log.proofs.RawSetLemmas.{sets-stay}
 use Rattle.pgp_log.proofs.raw_sets.RawSets.follow.Goals as goal
 

@@ -1,8 +1,5 @@
-use Rattle.std.proofs.Common.{◌≡◌, Some, IfSome, rules}
+use Rattle.pgp_log.proofs.Common.{◌≡◌, Some, IfSome, rules, PgId, is_same_group, IsRawSet}
 use Rattle.std.specs.HashMap as hash
-use Rattle.pgp_ids.specs.declared.pg_id.PgId.{PgId}
-use Rattle.pgp_map.specs.Pools.{is_same_group}
-use Rattle.pgp_log.specs.RawSets.{IsRawSet}
 use Rattle.pgp_log.proofs.RawSetLemmas.{filtered, known-is, with-raw_set, either-way}
 use Rattle.pgp_log.proofs.raw_sets.RawSets.members.Goals as goal
 

@@ -1,4 +1,4 @@
-use Rattle.std.proofs.Common.{nat_eq, ◌∙◌}
+use Rattle.pgp_log.proofs.Common.{nat_eq, ◌∙◌}
 use Rattle.pgp_log.proofs.RowLemmas.{either-in}
 use Rattle.pgp_log.proofs.TouchLemmas.{changed-parts, turned-parts}
 use Rattle.pgp_log.proofs.row.Changes.of.Goals as goal

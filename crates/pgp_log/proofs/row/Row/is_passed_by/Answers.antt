@@ -1,10 +1,4 @@
-use Rattle.std.proofs.Common.{◌≡◌, ◌⊎◌, ◌||◌, false, sym, inl, inr, subst, ◌∙◌}
-use Rattle.std.proofs.lemmas.Bool.{not-true, true≢false}
-use Rattle.pgp_group.specs.Touched.{changes_pool, changes_temp, moves_all}
-use Rattle.pgp_log.specs.KeptGroup.{may_place}
-use Rattle.pgp_log.specs.OsdFilter.{Covers}
-use Rattle.pgp_log.specs.declared.osd_filter.OsdFilter.{OsdFilter}
-use Rattle.pgp_log.specs.declared.row.Row.{Row}
+use Rattle.pgp_log.proofs.Common.{◌≡◌, ◌⊎◌, ◌||◌, false, sym, inl, inr, subst, ◌∙◌, not-true, true≢false, changes_pool, changes_temp, moves_all, may_place, Covers, OsdFilter, Row}
 use Rattle.pgp_log.proofs.RowLemmas.{passed-by}
 use Rattle.pgp_log.proofs.row.Row.is_passed_by.Goals as goal
 use Rattle.pgp_log.proofs.row.Row.is_passed_by.Goals.{else-may_place-via-then-may_place+else-changes_placement, else-may_place-via-else-may_place}

@@ -1,7 +1,4 @@
-use Rattle.std.proofs.Common.{sym, inl, subst, ◌∙◌}
-use Rattle.std.proofs.lemmas.Bool.{not-true, true≢false}
-use Rattle.pgp_log.specs.OsdFilter.{Covers}
-use Rattle.pgp_log.specs.declared.osd_filter.OsdFilter.{OsdFilter}
+use Rattle.pgp_log.proofs.Common.{sym, inl, subst, ◌∙◌, not-true, true≢false, Covers, OsdFilter}
 use Rattle.pgp_log.proofs.RowLemmas.{passed-by}
 use Rattle.pgp_log.proofs.rows.Block.is_apart.Goals as goal
 

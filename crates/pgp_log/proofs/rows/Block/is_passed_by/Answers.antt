@@ -1,5 +1,4 @@
-use Rattle.std.proofs.Common.{sym}
-use Rattle.std.proofs.lemmas.Bool.{true≢false}
+use Rattle.pgp_log.proofs.Common.{sym, true≢false}
 use Rattle.pgp_log.proofs.rows.Block.is_passed_by.Goals as goal
 
 pub returns-then-is_apart : goal.returns-then-is_apart

@@ -1,10 +1,4 @@
-use Rattle.std.proofs.Common.{◌≡◌, ◌/◌, length, Some, List, refl, sym, ap, ◌∙◌, subst, inl, inr, arith}
-use Rattle.std.specs.Prelude.{slice_get}
-use Rattle.std.proofs.lemmas.Bool.{cases_lt}
-use Rattle.std.proofs.lemmas.Option.{same_Some, slice_get_read, slice_get_within}
-use Rattle.pgp_log.specs.KeptGroup.{IsPassedByRow}
-use Rattle.pgp_log.specs.declared.row.Row.{Row}
-use Rattle.pgp_log.specs.declared.rows.Block.{Block}
+use Rattle.pgp_log.proofs.Common.{◌≡◌, ◌/◌, length, Some, List, refl, sym, ap, ◌∙◌, subst, inl, inr, arith, slice_get, cases_lt, same_Some, slice_get_read, slice_get_within, IsPassedByRow, Row, Block}
 use Rattle.pgp_log.proofs.RowsLemmas.{in-block}
 use Rattle.pgp_log.proofs.rows.Rows.next.Goals as goal
 

@@ -1,7 +1,4 @@
-use Rattle.std.proofs.Common.{◌≡◌, ◌<◌, ◌≤◌, ◌-◌, ℕ, Some, length}
-use Rattle.std.specs.Prelude.{slice_get}
-use Rattle.pgp_log.specs.KeptGroup.{IsPassedByRow}
-use Rattle.pgp_log.specs.declared.row.Row.{Row}
+use Rattle.pgp_log.proofs.Common.{◌≡◌, ◌<◌, ◌≤◌, ◌-◌, ℕ, Some, length, slice_get, IsPassedByRow, Row}
 use Rattle.pgp_log.proofs.rows.Rows.next.Given as goal
 
 abbrev pub invariant-loop-place : goal.invariant-loop-place

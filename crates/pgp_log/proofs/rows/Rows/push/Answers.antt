@@ -1,9 +1,4 @@
-use Rattle.std.proofs.Common.{◌≡◌, ◌/◌, ◌<◌, [], ◌∷◌, List, Some, length, refl, ap, ◌∙◌, arith, length-append}
-use Rattle.std.specs.Prelude.{slice_get}
-use Rattle.std.proofs.lemmas.Option.{slice_get_read}
-use Rattle.pgp_log.specs.Rows.{AreInBlocks}
-use Rattle.pgp_log.specs.declared.row.Row.{Row}
-use Rattle.pgp_log.specs.declared.rows.Block.{Block}
+use Rattle.pgp_log.proofs.Common.{◌≡◌, ◌/◌, ◌<◌, [], ◌∷◌, List, Some, length, refl, ap, ◌∙◌, arith, length-append, slice_get, slice_get_read, AreInBlocks, Row, Block}
 use Rattle.pgp_log.proofs.RowsLemmas.{blocks-more, blocks-push}
 use Rattle.pgp_log.proofs.rows.Rows.push.Goals as goal
 use Rattle.pgp_log.proofs.rows.Rows.push.Goals.{then-number-len+in_ok-push, else-number-len}

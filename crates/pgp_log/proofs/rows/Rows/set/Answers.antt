@@ -1,5 +1,4 @@
-use Rattle.std.proofs.Common.{◌<◌, length, List, subst, sym}
-use Rattle.pgp_log.specs.declared.row.Row.{Row}
+use Rattle.pgp_log.proofs.Common.{◌<◌, length, List, subst, sym, Row}
 use Rattle.pgp_log.proofs.RowsLemmas.{blocks-set}
 use Rattle.pgp_log.proofs.rows.Rows.set.Goals as goal
 

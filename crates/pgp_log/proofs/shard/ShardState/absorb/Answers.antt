@@ -1,10 +1,4 @@
-use Rattle.std.proofs.Common.{◌≡◌, List, Option, Some, None, map, ap, sym, ◌∙◌, subst}
-use Rattle.std.specs.Arc.{arc_value}
-use Rattle.pgp_ids.specs.declared.entry.Entry.{Entry}
-use Rattle.pgp_log.specs.Groups.{AreOwnGroupsOf, shard_with}
-use Rattle.pgp_log.specs.Fits.{fits}
-use Rattle.pgp_log.specs.Shard.{MarksOnlyTouched, Shard}
-use Rattle.pgp_log.specs.declared.groups.Groups.{Groups}
+use Rattle.pgp_log.proofs.Common.{◌≡◌, List, Option, Some, None, map, ap, sym, ◌∙◌, subst, arc_value, Entry, AreOwnGroupsOf, shard_with, fits, MarksOnlyTouched, Shard, Groups}
 use Rattle.pgp_log.proofs.KeptBesideLemmas.{groups-there, front-longer, marks-away, beside-away, beside-read}
 use Rattle.pgp_log.proofs.shard.ShardState.absorb.Goals as goal
 

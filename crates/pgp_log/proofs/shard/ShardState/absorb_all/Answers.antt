@@ -1,7 +1,4 @@
-use Rattle.std.proofs.Common.{◌≡◌, List, None, sym, ◌∙◌, subst}
-use Rattle.std.specs.Arc.{arc_value}
-use Rattle.pgp_ids.specs.declared.entry.Entry.{Entry}
-use Rattle.pgp_log.specs.Fits.{fits}
+use Rattle.pgp_log.proofs.Common.{◌≡◌, List, None, sym, ◌∙◌, subst, arc_value, Entry, fits}
 use Rattle.pgp_log.proofs.SharedLemmas.{next-of-legal, on_err}
 use Rattle.pgp_log.proofs.ShardLemmas.{read-further, read-some}
 use Rattle.pgp_log.proofs.shard.ShardState.absorb_all.Goals as goal

@@ -1,6 +1,4 @@
-use Rattle.std.proofs.Common.{◌≡◌, is_some, map, take}
-use Rattle.std.specs.Arc.{arc_value}
-use Rattle.pgp_log.specs.Shard.{HasReadSame, having_read_all}
+use Rattle.pgp_log.proofs.Common.{◌≡◌, is_some, map, take, arc_value, HasReadSame, having_read_all}
 use Rattle.pgp_log.proofs.shard.ShardState.absorb_all.Given as goal
 
 abbrev pub invariant-loop-entry : goal.invariant-loop-entry

@@ -1,11 +1,4 @@
-use Rattle.std.proofs.Common.{◌≡◌, List, Some, length, map, arith, sym, ap, ap₂, ◌∙◌}
-use Rattle.std.specs.Arc.{arc_value}
-use Rattle.std.proofs.lemmas.List.{length-map}
-use Rattle.pgp_ids.specs.declared.entry.Entry.{Entry}
-use Rattle.pgp_group.specs.Entries.{incs_of}
-use Rattle.pgp_group.specs.Touched.{told_at}
-use Rattle.pgp_log.specs.Groups.{AreOwnGroupsOf}
-use Rattle.pgp_log.specs.Log.{epoch_of}
+use Rattle.pgp_log.proofs.Common.{◌≡◌, List, Some, length, map, arith, sym, ap, ap₂, ◌∙◌, arc_value, length-map, Entry, incs_of, told_at, AreOwnGroupsOf, epoch_of}
 use Rattle.pgp_log.proofs.KeptBesideLemmas.{groups-there}
 use Rattle.pgp_log.proofs.shard.ShardState.copy.Goals as goal
 

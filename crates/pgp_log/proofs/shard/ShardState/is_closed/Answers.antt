@@ -1,9 +1,5 @@
-use Rattle.std.proofs.Common.{◌≡◌, ◌-◌, length, map, true, ap, sym, ◌∙◌, arith}
-use Rattle.std.specs.Arc.{arc_value}
+use Rattle.pgp_log.proofs.Common.{◌≡◌, ◌-◌, length, map, true, ap, sym, ◌∙◌, arith, arc_value, is_close, is_closed, is_legal, Shard}
 use Rattle.pgp_log.proofs.SharedLemmas.{closed-by-last}
-use Rattle.pgp_log.specs.Fits.{is_close, is_closed}
-use Rattle.pgp_log.specs.Log.{is_legal}
-use Rattle.pgp_log.specs.Shard.{Shard}
 use Rattle.pgp_log.proofs.shard.ShardState.is_closed.Goals as goal
 
 pub returns-in-Some : goal.returns-in-Some

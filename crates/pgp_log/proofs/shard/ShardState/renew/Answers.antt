@@ -1,9 +1,4 @@
-use Rattle.std.proofs.Common.{map, arith, subst}
-use Rattle.std.specs.Arc.{arc_value}
-use Rattle.std.proofs.lemmas.List.{length-map}
-use Rattle.std.proofs.lemmas.Result.{on_err_weaker}
-use Rattle.pgp_log.specs.Log.{HasInc}
-use Rattle.pgp_log.specs.Shard.{Shard}
+use Rattle.pgp_log.proofs.Common.{map, arith, subst, arc_value, length-map, on_err_weaker, HasInc, Shard}
 use Rattle.pgp_log.proofs.shard.ShardState.renew.Goals as goal
 
 pub invariant_of-self-2 : goal.invariant_of-self-2

@@ -1,14 +1,5 @@
-use Rattle.std.proofs.Common.{◌≡◌, List, Option, false, true, length, map, option_map, sym, subst}
-use Rattle.std.specs.Arc.{arc_value}
-use Rattle.std.specs.Option.{option_copied}
-use Rattle.pgp_lists.proofs.Options.{some-weaker}
-use Rattle.pgp_ids.specs.declared.entry.Entry.{Entry}
-use Rattle.pgp_group.specs.Touched.{told_at}
-use Rattle.pgp_group.specs.View.{scratch}
-use Rattle.pgp_log.specs.Groups.{AreOwnGroupsOf, owns, shard_with}
-use Rattle.pgp_log.specs.Log.{epoch_of}
-use Rattle.pgp_log.specs.Shard.{Shard, is_marked, is_own}
-use Rattle.pgp_log.specs.declared.groups.Groups.{Groups}
+use Rattle.pgp_log.proofs.Common.{◌≡◌, List, Option, false, true, length, map, option_map, sym, subst, arc_value, option_copied, some-weaker, Entry, told_at, scratch, AreOwnGroupsOf, owns, shard_with, epoch_of, Shard, is_own, Groups}
+use Rattle.pgp_log.specs.Shard.{is_marked}
 use Rattle.pgp_log.proofs.OwnGroupsLemmas.{view-told}
 use Rattle.pgp_log.proofs.KeptBesideLemmas.{groups-there}
 use Rattle.pgp_log.proofs.shard.ShardState.view_of.Goals as goal

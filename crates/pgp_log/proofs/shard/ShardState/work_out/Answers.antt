@@ -1,10 +1,4 @@
-use Rattle.std.proofs.Common.{◌≡◌, map, true, arith, subst}
-use Rattle.std.specs.Arc.{arc_value}
-use Rattle.std.proofs.lemmas.List.{length-map}
-use Rattle.pgp_map.specs.Pools.{has_group}
-use Rattle.pgp_group.specs.Entries.{incs_of}
-use Rattle.pgp_log.specs.Log.{HasInc}
-use Rattle.pgp_log.specs.Shard.{Shard}
+use Rattle.pgp_log.proofs.Common.{◌≡◌, map, true, arith, subst, arc_value, length-map, has_group, incs_of, HasInc, Shard}
 use Rattle.pgp_log.proofs.shard.ShardState.work_out.Goals as goal
 
 pub invariant_of-self-in_err-there : goal.invariant_of-self-in_err-there

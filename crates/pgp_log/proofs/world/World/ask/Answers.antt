@@ -1,6 +1,4 @@
-use Rattle.std.proofs.Common.{◌≡◌, length, map, ap, ◌∙◌, arith}
-use Rattle.std.specs.Arc.{arc_value}
-use Rattle.pgp_log.specs.Shard.{shard_of}
+use Rattle.pgp_log.proofs.Common.{◌≡◌, length, map, ap, ◌∙◌, arith, arc_value, shard_of}
 use Rattle.pgp_log.proofs.RunningLemmas.{IsShardAt, asked-reply, own-at, still-asked}
 use Rattle.pgp_log.proofs.world.World.ask.Goals as goal
 use Rattle.pgp_log.proofs.world.World.ask.Goals.{After-index_mut-state}

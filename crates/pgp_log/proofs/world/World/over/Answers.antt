@@ -1,8 +1,4 @@
-use Rattle.std.proofs.Common.{◌≡◌, ℕ, List, length, map, replicate, ap, ap₂, ◌∙◌}
-use Rattle.std.specs.Arc.{arc_value}
-use Rattle.pgp_ids.specs.declared.entry.Entry.{Entry}
-use Rattle.pgp_log.specs.Shard.{Shard}
-use Rattle.pgp_log.specs.World.{World}
+use Rattle.pgp_log.proofs.Common.{◌≡◌, ℕ, List, length, map, replicate, ap, ap₂, ◌∙◌, arc_value, Entry, Shard, World}
 use Rattle.pgp_log.proofs.RunningLemmas.{openings-read, openings-running}
 use Rattle.pgp_log.proofs.world.World.over.Goals as goal
 

@@ -1,7 +1,4 @@
-use Rattle.std.proofs.Common.{rules, ◌≡◌, [], ◌∷◌, None, map}
-use Rattle.std.specs.Arc.{arc_value}
-use Rattle.std.proofs.lemmas.List.{map-append}
-use Rattle.pgp_log.specs.Fits.{fits}
+use Rattle.pgp_log.proofs.Common.{rules, ◌≡◌, [], ◌∷◌, None, map, arc_value, map-append, fits}
 use Rattle.pgp_log.proofs.RunningLemmas.{longer-running}
 use Rattle.pgp_log.proofs.world.World.take.Goals as goal
 

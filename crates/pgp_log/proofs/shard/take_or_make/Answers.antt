@@ -1,9 +1,7 @@
-use Rattle.std.proofs.Common.{◌≡◌, Option, Some, None, map}
-use Rattle.std.specs.Arc.{arc_value}
-use Rattle.pgp_log.specs.declared.groups.Groups.{Groups}
+use Rattle.pgp_log.proofs.Common.{◌≡◌, Option, Some, None, map, arc_value, Groups}
 use Rattle.pgp_log.proofs.KeptBesideLemmas.{groups-there, marked-anew, marked-there}
 use Rattle.pgp_log.proofs.SharedLemmas.{ok-both}
-use Rattle.pgp_log.proofs.shard.taken.Goals as goal
+use Rattle.pgp_log.proofs.shard.take_or_make.Goals as goal
 
 pub returns-in-None-clause-marks : goal.returns-in-None-clause-marks
 returns-in-None-clause-marks c =

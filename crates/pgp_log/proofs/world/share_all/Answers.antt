@@ -1,9 +1,6 @@
-use Rattle.std.proofs.Common.{[], ◌∷◌, ◌++◌, List, map, ap, ap₂, sym, ◌∙◌, arith}
-use Rattle.std.proofs.lemmas.List.{map-append, take_all}
-use Rattle.std.specs.Arc.{arc_value}
-use Rattle.pgp_ids.specs.declared.entry.Entry.{Entry}
+use Rattle.pgp_log.proofs.Common.{[], ◌∷◌, ◌++◌, List, map, ap, ap₂, sym, ◌∙◌, arith, map-append, take_all, arc_value, Entry}
 use Rattle.pgp_log.proofs.SharedLemmas.{map-next}
-use Rattle.pgp_log.proofs.world.shared.Goals as goal
+use Rattle.pgp_log.proofs.world.share_all.Goals as goal
 
 pub loop-entry-preserved : goal.loop-entry-preserved
 loop-entry-preserved c =
