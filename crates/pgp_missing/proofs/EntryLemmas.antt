@@ -27,9 +27,9 @@ use Rattle.pgp_ids.specs.declared.peer.PeerState.TheVariants.{Missing}
 use Rattle.pgp_ids.specs.declared.report.Info.{Info}
 use Rattle.pgp_ids.specs.declared.version.Version.{Version}
 use Rattle.pgp_missing.specs.Last.{put_in}
-use Rattle.pgp_missing.specs.Log.{number_of, log_of, has_version}
+use Rattle.pgp_missing.specs.Log.{number_of, between, log_of, has_version}
 use Rattle.pgp_missing.specs.Missing.{entries_above, object_of, by_object, missing_by, is_modify, missing_above, peer_state}
-use Rattle.pgp_missing.specs.Kept.{KeptLog, IsLogOf, between, numbered, named}
+use Rattle.pgp_missing.specs.Kept.{KeptLog, IsLogOf, numbered, named}
 use Rattle.pgp_missing.specs.declared.entries.Write.{Write}
 use Rattle.pgp_missing.specs.declared.entries.Newest.{Newest}
 use Rattle.pgp_missing.proofs.LastLemmas.{map-insert_entry}

@@ -1,5 +1,5 @@
 -- The log of a member as it is kept while its entries come (this project's own choice).
-use Rattle.std.specs.Prelude.{◌≡◌, ℕ, List, ◌&&◌, nat_lt, nat_le, filter}
+use Rattle.std.specs.Prelude.{◌≡◌, ℕ, List}
 use Rattle.pgp_ids.specs.declared.log_entry.LogEntry.{LogEntry}
 use Rattle.pgp_ids.specs.declared.report.Info.{Info}
 use Rattle.pgp_ids.specs.declared.version.Version.{Version}
@@ -13,16 +13,12 @@ pub record KeptLog : Type 0 where
   pub last_update : Version
   pub entries : List LogEntry
 
--- what is kept is the log of the member with this info, by all entries that it reported: it lies between the versions of
--- the info, and of each number the last entry is kept
+-- the log is that of the member with this info: its bounds are those of the info, and of each number it keeps the last entry
+-- that the member reported
 pub record IsLogOf (info : Info) (reported : List LogEntry) (log : KeptLog) : Type 0 where
   pub from_tail : log.log_tail ≡ info.log_tail
   pub to_last : log.last_update ≡ info.last_update
   pub of_reported : log.entries ≡ by_number reported
-
--- the entries with numbers above the first one and up to the last one
-abbrev pub between : ℕ → ℕ → List LogEntry → List LogEntry
-between above last entries = filter (λ entry. nat_lt above entry.version.v && nat_le entry.version.v last) entries
 
 -- the entry of this number
 abbrev pub numbered : ℕ × Write → LogEntry

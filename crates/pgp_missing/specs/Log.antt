@@ -28,9 +28,13 @@ IsByNumber entries = AllPairs (λ a b. a.version.v < b.version.v) entries
 abbrev pub is_in_log : Info → ℕ → Bool
 is_in_log info v = nat_lt info.log_tail.v v && nat_le v info.last_update.v
 
+-- the entries whose number is above the first number and up to the second
+abbrev pub between : ℕ → ℕ → List LogEntry → List LogEntry
+between above last entries = filter (λ entry. nat_lt above entry.version.v && nat_le entry.version.v last) entries
+
 -- the entries with the numbers of the log
 abbrev pub within : Info → List LogEntry → List LogEntry
-within info entries = filter (λ entry. is_in_log info entry.version.v) entries
+within info entries = between info.log_tail.v info.last_update.v entries
 
 -- the member's log: for each number above that of log_tail up to that of last_update, the last entry with it
 abbrev pub log_of : Info → List LogEntry → List LogEntry

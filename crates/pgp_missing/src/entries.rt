@@ -3,9 +3,9 @@
 ghost use Rattle.std.specs.Prelude.{◌≡◌, ◌-◌, [], length, map, nat_eq, IfOk, OnOk, OnErr};
 ghost use Rattle.std.specs.Ordering.{nat_cmp};
 ghost use Rattle.pgp_missing.specs.Last.{put_in};
-ghost use Rattle.pgp_missing.specs.Log.{number_of, has_version, is_rising_from};
+ghost use Rattle.pgp_missing.specs.Log.{number_of, between, has_version, is_rising_from};
 ghost use Rattle.pgp_missing.specs.Missing.{by_object, missing_above};
-ghost use Rattle.pgp_missing.specs.Kept.{between, numbered, named};
+ghost use Rattle.pgp_missing.specs.Kept.{numbered, named};
 
 use pgp_ids::{Change, Epoch, LogEntry, MissingObject, ObjectName, Seq, Version};
 use std::alloc::{AllocError, Global};

@@ -86,9 +86,7 @@ impl MemberLog {
 
     /// Takes the info that the member sent last, which sets the bounds of its log. The entries that were added stay.
     pub fn renew(&mut self, info: &Info)
-        ensures log { (before : Info) (reported : List LogEntry)
-            → IsLogOf before reported self.old → IsLogOf info.now reported self.new }
-        ensures bounds { (reported : List LogEntry) → self.old.entries ≡ by_number reported
+        ensures { (reported : List LogEntry) → self.old.entries ≡ by_number reported
             → IsLogOf info.now reported self.new }
     {
         self.log_tail = info.log_tail;
@@ -101,13 +99,13 @@ impl MemberLog {
         ensures { (info : Info) (reported : List LogEntry)
             → IsLogOf info reported self.now → result ≡ is_whole info reported }
     {
-        let (tail, last) = (self.log_tail, self.last_update);
-        if last == tail {
+        let (tail, end) = (self.log_tail, self.last_update);
+        if end == tail {
             return true;
         }
-        self.entries.is_full(tail.v, last.v)
-            && self.entries.has_version(tail.v, last.v, last)
-            && self.entries.is_rising(tail, last.v)
+        self.entries.is_full(tail.v, end.v)
+            && self.entries.has_version(tail.v, end.v, end)
+            && self.entries.is_rising(tail, end.v)
     }
 
     /// How the copy of the member with this info compares with that of the log's member. The log has to be whole.
@@ -117,15 +115,15 @@ impl MemberLog {
         ensures { IfOk result (λ state. (info : Info) (reported : List LogEntry)
             → IsLogOf info reported self.now → state ≡ peer_state info reported peer.now) }
     {
-        let (tail, end) = (self.log_tail, self.last_update.v);
-        let last = peer.last_update;
-        if !peer.complete || last.is_older_than(tail) {
+        let (tail, end) = (self.log_tail, self.last_update);
+        let peer_end = peer.last_update;
+        if !peer.complete || peer_end.is_older_than(tail) {
             return Ok(PeerState::Backfill);
         }
-        if last != tail && !self.entries.has_version(tail.v, end, last) {
+        if peer_end != tail && !self.entries.has_version(tail.v, end.v, peer_end) {
             return Ok(PeerState::Diverged);
         }
-        let objects = self.entries.missing_above(alloc, last.v, end)?;
+        let objects = self.entries.missing_above(alloc, peer_end.v, end.v)?;
         Ok(PeerState::Missing(objects))
     }
 }

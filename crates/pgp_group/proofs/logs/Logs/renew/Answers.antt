@@ -8,13 +8,13 @@ returns-in-Some-clause-entries c = λ test member reported is.
     let old : CountedLog = c.index_mut.result.now in
     let within = (position-Some (is_of c.args.info.now.member) logs c.in-Some.place old (sym c.place_of.ensures ∙ c.in-Some.is)).0 in
     renewed test member logs c.in-Some.place old (record old { log = c.renew.new.self }) reported within c.index_mut.ensures.value refl refl
-    (λ r was. (c.renew.ensures.bounds r was).of_reported) is
+    (λ r was. (c.renew.ensures r was).of_reported) is
 
 pub returns-in-Some-clause-bounds : goal.returns-in-Some-clause-bounds
 returns-in-Some-clause-bounds c = λ log reported is found.
     let old : CountedLog = c.index_mut.result.now in
     renewed-one c.args.info.now.member c.args.self.now.of_members.items c.in-Some.place old (record old { log = c.renew.new.self }) log c.args.info.now reported
-    (sym c.place_of.ensures ∙ c.in-Some.is) c.index_mut.ensures.value refl c.renew.ensures.bounds is found
+    (sym c.place_of.ensures ∙ c.in-Some.is) c.index_mut.ensures.value refl c.renew.ensures is found
 
 pub returns-in_default-clause-bounds : goal.returns-in_default-clause-bounds
 returns-in_default-clause-bounds c =

@@ -1,5 +1,6 @@
 use Rattle.std.proofs.Common.{◌≡◌, ◌+◌, ◌-◌, length, map}
-use Rattle.pgp_missing.specs.Kept.{between, numbered}
+use Rattle.pgp_missing.specs.Kept.{numbered}
+use Rattle.pgp_missing.specs.Log.{between}
 use Rattle.pgp_missing.proofs.entries.Entries.is_full.Given as goal
 
 abbrev pub invariant-loop : goal.invariant-loop

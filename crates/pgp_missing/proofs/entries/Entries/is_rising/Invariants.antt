@@ -1,6 +1,6 @@
 use Rattle.std.proofs.Common.{◌≡◌, map}
-use Rattle.pgp_missing.specs.Log.{is_rising_from}
-use Rattle.pgp_missing.specs.Kept.{between, numbered}
+use Rattle.pgp_missing.specs.Log.{between, is_rising_from}
+use Rattle.pgp_missing.specs.Kept.{numbered}
 use Rattle.pgp_missing.proofs.entries.Entries.is_rising.Given as goal
 
 abbrev pub invariant-loop-write : goal.invariant-loop-write

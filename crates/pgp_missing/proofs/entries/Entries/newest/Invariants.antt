@@ -3,7 +3,8 @@ use Rattle.std.specs.Cmp.Lexicographic.{slice_cmp}
 use Rattle.std.specs.Ordering.{nat_cmp}
 use Rattle.pgp_missing.specs.Last.{put_in}
 use Rattle.pgp_missing.specs.Missing.{object_of, by_object}
-use Rattle.pgp_missing.specs.Kept.{between, numbered, named}
+use Rattle.pgp_missing.specs.Kept.{numbered, named}
+use Rattle.pgp_missing.specs.Log.{between}
 use Rattle.pgp_missing.proofs.entries.Entries.newest.Given as goal
 
 abbrev pub invariant-loop-number : goal.invariant-loop-number
