@@ -14,7 +14,7 @@ from_to first last = record { first = first; last = last }
 abbrev pub span_name : Span → Text
 span_name run = if run.first == run.last then decimal run.first else joined (decimal run.first ∷ codes " to " ∷ decimal run.last ∷ [])
 
--- the epochs of an interval, as they are told
+-- the epochs of an interval, as they are reported
 abbrev pub epochs_of : EpochOffset → Blocking → Span
 epochs_of offset interval = from_to (cluster_epoch offset interval.first) (cluster_epoch offset interval.last)
 

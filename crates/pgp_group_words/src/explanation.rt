@@ -12,7 +12,7 @@ use std::alloc::{AllocError, Global};
 #[derive(Drop)]
 pub struct Explanation {
     pub pg: PgId,
-    /// Whether each member has a place of its own, so that it is told with its slot.
+    /// Whether each member has a place of its own, so that it is named with its slot.
     pub by_place: bool,
     /// How many copies or shards its pool keeps.
     pub size: u8,
@@ -23,7 +23,7 @@ pub struct Explanation {
 }
 
 impl Explanation {
-    /// How its members and epochs are told.
+    /// How its members and epochs are named.
     pub(crate) fn naming(&self, offset: EpochOffset) -> Naming
         ensures { result ≡ naming_of self.now offset }
     {

@@ -16,7 +16,7 @@ use std::alloc::AllocError;
 
 /// What is written as one JSON value.
 pub trait Json {
-    // The value, where epochs are told with an offset.
+    // The value, where epochs are reported with an offset.
     ghost value: { TheOffset → Self → Data };
 
     /// Writes the value.

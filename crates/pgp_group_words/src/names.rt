@@ -46,10 +46,10 @@ impl fmt::Display for Leader {
     }
 }
 
-/// How members and epochs are told.
+/// How members and epochs are named.
 #[derive(Clone, Copy)]
 pub(crate) struct Naming {
-    /// Whether a member is told with its slot.
+    /// Whether a member is named with its slot.
     pub by_place: bool,
     pub offset: EpochOffset,
 }

@@ -1,7 +1,7 @@
 //! Runs of epochs and of writes in words.
 
 ghost use Rattle.std.specs.Prelude.{◌≡◌, ◌+◌, ◌==◌, ◌++◌, flat_map, IfOk, OnOk, string_bytes, codes};
-ghost use Rattle.pgp_group_words.specs.Spans.{epochs_name, epochs_of as epochs_told, is_single as is_one_number, numbers_name, runs_name, runs_of_epochs as runs_of_intervals, runs_of_writes as runs_of_gaps, span_name, then_run, writes_name};
+ghost use Rattle.pgp_group_words.specs.Spans.{epochs_name, epochs_of as reported_epochs, is_single as is_one_number, numbers_name, runs_name, runs_of_epochs as runs_of_intervals, runs_of_writes as runs_of_gaps, span_name, then_run, writes_name};
 
 use super::names::Naming;
 use super::offset::EpochOffset;
@@ -34,7 +34,7 @@ impl Word for Span {
 
 /// The epochs of an interval.
 pub(crate) fn epochs_of(interval: &Blocking, offset: EpochOffset) -> Span
-    ensures { result ≡ epochs_told offset interval.now }
+    ensures { result ≡ reported_epochs offset interval.now }
 {
     Span {
         first: offset.cluster_epoch(interval.first),
