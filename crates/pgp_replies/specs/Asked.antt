@@ -1,5 +1,5 @@
 -- The answer to a question about a group.
-use Rattle.std.specs.Prelude.{List, [], ◌∷◌, codes, fold}
+use Rattle.std.specs.Prelude.{List, [], ◌∷◌, ◌++◌, codes, fold}
 use Rattle.serde_json.specs.Data.{Data, string, object, Members, no_members, put}
 use Rattle.pgp_ids.specs.Names.{peer_state_name, verdict_name}
 use Rattle.pgp_ids.specs.declared.peer.MissingObject.{MissingObject}
@@ -8,7 +8,7 @@ use Rattle.pgp_ids.specs.declared.peer.PeerState.{PeerState}
 use Rattle.pgp_ids.specs.declared.peer.PeerState.TheVariants.{Missing, Backfill, Diverged}
 use Rattle.pgp_ids.specs.declared.pg_id.PgId.{PgId}
 use Rattle.pgp_ids.specs.declared.view.View.{View}
-use Rattle.pgp_replies.specs.Json.{object_with, number_data, list_data, option_data}
+use Rattle.pgp_replies.specs.Json.{Field, object_with, number_data, list_data, option_data}
 use Rattle.pgp_replies.specs.Answered.{group_data, member_data, version_data, place_data, osds_data, intervals_data}
 
 -- the members with one of this object's name at its place in ascending byte order, in place of any that has its name
@@ -19,18 +19,17 @@ with_object ms missing = put missing.object (version_data missing.version) ms
 abbrev pub objects_data : List MissingObject → Data
 objects_data objects = object (fold with_object no_members objects)
 
--- the state of a peer, with the objects where it is known which it lacks
-abbrev pub peer_data : Data → PeerState → Data
-peer_data member (Missing objects) = object_with (
-    (codes "member", member)
-    ∷ (codes "objects", objects_data objects)
-    ∷ (codes "state", string (peer_state_name (Missing objects)))
-    ∷ [])
-peer_data member Backfill = object_with ((codes "member", member) ∷ (codes "state", string (peer_state_name Backfill)) ∷ [])
-peer_data member Diverged = object_with ((codes "member", member) ∷ (codes "state", string (peer_state_name Diverged)) ∷ [])
+-- the objects, where it is known which a peer of this state lacks
+abbrev pub objects_fields : PeerState → List Field
+objects_fields (Missing objects) = (codes "objects", objects_data objects) ∷ []
+objects_fields Backfill = []
+objects_fields Diverged = []
 
+-- the state of a peer
 abbrev pub missing_data : PeerMissing → Data
-missing_data peer = peer_data (member_data peer.member) peer.state
+missing_data peer = object_with (
+    (codes "member", member_data peer.member)
+    ∷ (objects_fields peer.state ++ ((codes "state", string (peer_state_name peer.state)) ∷ [])))
 
 -- all that is known of a group
 abbrev pub asked_data : PgId → View → Data

@@ -1,20 +1,16 @@
 -- The fields of long answers, in the runs that are written one after the other.
 use Rattle.std.specs.Prelude.{ℕ, List, [], ◌∷◌, codes, Option}
 use Rattle.serde_json.specs.Data.{string, boolean}
-use Rattle.pgp_ids.specs.Names.{verdict_name}
 use Rattle.pgp_ids.specs.declared.past.Past.{Past}
 use Rattle.pgp_ids.specs.declared.pg_id.PgId.{PgId}
 use Rattle.pgp_ids.specs.declared.view.View.{View}
-use Rattle.pgp_replies.specs.Json.{Field, number_data, list_data, option_data}
+use Rattle.pgp_replies.specs.Json.{Field, number_data, list_data}
 use Rattle.pgp_replies.specs.Answered.{group_data, member_data, place_data, osds_data, intervals_data}
 use Rattle.pgp_replies.specs.Asked.{missing_data}
 
 -- a list of devices and its primary
-abbrev pub acting_fields : List (Option ℕ) → Option ℕ → List Field
-acting_fields acting primary = (codes "acting", osds_data acting) ∷ (codes "acting_primary", place_data primary) ∷ []
-
-abbrev pub up_fields : List (Option ℕ) → Option ℕ → List Field
-up_fields up primary = (codes "up", osds_data up) ∷ (codes "up_primary", place_data primary) ∷ []
+abbrev pub devices_fields : List ℕ → List (Option ℕ) → List ℕ → Option ℕ → List Field
+devices_fields key devices primary_key primary = (key, osds_data devices) ∷ (primary_key, place_data primary) ∷ []
 
 -- when a past interval was, and with what sizes
 abbrev pub past_fields : Past → List Field
@@ -24,13 +20,6 @@ past_fields past =
     ∷ (codes "min_size", number_data past.members.min_size)
     ∷ (codes "rw", boolean past.rw)
     ∷ (codes "size", number_data past.members.size)
-    ∷ []
-
--- whose copy is the best, and who stands in the way
-abbrev pub best_fields : View → List Field
-best_fields v =
-    (codes "best", option_data member_data v.best)
-    ∷ (codes "blocked_by", list_data number_data v.blocked_by)
     ∷ []
 
 -- what the log had come to, and what was before
@@ -50,20 +39,4 @@ peer_fields pg v =
     ∷ (codes "ok", string (codes "ask"))
     ∷ (codes "pg", group_data pg)
     ∷ (codes "probe", list_data member_data v.probe)
-    ∷ []
-
--- the up set, and whether the group may serve
-abbrev pub verdict_fields : View → List Field
-verdict_fields v =
-    (codes "up", osds_data v.up)
-    ∷ (codes "up_primary", place_data v.up_primary)
-    ∷ (codes "verdict", string (verdict_name v.verdict))
-    ∷ []
-
--- the group of an object, and the epoch of the map that says where it lies
-abbrev pub place_fields : PgId → ℕ → List Field
-place_fields pg epoch =
-    (codes "epoch", number_data epoch)
-    ∷ (codes "ok", string (codes "locate"))
-    ∷ (codes "pg", group_data pg)
     ∷ []

@@ -1,17 +1,16 @@
 //! All that is known of a group as JSON.
 ghost use Rattle.std.specs.Prelude.{◌≡◌, ◌++◌, OnOk};
 ghost use Rattle.pgp_replies.specs.Asked.{asked_data};
-ghost use Rattle.pgp_replies.specs.Parts.{best_fields, history_fields, peer_fields, verdict_fields};
+ghost use Rattle.pgp_replies.specs.Parts.{history_fields, peer_fields};
 ghost use Rattle.pgp_replies.specs.Written.{tokens_of, fields_tokens};
 
-use super::devices::{write_acting, write_up};
+use super::devices::write_devices;
 use super::parts::write_field;
 use json::Writer;
 use pgp_ids::{Epoch, PgId, View};
 use std::alloc::{AllocError, Global};
 
 /// The view, with this count and this epoch.
-#[tactic(auto, using(crate::proofs::Tokens::token_steps))]
 pub(super) fn write_asked(
     alloc: Global,
     out: &mut Writer,
@@ -25,22 +24,21 @@ pub(super) fn write_asked(
     ensures before { out.new.before ≡ out.old.before }
 {
     out.begin_object()?;
-    write_acting(alloc, out, &known.acting, known.acting_primary)?;
-    write_best(alloc, out, known)?;
+    write_devices(
+        alloc,
+        out,
+        "acting",
+        &known.acting,
+        "acting_primary",
+        known.acting_primary,
+    )?;
+    write_field(alloc, out, "best", &known.best)?;
+    write_field(alloc, out, "blocked_by", &known.blocked_by)?;
     write_history(alloc, out, known, count, epoch)?;
     write_peers(alloc, out, pg, known)?;
-    write_verdict(alloc, out, known)?;
+    write_devices(alloc, out, "up", &known.up, "up_primary", known.up_primary)?;
+    write_field(alloc, out, "verdict", &known.verdict.name())?;
     out.end_object()
-}
-
-/// Whose copy is the best, and who stands in the way.
-fn write_best(alloc: Global, out: &mut Writer, known: &View) -> Result<(), AllocError>
-    ensures ok { OnOk result
-        (out.new.tokens ≡ out.old.tokens ++ fields_tokens (best_fields known.now)) }
-    ensures before { out.new.before ≡ out.old.before }
-{
-    write_field(alloc, out, "best", &known.best)?;
-    write_field(alloc, out, "blocked_by", &known.blocked_by)
 }
 
 /// What the log had come to, and what was before.
@@ -73,14 +71,4 @@ fn write_peers(alloc: Global, out: &mut Writer, pg: PgId, known: &View) -> Resul
     write_field(alloc, out, "ok", &"ask")?;
     write_field(alloc, out, "pg", &pg)?;
     write_field(alloc, out, "probe", &known.probe)
-}
-
-/// The up set, and whether the group may serve.
-fn write_verdict(alloc: Global, out: &mut Writer, known: &View) -> Result<(), AllocError>
-    ensures ok { OnOk result
-        (out.new.tokens ≡ out.old.tokens ++ fields_tokens (verdict_fields known.now)) }
-    ensures before { out.new.before ≡ out.old.before }
-{
-    write_up(alloc, out, &known.up, known.up_primary)?;
-    write_field(alloc, out, "verdict", &known.verdict)
 }

@@ -4,7 +4,7 @@ ghost use Rattle.pgp_replies.specs.EntryOp.{entry_op, entry_op_name};
 use pgp_ids::Entry;
 
 /// The operation by which an entry comes.
-#[derive(Clone, Copy, Debug, PartialEq, Eq)]
+#[derive(Clone, Copy)]
 pub enum EntryOp {
     Inc,
     Info,

@@ -1,79 +1,43 @@
 //! The states of peers, and the objects that they lack, as JSON.
-ghost use Rattle.std.specs.Prelude.{◌≡◌, [], ◌∷◌, ◌++◌, codes, IfOk, OnOk};
-ghost use Rattle.serde_json.specs.Data.{string, object};
-ghost use Rattle.pgp_ids.specs.declared.peer.PeerState.TheVariants.{Missing};
-ghost use Rattle.pgp_replies.specs.Json.{object_with};
-ghost use Rattle.pgp_replies.specs.Answered.{member_data};
-ghost use Rattle.pgp_replies.specs.Asked.{with_object, objects_data, peer_data, missing_data};
+ghost use Rattle.std.specs.Prelude.{◌≡◌, ◌++◌, IfOk, OnOk};
+ghost use Rattle.serde_json.specs.Data.{object};
+ghost use Rattle.pgp_replies.specs.Asked.{with_object, objects_data, objects_fields, missing_data};
 ghost use Rattle.pgp_replies.specs.Versions.{versions_members};
-ghost use Rattle.pgp_replies.specs.Written.{tokens_of, fields_tokens};
+ghost use Rattle.pgp_replies.specs.Written.{fields_tokens};
 
 use super::parts::{Json, write_field};
 use json::Writer;
-use pgp_ids::{Member, MissingObject, PeerMissing, PeerState, Version};
+use pgp_ids::{MissingObject, PeerMissing, PeerState, Version};
 use std::alloc::{AllocError, Global};
 use std::collections::BTreeMap;
 
 impl Json for PeerMissing {
     ghost value = { missing_data };
 
+    #[tactic(auto, using(crate::proofs::Tokens::token_steps))]
     fn write(&self, alloc: Global, out: &mut Writer) -> Result<(), AllocError> {
-        match &self.state {
-            PeerState::Missing(objects) => {
-                write_missing(alloc, out, self.member, objects.as_slice())
-            }
-            _ => write_state(alloc, out, self.member, self.state.name()),
-        }
+        out.begin_object()?;
+        write_field(alloc, out, "member", &self.member)?;
+        write_objects(alloc, out, &self.state)?;
+        write_field(alloc, out, "state", &self.state.name())?;
+        out.end_object()
     }
 }
 
-/// The state of a peer of which no more is known.
-fn write_state(
-    alloc: Global,
-    out: &mut Writer,
-    member: Member,
-    state: &str,
-) -> Result<(), AllocError>
-    ensures ok { OnOk result (out.new.tokens ≡ out.old.tokens ++ tokens_of
-        (object_with ((codes "member", member_data member) ∷ (codes "state", string state.now) ∷ []))) }
+/// Writes the objects that a peer lacks, where it is known which.
+#[tactic(auto, unfolding(crate::specs::Written::fields_tokens))]
+fn write_objects(alloc: Global, out: &mut Writer, state: &PeerState) -> Result<(), AllocError>
+    ensures ok { OnOk result
+        (out.new.tokens ≡ out.old.tokens ++ fields_tokens (objects_fields state.now)) }
     ensures before { out.new.before ≡ out.old.before }
 {
-    out.begin_object()?;
-    write_field(alloc, out, "member", &member)?;
-    write_field(alloc, out, "state", &state)?;
-    out.end_object()
-}
-
-/// The state of a peer that lacks just these objects.
-#[tactic(auto, using(crate::proofs::Tokens::token_steps))]
-fn write_missing(
-    alloc: Global,
-    out: &mut Writer,
-    member: Member,
-    objects: &[MissingObject],
-) -> Result<(), AllocError>
-    ensures ok { OnOk result (out.new.tokens
-        ≡ out.old.tokens ++ tokens_of (peer_data (member_data member) (Missing objects.now))) }
-    ensures before { out.new.before ≡ out.old.before }
-{
-    out.begin_object()?;
-    write_field(alloc, out, "member", &member)?;
-    write_objects(alloc, out, objects)?;
-    write_field(alloc, out, "state", &"missing")?;
-    out.end_object()
-}
-
-fn write_objects(
-    alloc: Global,
-    out: &mut Writer,
-    objects: &[MissingObject],
-) -> Result<(), AllocError>
-    ensures ok { OnOk result (out.new.tokens
-        ≡ out.old.tokens ++ fields_tokens ((codes "objects", objects_data objects.now) ∷ [])) }
-    ensures before { out.new.before ≡ out.old.before }
-{
-    let versions = versions_of(alloc, objects)?;
-    write_field(alloc, out, "objects", &versions)
+    match state {
+        PeerState::Missing(objects) => {
+            let versions = versions_of(alloc, objects.as_slice())?;
+            write_field(alloc, out, "objects", &versions)
+        }
+        _ => Ok(()),
+    }
 }
 
 /// The versions of objects by their names, in ascending byte order; of a name that is twice in the list the last.

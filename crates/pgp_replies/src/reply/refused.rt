@@ -1,5 +1,5 @@
 //! Refusals, and how they are written.
-ghost use Rattle.std.specs.Prelude.{◌≡◌, [], ◌∷◌, ◌++◌, codes, option_map, OnOk};
+ghost use Rattle.std.specs.Prelude.{◌≡◌, ◌++◌, codes, option_map, OnOk};
 ghost use Rattle.serde_json.specs.Data.{string};
 ghost use Rattle.pgp_replies.specs.Json.{number_data};
 ghost use Rattle.pgp_replies.specs.Refused.{fault_name, fault_key, field_if, refused_number, refused_name, refused_key, refused_tree, refused_data};
@@ -99,20 +99,12 @@ impl Json for Refused {
     #[tactic(auto, using(crate::proofs::Tokens::token_steps))]
     fn write(&self, alloc: Global, out: &mut Writer) -> Result<(), AllocError> {
         out.begin_object()?;
-        write_code(alloc, out, self)?;
+        write_field(alloc, out, "code", &self.number())?;
         write_key(alloc, out, self)?;
-        write_name(alloc, out, self)?;
+        write_field(alloc, out, "refused", &self.name())?;
         write_tree(alloc, out, self)?;
         out.end_object()
     }
-}
-
-fn write_code(alloc: Global, out: &mut Writer, refused: &Refused) -> Result<(), AllocError>
-    ensures ok { OnOk result (out.new.tokens ≡ out.old.tokens
-        ++ fields_tokens ((codes "code", number_data (refused_number refused.now)) ∷ [])) }
-    ensures before { out.new.before ≡ out.old.before }
-{
-    write_field(alloc, out, "code", &refused.number())
 }
 
 /// Writes the key, where one is named.
@@ -126,14 +118,6 @@ fn write_key(alloc: Global, out: &mut Writer, refused: &Refused) -> Result<(), A
         Some(key) => write_field(alloc, out, "key", &key),
         None => Ok(()),
     }
-}
-
-fn write_name(alloc: Global, out: &mut Writer, refused: &Refused) -> Result<(), AllocError>
-    ensures ok { OnOk result (out.new.tokens ≡ out.old.tokens
-        ++ fields_tokens ((codes "refused", string (refused_name refused.now)) ∷ [])) }
-    ensures before { out.new.before ≡ out.old.before }
-{
-    write_field(alloc, out, "refused", &refused.name())
 }
 
 /// Writes the tree's fault, where that is the refusal.
