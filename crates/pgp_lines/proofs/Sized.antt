@@ -1,29 +1,27 @@
 -- What the numbers of a command are that a line gives.
-use Rattle.std.proofs.Common.{◌≡◌, ℕ, suc, ◌≤◌, List, codes, [], ◌∷◌, Bool, true, false, Option, Some, None, Result, Ok, Err, cond, length, option_map, option_and_then, refl, ap, nat_le, inl, inr, IfSome, IfOk}
+use Rattle.std.proofs.Common.{◌≡◌, ℕ, suc, ◌≤◌, List, codes, [], ◌∷◌, Bool, true, false, ◌&&◌, Option, Some, None, Result, Ok, Err, cond, length, option_map, option_and_then, refl, ap, nat_le, inl, inr, IfSome, IfOk}
 use Rattle.std.specs.Option.{ok_or}
-use Rattle.std.specs.Str.{bytes_eq}
 use Rattle.std.proofs.lemmas.Bool.{and_parts}
 use Rattle.std.proofs.lemmas.Bool.Decides.{leb_tells}
 use Rattle.std.proofs.lemmas.Option.{IfSome_then}
 use Rattle.serde_json.specs.Data.{Data}
 use Rattle.serde_json.specs.Find.{get, as_bool, as_number, as_u64, as_str}
-use Rattle.pgp_ids.specs.Parts.{are_parts}
 use Rattle.pgp_ids.specs.Pool.{is_by_place}
 use Rattle.pgp_ids.specs.declared.entry.Entry.TheVariants.{Entries}
-use Rattle.pgp_ids.specs.declared.part.Part.{Part}
 use Rattle.pgp_ids.specs.declared.report.Info.{Info}
 use Rattle.pgp_ids.specs.declared.report.Report.{Report}
+use Rattle.pgp_ids.specs.declared.pool.PoolKind.{PoolKind}
 use Rattle.pgp_ids.specs.declared.pool.PoolKind.TheVariants.{Replicated, Erasure, Grouped}
 use Rattle.pgp_lines.specs.LineFault.{LineFault, no_op, bad_field, ◌>>=◌}
 use Rattle.pgp_lines.specs.Shapes.{is_between, number_in, items_in, pair_in, each, list_in, has_only, field, required, unknown_key_in}
-use Rattle.pgp_lines.specs.Trace.{replicated_in, erasure_in, grouped_in, code_of_kind, kind_in, code_in, epochs_in}
+use Rattle.pgp_lines.specs.Trace.{code_keys, is_code, code_in, epochs_in}
 use Rattle.pgp_lines.specs.Format.{format_of, read_in, judged, has_kind}
-use Rattle.pgp_lines.specs.Groups.{groups_in, code_groups_in}
+use Rattle.pgp_lines.specs.Pools.{pool_kind_in}
 use Rattle.pgp_lines.specs.Ids.{osd_in, pool_id_in, word_in}
 use Rattle.pgp_lines.specs.Incremental.{inc_of}
-use Rattle.pgp_lines.specs.ReportParts.{pg_in, member_in, name_in, log_entry_in}
-use Rattle.pgp_lines.specs.Reports.{history_of, reach_of, info_of, entries_of, locate_of}
-use Rattle.pgp_lines.specs.Command.{trace_of, values_of, command_with, known, command_in, IsTraceCode, IsGroup, IsMember, IsEntry, IsInRange}
+use Rattle.pgp_lines.specs.ReportParts.{pg_in, member_in, version_in, name_in, log_entry_in, log_in}
+use Rattle.pgp_lines.specs.Reports.{last_epoch_clean_of, info_of, entries_of, ask_of, locate_of}
+use Rattle.pgp_lines.specs.Command.{trace_of, values_of, known, command_in, IsTraceCode, IsGroup, IsMember, IsEntry, IsInRange}
 use Rattle.pgp_lines.specs.Op.{op_in, op_keys}
 use Rattle.pgp_lines.specs.declared.command.Command.{Command}
 use Rattle.pgp_lines.specs.declared.command.Command.TheVariants.{Locate}
@@ -103,38 +101,17 @@ number_within : (low high : ℕ) (d : Data) → IfSome (number_in low high d) (I
 number_within low high d =
     from_any (IsWithin low high) (option_and_then as_u64 (as_number d)) _ (λ n. tested (IsWithin low high) (is_between low high n) (Some n) (within low high n))
 
-replicated_ok : (d : Data) → IfSome (replicated_in d) IsTraceCode
-replicated_ok d = tested IsTraceCode (has_only (codes "kind" ∷ []) d) (Some Replicated) (λ is. tt)
-
-erasure_ok : (d : Data) → IfSome (erasure_in d) IsTraceCode
-erasure_ok d =
-    let k = from_any (IsWithin 1 16) (get (codes "k") d) (number_in 1 16) (number_within 1 16) in
-    tested IsTraceCode (has_only (codes "k" ∷ codes "kind" ∷ []) d) _ (λ is. mapped IsTraceCode (IsWithin 1 16) (field (codes "k") (number_in 1 16) d) Erasure k (λ n ok. ok))
-
-abbrev AreParts : List (Option Part) → Type 0
-AreParts groups = are_parts 16 groups ≡ true
-
-code_groups_ok : (d : Data) → IfSome (code_groups_in d) AreParts
-code_groups_ok d = from_any AreParts (groups_in d) _ (λ groups. tested AreParts (are_parts 16 groups) (Some groups) (λ is. is))
-
-grouped_ok : (d : Data) → IfSome (grouped_in d) IsTraceCode
-grouped_ok d =
-    let groups = from_any AreParts (get (codes "groups") d) code_groups_in code_groups_ok in
-    tested IsTraceCode (has_only (codes "groups" ∷ codes "kind" ∷ []) d) _
-    (λ is. mapped IsTraceCode AreParts (field (codes "groups") code_groups_in d) Grouped groups (λ found ok. ok))
-
-any_kind : (a b c : Bool) (d : Data) → IfSome (cond a (replicated_in d) (cond b (erasure_in d) (cond c (grouped_in d) None))) IsTraceCode
-any_kind true b c d = replicated_ok d
-any_kind false true c d = erasure_ok d
-any_kind false false c d = tested IsTraceCode c (grouped_in d) (λ is. grouped_ok d)
-
-kind_ok : (d : Data) → IfSome (kind_in d) IsTraceCode
-kind_ok d =
-    from_any IsTraceCode (field (codes "kind") as_str d) (code_of_kind d)
-    (λ kind. any_kind (bytes_eq kind (codes "replicated")) (bytes_eq kind (codes "erasure")) (bytes_eq kind (codes "grouped")) d)
+trace_code : (kind : PoolKind) → is_code kind ≡ true → IsTraceCode kind
+trace_code Replicated is = tt
+trace_code (Erasure k) is = within 1 16 k is
+trace_code (Grouped groups) is = is
 
 code_ok : (format : Format) (d : Data) → IfSome (code_in format d) IsTraceCode
-code_ok format d = from_some IsTraceCode IsTraceCode (kind_in d) _ (kind_ok d) (λ kind ok. tested IsTraceCode (has_kind format kind) (Some kind) (λ is. ok))
+code_ok format d =
+    from_any IsTraceCode (pool_kind_in d) _
+    (λ kind. let of_keys = has_only (code_keys kind) d in
+    tested IsTraceCode (of_keys && is_code kind && has_kind format kind) (Some kind)
+    (λ is. trace_code kind (and_parts of_keys (is_code kind) (and_parts (of_keys && is_code kind) (has_kind format kind) is).0).1))
 
 group_ok : (d : Data) → IfSome (pg_in d) IsGroup
 group_ok d =
@@ -157,56 +134,59 @@ name_ok d =
 
 -- ---- the lines
 
-trace_ok : (format : Format) (d : Data) → IfOk (trace_of format d) IsInRange
+trace_ok : (format : Option Format) (d : Data) → IfOk (trace_of format d) IsInRange
 trace_ok format d =
-    required_then IsInRange IsTraceCode (codes "code") (code_in format) d _ (code_ok format)
+    required_then IsInRange IsTraceCode (codes "code") (code_in (read_in format)) d _ (code_ok (read_in format))
     (λ code of_code. required_then IsInRange (λ epochs. IsWithin 1 4096 (length epochs)) (codes "epochs") (epochs_in (is_by_place code)) d _ (list_sized 1 4096 _)
-    (λ epochs sized. (of_code, sized.0, sized.1)))
+    (λ epochs sized. past IsInRange (judged format) _ (λ known. (of_code, sized.0, sized.1))))
 
 abbrev IsInfo : Info → Type 0
 IsInfo info = IsGroup info.pg × IsMember info.member
 
-info_ok : (d : Data) → IfOk (info_of d) IsInfo
-info_ok d =
+info_ok : (format : Option Format) (d : Data) → IfOk (info_of format d) IsInfo
+info_ok format d =
     past IsInfo (required (codes "complete") as_bool d) _
     (λ complete. required_then IsInfo IsMember (codes "from") member_in d _ member_ok
-    (λ member of_member. past IsInfo (history_of d) _
-    (λ history. past IsInfo (reach_of d) _
-    (λ reach. required_then IsInfo IsGroup (codes "pg") pg_in d _ group_ok
-    (λ pg of_pg. past IsInfo (required (codes "stamp") word_in d) _ (λ stamp. (of_pg, of_member)))))))
+    (λ member of_member. past IsInfo (required (codes "history_les") word_in d) _
+    (λ history_les. past IsInfo (last_epoch_clean_of d) _
+    (λ last_epoch_clean. past IsInfo (required (codes "last_update") version_in d) _
+    (λ last_update. past IsInfo (required (codes "les") word_in d) _
+    (λ les. past IsInfo (required (codes "log_tail") version_in d) _
+    (λ log_tail. required_then IsInfo IsGroup (codes "pg") pg_in d _ group_ok
+    (λ pg of_pg. past IsInfo (required (codes "stamp") word_in d) _
+    (λ stamp. past IsInfo (judged format) _ (λ known. (of_pg, of_member)))))))))))
 
 abbrev IsReport : Report → Type 0
 IsReport report = IsEntry (Entries report)
 
-entries_ok : (d : Data) → IfOk (entries_of d) IsReport
-entries_ok d =
+entries_ok : (format : Option Format) (d : Data) → IfOk (entries_of format d) IsReport
+entries_ok format d =
     required_then IsReport IsMember (codes "from") member_in d _ member_ok
-    (λ member of_member. required_then IsReport (λ log. IsWithin 1 256 (length log)) (codes "log") (list_in 1 256 log_entry_in) d _ (list_sized 1 256 log_entry_in)
+    (λ member of_member. required_then IsReport (λ log. IsWithin 1 256 (length log)) (codes "log") log_in d _ (list_sized 1 256 log_entry_in)
     (λ log sized. required_then IsReport IsGroup (codes "pg") pg_in d _ group_ok
-    (λ pg of_pg. past IsReport (required (codes "stamp") word_in d) _ (λ stamp. (of_pg, of_member, sized.0, sized.1)))))
+    (λ pg of_pg. past IsReport (required (codes "stamp") word_in d) _
+    (λ stamp. past IsReport (judged format) _ (λ known. (of_pg, of_member, sized.0, sized.1))))))
+
+ask_ok : (format : Option Format) (d : Data) → IfOk (ask_of format d) IsGroup
+ask_ok format d = required_then IsGroup IsGroup (codes "pg") pg_in d _ group_ok (λ pg ok. past IsGroup (judged format) _ (λ known. ok))
 
 abbrev IsPlace : ℕ × List ℕ → Type 0
 IsPlace object = IsInRange (Locate object.0 object.1)
 
-locate_ok : (d : Data) → IfOk (locate_of d) IsPlace
-locate_ok d =
+locate_ok : (format : Option Format) (d : Data) → IfOk (locate_of format d) IsPlace
+locate_ok format d =
     required_then IsPlace (λ name. IsWithin 1 255 (length name)) (codes "name") name_in d _ name_ok
     (λ name sized. required_then IsPlace (IsWithin 1 255) (codes "pool") pool_id_in d _ (number_within 1 255)
-    (λ pool ranged. (ranged.0, ranged.1, sized.0, sized.1)))
+    (λ pool ranged. past IsPlace (judged format) _ (λ known. (ranged.0, ranged.1, sized.0, sized.1))))
 
 values_ok : (named : Op) (format : Option Format) (d : Data) → IfOk (values_of named format d) IsInRange
-values_ok op.Ask format d = required_then IsInRange IsGroup (codes "pg") pg_in d _ group_ok (λ pg ok. ok)
-values_ok op.Close format d = tt
-values_ok op.Entries format d = from_ok IsInRange IsReport (entries_of d) _ (entries_ok d) (λ report ok. ok)
+values_ok op.Ask format d = from_ok IsInRange IsGroup (ask_of format d) _ (ask_ok format d) (λ pg ok. ok)
+values_ok op.Close format d = past IsInRange (judged format) _ (λ known. tt)
+values_ok op.Entries format d = from_ok IsInRange IsReport (entries_of format d) _ (entries_ok format d) (λ report ok. ok)
 values_ok op.Inc format d = past IsInRange (inc_of format d) _ (λ inc. tt)
-values_ok op.Info format d = from_ok IsInRange IsInfo (info_of d) _ (info_ok d) (λ info ok. ok)
-values_ok op.Locate format d = from_ok IsInRange IsPlace (locate_of d) _ (locate_ok d) (λ object ok. ok)
-values_ok op.Trace format d = trace_ok (read_in format) d
-
-with_ok : (named : Op) (d : Data) → IfOk (command_with named d) IsInRange
-with_ok named d =
-    from_ok IsInRange IsInRange (values_of named (format_of d) d) _ (values_ok named (format_of d) d)
-    (λ command ok. past IsInRange (judged (format_of d)) _ (λ known. ok))
+values_ok op.Info format d = from_ok IsInRange IsInfo (info_of format d) _ (info_ok format d) (λ info ok. ok)
+values_ok op.Locate format d = from_ok IsInRange IsPlace (locate_of format d) _ (locate_ok format d) (λ object ok. ok)
+values_ok op.Trace format d = trace_ok format d
 
 known_ok : (key : Option (List ℕ)) (read : Result Command LineFault) → IfOk read IsInRange → IfOk (known key read) IsInRange
 known_ok (Some key) read ok = tt
@@ -216,5 +196,5 @@ known_ok None read ok = ok
 pub in_range : (d : Data) (command : Command) → command_in d ≡ Ok command → IsInRange command
 in_range d command is =
     let ranged : IfOk (command_in d) IsInRange =
-    past IsInRange (ok_or (op_in d) no_op) _ (λ named. known_ok (unknown_key_in (op_keys named) d) (command_with named d) (with_ok named d)) in
+    past IsInRange (ok_or (op_in d) no_op) _ (λ named. known_ok (unknown_key_in (op_keys named) d) (values_of named (format_of d) d) (values_ok named (format_of d) d)) in
     rw is at ranged

@@ -25,40 +25,35 @@ use Rattle.pgp_lines.specs.declared.command.format.Format.{Format}
 use Rattle.pgp_lines.specs.declared.command.op.Op.{Op}
 use Rattle.pgp_lines.specs.declared.command.op.Op.TheVariants as op
 
--- the line of a trace in this version: its keys are judged in ascending byte order, so the least bad one is named
-abbrev pub trace_of : Format → Data → Result Command LineFault
+-- the line of a trace, which names this version: its keys are judged in ascending byte order, so the least bad one is named
+abbrev pub trace_of : Option Format → Data → Result Command LineFault
 trace_of format d = do
-  code ← required (codes "code") (code_in format) d
+  code ← required (codes "code") (code_in (read_in format)) d
   epochs ← required (codes "epochs") (epochs_in (is_by_place code)) d
+  known ← judged format
   Ok (Trace code epochs)
 
--- the values of a line of this operation; `format` is the version that it names, None where its `v` is bad. Only an
--- incremental has `v` judged with them: its `weight` comes after `v` in byte order.
+-- the line of this operation, past the judgement of its keys; `format` is the version that it names, None where its `v` is bad
 abbrev pub values_of : Op → Option Format → Data → Result Command LineFault
 values_of op.Ask format d = do
-  pg ← ask_of d
+  pg ← ask_of format d
   Ok (Ask pg)
-values_of op.Close format d = Ok (Submit Close)
+values_of op.Close format d = do
+  known ← judged format
+  Ok (Submit Close)
 values_of op.Entries format d = do
-  report ← entries_of d
+  report ← entries_of format d
   Ok (Submit (Entries report))
 values_of op.Inc format d = do
   inc ← inc_of format d
   Ok (Submit (Inc inc))
 values_of op.Info format d = do
-  info ← info_of d
+  info ← info_of format d
   Ok (Submit (Info info))
 values_of op.Locate format d = do
-  object ← locate_of d
+  object ← locate_of format d
   Ok (Locate object.0 object.1)
-values_of op.Trace format d = trace_of (read_in format) d
-
--- the line of this operation, past the judgement of its keys: its values, and the version that it names
-abbrev pub command_with : Op → Data → Result Command LineFault
-command_with named d = do
-  command ← values_of named (format_of d) d
-  known ← judged (format_of d)
-  Ok command
+values_of op.Trace format d = trace_of format d
 
 -- an unknown key is told before a bad value
 abbrev pub known : {A : Type 0} → Option (List ℕ) → Result A LineFault → Result A LineFault
@@ -69,7 +64,7 @@ known None read = read
 abbrev pub command_in : Data → Result Command LineFault
 command_in d = do
   named ← ok_or (op_in d) no_op
-  known (unknown_key_in (op_keys named) d) (command_with named d)
+  known (unknown_key_in (op_keys named) d) (values_of named (format_of d) d)
 
 -- the value of a text, where the bytes are one
 abbrev pub data_of : List ℕ → Option Data

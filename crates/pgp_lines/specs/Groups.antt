@@ -1,7 +1,7 @@
 -- The parts of a grouped pool in a line: [list of slots, least number of them] for each.
-use Rattle.std.specs.Prelude.{ℕ, ◌-◌, List, ◌++◌, length, map, replicate, Option, Some, None, option_map, option_and_then, if◌then◌else◌}
+use Rattle.std.specs.Prelude.{ℕ, ◌-◌, List, ◌++◌, length, map, replicate, Option, Some, None, option_map}
 use Rattle.serde_json.specs.Data.{Data}
-use Rattle.pgp_ids.specs.Parts.{set_of, has_twice, are_parts}
+use Rattle.pgp_ids.specs.Parts.{set_of, has_twice}
 use Rattle.pgp_ids.specs.declared.part.Part.{Part}
 use Rattle.pgp_lines.specs.Shapes.{number_in, pair_in, list_in, ◌>>=◌}
 use Rattle.pgp_lines.specs.Ids.{byte_in}
@@ -33,7 +33,3 @@ places_of parts = map (λ part. Some part) parts ++ replicate (16 - length parts
 -- a list of at most 16 parts; it may be empty
 abbrev pub groups_in : Data → Option (List (Option Part))
 groups_in d = option_map places_of (list_in 0 16 part_in d)
-
--- the parts of a trace's code: those that a pool of size 16 can have
-abbrev pub code_groups_in : Data → Option (List (Option Part))
-code_groups_in d = option_and_then (λ groups. if are_parts 16 groups then Some groups else None) (groups_in d)

@@ -11,7 +11,6 @@ use Rattle.pgp_ids.specs.declared.pool.PoolSizes.{PoolSizes}
 use Rattle.pgp_ids.specs.declared.pool.PoolSpec.{PoolSpec}
 use Rattle.pgp_lines.specs.Shapes.{number_in, triple_in, list_of, has_only, field, ◌>>=◌}
 use Rattle.pgp_lines.specs.declared.command.format.Format.{Format}
-use Rattle.pgp_lines.specs.declared.command.pools.Spread.{Spread}
 use Rattle.pgp_lines.specs.Format.{has_kind}
 use Rattle.pgp_lines.specs.Groups.{groups_in}
 use Rattle.pgp_lines.specs.Ids.{place_in, pool_id_in, byte_in, group_in}
@@ -36,21 +35,15 @@ kind_named d name =
 abbrev pub pool_kind_in : Data → Option PoolKind
 pool_kind_in d = option_and_then (kind_named d) (field (codes "kind") as_str d)
 
--- how many groups a pool is to have, on how many devices each lies, with how many of them it may serve, and the type of bucket that keeps them apart
-abbrev pub spread_in : Data → Option Spread
-spread_in d = do
-  pg_num ← field (codes "pg_num") (number_in 0 65535) d
-  size ← field (codes "size") byte_in d
-  min_size ← field (codes "min_size") byte_in d
-  leaf ← field (codes "leaf") byte_in d
-  Some (record { pg_num = pg_num; size = size; min_size = min_size; leaf = leaf })
-
 -- the fields of a pool of this kind
 abbrev pub pool_fields_in : PoolKind → Data → Option PoolSpec
 pool_fields_in kind d = do
   id ← field (codes "id") pool_id_in d
-  spread ← spread_in d
-  Some (record { id = id; pg_num = spread.pg_num; kind = kind; size = spread.size; min_size = spread.min_size; leaf = spread.leaf })
+  pg_num ← field (codes "pg_num") (number_in 0 65535) d
+  size ← field (codes "size") byte_in d
+  min_size ← field (codes "min_size") byte_in d
+  leaf ← field (codes "leaf") byte_in d
+  Some (record { id = id; pg_num = pg_num; kind = kind; size = size; min_size = min_size; leaf = leaf })
 
 abbrev pub pool_of_kind : Data → PoolKind → Option PoolSpec
 pool_of_kind d kind = if has_only (pool_keys kind) d then pool_fields_in kind d else None

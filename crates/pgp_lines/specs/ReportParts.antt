@@ -9,7 +9,7 @@ use Rattle.pgp_ids.specs.declared.log_entry.Change.TheVariants.{Modify, Delete}
 use Rattle.pgp_ids.specs.declared.log_entry.LogEntry.{LogEntry}
 use Rattle.pgp_ids.specs.declared.pg_id.PgId.{PgId}
 use Rattle.pgp_ids.specs.declared.version.Version.{Version}
-use Rattle.pgp_lines.specs.Shapes.{is_between, number_in, pair_in, quadruple_in, ◌>>=◌}
+use Rattle.pgp_lines.specs.Shapes.{is_between, number_in, pair_in, quadruple_in, list_in, ◌>>=◌}
 use Rattle.pgp_lines.specs.Ids.{osd_in, word_in, group_in}
 
 -- [pool, pg]
@@ -64,3 +64,7 @@ abbrev pub log_entry_in : Data → Option LogEntry
 log_entry_in d = do
   parts ← quadruple_in d
   log_entry_of parts.0 parts.1 parts.2 parts.3
+
+-- 1 to 256 log entries
+abbrev pub log_in : Data → Option (List LogEntry)
+log_in d = list_in 1 256 log_entry_in d

@@ -40,16 +40,16 @@ abbrev pub pair_in : Data → Option (Data × Data)
 pair_in d = option_and_then two_of (items_in d)
 
 abbrev pub three_of : List Data → Option (Data × Data × Data)
-three_of (a ∷ b ∷ c ∷ []) = Some (a, b, c)
-three_of _ = None
+three_of [] = None
+three_of (a ∷ ds) = option_map (λ p. (a, p.0, p.1)) (two_of ds)
 
 -- the items of a list of three
 abbrev pub triple_in : Data → Option (Data × Data × Data)
 triple_in d = option_and_then three_of (items_in d)
 
 abbrev pub four_of : List Data → Option (Data × Data × Data × Data)
-four_of (a ∷ b ∷ c ∷ d ∷ []) = Some (a, b, c, d)
-four_of _ = None
+four_of [] = None
+four_of (a ∷ ds) = option_map (λ t. (a, t.0, t.1, t.2)) (three_of ds)
 
 -- the items of a list of four
 abbrev pub quadruple_in : Data → Option (Data × Data × Data × Data)
@@ -89,7 +89,7 @@ keys_of (member key d ms) = key ∷ keys_of ms
 
 -- the key is one of these
 abbrev pub is_key : List (List ℕ) → List ℕ → Bool
-is_key keys key = list_any (λ k. bytes_eq key k) keys
+is_key keys key = list_any (λ k. bytes_eq k key) keys
 
 -- the least key, in byte order, of an object that is none of these
 abbrev pub unknown_key_in : List (List ℕ) → Data → Option (List ℕ)

@@ -1,47 +1,36 @@
 -- The values of a trace line, in this project's own format: a code, and a group's epochs from epoch 1 on.
-use Rattle.std.specs.Prelude.{ℕ, List, [], ◌∷◌, Bool, codes, if◌then◌else◌, Option, Some, None, option_map, option_and_then}
-use Rattle.std.specs.Str.{bytes_eq}
+use Rattle.std.specs.Prelude.{ℕ, List, [], ◌∷◌, Bool, true, ◌&&◌, codes, if◌then◌else◌, Option, Some, None}
 use Rattle.pgp_ids.specs.declared.pool.PoolKind.{PoolKind}
 use Rattle.pgp_ids.specs.declared.pool.PoolKind.TheVariants.{Replicated, Erasure, Grouped}
 use Rattle.serde_json.specs.Data.{Data}
-use Rattle.serde_json.specs.Find.{as_str}
 use Rattle.pgp_ids.specs.Osds.{first_osd}
+use Rattle.pgp_ids.specs.Parts.{are_parts}
 use Rattle.pgp_ids.specs.declared.history.EpochState.{EpochState}
 use Rattle.pgp_ids.specs.declared.history.PrimaryFacts.{PrimaryFacts}
 use Rattle.pgp_ids.specs.declared.membership.Membership.{Membership}
 use Rattle.pgp_lines.specs.Format.{has_kind}
-use Rattle.pgp_lines.specs.Groups.{code_groups_in}
 use Rattle.pgp_lines.specs.Ids.{place_in, word_in}
-use Rattle.pgp_lines.specs.Shapes.{number_in, list_in, has_only, field, ◌>>=◌}
+use Rattle.pgp_lines.specs.Pools.{pool_kind_in}
+use Rattle.pgp_lines.specs.Shapes.{is_between, number_in, list_in, has_only, field, ◌>>=◌}
 use Rattle.pgp_lines.specs.declared.command.format.Format.{Format}
 
--- {"kind":"replicated"}
-abbrev pub replicated_in : Data → Option PoolKind
-replicated_in d = if has_only (codes "kind" ∷ []) d then Some Replicated else None
+-- the keys of a code's object
+abbrev pub code_keys : PoolKind → List (List ℕ)
+code_keys Replicated = codes "kind" ∷ []
+code_keys (Erasure k) = codes "k" ∷ codes "kind" ∷ []
+code_keys (Grouped groups) = codes "groups" ∷ codes "kind" ∷ []
 
--- {"k":1..=16,"kind":"erasure"}
-abbrev pub erasure_in : Data → Option PoolKind
-erasure_in d = if has_only (codes "k" ∷ codes "kind" ∷ []) d then option_map Erasure (field (codes "k") (number_in 1 16) d) else None
+-- a trace can have this code: 1 to 16 data shards, or parts that a pool of size 16 can have
+abbrev pub is_code : PoolKind → Bool
+is_code Replicated = true
+is_code (Erasure k) = is_between 1 16 k
+is_code (Grouped groups) = are_parts 16 groups
 
--- {"groups":[[list of slots, least]],"kind":"grouped"}
-abbrev pub grouped_in : Data → Option PoolKind
-grouped_in d =
-    if has_only (codes "groups" ∷ codes "kind" ∷ []) d then option_map Grouped (field (codes "groups") code_groups_in d) else None
-
--- the code of this kind
-abbrev pub code_of_kind : Data → List ℕ → Option PoolKind
-code_of_kind d kind =
-    if bytes_eq kind (codes "replicated") then replicated_in d
-    else (if bytes_eq kind (codes "erasure") then erasure_in d
-    else (if bytes_eq kind (codes "grouped") then grouped_in d else None))
-
--- how the group's pool keeps its objects
-abbrev pub kind_in : Data → Option PoolKind
-kind_in d = option_and_then (code_of_kind d) (field (codes "kind") as_str d)
-
--- the same in a line of this version
+-- how the group's pool keeps its objects, in a line of this version: an object with the keys of its kind and no other
 abbrev pub code_in : Format → Data → Option PoolKind
-code_in format d = option_and_then (λ kind. if has_kind format kind then Some kind else None) (kind_in d)
+code_in format d = do
+  kind ← pool_kind_in d
+  if has_only (code_keys kind) d && is_code kind && has_kind format kind then Some kind else None
 
 -- the places of a list of devices, at most 16
 abbrev pub osds_in : Bool → Data → Option (List (Option ℕ))

@@ -4,7 +4,7 @@ ghost use Rattle.std.specs.Str.{is_utf8};
 ghost use Rattle.pgp_lines.specs.Value.{view};
 ghost use Rattle.serde_json.specs.Read.{read};
 ghost use Rattle.pgp_lines.specs.LineFault.{told, not_json};
-ghost use Rattle.pgp_lines.specs.Command.{trace_of, values_of, command_with, command_in, data_of, command_of, IsInRange};
+ghost use Rattle.pgp_lines.specs.Command.{trace_of, values_of, command_in, data_of, command_of, IsInRange};
 ghost use Rattle.pgp_lines.specs.Op.{op_in};
 
 mod buckets;
@@ -189,24 +189,11 @@ fn read_command(alloc: Global, value: &Value<'_, '_>) -> Result<Command, TextFau
     if let Some(key) = unknown_key(value, op.keys()) {
         return Err(unknown_key_fault(alloc, key));
     }
-    read_values(alloc, op, value)
+    read_values(alloc, op, value, read_format(value))
 }
 
-/// The command of a line of this operation, past the judgement of its keys.
-fn read_values(alloc: Global, op: Op, value: &Value<'_, '_>) -> Result<Command, TextFault>
-    ensures ok { IfOk result (λ command. command_with op (view value.now) ≡ Ok command) }
-    ensures err { IfErr result
-        (λ fault. IfSome (told fault) (λ f. command_with op (view value.now) ≡ Err f)) }
-{
-    let format = read_format(value);
-    let command = read_op_values(alloc, op, value, format)?;
-    judge_format(alloc, format)?;
-    Ok(command)
-}
-
-/// The values of a line of this operation, which names this version. Only those of an incremental have `v` judged with
-/// them: its `weight` comes after `v` in byte order.
-fn read_op_values(
+/// The command of a line of this operation, past the judgement of its keys; the line names this version.
+fn read_values(
     alloc: Global,
     op: Op,
     value: &Value<'_, '_>,
@@ -219,11 +206,15 @@ fn read_op_values(
     match op {
         Op::Ask => {
             let pg = read_required(alloc, value, "pg")?;
+            judge_format(alloc, format)?;
             Ok(Command::Ask(pg))
         }
-        Op::Close => Ok(Command::Submit(Entry::Close)),
+        Op::Close => {
+            judge_format(alloc, format)?;
+            Ok(Command::Submit(Entry::Close))
+        }
         Op::Entries => {
-            let report = read_entries(alloc, value)?;
+            let report = read_entries(alloc, value, format)?;
             Ok(Command::Submit(Entry::Entries(report)))
         }
         Op::Inc => {
@@ -231,14 +222,14 @@ fn read_op_values(
             Ok(Command::Submit(Entry::Inc(inc)))
         }
         Op::Info => {
-            let info = read_info(alloc, value)?;
+            let info = read_info(alloc, value, format)?;
             Ok(Command::Submit(Entry::Info(info)))
         }
         Op::Locate => {
-            let (pool, name) = read_locate(alloc, value)?;
+            let (pool, name) = read_locate(alloc, value, format)?;
             Ok(Command::Locate { pool, name })
         }
-        Op::Trace => read_trace(alloc, value, read_in(format)),
+        Op::Trace => read_trace(alloc, value, format),
     }
 }
 
@@ -249,21 +240,26 @@ fn read_op(value: &Value<'_, '_>) -> Option<Op>
     Op::named(value.get("op")?.as_str()?)
 }
 
-/// The values of a trace in this version, `code` first: whether a place may be empty depends on it.
-fn read_trace(alloc: Global, value: &Value<'_, '_>, format: Format) -> Result<Command, TextFault>
+/// The values of a trace, `code` first: whether a place may be empty depends on it.
+fn read_trace(
+    alloc: Global,
+    value: &Value<'_, '_>,
+    format: Option<Format>,
+) -> Result<Command, TextFault>
     ensures ok { IfOk result (λ command. trace_of format (view value.now) ≡ Ok command) }
     ensures err { IfErr result
         (λ fault. IfSome (told fault) (λ f. trace_of format (view value.now) ≡ Err f)) }
 {
-    let Some(code) = read_code(value, format) else {
+    let Some(code) = read_code(value, read_in(format)) else {
         return Err(bad_field_fault(alloc, "code"));
     };
     let found = match value.get("epochs") {
         Some(epochs) => read_epochs(alloc, &epochs, code.is_by_place())?,
         None => None,
     };
-    match found {
-        Some(epochs) => Ok(Command::Trace { code, epochs }),
-        None => Err(bad_field_fault(alloc, "epochs")),
-    }
+    let Some(epochs) = found else {
+        return Err(bad_field_fault(alloc, "epochs"));
+    };
+    judge_format(alloc, format)?;
+    Ok(Command::Trace { code, epochs })
 }

@@ -1,13 +1,15 @@
 //! The buckets of a placement tree.
-ghost use Rattle.std.specs.Prelude.{◌≡◌, map, IfOk, length};
+ghost use Rattle.std.specs.Prelude.{◌≡◌, map, IfOk, length, codes};
 ghost use Rattle.pgp_lines.specs.Value.{view};
 ghost use Rattle.pgp_ids.specs.Bucket.{weight_count};
 ghost use Rattle.pgp_lines.specs.Ids.{word_in};
+ghost use Rattle.pgp_lines.specs.Shapes.{field};
 ghost use Rattle.pgp_lines.specs.MadeBucket.{bucket_of};
-ghost use Rattle.pgp_lines.specs.Buckets.{bucket_id_in, bucket_item_in, alg_in, bucket_keys, alg_of, head_in, weights_in, bucket_in};
+ghost use Rattle.pgp_lines.specs.Buckets.{bucket_id_in, bucket_item_in, alg_in, bucket_keys, alg_of, head_in, weights_in, bucket_in, tree_in};
 
-use super::lists::{Shape, read_list_at};
-use super::numbers::{read_byte, read_integer, read_word};
+use super::fields::read_field;
+use super::lists::Shape;
+use super::numbers::{byte_at, read_integer, read_word};
 use super::objects::has_only;
 use super::value::Value;
 use pgp_ids::{BucketAlg, BucketSpec, Seq};
@@ -17,6 +19,21 @@ const LEAST_ID: i32 = -65536;
 
 const GREATEST_ITEM: i64 = 65535;
 
+/// The buckets of a tree; an empty list is a tree without buckets.
+impl Shape for Option<Seq<BucketSpec>> {
+    ghost shape = { tree_in };
+
+    fn read(
+        alloc: Global,
+        value: &Value<'_, '_>,
+    ) -> Result<Option<Option<Seq<BucketSpec>>>, AllocError> {
+        match Seq::read(alloc, value)? {
+            Some(buckets) => Ok(Some(Some(buckets))),
+            None => Ok(None),
+        }
+    }
+}
+
 /// A bucket: its head and its lists. A list bucket has as many weights as items.
 impl Shape for BucketSpec {
     ghost shape = { bucket_in };
@@ -25,7 +42,7 @@ impl Shape for BucketSpec {
         let Some(head) = read_head(value) else {
             return Ok(None);
         };
-        let Some(items) = read_list_at(alloc, value, "items")? else {
+        let Some(items) = read_field(alloc, value, "items")? else {
             return Ok(None);
         };
         match read_weights(alloc, value, head.alg)? {
@@ -56,11 +73,11 @@ impl Shape for u32 {
     }
 }
 
-/// The id of a bucket, -65536 to -1.
+/// The id of a bucket's object, -65536 to -1.
 fn read_id(value: &Value<'_, '_>) -> Option<i32>
-    ensures { result ≡ bucket_id_in (view value.now) }
+    ensures { result ≡ field (codes "id") bucket_id_in (view value.now) }
 {
-    let id = read_integer(value, i64::from(LEAST_ID), -1)?;
+    let id = read_integer(&value.get("id")?, i64::from(LEAST_ID), -1)?;
     Some(id as i32)
 }
 
@@ -104,8 +121,8 @@ fn read_head(value: &Value<'_, '_>) -> Option<Head>
     ensures { result ≡ head_in (view value.now) }
 {
     let alg = alg_of(value)?;
-    let id = read_id(&value.get("id")?)?;
-    let kind = read_byte(&value.get("type")?)?;
+    let id = read_id(value)?;
+    let kind = byte_at(value, "type")?;
     Some(Head { alg, id, kind })
 }
 
@@ -119,7 +136,7 @@ fn read_weights(
 {
     match alg {
         BucketAlg::Uniform => Ok(Some(Seq::new(alloc))),
-        BucketAlg::List => read_list_at(alloc, value, "weights"),
+        BucketAlg::List => read_field(alloc, value, "weights"),
     }
 }
 

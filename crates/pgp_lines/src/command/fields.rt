@@ -1,14 +1,28 @@
 //! The values that a line must or may have.
-ghost use Rattle.std.specs.Prelude.{◌≡◌, Ok, Err, IfOk, IfErr, IfSome};
+ghost use Rattle.std.specs.Prelude.{◌≡◌, Ok, Err, IfOk, IfErr, IfSome, OnOk};
 ghost use Rattle.pgp_lines.specs.Value.{view};
 ghost use Rattle.pgp_lines.specs.LineFault.{told};
-ghost use Rattle.pgp_lines.specs.Shapes.{required, optional};
+ghost use Rattle.pgp_lines.specs.Shapes.{field, required, optional};
 
 use super::faults::bad_field_fault;
 use super::lists::Shape;
 use super::value::Value;
 use pgp_ids::TextFault;
-use std::alloc::Global;
+use std::alloc::{AllocError, Global};
+
+/// The value at a key that an object must have.
+pub(super) fn read_field<T: Shape + Drop>(
+    alloc: Global,
+    value: &Value<'_, '_>,
+    key: &str,
+) -> Result<Option<T>, AllocError>
+    ensures { IfOk result (λ found. found ≡ field key.now T.shape (view value.now)) }
+{
+    match value.get(key) {
+        Some(field) => T::read(alloc, &field),
+        None => Ok(None),
+    }
+}
 
 /// The value that a line must have at a key, or `BadField` of the key.
 pub(super) fn read_required<T: Shape + Drop>(
@@ -20,33 +34,33 @@ pub(super) fn read_required<T: Shape + Drop>(
     ensures err { IfErr result
         (λ fault. IfSome (told fault) (λ f. required key.now T.shape (view value.now) ≡ Err f)) }
 {
-    let found = match value.get(key) {
-        Some(field) => T::read(alloc, &field)?,
-        None => None,
-    };
-    match found {
+    match read_field(alloc, value, key)? {
         Some(found) => Ok(found),
         None => Err(bad_field_fault(alloc, key)),
     }
 }
 
-/// The value that a line may have at a key, `absent` where it has none, or `BadField` of the key.
+/// Puts the value that a line may have at a key into `place`, which stays as it is where the line has none; or `BadField`
+/// of the key.
 pub(super) fn read_optional<T: Shape + Drop>(
     alloc: Global,
     value: &Value<'_, '_>,
     key: &str,
-    absent: T,
-) -> Result<T, TextFault>
-    ensures ok { IfOk result
-        (λ found. optional key.now T.shape absent (view value.now) ≡ Ok found) }
+    place: &mut T,
+) -> Result<(), TextFault>
+    ensures ok { OnOk result
+        (optional key.now T.shape place.old (view value.now) ≡ Ok place.new) }
     ensures err { IfErr result (λ fault. IfSome (told fault)
-        (λ f. optional key.now T.shape absent (view value.now) ≡ Err f)) }
+        (λ f. optional key.now T.shape place.old (view value.now) ≡ Err f)) }
 {
     let Some(field) = value.get(key) else {
-        return Ok(absent);
+        return Ok(());
     };
     match T::read(alloc, &field)? {
-        Some(found) => Ok(found),
+        Some(found) => {
+            *place = found;
+            Ok(())
+        }
         None => Err(bad_field_fault(alloc, key)),
     }
 }

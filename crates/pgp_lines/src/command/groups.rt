@@ -1,7 +1,7 @@
 //! The parts of a grouped pool.
 ghost use Rattle.std.specs.Prelude.{◌≡◌, ◌<◌, option_map, IfSome};
 ghost use Rattle.pgp_lines.specs.Value.{view};
-ghost use Rattle.pgp_lines.specs.Groups.{slot_in, slots_in, part_of, part_in, groups_in, code_groups_in};
+ghost use Rattle.pgp_lines.specs.Groups.{slot_in, slots_in, part_of, part_in, groups_in};
 
 use super::lists::read_pair;
 use super::numbers::{read_byte, read_number};
@@ -13,9 +13,6 @@ const MAX_SLOT: u64 = 15;
 
 /// How many slots the list of a part has at most.
 const MAX_SLOTS: usize = 16;
-
-/// The size of a pool whose groups have the most members.
-const MAX_SIZE: u8 = 16;
 
 /// At most 16 parts, in the first of 16 places. The bound is judged as the list is walked: a longer one is refused after
 /// its first 16 were read.
@@ -33,14 +30,6 @@ pub(super) fn read_groups(value: &Value<'_, '_>) -> Option<Parts>
         count += 1;
     }
     Some(Parts::new(groups))
-}
-
-/// The parts of a trace's code: those that a pool of size 16 can have.
-pub(super) fn read_code_groups(value: &Value<'_, '_>) -> Option<Parts>
-    ensures { result ≡ code_groups_in (view value.now) }
-{
-    let groups = read_groups(value)?;
-    groups.are_of_size(MAX_SIZE).then_some(groups)
 }
 
 /// `[list of slots, least]`.

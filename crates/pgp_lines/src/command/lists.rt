@@ -1,10 +1,10 @@
 //! Lists: those of a fixed number of items, and those of items that are all of one shape.
 ghost use Rattle.std.specs.Prelude.{◌≡◌, Option, option_map, IfOk};
 ghost use Rattle.serde_json.specs.Data.{Data};
-ghost use Rattle.pgp_lines.specs.Value.{view};
-ghost use Rattle.pgp_lines.specs.Shapes.{list_in, list_of, field, pair_in, triple_in, quadruple_in};
+ghost use Rattle.pgp_lines.specs.Value.{view, items_left};
+ghost use Rattle.pgp_lines.specs.Shapes.{list_in, list_of, pair_in, triple_in, quadruple_in, two_of, three_of};
 
-use super::value::Value;
+use super::value::{Items, Value};
 use pgp_ids::Seq;
 use std::alloc::{AllocError, Global};
 
@@ -19,23 +19,22 @@ pub(super) trait Shape {
 }
 
 /// A list of any length.
-pub(super) fn read_list<T: Shape + Drop>(
-    alloc: Global,
-    value: &Value<'_, '_>,
-) -> Result<Option<Seq<T>>, AllocError>
-    ensures { IfOk result (λ found. found ≡ list_of T.shape (view value.now)) }
-{
-    let Some(mut items) = value.items() else {
-        return Ok(None);
-    };
-    let mut found = Seq::new(alloc);
-    while let Some(item) = items.next() {
-        match T::read(alloc, &item)? {
-            Some(item) => found.push(item)?,
-            None => return Ok(None),
+impl<T: Shape + Drop> Shape for Seq<T> {
+    ghost shape = { list_of T.shape };
+
+    fn read(alloc: Global, value: &Value<'_, '_>) -> Result<Option<Seq<T>>, AllocError> {
+        let Some(mut items) = value.items() else {
+            return Ok(None);
+        };
+        let mut found = Seq::new(alloc);
+        while let Some(item) = items.next() {
+            match T::read(alloc, &item)? {
+                Some(item) => found.push(item)?,
+                None => return Ok(None),
+            }
         }
+        Ok(Some(found))
     }
-    Ok(Some(found))
 }
 
 /// A list of `low` to `high` items. The bound is judged as the list is walked: a longer one is refused after its first
@@ -67,31 +66,11 @@ pub(super) fn read_list_within<T: Shape + Drop>(
     Ok(Some(found))
 }
 
-/// The list at a key that an object must have.
-pub(super) fn read_list_at<T: Shape + Drop>(
-    alloc: Global,
-    value: &Value<'_, '_>,
-    key: &str,
-) -> Result<Option<Seq<T>>, AllocError>
-    ensures { IfOk result (λ found. found ≡ field key.now (list_of T.shape) (view value.now)) }
-{
-    match value.get(key) {
-        Some(list) => read_list(alloc, &list),
-        None => Ok(None),
-    }
-}
-
 /// The two items of a list of two.
 pub(super) fn read_pair<'t, 'a>(value: &Value<'t, 'a>) -> Option<(Value<'t, 'a>, Value<'t, 'a>)>
     ensures { option_map (λ p. (view p.0, view p.1)) result ≡ pair_in (view value.now) }
 {
-    let mut items = value.items()?;
-    let a = items.next()?;
-    let b = items.next()?;
-    if items.next().is_some() {
-        return None;
-    }
-    Some((a, b))
+    last_two(&mut value.items()?)
 }
 
 /// The three items of a list of three.
@@ -100,14 +79,7 @@ pub(super) fn read_triple<'t, 'a>(
 ) -> Option<(Value<'t, 'a>, Value<'t, 'a>, Value<'t, 'a>)>
     ensures { option_map (λ t. (view t.0, view t.1, view t.2)) result ≡ triple_in (view value.now) }
 {
-    let mut items = value.items()?;
-    let a = items.next()?;
-    let b = items.next()?;
-    let c = items.next()?;
-    if items.next().is_some() {
-        return None;
-    }
-    Some((a, b, c))
+    last_three(&mut value.items()?)
 }
 
 /// The four items of a list of four.
@@ -119,11 +91,30 @@ pub(super) fn read_quadruple<'t, 'a>(
 {
     let mut items = value.items()?;
     let a = items.next()?;
+    let (b, c, d) = last_three(&mut items)?;
+    Some((a, b, c, d))
+}
+
+/// The items that are left, where there are two.
+fn last_two<'t, 'a>(items: &mut Items<'t, 'a>) -> Option<(Value<'t, 'a>, Value<'t, 'a>)>
+    ensures { option_map (λ p. (view p.0, view p.1)) result ≡ two_of (items_left items.old) }
+{
+    let a = items.next()?;
     let b = items.next()?;
-    let c = items.next()?;
-    let d = items.next()?;
     if items.next().is_some() {
         return None;
     }
-    Some((a, b, c, d))
+    Some((a, b))
+}
+
+/// The items that are left, where there are three.
+fn last_three<'t, 'a>(
+    items: &mut Items<'t, 'a>,
+) -> Option<(Value<'t, 'a>, Value<'t, 'a>, Value<'t, 'a>)>
+    ensures { option_map (λ t. (view t.0, view t.1, view t.2)) result
+        ≡ three_of (items_left items.old) }
+{
+    let a = items.next()?;
+    let (b, c) = last_two(items)?;
+    Some((a, b, c))
 }

@@ -7,6 +7,7 @@ ghost use Rattle.pgp_lines.specs.ReportParts.{name_in};
 ghost use Rattle.pgp_lines.specs.Reports.{locate_of};
 
 use super::fields::read_required;
+use super::format::{Format, judge_format};
 use super::lists::Shape;
 use super::numbers::read_pool_id;
 use super::value::Value;
@@ -33,16 +34,19 @@ impl Shape for ObjectName {
     }
 }
 
-/// The pool and the name of an object. The keys are read in ascending byte order, so that the least bad one is told.
+/// The pool and the name of an object, in a line that names this version. The keys are read in ascending byte order, so
+/// that the least bad one is told.
 pub(super) fn read_locate(
     alloc: Global,
     value: &Value<'_, '_>,
+    format: Option<Format>,
 ) -> Result<(PoolId, ObjectName), TextFault>
-    ensures ok { IfOk result (λ object. locate_of (view value.now) ≡ Ok object) }
+    ensures ok { IfOk result (λ object. locate_of format (view value.now) ≡ Ok object) }
     ensures err { IfErr result
-        (λ fault. IfSome (told fault) (λ f. locate_of (view value.now) ≡ Err f)) }
+        (λ fault. IfSome (told fault) (λ f. locate_of format (view value.now) ≡ Err f)) }
 {
     let name = read_required(alloc, value, "name")?;
     let pool = read_required(alloc, value, "pool")?;
+    judge_format(alloc, format)?;
     Ok((pool, name))
 }

@@ -1,7 +1,7 @@
 //! Whole numbers of a range, and the ids and epochs that they stand for.
 ghost use Rattle.std.specs.Prelude.{◌≡◌, ◌≤◌, ◌≤ℤ◌, IfSome};
 ghost use Rattle.pgp_lines.specs.Value.{view};
-ghost use Rattle.pgp_lines.specs.Shapes.{number_in, integer_in};
+ghost use Rattle.pgp_lines.specs.Shapes.{number_in, integer_in, field};
 ghost use Rattle.pgp_lines.specs.Ids.{osd_in, place_in, pool_id_in, byte_in, word_in, group_in};
 
 use super::value::Value;
@@ -17,6 +17,21 @@ pub(super) fn read_number(value: &Value<'_, '_>, low: u64, high: u64) -> Option<
 {
     let n = value.as_u64()?;
     (low <= n && n <= high).then_some(n)
+}
+
+/// The whole number from `low` to `high` at a key of an object.
+pub(super) fn number_at(value: &Value<'_, '_>, key: &str, low: u64, high: u64) -> Option<u64>
+    ensures value { result ≡ field key.now (number_in low high) (view value.now) }
+    ensures within { IfSome result (λ n. n ≤ high) }
+{
+    read_number(&value.get(key)?, low, high)
+}
+
+/// The number of one byte, 0 to 255, at a key of an object.
+pub(super) fn byte_at(value: &Value<'_, '_>, key: &str) -> Option<u8>
+    ensures { result ≡ field key.now byte_in (view value.now) }
+{
+    read_byte(&value.get(key)?)
 }
 
 /// A whole number from `low` to `high`, which may be negative.

@@ -33,7 +33,7 @@ fn least_with<'a>(key: &'a str, least: Option<&'a str>) -> &'a str
 fn is_one_of(key: &str, keys: &[&str]) -> bool
     ensures { result ≡ is_key (map (λ k. k.now) keys.now) key.now }
 {
-    keys.iter().any(|k| key == *k)
+    keys.contains(&key)
 }
 
 /// Whether an object has no keys but these.

@@ -1,18 +1,17 @@
 //! What a map incremental says of pools and of groups.
-ghost use Rattle.std.specs.Prelude.{◌≡◌, [], map, Ok, Err, IfOk, IfErr, IfSome, codes};
+ghost use Rattle.std.specs.Prelude.{◌≡◌, map, Ok, Err, IfOk, IfErr, IfSome, OnOk, codes};
 ghost use Rattle.pgp_lines.specs.Value.{view};
 ghost use Rattle.std.specs.List.{list_all};
 ghost use Rattle.pgp_lines.specs.LineFault.{told};
 ghost use Rattle.pgp_lines.specs.Format.{has_kind};
-ghost use Rattle.pgp_lines.specs.Shapes.{field, optional};
-ghost use Rattle.pgp_lines.specs.Ids.{byte_in};
-ghost use Rattle.pgp_lines.specs.Pools.{pool_keys, pool_kind_in, spread_in, pool_in, pools_in, pool_sizes_in, temp_in};
+ghost use Rattle.pgp_lines.specs.Shapes.{optional};
+ghost use Rattle.pgp_lines.specs.Pools.{pool_keys, pool_kind_in, pool_in, pools_in, pool_sizes_in, temp_in};
 
 use super::faults::bad_field_fault;
 use super::format::Format;
 use super::groups::read_groups;
-use super::lists::{Shape, read_list, read_triple};
-use super::numbers::{read_byte, read_group, read_number, read_pool_id};
+use super::lists::{Shape, read_triple};
+use super::numbers::{byte_at, number_at, read_byte, read_group, read_pool_id};
 use super::objects::has_only;
 use super::value::Value;
 use pgp_ids::{PoolKind, PoolSizes, PoolSpec, Seq, TempList, TextFault};
@@ -45,29 +44,33 @@ impl Shape for TempList {
         let Some(pg) = read_group(&pool, &pg) else {
             return Ok(None);
         };
-        match read_list(alloc, &places)? {
+        match Seq::read(alloc, &places)? {
             Some(osds) => Ok(Some(TempList { pg, osds })),
             None => Ok(None),
         }
     }
 }
 
-/// The pools of a line of this version, none where it has no such key.
-pub(super) fn pools_at(
+/// Puts the pools that a line of this version may have into `pools`.
+pub(super) fn read_pools(
     alloc: Global,
     value: &Value<'_, '_>,
     format: Format,
-) -> Result<Seq<PoolSpec>, TextFault>
-    ensures ok { IfOk result
-        (λ pools. optional (codes "pools") (pools_in format) [] (view value.now) ≡ Ok pools) }
+    pools: &mut Seq<PoolSpec>,
+) -> Result<(), TextFault>
+    ensures ok { OnOk result
+        (optional (codes "pools") (pools_in format) pools.old (view value.now) ≡ Ok pools.new) }
     ensures err { IfErr result (λ fault. IfSome (told fault)
-        (λ f. optional (codes "pools") (pools_in format) [] (view value.now) ≡ Err f)) }
+        (λ f. optional (codes "pools") (pools_in format) pools.old (view value.now) ≡ Err f)) }
 {
     let Some(list) = value.get("pools") else {
-        return Ok(Seq::new(alloc));
+        return Ok(());
     };
     match read_pools_in(alloc, &list, format)? {
-        Some(pools) => Ok(pools),
+        Some(found) => {
+            *pools = found;
+            Ok(())
+        }
         None => Err(bad_field_fault(alloc, "pools")),
     }
 }
@@ -80,7 +83,7 @@ fn read_pools_in(
 ) -> Result<Option<Seq<PoolSpec>>, AllocError>
     ensures { IfOk result (λ found. found ≡ pools_in format (view value.now)) }
 {
-    let Some(pools) = read_list(alloc, value)? else {
+    let Some(pools) = Seq::read(alloc, value)? else {
         return Ok(None);
     };
     if !has_kinds(format, pools.as_slice()) {
@@ -104,54 +107,23 @@ fn read_pool(value: &Value<'_, '_>) -> Option<PoolSpec>
         return None;
     }
     let id = read_pool_id(&value.get("id")?)?;
-    let spread = read_spread(value)?;
+    let pg_num = number_at(value, "pg_num", 0, u64::from(u16::MAX))?;
     Some(PoolSpec {
         id,
-        pg_num: spread.pg_num,
-        kind,
-        size: spread.size,
-        min_size: spread.min_size,
-        leaf: spread.leaf,
-    })
-}
-
-/// How many groups a pool is to have, on how many devices each lies, with how many of them it may serve, and the type of
-/// bucket that keeps them apart.
-#[derive(Clone, Copy)]
-struct Spread {
-    pg_num: u16,
-    size: u8,
-    min_size: u8,
-    leaf: u8,
-}
-
-fn read_spread(value: &Value<'_, '_>) -> Option<Spread>
-    ensures { result ≡ spread_in (view value.now) }
-{
-    let pg_num = read_number(&value.get("pg_num")?, 0, u64::from(u16::MAX))?;
-    let size = byte_at(value, "size")?;
-    let min_size = byte_at(value, "min_size")?;
-    let leaf = byte_at(value, "leaf")?;
-    Some(Spread {
         pg_num: pg_num as u16,
-        size,
-        min_size,
-        leaf,
+        kind,
+        size: byte_at(value, "size")?,
+        min_size: byte_at(value, "min_size")?,
+        leaf: byte_at(value, "leaf")?,
     })
-}
-
-/// The number of one byte at a key.
-fn byte_at(value: &Value<'_, '_>, key: &str) -> Option<u8>
-    ensures { result ≡ field key.now byte_in (view value.now) }
-{
-    read_byte(&value.get(key)?)
 }
 
 /// The kind of a pool; an erasure pool has a number of data shards, a grouped one its parts.
-fn read_kind(value: &Value<'_, '_>) -> Option<PoolKind>
+pub(super) fn read_kind(value: &Value<'_, '_>) -> Option<PoolKind>
     ensures { result ≡ pool_kind_in (view value.now) }
 {
-    match value.get("kind")?.as_str()? {
+    let kind = value.get("kind")?.as_str()?;
+    match kind {
         "replicated" => Some(PoolKind::Replicated),
         "erasure" => {
             let k = byte_at(value, "k")?;

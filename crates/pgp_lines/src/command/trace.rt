@@ -1,15 +1,16 @@
 //! The values of a trace line: a code, and the epochs of one group.
-ghost use Rattle.std.specs.Prelude.{◌≡◌, codes, IfOk};
+ghost use Rattle.std.specs.Prelude.{◌≡◌, map, codes, IfOk};
 ghost use Rattle.pgp_lines.specs.Value.{view};
+ghost use Rattle.pgp_lines.specs.Ids.{word_in};
 ghost use Rattle.pgp_lines.specs.Shapes.{field};
-ghost use Rattle.pgp_lines.specs.Trace.{kind_in, code_in, replicated_in, erasure_in, grouped_in, osds_in, sizes_in, facts_in, members_in, epoch_state_in, epochs_in};
+ghost use Rattle.pgp_lines.specs.Trace.{code_keys, is_code, code_in, osds_in, sizes_in, facts_in, members_in, epoch_state_in, epochs_in};
 
 use super::format::Format;
-use super::groups::read_code_groups;
-use super::numbers::{read_epoch, read_number, read_place};
+use super::numbers::{number_at, read_epoch, read_place};
 use super::objects::has_only;
+use super::pools::read_kind;
 use super::value::Value;
-use pgp_ids::{EpochState, Membership, Osds, PoolKind, PrimaryFacts, Seq};
+use pgp_ids::{Epoch, EpochState, Membership, Osds, PoolKind, PrimaryFacts, Seq};
 use std::alloc::{AllocError, Global};
 
 const EPOCH_KEYS: [&str; 6] = ["acting", "min_size", "size", "up", "up_from", "up_thru"];
@@ -17,63 +18,39 @@ const EPOCH_KEYS: [&str; 6] = ["acting", "min_size", "size", "up", "up_from", "u
 /// How many epochs a trace has at most.
 pub const MAX_EPOCHS: usize = 4096;
 
-const MAX_SHARDS: u64 = 16;
+/// The size of the largest group, and so the most data shards that a code has.
+const MAX_SIZE: u8 = 16;
 
-const MAX_SIZE: u64 = 16;
-
-/// The code of a trace in this version.
+/// The code of a trace in this version: `{"kind":"replicated"}`, `{"k":1,"kind":"erasure"}` with 1 to 16 data shards, or
+/// `{"groups":[[[0],1]],"kind":"grouped"}` with parts that a pool of size 16 can have.
 pub(super) fn read_code(value: &Value<'_, '_>, format: Format) -> Option<PoolKind>
     ensures { result ≡ field (codes "code") (code_in format) (view value.now) }
 {
-    let kind = read_kind(&value.get("code")?)?;
-    if !format.has_kind(&kind) {
-        return None;
-    }
-    Some(kind)
+    let code = value.get("code")?;
+    let kind = read_kind(&code)?;
+    (has_only(&code, code_keys(&kind)) && is_code(&kind) && format.has_kind(&kind)).then_some(kind)
 }
 
-/// The code of a trace: `{"kind":"replicated"}`, `{"k":1,"kind":"erasure"}` with 1 to 16 data shards, or
-/// `{"groups":[[[0],1]],"kind":"grouped"}`.
-fn read_kind(code: &Value<'_, '_>) -> Option<PoolKind>
-    ensures { result ≡ kind_in (view code.now) }
+/// The keys of a code's object, in ascending byte order.
+fn code_keys(kind: &PoolKind) -> &'static [&'static str]
+    ensures { map (λ k. k.now) result.now ≡ code_keys kind.now }
 {
-    match code.get("kind")?.as_str()? {
-        "replicated" => read_replicated(code),
-        "erasure" => read_erasure(code),
-        "grouped" => read_grouped(code),
-        _ => None,
+    match kind {
+        PoolKind::Replicated => &["kind"],
+        PoolKind::Erasure { .. } => &["k", "kind"],
+        PoolKind::Grouped { .. } => &["groups", "kind"],
     }
 }
 
-fn read_replicated(value: &Value<'_, '_>) -> Option<PoolKind>
-    ensures { result ≡ replicated_in (view value.now) }
+/// Whether a trace can have this code.
+fn is_code(kind: &PoolKind) -> bool
+    ensures { result ≡ is_code kind.now }
 {
-    if !has_only(value, &["kind"]) {
-        return None;
+    match kind {
+        PoolKind::Replicated => true,
+        PoolKind::Erasure { k } => 1 <= *k && *k <= MAX_SIZE,
+        PoolKind::Grouped { groups } => groups.are_of_size(MAX_SIZE),
     }
-    Some(PoolKind::Replicated)
-}
-
-/// An erasure code with 1 to 16 data shards.
-fn read_erasure(value: &Value<'_, '_>) -> Option<PoolKind>
-    ensures { result ≡ erasure_in (view value.now) }
-{
-    if !has_only(value, &["k", "kind"]) {
-        return None;
-    }
-    let k = read_number(&value.get("k")?, 1, MAX_SHARDS)?;
-    Some(PoolKind::Erasure { k: k as u8 })
-}
-
-/// A grouped code, with parts that a pool of size 16 can have.
-fn read_grouped(value: &Value<'_, '_>) -> Option<PoolKind>
-    ensures { result ≡ grouped_in (view value.now) }
-{
-    if !has_only(value, &["groups", "kind"]) {
-        return None;
-    }
-    let groups = read_code_groups(&value.get("groups")?)?;
-    Some(PoolKind::Grouped { groups })
 }
 
 /// At most 16 places. The bound is judged as the list is walked: a longer one is refused after its first 16 were read.
@@ -124,8 +101,8 @@ fn read_members(value: &Value<'_, '_>, nulls: bool) -> Option<Membership>
 fn read_sizes(value: &Value<'_, '_>) -> Option<(u8, u8)>
     ensures { result ≡ sizes_in (view value.now) }
 {
-    let size = read_number(&value.get("size")?, 1, MAX_SIZE)?;
-    let min_size = read_number(&value.get("min_size")?, 1, size)?;
+    let size = number_at(value, "size", 1, u64::from(MAX_SIZE))?;
+    let min_size = number_at(value, "min_size", 1, size)?;
     Some((size as u8, min_size as u8))
 }
 
@@ -133,9 +110,16 @@ fn read_sizes(value: &Value<'_, '_>) -> Option<(u8, u8)>
 fn read_facts(value: &Value<'_, '_>) -> Option<PrimaryFacts>
     ensures { result ≡ facts_in (view value.now) }
 {
-    let up_from = read_epoch(&value.get("up_from")?)?;
-    let up_thru = read_epoch(&value.get("up_thru")?)?;
+    let up_from = epoch_at(value, "up_from")?;
+    let up_thru = epoch_at(value, "up_thru")?;
     Some(PrimaryFacts { up_from, up_thru })
+}
+
+/// The epoch at a key.
+fn epoch_at(value: &Value<'_, '_>, key: &str) -> Option<Epoch>
+    ensures { result ≡ field key.now word_in (view value.now) }
+{
+    read_epoch(&value.get(key)?)
 }
 
 /// The 1 to 4,096 epochs of a trace, the first of which is epoch 1. The bound is judged as the list is walked: a longer

@@ -1,6 +1,6 @@
 //! The lists of devices of an answer, each with its primary.
 ghost use Rattle.std.specs.Prelude.{◌≡◌, ◌++◌, OnOk};
-ghost use Rattle.pgp_replies.specs.Parts.{devices_fields};
+ghost use Rattle.pgp_replies.specs.Parts.{acting_fields, up_fields};
 ghost use Rattle.pgp_replies.specs.Written.{fields_tokens};
 
 use super::parts::write_field;
@@ -8,18 +8,30 @@ use json::Writer;
 use pgp_ids::{OsdId, Osds};
 use std::alloc::{AllocError, Global};
 
-pub(super) fn write_devices(
+pub(super) fn write_acting(
     alloc: Global,
     out: &mut Writer,
-    key: &str,
-    devices: &Osds,
-    primary_key: &str,
+    acting: &Osds,
     primary: Option<OsdId>,
 ) -> Result<(), AllocError>
-    ensures ok { OnOk result (out.new.tokens ≡ out.old.tokens
-        ++ fields_tokens (devices_fields key.now devices.now primary_key.now primary)) }
+    ensures ok { OnOk result
+        (out.new.tokens ≡ out.old.tokens ++ fields_tokens (acting_fields acting.now primary)) }
     ensures before { out.new.before ≡ out.old.before }
 {
-    write_field(alloc, out, key, devices)?;
-    write_field(alloc, out, primary_key, &primary)
+    write_field(alloc, out, "acting", acting)?;
+    write_field(alloc, out, "acting_primary", &primary)
+}
+
+pub(super) fn write_up(
+    alloc: Global,
+    out: &mut Writer,
+    up: &Osds,
+    primary: Option<OsdId>,
+) -> Result<(), AllocError>
+    ensures ok { OnOk result
+        (out.new.tokens ≡ out.old.tokens ++ fields_tokens (up_fields up.now primary)) }
+    ensures before { out.new.before ≡ out.old.before }
+{
+    write_field(alloc, out, "up", up)?;
+    write_field(alloc, out, "up_primary", &primary)
 }

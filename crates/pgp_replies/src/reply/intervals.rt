@@ -4,7 +4,7 @@ ghost use Rattle.pgp_replies.specs.Answered.{interval_data};
 ghost use Rattle.pgp_replies.specs.Parts.{past_fields};
 ghost use Rattle.pgp_replies.specs.Written.{fields_tokens};
 
-use super::devices::write_devices;
+use super::devices::{write_acting, write_up};
 use super::parts::{Json, write_field};
 use json::Writer;
 use pgp_ids::Past;
@@ -13,26 +13,13 @@ use std::alloc::{AllocError, Global};
 impl Json for Past {
     ghost value = { interval_data };
 
+    #[tactic(auto, using(crate::proofs::Tokens::token_steps))]
     fn write(&self, alloc: Global, out: &mut Writer) -> Result<(), AllocError> {
         let members = &self.members;
         out.begin_object()?;
-        write_devices(
-            alloc,
-            out,
-            "acting",
-            &members.acting,
-            "acting_primary",
-            members.acting_primary,
-        )?;
+        write_acting(alloc, out, &members.acting, members.acting_primary)?;
         write_past(alloc, out, self)?;
-        write_devices(
-            alloc,
-            out,
-            "up",
-            &members.up,
-            "up_primary",
-            members.up_primary,
-        )?;
+        write_up(alloc, out, &members.up, members.up_primary)?;
         out.end_object()
     }
 }

@@ -1,7 +1,5 @@
-use Rattle.std.proofs.Common.{◌≡◌, ℕ, List, [], ◌∷◌, Bool, ◌||◌, Bor, bytes_eq, rules, tests, refl, ap, ◌∙◌}
+use Rattle.std.proofs.Common.{◌≡◌, List, [], ◌∷◌, ℕ, Bool, ◌||◌, Bor, bytes_eq, refl, ap, ◌∙◌}
 use Rattle.std.specs.List.{list_any}
-use Rattle.std.proofs.lemmas.Iterator.{YieldsList-from_slice}
-use Rattle.std.proofs.lemmas.Iterator.Search.{any_from_yields_List}
 use Rattle.pgp_lines.proofs.Keys.{texts}
 use Rattle.pgp_lines.proofs.command.objects.is_one_of.Goals as goal
 
@@ -10,7 +8,4 @@ any_text test [] = refl
 any_text test (k ∷ keys) = ap (λ rest. test k.now || rest) (any_text test keys)
 
 pub returns : goal.returns
-returns c =
-    any_from_yields_List (λ k. bytes_eq c.args.key.now k.now) _ _ _ c.any.ensures.ran
-    (YieldsList-from_slice c.args.keys.now cc) (λ x b q k. search (rules, tests))
-    ∙ any_text (bytes_eq c.args.key.now) c.args.keys.now
+returns c = c.contains.ensures.value ∙ any_text (λ k. bytes_eq k c.args.key.now) c.args.keys.now
