@@ -9,8 +9,11 @@ use Rattle.pgp_replies.specs.Answered.{group_data, member_data, place_data, osds
 use Rattle.pgp_replies.specs.Asked.{missing_data}
 
 -- a list of devices and its primary
-abbrev pub devices_fields : List ℕ → List (Option ℕ) → List ℕ → Option ℕ → List Field
-devices_fields key devices primary_key primary = (key, osds_data devices) ∷ (primary_key, place_data primary) ∷ []
+abbrev pub acting_fields : List (Option ℕ) → Option ℕ → List Field
+acting_fields acting primary = (codes "acting", osds_data acting) ∷ (codes "acting_primary", place_data primary) ∷ []
+
+abbrev pub up_fields : List (Option ℕ) → Option ℕ → List Field
+up_fields up primary = (codes "up", osds_data up) ∷ (codes "up_primary", place_data primary) ∷ []
 
 -- when a past interval was, and with what sizes
 abbrev pub past_fields : Past → List Field
@@ -39,4 +42,12 @@ peer_fields pg v =
     ∷ (codes "ok", string (codes "ask"))
     ∷ (codes "pg", group_data pg)
     ∷ (codes "probe", list_data member_data v.probe)
+    ∷ []
+
+-- the group of an object, and the epoch of the map that says where it lies
+abbrev pub place_fields : PgId → ℕ → List Field
+place_fields pg epoch =
+    (codes "epoch", number_data epoch)
+    ∷ (codes "ok", string (codes "locate"))
+    ∷ (codes "pg", group_data pg)
     ∷ []

@@ -2,7 +2,8 @@
 ghost use Rattle.std.specs.Prelude.{◌≡◌, ◌++◌, [], IfOk, OnOk, OnErr};
 ghost use Rattle.json.specs.Print.{print};
 ghost use Rattle.pgp_replies.specs.Reply.{accepted_data, located_data, traced_data, reply_data, reply_text};
-ghost use Rattle.pgp_replies.specs.Written.{tokens_of};
+ghost use Rattle.pgp_replies.specs.Parts.{place_fields};
+ghost use Rattle.pgp_replies.specs.Written.{tokens_of, fields_tokens};
 ghost use Rattle.pgp_replies.specs.declared.reply.Reply.TheVariants.{Asked};
 
 mod asked;
@@ -15,7 +16,7 @@ mod peers;
 mod refused;
 
 use asked::write_asked;
-use devices::write_devices;
+use devices::{write_acting, write_up};
 pub use entry_op::EntryOp;
 use json::Writer;
 use parts::{Json, write_field};
@@ -163,6 +164,7 @@ fn write_accepted(
     out.end_object()
 }
 
+#[tactic(auto, using(crate::proofs::Tokens::token_steps))]
 fn write_located(
     alloc: Global,
     out: &mut Writer,
@@ -175,26 +177,22 @@ fn write_located(
     ensures before { out.new.before ≡ out.old.before }
 {
     out.begin_object()?;
-    write_devices(
-        alloc,
-        out,
-        "acting",
-        &members.acting,
-        "acting_primary",
-        members.acting_primary,
-    )?;
+    write_acting(alloc, out, &members.acting, members.acting_primary)?;
+    write_place(alloc, out, pg, epoch)?;
+    write_up(alloc, out, &members.up, members.up_primary)?;
+    out.end_object()
+}
+
+/// The group, and the epoch of the map that says where it lies.
+#[tactic(auto, using(crate::proofs::Tokens::token_steps))]
+fn write_place(alloc: Global, out: &mut Writer, pg: PgId, epoch: Epoch) -> Result<(), AllocError>
+    ensures ok { OnOk result
+        (out.new.tokens ≡ out.old.tokens ++ fields_tokens (place_fields pg epoch)) }
+    ensures before { out.new.before ≡ out.old.before }
+{
     write_field(alloc, out, "epoch", &epoch)?;
     write_field(alloc, out, "ok", &"locate")?;
-    write_field(alloc, out, "pg", &pg)?;
-    write_devices(
-        alloc,
-        out,
-        "up",
-        &members.up,
-        "up_primary",
-        members.up_primary,
-    )?;
-    out.end_object()
+    write_field(alloc, out, "pg", &pg)
 }
 
 fn write_traced(

@@ -4,7 +4,7 @@ ghost use Rattle.pgp_replies.specs.Asked.{asked_data};
 ghost use Rattle.pgp_replies.specs.Parts.{history_fields, peer_fields};
 ghost use Rattle.pgp_replies.specs.Written.{tokens_of, fields_tokens};
 
-use super::devices::write_devices;
+use super::devices::{write_acting, write_up};
 use super::parts::write_field;
 use json::Writer;
 use pgp_ids::{Epoch, PgId, View};
@@ -24,19 +24,12 @@ pub(super) fn write_asked(
     ensures before { out.new.before ≡ out.old.before }
 {
     out.begin_object()?;
-    write_devices(
-        alloc,
-        out,
-        "acting",
-        &known.acting,
-        "acting_primary",
-        known.acting_primary,
-    )?;
+    write_acting(alloc, out, &known.acting, known.acting_primary)?;
     write_field(alloc, out, "best", &known.best)?;
     write_field(alloc, out, "blocked_by", &known.blocked_by)?;
     write_history(alloc, out, known, count, epoch)?;
     write_peers(alloc, out, pg, known)?;
-    write_devices(alloc, out, "up", &known.up, "up_primary", known.up_primary)?;
+    write_up(alloc, out, &known.up, known.up_primary)?;
     write_field(alloc, out, "verdict", &known.verdict.name())?;
     out.end_object()
 }
