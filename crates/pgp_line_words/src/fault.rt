@@ -4,7 +4,7 @@ ghost use Rattle.std.specs.String.{string_bytes};
 
 use super::lines::{format_of, op_of, shape_at};
 use super::walk::fault_in;
-use super::wrong::shown_key;
+use super::wrong::key_words;
 use pgp_ids::{Refusal, TextFault};
 use pgp_replies::Refused;
 use serde_json::Value;
@@ -27,7 +27,7 @@ pub fn put_fault(
         ++ (codes "line " ++ (decimal number ++ (codes ": " ++ (told ++ LINE_FEED ∷ [])))))) }
     ensures err { OnErr result (string_bytes errors.new ≡ string_bytes errors.old) }
 {
-    let told = told_of(alloc, line, refused)?;
+    let told = text_of(alloc, line, refused)?;
     let text = line_of(alloc, number, told.as_str())?;
     errors.push_str(text.as_str())
 }
@@ -41,20 +41,23 @@ fn line_of(alloc: Global, number: u64, told: &str) -> Result<String, AllocError>
 }
 
 /// The name of a refusal, and what is wrong. What the log refuses, and what has no answer, has its number behind its name.
-fn told_of(alloc: Global, line: &[u8], refused: &Refused) -> Result<String, AllocError> {
+fn text_of(alloc: Global, line: &[u8], refused: &Refused) -> Result<String, AllocError> {
     let name = refused.name();
     let number = refused.number();
+    let what = what_of(alloc, line, refused)?;
     match refused {
-        Refused::Line(fault) => {
-            let what = line_fault(alloc, line, fault)?;
-            format!(in alloc; "{name}: {what}")
-        }
-        Refused::Entry(refusal) => {
-            let what = entry_fault(alloc, *refusal)?;
-            format!(in alloc; "{name} ({number}): {what}")
-        }
-        Refused::Ask(refusal) => format!(in alloc; "{name} ({number}): {refusal}"),
-        Refused::Locate(refusal) => format!(in alloc; "{name} ({number}): {refusal}"),
+        Refused::Line(_) => format!(in alloc; "{name}: {what}"),
+        _ => format!(in alloc; "{name} ({number}): {what}"),
+    }
+}
+
+/// What is wrong.
+fn what_of(alloc: Global, line: &[u8], refused: &Refused) -> Result<String, AllocError> {
+    match refused {
+        Refused::Line(fault) => line_fault(alloc, line, fault),
+        Refused::Entry(refusal) => entry_fault(alloc, *refusal),
+        Refused::Ask(refusal) => format!(in alloc; "{refusal}"),
+        Refused::Locate(refusal) => format!(in alloc; "{refusal}"),
     }
 }
 
@@ -88,32 +91,34 @@ fn line_fault(alloc: Global, line: &[u8], fault: &TextFault) -> Result<String, A
         TextFault::LineTooLong => String::from_str(alloc, "it has more than 1048576 bytes"),
         TextFault::NotJson => String::from_str(alloc, "it is no JSON text"),
         TextFault::NoOp => String::from_str(alloc, "it has no op, or one that is not known"),
-        TextFault::UnknownKey(key) => key_fault(alloc, line, key.as_str()),
-        TextFault::BadField(key) => field_fault(alloc, line, key.as_str()),
+        TextFault::UnknownKey(key) => {
+            let value = read(alloc, line)?;
+            key_fault(alloc, &value, key.as_str())
+        }
+        TextFault::BadField(key) => {
+            let value = read(alloc, line)?;
+            field_fault(alloc, &value, key.as_str())
+        }
         TextFault::Memory => String::from_str(alloc, "out of memory"),
     }
 }
 
 /// That a line has a key that its operation doesn't have.
-fn key_fault(alloc: Global, line: &[u8], key: &str) -> Result<String, AllocError> {
-    let key = shown_key(alloc, key)?;
-    let value = read(alloc, line)?;
-    match op_of(&value) {
-        Some(op) => format!(in alloc; "{key} is no key of {op}"),
-        None => format!(in alloc; "{key} is no key of its operation"),
-    }
+fn key_fault(alloc: Global, line: &Value, key: &str) -> Result<String, AllocError> {
+    let key = key_words(alloc, key)?;
+    let op = op_of(line).unwrap_or("its operation");
+    format!(in alloc; "{key} is no key of {op}")
 }
 
 /// What is wrong with the value that a line has at a key, or that it has none.
-fn field_fault(alloc: Global, line: &[u8], key: &str) -> Result<String, AllocError> {
-    let value = read(alloc, line)?;
-    let Some(field) = value.get(key) else {
+fn field_fault(alloc: Global, line: &Value, key: &str) -> Result<String, AllocError> {
+    let Some(field) = line.get(key) else {
         return format!(in alloc; "{key} is absent");
     };
-    let Some(shape) = shape_at(&value, key) else {
+    let Some(shape) = shape_at(line, key) else {
         return whole_field(alloc, key);
     };
-    match fault_in(alloc, format_of(&value), shape, field)? {
+    match fault_in(alloc, format_of(line), shape, field)? {
         Some(wrong) => wrong.text(alloc, key),
         None => whole_field(alloc, key),
     }

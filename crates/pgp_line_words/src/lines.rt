@@ -132,21 +132,16 @@ pub(crate) fn op_of(line: &Value) -> Option<&str> {
 
 /// The keys of a trace, whose code says whether a place may be empty.
 fn trace_fields(line: &Value) -> &'static [Field] {
-    if is_replicated(line) {
+    if code_kind(line) == Some("replicated") {
         PLAIN_TRACE
     } else {
         PLACED_TRACE
     }
 }
 
-fn is_replicated(line: &Value) -> bool {
-    let Some(code) = line.get("code") else {
-        return false;
-    };
-    let Some(kind) = code.get("kind") else {
-        return false;
-    };
-    kind.as_str() == Some("replicated")
+/// The word by which a trace names its code.
+fn code_kind(line: &Value) -> Option<&str> {
+    line.get("code")?.get("kind")?.as_str()
 }
 
 /// The version in which a line is read: the second where it names none that there is.

@@ -1,7 +1,7 @@
 //! What the values of an object owe one another.
 
 use super::shape::Rule;
-use super::wrong::{Found, Wrong, counted};
+use super::wrong::{Finding, Wrong, at_item, at_key, count_words};
 use serde_json::Value;
 use std::alloc::Global;
 
@@ -9,7 +9,7 @@ use std::alloc::Global;
 const SLOT_LIMIT: usize = 16;
 
 /// What is wrong with an object by this rule. Its values are each of its shape.
-pub(crate) fn rule_fault(alloc: Global, rule: Rule, value: &Value) -> Found {
+pub(crate) fn rule_fault(alloc: Global, rule: Rule, value: &Value) -> Finding {
     match rule {
         Rule::Nothing => Ok(None),
         Rule::WeightPerItem => weights_fault(alloc, value),
@@ -18,22 +18,6 @@ pub(crate) fn rule_fault(alloc: Global, rule: Rule, value: &Value) -> Found {
             Some(groups) => at_key(alloc, "groups", parts_fault(alloc, items_of(groups))),
             None => Ok(None),
         },
-    }
-}
-
-/// What was found at a key.
-fn at_key(alloc: Global, key: &str, found: Found) -> Found {
-    match found? {
-        Some(wrong) => wrong.in_key(alloc, key),
-        None => Ok(None),
-    }
-}
-
-/// What was found at an item.
-fn at_item(alloc: Global, index: usize, found: Found) -> Found {
-    match found? {
-        Some(wrong) => wrong.in_item(alloc, index),
-        None => Ok(None),
     }
 }
 
@@ -53,13 +37,13 @@ fn count_at(value: &Value, key: &str) -> usize {
 }
 
 /// As many weights as items.
-fn weights_fault(alloc: Global, value: &Value) -> Found {
+fn weights_fault(alloc: Global, value: &Value) -> Finding {
     let weights = count_at(value, "weights");
     let items = count_at(value, "items");
     if weights == items {
         return Ok(None);
     }
-    let weights = counted(alloc, weights)?;
+    let weights = count_words(alloc, weights)?;
     let what = format!(in alloc;
         "the list has {weights} in place of {items}, one for each of items"
     )?;
@@ -67,7 +51,7 @@ fn weights_fault(alloc: Global, value: &Value) -> Found {
 }
 
 /// A least size that the size comes to.
-fn sizes_fault(alloc: Global, value: &Value) -> Found {
+fn sizes_fault(alloc: Global, value: &Value) -> Finding {
     let size = number_at(value, "size");
     let least = number_at(value, "min_size");
     if least <= size {
@@ -85,7 +69,7 @@ fn number_at(value: &Value, key: &str) -> i64 {
 }
 
 /// At least one part, each with slots that no other has.
-fn parts_fault(alloc: Global, parts: &[Value]) -> Found {
+fn parts_fault(alloc: Global, parts: &[Value]) -> Finding {
     if parts.is_empty() {
         let what = String::from_str(alloc, "there is no part")?;
         return Wrong::here(alloc, what);
@@ -101,7 +85,7 @@ fn parts_fault(alloc: Global, parts: &[Value]) -> Found {
 }
 
 /// `[list of slots, least]`.
-fn part_fault(alloc: Global, part: &[Value], seen: &mut [bool; SLOT_LIMIT]) -> Found {
+fn part_fault(alloc: Global, part: &[Value], seen: &mut [bool; SLOT_LIMIT]) -> Finding {
     let [slots, least] = part else {
         return Ok(None);
     };
@@ -113,7 +97,7 @@ fn part_fault(alloc: Global, part: &[Value], seen: &mut [bool; SLOT_LIMIT]) -> F
 }
 
 /// At least one slot, none of which was seen before.
-fn slots_fault(alloc: Global, slots: &[Value], seen: &mut [bool; SLOT_LIMIT]) -> Found {
+fn slots_fault(alloc: Global, slots: &[Value], seen: &mut [bool; SLOT_LIMIT]) -> Finding {
     if slots.is_empty() {
         let what = String::from_str(alloc, "the part has no slot")?;
         return Wrong::here(alloc, what);
@@ -140,7 +124,7 @@ fn is_seen(seen: &mut [bool; SLOT_LIMIT], slot: u64) -> bool {
 }
 
 /// A least number that the part's slots come to.
-fn least_fault(alloc: Global, slots: usize, least: &Value) -> Found {
+fn least_fault(alloc: Global, slots: usize, least: &Value) -> Finding {
     let number = least.as_u64().unwrap_or(0);
     if number >= 1 && number <= slots as u64 {
         return Ok(None);

@@ -1,7 +1,7 @@
 //! Values that hold no others: what is wrong with them.
 
 use super::shape::Range;
-use super::wrong::{Found, Wrong, shown};
+use super::wrong::{Finding, Wrong, words_of};
 use serde_json::Value;
 use std::alloc::{AllocError, Global};
 
@@ -9,24 +9,26 @@ use std::alloc::{AllocError, Global};
 const MAX_NAME: usize = 255;
 
 /// A whole number of this range.
-pub(crate) fn number_fault(alloc: Global, range: Range, value: &Value) -> Found {
+pub(crate) fn number_fault(alloc: Global, range: Range, value: &Value) -> Finding {
     if is_in(range, value) {
         return Ok(None);
     }
-    let Range { noun, low, high } = range;
-    let shown = shown(alloc, value)?;
-    let what = format!(in alloc; "{shown} is not {noun} ({low} to {high})")?;
-    Wrong::here(alloc, what)
+    out_of_range(alloc, range, "", value)
 }
 
 /// A whole number of this range, or null.
-pub(crate) fn number_or_null_fault(alloc: Global, range: Range, value: &Value) -> Found {
+pub(crate) fn place_fault(alloc: Global, range: Range, value: &Value) -> Finding {
     if value.is_null() || is_in(range, value) {
         return Ok(None);
     }
+    out_of_range(alloc, range, " or null", value)
+}
+
+/// That a value is no number of this range, nor what `other` says.
+fn out_of_range(alloc: Global, range: Range, other: &str, value: &Value) -> Finding {
     let Range { noun, low, high } = range;
-    let shown = shown(alloc, value)?;
-    let what = format!(in alloc; "{shown} is not {noun} ({low} to {high}) or null")?;
+    let words = words_of(alloc, value)?;
+    let what = format!(in alloc; "{words} is not {noun} ({low} to {high}){other}")?;
     Wrong::here(alloc, what)
 }
 
@@ -38,7 +40,7 @@ fn is_in(range: Range, value: &Value) -> bool {
 }
 
 /// `true` or `false`.
-pub(crate) fn flag_fault(alloc: Global, value: &Value) -> Found {
+pub(crate) fn flag_fault(alloc: Global, value: &Value) -> Finding {
     match value.as_bool() {
         Some(_) => Ok(None),
         None => not_one(alloc, value, "true or false"),
@@ -46,7 +48,7 @@ pub(crate) fn flag_fault(alloc: Global, value: &Value) -> Found {
 }
 
 /// A name of 1 to 255 bytes.
-pub(crate) fn name_fault(alloc: Global, value: &Value) -> Found {
+pub(crate) fn name_fault(alloc: Global, value: &Value) -> Finding {
     let Some(name) = value.as_str() else {
         return not_one(alloc, value, "a name");
     };
@@ -63,7 +65,7 @@ pub(crate) fn name_fault(alloc: Global, value: &Value) -> Found {
 }
 
 /// One of these words.
-pub(crate) fn word_fault(alloc: Global, words: &[&str], value: &Value) -> Found {
+pub(crate) fn word_fault(alloc: Global, words: &[&str], value: &Value) -> Finding {
     if let Some(text) = value.as_str() {
         for word in words {
             if text == *word {
@@ -104,8 +106,8 @@ fn put_quoted(word: &str, text: &mut String) -> Result<(), AllocError> {
 }
 
 /// That a value is not what is wanted.
-pub(crate) fn not_one(alloc: Global, value: &Value, wanted: &str) -> Found {
-    let shown = shown(alloc, value)?;
-    let what = format!(in alloc; "{shown} is not {wanted}")?;
+pub(crate) fn not_one(alloc: Global, value: &Value, wanted: &str) -> Finding {
+    let words = words_of(alloc, value)?;
+    let what = format!(in alloc; "{words} is not {wanted}")?;
     Wrong::here(alloc, what)
 }

@@ -1,20 +1,18 @@
 //! The first place in a value that is not of its shape.
 
 use super::rules::rule_fault;
-use super::scalars::{
-    flag_fault, name_fault, not_one, number_fault, number_or_null_fault, word_fault,
-};
+use super::scalars::{flag_fault, name_fault, not_one, number_fault, place_fault, word_fault};
 use super::shape::{Field, Fields, Format, Kind, Shape};
-use super::wrong::{Found, Wrong, counted, shown_key};
+use super::wrong::{Finding, Wrong, at_key, count_words, key_words};
 use serde_json::{Map, Value};
 use std::alloc::Global;
 
 /// What is wrong with a value that has to be of this shape, in a line of this version.
 #[cycle(walk)]
-pub(crate) fn fault_in(alloc: Global, format: Format, shape: Shape, value: &Value) -> Found {
+pub(crate) fn fault_in(alloc: Global, format: Format, shape: Shape, value: &Value) -> Finding {
     match shape {
         Shape::Number(range) => number_fault(alloc, range, value),
-        Shape::NumberOrNull(range) => number_or_null_fault(alloc, range, value),
+        Shape::NumberOrNull(range) => place_fault(alloc, range, value),
         Shape::Flag => flag_fault(alloc, value),
         Shape::Name => name_fault(alloc, value),
         Shape::Word(words) => word_fault(alloc, words, value),
@@ -38,7 +36,7 @@ pub(crate) fn fault_in(alloc: Global, format: Format, shape: Shape, value: &Valu
 
 /// A list of items of this shape.
 #[cycle(walk)]
-fn items_fault(alloc: Global, format: Format, shape: Shape, value: &Value) -> Found {
+fn items_fault(alloc: Global, format: Format, shape: Shape, value: &Value) -> Finding {
     let Some(items) = value.as_array() else {
         return not_one(alloc, value, "a list");
     };
@@ -52,7 +50,7 @@ fn items_fault(alloc: Global, format: Format, shape: Shape, value: &Value) -> Fo
 
 /// A list of as many items as shapes.
 #[cycle(walk)]
-fn fixed_fault(alloc: Global, format: Format, shapes: &[Shape], value: &Value) -> Found {
+fn fixed_fault(alloc: Global, format: Format, shapes: &[Shape], value: &Value) -> Finding {
     let Some(items) = value.as_array() else {
         return not_one(alloc, value, "a list");
     };
@@ -72,7 +70,7 @@ fn fixed_fault(alloc: Global, format: Format, shapes: &[Shape], value: &Value) -
 
 /// An object of the kind that its word at `key` names.
 #[cycle(walk)]
-fn kinds_fault(alloc: Global, format: Format, key: &str, kinds: &[Kind], value: &Value) -> Found {
+fn kinds_fault(alloc: Global, format: Format, key: &str, kinds: &[Kind], value: &Value) -> Finding {
     for kind in kinds {
         if has_word(value, key, kind.word) {
             if !has_kind(format, kind.since) {
@@ -86,7 +84,7 @@ fn kinds_fault(alloc: Global, format: Format, key: &str, kinds: &[Kind], value: 
 
 /// An object with all of these keys and no other.
 #[cycle(walk)]
-fn object_fault(alloc: Global, format: Format, fields: Fields, value: &Value) -> Found {
+fn object_fault(alloc: Global, format: Format, fields: Fields, value: &Value) -> Finding {
     let Some(object) = value.as_object() else {
         return not_one(alloc, value, "an object");
     };
@@ -101,10 +99,10 @@ fn object_fault(alloc: Global, format: Format, fields: Fields, value: &Value) ->
 
 /// An object with all of these keys.
 #[cycle(walk)]
-fn fields_fault(alloc: Global, format: Format, fields: &[Field], value: &Value) -> Found {
+fn fields_fault(alloc: Global, format: Format, fields: &[Field], value: &Value) -> Finding {
     for field in fields {
         let Some(at_key) = value.get(field.0) else {
-            return absent(alloc, field.0);
+            return absence(alloc, field.0);
         };
         if let Some(wrong) = fault_in(alloc, format, field.1, at_key)? {
             return wrong.in_key(alloc, field.0);
@@ -119,10 +117,10 @@ fn unknown_fault(
     noun: &str,
     fields: &[Field],
     object: &Map<String, Value>,
-) -> Found {
+) -> Finding {
     for key in object.keys() {
         if !is_key(fields, key.as_str()) {
-            let key = shown_key(alloc, key.as_str())?;
+            let key = key_words(alloc, key.as_str())?;
             let what = format!(in alloc; "{key} is no key of {noun}")?;
             return Wrong::here(alloc, what);
         }
@@ -131,27 +129,29 @@ fn unknown_fault(
 }
 
 fn is_key(fields: &[Field], key: &str) -> bool {
-    fields.iter().any(|field| field.0 == key)
+    for field in fields {
+        if field.0 == key {
+            return true;
+        }
+    }
+    false
 }
 
 /// Of an object that doesn't have this key.
-fn absent(alloc: Global, key: &str) -> Found {
+fn absence(alloc: Global, key: &str) -> Finding {
     let what = format!(in alloc; "{key} is absent")?;
     Wrong::here(alloc, what)
 }
 
 /// Of an object that names its kind by one of these words.
-fn kind_fault(alloc: Global, key: &str, words: &[&str], value: &Value) -> Found {
+fn kind_fault(alloc: Global, key: &str, words: &[&str], value: &Value) -> Finding {
     if !value.is_object() {
         return not_one(alloc, value, "an object");
     }
     let Some(word) = value.get(key) else {
-        return absent(alloc, key);
+        return absence(alloc, key);
     };
-    match word_fault(alloc, words, word)? {
-        Some(wrong) => wrong.in_key(alloc, key),
-        None => Ok(None),
-    }
+    at_key(alloc, key, word_fault(alloc, words, word))
 }
 
 /// Whether an object has this word at a key.
@@ -163,7 +163,7 @@ fn has_word(value: &Value, key: &str, word: &str) -> bool {
 }
 
 /// Of a list that has to have `low` to `high` items. What is no list is told elsewhere.
-fn length_fault(alloc: Global, low: usize, high: usize, value: &Value) -> Found {
+fn length_fault(alloc: Global, low: usize, high: usize, value: &Value) -> Finding {
     let Some(items) = value.as_array() else {
         return Ok(None);
     };
@@ -171,22 +171,22 @@ fn length_fault(alloc: Global, low: usize, high: usize, value: &Value) -> Found 
     if len >= low && len <= high {
         return Ok(None);
     }
-    let items = counted(alloc, len)?;
-    let bound = if len < low {
-        format!(in alloc; "has to have {low} at least")?
+    let (has, bound, at) = if len < low {
+        ("has to have", low, "least")
     } else {
-        format!(in alloc; "may have {high} at most")?
+        ("may have", high, "most")
     };
-    let what = format!(in alloc; "the list has {items}, and {bound}")?;
+    let items = count_words(alloc, len)?;
+    let what = format!(in alloc; "the list has {items}, and {has} {bound} at {at}")?;
     Wrong::here(alloc, what)
 }
 
 /// Of a list that has to have this number of items.
-fn count_fault(alloc: Global, count: usize, len: usize) -> Found {
+fn count_fault(alloc: Global, count: usize, len: usize) -> Finding {
     if len == count {
         return Ok(None);
     }
-    let items = counted(alloc, len)?;
+    let items = count_words(alloc, len)?;
     let what = format!(in alloc; "the list has {items} in place of {count}")?;
     Wrong::here(alloc, what)
 }
@@ -203,10 +203,7 @@ fn has_kind(format: Format, since: Format) -> bool {
 }
 
 /// Of a kind that only the second version has.
-fn later_kind(alloc: Global, key: &str, word: &str) -> Found {
+fn later_kind(alloc: Global, key: &str, word: &str) -> Finding {
     let what = format!(in alloc; "{word:?} needs version 2 of the format")?;
-    match Wrong::here(alloc, what)? {
-        Some(wrong) => wrong.in_key(alloc, key),
-        None => Ok(None),
-    }
+    at_key(alloc, key, Wrong::here(alloc, what))
 }

@@ -15,11 +15,11 @@ pub(crate) struct Wrong {
 }
 
 /// What is wrong with a value, if anything is.
-pub(crate) type Found = Result<Option<Wrong>, AllocError>;
+pub(crate) type Finding = Result<Option<Wrong>, AllocError>;
 
 impl Wrong {
     /// This is wrong with the value itself.
-    pub(crate) fn here(alloc: Global, what: String) -> Found {
+    pub(crate) fn here(alloc: Global, what: String) -> Finding {
         Ok(Some(Wrong {
             way: String::new(alloc),
             what,
@@ -27,14 +27,14 @@ impl Wrong {
     }
 
     /// The same of a list whose item this value is.
-    pub(crate) fn in_item(self, alloc: Global, index: usize) -> Found {
+    pub(crate) fn in_item(self, alloc: Global, index: usize) -> Finding {
         let Wrong { way, what } = self;
         let way = format!(in alloc; "[{index}]{way}")?;
         Ok(Some(Wrong { way, what }))
     }
 
     /// The same of an object that has this value at a key.
-    pub(crate) fn in_key(self, alloc: Global, key: &str) -> Found {
+    pub(crate) fn in_key(self, alloc: Global, key: &str) -> Finding {
         let Wrong { way, what } = self;
         let way = format!(in alloc; ".{key}{way}")?;
         Ok(Some(Wrong { way, what }))
@@ -48,20 +48,37 @@ impl Wrong {
     }
 }
 
+/// What was found at a key.
+pub(crate) fn at_key(alloc: Global, key: &str, found: Finding) -> Finding {
+    match found? {
+        Some(wrong) => wrong.in_key(alloc, key),
+        None => Ok(None),
+    }
+}
+
+/// What was found at an item.
+pub(crate) fn at_item(alloc: Global, index: usize, found: Finding) -> Finding {
+    match found? {
+        Some(wrong) => wrong.in_item(alloc, index),
+        None => Ok(None),
+    }
+}
+
 /// A value in a few words.
-pub(crate) fn shown(alloc: Global, value: &Value) -> Result<String, AllocError> {
+pub(crate) fn words_of(alloc: Global, value: &Value) -> Result<String, AllocError> {
     match value {
         Value::Null => String::from_str(alloc, "null"),
-        Value::Bool(flag) => format!(in alloc; "{flag}"),
+        Value::Bool(true) => String::from_str(alloc, "true"),
+        Value::Bool(false) => String::from_str(alloc, "false"),
         Value::Number(number) => format!(in alloc; "{number}"),
-        Value::String(text) => shown_text(alloc, text.as_str()),
+        Value::String(text) => text_words(alloc, text.as_str()),
         Value::Array(_) => String::from_str(alloc, "a list"),
         Value::Object(_) => String::from_str(alloc, "an object"),
     }
 }
 
 /// A text in quotes, on one line.
-fn shown_text(alloc: Global, text: &str) -> Result<String, AllocError> {
+fn text_words(alloc: Global, text: &str) -> Result<String, AllocError> {
     let len = text.len();
     if len > MAX_SHOWN {
         format!(in alloc; "a text of {len} bytes")
@@ -71,7 +88,7 @@ fn shown_text(alloc: Global, text: &str) -> Result<String, AllocError> {
 }
 
 /// A key that a line or an object has, on one line.
-pub(crate) fn shown_key(alloc: Global, key: &str) -> Result<String, AllocError> {
+pub(crate) fn key_words(alloc: Global, key: &str) -> Result<String, AllocError> {
     let len = key.len();
     if len > MAX_SHOWN {
         format!(in alloc; "a key of {len} bytes")
@@ -84,14 +101,16 @@ pub(crate) fn shown_key(alloc: Global, key: &str) -> Result<String, AllocError> 
 
 /// Whether a key is one word, which needs no quotes.
 fn is_plain(key: &str) -> bool {
+    for byte in key.as_bytes() {
+        if !byte.is_ascii_alphanumeric() && *byte != b'_' {
+            return false;
+        }
+    }
     !key.is_empty()
-        && key
-            .bytes()
-            .all(|byte| byte.is_ascii_alphanumeric() || byte == b'_')
 }
 
 /// A number of items.
-pub(crate) fn counted(alloc: Global, count: usize) -> Result<String, AllocError> {
+pub(crate) fn count_words(alloc: Global, count: usize) -> Result<String, AllocError> {
     if count == 1 {
         String::from_str(alloc, "1 item")
     } else {
