@@ -1,4 +1,4 @@
-//! The past intervals for which a group has to wait, and what is told of each.
+//! The past intervals for which a group has to wait, and what is known of each.
 
 ghost use Rattle.std.specs.Prelude.{◌≡◌, nat_lt, max, map as mapped, unwrap_or, IfOk, OnOk};
 ghost use Rattle.pgp_lists.specs.Ordered.{IsAscending, ascending, with_items};
@@ -16,7 +16,7 @@ use pgp_sets::{Status, StatusOf};
 use std::alloc::{AllocError, Global};
 
 /// A past interval for which a group has to wait.
-#[derive(Debug, Drop)]
+#[derive(Drop)]
 pub struct Blocking {
     /// Its first epoch.
     pub first: Epoch,
@@ -28,12 +28,12 @@ pub struct Blocking {
     pub down: Seq<OsdId>,
     /// How many more slots would be enough.
     pub lacks: usize,
-    /// The greatest epoch within it in which a report says that the group was clean, if one does.
+    /// The last epoch within it in which the group was clean, if a report names one.
     pub clean: Option<Epoch>,
 }
 
 impl Blocking {
-    /// What is told of the interval, where these are the infos of the group.
+    /// What is known of the interval, by the map and by these infos of the group.
     fn of(
         alloc: Global,
         code: &AnyCode,
@@ -123,7 +123,7 @@ fn settled_slots(by_place: bool, map: &OsdMap, interval: &Past) -> SlotSet
     slots
 }
 
-/// The greatest epoch within the interval in which the group was clean, by these infos.
+/// The last epoch within the interval in which the group was clean, by these infos.
 fn last_clean(infos: &[Info], interval: &Past) -> Option<Epoch>
     ensures { result ≡ last_within interval.now (mapped (λ info. info.last_epoch_clean) infos.now) }
 {

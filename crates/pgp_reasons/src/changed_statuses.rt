@@ -5,7 +5,7 @@ use super::ways::Way;
 use pgp_ids::{Epoch, OsdId};
 use pgp_sets::{Status, StatusOf};
 
-/// The statuses of devices after these and those booted, or were declared lost.
+/// The statuses of devices after these devices and those booted, or were declared lost.
 #[derive(Drop)]
 pub(crate) struct ChangedStatuses<'a, S> {
     pub(crate) statuses: &'a S,

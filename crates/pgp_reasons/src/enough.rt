@@ -3,7 +3,7 @@ ghost use Rattle.pgp_reasons.specs.Smallest.{IsPartOf};
 
 use pgp_ids::OsdId;
 
-/// Who says of a set of devices whether it is enough for something.
+/// What judges whether a set of devices is enough for something.
 pub(crate) trait Enough {
     /// Whether the set is enough.
     ghost enough: { Self → List ℕ → Bool };

@@ -1,5 +1,5 @@
 /// Numbers of writes that a log lacks.
-#[derive(Clone, Copy, Debug, PartialEq, Eq)]
+#[derive(Clone, Copy)]
 pub struct Gap {
     pub first: u32,
     /// The last, which it lacks too.

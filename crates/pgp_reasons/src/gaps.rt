@@ -39,7 +39,7 @@ pub(crate) fn gaps(
     )
 }
 
-/// The numbers of the log entries that the group's member reported in reports which count, in ascending order, each once.
+/// The numbers of the log entries in the member's reports that count, in ascending order, each once.
 fn reported_numbers(
     alloc: Global,
     map: &OsdMap,
@@ -88,7 +88,7 @@ fn runs_beside(alloc: Global, numbers: &[u32], tail: u32, last: u32) -> Result<S
     Ok(Seq::from_vec(gaps))
 }
 
-/// Adds the numbers above `after` up to `last`, where there are any.
+/// Adds the numbers above `after` up to `last`, if there are any.
 fn add_run(gaps: &mut Vec<Gap>, after: u32, last: u32) -> Result<(), AllocError>
     ensures { OnOk result (gaps.new.items ≡ gaps.old.items ++ runs_of (numbers_above after last)) }
 {

@@ -1,4 +1,4 @@
-//! What the log tells of a group, and whom the group has heard.
+//! What the log says of a group, and whom the group has heard.
 
 ghost use Rattle.std.specs.Prelude.{◌≡◌, map as mapped, IfOk, OnOk};
 ghost use Rattle.std.specs.Arc.{arc_value};
@@ -14,7 +14,7 @@ use pgp_map::OsdMap;
 use std::alloc::{AllocError, Global};
 use std::sync::Arc;
 
-/// The infos of the group, counted or not, in the order in which they came.
+/// The infos of the group in the order in which they came, whether they count or not.
 pub(crate) fn infos_in(
     alloc: Global,
     entries: &[Arc<Entry>],
@@ -31,7 +31,7 @@ pub(crate) fn infos_in(
     Ok(Seq::from_vec(infos))
 }
 
-/// The group's info that the entry is, if it is one.
+/// The entry's info, if it is an info of the group.
 fn told_info(entry: &Entry, pg: &PgId) -> Option<Info>
     ensures { result ≡ told_info pg.now entry.now }
 {
@@ -59,7 +59,7 @@ pub(crate) fn heard(
     Ok(Seq::from_vec(last))
 }
 
-/// Puts an info in place of the one that its member had sent before.
+/// Replaces the info that the member sent before by this one.
 fn put(infos: &mut Vec<Info>, info: &Info) -> Result<(), AllocError>
     ensures { OnOk result (infos.new.items ≡ with_info info.now infos.old.items) }
 {
@@ -69,7 +69,7 @@ fn put(infos: &mut Vec<Info>, info: &Info) -> Result<(), AllocError>
     Ok(())
 }
 
-/// The log entries of the group's member that the entry reports, where it is a report that counts.
+/// The log entries that the entry reports of the group's member, if it is such a report and it counts.
 pub(crate) fn told_entries<'a>(
     entry: &'a Entry,
     map: &OsdMap,

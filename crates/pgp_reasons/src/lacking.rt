@@ -1,4 +1,4 @@
-//! How many more slots a code would need.
+//! How many more slots a code needs.
 
 ghost use Rattle.std.specs.Prelude.{◌≡◌, ◌-◌, ◌^◌, ◌↔◌, true, length, min};
 ghost use Rattle.std.specs.List.{sum_by};
@@ -9,7 +9,7 @@ ghost use Rattle.pgp_reasons.specs.Lacking.{lacking, lacking_of_part};
 use pgp_code::AnyCode;
 use pgp_ids::{Part, SlotSet};
 
-/// How many more slots would be enough for the code, 0 where these are.
+/// How many more slots the code needs, 0 if these are enough.
 #[tactic(auto, using(crate::proofs::LackingLemmas::lacks_none))]
 pub(crate) fn lacking(code: &AnyCode, slots: SlotSet) -> usize
     ensures value { result ≡ lacking code.now slots }
@@ -35,7 +35,7 @@ fn lacking_of_parts(groups: &[Option<Part>], slots: SlotSet) -> usize
     all
 }
 
-/// How many the slots are short of the least number.
+/// How many slots there are less than the least number.
 fn less_by(least: u8, slots: SlotSet) -> usize
     ensures { result ≡ least - length slots }
 {

@@ -1,4 +1,4 @@
-//! What the ways are worth that a group is told: what each says is its contract.
+//! What the sets of devices in an explanation are worth, as functions with nothing to do: what each says is its contract.
 
 ghost use Rattle.std.specs.Prelude.{◌≡◌, ℕ, List, [], ◌∷◌, ◌&&◌, ◌||◌, true, false, length, nat_le, Contains};
 ghost use Rattle.pgp_ids.specs.declared.entry.Entry.TheVariants as entry;
@@ -11,7 +11,7 @@ ghost use Rattle.pgp_reasons.specs.declared.ways.Way.TheVariants.{Start, GiveUp}
 ghost use Rattle.pgp_reasons.specs.GroupWays.{is_down_with, ways, GoesWay};
 ghost use Rattle.pgp_reasons.specs.Smallest.{smallest, holds, IsPartOf};
 
-/// A group is down after the next map just where this layer says so, whatever the map says beside which devices boot, or are
+/// A group is down after the next map exactly if this layer says so, whatever the map says beside which devices boot, or are
 /// given up for lost.
 #[tactic(auto, using(crate::proofs::WayLemmas::brought_back))]
 pub fn brings_back()
@@ -25,8 +25,8 @@ pub fn more_helps()
         → is_down_with way set g ≡ false }
 {}
 
-/// The smallest sets tell all: each of them brings the group back and no part of it does, and whichever of the devices bring
-/// it back have one of them among them.
+/// The smallest sets say all: each of them brings the group back and no part of it does, and any devices that bring it back
+/// include one of these sets.
 pub fn smallest_are_all()
     ensures enough { (way : Way) (g : GroupLog) (set : List ℕ) → Contains (ways way g) set → is_down_with way set g ≡ false }
     ensures of_them { (way : Way) (g : GroupLog) (set : List ℕ) → Contains (ways way g) set
@@ -38,8 +38,8 @@ pub fn smallest_are_all()
         → (set : List ℕ) × (Contains (ways way g) set × IsPartOf set osds) }
 {}
 
-/// To start devices and to declare them lost come to the same: the devices that a group waits for bring it back by the one
-/// just where they do so by the other, so the smallest sets that do are the same. What is lost is what those devices hold.
+/// To start devices and to declare them lost come to the same: devices that a group waits for bring it back in the one way
+/// exactly if they do in the other, so the smallest sets are the same. What is lost is what those devices hold.
 #[tactic(auto, using(crate::proofs::SameWayLemmas::same_ways))]
 pub fn starts_and_losses_are_the_same_sets()
     ensures each { (g : GroupLog) (osds : List ℕ) → IsPartOf osds (prior g).blocked_by

@@ -15,8 +15,8 @@ use pgp_ids::{OsdId, PgId, View};
 use pgp_map::OsdMap;
 
 /// Whether the group of this view is not down once these devices booted, or were declared lost, where the view is by a log
-/// whose last map is this one. So it is after the next map if that boots just these devices, or declares just these lost at
-/// its own epoch, and takes none down and destroys none. It takes no memory.
+/// whose last map is this one. The same holds after the next map, if that boots only these devices, or declares only these
+/// lost at its own epoch, and takes none down and destroys none. It takes no memory.
 pub fn unblocks(map: &OsdMap, pg: PgId, view: &View, way: Way, osds: &[OsdId]) -> bool
     ensures as_defined { (log : List Entry) (g : GroupLog) → IsViewed log map.now pg view.now g → result ≡ brings_back way g osds.now }
     ensures by_next_map { (log : List Entry) (g after : GroupLog) (inc : Incremental) → IsViewed log map.now pg view.now g

@@ -21,24 +21,24 @@ use std::alloc::{AllocError, Global};
 use std::sync::Arc;
 
 /// Why a group doesn't serve, and what would bring it back, beside what its view says.
-#[derive(Debug, Drop)]
+#[derive(Drop)]
 pub struct Reasons {
     /// The last info of each member that has one which counts.
     pub heard: Seq<Info>,
     /// The past intervals that block the group, in ascending order.
     pub blocking: Seq<Blocking>,
-    /// The smallest sets of devices that are down which, once they boot, leave the group not down. None where it isn't.
+    /// The smallest sets of devices which, once they boot, leave the group not down. None if it isn't down.
     pub starts: Ways,
-    /// The same of devices that are declared lost.
+    /// The same for devices that are declared lost.
     pub losses: Ways,
-    /// What its acting set lacks, and who might be missed in it.
+    /// What its acting set lacks, and which devices that are down may be what it lacks.
     pub short: Short,
-    /// The numbers of writes that the log of the best copy lacks. None where there is no best copy.
+    /// The numbers of writes that the log of the best copy lacks. None if there is no best copy.
     pub gaps: Seq<Gap>,
 }
 
 /// Why the group of this view doesn't serve, and what would bring it back, where the view is by the log of these entries and
-/// the map is the last one of that log. Nothing where the map has no such pool.
+/// the map is the last one of that log. Nothing if the map doesn't have the pool.
 ///
 /// It reads each entry twice at most, and takes memory for the answer and for the group's infos.
 pub fn reasons_of(
@@ -59,7 +59,7 @@ pub fn reasons_of(
     }
 }
 
-/// The same of a group of a pool with this code.
+/// The same for a group of a pool with this code.
 fn reasons_by(
     alloc: Global,
     code: &AnyCode,
@@ -121,7 +121,7 @@ fn best_gaps(
     }
 }
 
-/// The member's info, where there is a member and it has one.
+/// The member's info, if there is a member and it has one.
 fn info_of_best(infos: &[Info], member: Option<Member>) -> Option<&Info>
     ensures { option_copied result ≡ option_and_then (info_of infos.now) member }
 {
@@ -131,7 +131,7 @@ fn info_of_best(infos: &[Info], member: Option<Member>) -> Option<&Info>
     }
 }
 
-/// The member's info, where it has one.
+/// The member's info, if it has one.
 fn info_of<'a>(infos: &'a [Info], member: &Member) -> Option<&'a Info>
     ensures { option_copied result ≡ info_of infos.now member.now }
 {

@@ -13,7 +13,7 @@ use pgp_prior::blocks;
 use pgp_sets::StatusOf;
 use std::alloc::{AllocError, Global};
 
-/// What tells of a group whether it would be down no more once some devices booted, or were declared lost.
+/// Judges whether a group would no longer be down once some devices booted, or were declared lost.
 #[derive(Drop)]
 pub(crate) struct Relief<'a, R, S> {
     pub(crate) code: &'a R,

@@ -10,8 +10,8 @@ use std::alloc::{AllocError, Global};
 /// The smallest sets of these devices that are enough, the smaller first.
 ///
 /// It walks the sets by their size, and stops after it has judged 10,000 of them or listed 16. Where it stopped before it
-/// came upon any, it lists one that it finds by leaving out one device after another. Of nine devices it never has to judge
-/// 10,000 sets.
+/// came upon any, it lists one, which it finds by leaving out one device after another. For nine devices it never has to
+/// judge 10,000 sets.
 pub(crate) fn smallest_of<E: Enough>(
     alloc: Global,
     judge: &E,
@@ -38,7 +38,7 @@ pub(crate) fn smallest_of<E: Enough>(
     })
 }
 
-/// The sets that a walk listed before it stopped, or one where it listed none.
+/// The sets that a walk listed before it stopped, or one set if it listed none.
 fn or_one<E: Enough>(
     alloc: Global,
     judge: &E,
@@ -58,8 +58,8 @@ fn or_one<E: Enough>(
     Ok(Ways { sets, more: true })
 }
 
-/// The set that is left of these devices, which are enough, where one after another is left out without which the others
-/// are still enough.
+/// The set that remains of these devices, which are enough, after each device without which the others are still enough
+/// was left out, one after another.
 fn leave_out<E: Enough>(alloc: Global, judge: &E, among: &[OsdId]) -> Result<Seq<OsdId>, AllocError>
     requires { E.enough judge.now among.now ≡ true }
     ensures { IfOk result (λ set. Contains (smallest (E.enough judge.now) among.now) set) }

@@ -33,7 +33,7 @@ impl SetWalk {
         }
     }
 
-    /// Whether these devices and those are enough together. None where no more sets may be judged.
+    /// Whether these devices and those are enough together. None if no more sets may be judged.
     fn look<E: Enough>(&mut self, judge: &E, these: &[OsdId], those: &[OsdId]) -> Option<bool>
         ensures said { IfSome result (λ said. said ≡ E.enough judge.now (these.now ++ those.now)) }
         ensures kept { self.new.sets ≡ self.old.sets }
@@ -47,7 +47,7 @@ impl SetWalk {
         Some(judge.is_enough(these, those))
     }
 
-    /// Whether the set without one of its devices is enough. None where no more sets may be judged.
+    /// Whether the set is still enough without one of its devices. None if no more sets may be judged.
     fn is_enough_but_one<E: Enough>(&mut self, judge: &E, set: &[OsdId]) -> Option<bool>
         ensures said { IfSome result (λ said. said ≡ list_any (E.enough judge.now) (each_but_one set.now)) }
         ensures kept { self.new.sets ≡ self.old.sets }
@@ -62,8 +62,7 @@ impl SetWalk {
         Some(false)
     }
 
-    /// Whether the set is enough, and is so no more once one of its devices is left out. None where no more sets may be
-    /// judged.
+    /// Whether the set is enough, and no longer enough without any one of its devices. None if no more sets may be judged.
     fn is_smallest<E: Enough>(&mut self, judge: &E, set: &[OsdId]) -> Option<bool>
         ensures said { IfSome result (λ said. said ≡ is_smallest (E.enough judge.now) set.now) }
         ensures kept { self.new.sets ≡ self.old.sets }
@@ -73,7 +72,7 @@ impl SetWalk {
         Some(self.look(judge, set, &[])? && !self.is_enough_but_one(judge, set)?)
     }
 
-    /// Lists the set, if it is one of the smallest. It says whether the walk may go on.
+    /// Lists the set, if it is one of the smallest. It answers whether the walk may go on.
     fn list_if_smallest<E: Enough>(
         &mut self,
         alloc: Global,
@@ -100,8 +99,8 @@ impl SetWalk {
         }
     }
 
-    /// Lists the smallest sets that are the chosen devices and `left` of the rest. It says whether it went through all of
-    /// them: it stops where no more sets may be judged or listed.
+    /// Lists the smallest sets that are made of the chosen devices and of `left` devices of the rest. It answers whether it went
+    /// through all of them: it stops once no more sets may be judged or listed.
     #[cycle(walk)]
     #[tactic(auto, using(crate::proofs::LookLemmas::some_looks))]
     pub(crate) fn walk<E: Enough>(
@@ -132,8 +131,7 @@ impl SetWalk {
         }
     }
 
-    /// The same where at least one of the rest is to be added: first the sets with the first of the rest, then those
-    /// without it.
+    /// The same if at least one of the rest is to be added: first the sets with the first of the rest, then those without it.
     #[cycle(walk)]
     #[tactic(auto, using(crate::proofs::LookLemmas::some_looks))]
     fn walk_on<E: Enough>(

@@ -13,13 +13,13 @@ use pgp_interval::acting_slots;
 use pgp_map::OsdMap;
 use std::alloc::{AllocError, Global};
 
-/// What the acting set of a group lacks, and who might be missed in it.
-#[derive(Debug, Drop)]
+/// What the acting set of a group lacks, and which devices that are down may be what it lacks.
+#[derive(Drop)]
 pub struct Short {
-    /// How many more slots than those of the acting members would be enough.
+    /// How many more slots than those of the acting members it needs.
     pub lacks: usize,
-    /// The devices that are down of those that were acting in the past intervals since the group last began to serve. In
-    /// ascending order, each once.
+    /// The devices that are down now, and were acting in a past interval since the group last began to serve. In ascending
+    /// order, each once.
     pub fallen: Seq<OsdId>,
 }
 
@@ -42,7 +42,7 @@ pub(crate) fn short_of(
     })
 }
 
-/// The acting devices, down now, of the past intervals that didn't end before the epoch `les`.
+/// The devices that are down now, and were acting in a past interval that didn't end before the epoch `les`.
 fn fallen(
     alloc: Global,
     by_place: bool,

@@ -24,7 +24,7 @@ pub(crate) struct Waits {
     pub(crate) blocking: Seq<Blocking>,
     /// The smallest sets of devices which, once they boot, leave it not down.
     pub(crate) starts: Ways,
-    /// The same of devices that are declared lost.
+    /// The same for devices that are declared lost.
     pub(crate) losses: Ways,
 }
 
@@ -50,7 +50,7 @@ pub(crate) fn waits_of(
     })
 }
 
-/// The smallest sets of devices that in this way leave the group of the view not down; none where it isn't down.
+/// The smallest sets of devices that leave the group of the view not down in this way; none if it isn't down.
 fn ways(
     alloc: Global,
     code: &AnyCode,

@@ -1,7 +1,7 @@
 use pgp_ids::{OsdId, Seq};
 
 /// How a device that is down stops being waited for.
-#[derive(Clone, Copy, Debug, PartialEq, Eq)]
+#[derive(Clone, Copy)]
 pub enum Way {
     /// It boots.
     Start,
@@ -10,7 +10,7 @@ pub enum Way {
 }
 
 /// Sets of devices each of which would be enough.
-#[derive(Debug, Drop)]
+#[derive(Drop)]
 pub struct Ways {
     /// The smaller sets first; each in ascending order.
     pub sets: Seq<Seq<OsdId>>,
