@@ -1,7 +1,7 @@
 //! Command lines that are right, of which a contract can't say that they are taken: where words have no fault, the program may
 //! still say that there was no memory to read them. And the text of help, of which the contract says only that it was written.
 
-use pgp_cli::{Ending, Watched, status_of};
+use pgp_cli::{Ending, WatchedStream, status_of};
 use std::alloc::Global;
 use std::sync::Wait;
 use std::test::Fail;
@@ -22,13 +22,13 @@ fn written_for<T: Threads + Wait + Sync>(
     for word in words {
         given.push(String::from_str(alloc, word)?)?;
     }
-    let mut writer = Watched::new(Vec::new(alloc));
+    let mut writer = WatchedStream::new(Vec::new(alloc));
     let mut errors = Vec::new(alloc);
     let ending = status_of(
         rt,
         alloc,
         given.as_slice(),
-        &mut Watched::new(SCRIPT),
+        &mut WatchedStream::new(SCRIPT),
         &mut writer,
         &mut errors,
     );

@@ -1,6 +1,6 @@
 //! What the program does beyond answering a script: its command line, its status and what it tells of faults.
 
-use pgp_cli::{DONE, FAULT, USAGE, Watched, status_of, without_words};
+use pgp_cli::{DONE, FAULT, USAGE, WatchedStream, status_of, without_words};
 use std::alloc::Global;
 use std::io;
 use std::io::{ErrorKind, Read, Write};
@@ -99,9 +99,9 @@ fn run_with<R: Read + Drop, W: Write + Drop, T: Threads + Wait + Sync>(
     for word in words {
         given.push(String::from_str(alloc, word)?)?;
     }
-    let mut out = Watched::new(writer);
+    let mut out = WatchedStream::new(writer);
     let mut errors = Vec::new(alloc);
-    let mut source = Watched::new(reader);
+    let mut source = WatchedStream::new(reader);
     let ending = status_of(
         rt,
         alloc,

@@ -3,7 +3,7 @@
 //! Everything but the standard streams is a function of `pgp_cli` over any reader and writers.
 #![tactic(auto)]
 
-use pgp_cli::{Watched, status_of, without_words};
+use pgp_cli::{WatchedStream, status_of, without_words};
 use std::env;
 use std::io::ErrorKind;
 use std::process::ExitCode;
@@ -21,8 +21,8 @@ fn main(rt: HostRuntime) -> ExitCode {
             &rt,
             alloc,
             words.as_slice(),
-            &mut Watched::new(rt.stdin()),
-            &mut Watched::new(rt.stdout()),
+            &mut WatchedStream::new(rt.stdin()),
+            &mut WatchedStream::new(rt.stdout()),
             &mut rt.stderr(),
         ),
         Err(kind) => without_words(kind, &mut rt.stderr()),
