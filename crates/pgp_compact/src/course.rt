@@ -27,7 +27,7 @@ pub(crate) struct Course {
     pub(crate) pg: PgId,
     /// The last epoch in which the group is known to have begun to serve.
     pub(crate) les: Epoch,
-    /// Where the group lies by the last map, where that has the group.
+    /// Where the group lies by the last map, if that has the group.
     place: Option<GroupPlace>,
     /// The first epochs of its intervals, in ascending order.
     firsts: Vec<Epoch>,
@@ -55,8 +55,8 @@ impl Course {
         self.les = self.les.max(les);
     }
 
-    /// Takes the next map, which this incremental makes. Where the group lies as before, it asks for no placement and takes no
-    /// memory. After an `Err` it is of no further use.
+    /// Takes the next map, which this incremental makes. If the group lies as before, it asks for no placement and takes no
+    /// memory. After an `Err` the value must not be used again.
     pub(crate) fn absorb(&mut self, after: &OsdMap, inc: &Incremental) -> Result<(), AllocError>
         requires { CanGoOn self.old inc.now after.now }
         ensures ok { OnOk result ((incs : List AnyIncremental) → IsNext incs inc.now after.now → IsCourse incs self.old
@@ -78,7 +78,7 @@ impl Course {
         Ok(())
     }
 
-    /// The group's life begins, if the map has the group, which the one before didn't have.
+    /// The group's life begins, if this map has the group. The map before didn't have it.
     fn begin(&mut self, after: &OsdMap) -> Result<(), AllocError>
         requires { IsCheckedMap after.now }
         ensures ok { OnOk result ((incs : List AnyIncremental) (inc : AnyIncremental) → IsNext incs inc after.now
@@ -93,8 +93,8 @@ impl Course {
         Ok(())
     }
 
-    /// What decides which reports of the group are needed, where an info names `clean` as an epoch in which it was clean; `None`
-    /// where the last map doesn't have the group.
+    /// What decides which reports of the group are needed, where an info says that it was clean in the epoch `clean`; `None` if the
+    /// last map doesn't have the group.
     pub(crate) fn standing(&self, clean: Epoch) -> Option<Standing>
         ensures { (log : List AnyEntry) → is_legal log ≡ true → IsCourse (incs_of log) self.now
             → self.now.les ≡ started_by log self.now.pg → clean ≤ epoch (incs_of log)
@@ -112,8 +112,8 @@ impl Course {
     }
 }
 
-/// The first epoch of the interval that holds the epoch, of a group whose intervals began in these; `None` where it wasn't there
-/// yet.
+/// The first epoch of the interval that holds `epoch`, for a group whose intervals began in these epochs; `None` if the group
+/// wasn't there yet.
 fn opening(firsts: &[Epoch], epoch: Epoch) -> Option<Epoch>
     ensures { (g : GroupLog) → firsts.now ≡ firsts_of g.history → HasReached g epoch → result ≡ opening_in g epoch }
 {
@@ -125,7 +125,7 @@ fn opening(firsts: &[Epoch], epoch: Epoch) -> Option<Epoch>
     }
 }
 
-/// Whether the group lies alike by both: then its interval goes on.
+/// Whether the group lies in the same place by both, so that its interval goes on.
 fn is_same(a: &Membership, b: &Membership) -> bool
     ensures { result ≡ is_same a.now b.now }
 {

@@ -42,7 +42,7 @@ impl Courses {
         Ok(courses)
     }
 
-    /// Takes note of the next entry. After an `Err` they are of no further use.
+    /// Takes note of the next entry. After an `Err` the value must not be used again.
     fn note(&mut self, alloc: Global, entry: &Entry) -> Result<(), AllocError>
         requires { AreSomeCourses self.old }
         ensures { OnOk result ((entries : List AnyEntry) → AreCourses [] entries self.old
@@ -77,8 +77,8 @@ impl Courses {
         }
     }
 
-    /// Takes the next map, which this incremental makes: one that moves no group goes to none of them. After an `Err` they are of
-    /// no further use.
+    /// Takes the next map, which this incremental makes. One that moves no group is passed to none of them. After an `Err` the
+    /// value must not be used again.
     pub(crate) fn absorb(&mut self, after: &OsdMap, inc: &Incremental) -> Result<(), AllocError>
         requires { CanAllGoOn self.old.all.items inc.now after.now }
         ensures { OnOk result ((incs : List AnyIncremental) (entries : List AnyEntry) → IsNext incs inc.now after.now

@@ -1,9 +1,9 @@
-//! By what a later report stands in place of an earlier one.
+//! The keys by which a later report replaces an earlier one.
 
 use pgp_ids::{OsdId, PgId};
 
 /// A member of a group.
-#[derive(Clone, Copy, Debug, PartialEq, Eq, Hash)]
+#[derive(Clone, Copy, PartialEq, Eq, Hash)]
 pub(crate) struct Sender {
     pub(crate) pg: PgId,
     pub(crate) osd: OsdId,
@@ -11,14 +11,14 @@ pub(crate) struct Sender {
 }
 
 /// An interval of a group, by its first epoch.
-#[derive(Clone, Copy, Debug, PartialEq, Eq, Hash)]
+#[derive(Clone, Copy, PartialEq, Eq, Hash)]
 pub(crate) struct Opening {
     pub(crate) pg: PgId,
     pub(crate) first: u32,
 }
 
 /// The log entries of one number of a member of a group.
-#[derive(Clone, Copy, Debug, PartialEq, Eq, Hash)]
+#[derive(Clone, Copy, PartialEq, Eq, Hash)]
 pub(crate) struct Number {
     pub(crate) pg: PgId,
     pub(crate) osd: OsdId,

@@ -19,8 +19,8 @@ use pgp_ids::{Epoch, Info, LogEntry, PgId, Report};
 use pgp_map::OsdMap;
 use std::alloc::{AllocError, Global};
 
-/// What was sent later: of each member the greatest stamp of its infos, of each group the greatest history_les, in which
-/// intervals groups were clean, and of each number of each member the greatest stamp of a report with an entry of it.
+/// What was sent later: of each member the greatest stamp of its infos, of each group the greatest history_les, the intervals
+/// in which groups were clean, and of each number of each member the greatest stamp of a report with an entry of that number.
 pub(crate) struct Later {
     senders: Greatest<Sender>,
     starts: Greatest<PgId>,
@@ -77,7 +77,7 @@ impl Later {
             && !self.senders.reaches(&sender, info.stamp.number())
     }
 
-    /// Whether it is the last to tell when the group last began to serve.
+    /// Whether it is the last info that says when the group last began to serve.
     fn tells_last_start(&self, standing: &Standing, info: &Info) -> bool
         ensures { (log later : List AnyEntry) (g : GroupLog) → IsLater log later self.now → standing.now.les ≡ les g
             → result ≡ tells_last_start g (infos_in info.now.pg later) info.now }
@@ -92,7 +92,7 @@ impl Later {
         !self.starts.reaches(&info.pg, start.number())
     }
 
-    /// Whether it is the last to tell that the group was clean in one of its intervals.
+    /// Whether it is the last info that says that the group was clean in one of its intervals.
     fn tells_last_clean(&self, standing: &Standing, info: &Info) -> bool
         ensures { (log later : List AnyEntry) (g : GroupLog) → IsLater log later self.now → group_in log info.now.pg ≡ Some g
             → standing.now.opening ≡ opening_in g info.now.last_epoch_clean
@@ -149,8 +149,8 @@ impl Later {
         ensures { (log later : List AnyEntry) → IsLater log later self.now
             → result ≡ list_any (replaces_number report.now entry.now.version.v) (reports_in report.now.pg later) }
     {
-        self.numbers
-            .reaches(&number_of(report, entry), report.stamp.number())
+        let number = number_of(report, entry);
+        self.numbers.reaches(&number, report.stamp.number())
     }
 
     /// Takes note of a report of log entries that comes before all of these.

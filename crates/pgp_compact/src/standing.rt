@@ -9,7 +9,7 @@ pub(crate) struct Standing {
     pub(crate) first: Epoch,
     /// The last epoch in which the group is known to have begun to serve.
     pub(crate) les: Epoch,
-    /// The first epoch of the interval in which the group was clean, by a report; `None` where it names no epoch of the
+    /// The first epoch of the interval in which the group was clean, by a report; `None` if the report names no epoch of the
     /// group's life.
     pub(crate) opening: Option<Epoch>,
 }

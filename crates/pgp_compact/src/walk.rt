@@ -42,7 +42,7 @@ pub fn needed(alloc: Global, entries: &[Arc<Entry>]) -> Result<Vec<bool>, AllocE
     Ok(choices)
 }
 
-/// Keeps the entry behind those that are kept, if it is needed.
+/// Adds the entry to those that are kept, if it is needed.
 fn keep(kept: &mut Vec<Arc<Entry>>, entry: &Arc<Entry>, needed: bool) -> Result<(), AllocError>
     ensures { OnOk result (map arc_value kept.new.items
         ≡ map arc_value kept.old.items ++ (if needed then arc_value entry.now ∷ [] else [])) }

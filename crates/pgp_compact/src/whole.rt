@@ -36,7 +36,7 @@ impl Drop for Whole {
 }
 
 impl Whole {
-    /// All of this log. It goes twice over the log: once for the groups that have reports, and once for where these lie.
+    /// Reads all of this log. It goes over the log twice: once for the groups that have reports, and once for where these lie.
     pub(crate) fn of(alloc: Global, entries: &[Arc<Entry>]) -> Result<Self, AllocError>
         requires { is_legal (map arc_value entries.now) ≡ true }
         ensures { IfOk result (λ whole. IsWhole (map arc_value entries.now) whole) }
@@ -51,7 +51,7 @@ impl Whole {
         Ok(whole)
     }
 
-    /// Reads the next entry of the log, for its map. After an `Err` it is of no further use.
+    /// Reads the next entry of the log, for its map. After an `Err` the value must not be used again.
     fn read(&mut self, entry: &Entry) -> Result<(), AllocError>
         requires { CanRead self.old entry.now }
         ensures { OnOk result ((log front : List AnyEntry) → is_legal (front ++ entry.now ∷ []) ≡ true → HasRead log front self.old
@@ -68,8 +68,8 @@ impl Whole {
         }
     }
 
-    /// Whether an answer can need the entry of the log, where `later` has taken note of those after it; it takes note of the entry
-    /// too.
+    /// Whether an answer can need the entry of the log, where `later` has taken note of those after it. `later` then takes note
+    /// of this entry too.
     pub(crate) fn needs(&self, later: &mut Later, entry: &Entry) -> Result<bool, AllocError>
         ensures needed { IfOk result (λ needed. (log done : List AnyEntry) → IsWhole log self.now → IsLater log done later.old
             → Contains log entry.now → needed ≡ is_needed log done entry.now) }
@@ -122,8 +122,8 @@ impl Whole {
         }
     }
 
-    /// What the log says of the group, of which it has a report, and to which of its intervals an epoch belongs that the log has
-    /// reached.
+    /// What the log says of the group, of which it has a report, and which of its intervals holds the epoch `clean`, which the log
+    /// has reached.
     fn standing(&self, pg: &PgId, clean: Epoch) -> Option<Standing>
         ensures { (log : List AnyEntry) → IsWhole log self.now → HasReport log pg.now → clean ≤ epoch (incs_of log)
             → result ≡ option_map (standing_at clean) (group_in log pg.now) }
