@@ -1,5 +1,5 @@
 -- How a question about a placement group ends. This project's own choice.
-use Rattle.std.specs.Prelude.{◌≡◌, ◌⊎◌, ℕ, ◌≤◌, List, Option, Some, None}
+use Rattle.std.specs.Prelude.{◌≡◌, ◌⊎◌, ℕ, ◌≤◌, List, Option, Some, None, Result, Ok, Err}
 use Rattle.pgp_ids.specs.declared.entry.Entry.{Entry}
 use Rattle.pgp_ids.specs.declared.pg_id.PgId.{PgId}
 use Rattle.pgp_ids.specs.declared.view.View.{View}
@@ -39,3 +39,18 @@ pub record AsksIn (log : List Entry) (pool pg : ℕ) (old new : PgpView) (status
 abbrev pub Asks : Option LogAndAnswer → Option LogAndAnswer → ℕ → ℕ → PgpView → PgpView → ℕ → Type 0
 Asks None now pool pg old new status = (now ≡ None) × (new ≡ old) × (status ≡ status_number NotOpen)
 Asks (Some was) now pool pg old new status = (now ≡ Some was) × AsksIn was.log pool pg old new status
+
+-- the view, or the number of the refusal
+abbrev pub view_or_refusal : Option View → Result View ℕ
+view_or_refusal None = Err (ask_refusal_number UnknownGroup)
+view_or_refusal (Some view) = Ok view
+
+-- What the log says of the group: the view, or the status that tells why it says nothing.
+pub record AnswersIn (log : List Entry) (pool pg : ℕ) (answer : Result View ℕ) : Type 0 where
+  pub bad : (IsGroup pool pg → ⊥) → answer ≡ Err (status_number BadArgument)
+  pub good : IsGroup pool pg → (answer ≡ view_or_refusal (view_in log (group pool pg))) ⊎ (answer ≡ Err (status_number NoMemory))
+
+-- What a session says of the group, where there is one.
+abbrev pub Answers : Option LogAndAnswer → ℕ → ℕ → Result View ℕ → Type 0
+Answers None pool pg answer = answer ≡ Err (status_number NotOpen)
+Answers (Some was) pool pg answer = AnswersIn was.log pool pg answer

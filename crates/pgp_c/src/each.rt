@@ -5,7 +5,7 @@ ghost use Rattle.pgp_c.specs.Exports.{put_in, put_status};
 
 use super::status::Status;
 
-/// A value that C reads as a `C`.
+/// A value that C reads as one of the type `C`.
 pub trait AsC<C> {
     // What C reads of it.
     ghost as_c: { Self → C };
@@ -15,7 +15,7 @@ pub trait AsC<C> {
         ensures { result ≡ as_c self.now };
 }
 
-/// Puts what C reads of the values into the front of the room, where they fit, and says how many they are.
+/// Puts the values, as C reads them, at the front of `room` if they fit, and their number into `count`.
 pub fn put_each<T: AsC<C>, C: Copy>(values: &[T], room: &mut [C], count: &mut usize) -> Status
     ensures room { room.new ≡ put_in (map T.as_c values.now) room.old }
     ensures count { count.new ≡ length values.now }

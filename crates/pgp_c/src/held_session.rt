@@ -46,7 +46,7 @@ impl HeldSession {
         HeldSession::of_parts(Parts::of(session))
     }
 
-    /// The box again.
+    /// Gives the box back.
     pub fn into_box(self) -> Box<Session>
         requires { is_some self.session ≡ true }
         ensures { self.session ≡ Some result.value }

@@ -1,4 +1,4 @@
-//! What a member tells of its copy of a group, as C tells it.
+//! What a member says of its copy of a group, as C gives it.
 
 ghost use Rattle.std.specs.Prelude.{◌≡◌, ◌↔◌, IsSome, IfSome};
 ghost use Rattle.pgp_c.specs.Info.{IsInfo, SubmitsIn, info_of};
@@ -13,9 +13,8 @@ use pgp_replies::{Refused, Reply};
 /// The greatest slot of a member.
 const LAST_SLOT: u32 = 15;
 
-/// What a member tells of its copy of a group.
+/// What a member says of its copy of a group.
 #[repr(C)]
-#[derive(Clone, Copy)]
 pub struct PgpInfo {
     /// 1 to 255.
     pub pool: u32,
@@ -43,7 +42,7 @@ pub struct PgpInfo {
     pub complete: u8,
 }
 
-/// Tells the session an info.
+/// Adds an info to the session's log.
 pub fn submit_info(session: &mut Session, told: &PgpInfo) -> u32
     ensures { SubmitsIn session.old session.new told.now result }
 {
@@ -57,7 +56,7 @@ pub fn submit_info(session: &mut Session, told: &PgpInfo) -> u32
     }
 }
 
-/// The info of these numbers, where there can be one.
+/// The info with these numbers, if each is in its range.
 fn info_of(told: &PgpInfo) -> Option<Info>
     ensures in_range { IsSome result ↔ IsInfo told.now }
     ensures value { IfSome result (λ info. info ≡ info_of told.now) }
@@ -80,7 +79,7 @@ fn info_of(told: &PgpInfo) -> Option<Info>
     })
 }
 
-/// The member of these numbers, where there can be one.
+/// The member with these numbers, if each is in its range.
 pub fn member_of(osd: u32, slot: u32) -> Option<Member>
     ensures in_range { IsSome result ↔ IsMember osd slot }
     ensures value { IfSome result (λ it. it ≡ member osd slot) }

@@ -1,6 +1,7 @@
-//! The core of the engine as a static library for C: a session is one log, told and asked on one thread.
+//! The core of the engine as a static library for C: a session is one log, which takes entries and answers questions on one
+//! thread.
 //!
-//! Each exported function calls one of [`pgp_core::Session`] and states its contract for C. None starts a thread or takes a
+//! Each exported function calls [`pgp_core::Session`], and its contract says what C sees. None starts a thread or takes a
 //! lock.
 #![tactic(auto)]
 
@@ -27,26 +28,24 @@ mod session;
 mod status;
 mod view;
 
-use ask::ask;
-use compact::compact_session;
-use info::{PgpInfo, submit_info};
-use lists::{
-    PgpInterval, PgpMember, PgpPeer, put_blocked_by, put_intervals, put_missing, put_probe,
-};
+use compact::compact_log;
+use each::put_each;
+use info::{PgpInfo, member_of, submit_info};
+use lists::{PgpInterval, PgpMember, PgpPeer};
 use locate::locate;
-use objects::{PgpObject, put_missing_objects};
+use objects::{PgpObject, put_objects};
 use pgp_core::Session;
 use place::PgpPlace;
 use room::put_out;
 use session::PgpSession;
 use status::Status;
 use std::alloc::Global;
-use view::PgpView;
+use view::{PgpView, view_of};
 
 /// Version 0.1.0.
 const VERSION: u32 = 100;
 
-/// Opens a session of an empty log.
+/// Opens a session with an empty log.
 #[unsafe(no_mangle)]
 pub extern "C" fn pgp_open(alloc: Global, session: &mut PgpSession) -> u32
     ensures { Opens session.old.held.session session.new.held.session result }
@@ -63,7 +62,7 @@ pub extern "C" fn pgp_open(alloc: Global, session: &mut PgpSession) -> u32
     }
 }
 
-/// Ends a session, and frees all that it has.
+/// Ends a session, and frees its memory.
 #[unsafe(no_mangle)]
 pub extern "C" fn pgp_close(alloc: Global, session: &mut PgpSession) -> u32
     ensures { Closes session.old.held.session session.new.held.session result }
@@ -74,8 +73,8 @@ pub extern "C" fn pgp_close(alloc: Global, session: &mut PgpSession) -> u32
     }
 }
 
-/// Answers a line, given without its line feed. The answer goes to the front of the room, where it fits, and its length to
-/// `length`. A blank line has an answer of no bytes.
+/// Answers a line, which is given without its line feed. The answer is put at the front of `room` if it fits, and its length into
+/// `length`. The answer to a blank line has no bytes.
 #[unsafe(no_mangle)]
 pub extern "C" fn pgp_line(
     alloc: Global,
@@ -118,7 +117,7 @@ pub extern "C" fn pgp_answer(
     put.number()
 }
 
-/// Puts where the object of this name lies into `place`, by the map of the session's log. The name has 1 to 255 bytes of UTF-8.
+/// Puts into `place` where the object of this name lies, by the map of the session's log. The name has 1 to 255 bytes of UTF-8.
 /// Only a name of more than 24 bytes takes memory.
 #[unsafe(no_mangle)]
 pub extern "C" fn pgp_locate(
@@ -138,7 +137,7 @@ pub extern "C" fn pgp_locate(
     status
 }
 
-/// Puts what the session's log says of a group into `view`.
+/// Puts into `view` what the session's log says of a group.
 #[unsafe(no_mangle)]
 pub extern "C" fn pgp_ask(
     alloc: Global,
@@ -149,16 +148,17 @@ pub extern "C" fn pgp_ask(
 ) -> u32
     ensures { Asks session.old.held.session session.new.held.session pool pg view.old view.new result }
 {
-    let Some(mut opened) = session.take(alloc) else {
-        return Status::NotOpen.number();
-    };
-    let status = ask(&mut opened, pool, pg, view);
-    session.put(opened);
-    status
+    match session.ask(alloc, pool, pg) {
+        Ok(answer) => {
+            *view = view_of(&answer);
+            Status::Done.number()
+        }
+        Err(status) => status,
+    }
 }
 
-/// Tells a session what a member told of its copy of a group. The status is the number of the refusal where the log doesn't take
-/// it.
+/// Adds to the session's log what a member says of its copy of a group. If the log refuses it, the status is the number of the
+/// refusal.
 #[unsafe(no_mangle)]
 pub extern "C" fn pgp_submit_info(alloc: Global, session: &mut PgpSession, info: &PgpInfo) -> u32
     ensures { Submits session.old.held.session session.new.held.session info.now result }
@@ -171,7 +171,7 @@ pub extern "C" fn pgp_submit_info(alloc: Global, session: &mut PgpSession, info:
     status
 }
 
-/// Leaves in the session's log only the entries that an answer can need, and puts how many it left out into `left_out`.
+/// Removes from the session's log the entries that no answer can need, and puts their number into `left_out`.
 #[unsafe(no_mangle)]
 pub extern "C" fn pgp_compact_log(
     alloc: Global,
@@ -184,12 +184,18 @@ pub extern "C" fn pgp_compact_log(
     let Some(mut opened) = session.take(alloc) else {
         return Status::NotOpen.number();
     };
-    let status = compact_session(alloc, &mut opened, left_out);
+    let compacted = compact_log(alloc, &mut opened);
     session.put(opened);
-    status
+    match compacted {
+        Ok(less) => {
+            *left_out = less;
+            Status::Done.number()
+        }
+        Err(_) => Status::NoMemory.number(),
+    }
 }
 
-/// Puts the members that have to be heard into the room, where they fit, and how many they are into `count`.
+/// Puts the members that have to be heard into `room` if they fit, and their number into `count`.
 #[unsafe(no_mangle)]
 pub extern "C" fn pgp_probe(
     alloc: Global,
@@ -203,15 +209,13 @@ pub extern "C" fn pgp_probe(
         count.new result }
 {
     *count = 0;
-    let Some(mut opened) = session.take(alloc) else {
-        return Status::NotOpen.number();
-    };
-    let status = put_probe(&mut opened, pool, pg, room, count);
-    session.put(opened);
-    status
+    match session.ask(alloc, pool, pg) {
+        Ok(view) => put_each(view.probe.as_slice(), room, count).number(),
+        Err(status) => status,
+    }
 }
 
-/// Puts the devices that block a group into the room, where they fit, and how many they are into `count`.
+/// Puts the devices that block a group into `room` if they fit, and their number into `count`.
 #[unsafe(no_mangle)]
 pub extern "C" fn pgp_blocked_by(
     alloc: Global,
@@ -225,15 +229,13 @@ pub extern "C" fn pgp_blocked_by(
         count.new result }
 {
     *count = 0;
-    let Some(mut opened) = session.take(alloc) else {
-        return Status::NotOpen.number();
-    };
-    let status = put_blocked_by(&mut opened, pool, pg, room, count);
-    session.put(opened);
-    status
+    match session.ask(alloc, pool, pg) {
+        Ok(view) => put_each(view.blocked_by.as_slice(), room, count).number(),
+        Err(status) => status,
+    }
 }
 
-/// Puts the past intervals of a group into the room, where they fit, and how many they are into `count`.
+/// Puts the past intervals of a group into `room` if they fit, and their number into `count`.
 #[unsafe(no_mangle)]
 pub extern "C" fn pgp_intervals(
     alloc: Global,
@@ -247,15 +249,13 @@ pub extern "C" fn pgp_intervals(
         count.new result }
 {
     *count = 0;
-    let Some(mut opened) = session.take(alloc) else {
-        return Status::NotOpen.number();
-    };
-    let status = put_intervals(&mut opened, pool, pg, room, count);
-    session.put(opened);
-    status
+    match session.ask(alloc, pool, pg) {
+        Ok(view) => put_each(view.intervals.as_slice(), room, count).number(),
+        Err(status) => status,
+    }
 }
 
-/// Puts the states of the other members that were heard into the room, where they fit, and how many they are into `count`.
+/// Puts the states of the heard members, except the best one, into `room` if they fit, and their number into `count`.
 #[unsafe(no_mangle)]
 pub extern "C" fn pgp_missing(
     alloc: Global,
@@ -269,15 +269,13 @@ pub extern "C" fn pgp_missing(
         count.new result }
 {
     *count = 0;
-    let Some(mut opened) = session.take(alloc) else {
-        return Status::NotOpen.number();
-    };
-    let status = put_missing(&mut opened, pool, pg, room, count);
-    session.put(opened);
-    status
+    match session.ask(alloc, pool, pg) {
+        Ok(view) => put_each(view.missing.as_slice(), room, count).number(),
+        Err(status) => status,
+    }
 }
 
-/// Puts the objects that a member of a group lacks into the room, where they fit, and how many they are into `count`.
+/// Puts the objects that a member of a group lacks into `room` if they fit, and their number into `count`.
 #[unsafe(no_mangle)]
 pub extern "C" fn pgp_missing_objects(
     alloc: Global,
@@ -292,15 +290,19 @@ pub extern "C" fn pgp_missing_objects(
     ensures { Objects session.old.held.session session.new.held.session pool pg osd slot room.old room.new count.new result }
 {
     *count = 0;
-    let Some(mut opened) = session.take(alloc) else {
+    if !session.is_open {
         return Status::NotOpen.number();
+    }
+    let Some(member) = member_of(osd, slot) else {
+        return Status::BadArgument.number();
     };
-    let status = put_missing_objects(&mut opened, pool, pg, osd, slot, room, count);
-    session.put(opened);
-    status
+    match session.ask(alloc, pool, pg) {
+        Ok(view) => put_objects(&view, member, room, count),
+        Err(status) => status,
+    }
 }
 
-/// The version of the library: ten thousand times the first part, a hundred times the second, and the third.
+/// The version of the library as one number: 10,000 times its first part, plus 100 times its second, plus its third.
 #[unsafe(no_mangle)]
 pub extern "C" fn pgp_version() -> u32
     ensures { result ≡ VERSION }

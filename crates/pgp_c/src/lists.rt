@@ -1,14 +1,11 @@
 //! The lists of what a log says of a placement group, as C reads them.
 
-ghost use Rattle.std.specs.Prelude.{◌≡◌, map};
-ghost use Rattle.pgp_c.specs.Lists.{ListsIn, device_of, interval_of, lacks, member_of, peer_of, peer_state_number};
+ghost use Rattle.std.specs.Prelude.{◌≡◌};
+ghost use Rattle.pgp_c.specs.Lists.{device_of, interval_of, lacks, member_of, peer_of, peer_state_number};
 
-use super::ask::group_of;
-use super::each::{AsC, put_each};
+use super::each::AsC;
 use super::place::{device_number, sixteen};
-use super::status::Status;
-use pgp_core::Session;
-use pgp_ids::{AskRefusal, Member, OsdId, Past, PeerMissing, PeerState};
+use pgp_ids::{Member, OsdId, Past, PeerMissing, PeerState};
 
 /// A member of a group.
 #[repr(C)]
@@ -48,7 +45,7 @@ pub struct PgpPeer {
     pub objects: usize,
     pub osd: u16,
     pub slot: u8,
-    /// 0: it has all but these objects; 1: backfill; 2: diverged.
+    /// 0: it has all objects except these; 1: backfill; 2: diverged.
     pub state: u8,
 }
 
@@ -122,93 +119,5 @@ fn state_number(state: &PeerState) -> u8
         PeerState::Missing(_) => 0,
         PeerState::Backfill => 1,
         PeerState::Diverged => 2,
-    }
-}
-
-/// Puts the members that have to be heard into the room, where they fit, and says how many they are.
-pub fn put_probe(
-    session: &mut Session,
-    pool: u32,
-    pg: u32,
-    room: &mut [PgpMember],
-    count: &mut usize,
-) -> u32
-    requires { count.old ≡ 0 }
-    ensures same { session.new ≡ session.old }
-    ensures list { ListsIn session.old.log pool pg (λ view. map member_of view.probe) room.old room.new count.new result }
-{
-    let Some(pg) = group_of(pool, pg) else {
-        return Status::BadArgument.number();
-    };
-    match session.ask(pg) {
-        Ok(Some(found)) => put_each(found.probe.as_slice(), room, count).number(),
-        Ok(None) => u32::from(AskRefusal::UnknownGroup.number()),
-        Err(_) => Status::NoMemory.number(),
-    }
-}
-
-/// Puts the devices that block a group into the room, where they fit, and says how many they are.
-pub fn put_blocked_by(
-    session: &mut Session,
-    pool: u32,
-    pg: u32,
-    room: &mut [u16],
-    count: &mut usize,
-) -> u32
-    requires { count.old ≡ 0 }
-    ensures same { session.new ≡ session.old }
-    ensures list { ListsIn session.old.log pool pg (λ view. map device_of view.blocked_by) room.old room.new count.new result }
-{
-    let Some(pg) = group_of(pool, pg) else {
-        return Status::BadArgument.number();
-    };
-    match session.ask(pg) {
-        Ok(Some(found)) => put_each(found.blocked_by.as_slice(), room, count).number(),
-        Ok(None) => u32::from(AskRefusal::UnknownGroup.number()),
-        Err(_) => Status::NoMemory.number(),
-    }
-}
-
-/// Puts the past intervals of a group into the room, where they fit, and says how many they are.
-pub fn put_intervals(
-    session: &mut Session,
-    pool: u32,
-    pg: u32,
-    room: &mut [PgpInterval],
-    count: &mut usize,
-) -> u32
-    requires { count.old ≡ 0 }
-    ensures same { session.new ≡ session.old }
-    ensures list { ListsIn session.old.log pool pg (λ view. map interval_of view.intervals) room.old room.new count.new result }
-{
-    let Some(pg) = group_of(pool, pg) else {
-        return Status::BadArgument.number();
-    };
-    match session.ask(pg) {
-        Ok(Some(found)) => put_each(found.intervals.as_slice(), room, count).number(),
-        Ok(None) => u32::from(AskRefusal::UnknownGroup.number()),
-        Err(_) => Status::NoMemory.number(),
-    }
-}
-
-/// Puts the states of the other members that were heard into the room, where they fit, and says how many they are.
-pub fn put_missing(
-    session: &mut Session,
-    pool: u32,
-    pg: u32,
-    room: &mut [PgpPeer],
-    count: &mut usize,
-) -> u32
-    requires { count.old ≡ 0 }
-    ensures same { session.new ≡ session.old }
-    ensures list { ListsIn session.old.log pool pg (λ view. map peer_of view.missing) room.old room.new count.new result }
-{
-    let Some(pg) = group_of(pool, pg) else {
-        return Status::BadArgument.number();
-    };
-    match session.ask(pg) {
-        Ok(Some(found)) => put_each(found.missing.as_slice(), room, count).number(),
-        Ok(None) => u32::from(AskRefusal::UnknownGroup.number()),
-        Err(_) => Status::NoMemory.number(),
     }
 }

@@ -11,7 +11,7 @@ use pgp_replies::Reply;
 use std::alloc::Global;
 use std::str::from_utf8;
 
-/// Puts where the object of this name lies to where C reads it. Any other status than `Done` leaves that as it was.
+/// Puts into `place` where the object of this name lies. With any status except `Done`, `place` stays as it was.
 pub fn locate(
     alloc: Global,
     session: &mut Session,
@@ -38,7 +38,7 @@ pub fn locate(
     }
 }
 
-/// The pool of this number, where there can be one.
+/// The pool with this number, if it is in its range.
 pub fn pool_of(pool: u32) -> Option<PoolId>
     ensures in_range { IsSome result ↔ IsPool pool }
     ensures value { IfSome result (λ id. id ≡ pool) }
@@ -49,7 +49,7 @@ pub fn pool_of(pool: u32) -> Option<PoolId>
     PoolId::new(pool as u8)
 }
 
-/// The name of these bytes, where they are one.
+/// The object's name that these bytes are, if they are one.
 fn name_of(alloc: Global, name: &[u8]) -> Result<ObjectName, Status>
     ensures ok { IfOk result (λ object. (object ≡ name.now) × IsName name.now) }
     ensures bad { result ≡ Err Status.BadArgument → IsName name.now → ⊥ }

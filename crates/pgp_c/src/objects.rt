@@ -1,14 +1,11 @@
 //! The objects that a member of a placement group lacks, as C reads them.
 
 ghost use Rattle.std.specs.Prelude.{◌≡◌, option_map};
-ghost use Rattle.pgp_c.specs.Objects.{ObjectsIn, PutsObjects, lacked, name_room, object_of, objects_of};
+ghost use Rattle.pgp_c.specs.Objects.{PutsObjects, lacked, name_room, object_of, objects_of};
 
-use super::ask::group_of;
 use super::each::{AsC, put_each};
-use super::info::member_of;
 use super::status::Status;
-use pgp_core::Session;
-use pgp_ids::{AskRefusal, Member, MissingObject, ObjectName, PeerMissing, PeerState, View};
+use pgp_ids::{Member, MissingObject, ObjectName, PeerMissing, PeerState, View};
 
 /// An object that a member lacks.
 #[repr(C)]
@@ -46,35 +43,8 @@ fn name_room(name: &ObjectName) -> [u8; 255]
     room
 }
 
-/// Puts the objects that a member lacks into the room, where they fit, and says how many they are.
-pub fn put_missing_objects(
-    session: &mut Session,
-    pool: u32,
-    pg: u32,
-    osd: u32,
-    slot: u32,
-    room: &mut [PgpObject],
-    count: &mut usize,
-) -> u32
-    requires { count.old ≡ 0 }
-    ensures same { session.new ≡ session.old }
-    ensures list { ObjectsIn session.old.log pool pg osd slot room.old room.new count.new result }
-{
-    let Some(pg) = group_of(pool, pg) else {
-        return Status::BadArgument.number();
-    };
-    let Some(member) = member_of(osd, slot) else {
-        return Status::BadArgument.number();
-    };
-    match session.ask(pg) {
-        Ok(Some(found)) => put_objects(&found, member, room, count),
-        Ok(None) => u32::from(AskRefusal::UnknownGroup.number()),
-        Err(_) => Status::NoMemory.number(),
-    }
-}
-
-/// Puts the objects that a member lacks into the room, where a view has them and they fit, and says how many they are.
-fn put_objects(view: &View, member: Member, room: &mut [PgpObject], count: &mut usize) -> u32
+/// Puts the objects that a member lacks, as far as the view says, into `room` if they fit, and their number into `count`.
+pub fn put_objects(view: &View, member: Member, room: &mut [PgpObject], count: &mut usize) -> u32
     requires { count.old ≡ 0 }
     ensures { PutsObjects (objects_of view.now.missing member) room.old room.new count.new result }
 {
@@ -84,7 +54,7 @@ fn put_objects(view: &View, member: Member, room: &mut [PgpObject], count: &mut 
     }
 }
 
-/// The objects that a member lacks, where one of the states says them.
+/// The objects that a member lacks, if one of the states lists them.
 fn objects_of(peers: &[PeerMissing], member: Member) -> Option<&[MissingObject]>
     ensures { option_map (λ objects. objects.now) result ≡ objects_of peers.now member }
 {
@@ -96,7 +66,7 @@ fn objects_of(peers: &[PeerMissing], member: Member) -> Option<&[MissingObject]>
     None
 }
 
-/// The objects that a state says are lacking, where it says them.
+/// The objects that a state lists as lacking, if it has a list.
 fn lacked(state: &PeerState) -> Option<&[MissingObject]>
     ensures { option_map (λ objects. objects.now) result ≡ lacked state.now }
 {

@@ -1,9 +1,13 @@
 //! The session of a C program.
 
 ghost use Rattle.std.specs.Prelude.{◌≡◌, Some, None, is_some, option_map};
+ghost use Rattle.pgp_c.specs.Ask.{Answers};
 
+use super::ask::ask;
 use super::held_session::HeldSession;
+use super::status::Status;
 use pgp_core::Session;
+use pgp_ids::View;
 use std::alloc::Global;
 
 /// What a C program keeps of a session: 16 bytes of its own, filled with zeros before the first call. It reads and writes none
@@ -19,7 +23,7 @@ pub struct PgpSession {
 }
 
 impl PgpSession {
-    /// Takes the session away, where there is one.
+    /// Takes the session out, if there is one.
     pub fn take(&mut self, alloc: Global) -> Option<Box<Session>>
         ensures value { option_map (λ box. box.value) result ≡ self.old.held.session }
         ensures closed { self.new.held.session ≡ None }
@@ -38,7 +42,20 @@ impl PgpSession {
         }
     }
 
-    /// Puts a session in its place.
+    /// What the session says of a group, or the status that says why there is no answer.
+    pub fn ask(&mut self, alloc: Global, pool: u32, pg: u32) -> Result<View, u32>
+        ensures same { self.new.held.session ≡ self.old.held.session }
+        ensures answer { Answers self.old.held.session pool pg result }
+    {
+        let Some(mut opened) = self.take(alloc) else {
+            return Err(Status::NotOpen.number());
+        };
+        let answer = ask(&mut opened, pool, pg);
+        self.put(opened);
+        answer
+    }
+
+    /// Puts a session in.
     pub fn put(&mut self, session: Box<Session>)
         ensures { self.new.held.session ≡ Some session.value }
     {

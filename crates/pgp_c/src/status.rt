@@ -2,21 +2,21 @@ ghost use Rattle.std.specs.Prelude.{◌≡◌};
 ghost use Rattle.pgp_c.specs.Status.{status_number};
 
 /// What became of a call.
-#[derive(Clone, Copy, Debug, PartialEq, Eq)]
+#[derive(Clone, Copy)]
 pub enum Status {
     /// It did what its name says.
     Done,
-    /// It did, and the room is too small for the answer, which the session keeps.
+    /// It did, but the answer doesn't fit into the room. The session keeps it.
     RoomTooSmall,
-    /// There was no memory, and nothing changed.
+    /// It was out of memory, and the log is as before.
     NoMemory,
     /// The session isn't open.
     NotOpen,
     /// The session is open already.
     AlreadyOpen,
-    /// An argument is none that there can be, and nothing happened.
+    /// An argument is out of its range, or no name of an object, and nothing happened.
     BadArgument,
-    /// There is no such list.
+    /// No list of the objects that the member lacks is known.
     NoList,
 }
 

@@ -43,7 +43,7 @@ pub struct PgpView {
     pub acting: [u16; 16],
 }
 
-/// The same view.
+/// The view, as C reads it.
 pub fn view_of(view: &View) -> PgpView
     ensures { result ≡ view_of view.now }
 {

@@ -27,7 +27,7 @@ impl<T, A: Allocator> Parts<T, A> {
         Parts { ptr, alloc }
     }
 
-    /// Makes the box again.
+    /// Puts the box together.
     pub fn into_box(self) -> Box<T, A>
         ensures { result.value ≡ self.value }
     {

@@ -1,0 +1,95 @@
+-- What a call that asks a session puts where C reads it, by the answer of the session.
+use Rattle.std.proofs.Common.{◌≡◌, refl, inl, inr, ℕ, List, Option, Some, None, Ok, Err, length}
+use Rattle.pgp_ids.specs.AskRefusal.{ask_refusal_number}
+use Rattle.pgp_ids.specs.declared.ask_refusal.AskRefusal.TheVariants.{UnknownGroup}
+use Rattle.pgp_ids.specs.declared.member.Member.{Member}
+use Rattle.pgp_ids.specs.declared.view.View.{View}
+use Rattle.pgp_core.specs.Session.{LogAndAnswer, view_in}
+use Rattle.pgp_c.specs.Ask.{Answers, Asks, group, view_or_refusal}
+use Rattle.pgp_c.specs.Exports.{put_in, put_status}
+use Rattle.pgp_c.specs.Lists.{Lists}
+use Rattle.pgp_c.specs.Member.{IsMember, member}
+use Rattle.pgp_c.specs.Objects.{Objects, PutsObjects, objects_of}
+use Rattle.pgp_c.specs.Status.{status_number}
+use Rattle.pgp_c.specs.View.{view_of}
+use Rattle.pgp_c.specs.declared.objects.PgpObject.{PgpObject}
+use Rattle.pgp_c.specs.declared.status.Status.TheVariants.{Done, BadArgument, NotOpen}
+use Rattle.pgp_c.specs.declared.view.PgpView.{PgpView}
+
+-- an answer that is a view is what the log says
+is-view : (found : Option View) (view : View) → Ok view ≡ view_or_refusal found → found ≡ Some view
+is-view None view e = cc
+is-view (Some other) view e = cc
+
+-- one that is a refusal says that the map doesn't have the group
+is-refusal : (found : Option View) (status : ℕ) → Err status ≡ view_or_refusal found → (found ≡ None) × (status ≡ ask_refusal_number UnknownGroup)
+is-refusal None status e = (refl, cc)
+is-refusal (Some view) status e = cc
+
+pub asks_view : (was now : Option LogAndAnswer) (pool pg : ℕ) (view : View) (old new : PgpView) (status : ℕ) → now ≡ was
+    → Answers was pool pg (Ok view) → new ≡ view_of view → status ≡ status_number Done → Asks was now pool pg old new status
+asks_view None now pool pg view old new status same h puts done = cc
+asks_view (Some was) now pool pg view old new status same h puts done = (same, record {
+  bad = λ no. let e = h.bad no in cc;
+  good = λ is. elim (h.good is) [
+    | inl e ↦ rw (is-view (view_in was.log (group pool pg)) view e) (inl (puts, done))
+    | inr e ↦ cc
+  ];
+})
+
+pub asks_none : (was now : Option LogAndAnswer) (pool pg status : ℕ) (old : PgpView) → now ≡ was
+    → Answers was pool pg (Err status) → Asks was now pool pg old old status
+asks_none None now pool pg status old same h = (same, refl, cc)
+asks_none (Some was) now pool pg status old same h = (same, record {
+  bad = λ no. let e = h.bad no in (refl, cc);
+  good = λ is. elim (h.good is) [
+    | inl e ↦ let none = is-refusal (view_in was.log (group pool pg)) status e in rw none.0 (inl (refl, none.1))
+    | inr e ↦ inr (record { same = refl; status_is = cc })
+  ];
+})
+
+pub lists_view : {C : Type 0} (was now : Option LogAndAnswer) (pool pg : ℕ) (view : View) (list : View → List C) (old new : List C) (count status : ℕ) → now ≡ was
+    → Answers was pool pg (Ok view) → new ≡ put_in (list view) old → count ≡ length (list view) → status ≡ status_number (put_status (list view) old)
+    → Lists was now pool pg list old new count status
+lists_view None now pool pg view list old new count status same h puts many done = cc
+lists_view (Some was) now pool pg view list old new count status same h puts many done = (same, record {
+  bad = λ no. let e = h.bad no in cc;
+  good = λ is. elim (h.good is) [
+    | inl e ↦ rw (is-view (view_in was.log (group pool pg)) view e) (inl (puts, many, done))
+    | inr e ↦ cc
+  ];
+})
+
+pub lists_none : {C : Type 0} (was now : Option LogAndAnswer) (pool pg status : ℕ) (list : View → List C) (old : List C) → now ≡ was
+    → Answers was pool pg (Err status) → Lists was now pool pg list old old 0 status
+lists_none None now pool pg status list old same h = (same, record { room = refl; none = refl; status_is = cc })
+lists_none (Some was) now pool pg status list old same h = (same, record {
+  bad = λ no. let e = h.bad no in record { room = refl; none = refl; status_is = cc };
+  good = λ is. elim (h.good is) [
+    | inl e ↦ let none = is-refusal (view_in was.log (group pool pg)) status e in rw none.0 (inl (refl, refl, none.1))
+    | inr e ↦ inr (record { room = refl; none = refl; status_is = cc })
+  ];
+})
+
+pub objects_view : (was now : Option LogAndAnswer) (pool pg osd slot : ℕ) (view : View) (old new : List PgpObject) (count status : ℕ) → now ≡ was
+    → Answers was pool pg (Ok view) → IsMember osd slot → PutsObjects (objects_of view.missing (member osd slot)) old new count status
+    → Objects was now pool pg osd slot old new count status
+objects_view None now pool pg osd slot view old new count status same h of_member puts = cc
+objects_view (Some was) now pool pg osd slot view old new count status same h of_member puts = (same, record {
+  bad = λ no. let e = h.bad (λ is. no is of_member) in cc;
+  good = λ is also. elim (h.good is) [
+    | inl e ↦ rw (is-view (view_in was.log (group pool pg)) view e) (inl puts)
+    | inr e ↦ cc
+  ];
+})
+
+pub objects_none : (was now : Option LogAndAnswer) (pool pg osd slot status : ℕ) (old : List PgpObject) → now ≡ was
+    → Answers was pool pg (Err status) → IsMember osd slot → Objects was now pool pg osd slot old old 0 status
+objects_none None now pool pg osd slot status old same h of_member = (same, record { room = refl; none = refl; status_is = cc })
+objects_none (Some was) now pool pg osd slot status old same h of_member = (same, record {
+  bad = λ no. let e = h.bad (λ is. no is of_member) in record { room = refl; none = refl; status_is = cc };
+  good = λ is also. elim (h.good is) [
+    | inl e ↦ let none = is-refusal (view_in was.log (group pool pg)) status e in rw none.0 (inl (record { room = refl; none = refl; status_is = none.1 }))
+    | inr e ↦ inr (record { room = refl; none = refl; status_is = cc })
+  ];
+})
