@@ -9,7 +9,7 @@ use clap::error::ErrorKind;
 use clap::{Arg, ArgAction, Command, Error};
 use std::alloc::{AllocError, Global};
 
-/// What `pgpeer --help` tells beyond its usage.
+/// What `pgpeer --help` says after its usage.
 const HELP: &str = "\
 All read a script from standard input: lines of JSON, of which docs/FORMAT.md
 tells the keys.
@@ -21,7 +21,7 @@ Example:
 
 'pgpeer run --help' and the like tell more.";
 
-/// What `pgpeer run --help` tells beyond its usage.
+/// What `pgpeer run --help` says after its usage.
 const RUN_HELP: &str = "\
 A line is one JSON object, and its key op says what it is: inc, info, entries and
 close add to the log; ask, locate and trace ask. Each line is answered by one line
@@ -34,7 +34,7 @@ Exit status:
   3  a read or a write failed, the script has more than 1000000 lines or
      4294967296 bytes, or there was no engine to answer it";
 
-/// What `pgpeer explain --help` tells beyond its usage.
+/// What `pgpeer explain --help` says after its usage.
 const EXPLAIN_HELP: &str = "\
 The script is read as 'pgpeer run' reads it: each line is judged by the lines
 before it. Lines that are refused are told on standard error, with their numbers;
@@ -53,7 +53,7 @@ Exit status:
   3  a read or a write failed, the script has more than 1000000 lines or
      4294967296 bytes, the map has no such group, or memory ran out";
 
-/// What `pgpeer compact --help` tells beyond its usage.
+/// What `pgpeer compact --help` says after its usage.
 const COMPACT_HELP: &str = "\
 The script is read as 'pgpeer run' reads it: each line is judged by the lines
 before it. The lines whose entries an answer can still need, now or after

@@ -9,12 +9,12 @@ use clap::error::ErrorKind;
 use clap::{ArgMatches, Error};
 use std::alloc::Global;
 
-/// Why the words are refused, where clap finds no fault in them.
+/// Why the words are refused, if clap finds no fault in them.
 const NO_COMPACTION: &str = "compact is to be the first word";
 
-/// Reads the words of a command line that asks to compact a script, the program's name first.
+/// Reads the words of a command line that asks to compact a script. The first word is the program's name.
 ///
-/// A request for help is an error too, one whose text belongs on the standard output.
+/// A request for help is an error too, and its text belongs on the standard output.
 pub fn compaction(alloc: Global, words: &[String]) -> Result<(), Error>
     ensures fails { FailsBy (compact_faults_in (map string_bytes words.now)) result }
     ensures asked { OnOk result (is_compact_asked (map string_bytes words.now) ≡ true) }

@@ -1,4 +1,4 @@
-//! How the program ends, and the exit statuses that tell it.
+//! How the program ends, and its exit statuses.
 ghost use Rattle.std.specs.Prelude.{◌≡◌};
 ghost use Rattle.pgp_cli.specs.Status.{ending_status};
 
@@ -10,7 +10,7 @@ pub const USAGE: u8 = 2;
 /// to explain or compact it.
 pub const FAULT: u8 = 3;
 
-/// How the program ended. Words that are wrong and a lack of memory to read them have one exit status, but aren't the same.
+/// How the program ended. A wrong command line and a lack of memory to read it have the same exit status.
 #[derive(Clone, Copy, Debug)]
 pub enum Ending {
     /// The script was answered, explained or compacted to its end, or help was shown.

@@ -24,9 +24,9 @@ the script comes from standard input: pgpeer explain 1.a < FILE";
 /// Why the number of `--epoch-offset` is refused.
 const WRONG_OFFSET: &str = "--epoch-offset takes a number from 0 to 4294967295";
 
-/// Reads the words of a command line that asks for an explanation, the program's name first.
+/// Reads the words of a command line that asks for an explanation. The first word is the program's name.
 ///
-/// A request for help is an error too, one whose text belongs on the standard output. A word that names no group, or an offset
+/// A request for help is an error too, and its text belongs on the standard output. A word that names no group, or an offset
 /// that is no number within its bounds, is [`ErrorKind::ValueValidation`].
 pub fn explanation(alloc: Global, words: &[String]) -> Result<ExplainOptions, Error>
     ensures fails { FailsBy (explain_faults_in (map string_bytes words.now)) result }
@@ -40,7 +40,7 @@ pub fn explanation(alloc: Global, words: &[String]) -> Result<ExplainOptions, Er
     }
 }
 
-/// What the words behind `explain` ask for, if it is asked for and they do.
+/// What the words ask to be explained, if `explain` is asked for and the words after it are right.
 fn asked(matches: &ArgMatches) -> Option<ExplainOptions>
     ensures { result ≡ option_and_then explanation_in (rows_named (codes "explain") matches.now) }
 {
@@ -48,7 +48,7 @@ fn asked(matches: &ArgMatches) -> Option<ExplainOptions>
     explanation_in(explain)
 }
 
-/// What the words behind `explain` ask for, if they do.
+/// What the words after `explain` ask for, if they are right.
 fn explanation_in(explain: &ArgMatches) -> Option<ExplainOptions>
     ensures { result ≡ explanation_in (rows_of (found_of explain.now)) }
 {
@@ -61,7 +61,7 @@ fn explanation_in(explain: &ArgMatches) -> Option<ExplainOptions>
     })
 }
 
-/// Which of the words behind `explain` is wrong, where one is.
+/// Why the words after `explain` are refused, if one of them is wrong.
 fn why(matches: &ArgMatches) -> &'static str {
     let Some(explain) = named(matches, "explain") else {
         return WRONG_GROUP;
@@ -72,7 +72,7 @@ fn why(matches: &ArgMatches) -> &'static str {
     }
 }
 
-/// Whether a flag is set, by the text that stands for it.
+/// Whether a flag is set, by the text that clap gives for it.
 fn is_set(text: Option<&str>) -> bool
     ensures { result ≡ is_set (option_map (λ text. text.now) text.entry) }
 {
@@ -92,7 +92,7 @@ fn offset_or_0(text: Option<&str>) -> Option<u32>
     }
 }
 
-/// The number that the text tells, from 0 to 4294967295.
+/// The number in the text, from 0 to 4294967295.
 fn offset_in(text: &str) -> Option<u32>
     ensures { result ≡ count_in 0 4294967295 text.now }
 {
@@ -102,7 +102,7 @@ fn offset_in(text: &str) -> Option<u32>
     }
 }
 
-/// The group that is asked for, where the word may be left out.
+/// The group that is asked for, or all groups if the word is left out.
 fn group_or_all(text: Option<&str>) -> Option<Option<PgId>>
     ensures { result ≡ group_or_all (option_map (λ text. text.now) text.entry) }
 {
@@ -125,7 +125,7 @@ fn group_in(text: &str) -> Option<PgId>
     Some(PgId { pool, pg })
 }
 
-/// The pool that the text numbers in decimal.
+/// The pool whose decimal number is the text.
 fn pool_in(text: &str) -> Option<PoolId>
     ensures { result ≡ numeral_in 10 1 255 text.now }
 {
@@ -133,7 +133,7 @@ fn pool_in(text: &str) -> Option<PoolId>
     PoolId::new(number as u8)
 }
 
-/// The number that the text tells in these digits, without a sign, if it is one from `low` to `high`.
+/// The number in the text, in digits of this radix and without a sign, if it is one from `low` to `high`.
 fn numeral_in(text: &str, radix: u32, low: u16, high: u16) -> Option<u16>
     requires { (2 ≤ radix) × (radix ≤ 36) }
     ensures value { result ≡ numeral_in radix low high text.now }

@@ -1,4 +1,4 @@
-//! Why the program ended with a fault, and how that is told.
+//! Why the program ended with a fault, and the message that says so.
 ghost use Rattle.std.specs.Prelude.{◌≡◌, if◌then◌else◌};
 ghost use Rattle.pgp_cli.specs.declared.fault.Fault.TheVariants.{Read as ReadFailed, TooLarge};
 
@@ -15,7 +15,7 @@ pub enum Fault {
     TooLarge,
     /// A write failed, or took no byte.
     Write,
-    /// There is no engine with all of its workers, or no copy of its log was lent for a line.
+    /// There is no engine with all of its workers, or it could not lend a copy of its log for a line.
     NoEngine,
     /// The map has no such group.
     UnknownGroup(PgId),
@@ -24,7 +24,7 @@ pub enum Fault {
 }
 
 impl Fault {
-    /// Why the reader gave no more, where it did not come to its end.
+    /// Why the reader gave no more, if it did not come to its end.
     pub fn of_reader<R: Source>(reader: &R) -> Fault
         ensures { result ≡ (if R.failed reader.now then ReadFailed else TooLarge) }
     {

@@ -18,7 +18,7 @@ pub fn statuses()
     ensures fault_ends { ending_status Ending.Fault ≡ FAULT }
 {}
 
-/// The words of a command line: help is a request of its own, and no word stands behind `run`.
+/// The words of a command line: help is a request of its own, and no word stands after `run`.
 pub fn command_lines()
     ensures run { faults_in (codes "pgpeer" ∷ codes "run" ∷ []) ≡ [] }
     ensures help { faults_in (codes "pgpeer" ∷ codes "--help" ∷ []) ≡ DisplayHelp ∷ [] }
@@ -27,7 +27,7 @@ pub fn command_lines()
     ensures more { faults_in (codes "pgpeer" ∷ codes "run" ∷ codes "now" ∷ []) ≡ UnknownArgument ∷ [] }
 {}
 
-/// How many shards and workers a run is asked to have.
+/// How many shards and workers a command line asks for.
 pub fn counts_of_runs()
     ensures unsaid { counts_asked (codes "pgpeer" ∷ codes "run" ∷ []) ≡ Some (counts 1 0) }
     ensures both { counts_asked (codes "pgpeer" ∷ codes "run" ∷ codes "--workers" ∷ codes "64" ∷ codes "--shards=3" ∷ []) ≡ Some (counts 3 64) }
@@ -44,7 +44,7 @@ pub fn right_counts()
     ensures taken { AreWrong (codes "pgpeer" ∷ codes "run" ∷ codes "--shards" ∷ codes "1" ∷ codes "--workers" ∷ codes "64" ∷ []) → ⊥ }
 {}
 
-/// Words without a fault aren't wrong, nor are those that ask for help alone.
+/// Words without a fault aren't wrong, nor are those that only ask for help.
 pub fn right_words()
     ensures no_fault { (words : List (List ℕ)) → request_faults words ≡ [] → AreWrong words → ⊥ }
     ensures help { (words : List (List ℕ)) → request_faults words ≡ DisplayHelp ∷ [] → AreWrong words → ⊥ }
@@ -60,7 +60,7 @@ pub fn wrong_counts()
     ensures no_value { faults_in (codes "pgpeer" ∷ codes "run" ∷ codes "--workers" ∷ []) ≡ InvalidValue ∷ [] }
 {}
 
-/// The words ask for one of a run, an explanation and a compaction, and for help only where they ask for none of them.
+/// The words ask for one of a run, an explanation and a compaction, and for help only if they ask for none of these.
 pub fn one_request()
     ensures run_or_explain { (words : List (List ℕ)) (counts : Counts) (options : ExplainOptions)
         → AsksForRun words counts → AsksForExplain words options → ⊥ }
@@ -102,7 +102,7 @@ pub fn names_of_groups()
     ensures hexadecimal_pool { group_in (codes "a.1") ≡ None }
 {}
 
-/// What is asked to be explained.
+/// What a command line asks to be explained.
 pub fn explanations()
     ensures unsaid { explanation_asked (codes "pgpeer" ∷ codes "explain" ∷ []) ≡ Some (explanation None false 0) }
     ensures group { explanation_asked (codes "pgpeer" ∷ codes "explain" ∷ codes "1.a" ∷ []) ≡ Some (explanation (Some (record { pool = 1; pg = 10 })) false 0) }
@@ -111,7 +111,7 @@ pub fn explanations()
     ensures equals { explanation_asked (codes "pgpeer" ∷ codes "explain" ∷ codes "--epoch-offset=7" ∷ []) ≡ Some (explanation None false 7) }
 {}
 
-/// Words behind `explain` that are refused.
+/// Words after `explain` that are refused.
 pub fn wrong_explanations()
     ensures group { explain_faults_in (codes "pgpeer" ∷ codes "explain" ∷ codes "1" ∷ []) ≡ ValueValidation ∷ [] }
     ensures offset { explain_faults_in (codes "pgpeer" ∷ codes "explain" ∷ codes "--epoch-offset" ∷ codes "4294967296" ∷ []) ≡ ValueValidation ∷ [] }
@@ -120,7 +120,7 @@ pub fn wrong_explanations()
     ensures value { explain_faults_in (codes "pgpeer" ∷ codes "explain" ∷ codes "--json=1" ∷ []) ≡ TooManyValues ∷ [] }
 {}
 
-/// The words of a command line that names `compact`: no word stands behind it.
+/// The words of a command line that names `compact`: no word stands after it.
 pub fn compact_lines()
     ensures all { request_faults (codes "pgpeer" ∷ codes "compact" ∷ []) ≡ [] }
     ensures help { request_faults (codes "pgpeer" ∷ codes "compact" ∷ codes "--help" ∷ []) ≡ DisplayHelp ∷ [] }

@@ -1,9 +1,8 @@
 //! The command line: what its words ask for, and how the program ends.
 //!
 //! [`status_of`] does what the words ask for, over any reader and writers: `pgp_core` answers a script on one thread, and
-//! `pgp_run` one with workers; `pgp_explain` explains one, and
-//! `pgp_compact_script` compacts one. [`WatchedStream`] is a stream with an account of whether a call of it
-//! failed, on which the contract of a run depends.
+//! `pgp_run` one with workers; `pgp_explain` explains one, and `pgp_compact_script` compacts one. [`WatchedStream`] is a stream
+//! that notes whether one of its calls failed, on which the contract of a run depends.
 #![tactic(auto)]
 
 mod commands;

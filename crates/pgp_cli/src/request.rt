@@ -1,4 +1,4 @@
-//! Which of its subcommands the program is asked for.
+//! Which subcommand the program is asked for.
 ghost use Rattle.std.specs.Prelude.{◌≡◌, map, string_bytes, IfOk};
 ghost use Rattle.clap.specs.Kinds.{FailsBy};
 ghost use Rattle.pgp_cli.specs.Options.{names, request_faults, IsAsked};
@@ -22,9 +22,9 @@ pub enum Request {
     Compact,
 }
 
-/// Reads the words of the command line, the program's name first.
+/// Reads the words of the command line. The first word is the program's name.
 ///
-/// A request for help is an error too, one whose text belongs on the standard output.
+/// A request for help is an error too, and its text belongs on the standard output.
 pub fn read_request(alloc: Global, words: &[String]) -> Result<Request, Error>
     ensures fails { FailsBy (request_faults (map string_bytes words.now)) result }
     ensures asked { IfOk result (IsAsked (map string_bytes words.now)) }
@@ -47,7 +47,7 @@ pub fn read_request(alloc: Global, words: &[String]) -> Result<Request, Error>
     }
 }
 
-/// Whether the word behind the program's name is this one.
+/// Whether the word after the program's name is this one.
 fn names(words: &[String], name: &str) -> bool
     ensures { result ≡ names name.now (map string_bytes words.now) }
 {

@@ -29,9 +29,9 @@ use std::thread::Threads;
 
 /// Does what the words ask for, the program's name first, and says how that ended.
 ///
-/// Answers, explanations, lines that remain and help go to `writer`, and what is wrong goes to `errors`, refused lines of an
-/// explained script among it, and how many entries a compaction left out. What cannot be written to `errors` is lost. A run with workers starts threads and waits for them; anything else is
-/// done on this thread alone.
+/// Answers, explanations, lines that remain and help go to `writer`. What is wrong goes to `errors`, also the refused lines of a
+/// script that is explained, and how many entries a compaction left out. What cannot be written to `errors` is lost. A run with
+/// workers starts threads and waits for them; anything else is done on this thread alone.
 pub fn status_of<R: Source, W: Sink, E: Write, T: Threads + Wait + Sync>(
     rt: &T,
     alloc: Global,
@@ -177,7 +177,7 @@ fn script_fault<R: Source>(why: ScriptFault, reader: &R) -> Fault
     }
 }
 
-/// Explains what the script says of a group, or of all.
+/// Explains what the script says of a group, or of all groups.
 fn explain_script<R: Source, W: Sink, E: Write>(
     alloc: Global,
     options: &ExplainOptions,
@@ -224,7 +224,7 @@ fn fault_of(why: ExplainFault, options: &ExplainOptions) -> Fault {
     }
 }
 
-/// Writes the lines of the script that an answer can still need, and tells how many entries were left out.
+/// Writes the lines of the script that an answer can still need, and reports how many entries were left out.
 fn compact<R: Source, W: Sink, E: Write>(
     alloc: Global,
     reader: &mut R,

@@ -1,11 +1,11 @@
-//! The standard streams, each with an account of whether a call of it failed.
+//! Streams that note whether one of their calls failed.
 ghost use Rattle.std.specs.Prelude.{◌≡◌, false};
 
 use pgp_core::{Sink, Source};
 use std::io;
 use std::io::{Read, Write};
 
-/// A stream, and whether a call of it failed.
+/// A stream, and whether one of its calls failed.
 #[derive(Drop)]
 pub struct WatchedStream<S: Drop> {
     stream: S,

@@ -1,4 +1,4 @@
-//! Help, and what is told where the program does not do what it is asked for.
+//! Help, and the messages where the program does not do what it is asked for.
 ghost use Rattle.std.specs.Prelude.{◌≡◌, ◌≢◌, ◌⊎◌, true, OnOk, OnErr};
 ghost use Rattle.std.specs.Io.KnownBytes.{Appends};
 ghost use Rattle.std.specs.declared.io.ErrorKind.TheVariants.{InvalidData};
@@ -16,7 +16,7 @@ use std::alloc::{AllocError, Global};
 use std::io;
 use std::io::Write;
 
-/// Shows help where that was asked for, and else tells what is wrong with the command line.
+/// Shows help if that was asked for, and else says what is wrong with the command line.
 pub fn help_or_usage<W: Sink, E: Write>(
     alloc: Global,
     error: &Error,
@@ -41,8 +41,8 @@ pub fn help_or_usage<W: Sink, E: Write>(
     }
 }
 
-/// Tells what is wrong with the command line, and where a script comes from if a word too many may be the name of one; or that
-/// there was no memory to read it.
+/// Says what is wrong with the command line, and where a script comes from if a superfluous word may be the name of one; or
+/// that there was no memory to read it.
 fn usage<E: Write>(error: &Error, words: &[String], errors: &mut E) -> Ending
     ensures wrong { result ≡ Ending.Usage → kind_of error.now ≢ ErrorKind.OutOfMemory }
     ensures memory { result ≡ Ending.NoMemory → kind_of error.now ≡ ErrorKind.OutOfMemory }
@@ -59,7 +59,7 @@ fn usage<E: Write>(error: &Error, words: &[String], errors: &mut E) -> Ending
     }
 }
 
-/// Tells that there was no memory for the text of help.
+/// Says that there was no memory for the text of help.
 fn no_memory<E: Write>(errors: &mut E) -> Ending
     ensures { result ≡ Ending.NoMemory }
 {
@@ -68,7 +68,7 @@ fn no_memory<E: Write>(errors: &mut E) -> Ending
     Ending::NoMemory
 }
 
-/// Tells where a script comes from, if a word that is no option follows the subcommand.
+/// Says where a script comes from, if a word that is no option follows the subcommand.
 fn tell_source<E: Write>(words: &[String], errors: &mut E) {
     let Some(name) = words.get(1) else {
         return;
@@ -111,7 +111,7 @@ fn pass_on<W: Sink>(writer: &mut W, text: &[u8]) -> Result<(), WriteFault>
     writer.flush().or(Err(WriteFault))
 }
 
-/// Tells why the words of the command line could not be read: one is no text, or there was no memory for them.
+/// Says why the words of the command line could not be read: one is no text, or there was no memory for them.
 pub fn without_words<E: Write>(kind: io::ErrorKind, errors: &mut E) -> Ending
     ensures wrong { kind ≡ InvalidData → result ≡ Ending.Usage }
     ensures memory { kind ≢ InvalidData → result ≡ Ending.NoMemory }
@@ -124,7 +124,7 @@ pub fn without_words<E: Write>(kind: io::ErrorKind, errors: &mut E) -> Ending
     ending
 }
 
-/// Tells a fault.
+/// Reports a fault.
 pub fn fault<E: Write>(fault: Fault, errors: &mut E) -> Ending
     ensures { result ≡ Ending.Fault }
 {
@@ -132,7 +132,7 @@ pub fn fault<E: Write>(fault: Fault, errors: &mut E) -> Ending
     Ending::Fault
 }
 
-/// Tells how many entries a compaction left out, and how many lines were refused.
+/// Reports how many entries a compaction left out, and how many lines were refused.
 pub fn left_out<E: Write>(counts: &Compaction, errors: &mut E) {
     let left_out = counts.entries.saturating_sub(counts.kept);
     let _ = write!(

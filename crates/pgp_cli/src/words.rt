@@ -12,16 +12,16 @@ use clap::error::ErrorKind;
 use clap::{ArgMatches, Error};
 use std::alloc::Global;
 
-/// How many shards or workers there are at most.
+/// The greatest number of shards or workers.
 const MOST: u8 = 64;
 
 /// Why the number of an option is refused.
 const WRONG_COUNT: &str = "--shards takes a number from 1 to 64, and --workers one from 0 to 64";
 
-/// Reads the words of a command line that asks for a run, the program's name first.
+/// Reads the words of a command line that asks for a run. The first word is the program's name.
 ///
-/// A request for help is an error too, one whose text belongs on the standard output. A number out of its bounds, or a text
-/// that is none, is [`ErrorKind::ValueValidation`].
+/// A request for help is an error too, and its text belongs on the standard output. A number out of its bounds, or a text
+/// that is no number, is [`ErrorKind::ValueValidation`].
 pub fn options(alloc: Global, words: &[String]) -> Result<RunOptions, Error>
     ensures fails { FailsBy (faults_in (map string_bytes words.now)) result }
     ensures asked { IfOk result (λ options. counts_asked (map string_bytes words.now) ≡ Some (counts_of options)) }
@@ -34,7 +34,7 @@ pub fn options(alloc: Global, words: &[String]) -> Result<RunOptions, Error>
     }
 }
 
-/// What the options of `run` ask for, if it is asked for and they do.
+/// What the words ask to be run, if `run` is asked for and its options are right.
 fn asked(matches: &ArgMatches) -> Option<RunOptions>
     ensures { option_map counts_of result ≡ option_and_then counts_in (rows_named (codes "run") matches.now) }
 {
@@ -42,7 +42,7 @@ fn asked(matches: &ArgMatches) -> Option<RunOptions>
     options_in(run)
 }
 
-/// What the options of `run` ask for, if they do.
+/// What the options of `run` ask for, if they are right.
 fn options_in(run: &ArgMatches) -> Option<RunOptions>
     ensures { option_map counts_of result ≡ counts_in (rows_of (found_of run.now)) }
 {
@@ -61,7 +61,7 @@ fn count_or(default: u8, low: u8, text: Option<&str>) -> Option<u8>
     }
 }
 
-/// The number that the text tells, if it is one from `low` to 64.
+/// The number in the text, if it is one from `low` to 64.
 fn count_in(low: u8, text: &str) -> Option<u8>
     ensures { result ≡ count_in low 64 text.now }
 {
