@@ -1,13 +1,12 @@
 //! How a feed is made.
-ghost use Rattle.std.specs.Prelude.{◌≡◌, ◌≤◌, [], Some, drop, length, option_map, vec_capacity, All, IfOk, IfErr, IsErr, OnErr, MatchResult};
-ghost use Rattle.left_right.specs.Sides.{view};
+ghost use Rattle.std.specs.Prelude.{◌≡◌, ◌≤◌, [], Some, drop, length, vec_capacity, All, IfOk, IfErr, IfSome, IsErr, OnErr, MatchResult};
 ghost use Rattle.pgp_feed.specs.Receipts.{entries_of, feed_of};
 ghost use Rattle.pgp_feed.specs.Feeds.{told_of};
 ghost use Rattle.pgp_feed.specs.Taps.{last_of};
 ghost use Rattle.pgp_feed.specs.Supplies.{IsSupplied};
 ghost use Rattle.pgp_feed.specs.declared.fault.MakeFault.TheVariants.{Memory, NoReader};
 
-use super::steps::{next_turn, shown};
+use super::steps::{next_turn, publish_queued};
 use super::warm::skip_twice;
 use super::{Feed, LogWriter};
 use crate::fault::MakeFault;
@@ -20,7 +19,7 @@ use std::alloc::{AllocError, Global};
 use std::sync::Wait;
 
 // A copy of the empty log, with room for the longest.
-fn reserved(alloc: Global, told: &Receipt) -> Result<Store, AllocError>
+fn empty_store(alloc: Global, told: &Receipt) -> Result<Store, AllocError>
     ensures { IfOk result (λ store. (store.told ≡ told.now) × (store.entries.items ≡ [])) }
 {
     Ok(Store {
@@ -30,34 +29,30 @@ fn reserved(alloc: Global, told: &Receipt) -> Result<Store, AllocError>
 }
 
 // The writer of two such copies.
-fn opened(alloc: Global, told: &Receipt, readers: usize) -> Result<LogWriter, AllocError>
+fn empty_writer(alloc: Global, told: &Receipt, readers: usize) -> Result<LogWriter, AllocError>
     requires readers { (1 ≤ readers) × (readers ≤ 129) }
     requires empty { entries_of told.now ≡ [] }
     ensures { IfOk result (λ writer. (writer.desk.shown.value.told ≡ told.now) × (drop writer.behind writer.log.items ≡ [])) }
 {
-    let first = reserved(alloc, told)?;
-    let second = reserved(alloc, told)?;
+    let first = empty_store(alloc, told)?;
+    let second = empty_store(alloc, told)?;
     LogWriter::new(alloc, first, second, readers)
 }
 
-// No reader's place was given.
-#[derive(Drop)]
-struct NoPlace;
-
 impl Feed {
     // A feed without taps. Its writer's own view names it, so it publishes the empty log.
-    fn alone<R: Wait>(rt: &R, alloc: Global, readers: usize) -> Result<Feed, AllocError>
+    fn without_taps<R: Wait>(rt: &R, alloc: Global, readers: usize) -> Result<Feed, AllocError>
         requires { (1 ≤ readers) × (readers ≤ 129) }
         ensures { IfOk result (λ feed. entries_of (told_of feed) ≡ []) }
     {
         let (word, turns, told) = Receipt::open();
-        let mut writer = opened(alloc, &told, readers)?;
+        let mut writer = empty_writer(alloc, &told, readers)?;
         let Ok(warm) = skip_twice(&mut writer) else {
             writer.take(rt);
             return Err(AllocError);
         };
         // The first publish shows the two, the second empties the queue.
-        let writer = shown(rt, shown(rt, writer, &told), &told);
+        let writer = publish_queued(rt, publish_queued(rt, writer, &told), &told);
         let turn = next_turn(rt, &turns, &told);
         Ok(Feed {
             word,
@@ -69,45 +64,49 @@ impl Feed {
         })
     }
 
-    // One more tap, which has seen what was told.
-    fn tap(&mut self) -> Result<Tap, NoPlace>
+    // One more tap, which has seen what was told. `None`: it wasn't given a reader's place.
+    fn tap(&mut self) -> Option<Tap>
         ensures told { told_of self.new ≡ told_of self.old }
-        ensures last { IfOk result (λ tap. last_of tap ≡ told_of self.old) }
+        ensures last { IfSome result (λ tap. last_of tap ≡ told_of self.old) }
     {
         let Ok(mut reader) = self.writer.factory().reader() else {
-            return Err(NoPlace);
+            return None;
         };
         reader.learn::<Tells>(self.writer.tell::<Tells>());
-        Ok(Tap::over(reader, self.told.again()))
+        Some(Tap::over(reader, self.told.again()))
     }
 
-    // As many taps as are asked for, in a list with room for them.
-    fn taps(&mut self, list: Vec<Tap>, count: usize) -> Result<Vec<Tap>, NoPlace>
+    // As many taps as are asked for, in a list with room for them. `None`: one of them wasn't given its place.
+    fn taps(&mut self, list: Vec<Tap>, count: usize) -> Option<Vec<Tap>>
         requires { (list.items ≡ []) × (count ≤ vec_capacity list) }
         ensures told { told_of self.new ≡ told_of self.old }
-        ensures count { IfOk result (λ taps. length taps.items ≡ count) }
-        ensures each { IfOk result (λ taps. All (λ tap. last_of tap ≡ told_of self.old) taps.items) }
+        ensures count { IfSome result (λ taps. length taps.items ≡ count) }
+        ensures each { IfSome result (λ taps. All (λ tap. last_of tap ≡ told_of self.old) taps.items) }
     {
         let mut taps = list;
         while taps.len() < count {
             let tap = self.tap()?;
             taps.push(tap).unwrap();
         }
-        Ok(taps)
+        Some(taps)
     }
 
     // All that takes memory: a feed without taps, and a list with room for this many.
-    fn supplied<R: Wait>(rt: &R, alloc: Global, taps: usize) -> Result<(Feed, Vec<Tap>), AllocError>
+    fn with_list<R: Wait>(
+        rt: &R,
+        alloc: Global,
+        taps: usize,
+    ) -> Result<(Feed, Vec<Tap>), AllocError>
         requires { (1 ≤ taps) × (taps ≤ 129) }
         ensures { IfOk result (λ made. IsSupplied made.0 made.1 taps) }
     {
         let list = Vec::with_capacity(alloc, taps)?;
-        let feed = Feed::alone(rt, alloc, taps)?;
+        let feed = Feed::without_taps(rt, alloc, taps)?;
         Ok((feed, list))
     }
 
     // What was supplied, with its taps: refused by `Memory` where nothing was, and else by `NoReader` alone.
-    fn seated<R: Wait>(
+    fn with_taps<R: Wait>(
         rt: &R,
         supplied: Result<(Feed, Vec<Tap>), AllocError>,
         taps: usize,
@@ -123,8 +122,8 @@ impl Feed {
             return Err(MakeFault::Memory);
         };
         match feed.taps(list, taps) {
-            Ok(made) => Ok((feed, made)),
-            Err(NoPlace) => {
+            Some(made) => Ok((feed, made)),
+            None => {
                 feed.give_up(rt);
                 Err(MakeFault::NoReader)
             }
@@ -140,6 +139,6 @@ impl Feed {
         ensures taps { IfOk result (λ made. length made.1.items ≡ taps) }
         ensures each { IfOk result (λ made. All (λ tap. last_of tap ≡ told_of made.0) made.1.items) }
     {
-        Feed::seated(rt, Feed::supplied(rt, alloc, taps), taps)
+        Feed::with_taps(rt, Feed::with_list(rt, alloc, taps), taps)
     }
 }

@@ -33,7 +33,7 @@ pub(super) fn next_turn<R: Wait>(rt: &R, turns: &Number, told: &Receipt) -> Pen
 }
 
 // Keeps the operation until there is room for it. The queue is warm, so the first try does.
-fn queued<R: Wait>(rt: &R, writer: LogWriter, operation: Operation) -> LogWriter
+fn queue<R: Wait>(rt: &R, writer: LogWriter, operation: Operation) -> LogWriter
     requires { drop writer.behind writer.log.items ≡ [] }
     ensures desk { result.desk ≡ writer.desk }
     ensures queued { drop result.behind result.log.items ≡ operation ∷ [] }
@@ -51,7 +51,7 @@ fn queued<R: Wait>(rt: &R, writer: LogWriter, operation: Operation) -> LogWriter
 
 // Publishes what is queued. Both copies have room for the longest log, so the first try does, unless an entry has too many
 // owners.
-pub(super) fn shown<R: Wait>(rt: &R, writer: LogWriter, told: &Receipt) -> LogWriter
+pub(super) fn publish_queued<R: Wait>(rt: &R, writer: LogWriter, told: &Receipt) -> LogWriter
     requires { IsPut writer.desk.shown.value.told told.now (drop writer.behind writer.log.items) }
     ensures told { result.desk.shown.value.told ≡ told.now }
     ensures seen { view result.desk.place ≡ Some told.now }
@@ -95,7 +95,7 @@ impl Feed {
             |writer: LogWriter, operation: Operation| -> (LogWriter, ())
                 requires { (drop writer.behind writer.log.items ≡ []) × IsPut writer.desk.shown.value.told told (operation ∷ []) }
                 ensures { (result.0.desk.shown.value.told ≡ told) × (view result.0.desk.place ≡ Some told) × (drop result.0.behind result.0.log.items ≡ []) }
-            { (shown(rt, queued(rt, writer, operation), &told), ()) },
+            { (publish_queued(rt, queue(rt, writer, operation), &told), ()) },
         );
         self.told = told.again();
         Ok(told)

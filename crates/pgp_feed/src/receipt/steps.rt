@@ -54,7 +54,7 @@ impl Receipt {
 
     /// Whether this front is no shorter than the other's, of the same feed. Then it holds the other; if not, the other holds
     /// it.
-    pub(crate) fn holds(&self, other: &Receipt) -> bool
+    pub fn holds(&self, other: &Receipt) -> bool
         requires { feed_of other.now ≡ feed_of self.now }
         ensures longer { result ≡ nat_le (length (entries_of other.now)) (length (entries_of self.now)) }
         ensures holds { MatchBool result (Holds self.now other.now) (Holds other.now self.now) }
@@ -66,7 +66,7 @@ impl Receipt {
     }
 
     /// The longer of two receipts of one feed, which holds both; this one where neither is longer.
-    pub(crate) fn longer(&self, other: &Receipt) -> Receipt
+    pub fn longer(&self, other: &Receipt) -> Receipt
         requires { feed_of other.now ≡ feed_of self.now }
         ensures which { result ≡ (if nat_le (length (entries_of other.now)) (length (entries_of self.now)) then self.now else other.now) }
         ensures this { Holds result self.now }

@@ -1,7 +1,7 @@
 use Rattle.std.proofs.Common.{sym, ◌∙◌, arith}
 use Rattle.pgp_feed.proofs.Opens.{contents_same, opening_told}
 use Rattle.pgp_feed.proofs.Views.{opens}
-use Rattle.pgp_feed.proofs.feed.make.opened.Goals as goal
+use Rattle.pgp_feed.proofs.feed.make.empty_writer.Goals as goal
 
 pub new-requires : goal.new-requires
 new-requires c =
