@@ -1,6 +1,5 @@
 -- What a chart has taken of a front.
-use Rattle.std.proofs.Common.{◌≡◌, ℕ, ◌≤◌, ◌∷◌, List, [], ◌++◌, length, map, take, drop, append_assoc, Option, Some, None, true, refl, ap, ap₂, sym, ◌∙◌, subst, arith, length-append}
-use Rattle.std.proofs.Math.Seq.{drop-append_seam}
+use Rattle.std.proofs.Common.{◌≡◌, ℕ, ◌≤◌, ◌∷◌, List, [], ◌++◌, length, map, take, drop, append_assoc, Option, Some, None, true, refl, ap, sym, ◌∙◌, subst, arith, length-append}
 use Rattle.std.proofs.lemmas.List.{append-nil, map-append, take-append-drop}
 use Rattle.std.specs.Arc.{arc_value}
 use Rattle.std.specs.declared.sync.Arc.{Arc}
@@ -13,6 +12,7 @@ use Rattle.pgp_log.specs.Log.{IsFrontOf, is_legal}
 use Rattle.pgp_feed.proofs.Fronts.{front_self, front_trans}
 use Rattle.pgp_engine.specs.Clients.{GoesOn, IsChartOf, IsChartWithin}
 use Rattle.pgp_engine.specs.declared.client.chart.Chart.{Chart}
+use Rattle.pgp_engine.proofs.FrontLemmas.{filled}
 
 no-rest : (rest : List Entry) → length rest ≡ 0 → rest ≡ []
 no-rest [] none = refl
@@ -23,12 +23,6 @@ pub whole-front : (taken log : List Entry) → IsFrontOf taken log → length ta
 whole-front taken log part same =
     let none : length part.rest ≡ 0 = omega (arith, ap length part.whole, length-append taken part.rest) in
     sym (append-nil taken) ∙ ap (λ (l : List Entry). taken ++ l) (sym (no-rest part.rest none)) ∙ sym part.whole
-
--- what was read from behind what was taken makes up the log
-pub read-up : {Z : Type 0} (taken log : List Entry) (n : ℕ) (unread : List (Arc Entry Z)) → IsFrontOf taken log → n ≡ length taken
-    → map arc_value unread ≡ drop n log → taken ++ map arc_value unread ≡ log
-read-up taken log n unread part count read =
-    ap (λ (l : List Entry). taken ++ l) (read ∙ ap₂ drop count part.whole ∙ drop-append_seam taken part.rest) ∙ sym part.whole
 
 -- no more was taken than there is
 pub taken-count : (log : List Entry) (chart : Chart) (here : IsChartWithin log chart) → length here.taken ≤ length log
@@ -44,7 +38,7 @@ pub goes-on : {Z : Type 0} (log : List Entry) (chart : Chart) (n : ℕ) (unread 
 goes-on log chart n unread here count read legal = record {
   log = here.taken;
   is = here.is;
-  legal = ap is_legal (read-up here.taken log n unread here.within count read) ∙ legal;
+  legal = ap is_legal (filled here.taken log n unread unread here.within count refl read) ∙ legal;
 }
 
 -- a chart of the whole log is one within it
@@ -73,7 +67,7 @@ pub followed : {Z : Type 0} (front : List Entry) (chart after : Chart) (n : ℕ)
     → ((log : List Entry) → IsChartOf log chart → is_legal (log ++ map arc_value slice) ≡ true → IsChartOf (log ++ map arc_value slice) after)
     → IsChartOf front after
 followed front chart after n unread slice here count same read legal takes =
-    let whole : here.taken ++ map arc_value slice ≡ front = read-up here.taken front n slice here.within count (ap (map arc_value) same ∙ read) in
+    let whole : here.taken ++ map arc_value slice ≡ front = filled here.taken front n unread slice here.within count same read in
     subst (λ (l : List Entry). IsChartOf l after) whole (takes here.taken here.is (ap is_legal whole ∙ legal))
 
 -- an object without a place is of a pool that the map lacks

@@ -1,25 +1,16 @@
 -- A judge that has taken a front of the log, and what became of the log.
-use Rattle.std.proofs.Common.{◌≡◌, List, [], ◌∷◌, ◌++◌, length, drop, true, None, Result, Ok, Err, OnOk, OnErr, refl, ap, ap₂, sym, ◌∙◌, subst}
+use Rattle.std.proofs.Common.{◌≡◌, List, [], ◌∷◌, ◌++◌, None, Result, Ok, Err, OnOk, OnErr, refl, ap, ap₂, sym, ◌∙◌}
 use Rattle.pgp_ids.specs.declared.entry.Entry.{Entry}
 use Rattle.pgp_log.specs.declared.judge.Judge.{Judge}
 use Rattle.pgp_log.specs.Fits.{fits}
 use Rattle.pgp_log.specs.Judge.{IsJudgeOf, OfItsLog}
-use Rattle.pgp_log.specs.Log.{IsFrontOf, is_legal}
 use Rattle.pgp_feed.specs.declared.receipt.Receipt.{Receipt}
 use Rattle.pgp_feed.specs.Receipts.{entries_of}
 use Rattle.pgp_feed.proofs.Fronts.{front_self}
 use Rattle.pgp_engine.specs.Fronts.{Follows}
-use Rattle.pgp_engine.proofs.FrontLemmas.{front_rest}
 
 pub follows_log : (log : List Entry) (judge : Judge) → IsJudgeOf log judge → Follows log judge
 follows_log log judge is = record { taken = log; is_front = front_self log; is_judge = is }
-
--- a front and what stands behind it
-pub with_rest : (front log news : List Entry) → IsFrontOf front log → news ≡ drop (length front) log → front ++ news ≡ log
-with_rest front log news f rest = ap (λ l. front ++ l) rest ∙ front_rest front log f
-
-pub rest_legal : (front log news : List Entry) → IsFrontOf front log → news ≡ drop (length front) log → is_legal log ≡ true → is_legal (front ++ news) ≡ true
-rest_legal front log news f rest legal = subst (λ (l : List Entry). is_legal l ≡ true) (sym (with_rest front log news f rest)) legal
 
 -- whether it found memory for the entry or not
 pub took_or_not : {T E : Type 0} (r : Result T E) (log : List Entry) (new : Entry) (before after : Judge) → IsJudgeOf log before → fits log new ≡ None

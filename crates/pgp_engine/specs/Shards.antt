@@ -32,6 +32,13 @@ pub record IsReader (feed : Book) (state : Shard) (stored last : Receipt) : Type
   pub last_is : feed_of last ≡ feed
   pub seen : IsFrontOf state.front (entries_of last)
 
+-- it is the same shard still, and has read on within this log
+pub record ReadsOn (log : List Entry) (old new : Shard) : Type 0 where
+  pub shard_is : new.shard ≡ old.shard
+  pub shards_are : new.shards ≡ old.shards
+  pub front_is : IsFrontOf old.front new.front
+  pub within : IsFrontOf new.front log
+
 -- it is the same shard still, and has read and seen no less
 pub record GoesOn (old new : Reader) : Type 0 where
   pub shard_is : new.shard ≡ old.shard

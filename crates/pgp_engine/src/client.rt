@@ -1,6 +1,6 @@
 //! Who places objects.
+use crate::entry_buffer::EntryBuffer;
 use crate::naming::Naming;
-use crate::unread::Unread;
 use chart::Chart;
 use pgp_feed::{Receipt, Tap};
 use std::marker::{Model, PhantomData};
@@ -21,7 +21,7 @@ pub struct Client<J: Naming> {
     // It lags behind the front until an object is placed.
     chart: Chart,
     // Where what the chart has to take is read to.
-    unread: Unread,
+    buffer: EntryBuffer,
     of: PhantomData<J>,
 }
 
@@ -32,7 +32,7 @@ impl<J: Naming> Drop for Client<J> {
             tap: _,
             front: _,
             chart: _,
-            unread: _,
+            buffer: _,
             of: _,
         } = self;
     }

@@ -3,7 +3,7 @@ ghost use Rattle.std.specs.Prelude.{◌≡◌, ◌≤◌, [], drop, length, map,
 ghost use Rattle.std.specs.Arc.{arc_value};
 ghost use Rattle.pgp_feed.specs.Receipts.{entries_of, feed_of, Holds};
 ghost use Rattle.pgp_feed.specs.Taps.{last_of};
-ghost use Rattle.pgp_engine.specs.declared.unread.TheConstants.{KEPT_PLACES};
+ghost use Rattle.pgp_engine.specs.declared.entry_buffer.TheConstants.{KEPT_PLACES};
 
 use pgp_feed::{ReadFault, Receipt, Tap};
 use pgp_ids::Entry;
@@ -15,7 +15,7 @@ use std::sync::Arc;
 pub const KEPT_PLACES: usize = 1024;
 
 /// A list that entries are read to. Between two reads it has none of them, and room for at most [`KEPT_PLACES`].
-pub(crate) struct Unread {
+pub(crate) struct EntryBuffer {
     alloc: Global,
     list: Vec<Arc<Entry>>,
     ghost empty: { list.items ≡ [] },
@@ -23,16 +23,16 @@ pub(crate) struct Unread {
 }
 
 // Written out, so that a crate which lets one go has nothing to prove of what lies within.
-impl Drop for Unread {
+impl Drop for EntryBuffer {
     fn drop(self) {
-        let Unread { alloc: _, list: _ } = self;
+        let EntryBuffer { alloc: _, list: _ } = self;
     }
 }
 
-impl Unread {
+impl EntryBuffer {
     /// It takes no memory.
-    pub fn new(alloc: Global) -> Unread {
-        Unread {
+    pub fn new(alloc: Global) -> EntryBuffer {
+        EntryBuffer {
             alloc,
             list: Vec::new(alloc),
         }

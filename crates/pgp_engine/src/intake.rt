@@ -1,6 +1,6 @@
 //! Where entries come in: the one writer of the log, and the judge of what the log takes next.
+use crate::entry_buffer::EntryBuffer;
 use crate::naming::Naming;
-use crate::unread::Unread;
 use pgp_feed::{Feed, Tap};
 use pgp_log::Judge;
 use std::alloc::Global;
@@ -19,7 +19,7 @@ pub struct Intake<J: Naming> {
     tap: Tap,
     judge: Judge,
     // Where what the judge has to take is read to.
-    unread: Unread,
+    buffer: EntryBuffer,
     of: PhantomData<J>,
 }
 

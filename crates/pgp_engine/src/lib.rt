@@ -11,13 +11,13 @@ mod answer;
 mod brand;
 mod client;
 mod engine;
+mod entry_buffer;
 mod fault;
 mod gate;
 mod intake;
 mod naming;
 mod shard;
 mod submitted;
-mod unread;
 
 pub use answer::Answer;
 pub use client::{Client, LocateFault, Place};

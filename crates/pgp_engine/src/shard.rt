@@ -1,6 +1,6 @@
 //! A shard of the engine: it reads the feed, and answers for some of the groups.
+use crate::entry_buffer::EntryBuffer;
 use crate::naming::Naming;
-use crate::unread::Unread;
 use pgp_feed::{Receipt, Tap};
 use pgp_log::ShardState;
 use std::marker::{Model, PhantomData};
@@ -15,7 +15,7 @@ pub struct Shard<J: Naming> {
     front: Receipt,
     tap: Tap,
     // Where the next entries are read to.
-    unread: Unread,
+    buffer: EntryBuffer,
     of: PhantomData<J>,
 }
 
@@ -26,7 +26,7 @@ impl<J: Naming> Drop for Shard<J> {
             state: _,
             front: _,
             tap: _,
-            unread: _,
+            buffer: _,
             of: _,
         } = self;
     }

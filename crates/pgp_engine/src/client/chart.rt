@@ -14,7 +14,7 @@ ghost use Rattle.pgp_engine.specs.Clients.{IsChartOf, IsChartWithin, GoesOn};
 
 use super::fault::LocateFault;
 use super::place::Place;
-use crate::unread::Unread;
+use crate::entry_buffer::EntryBuffer;
 use pgp_feed::{ReadFault, Receipt, Tap};
 use pgp_ids::{Entry, ObjectName, PoolId};
 use pgp_log::{Judge, RawSets};
@@ -49,7 +49,7 @@ impl Chart {
     pub fn follow(
         &mut self,
         tap: &mut Tap,
-        unread: &mut Unread,
+        buffer: &mut EntryBuffer,
         front: &Receipt,
     ) -> Result<(), ReadFault>
         requires feed { feed_of front.now ≡ feed_of (last_of tap.old) }
@@ -63,10 +63,10 @@ impl Chart {
         if taken == front.len() {
             return Ok(());
         }
-        let list = unread.read(tap, front, taken)?;
+        let list = buffer.read(tap, front, taken)?;
         match self.take_all(list.as_slice()) {
             Ok(()) => {
-                unread.keep(list);
+                buffer.keep(list);
                 Ok(())
             }
             Err(AllocError) => Err(ReadFault::Memory),

@@ -47,13 +47,8 @@ impl From<ReadFault> for LocateFault {
     }
 }
 
-/// A receipt is shown by its length.
 impl fmt::Debug for LocateFault {
     fn fmt<W: fmt::Write>(&self, f: &mut fmt::Formatter<W>) -> fmt::Result {
-        match self {
-            LocateFault::UnknownPool { at } => write!(f, "UnknownPool {{ at: {} }}", at.len()),
-            LocateFault::Memory => write!(f, "Memory"),
-            LocateFault::NoReader => write!(f, "NoReader"),
-        }
+        fmt::Display::fmt(self, f)
     }
 }

@@ -14,8 +14,8 @@ use super::Client;
 use super::chart::Chart;
 use super::fault::LocateFault;
 use super::place::Place;
+use crate::entry_buffer::EntryBuffer;
 use crate::naming::Naming;
-use crate::unread::Unread;
 use pgp_feed::{Receipt, Tap};
 use pgp_ids::{ObjectName, PoolId};
 use std::alloc::Global;
@@ -34,7 +34,7 @@ impl<J: Naming> Client<J> {
             tap,
             front,
             chart: Chart::empty(alloc),
-            unread: Unread::new(alloc),
+            buffer: EntryBuffer::new(alloc),
             of: PhantomData,
         }
     }
@@ -57,7 +57,7 @@ impl<J: Naming> Client<J> {
         ensures later { Holds self.new self.old }
         ensures one { (self.new ≡ receipt.now) ⊎ (self.new ≡ self.old) }
     {
-        if self.tap.meet(&self.front, receipt) == Ordering::Less {
+        if !self.front.holds(receipt) {
             self.front = receipt.again();
         }
     }
@@ -87,7 +87,7 @@ impl<J: Naming> Client<J> {
         ensures wants { result ≡ Err Memory → 0 < length (entries_of self.new) }
     {
         let at = self.newest();
-        self.chart.follow(&mut self.tap, &mut self.unread, &at)?;
+        self.chart.follow(&mut self.tap, &mut self.buffer, &at)?;
         self.chart.locate(at, id, name)
     }
 }

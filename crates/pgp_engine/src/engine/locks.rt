@@ -15,7 +15,7 @@ use std::sync::{Mutex, MutexGuard, Wait};
 
 /// A turn of the lock of an intake whose log holds the front. The log holds every front that it gave a receipt of, so the
 /// first turn is such a one.
-pub(super) fn holding<'a, J: Naming, R: Wait>(
+pub(super) fn intake_turn<'a, J: Naming, R: Wait>(
     rt: &R,
     intake: &'a Mutex<Intake<J>>,
     front: &Receipt,
@@ -24,7 +24,7 @@ pub(super) fn holding<'a, J: Naming, R: Wait>(
     ensures { IsFrontOf (entries_of front.now) (mutex_guard_value result) }
 {
     for _ in rt.forever() {
-        let mut turn = intake.lock(rt);
+        let turn = intake.lock(rt);
         if turn.holds(front) {
             return turn;
         }
@@ -35,7 +35,7 @@ pub(super) fn holding<'a, J: Naming, R: Wait>(
 
 /// A turn of the lock of the shard that answers for the group. The shards stand in the order of their numbers, so the first
 /// turn is that shard's.
-pub(super) fn serving<'a, J: Naming, R: Wait>(
+pub(super) fn shard_turn<'a, J: Naming, R: Wait>(
     rt: &R,
     shards: &'a [Mutex<Shard<J>>],
     pg: &PgId,

@@ -102,8 +102,8 @@ impl<J: Naming> Engine<J> {
         ensures new { IfOk result (λ made. All IsNew made.1.items) }
         ensures err { IfErr result (λ fault. fault ≡ Memory) }
     {
-        let (engine, taps) = Engine::with_taps(rt, alloc, feed, taps, shards, workers)?;
-        engine.with_clients(rt, alloc, taps)
+        let (engine, clients, _) = Engine::over(rt, alloc, feed, taps, shards, workers, &[])?;
+        Ok((engine, clients))
     }
 
     /// The same over these entries, which are a legal log: they are published first, and the receipt names the log that they
@@ -190,7 +190,7 @@ impl<J: Naming> Engine<J> {
         };
         let tap = taps.pop().unwrap();
         let engine = Engine {
-            intake: Mutex::new(Intake::ready(alloc, feed, tap)),
+            intake: Mutex::new(Intake::start(alloc, feed, tap)),
             grown: Condvar::new(),
             shards: all,
             workers,

@@ -7,7 +7,7 @@ ghost use Rattle.pgp_engine.specs.Faults.{fault_at};
 ghost use Rattle.pgp_engine.specs.Intakes.{IsSubmitted, MayFailToSubmit};
 
 use super::Engine;
-use super::locks::{holding, serving};
+use super::locks::{intake_turn, shard_turn};
 use crate::answer::Answer;
 use crate::fault::{AskFault, SubmitFault};
 use crate::naming::Naming;
@@ -23,8 +23,10 @@ impl<J: Naming> Engine<J> {
         requires { feed_of q.now ≡ J.feed }
         ensures { MatchResult result (IsSubmitted q.now entry) (MayFailToSubmit q.now entry) }
     {
-        self.submit_with_epoch(rt, entry, q)
-            .map(|submitted| submitted.at)
+        match self.submit_with_epoch(rt, entry, q) {
+            Ok(submitted) => Ok(submitted.at),
+            Err(fault) => Err(fault),
+        }
     }
 
     /// The same, with the epoch of the map that the log makes with the entry.
@@ -54,7 +56,7 @@ impl<J: Naming> Engine<J> {
         ensures submitted { MatchResult result (λ submitted. IsSubmitted q.now entry submitted.at) (MayFailToSubmit q.now entry) }
         ensures epoch { IfOk result (λ submitted. submitted.epoch ≡ epoch_of (entries_of submitted.at)) }
     {
-        let mut turn = holding(rt, &self.intake, q);
+        let mut turn = intake_turn(rt, &self.intake, q);
         let submitted = turn.submit_with_epoch(rt, entry);
         MutexGuard::unlock(turn);
         submitted
@@ -65,7 +67,7 @@ impl<J: Naming> Engine<J> {
         ensures { feed_of result ≡ J.feed }
     {
         let turn = self.intake.lock(rt);
-        let told = turn.told();
+        let told = turn.receipt();
         MutexGuard::unlock(turn);
         told
     }
@@ -76,7 +78,7 @@ impl<J: Naming> Engine<J> {
         requires { feed_of q.now ≡ J.feed }
         ensures { MatchResult result (IsAnswer q.now pg) (MayFailToAnswer q.now pg) }
     {
-        serving(rt, self.shards.as_slice(), &pg).ask(pg, q)
+        shard_turn(rt, self.shards.as_slice(), &pg).ask(pg, q)
     }
 
     /// Lets a shard read at most this many further entries of the log, and answers the receipt of what it has read then.

@@ -7,7 +7,6 @@ use super::Engine;
 use crate::fault::AskFault;
 use crate::gate::Gate;
 use crate::naming::Naming;
-use crate::shard::Shard;
 use pgp_feed::Receipt;
 use std::sync::{MutexGuard, Wait};
 
@@ -22,18 +21,6 @@ const STEPS_A_TURN: usize = 64;
 pub(super) struct Stand {
     pub front: Receipt,
     pub closed: bool,
-}
-
-/// Has the shard read on, or work out its groups, by one turn's steps at most.
-fn read_on<J: Naming>(shard: &mut Shard<J>) -> Result<Stand, AskFault>
-    ensures stand { IfOk result (IsStand J.feed) }
-    ensures err { IfErr result (λ fault. fault_at fault ≡ None) }
-{
-    let front = shard.absorb_some(STEPS_A_TURN)?;
-    Ok(Stand {
-        front,
-        closed: shard.is_closed(),
-    })
 }
 
 impl<J: Naming> Engine<J> {
@@ -94,7 +81,7 @@ impl<J: Naming> Engine<J> {
         Ok(shortest)
     }
 
-    // A turn of the shard's lock, in which it reads on.
+    // A turn of the shard's lock, in which it reads on, or works out its groups, by one turn's steps at most.
     fn turn<R: Wait, G: Gate>(&self, rt: &R, shard: usize, gate: &G) -> Result<Stand, AskFault>
         requires { shard < self.now.shards }
         ensures stand { IfOk result (IsStand J.feed) }
@@ -102,10 +89,14 @@ impl<J: Naming> Engine<J> {
     {
         let mut turn = self.shards[shard].lock(rt);
         gate.enter(rt, shard);
-        let stand = read_on(&mut *turn);
+        let front = turn.absorb_some(STEPS_A_TURN);
+        let closed = turn.is_closed();
         MutexGuard::unlock(turn);
         gate.left(rt, shard);
-        stand
+        Ok(Stand {
+            front: front?,
+            closed,
+        })
     }
 
     // Waits until the log is longer than this. A submit that comes after the look at the log finds this thread asleep, and
@@ -114,7 +105,7 @@ impl<J: Naming> Engine<J> {
         let intake = self.intake.lock(rt);
         let turn = self
             .grown
-            .wait_while(rt, intake, |intake| intake.told().len() <= len);
+            .wait_while(rt, intake, |intake| intake.receipt().len() <= len);
         MutexGuard::unlock(turn);
     }
 }

@@ -1,8 +1,8 @@
 //! How the judge of an intake keeps up with the log, and what it says of the next entry.
-ghost use Rattle.std.specs.Prelude.{◌≡◌, ◌≢◌, ◌<◌, ◌⊎◌, [], ◌∷◌, ◌++◌, length, map, true, None, Err, IfErr, OnOk, OnErr, MatchResult};
+ghost use Rattle.std.specs.Prelude.{◌≡◌, ◌≢◌, ◌<◌, ◌⊎◌, [], ◌∷◌, ◌++◌, length, map, true, None, Err, IfOk, IfErr, OnOk, OnErr, MatchResult};
 ghost use Rattle.std.specs.Arc.{arc_value};
 ghost use Rattle.pgp_log.specs.Fits.{fits};
-ghost use Rattle.pgp_log.specs.Judge.{IsJudgeOf, OfItsLog, CanTake, MapMayLack};
+ghost use Rattle.pgp_log.specs.Judge.{IsJudgeOf, OfItsLog, MapMayLack};
 ghost use Rattle.pgp_log.specs.Log.{is_legal};
 ghost use Rattle.pgp_feed.specs.Receipts.{entries_of, feed_of};
 ghost use Rattle.pgp_feed.specs.Feeds.{told_of};
@@ -12,22 +12,13 @@ ghost use Rattle.pgp_engine.specs.Fronts.{Follows, CanTakeAll};
 ghost use Rattle.pgp_engine.specs.Intakes.{MayRefuse};
 ghost use Rattle.pgp_engine.specs.declared.fault.SubmitFault.TheVariants as submit;
 
+use crate::entry_buffer::EntryBuffer;
 use crate::fault::SubmitFault;
-use crate::unread::Unread;
 use pgp_feed::{Feed, Receipt, Tap};
 use pgp_ids::{Entry, Refusal};
 use pgp_log::Judge;
 use std::alloc::{AllocError, Global};
 use std::sync::{Arc, Wait};
-
-// Has the judge take an entry that fits. Without memory it has taken what it had before.
-fn take_shared(judge: &mut Judge, entry: &Arc<Entry>) -> Result<(), AllocError>
-    requires { CanTake judge.old (arc_value entry.now) }
-    ensures ok { OnOk result (OfItsLog judge.old (λ log. fits log (arc_value entry.now) ≡ None → IsJudgeOf (log ++ arc_value entry.now ∷ []) judge.new)) }
-    ensures err { OnErr result (OfItsLog judge.old (λ log. IsJudgeOf log judge.new)) }
-{
-    judge.take(entry)
-}
 
 // Has the judge take these entries, which come next. Without memory for one of them, it has taken those before it.
 fn take_all(judge: &mut Judge, entries: &[Arc<Entry>]) -> Result<(), AllocError>
@@ -36,7 +27,7 @@ fn take_all(judge: &mut Judge, entries: &[Arc<Entry>]) -> Result<(), AllocError>
     ensures err { OnErr result (OfItsLog judge.old (λ log. is_legal (log ++ map arc_value entries.now) ≡ true → Follows (log ++ map arc_value entries.now) judge.new)) }
 {
     for entry in entries {
-        take_shared(judge, entry)?;
+        judge.take(entry)?;
     }
     Ok(())
 }
@@ -46,7 +37,7 @@ pub(super) fn catch_up(
     judge: &mut Judge,
     told: &Receipt,
     tap: &mut Tap,
-    unread: &mut Unread,
+    buffer: &mut EntryBuffer,
 ) -> Result<(), SubmitFault>
     requires feed { feed_of told.now ≡ feed_of (last_of tap.old) }
     requires follows { Follows (entries_of told.now) judge.old }
@@ -60,9 +51,9 @@ pub(super) fn catch_up(
     if taken == told.len() {
         return Ok(());
     }
-    let list = unread.read(tap, told, taken)?;
+    let list = buffer.read(tap, told, taken)?;
     take_all(judge, list.as_slice())?;
-    unread.keep(list);
+    buffer.keep(list);
     Ok(())
 }
 
@@ -83,12 +74,13 @@ fn fits(judge: &Judge, told: &Receipt, entry: &Entry) -> Result<(), SubmitFault>
     }
 }
 
-/// Why the whole log that was told doesn't take the entry, if it doesn't. The judge has taken that log first.
+/// Why the whole log that was told doesn't take the entry, if it doesn't. First the judge takes what it lacks of that log;
+/// after a fault in that it has taken a front of it.
 pub(super) fn judge_next(
     judge: &mut Judge,
     feed: &Feed,
     tap: &mut Tap,
-    unread: &mut Unread,
+    buffer: &mut EntryBuffer,
     entry: &Entry,
 ) -> Result<(), SubmitFault>
     requires feed { feed_of (told_of feed.now) ≡ feed_of (last_of tap.old) }
@@ -101,8 +93,19 @@ pub(super) fn judge_next(
     ensures wants { result ≡ Err submit.Memory → (0 < length (entries_of (told_of feed.now))) ⊎ MapMayLack (entries_of (told_of feed.now)) entry.now }
 {
     let told = feed.told();
-    catch_up(judge, &told, tap, unread)?;
+    catch_up(judge, &told, tap, buffer)?;
     fits(judge, &told, entry)
+}
+
+// Two owners of one entry.
+fn two_owners(alloc: Global, entry: Entry) -> Result<(Arc<Entry>, Arc<Entry>), AllocError>
+    ensures { IfOk result (λ owners. (arc_value owners.0 ≡ entry) × (arc_value owners.1 ≡ entry)) }
+{
+    let Ok(first) = Arc::new(alloc, entry) else {
+        return Err(AllocError);
+    };
+    let second = Arc::try_clone(&first)?;
+    Ok((first, second))
 }
 
 /// Publishes an entry that fits, and has the judge take it. The judge needs no memory to be there: it may take the entry
@@ -121,10 +124,7 @@ pub(super) fn publish<R: Wait>(
     ensures told { MatchResult result (λ r. (r ≡ told_of feed.new) × (entries_of r ≡ entries_of (told_of feed.old) ++ entry ∷ [])) (λ fault. (fault ≡ submit.Memory) × (told_of feed.new ≡ told_of feed.old)) }
     ensures follows { Follows (entries_of (told_of feed.new)) judge.new }
 {
-    let Ok(entry) = Arc::new(alloc, entry) else {
-        return Err(SubmitFault::Memory);
-    };
-    let copy = Arc::try_clone(&entry)?;
+    let (entry, copy) = two_owners(alloc, entry)?;
     let Ok(told) = feed.publish(rt, entry) else {
         return Err(SubmitFault::Memory);
     };

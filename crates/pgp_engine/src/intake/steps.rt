@@ -10,67 +10,52 @@ ghost use Rattle.pgp_engine.specs.declared.fault.SubmitFault.TheVariants.{Memory
 
 use super::Intake;
 use super::judging::{catch_up, judge_next, publish};
+use crate::entry_buffer::EntryBuffer;
 use crate::fault::SubmitFault;
 use crate::naming::Naming;
 use crate::submitted::Submitted;
-use crate::unread::Unread;
 use pgp_feed::{Feed, Receipt, Tap};
 use pgp_ids::Entry;
 use pgp_log::Judge;
 use std::alloc::Global;
-use std::cmp::Ordering;
 use std::marker::PhantomData;
 use std::sync::Wait;
 
 impl<J: Naming> Intake<J> {
-    /// The intake over a feed and one of its taps. It takes no memory.
+    /// The intake over a feed and one of its taps. Its judge has taken what was told already, where there was memory for it and
+    /// a copy to read.
     pub(crate) fn start(alloc: Global, feed: Feed, tap: Tap) -> Intake<J>
         requires feed { feed_of (told_of feed) ≡ J.feed }
         requires tap { feed_of (last_of tap) ≡ J.feed }
         ensures { result ≡ entries_of (told_of feed) }
     {
+        let mut tap = tap;
+        let mut judge = Judge::start(alloc);
+        let mut buffer = EntryBuffer::new(alloc);
+        let _ = catch_up(&mut judge, &feed.told(), &mut tap, &mut buffer);
         Intake {
             alloc,
             feed,
             tap,
-            judge: Judge::start(alloc),
-            unread: Unread::new(alloc),
+            judge,
+            buffer,
             of: PhantomData,
         }
     }
 
-    /// The same, with a judge that has taken what was told already, where there was memory for it and a copy to read.
-    pub(crate) fn ready(alloc: Global, feed: Feed, tap: Tap) -> Intake<J>
-        requires feed { feed_of (told_of feed) ≡ J.feed }
-        requires tap { feed_of (last_of tap) ≡ J.feed }
-        ensures { result ≡ entries_of (told_of feed) }
-    {
-        let mut intake = Intake::start(alloc, feed, tap);
-        let told = intake.feed.told();
-        let _ = catch_up(
-            &mut intake.judge,
-            &told,
-            &mut intake.tap,
-            &mut intake.unread,
-        );
-        intake
-    }
-
     /// The receipt of the whole log.
-    pub fn told(&self) -> Receipt
+    pub fn receipt(&self) -> Receipt
         ensures { Names J.feed self.now result }
     {
         self.feed.told()
     }
 
     /// The log holds the front that a receipt of the same feed names.
-    pub(crate) fn holds(&mut self, front: &Receipt) -> bool
+    pub(crate) fn holds(&self, front: &Receipt) -> bool
         requires { feed_of front.now ≡ J.feed }
-        ensures holds { MatchBool result (IsFrontOf (entries_of front.now) self.old) (length self.old < length (entries_of front.now)) }
-        ensures same { self.new ≡ self.old }
+        ensures { MatchBool result (IsFrontOf (entries_of front.now) self.now) (length self.now < length (entries_of front.now)) }
     {
-        let told = self.feed.told();
-        self.tap.meet(front, &told) != Ordering::Greater
+        self.feed.told().holds(front)
     }
 
     /// Publishes the entry, if the log takes it. `Refused`: the whole log that was told doesn't take it, and the receipt is
@@ -82,8 +67,10 @@ impl<J: Naming> Intake<J> {
         ensures reads { result ≡ Err NoReader → 0 < length self.old }
         ensures wants { result ≡ Err Memory → MayWant self.old entry }
     {
-        self.submit_with_epoch(rt, entry)
-            .map(|submitted| submitted.at)
+        match self.submit_with_epoch(rt, entry) {
+            Ok(submitted) => Ok(submitted.at),
+            Err(fault) => Err(fault),
+        }
     }
 
     /// The same, with the epoch of the map that the log makes with the entry.
@@ -102,7 +89,7 @@ impl<J: Naming> Intake<J> {
             &mut self.judge,
             &self.feed,
             &mut self.tap,
-            &mut self.unread,
+            &mut self.buffer,
             &entry,
         )?;
         let epoch = self.judge.epoch_with(&entry);
@@ -117,7 +104,7 @@ impl<J: Naming> Intake<J> {
             feed,
             tap: _,
             judge: _,
-            unread: _,
+            buffer: _,
             of: _,
         } = self;
         feed.give_up(rt);

@@ -1,11 +1,15 @@
-//! Which front a shard reads next.
-ghost use Rattle.std.specs.Prelude.{◌≡◌, ◌+◌, ◌≤◌, ◌⊎◌, length};
+//! How a shard reads on.
+ghost use Rattle.std.specs.Prelude.{◌≡◌, ◌+◌, ◌<◌, ◌≤◌, length, None, IfErr, OnOk, OnErr};
 ghost use Rattle.pgp_log.specs.Log.{front, IsFrontOf};
-ghost use Rattle.pgp_feed.specs.Receipts.{entries_of, feed_of};
+ghost use Rattle.pgp_feed.specs.Receipts.{entries_of, feed_of, Holds};
 ghost use Rattle.pgp_feed.specs.Taps.{last_of};
+ghost use Rattle.pgp_engine.specs.Faults.{fault_at};
+ghost use Rattle.pgp_engine.specs.Shards.{ReadsOn};
 
+use crate::entry_buffer::EntryBuffer;
+use crate::fault::AskFault;
 use pgp_feed::{Receipt, Tap};
-use std::cmp::Ordering;
+use pgp_log::ShardState;
 
 /// The front with the next `max` entries after those that were read, or with all that there are.
 pub(super) fn after(newest: &Receipt, read: usize, max: usize) -> Receipt
@@ -20,18 +24,30 @@ pub(super) fn after(newest: &Receipt, read: usize, max: usize) -> Receipt
     }
 }
 
-/// The longer of two fronts of the tap's feed. It holds both.
-pub(super) fn longer(tap: &mut Tap, one: &Receipt, other: &Receipt) -> Receipt
-    requires one { feed_of one.now ≡ feed_of (last_of tap.old) }
-    requires other { feed_of other.now ≡ feed_of (last_of tap.old) }
-    ensures feed { feed_of result ≡ feed_of (last_of tap.old) }
-    ensures one { IsFrontOf (entries_of one.now) (entries_of result) }
-    ensures other { IsFrontOf (entries_of other.now) (entries_of result) }
-    ensures either { (result ≡ one.now) ⊎ (result ≡ other.now) }
-    ensures same { last_of tap.new ≡ last_of tap.old }
+/// Has the state read the entries up to those of a receipt of the tap's feed. Without memory it may have read some of them.
+pub(super) fn read_to(
+    state: &mut ShardState,
+    tap: &mut Tap,
+    buffer: &mut EntryBuffer,
+    target: &Receipt,
+) -> Result<(), AskFault>
+    requires feed { feed_of target.now ≡ feed_of (last_of tap.old) }
+    requires more { IsFrontOf state.old.front (entries_of target.now) }
+    requires seen { IsFrontOf state.old.front (entries_of (last_of tap.old)) }
+    ensures on { ReadsOn (entries_of target.now) state.old state.new }
+    ensures later { Holds (last_of tap.new) (last_of tap.old) }
+    ensures seen { IsFrontOf state.new.front (entries_of (last_of tap.new)) }
+    ensures ok { OnOk result (state.new.front ≡ entries_of target.now) }
+    ensures marks { OnOk result (state.new.front ≡ state.old.front → state.new.marks ≡ state.old.marks) }
+    ensures err { IfErr result (λ fault. fault_at fault ≡ None) }
+    ensures reads { OnErr result (length state.old.front < length (entries_of target.now)) }
 {
-    match tap.meet(one, other) {
-        Ordering::Less => other.again(),
-        _ => one.again(),
+    let read = state.count();
+    if read == target.len() {
+        return Ok(());
     }
+    let list = buffer.read(tap, target, read)?;
+    state.absorb_all(list.as_slice())?;
+    buffer.keep(list);
+    Ok(())
 }

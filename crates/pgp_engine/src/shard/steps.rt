@@ -15,15 +15,15 @@ ghost use Rattle.pgp_engine.specs.Shards.{GoesOn, HadToRead, HasAbsorbed, Renews
 ghost use Rattle.pgp_engine.specs.declared.fault.AskFault.TheVariants.{Memory, NoReader};
 
 use super::Shard;
-use super::reading::{after, longer};
+use super::reading::{after, read_to};
 use crate::answer::Answer;
+use crate::entry_buffer::EntryBuffer;
 use crate::fault::AskFault;
 use crate::naming::Naming;
-use crate::unread::Unread;
 use pgp_feed::{Receipt, Tap};
 use pgp_ids::{AskRefusal, PgId};
 use pgp_log::ShardState;
-use std::alloc::{AllocError, Global};
+use std::alloc::Global;
 use std::marker::PhantomData;
 
 impl<J: Naming> Shard<J> {
@@ -41,7 +41,7 @@ impl<J: Naming> Shard<J> {
             state: ShardState::start(alloc, shard, shards),
             front,
             tap,
-            unread: Unread::new(alloc),
+            buffer: EntryBuffer::new(alloc),
             of: PhantomData,
         }
     }
@@ -60,27 +60,14 @@ impl<J: Naming> Shard<J> {
         ensures on { GoesOn self.old self.new }
         ensures ok { OnOk result (self.new.front ≡ entries_of target.now) }
         ensures marks { OnOk result (self.new.front ≡ self.old.front → self.new.marks ≡ self.old.marks) }
-        ensures seen { OnOk result (IsFrontOf self.new.front self.new.seen) }
-        ensures legal { OnOk result (is_legal self.new.front ≡ true) }
+        ensures seen { IsFrontOf self.new.front self.new.seen }
+        ensures legal { is_legal self.new.front ≡ true }
         ensures err { IfErr result (λ fault. fault_at fault ≡ None) }
         ensures reads { OnErr result (length self.old.front < length (entries_of target.now)) }
     {
-        let read = self.front.len();
-        if read == target.len() {
-            return Ok(());
-        }
-        let unread = self.unread.read(&mut self.tap, target, read)?;
-        match self.state.absorb_all(unread.as_slice()) {
-            Ok(()) => {
-                self.unread.keep(unread);
-                self.front = target.again();
-                Ok(())
-            }
-            Err(AllocError) => {
-                self.front = target.front(self.state.count());
-                Err(AskFault::Memory)
-            }
-        }
+        let read = read_to(&mut self.state, &mut self.tap, &mut self.buffer, target);
+        self.front = target.front(self.state.count());
+        read
     }
 
     /// Reads at most this many further entries of the log, and answers the receipt of what it has read then. Without memory
@@ -127,10 +114,8 @@ impl<J: Naming> Shard<J> {
         ensures memory { IfErr result (λ fault. fault ≡ Memory) }
         ensures wants { OnErr result (HasInc self.new.front) }
     {
-        match self.state.renew(max) {
-            Ok(_) => Ok(()),
-            Err(AllocError) => Err(AskFault::Memory),
-        }
+        self.state.renew(max)?;
+        Ok(())
     }
 
     /// The log that it has read was closed.
@@ -174,7 +159,7 @@ impl<J: Naming> Shard<J> {
         ensures wants { result ≡ Err Memory → HadToRead self.old self.new q.now ⊎ HasInc self.new.front }
     {
         let newest = self.tap.newest();
-        let target = longer(&mut self.tap, &newest, q);
+        let target = newest.longer(q);
         self.absorb_to(&target)?;
         self.view(pg)
     }

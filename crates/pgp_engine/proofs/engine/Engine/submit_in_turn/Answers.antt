@@ -8,4 +8,4 @@ use Rattle.pgp_engine.proofs.engine.Engine.submit_in_turn.Goals as goal
 pub returns-clause-submitted : goal.returns-clause-submitted
 returns-clause-submitted g c =
     submitted c.submit_with_epoch-submitted.result g.J.Naming.feed c.args.q.now c.deref_mut.result.now c.submit_with_epoch-submitted.new.self c.args.entry c.requires
-    (subst (λ (l : List Entry). IsFrontOf (entries_of c.args.q.now) l) (sym c.deref_mut.ensures.value) c.holding-turn.ensures) c.submit_with_epoch-submitted.ensures.log c.submit_with_epoch-submitted.ensures.told
+    (subst (λ (l : List Entry). IsFrontOf (entries_of c.args.q.now) l) (sym c.deref_mut.ensures.value) c.intake_turn-turn.ensures) c.submit_with_epoch-submitted.ensures.log c.submit_with_epoch-submitted.ensures.told

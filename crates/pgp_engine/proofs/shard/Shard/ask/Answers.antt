@@ -8,17 +8,17 @@ use Rattle.pgp_engine.proofs.shard.Shard.ask.Goals as goal
 pub returns-in_err-absorb_to-clause-reads : goal.returns-in_err-absorb_to-clause-reads
 returns-in_err-absorb_to-clause-reads g c = λ is.
     let new : Reader = c.absorb_to.new.self in
-    let same = ap entries_of (c.longer-target.ensures.same ∙ sym c.newest-newest.ensures.last) in
+    let same = ap entries_of (sym c.newest-newest.ensures.last) in
     let seen : IsFrontOf (entries_of c.newest-newest.result) new.seen = subst (λ l. IsFrontOf l new.seen) same c.in_err-absorb_to.ensures.on.seen_is in
     let less : length c.args.self.now.front < length (entries_of c.longer-target.result) =
     subst (λ (s : Reader). length s.front < length (entries_of c.longer-target.result)) c.self.view_is c.in_err-absorb_to.ensures.reads in
-    had_to_read c.args.self.now new c.longer-target.result c.newest-newest.result c.args.q.now c.longer-target.ensures.either seen less
+    had_to_read _ c.args.self.now new c.longer-target.result c.newest-newest.result c.args.q.now c.longer-target.ensures.which seen less
 
 pub returns-in_err-absorb_to-clause-wants : goal.returns-in_err-absorb_to-clause-wants
 returns-in_err-absorb_to-clause-wants g c = λ is.
     let new : Reader = c.absorb_to.new.self in
-    let same = ap entries_of (c.longer-target.ensures.same ∙ sym c.newest-newest.ensures.last) in
+    let same = ap entries_of (sym c.newest-newest.ensures.last) in
     let seen : IsFrontOf (entries_of c.newest-newest.result) new.seen = subst (λ l. IsFrontOf l new.seen) same c.in_err-absorb_to.ensures.on.seen_is in
     let less : length c.args.self.now.front < length (entries_of c.longer-target.result) =
     subst (λ (s : Reader). length s.front < length (entries_of c.longer-target.result)) c.self.view_is c.in_err-absorb_to.ensures.reads in
-    inl (had_to_read c.args.self.now new c.longer-target.result c.newest-newest.result c.args.q.now c.longer-target.ensures.either seen less)
+    inl (had_to_read _ c.args.self.now new c.longer-target.result c.newest-newest.result c.args.q.now c.longer-target.ensures.which seen less)
