@@ -23,7 +23,7 @@ pub use Rattle.pgp_code.specs.Pool.{code_of}
 pub use Rattle.pgp_code.specs.declared.any.AnyCode.{AnyCode}
 pub use Rattle.pgp_group.specs.DeviceFacts.{AreOfMap, GivesEach, HasEachMember, allows, has_noted, renoted, renoted_all, status_noted, up_of}
 pub use Rattle.pgp_group.specs.Entries.{inc_of, incs_of, infos_of, report_of, reports_of}
-pub use Rattle.pgp_group.specs.Found.{AreHeard, IsFound}
+pub use Rattle.pgp_group.specs.Parts.{AreHeard, IsBestCopy}
 pub use Rattle.pgp_group.specs.GroupHistory.{AreNumbered, group_history, history_of, made_at, makes, primary_facts, state_at_epoch, state_with, states_from}
 pub use Rattle.pgp_group.specs.GroupLog.{GroupLog, cleans, group_in, group_with, incs, infos, reports}
 pub use Rattle.pgp_group.specs.GroupOf.{IsGroupOf, IsSilent, Keeps}

@@ -1,5 +1,5 @@
 -- What one more incremental does to what is known of a device.
-use Rattle.pgp_group.proofs.Common.{◌≡◌, ℕ, ◌≤◌, List, ◌++◌, Option, None, Bool, true, false, nat_eq, nat_lt, ap, sym, ◌∙◌, inl, inr, arith, list_any, option_map_or, cases_Bool, eqb-true, nat_tests, DeviceEpoch, Incremental, last_found, last_where-append, last_where-some, flat_map-push, if_none, none_is, some_is, taken-induction, are_checked, is_faultless, boots, is_up, up_from, lost_at, told_epoch, greatest_epoch, last_where, epoch, then_with, has_already_up}
+use Rattle.pgp_group.proofs.Common.{◌≡◌, ℕ, ◌≤◌, List, ◌++◌, None, Bool, true, false, nat_eq, nat_lt, ap, sym, ◌∙◌, inl, inr, arith, list_any, cases_Bool, eqb-true, nat_tests, DeviceEpoch, Incremental, last_found, last_where-append, last_where-some, flat_map-push, if_none, none_is, some_is, taken-induction, are_checked, is_faultless, boots, is_up, up_from, lost_at, told_epoch, greatest_epoch, last_where, epoch, then_with, has_already_up}
 use Rattle.pgp_map.specs.MapFault.{map_fault}
 pub use Rattle.pgp_group.proofs.GrowthLemmas.{checked-front, checked-last}
 use Rattle.pgp_group.proofs.GrowthLemmas.{epoch-snoc, next_epoch}
@@ -43,10 +43,7 @@ told_epoch-rises old new osd none =
           let last = some_is (last_where test new) (last_where-some test new ∙ some) in
           let found = last_found (λ (told : DeviceEpoch). nat_lt told.epoch (told_epoch old told.osd)) test new last.0 none last.1 in
           grind (arith, eqb-true last.0.osd osd found.0, last_where-later test old new some, nat_tests)
-      | inr silent ↦
-          let is : told_epoch (old ++ new) osd ≡ told_epoch old osd =
-          ap (λ (o : Option DeviceEpoch). option_map_or (λ told. told.epoch) o 0) (last_where-none test old new silent) in
-          omega (arith, is)
+      | inr silent ↦ grind (arith, nat_tests, last_where-none)
     ]
 
 pub lost_at-rises : (incs : List Incremental) (inc : Incremental) (osd : ℕ) → list_any (λ told. nat_lt told.epoch (lost_at incs told.osd)) inc.lost ≡ false → lost_at incs osd ≤ lost_at (then_with incs inc) osd

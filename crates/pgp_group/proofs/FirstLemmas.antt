@@ -1,65 +1,85 @@
--- How the first epoch of the current interval moves with each incremental.
-use Rattle.pgp_group.proofs.Common.{◌≡◌, ◌≢◌, ℕ, ◌+◌, ◌≤◌, List, [], ◌∷◌, ◌++◌, Some, true, ap, sym, ◌∙◌, subst, inl, inr, arith, ◌↔◌, IsTrue, cases_Bool, true≢false, same_Some, AnyCode, PrimaryFacts, Incremental, Membership, PgId, History, last_place, stepped, current_first, is_same, some_is, are_checked, is_faultless, epoch, then_with, primary_facts, group_history, taken-along, taken-more, current_first-continues, current_first-ends}
-use Rattle.pgp_interval.specs.Interval.{IsInterval}
-use Rattle.pgp_group.proofs.GrowthLemmas.{Shortens, EndsWell, checked-numbered, has_group-grows, history-grows, history-last, next_epoch}
+-- How the current interval moves with each incremental: it goes on, or it ends and the next one opens.
+use Rattle.pgp_group.proofs.Common.{◌≡◌, ◌≢◌, ◌⊎◌, ℕ, ◌+◌, ◌≤◌, List, [], ◌∷◌, ◌++◌, Some, true, refl, sym, ◌∙◌, subst, inl, inr, arith, cases_Bool, true≢false, same_Some, enough_of, is_by_place, AnyCode, PrimaryFacts, Incremental, Membership, Past, PgId, History, last_place, stepped, current_first, current_ending, past_intervals, is_same, is_same-eq, eq-is_same, some_is, are_checked, is_faultless, epoch, then_with, AreNumbered, primary_facts, group_history, taken-along, taken-more, current_first-continues, current_first-ends, past_intervals-continues, past_intervals-ends}
+use Rattle.pgp_interval.proofs.Openings.{opening_of-le}
+use Rattle.pgp_group.proofs.GrowthLemmas.{Shortens, EndsWell, checked-front, checked-last, numbered, has_group-grows, history-grows, history-last, next_epoch}
 use Rattle.pgp_group.proofs.ViewLemmas.{history_there}
 
--- what a step does to the first epoch of the current interval
-pub record Steps : Type 0 where
-  pub goes_on : (h : History AnyCode) (facts : PrimaryFacts) → current_first (stepped h h.current facts) ≡ current_first h
-  pub opens : (h : History AnyCode) (members : Membership) (facts : PrimaryFacts) → members ≢ h.current → current_first (stepped h members facts) ≡ h.first + last_place h + 1
+-- the past intervals by the code of the pool, where the group was clean in these epochs
+abbrev pub past_of : List ℕ → History AnyCode → List Past
+past_of cleans h = past_intervals enough_of is_by_place cleans h
 
-pub steps : Steps
-steps = record { goes_on = λ h facts. current_first-continues h facts; opens = λ h members facts new. current_first-ends h members facts new }
+-- the current interval goes on
+pub record GoesOn (h after : History AnyCode) : Type 0 where
+  pub current : after.current ≡ h.current
+  pub first : current_first after ≡ current_first h
+  pub past : (cleans : List ℕ) → past_of cleans after ≡ past_of cleans h
+
+-- or it ends with these facts, and the next one opens with this epoch
+pub record Ends (epoch : ℕ) (facts : PrimaryFacts) (h after : History AnyCode) : Type 0 where
+  pub moved : after.current ≢ h.current
+  pub first : current_first after ≡ epoch
+  pub past : (cleans : List ℕ) → past_of cleans after ≡ past_of cleans h ++ current_ending enough_of is_by_place cleans h facts ∷ []
+
+pub step-moves : (h : History AnyCode) (members : Membership) (facts : PrimaryFacts) → GoesOn h (stepped h members facts) ⊎ Ends (h.first + last_place h + 1) facts h (stepped h members facts)
+step-moves h members facts = elim (cases_Bool (is_same members h.current)) [
+  | inl same ↦ inl (subst (λ (m : Membership). GoesOn h (stepped h m facts)) (sym (is_same-eq members h.current same)) (record {
+    current = refl;
+    first = current_first-continues h facts;
+    past = λ cleans. past_intervals-continues enough_of is_by_place cleans h facts;
+  }))
+  | inr differ ↦
+      let moved : members ≢ h.current = λ same. true≢false (sym (eq-is_same members h.current same) ∙ differ) in
+      inr (record { moved = moved; first = current_first-ends h members facts moved; past = λ cleans. past_intervals-ends enough_of is_by_place cleans h members facts moved })
+]
 
 -- one more incremental without fault makes the new history of the old one
 pub record Grown (incs : List Incremental) (h after : History AnyCode) : Type 0 where
   pub members : Membership
   pub is : stepped h members (primary_facts incs h.current.acting_primary) ≡ after
 
-pub grown : Shortens → EndsWell → (incs : List Incremental) (inc : Incremental) (pg : PgId) (h after : History AnyCode)
-    → are_checked (then_with incs inc) ≡ true
+grown : (incs : List Incremental) (inc : Incremental) (pg : PgId) (h after : History AnyCode) → are_checked (then_with incs inc) ≡ true
     → group_history incs pg ≡ Some h → group_history (then_with incs inc) pg ≡ Some after → Grown incs h after
-grown shorten fine incs inc pg h after checked is then' =
-    grind (arith, history-grows incs inc pg h (checked-numbered shorten fine incs (shorten incs (inc ∷ []) checked)) (fine incs inc checked) is)
+grown incs inc pg h after checked is then' =
+    grind (arith, history-grows incs inc pg h (numbered incs (checked-front incs (inc ∷ []) checked)) (checked-last incs inc checked) is)
 
-pub first-goes_on : Shortens → EndsWell → Steps → (incs : List Incremental) (inc : Incremental) (pg : PgId) (h after : History AnyCode) → are_checked (then_with incs inc) ≡ true
+pub data Moves (incs : List Incremental) (inc : Incremental) (h after : History AnyCode) : Type 0 where
+  on : after.code ≡ h.code → GoesOn h after → Moves incs inc h after
+  ends : after.code ≡ h.code → Ends inc.epoch (primary_facts incs h.current.acting_primary) h after → Moves incs inc h after
+
+pub moves : (incs : List Incremental) (inc : Incremental) (pg : PgId) (h after : History AnyCode) → are_checked (then_with incs inc) ≡ true
+    → group_history incs pg ≡ Some h → group_history (then_with incs inc) pg ≡ Some after → Moves incs inc h after
+moves incs inc pg h after checked is then' =
+    let g = grown incs inc pg h after checked is then' in
+    let facts : PrimaryFacts = primary_facts incs h.current.acting_primary in
+    let opens : h.first + last_place h + 1 ≡ inc.epoch =
+    omega (arith, history-last incs pg h (numbered incs (checked-front incs (inc ∷ []) checked)) is, next_epoch incs inc (checked-last incs inc checked)) in
+    subst (Moves incs inc h) g.is (elim (step-moves h g.members facts) [
+      | inl goes ↦ on refl goes
+      | inr over ↦ ends refl (subst (λ (e : ℕ). Ends e facts h (stepped h g.members facts)) opens over)
+    ])
+
+pub first-goes_on : (incs : List Incremental) (inc : Incremental) (pg : PgId) (h after : History AnyCode) → are_checked (then_with incs inc) ≡ true
     → group_history incs pg ≡ Some h → group_history (then_with incs inc) pg ≡ Some after → after.current ≡ h.current → current_first after ≡ current_first h
-first-goes_on shorten fine steps incs inc pg h after checked is then' same = grind (arith, grown shorten fine incs inc pg h after checked is then')
+first-goes_on incs inc pg h after checked is then' same =
+    elim (moves incs inc pg h after checked is then') [ on code goes ↦ goes.first | ends code over ↦ absurd (over.moved same) ]
 
-pub first-opens : Shortens → EndsWell → Steps → (incs : List Incremental) (inc : Incremental) (pg : PgId) (h after : History AnyCode) → are_checked (then_with incs inc) ≡ true
+pub first-opens : (incs : List Incremental) (inc : Incremental) (pg : PgId) (h after : History AnyCode) → are_checked (then_with incs inc) ≡ true
     → group_history incs pg ≡ Some h → group_history (then_with incs inc) pg ≡ Some after → after.current ≢ h.current → current_first after ≡ inc.epoch
-first-opens shorten fine steps incs inc pg h after checked is then' differ =
-    let g = grown shorten fine incs inc pg h after checked is then' in
-    let moves : g.members ≢ h.current = λ same. differ (ap (λ (t : History AnyCode). t.current) (sym g.is) ∙ same) in
-    let counts = checked-numbered shorten fine incs (shorten incs (inc ∷ []) checked) in
-    let opened : current_first after ≡ h.first + last_place h + 1 = ap current_first (sym g.is) ∙ steps.opens h g.members _ moves in
-    omega (arith, opened, history-last incs pg h counts is, next_epoch incs inc (fine incs inc checked))
+first-opens incs inc pg h after checked is then' differ =
+    elim (moves incs inc pg h after checked is then') [ on code goes ↦ absurd (differ goes.current) | ends code over ↦ over.first ]
 
 -- ---- along a list
 
--- memberships are the same or not
-abbrev pub Decides : Type 0
-Decides = (a b : Membership) → IsTrue (is_same a b) ↔ (a ≡ b)
-
--- the current interval opens with an epoch of the history
-abbrev pub Opens : Type 0
-Opens = (h : History AnyCode) → (first : ℕ) × (current_first h ≡ h.first + first) × IsInterval h first (last_place h)
-
 -- the current interval opens with the last epoch at most
-pub first-within : Shortens → EndsWell → Opens → (incs : List Incremental) (pg : PgId) (h : History AnyCode) → are_checked incs ≡ true → group_history incs pg ≡ Some h → current_first h ≤ epoch incs
-first-within shorten fine opens incs pg h checked is =
-    let run = opens h in
-    omega (arith, run.1, run.2.ordered, history-last incs pg h (checked-numbered shorten fine incs checked) is)
+pub first-within : (incs : List Incremental) (pg : PgId) (h : History AnyCode) → AreNumbered incs → group_history incs pg ≡ Some h → current_first h ≤ epoch incs
+first-within incs pg h counts is = omega (arith, opening_of-le h (last_place h), history-last incs pg h counts is)
 
-pub first-step : Shortens → EndsWell → Steps → Decides → Opens → (incs : List Incremental) (inc : Incremental) (pg : PgId) (h after : History AnyCode) → are_checked (then_with incs inc) ≡ true
+pub first-step : (incs : List Incremental) (inc : Incremental) (pg : PgId) (h after : History AnyCode) → are_checked (then_with incs inc) ≡ true
     → group_history incs pg ≡ Some h → group_history (then_with incs inc) pg ≡ Some after → current_first h ≤ current_first after
-first-step shorten fine steps decides opens incs inc pg h after checked is then' = elim (cases_Bool (is_same after.current h.current)) [
-  | inl same ↦ omega (arith, first-goes_on shorten fine steps incs inc pg h after checked is then' ((decides after.current h.current).0 same))
-  | inr differ ↦
-      let moves : after.current ≢ h.current = λ same. true≢false (sym ((decides after.current h.current).1 same) ∙ differ) in
-      omega (arith, first-opens shorten fine steps incs inc pg h after checked is then' moves, next_epoch incs inc (fine incs inc checked), first-within shorten fine opens incs pg h (shorten incs (inc ∷ []) checked) is)
-]
+first-step incs inc pg h after checked is then' =
+    let within = first-within incs pg h (numbered incs (checked-front incs (inc ∷ []) checked)) is in
+    let next = next_epoch incs inc (checked-last incs inc checked) in
+    elim (moves incs inc pg h after checked is then') [ on code goes ↦ omega (arith, goes.first) | ends code over ↦ omega (arith, over.first) ]
 
 -- a group that is there stays
 history-goes_on : Shortens → EndsWell → (incs : List Incremental) (inc : Incremental) (pg : PgId) (h : History AnyCode) → are_checked (then_with incs inc) ≡ true → group_history incs pg ≡ Some h
@@ -84,9 +104,11 @@ along shorten fine pg Kept step later incs h after checked is then' kept =
         let goes = history-goes_on shorten fine l inc pg so_far.0 one so_far.1 in
         (goes.0, goes.1, step l inc so_far.0 goes.0 one so_far.1 goes.1 so_far.2)
 
-pub first-never_falls : Shortens → EndsWell → Steps → Decides → Opens → (incs later : List Incremental) (pg : PgId) (h after : History AnyCode) → are_checked (incs ++ later) ≡ true
+pub first-never_falls : (incs later : List Incremental) (pg : PgId) (h after : History AnyCode) → are_checked (incs ++ later) ≡ true
     → group_history incs pg ≡ Some h → group_history (incs ++ later) pg ≡ Some after → current_first h ≤ current_first after
-first-never_falls shorten fine steps decides opens incs later pg h after checked is then' =
-    along shorten fine pg (λ _ now. current_first h ≤ current_first now)
-    (λ incs inc h₁ h₂ checked is then' kept. let step : current_first h₁ ≤ current_first h₂ = first-step shorten fine steps decides opens incs inc pg h₁ h₂ checked is then' in omega arith)
+first-never_falls incs later pg h after checked is then' =
+    along checked-front checked-last pg (λ _ now. current_first h ≤ current_first now)
+    (λ incs inc h₁ h₂ checked is then' kept. let step : current_first h₁ ≤ current_first h₂ = first-step incs inc pg h₁ h₂ checked is then' in omega arith)
     later incs h after checked is then' (omega arith)
+
+pub ruleset first_laws = (first-goes_on, first-never_falls)

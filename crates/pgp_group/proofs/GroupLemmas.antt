@@ -1,9 +1,10 @@
 -- What a group keeps as its log grows.
-use Rattle.pgp_group.proofs.Common.{◌≡◌, ◌≢◌, ◌≤◌, ℕ, List, [], ◌∷◌, ◌++◌, Option, Some, None, true, false, ◌||◌, nat_eq, refl, ap, sym, ◌∙◌, subst, inl, inr, append-nil, map, filter, list_any, cases_Bool, true≢false, map-append, option_map, Result, Ok, Err, OnOk, enough_of, is_by_place, code_of, AnyCode, Entry, PrimaryFacts, Incremental, Membership, Past, PgId, PoolSpec, Info, Report, History, begun, stepped, Running, IsIntervalsOf, current_ending, past_intervals, is_same, past_intervals-more, is_same-eq, eq-is_same, past_intervals-continues, past_intervals-ends, epoch, map_fault, then_with, pool, has_group, is_same_group, pool_membership, membership, inc_of, report_of, incs_of, infos_of, reports_of, AreNumbered, made_at, primary_facts, GroupLog, cleans, group_with, infos, reports, Keeps, IsGroupOf, IsSilent, has_osd, was_member, KeepsInfos, IsToldBy, KeepsNames, KeepsPrior, KeepsReports, IsReportedBy, les, past, Group, Infos, NamedDevices, KeptPrior, Reports, arith}
+use Rattle.pgp_group.proofs.Common.{◌≡◌, ◌≢◌, ◌≤◌, ℕ, List, [], ◌∷◌, ◌++◌, Option, Some, None, true, false, ◌||◌, nat_eq, refl, ap, sym, ◌∙◌, subst, inl, inr, append-nil, map, filter, list_any, map-append, option_map, Result, Ok, Err, OnOk, enough_of, is_by_place, code_of, AnyCode, Entry, PrimaryFacts, Incremental, Membership, Past, PgId, PoolSpec, Info, Report, History, begun, stepped, Running, IsIntervalsOf, current_ending, past_intervals, past_intervals-more, past_intervals-continues, past_intervals-ends, epoch, map_fault, then_with, pool, has_group, is_same_group, pool_membership, membership, inc_of, report_of, incs_of, infos_of, reports_of, AreNumbered, made_at, primary_facts, GroupLog, cleans, group_with, infos, reports, Keeps, IsGroupOf, IsSilent, has_osd, was_member, KeepsInfos, IsToldBy, KeepsNames, KeepsPrior, KeepsReports, IsReportedBy, les, past, Group, Infos, NamedDevices, KeptPrior, Reports, arith, nat_tests}
 use Rattle.pgp_ids.specs.declared.entry.Entry.TheVariants as entry
 use Rattle.pgp_ids.specs.declared.pool.PoolKind.{PoolKind}
 pub use Rattle.pgp_lists.proofs.Results.{on_err}
 use Rattle.pgp_group.specs.Entries.{info_of}
+use Rattle.pgp_group.proofs.FirstLemmas.{past_of, step-moves}
 use Rattle.pgp_group.proofs.GrowthLemmas.{history-begins, history-grows, next_epoch, numbered-more}
 use Rattle.pgp_group.proofs.InfosLemmas.{moves, KeepsInfos-on}
 use Rattle.pgp_group.proofs.LaterLemmas.{outlasts-same, outlasts-inc, les-later}
@@ -19,18 +20,10 @@ pub les-grows : (log : List Entry) (new : Entry) (pg : PgId) (h after : History 
 les-grows log new pg h after = les-later log (new ∷ []) pg
 
 -- the past intervals stay, and the current one may join them
-past-grows : (epochs : List ℕ) (h : History AnyCode) (members : Membership) (facts : PrimaryFacts) → (later : List Past) × (past_intervals enough_of is_by_place epochs (stepped h members facts) ≡ past_intervals enough_of is_by_place epochs h ++ later)
-past-grows epochs h members facts = elim (cases_Bool (is_same members h.current)) [
-  | inl same ↦
-      let stays : members ≡ h.current = is_same-eq members h.current same in (
-        grind arith,
-        ap (λ (m : Membership). past_intervals enough_of is_by_place epochs (stepped h m facts)) stays
-            ∙ past_intervals-continues enough_of is_by_place epochs h facts ∙ sym (append-nil (past_intervals enough_of is_by_place epochs h)),
-      )
-  | inr moved ↦ (
-    current_ending enough_of is_by_place epochs h facts ∷ [],
-    past_intervals-ends enough_of is_by_place epochs h members facts (λ same. true≢false (sym (eq-is_same members h.current same) ∙ moved)),
-  )
+past-grows : (epochs : List ℕ) (h : History AnyCode) (members : Membership) (facts : PrimaryFacts) → (later : List Past) × (past_of epochs (stepped h members facts) ≡ past_of epochs h ++ later)
+past-grows epochs h members facts = elim (step-moves h members facts) [
+  | inl goes ↦ ([], goes.past epochs ∙ sym (append-nil (past_of epochs h)))
+  | inr over ↦ (current_ending enough_of is_by_place epochs h facts ∷ [], over.past epochs)
 ]
 
 -- what an entry that brings no map leaves as it is: the intervals, and whom the group had to hear
@@ -67,8 +60,7 @@ IsGroupOf-other log new pg old group is none told pg_is left infos' reports' nam
     let after : GroupLog = group_with (log ++ new ∷ []) pg is.history in
     IsGroupOf-report log new pg old group is none (record {
       pg_is = pg_is ∙ is.keeps.pg_is;
-      intervals_are = intervals-same g after group.intervals told
-          (subst (IsIntervalsOf enough_of is_by_place is.history (cleans g)) (sym (ap (λ (parts : Running AnyCode × KeptPrior). parts.0) left)) is.keeps.intervals_are);
+      intervals_are = grind (arith, nat_tests, intervals-same);
       infos_are = infos';
       reports_are = reports';
       named_are = named';
@@ -116,9 +108,7 @@ infos-kept log new pg h kept none told is =
 pub reports-kept : (log : List Entry) (new : Entry) (pg : PgId) (h : History AnyCode) (kept : Reports) → inc_of new ≡ None
     → filter (λ (report : Report). is_same_group report.pg pg) (reports_of (log ++ new ∷ [])) ≡ filter (λ (report : Report). is_same_group report.pg pg) (reports_of log)
     → KeepsReports (group_with log pg h) kept → KeepsReports (group_with (log ++ new ∷ []) pg h) kept
-reports-kept log new pg h kept none told is =
-    KeepsReports-on (group_with log pg h) (group_with (log ++ new ∷ []) pg h) kept kept
-    (outlasts-same _ _ (nothing_new inc_of log new none) refl) told is refl refl refl refl
+reports-kept log new pg h kept none told is = grind (arith, nat_tests, KeepsReports-on, outlasts-same, nothing_new)
 
 -- the same of the devices of which it speaks
 pub names-kept : (log : List Entry) (new : Entry) (pg : PgId) (h : History AnyCode) (named : NamedDevices)
@@ -258,9 +248,6 @@ on_ok (Err e) P Q gives given = given
 
 -- an incremental brings a map
 pub no_map : {P : Type 0} (e : Entry) (inc : Incremental) → e ≡ entry.Inc inc → inc_of e ≡ None → P
-no_map {P = P} e inc is none = absurd (contradicts (ap inc_of (sym is) ∙ none))
-  where
-    contradicts : Some inc ≡ None → ⊥
-    contradicts same = cc
+no_map {P = P} e inc is none = grind (arith, nat_tests)
 
 -- ---- of which devices it speaks

@@ -1,5 +1,5 @@
 -- How a list of incrementals is numbered, and how the history of a group grows by an incremental that isn't refused.
-use Rattle.pgp_group.proofs.Common.{◌≡◌, ℕ, suc, ◌+◌, ◌-◌, ◌<◌, ◌≤◌, List, [], ◌∷◌, ◌++◌, Option, Some, None, is_some, Bool, true, false, nat_eq, nat_lt, nat_le, length, map, refl, ap, ap₂, sym, ◌∙◌, subst, arith, drop, if◌then◌else◌, Contains, filter_map, flat_map, last_or, list_any, range_with_len, slice_index_or, option_map, option_map_or, eqb-true, nat_tests, length_push, map_push, filter_map-append, AnyCode, code_of, EpochState, Incremental, PgId, PoolSizes, PoolSpec, History, begun, stepped, are_checked, is_faultless, last_where, epoch, up_to, map_fault, then_with, has_epoch_gap, pool, with_sizes, has_group, pool_membership, membership, flat_map-push, filter-contains, makes, made_at, AreNumbered, primary_facts, state_with, state_at_epoch, states_from, history_of, group_history, taken-induction, taken-front, taken-last, none_is}
+use Rattle.pgp_group.proofs.Common.{◌≡◌, ℕ, suc, ◌+◌, ◌-◌, ◌<◌, ◌≤◌, List, [], ◌∷◌, ◌++◌, Option, Some, None, is_some, Bool, true, false, nat_eq, nat_lt, nat_le, length, map, refl, ap, ap₂, sym, ◌∙◌, subst, arith, drop, if◌then◌else◌, Contains, flat_map, last_or, list_any, range_with_len, slice_index_or, option_map, option_map_or, eqb-true, nat_tests, length_push, map_push, filter_map-append, AnyCode, code_of, Incremental, PgId, PoolSizes, PoolSpec, History, begun, stepped, are_checked, is_faultless, last_where, epoch, up_to, map_fault, then_with, has_epoch_gap, pool, with_sizes, has_group, pool_membership, membership, flat_map-push, filter-contains, makes, made_at, AreNumbered, primary_facts, state_with, state_at_epoch, states_from, history_of, group_history, taken-induction, taken-front, taken-last, none_is}
 use Rattle.pgp_map.proofs.FaultLemmas.{no_fault}
 pub use Rattle.pgp_map.proofs.MapLemmas.{epoch-push as epoch-snoc}
 use Rattle.pgp_lists.proofs.Ranges.{range_with_len-suc}
@@ -45,6 +45,9 @@ checked-last = λ incs inc checked. none_is (map_fault incs inc) (taken-last is_
 
 pub checked-numbered : Shortens → EndsWell → (incs : List Incremental) → are_checked incs ≡ true → AreNumbered incs
 checked-numbered shorten fine = search (taken-induction, numbered-more, none_is)
+
+pub numbered : (incs : List Incremental) → are_checked incs ≡ true → AreNumbered incs
+numbered = checked-numbered checked-front checked-last
 
 -- ---- the map of an epoch
 
@@ -137,9 +140,7 @@ stays_as incs inc id made (Some base) since new old =
     }
 
 pool-stays : (incs : List Incremental) (inc : Incremental) (id : ℕ) (made : PoolSpec) → map_fault incs inc ≡ None → pool incs id ≡ Some made → Stays incs inc id made
-pool-stays incs inc id made fine is =
-    let none : makes id inc ≡ false = unmade incs inc id fine (ap is_some is) in
-    stays_as incs inc id made (made_of incs id) (made_at-stays incs inc id none) (made_of-stays incs inc id none) (sym (pool-is incs id) ∙ is)
+pool-stays incs inc id made fine is = grind (arith, nat_tests, unmade, stays_as, made_at-stays, made_of-stays, pool-is)
 
 -- ---- the history grows by one state
 
@@ -149,16 +150,7 @@ state-ended incs inc pg made counts fine is = cc (up_to-earlier (epoch incs) inc
 
 states-grow : (incs : List Incremental) (inc : Incremental) (pg : PgId) (made : PoolSpec) (first : ℕ) → AreNumbered incs → map_fault incs inc ≡ None → pool incs pg.pool ≡ Some made → first ≤ epoch incs → states_from (then_with incs inc) pg first ≡ states_from incs pg first ++ state_with incs (pool_membership incs pg made) ∷ []
 states-grow incs inc pg made first counts fine is within =
-    let n : ℕ = epoch incs - first in
-    let long : epoch (then_with incs inc) - first ≡ suc n = omega (arith, epoch-snoc incs inc, next_epoch incs inc fine) in
-    let there : first + n ≡ epoch incs = omega arith in
-    ap (λ k. filter_map (state_at_epoch (then_with incs inc) pg) (range_with_len first k)) long
-    ∙ ap (filter_map (state_at_epoch (then_with incs inc) pg)) (range_with_len-suc first n)
-    ∙ filter_map-append (state_at_epoch (then_with incs inc) pg) (range_with_len first n) ((first + n) ∷ [])
-    ∙ ap₂ (λ (states : List EpochState) (last : Option EpochState). states ++ filter_map (λ (u : Unit {0}). last) (tt ∷ []))
-    (filter_map-agree (state_at_epoch (then_with incs inc) pg) (state_at_epoch incs pg) first n
-    (λ k below. ap (λ (l : List Incremental). option_map (state_with l) (membership l pg)) (up_to-earlier k incs inc (omega (arith, next_epoch incs inc fine)))))
-    (ap (state_at_epoch (then_with incs inc) pg) there ∙ state-ended incs inc pg made counts fine is)
+    grind (arith, nat_tests, epoch-snoc, next_epoch, range_with_len-suc, filter_map-append, filter_map-agree, up_to-earlier, state-ended)
 
 history_of-grows : (incs : List Incremental) (inc : Incremental) (pg : PgId) (made now : PoolSpec) → now.kind ≡ made.kind → made_at (then_with incs inc) pg.pool ≡ made_at incs pg.pool → states_from (then_with incs inc) pg (made_at incs pg.pool) ≡ states_from incs pg (made_at incs pg.pool) ++ state_with incs (pool_membership incs pg made) ∷ [] → history_of (then_with incs inc) pg now ≡ stepped (history_of incs pg made) (pool_membership (then_with incs inc) pg now) (primary_facts incs (pool_membership incs pg made).acting_primary)
 history_of-grows incs inc pg made now kind since states = grind arith
@@ -168,11 +160,7 @@ has_group-stays incs inc pg made s is = grind arith
 
 -- without its pool being made a group stays there or away
 made_of-none : (incs : List Incremental) (id : ℕ) → pool incs id ≡ None → made_of incs id ≡ None
-made_of-none incs id none = unmapped (made_of incs id) (sym (pool-is incs id) ∙ none)
-  where
-    unmapped : (found : Option PoolSpec) → option_map (with_sizes (sizes_of incs id)) found ≡ None → found ≡ None
-    unmapped None none' = refl
-    unmapped (Some made) none' = cc
+made_of-none incs id none = grind (arith, nat_tests, pool-is)
 
 has_group-without : (incs : List Incremental) (pg : PgId) → pool incs pg.pool ≡ None → has_group incs pg ≡ false
 has_group-without incs pg none = ap (λ (o : Option PoolSpec). option_map_or (λ p. nat_lt pg.pg p.pg_num) o false) none
@@ -211,14 +199,17 @@ history-begins incs pg now there = grind arith
 
 pub history-begins-made : (incs : List Incremental) (inc : Incremental) (pg : PgId) → makes pg.pool inc ≡ true → has_group (then_with incs inc) pg ≡ true
     → group_history (then_with incs inc) pg ≡ option_map (λ made. begun (code_of made.kind) inc.epoch (pool_membership (then_with incs inc) pg made)) (pool (then_with incs inc) pg.pool)
-history-begins-made incs inc pg making there =
-    history-begins (then_with incs inc) pg (made_at-made incs inc pg.pool making ∙ sym (epoch-snoc incs inc)) there
-    ∙ ap (λ (e : ℕ). option_map (λ made. begun (code_of made.kind) e (pool_membership (then_with incs inc) pg made)) (pool (then_with incs inc) pg.pool)) (epoch-snoc incs inc)
+history-begins-made incs inc pg making there = grind (arith, nat_tests, history-begins, made_at-made, epoch-snoc)
 
 -- ---- the last epoch
 
 -- the history reaches the last epoch
 pub history-last : (incs : List Incremental) (pg : PgId) (h : History AnyCode) → AreNumbered incs → group_history incs pg ≡ Some h → h.first + length h.lived ≡ epoch incs
-history-last incs pg h counts is =
-    let from = history_if incs pg (pool incs pg.pool) h (has_group incs pg) is in
-    grind (arith, made_at-before incs pg.pool counts (ap is_some from.1.0), history-length incs pg h is)
+history-last incs pg h counts is = grind (arith, nat_tests, history_if, made_at-before, history-length)
+
+-- what the laws say
+pub ruleset numbered_laws = (numbered, numbered-epoch)
+
+pub ruleset begin_laws = (made_at-made, history-begins-made)
+
+pub ruleset growth_laws = (history-grows, has_group-grows, numbered, checked-front, checked-last)

@@ -28,8 +28,7 @@ HasDistinctMembers-last_of (first ∷ later) = elim (cases_Bool (has_member firs
   | inl again ↦ rw again (HasDistinctMembers-last_of later)
   | inr once ↦
       let kept : List Info = last_of_each_member later in
-      let others : All (λ other. first.member ≢ other.member) kept =
-      All-weaker (Contains kept) (λ other. first.member ≢ other.member) (differs_from_later first later once) kept (All-contains_itself kept) in
+      let others : All (λ other. first.member ≢ other.member) kept = grind (arith, nat_tests, All-weaker, differs_from_later, All-contains_itself) in
       rw once (AllPairs-cons (λ (a b : Info). a.member ≢ b.member) first kept others (HasDistinctMembers-last_of later))
 ]
 
@@ -78,3 +77,6 @@ same_back a b = grind (arith, nat_tests)
 pub last_of-snoc : (infos : List Info) (info : Info) → last_of_each_member (infos ++ info ∷ []) ≡ with_info info (last_of_each_member infos)
 last_of-snoc [] info = refl
 last_of-snoc (first ∷ infos) info = grind (arith, last_of-snoc infos info, has_member-snoc first.member infos info, same_back info.member first.member)
+
+-- what the laws say
+pub ruleset heard_laws = (HasDistinctMembers-last_of, last_of-IsLastOfMember, IsLastOfMember-last_of)

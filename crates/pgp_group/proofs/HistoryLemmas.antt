@@ -1,5 +1,5 @@
 -- The history of a group has a state for each epoch, from the one that made its pool on.
-use Rattle.pgp_group.proofs.Common.{◌≡◌, ℕ, zero, suc, ◌+◌, ◌-◌, ◌<◌, ◌≤◌, List, Option, Some, None, is_some, Bool, true, false, nat_eq, nat_le, length, refl, ap, sym, ◌∙◌, subst, arith, if◌then◌else◌, Contains, filter_map, flat_map, list_any, range_with_len, slice_get, option_map, option_map_or, same_Some, nat_tests, AnyCode, Incremental, PgId, PoolSpec, History, last_where, epoch, up_to, pool, has_group, last_where-some, last_where-found, any-contains, contains-any, contains-filter, contains-flat_map, flat_map-contains, some_is, some_mapped, pool_membership, membership, makes, made_at, state_at_epoch, history_of, group_history}
+use Rattle.pgp_group.proofs.Common.{◌≡◌, ℕ, zero, suc, ◌+◌, ◌-◌, ◌<◌, ◌≤◌, List, Option, Some, None, is_some, Bool, true, false, nat_eq, nat_le, length, refl, ap, sym, ◌∙◌, arith, if◌then◌else◌, Contains, filter_map, flat_map, list_any, range_with_len, slice_get, option_map, option_map_or, same_Some, nat_tests, AnyCode, Incremental, PgId, PoolSpec, History, last_where, epoch, up_to, pool, has_group, last_where-some, last_where-found, any-contains, contains-any, contains-filter, contains-flat_map, flat_map-contains, some_is, some_mapped, membership, makes, made_at, state_at_epoch, history_of, group_history}
 
 -- ---- the incremental that made a pool
 
@@ -42,9 +42,7 @@ pool-since incs id at there since =
     pool-made (up_to at incs) id m.maker (contains-filter (λ (inc : Incremental). nat_le inc.epoch at) incs m.maker m.there tested) m.making
 
 state-since : (incs : List Incremental) (pg : PgId) (at : ℕ) → is_some (pool incs pg.pool) ≡ true → made_at incs pg.pool ≤ at → is_some (state_at_epoch incs pg at) ≡ true
-state-since incs pg at there since =
-    some_mapped _ (option_map (pool_membership (up_to at incs) pg) (pool (up_to at incs) pg.pool))
-    ∙ some_mapped _ (pool (up_to at incs) pg.pool) ∙ pool-since incs pg.pool at there since
+state-since incs pg at there since = grind (arith, nat_tests, some_mapped, pool-since)
 
 -- ---- a state for each epoch
 
@@ -65,20 +63,13 @@ history_if incs pg None h true is = cc
 history_if incs pg (Some made) h true is = (made, (refl, same_Some _ _ is))
 
 pub history-length : (incs : List Incremental) (pg : PgId) (h : History AnyCode) → group_history incs pg ≡ Some h → length h.lived ≡ epoch incs - h.first
-history-length incs pg h is =
-    let from = history_if incs pg (pool incs pg.pool) h (has_group incs pg) is in
-    let there : is_some (pool incs pg.pool) ≡ true = ap is_some from.1.0 in
-    let first : ℕ = made_at incs pg.pool in
-    subst (λ (g : History AnyCode). length g.lived ≡ epoch incs - g.first) from.1.1
-    (length-kept (state_at_epoch incs pg) first (epoch incs - first) (λ k since. state-since incs pg k there since))
+history-length incs pg h is = grind (arith, nat_tests, history_if, length-kept, state-since)
 
 pub history-state : (incs : List Incremental) (pg : PgId) (h : History AnyCode) → group_history incs pg ≡ Some h → (k : ℕ) → h.first + k < epoch incs → slice_get h.lived k ≡ state_at_epoch incs pg (h.first + k)
-history-state incs pg h is k =
-    let from = history_if incs pg (pool incs pg.pool) h (has_group incs pg) is in
-    let there : is_some (pool incs pg.pool) ≡ true = ap is_some from.1.0 in
-    let first : ℕ = made_at incs pg.pool in
-    subst (λ (g : History AnyCode). g.first + k < epoch incs → slice_get g.lived k ≡ state_at_epoch incs pg (g.first + k)) from.1.1
-    (λ below. get-kept (state_at_epoch incs pg) first (epoch incs - first) k (λ k since. state-since incs pg k there since) (omega arith))
+history-state incs pg h is k = grind (arith, nat_tests, history_if, get-kept, state-since)
 
 pub history-current : (incs : List Incremental) (pg : PgId) (h : History AnyCode) → group_history incs pg ≡ Some h → membership incs pg ≡ Some h.current
 history-current incs pg h is = grind (arith, history_if incs pg (pool incs pg.pool) h (has_group incs pg) is)
+
+-- what the laws say
+pub ruleset history_laws = (history-length, history-state, history-current)

@@ -1,7 +1,7 @@
 -- What is kept of the infos of a group, as its log grows and as they are looked at.
-use Rattle.pgp_group.proofs.Common.{◌≡◌, ◌≢◌, ℕ, ◌≤◌, List, [], ◌∷◌, ◌++◌, Some, Bool, true, false, ◌&&◌, ◌||◌, nat_lt, length, map, fold, max, take, drop, append-nil, append_assoc, length-append, refl, ap, ap₂, sym, ◌∙◌, subst, inl, inr, arith, Contains, filter, cases_Bool, and_parts, or_parts, eqb-true, true≢false, nat_tests, take_all, take-append-drop, take-append-le, map-append, filter-append, fold-append, AnyCode, is_same_member, PrimaryFacts, Incremental, Member, Membership, PgId, Info, HasDistinctMembers, with_infos, History, last_place, stepped, current_first, is_same, is_same-eq, eq-is_same, current_first-continues, current_first-ends, Contains-nil, append-contains, contains-append, filter-contains, epoch, AreNumbered, group_history, GroupLog, incs, infos, has_member, heard, last_of_each_member, les, KeepsInfos, IsToldBy, Infos}
+use Rattle.pgp_group.proofs.Common.{◌≡◌, ℕ, ◌≤◌, List, [], ◌∷◌, ◌++◌, Some, Bool, true, false, ◌&&◌, ◌||◌, nat_lt, length, map, fold, max, take, drop, append-nil, append_assoc, length-append, refl, ap, ap₂, sym, ◌∙◌, subst, inl, inr, arith, Contains, filter, and_parts, or_parts, eqb-true, nat_tests, take_all, take-append-drop, take-append-le, map-append, filter-append, fold-append, AnyCode, is_same_member, PrimaryFacts, Incremental, Member, Membership, PgId, Info, HasDistinctMembers, with_infos, History, stepped, Contains-nil, append-contains, contains-append, filter-contains, epoch, AreNumbered, group_history, GroupLog, incs, infos, has_member, heard, last_of_each_member, les, KeepsInfos, IsToldBy, Infos}
 use Rattle.std.proofs.lemmas.Map.Views.{any-filter_same}
-use Rattle.pgp_interval.proofs.Openings.{opening_of-le}
+use Rattle.pgp_group.proofs.FirstLemmas.{first-within, step-moves}
 use Rattle.pgp_group.specs.KeptInfos.{counts}
 use Rattle.pgp_group.proofs.GrowthLemmas.{history-last}
 use Rattle.pgp_group.proofs.HeardLemmas.{HasDistinctMembers-last_of, last_of-contains, last_of-snoc}
@@ -51,9 +51,7 @@ pub KeepsInfos-grown : (g after : GroupLog) (more : List Info) (old kept : Infos
     → KeepsInfos after kept
 KeepsInfos-grown g after more old kept on told sent is all les' seen heard' = record {
   all_are = all ∙ ap (λ (l : List Info). l ++ more) is.all_are ∙ sym told;
-  les_is = les' ∙ ap (λ (e : ℕ). fold max e (map begun_by more)) is.les_is
-      ∙ sym (ap (λ (l : List Info). fold max 0 (map begun_by l)) told ∙ ap (fold max 0) (map-append begun_by (infos g) more)
-      ∙ fold-append max 0 (map begun_by (infos g)) (map begun_by more));
+  les_is = grind (arith, nat_tests, map-append, fold-append);
   distinct = subst HasDistinctMembers (sym heard') is.distinct;
   seen_within = omega (arith, seen, is.seen_within, ap length told, length-append (infos g) more);
   each_sent = λ settled i there. elim (append-contains (infos g) more i (subst (λ (l : List Info). Contains l i) told there)) [
@@ -111,15 +109,8 @@ KeepsInfos-unseen g kept all les' seen nobody sent = grind arith
 -- ---- the next map
 
 pub moves : (incs : List Incremental) (pg : PgId) (h : History AnyCode) (members : Membership) (facts : PrimaryFacts) → AreNumbered incs → group_history incs pg ≡ Some h → Moves incs h (stepped h members facts)
-moves incs pg h members facts counts' is = elim (cases_Bool (is_same members h.current)) [
-  | inl same ↦
-      let stays : members ≡ h.current = is_same-eq members h.current same in
-      let within : current_first h ≤ epoch incs = omega (arith, opening_of-le h (last_place h), history-last incs pg h counts' is) in
-      inl (ap (λ (m : Membership). current_first (stepped h m facts)) stays ∙ current_first-continues h facts, within)
-  | inr differ ↦
-      let new : members ≢ h.current = λ same. true≢false (sym (eq-is_same members h.current same) ∙ differ) in
-      inr (omega (arith, current_first-ends h members facts new, history-last incs pg h counts' is))
-]
+moves incs pg h members facts counts' is =
+    grind (arith, step-moves h members facts, first-within incs pg h counts' is, history-last incs pg h counts' is)
 
 -- ---- a look at them
 
@@ -134,9 +125,7 @@ heard-on g kept is settled =
 -- the same of those that are kept, each by itself
 pub heard-more : (g : GroupLog) (kept : Infos) → KeepsInfos g kept → kept.ahead ≡ false
     → with_infos (filter (counts g) (drop kept.seen (infos g))) (last_of_each_member (filter (counts g) kept.heard.infos)) ≡ heard g
-heard-more g kept is settled =
-    let front : List Info = filter (counts g) (take kept.seen (infos g)) in
-    grind (arith, last_of-twice front, heard-on g kept is settled)
+heard-more g kept is settled = grind (arith, nat_tests, last_of-twice, heard-on)
 
 pub KeepsInfos-heard : (g : GroupLog) (old kept : Infos) → KeepsInfos g old → kept.all.items ≡ old.all.items → kept.les ≡ old.les → kept.ahead ≡ old.ahead → kept.seen ≡ length old.all.items
     → kept.heard.infos ≡ heard g → KeepsInfos g kept

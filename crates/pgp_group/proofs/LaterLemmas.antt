@@ -1,8 +1,8 @@
 -- Which reports count as more of the log comes, and what never falls then.
 use Rattle.pgp_group.proofs.Common.{◌≡◌, ◌≢◌, ℕ, ◌+◌, ◌<◌, ◌≤◌, List, [], ◌∷◌, ◌++◌, Some, Bool, true, false, not, ◌&&◌, ◌||◌, nat_le, map, fold, max, refl, append-nil, ap, sym, ◌∙◌, inl, inr, ◌⊎◌, arith, All, filter, cases_Bool, true≢false, and_right, nat_tests, map-append, filter-append, filter_map-append, All-weaker, fold-append, and-true, AnyCode, Entry, Incremental, Member, PgId, Info, Report, is_same_member, History, current_first, map_some, are_checked, boots, takes_down, destroys, is_up, up_from, epoch, then_with, is_same_group, inc_of, report_of, incs_of, infos_of, reports_of, group_history, GroupLog, group_in, group_with, incs, infos, reports, is_counted, heard, last_of_each_member, reported, IsAfter, AreSentBy, les}
 use Rattle.pgp_group.specs.Entries.{info_of}
-use Rattle.pgp_group.proofs.FirstLemmas.{Steps, Decides, Opens, first-opens, first-step, along}
-use Rattle.pgp_group.proofs.GrowthLemmas.{Shortens, EndsWell, epoch-snoc, next_epoch}
+use Rattle.pgp_group.proofs.FirstLemmas.{first-opens, first-step, along}
+use Rattle.pgp_group.proofs.GrowthLemmas.{checked-front, checked-last, epoch-snoc, next_epoch}
 use Rattle.pgp_group.proofs.Lists.{last_where-passes, last_where-none, left_new, filter-fail}
 use Rattle.pgp_ids.specs.declared.entry.Entry.TheVariants as entry
 
@@ -41,12 +41,12 @@ is_after log later pg g after checked is then' =
 below-first : (g : GroupLog) (member : Member) (stamp : ℕ) → stamp < current_first g.history → is_counted g member stamp ≡ false
 below-first g member stamp below = let early : nat_le (current_first g.history) stamp ≡ false = grind (arith, nat_tests) in rw early refl
 
-pub new-counts : Shortens → EndsWell → Steps → (g after : GroupLog) (inc : Incremental) (member : Member) (stamp : ℕ) → IsAfter g (entry.Inc inc ∷ []) after
+pub new-counts : (g after : GroupLog) (inc : Incremental) (member : Member) (stamp : ℕ) → IsAfter g (entry.Inc inc ∷ []) after
     → after.history.current ≢ g.history.current → stamp ≤ epoch (incs g) → is_counted after member stamp ≡ false
-new-counts shorten fine steps g after inc member stamp is differ sent =
+new-counts g after inc member stamp is differ sent =
     let hs = histories g (entry.Inc inc ∷ []) after is in
-    let opens : current_first after.history ≡ inc.epoch = first-opens shorten fine steps (incs g) inc g.pg g.history after.history hs.checked hs.before hs.then_is differ in
-    below-first after member stamp (omega (arith, opens, sent, next_epoch (incs g) inc (fine (incs g) inc hs.checked)))
+    let opens : current_first after.history ≡ inc.epoch = first-opens (incs g) inc g.pg g.history after.history hs.checked hs.before hs.then_is differ in
+    below-first after member stamp (omega (arith, opens, sent, next_epoch (incs g) inc (checked-last (incs g) inc hs.checked)))
 
 -- an incremental brings no reports
 pub same-infos : (g after : GroupLog) (inc : Incremental) → IsAfter g (entry.Inc inc ∷ []) after → infos after ≡ infos g
@@ -57,22 +57,22 @@ pub same-reports : (g after : GroupLog) (inc : Incremental) → IsAfter g (entry
 same-reports g after inc is =
     grind (arith, filter_map-append report_of g.log (entry.Inc inc ∷ []), append-nil (reports_of g.log))
 
-pub new-heard : Shortens → EndsWell → Steps → (g after : GroupLog) (inc : Incremental) → IsAfter g (entry.Inc inc ∷ []) after
+pub new-heard : (g after : GroupLog) (inc : Incremental) → IsAfter g (entry.Inc inc ∷ []) after
     → after.history.current ≢ g.history.current → AreSentBy (epoch (incs g)) g → heard after ≡ []
-new-heard shorten fine steps g after inc is differ sent =
+new-heard g after inc is differ sent =
     let each : All (λ (info : Info). is_counted after info.member info.stamp ≡ false) (infos g) =
     All-weaker (λ (info : Info). info.stamp ≤ epoch (incs g)) (λ (info : Info). is_counted after info.member info.stamp ≡ false)
-    (λ info by. new-counts shorten fine steps g after inc info.member info.stamp is differ by) (infos g) sent.each_info in
+    (λ info by. new-counts g after inc info.member info.stamp is differ by) (infos g) sent.each_info in
     ap (λ (told : List Info). last_of_each_member (filter (λ info. is_counted after info.member info.stamp) told)) (same-infos g after inc is)
     ∙ ap last_of_each_member (filter-fail (λ (info : Info). is_counted after info.member info.stamp) (infos g) each)
 
-pub new-reported : Shortens → EndsWell → Steps → (g after : GroupLog) (inc : Incremental) (member : Member) → IsAfter g (entry.Inc inc ∷ []) after
+pub new-reported : (g after : GroupLog) (inc : Incremental) (member : Member) → IsAfter g (entry.Inc inc ∷ []) after
     → after.history.current ≢ g.history.current → AreSentBy (epoch (incs g)) g → reported after member ≡ []
-new-reported shorten fine steps g after inc member is differ sent =
+new-reported g after inc member is differ sent =
     let test : Report → Bool = λ report. is_same_member report.member member && is_counted after report.member report.stamp in
     let each : All (λ (report : Report). test report ≡ false) (reports g) =
     All-weaker (λ (report : Report). report.stamp ≤ epoch (incs g)) (λ (report : Report). test report ≡ false)
-    (λ report by. and_right (is_same_member report.member member) (is_counted after report.member report.stamp) (new-counts shorten fine steps g after inc report.member report.stamp is differ by)) (reports g) sent.each_report in
+    (λ report by. and_right (is_same_member report.member member) (is_counted after report.member report.stamp) (new-counts g after inc report.member report.stamp is differ by)) (reports g) sent.each_report in
     grind (arith, same-reports g after inc is, filter-fail test (reports g) each)
 
 -- ---- what counts after an incremental counted before
@@ -158,13 +158,13 @@ outlasts-inc g after inc incs_is next moved = record {
 abbrev Silent : Member → ℕ → List Incremental → History AnyCode → Type 0
 Silent member stamp incs h = (stamp ≤ epoch incs) × (counts_by incs h member stamp ≡ false)
 
-silent-step : Shortens → EndsWell → Steps → Decides → Opens → (pg : PgId) (member : Member) (stamp : ℕ) (incs : List Incremental) (inc : Incremental) (h after : History AnyCode) → are_checked (then_with incs inc) ≡ true
+silent-step : (pg : PgId) (member : Member) (stamp : ℕ) (incs : List Incremental) (inc : Incremental) (h after : History AnyCode) → are_checked (then_with incs inc) ≡ true
     → group_history incs pg ≡ Some h → group_history (then_with incs inc) pg ≡ Some after → Silent member stamp incs h → Silent member stamp (then_with incs inc) after
-silent-step shorten fine steps decides opens pg member stamp incs inc h after checked is then' silent =
-    let next : inc.epoch ≡ epoch incs + 1 = next_epoch incs inc (fine incs inc checked) in
+silent-step pg member stamp incs inc h after checked is then' silent =
+    let next : inc.epoch ≡ epoch incs + 1 = next_epoch incs inc (checked-last incs inc checked) in
     let sent : stamp ≤ epoch incs = silent.0 in
     let later : stamp ≤ epoch (then_with incs inc) = omega (arith, epoch-snoc incs inc, next, sent) in
-    let rises : current_first h ≤ current_first after = first-step shorten fine steps decides opens incs inc pg h after checked is then' in (
+    let rises : current_first h ≤ current_first after = first-step incs inc pg h after checked is then' in (
       grind arith,
       elim (cases_Bool (counts_by (then_with incs inc) after member stamp)) [
         | inl counts ↦ absurd (true≢false (sym (counted-before incs inc h after member stamp rises (omega (arith, next, sent)) counts) ∙ silent.1))
@@ -172,12 +172,12 @@ silent-step shorten fine steps decides opens pg member stamp incs inc h after ch
       ],
     )
 
-pub never-counts : Shortens → EndsWell → Steps → Decides → Opens → (g after : GroupLog) (later : List Entry) (member : Member) (stamp : ℕ) → IsAfter g later after
+pub never-counts : (g after : GroupLog) (later : List Entry) (member : Member) (stamp : ℕ) → IsAfter g later after
     → stamp ≤ epoch (incs g) → is_counted g member stamp ≡ false → is_counted after member stamp ≡ false
-never-counts shorten fine steps decides opens g after later member stamp is sent silent =
+never-counts g after later member stamp is sent silent =
     let hs = histories g later after is in
     let last : Silent member stamp (incs g ++ incs_of later) after.history =
-    along shorten fine g.pg (Silent member stamp) (silent-step shorten fine steps decides opens g.pg member stamp)
+    along checked-front checked-last g.pg (Silent member stamp) (silent-step g.pg member stamp)
     (incs_of later) (incs g) g.history after.history hs.checked hs.before hs.then_is (sent, silent) in
     ap (λ l. counts_by l after.history member stamp) hs.incs_are ∙ last.1
 
@@ -201,3 +201,10 @@ les-told log pg g is = ap les (sym (map_some (group_with log pg) (group_history 
 
 pub les-rises : (log later : List Entry) (pg : PgId) (g after : GroupLog) → group_in log pg ≡ Some g → group_in (log ++ later) pg ≡ Some after → les g ≤ les after
 les-rises log later pg g after is grows = grind (arith, les-told log pg g is, les-told (log ++ later) pg after grows, les-later log later pg)
+
+-- what the laws say
+pub ruleset later_laws = (les-rises)
+
+pub ruleset new_laws = (new-counts, new-heard, new-reported)
+
+pub ruleset never_laws = (never-counts)

@@ -6,7 +6,7 @@ pub mod PeerLemmas
 pub mod Lists
 pub mod GrowthLemmas
 pub mod GroupLemmas
-pub mod FoundLemmas
+pub mod PartLemmas
 pub mod FirstLemmas
 pub mod LaterLemmas
 pub mod UntoldLemmas

@@ -1,5 +1,5 @@
 -- What a list of devices in ascending order has, and of which devices a group speaks as its log grows.
-use Rattle.pgp_group.proofs.Common.{◌≡◌, ℕ, ◌+◌, ◌<◌, List, [], ◌∷◌, Bool, true, false, ◌||◌, Option, Some, None, length, get_or, nat_eq, refl, ap, sym, ◌∙◌, arith, take, if◌then◌else◌, list_any, insert, nat_cmp, is_lt, ordering_reverse, Result, Ok, Err, IsOk, is_ok, option_eq, or-false, eq-eqb, false≢true, nat_cmp_total, list_any_more, list_any_at, list_any_none, IsAscending, with_item, or_assoc, IsAscending-with_item, searchable, has_osd, ◌++◌, or_comm, list_any-append, Past, Info, Report, GroupLog, infos, reports, KeepsNames, past, was_member, names, NamedDevices}
+use Rattle.pgp_group.proofs.Common.{◌≡◌, ℕ, ◌+◌, ◌<◌, List, [], ◌∷◌, Bool, true, false, ◌||◌, Option, Some, None, length, get_or, nat_eq, refl, ap, sym, ◌∙◌, arith, take, if◌then◌else◌, list_any, insert, nat_cmp, is_lt, ordering_reverse, Result, Ok, Err, IsOk, is_ok, option_eq, or-false, eq-eqb, false≢true, nat_cmp_total, list_any_more, list_any_at, list_any_none, IsAscending, with_item, or_assoc, IsAscending-with_item, searchable, has_osd, ◌++◌, or_comm, list_any-append, Past, Info, Report, GroupLog, infos, reports, KeepsNames, past, was_member, names, NamedDevices, nat_tests}
 use Rattle.std.specs.List.Sorted.{IsSearchInRange, IsBinarySearchResult}
 use Rattle.std.specs.declared.cmp.Ordering.{Ordering}
 use Rattle.std.specs.declared.cmp.Ordering.TheVariants.{Less, Equal}
@@ -59,8 +59,7 @@ pub place-put : (q i : ℕ) (places : List (Option ℕ)) (place : Option ℕ) (o
     → list_any (nat_eq q) mid ≡ (has_osd q (take i places) || list_any (nat_eq q) old)
     → list_any (nat_eq q) new ≡ (has_osd q (take (i + 1) places) || list_any (nat_eq q) old)
 place-put q i places place osd new mid old within item is put had =
-    let more : has_osd q (take (i + 1) places) ≡ (has_osd q (take i places) || nat_eq q osd) =
-    place-more q i places place within item ∙ ap (λ p. has_osd q (take i places) || option_eq nat_eq (Some q) p) is in
+    let more : has_osd q (take (i + 1) places) ≡ (has_osd q (take i places) || nat_eq q osd) = grind (arith, nat_tests, place-more q i places place within item) in
     ap (list_any (nat_eq q)) put ∙ with_item-has q osd mid ∙ ap (λ b. nat_eq q osd || b) had
     ∙ or_swap (nat_eq q osd) (has_osd q (take i places)) (list_any (nat_eq q) old)
     ∙ or_assoc (has_osd q (take i places)) (nat_eq q osd) (list_any (nat_eq q) old)
@@ -105,23 +104,10 @@ pub KeepsNames-same : (g after : GroupLog) (old new : NamedDevices) → past aft
 KeepsNames-same g after old new stands told sent same is osd = ap (list_any (nat_eq osd)) same ∙ is osd ∙ sym (names-by osd after (past g) (infos g) (reports g) stands told sent)
 
 pub KeepsNames-info : (g after : GroupLog) (old new : NamedDevices) (info : Info) → ((osd : ℕ) → list_any (was_member osd) (past after) ≡ list_any (was_member osd) (past g)) → infos after ≡ infos g ++ info ∷ [] → reports after ≡ reports g → new.osds.items ≡ with_item before info.member.osd old.osds.items → KeepsNames g old → KeepsNames after new
-KeepsNames-info g after old new info stands told sent put is osd =
-    let sender : Bool = nat_eq info.member.osd osd in
-    let there : names osd after ≡ (sender || names osd g) =
-    names-by osd after (past after) (infos g ++ info ∷ []) (reports g) refl told sent
-    ∙ ap (λ b. b || sent_info osd (infos g ++ info ∷ []) || sent_report osd (reports g)) (stands osd)
-    ∙ ap (λ b. stood osd (past g) || b || sent_report osd (reports g)) (more (λ (i : Info). nat_eq i.member.osd osd) (infos g) info)
-    ∙ second_out sender (stood osd (past g)) (sent_info osd (infos g)) (sent_report osd (reports g)) in
-    grind (arith, with_item-has osd info.member.osd old.osds.items)
+KeepsNames-info g after old new info stands told sent put is osd = grind (arith, nat_tests, names-by, more, second_out, with_item-has)
 
 pub KeepsNames-report : (g after : GroupLog) (old new : NamedDevices) (report : Report) → past after ≡ past g → infos after ≡ infos g → reports after ≡ reports g ++ report ∷ [] → new.osds.items ≡ with_item before report.member.osd old.osds.items → KeepsNames g old → KeepsNames after new
-KeepsNames-report g after old new report stands told sent put is osd =
-    let sender : Bool = nat_eq report.member.osd osd in
-    let there : names osd after ≡ (sender || names osd g) =
-    names-by osd after (past g) (infos g) (reports g ++ report ∷ []) stands told sent
-    ∙ ap (λ b. stood osd (past g) || sent_info osd (infos g) || b) (more (λ (r : Report). nat_eq r.member.osd osd) (reports g) report)
-    ∙ third_out sender (stood osd (past g)) (sent_info osd (infos g)) (sent_report osd (reports g)) in
-    grind (arith, with_item-has osd report.member.osd old.osds.items)
+KeepsNames-report g after old new report stands told sent put is osd = grind (arith, nat_tests, names-by, more, third_out, with_item-has)
 
 -- an interval is over: the devices of its up went in, and then those of its acting
 pub KeepsNames-ended : (g after : GroupLog) (old mid new : NamedDevices) (ended : Past) → past after ≡ past g ++ ended ∷ [] → infos after ≡ infos g → reports after ≡ reports g

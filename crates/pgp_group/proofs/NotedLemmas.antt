@@ -1,5 +1,5 @@
 -- The index of a prior set, by statuses that tell the same, and as the entries of its devices are renewed one after another.
-use Rattle.pgp_group.proofs.Common.{arith, ◌≡◌, ℕ, ◌+◌, ◌<◌, List, [], ◌∷◌, Bool, true, false, ◌||◌, nat_eq, length, refl, ap, sym, ◌∙◌, inl, inr, eqb-true, eq-eqb, take, get_or, if◌then◌else◌, or-false, or-true, cases_Bool, take_more, take_all, list_any-append, Past, OsdMap, is_no_worse, is_no_better, IsChange, held_status, Status, Up, renoted, has_noted, status_noted, up_of, allows, HasEachMember, GivesEach, DeviceFacts, Some, subst, Contains, enough_of, is_by_place, enough_of-mono, AnyCode, Member, contains-map, Basis, IsIndexOf, members_of, PriorIndex, blocks-same}
+use Rattle.pgp_group.proofs.Common.{arith, ◌≡◌, ℕ, ◌+◌, ◌<◌, List, [], ◌∷◌, Bool, true, false, ◌||◌, nat_eq, length, refl, ap, sym, ◌∙◌, inl, inr, eqb-true, eq-eqb, take, get_or, if◌then◌else◌, or-false, or-true, cases_Bool, take_more, take_all, list_any-append, Past, OsdMap, is_no_worse, is_no_better, IsChange, held_status, Status, Up, renoted, has_noted, status_noted, up_of, allows, HasEachMember, GivesEach, DeviceFacts, Some, subst, Contains, enough_of, is_by_place, enough_of-mono, AnyCode, Member, contains-map, Basis, IsIndexOf, members_of, PriorIndex, blocks-same, nat_tests}
 use Rattle.pgp_group.specs.declared.device_facts.EachUp.{EachUp}
 use Rattle.pgp_group.specs.declared.device_facts.Turn.{Turn}
 use Rattle.pgp_prior.specs.JudgedInterval.{past_of}
@@ -21,8 +21,7 @@ index-agree b status index is agree = record {
       let there : Contains b.past kept.past = subst (λ (l : List Past). Contains l kept.past) is.past_are (contains-map past_of index.past.items kept in') in
       record {
         statuses_are = λ m acts. was.statuses_are m acts ∙ ap Some (agree kept.past m there acts);
-        blocks_is = was.blocks_is
-            ∙ blocks-same (is_by_place b.code) (enough_of b.code) (enough_of-mono b.code) b.les b.status status kept.past (λ m acts. agree kept.past m there acts);
+        blocks_is = grind (arith, nat_tests, blocks-same, enough_of-mono);
       };
   places_are = is.places_are;
   current_is = is.current_is;
@@ -54,11 +53,7 @@ from_up new = grind arith
 
 module _ (by_place : Bool) (osd : ℕ) (told old new : ℕ → ℕ → Status) (past : List Past) (change : IsChange (allows turn.Again) by_place osd told old new past) where
   pub change-up : (all : EachUp) → IsChange is_no_worse by_place osd (up_of all) old (raised osd old) past
-  change-up all interval there = record {
-    of_it = λ m acts same. raised-it osd old interval.first;
-    allowed_of_it = λ m acts same. ap (is_no_worse (old osd interval.first)) (raised-it osd old interval.first) ∙ to_up (old osd interval.first);
-    of_others = λ m acts apart. raised-other osd m.osd old interval.first apart;
-  }
+  change-up all interval there = grind (arith, nat_tests, raised-it, to_up, raised-other)
 
   pub change-from_up : IsChange is_no_better by_place osd told (raised osd old) new past
   change-from_up interval there =
@@ -93,11 +88,7 @@ module _ (map : OsdMap) (noted : List DeviceFacts) (i : ℕ) (entry : DeviceFact
       → IsChange (allows kind) by_place entry.osd (held_status map) (partly map (take i noted) status) (partly map (take (i + 1) noted) status) past
   partly-change by_place past kind turned gives interval there = record {
     of_it = λ m acts same. partly-it entry.osd interval.first refl;
-    allowed_of_it = λ m acts same.
-        let was : status entry.osd interval.first ≡ status_noted entry interval.first =
-        ap (λ q. status q interval.first) (sym same) ∙ gives interval m entry there acts (i, within, sym item) (sym same) in
-        ap (allows kind (partly map (take i noted) status entry.osd interval.first)) (partly-it entry.osd interval.first refl)
-        ∙ allowed (has_noted entry.osd (take i noted)) interval.first (ap (λ s. allows kind s (held_status map entry.osd interval.first)) was ∙ turned interval.first);
+    allowed_of_it = grind (arith, nat_tests, partly-it);
     of_others = λ m acts apart. partly-other m.osd interval.first (λ same. apart (sym same));
   }
     where

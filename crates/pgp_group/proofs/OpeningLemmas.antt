@@ -1,59 +1,13 @@
 -- What is so of each interval since it opened.
-use Rattle.pgp_group.proofs.Common.{◌≡◌, ◌≢◌, ℕ, zero, suc, ◌+◌, ◌<◌, ◌≤◌, List, [], ◌∷◌, ◌++◌, Option, Some, None, is_some, true, false, length, ap, sym, ◌∙◌, subst, inl, inr, arith, if◌then◌else◌, Contains, range_with_len, slice_index_or, option_map_or, and_parts, cases_Bool, true≢false, enough_of, is_by_place, code_of, AnyCode, first_osd, PrimaryFacts, Incremental, Member, Membership, Past, PgId, PoolSpec, History, begun, stepped, last_place, current_first, current_ending, past_intervals, is_same, is_same-eq, eq-is_same, past_intervals-continues, past_intervals-ends, current_first-continues, current_first-ends, Contains-nil, map_some, some_is, taken-induction, taken-more, are_checked, is_faultless, is_up, up_from, epoch, then_with, pool, has_group, held_member, members_of, are_up, membership, pool_membership, makes, primary_facts, group_history}
+use Rattle.pgp_group.proofs.Common.{◌≡◌, ◌≢◌, ℕ, zero, suc, ◌+◌, ◌<◌, ◌≤◌, List, [], ◌∷◌, Option, Some, None, true, false, length, ap, sym, ◌∙◌, subst, inl, inr, arith, if◌then◌else◌, Contains, range_with_len, slice_index_or, option_map_or, and_parts, cases_Bool, true≢false, is_by_place, AnyCode, first_osd, Incremental, Member, Membership, Past, PgId, History, current_first, Contains-nil, map_some, some_is, taken-induction, taken-more, are_checked, is_faultless, is_up, up_from, epoch, then_with, pool, has_group, held_member, members_of, are_up, membership, pool_membership, group_history, nat_tests}
 use Rattle.pgp_sets.proofs.UpLemmas.{acting-are_up}
-use Rattle.pgp_group.proofs.DeviceLemmas.{checked-front, checked-last, up_from-stays, up_from-within}
-use Rattle.pgp_group.proofs.FirstLemmas.{grown}
-use Rattle.pgp_group.proofs.GrowthLemmas.{checked-numbered, epoch-snoc, has_group-unmade, history-begins-made, history-last, next_epoch}
+use Rattle.pgp_group.proofs.DeviceLemmas.{checked-last, up_from-stays, up_from-within}
+use Rattle.pgp_group.proofs.FirstLemmas.{moves, past_of}
+use Rattle.pgp_group.proofs.FirstLemmas.Moves.{on, ends}
+use Rattle.pgp_group.proofs.GrowthLemmas.{epoch-snoc, has_group-unmade, history-begins-made, next_epoch}
 use Rattle.pgp_group.proofs.HistoryLemmas.{history-current}
 use Rattle.pgp_group.proofs.Lists.{filter_map-from, contains-push}
 use Rattle.pgp_group.proofs.ViewLemmas.{history_there}
-
--- the past intervals by the code of the pool, where the group was clean in these epochs
-abbrev pub past_of : List ℕ → History AnyCode → List Past
-past_of cleans h = past_intervals enough_of is_by_place cleans h
-
--- ---- one incremental more
-
--- the current interval goes on
-pub record GoesOn (h after : History AnyCode) : Type 0 where
-  pub current : after.current ≡ h.current
-  pub first : current_first after ≡ current_first h
-  pub past : (cleans : List ℕ) → past_of cleans after ≡ past_of cleans h
-
--- or it ends with these facts, and the next one opens with this epoch
-pub record Ends (epoch : ℕ) (facts : PrimaryFacts) (h after : History AnyCode) : Type 0 where
-  pub first : current_first after ≡ epoch
-  pub past : (cleans : List ℕ) → past_of cleans after ≡ past_of cleans h ++ current_ending enough_of is_by_place cleans h facts ∷ []
-
-pub data Moves (incs : List Incremental) (inc : Incremental) (h after : History AnyCode) : Type 0 where
-  on : after.code ≡ h.code → GoesOn h after → Moves incs inc h after
-  ends : after.code ≡ h.code → Ends inc.epoch (primary_facts incs h.current.acting_primary) h after → Moves incs inc h after
-
-pub moves : (incs : List Incremental) (inc : Incremental) (pg : PgId) (h after : History AnyCode) → are_checked (then_with incs inc) ≡ true
-    → group_history incs pg ≡ Some h → group_history (then_with incs inc) pg ≡ Some after → Moves incs inc h after
-moves incs inc pg h after checked is then' =
-    let facts : PrimaryFacts = primary_facts incs h.current.acting_primary in
-    let g = grown checked-front checked-last incs inc pg h after checked is then' in
-    let code : after.code ≡ h.code = sym (ap (λ (t : History AnyCode). t.code) g.is) in
-    elim (cases_Bool (is_same g.members h.current)) [
-      | inl same ↦
-          let stays : g.members ≡ h.current = is_same-eq g.members h.current same in
-          let continued : after ≡ stepped h h.current facts = sym g.is ∙ ap (λ (m : Membership). stepped h m facts) stays in
-          on code (record {
-            current = ap (λ (t : History AnyCode). t.current) continued;
-            first = ap current_first continued ∙ current_first-continues h facts;
-            past = λ cleans. ap (past_of cleans) continued ∙ past_intervals-continues enough_of is_by_place cleans h facts;
-          })
-      | inr differ ↦
-          let moved : g.members ≢ h.current = λ same. true≢false (sym (eq-is_same g.members h.current same) ∙ differ) in
-          let fine = checked-last incs inc checked in
-          let counts = checked-numbered checked-front checked-last incs (checked-front incs (inc ∷ []) checked) in
-          let opened : current_first after ≡ h.first + last_place h + 1 = ap current_first (sym g.is) ∙ current_first-ends h g.members facts moved in
-          ends code (record {
-            first = omega (arith, opened, history-last incs pg h counts is, next_epoch incs inc fine);
-            past = λ cleans. ap (past_of cleans) (sym g.is) ∙ past_intervals-ends enough_of is_by_place cleans h g.members facts moved;
-          })
-    ]
 
 -- ---- since it opened
 
@@ -98,19 +52,7 @@ acting-up incs pg h member is acts =
 opened-begun : (incs : List Incremental) (inc : Incremental) (pg : PgId) (after : History AnyCode) → are_checked (then_with incs inc) ≡ true → has_group incs pg ≡ false
     → group_history (then_with incs inc) pg ≡ Some after → IsOpened (then_with incs inc) after
 opened-begun incs inc pg after checked absent is =
-    let fine = checked-last incs inc checked in
-    let there : has_group (then_with incs inc) pg ≡ true = sym (history_there (then_with incs inc) pg) ∙ ap is_some is in
-    let making : makes pg.pool inc ≡ true = elim (cases_Bool (makes pg.pool inc)) [
-      | inl makes' ↦ makes'
-      | inr unmade ↦ absurd (true≢false (sym there ∙ has_group-unmade incs inc pg fine unmade ∙ absent))
-    ] in
-    let begins = history-begins-made incs inc pg making there in
-    let made = map_some (λ (pool : PoolSpec). begun (code_of pool.kind) inc.epoch (pool_membership (then_with incs inc) pg pool)) (pool (then_with incs inc) pg.pool) after (sym begins ∙ is) in
-    subst (IsOpened (then_with incs inc)) made.2 (record {
-      since = λ osd leads. omega (arith, up_from-within osd (then_with incs inc) checked, epoch-snoc incs inc);
-      later = λ cleans interval in'. absurd (Contains-nil interval in');
-      within = omega (arith, epoch-snoc incs inc);
-    })
+    grind (arith, nat_tests, checked-last, history_there, true≢false, has_group-unmade, history-begins-made, map_some, up_from-within, epoch-snoc, Contains-nil)
 
 opened-next : (incs : List Incremental) (inc : Incremental) (pg : PgId) (h after : History AnyCode) → are_checked (then_with incs inc) ≡ true
     → group_history incs pg ≡ Some h → group_history (then_with incs inc) pg ≡ Some after → IsOpened incs h → IsOpened (then_with incs inc) after
@@ -132,9 +74,7 @@ opened-next incs inc pg h after checked is then' opened =
         later = λ cleans interval in'.
             elim (contains-push (past_of cleans h) _ interval (subst (λ (l : List Past). Contains l interval) (over.past cleans) in')) [
               | inl before ↦ omega (arith, opened.later cleans interval before, within, over.first, next_epoch incs inc fine)
-              | inr here ↦
-                  let first : current_first h ≡ interval.first = ap (λ (p : Past). p.first) here in
-                  omega (arith, first, within, over.first, next_epoch incs inc fine)
+              | inr here ↦ grind (arith, nat_tests, next_epoch)
             ];
         within = omega (arith, over.first, epoch-snoc incs inc);
       }

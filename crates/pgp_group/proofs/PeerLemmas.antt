@@ -9,9 +9,7 @@ use Rattle.std.proofs.lemmas.List.Filters.{length-filter_both}
 -- ---- members
 
 pub same_member : (a b : Member) → is_same_member a b ≡ true → a ≡ b
-same_member a b same =
-    let parts = and_parts _ _ same in
-    λ i. record { osd = eqb-true a.osd b.osd parts.0 i; slot = eqb-true a.slot b.slot parts.1 i }
+same_member a b same = grind (arith, nat_tests, and_parts, eqb-true)
 
 same_member_as : (a b : Member) → a ≡ b → is_same_member a b ≡ true
 same_member_as a b same = subst (λ m. is_same_member a m ≡ true) same (grind (arith, nat_tests))
@@ -28,9 +26,7 @@ record Found (infos : List Info) (member : Member) (info : Info) : Type 0 where
 
 -- what is found is an info of the member
 found_of : (infos : List Info) (member : Member) (info : Info) → info_of infos member ≡ Some info → Found infos member info
-found_of infos member info found =
-    let some = find-some (λ (i : Info). is_same_member i.member member) infos info found in
-    record { there = some.0; of_member = same_member info.member member some.1 }
+found_of infos member info found = grind (arith, nat_tests, find-some, same_member)
 
 -- where there is an info of the member, one is found
 some_of : (infos : List Info) (member : Member) (info : Info) → Contains infos info → info.member ≡ member → (found : Option Info) → info_of infos member ≡ found → (other : Info) × (info_of infos member ≡ Some other)

@@ -1,5 +1,5 @@
 -- The members of up, and then those of acting, go into an ascending list one after the other.
-use Rattle.pgp_group.proofs.Common.{◌≡◌, List, [], ◌∷◌, ◌++◌, Option, Some, None, true, false, cond, refl, ap, sym, ◌∙◌, inl, inr, arith, cases_Bool, Member}
+use Rattle.pgp_group.proofs.Common.{◌≡◌, List, [], ◌∷◌, ◌++◌, Option, Some, None, cond, arith, cases_Bool, Member, nat_tests}
 use Rattle.std.specs.Iterator.{YieldsFirst}
 use Rattle.std.specs.Iterator.Adapters.{chain_first, chain_second, chain_first_done, chain_second_done, chain_steps, SecondAnswers}
 use Rattle.std.specs.declared.iter.Chain.{Chain}
@@ -24,13 +24,7 @@ later-done : (s t : Members) → chain_second_done t ≡ chain_second_done s →
 later-done s t same answers = grind (arith, cases_Bool (chain_second_done s))
 
 pub left-next : (s t : Members) (x : Member) → chain_steps steps steps s (Some x) t → left s ≡ x ∷ left t
-left-next s t x is = elim (cases_Bool (chain_first_done s)) [
-  | inl ended ↦ grind (arith, ended, later-next s t x is.0)
-  | inr goes ↦ grind (arith, goes, later-next s t x is.0)
-]
+left-next s t x is = grind (arith, nat_tests, later-next)
 
 pub left-done : (s t : Members) → chain_steps steps steps s None t → left s ≡ []
-left-done s t is = elim (cases_Bool (chain_first_done s)) [
-  | inl ended ↦ grind (arith, ended, later-done s t is.0)
-  | inr goes ↦ grind (arith, goes, later-done s t is.0)
-]
+left-done s t is = grind (arith, nat_tests, later-done)

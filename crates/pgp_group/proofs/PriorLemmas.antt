@@ -1,5 +1,5 @@
 -- What is kept of the prior set of a group, at a look and while the log grows.
-use Rattle.pgp_group.proofs.Common.{◌≡◌, ℕ, zero, suc, ◌+◌, ◌≤◌, List, [], ◌∷◌, ◌++◌, Some, true, length, length-append, refl, ap, sym, ◌∙◌, subst, inl, inr, arith, take, slice_get, Contains, take_all, take_more, take-append-le, get_or_from_slice_get, slice_get_within, enough_of, is_by_place, AnyCode, raised_at, Member, Membership, Past, map-contains, Contains-cases, Contains-here, Contains-later, Contains-nil, OsdMap, Basis, IsIndexOf, members_of, PriorIndex, held_status, Status, GroupLog, incs, les, KeepsPrior, IsAbreast, IsReckoned, basis_of, basis_with, renoted, renoted_all, has_noted, status_noted, HasEachMember, AreOfMap, past, DeviceFacts, KeptPrior}
+use Rattle.pgp_group.proofs.Common.{◌≡◌, ℕ, zero, suc, ◌+◌, ◌≤◌, List, [], ◌∷◌, ◌++◌, Some, true, length, length-append, refl, ap, sym, ◌∙◌, subst, inl, inr, arith, take, slice_get, Contains, take_all, take_more, take-append-le, get_or_from_slice_get, slice_get_within, enough_of, is_by_place, AnyCode, raised_at, Member, Membership, Past, map-contains, Contains-cases, Contains-here, Contains-later, Contains-nil, OsdMap, Basis, IsIndexOf, members_of, PriorIndex, held_status, Status, GroupLog, incs, les, KeepsPrior, IsAbreast, IsReckoned, basis_of, basis_with, renoted, renoted_all, has_noted, status_noted, HasEachMember, AreOfMap, past, DeviceFacts, KeptPrior, nat_tests}
 use Rattle.pgp_map.specs.MapOf.{IsMapOf}
 use Rattle.pgp_prior.proofs.RaisedLemmas.{length-raised_at}
 use Rattle.pgp_sets.specs.StatusLaws.{held_status-is}
@@ -141,9 +141,7 @@ was_there place [] interval there = absurd (Contains-nil interval there)
 was_there zero (p ∷ past) interval there = grind (arith, Contains-cases (record p { rw = true }) past interval there, Contains-here p past)
 was_there (suc place) (p ∷ past) interval there = elim (Contains-cases p (raised_at place past) interval there) [
   | inl here ↦ record { was = p; there = Contains-here p past; members = ap (λ (q : Past). q.members) here; first = ap (λ (q : Past). q.first) here }
-  | inr later ↦
-      let before = was_there place past interval later in
-      record { was = before.was; there = Contains-later p past before.was before.there; members = before.members; first = before.first }
+  | inr later ↦ grind (arith, nat_tests, Contains-later, was_there place past interval later)
 ]
 
 -- the group may have gone read-write in one of its past intervals after all, and the index has taken that

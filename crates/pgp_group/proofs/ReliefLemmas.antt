@@ -1,12 +1,13 @@
 -- What makes no group down: boots and losses, and reports that raise no flag.
-use Rattle.pgp_group.proofs.Common.{◌≡◌, ℕ, ◌≤◌, List, [], ◌∷◌, Option, Some, None, Bool, true, false, not, ◌&&◌, ◌||◌, nat_eq, nat_le, fold, map, max, refl, ap, sym, ◌∙◌, subst, inl, inr, arith, Contains, list_any, option_map_or, cases_Bool, false_from_ne_true, true≢false, nat_tests, same_Some, list_any-append, enough_of, enough_of-mono, is_by_place, AnyCode, Entry, Incremental, Member, Membership, Past, Info, current_ending, any-contains, contains-any, boots, destroys, exists, is_up, lost_at, takes_down, map_fault, then_with, is_no_worse, blocks, has_down, is_down, members_of, is_group_down, no_worse-relieves, not_down-relieved, status, status_by, inc_of, incs_of, group_history, primary_facts, GroupLog, cleans, incs, les, IsAfter, past, prior, TakesNothingAway}
+use Rattle.pgp_group.proofs.Common.{◌≡◌, ℕ, ◌≤◌, List, [], ◌∷◌, Some, None, Bool, true, false, not, ◌&&◌, ◌||◌, nat_eq, nat_le, fold, map, max, refl, ap, sym, ◌∙◌, inl, inr, arith, list_any, cases_Bool, false_from_ne_true, true≢false, nat_tests, same_Some, list_any-append, enough_of, enough_of-mono, is_by_place, AnyCode, Entry, Incremental, Past, Info, any-contains, contains-any, boots, destroys, exists, is_up, takes_down, map_fault, then_with, is_no_worse, blocks, has_down, is_group_down, no_worse-relieves, not_down-relieved, status, status_by, inc_of, incs_of, group_history, GroupLog, cleans, incs, les, IsAfter, past, prior, TakesNothingAway}
 use Rattle.pgp_ids.specs.declared.entry.Entry.TheVariants as entry
 use Rattle.pgp_group.proofs.DeviceLemmas.{checked-last, lost_at-rises, not_booted}
 use Rattle.pgp_group.proofs.LaterLemmas.{histories, same-infos, les-rises}
 use Rattle.pgp_group.proofs.Lists.{last_where-none, last_where-passes, nothing_new}
 use Rattle.pgp_group.proofs.NotedLemmas.{to_up}
-use Rattle.pgp_group.proofs.OpeningLemmas.{moves, acting-up, past_of}
-use Rattle.pgp_group.proofs.OpeningLemmas.Moves.{on, ends}
+use Rattle.pgp_group.proofs.FirstLemmas.{moves, past_of}
+use Rattle.pgp_group.proofs.FirstLemmas.Moves.{on, ends}
+use Rattle.pgp_group.proofs.OpeningLemmas.{acting-up}
 
 -- ---- statuses
 
@@ -15,19 +16,13 @@ silent-of : (incs : List Incremental) (inc : Incremental) (osd : ℕ) → TakesN
 silent-of incs inc osd nothing still = rw (still, ap (list_any (nat_eq osd)) nothing.down, ap (list_any (nat_eq osd)) nothing.gone) refl
 
 pub up-still : (incs : List Incremental) (inc : Incremental) (osd : ℕ) → TakesNothingAway incs inc → boots osd inc ≡ false → is_up (then_with incs inc) osd ≡ is_up incs osd
-up-still incs inc osd nothing still =
-    let none : list_any (λ (i : Incremental). boots osd i || takes_down osd i || destroys osd i) (inc ∷ []) ≡ false = rw (silent-of incs inc osd nothing still) refl in
-    ap (λ (o : Option Incremental). option_map_or (boots osd) o false) (last_where-none (λ (i : Incremental). boots osd i || takes_down osd i || destroys osd i) incs (inc ∷ []) none)
+up-still incs inc osd nothing still = grind (arith, nat_tests, silent-of, last_where-none)
 
 pub exists-still : (incs : List Incremental) (inc : Incremental) (osd : ℕ) → TakesNothingAway incs inc → boots osd inc ≡ false → exists (then_with incs inc) osd ≡ exists incs osd
-exists-still incs inc osd nothing still =
-    let none : list_any (λ (i : Incremental). boots osd i || destroys osd i) (inc ∷ []) ≡ false = rw (still, ap (list_any (nat_eq osd)) nothing.gone) refl in
-    ap (λ (o : Option Incremental). option_map_or (boots osd) o false) (last_where-none (λ (i : Incremental). boots osd i || destroys osd i) incs (inc ∷ []) none)
+exists-still incs inc osd nothing still = grind (arith, nat_tests, last_where-none)
 
 pub up-booted : (incs : List Incremental) (inc : Incremental) (osd : ℕ) → boots osd inc ≡ true → is_up (then_with incs inc) osd ≡ true
-up-booted incs inc osd booting =
-    let told : (boots osd inc || takes_down osd inc || destroys osd inc) ≡ true = rw booting refl in
-    ap (λ (o : Option Incremental). option_map_or (boots osd) o false) (last_where-passes (λ (i : Incremental). boots osd i || takes_down osd i || destroys osd i) incs inc told) ∙ booting
+up-booted incs inc osd booting = grind (arith, nat_tests, last_where-passes)
 
 -- a later loss makes no status worse
 lost-no_worse : (up there : Bool) (old new first : ℕ) → old ≤ new → is_no_worse (status_by up there old first) (status_by up there new first) ≡ true
@@ -44,18 +39,7 @@ no_worse incs inc osd first nothing = elim (cases_Bool (boots osd inc)) [
 -- none of its members is down: they were up, and still are
 ending-up : (g : GroupLog) (inc : Incremental) (ending : Past) → map_fault (incs g) inc ≡ None → group_history (incs g) g.pg ≡ Some g.history → TakesNothingAway (incs g) inc → ending.members ≡ g.history.current
     → has_down (is_by_place g.history.code) (status (then_with (incs g) inc)) ending ≡ false
-ending-up g inc ending fine is nothing same = false_from_ne_true _ (λ down.
-    let members : List Member = members_of (is_by_place g.history.code) ending.members.acting in
-    let found = any-contains (λ (m : Member). is_down (status (then_with (incs g) inc) m.osd ending.first)) members down in
-    let member : Member = found.0 in
-    let acts : Contains (members_of (is_by_place g.history.code) g.history.current.acting) member =
-    subst (λ (m : Membership). Contains (members_of (is_by_place g.history.code) m.acting) member) same found.1.0 in
-    let before : is_up (incs g) member.osd ≡ true = acting-up (incs g) g.pg g.history member is acts in
-    let up : is_up (then_with (incs g) inc) member.osd ≡ true =
-    up-still (incs g) inc member.osd nothing (not_booted (incs g) inc member.osd fine before) ∙ before in
-    let not_down : is_down (status (then_with (incs g) inc) member.osd ending.first) ≡ false =
-    ap (λ (b : Bool). is_down (status_by b (exists (then_with (incs g) inc) member.osd) (lost_at (then_with (incs g) inc) member.osd) ending.first)) up in
-    true≢false (sym found.1.1 ∙ not_down))
+ending-up g inc ending fine is nothing same = grind (arith, nat_tests, false_from_ne_true, any-contains, acting-up, up-still, not_booted, true≢false)
 
 -- an interval with no member that is down doesn't block
 free-ending : (late suffices down : Bool) → down ≡ false → late && not suffices && down ≡ false
@@ -68,9 +52,7 @@ abbrev pub down_by : AnyCode → List Incremental → ℕ → List Past → Bool
 down_by code incs les past = is_group_down (enough_of code) (is_by_place code) (status incs) les past
 
 relieved : (g : GroupLog) (inc : Incremental) → TakesNothingAway (incs g) inc → (prior g).down ≡ false → down_by g.history.code (then_with (incs g) inc) (les g) (past g) ≡ false
-relieved g inc nothing up =
-    not_down-relieved (is_by_place g.history.code) (enough_of g.history.code) (enough_of-mono g.history.code) (les g) (status (incs g)) (status (then_with (incs g) inc)) (past g)
-    (λ p in' m acts. no_worse-relieves _ _ (no_worse (incs g) inc m.osd p.first nothing)) up
+relieved g inc nothing up = grind (arith, nat_tests, not_down-relieved, enough_of-mono, no_worse-relieves, no_worse)
 
 -- one more that doesn't block changes nothing
 none-more : (some last : Bool) → last ≡ false → (some || last) ≡ some
@@ -82,21 +64,11 @@ down-after g after inc is nothing =
     let hs = histories g (entry.Inc inc ∷ []) after is in
     let fine = checked-last (incs g) inc hs.checked in
     let since : les after ≡ les g = ap (λ (told : List Info). fold max 0 (map (λ info. info.history_les) told)) (same-infos g after inc is) in
-    let clean : past after ≡ past_of (cleans g) after.history =
-    ap (λ (told : List Info). past_of (map (λ info. info.last_epoch_clean) told) after.history) (same-infos g after inc is) in
-    let all : (code : AnyCode) → code ≡ g.history.code → (intervals : List Past) → down_by code (incs after) (les after) intervals ≡ down_by g.history.code (incs after) (les g) intervals =
-    λ code same intervals. λ i. down_by (same i) (incs after) (since i) intervals in
+    let clean : past after ≡ past_of (cleans g) after.history = grind (arith, nat_tests, same-infos g after inc is) in
+    let all : (code : AnyCode) → code ≡ g.history.code → (intervals : List Past) → down_by code (incs after) (les after) intervals ≡ down_by g.history.code (incs after) (les g) intervals = grind (arith, nat_tests) in
     elim (moves (incs g) inc g.pg g.history after.history hs.checked hs.before hs.then_is) [
       | on code goes ↦ all after.history.code code (past after) ∙ ap (down_by g.history.code (incs after) (les g)) (clean ∙ goes.past (cleans g))
-      | ends code over ↦
-          let ending : Past = current_ending enough_of is_by_place (cleans g) g.history (primary_facts (incs g) g.history.current.acting_primary) in
-          let test : Past → Bool = blocks (enough_of g.history.code) (is_by_place g.history.code) (status (incs after)) (les g) in
-          let up : has_down (is_by_place g.history.code) (status (incs after)) ending ≡ false =
-          ap (λ (l : List Incremental). has_down (is_by_place g.history.code) (status l) ending) hs.incs_are ∙ ending-up g inc ending fine hs.before nothing refl in
-          let free : test ending ≡ false = free-ending _ _ _ up in
-          let last : list_any test (ending ∷ []) ≡ false = rw free refl in
-          all after.history.code code (past after)
-          ∙ ap (list_any test) (clean ∙ over.past (cleans g)) ∙ list_any-append test (past g) (ending ∷ []) ∙ none-more (list_any test (past g)) (list_any test (ending ∷ [])) last
+      | ends code over ↦ grind (arith, nat_tests, ending-up, free-ending, list_any-append, none-more)
     ]
 
 pub relief : (g after : GroupLog) (inc : Incremental) → IsAfter g (entry.Inc inc ∷ []) after → TakesNothingAway (incs g) inc → (prior g).down ≡ false → (prior after).down ≡ false
@@ -110,12 +82,13 @@ pub reports_relief : (g after : GroupLog) (new : Entry) → IsAfter g (new ∷ [
 reports_relief g after new is none same up =
     let hs = histories g (new ∷ []) after is in
     let told : incs after ≡ incs g = ap incs_of hs.log ∙ nothing_new inc_of g.log new none in
-    let stays : after.history ≡ g.history =
-    same_Some after.history g.history (sym hs.then_is ∙ ap (λ (l : List Incremental). group_history l g.pg) (sym hs.incs_are ∙ told) ∙ hs.before) in
+    let stays : after.history ≡ g.history = grind (arith, nat_tests, same_Some) in
     let rises : les g ≤ les after = les-rises g.log (new ∷ []) g.pg g after is.before is.then_is in
     false_from_ne_true _ (λ down.
     let was : down_by g.history.code (incs g) (les after) (past g) ≡ true = sym (λ i. down_by (stays i).code (told i) (les after) (same i)) ∙ down in
     let found = any-contains (blocks (enough_of g.history.code) (is_by_place g.history.code) (status (incs g)) (les after)) (past g) was in
-    let blocking : blocks (enough_of g.history.code) (is_by_place g.history.code) (status (incs g)) (les g) found.0 ≡ true =
-    blocks-before _ _ found.0.rw (les g) (les after) found.0.last rises found.1.1 in
+    let blocking : blocks (enough_of g.history.code) (is_by_place g.history.code) (status (incs g)) (les g) found.0 ≡ true = grind (arith, nat_tests, blocks-before) in
     true≢false (sym (contains-any (blocks (enough_of g.history.code) (is_by_place g.history.code) (status (incs g)) (les g)) (past g) found.0 found.1.0 blocking) ∙ up))
+
+-- what the laws say
+pub ruleset relief_laws = (relief, down-after, reports_relief)

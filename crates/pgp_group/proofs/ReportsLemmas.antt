@@ -1,5 +1,5 @@
 -- What is kept of the reports of a group and of the logs of its members, as its log grows and as they are looked at.
-use Rattle.pgp_group.proofs.Common.{◌≡◌, ℕ, ◌≤◌, List, [], ◌∷◌, ◌++◌, Option, None, Bool, true, false, ◌&&◌, ◌||◌, cond, nat_le, nat_lt, length, take, length-append, refl, ap, ap₂, sym, ◌∙◌, subst, inl, inr, arith, append-nil, All, filter, find, flat_map, cases_Bool, and_parts, or_parts, nat_tests, take_all, take-append-le, All-contains, All-filter, All-nil, All-take, All-weaker, filter_passes, All-append, is_same_member, LogEntry, Member, Report, All-members, filter-agree, epoch, by_number, GroupLog, incs, reports, is_counted, is_of, log_of, entries_of, counts_by, reported_in, AreLogsOf, KeepsReports, AreCounted, IsReportedBy, CountedLog, Reports, zero, suc, ◌+◌, ◌<◌, Some, if◌then◌else◌, get_or, position, position_from, position_or_len, slice_get, slice_set, option_map_or, option_or, nat_cmp, filter-append, find_at, find-set, find_past, find-append, position-Some, fold-append, slice_get-get_or, Info, IsLogOf, number_of, flat_map-push}
+use Rattle.pgp_group.proofs.Common.{◌≡◌, ℕ, ◌≤◌, List, [], ◌∷◌, ◌++◌, Option, None, Bool, true, false, ◌&&◌, ◌||◌, cond, nat_le, nat_lt, length, take, length-append, refl, ap, ap₂, sym, ◌∙◌, subst, inl, inr, arith, append-nil, All, filter, find, flat_map, cases_Bool, and_parts, or_parts, nat_tests, take_all, take-append-le, All-contains, All-filter, All-take, All-weaker, filter_passes, All-append, is_same_member, LogEntry, Member, Report, All-members, filter-agree, epoch, by_number, GroupLog, incs, reports, is_counted, is_of, log_of, entries_of, counts_by, reported_in, AreLogsOf, KeepsReports, AreCounted, IsReportedBy, CountedLog, Reports, zero, suc, ◌+◌, ◌<◌, Some, if◌then◌else◌, get_or, position, position_from, position_or_len, slice_get, slice_set, option_map_or, option_or, nat_cmp, filter-append, find_at, find-set, find_past, find-append, position-Some, fold-append, slice_get-get_or, Info, IsLogOf, number_of, flat_map-push}
 use Rattle.pgp_group.specs.KeptReports.{counts}
 use Rattle.pgp_group.proofs.LaterLemmas.{Outlasts, outlasts-same}
 use Rattle.pgp_group.proofs.Lists.{filter-each}
@@ -32,21 +32,7 @@ pub added : (sender member : Member) (logs : List CountedLog) (i : ℕ) (d y : C
     → ((r : List LogEntry) → d.log.entries ≡ by_number r → y.log.entries ≡ by_number (r ++ entries))
     → entries_of member logs ≡ by_number reported → entries_of member (slice_set logs i y) ≡ by_number (reported ++ (if is_same_member sender member then entries else []))
 added sender member logs i d y entries reported at item same add is =
-    let p = position-Some (is_of sender) logs i d at in
-    let passes : is_of sender d ≡ true = ap (is_of sender) item ∙ p.1 in
-    let by : d.member ≡ sender = same_member d.member sender passes in
-    elim (cases_Bool (is_same_member sender member)) [
-      | inl it ↦
-          let to : sender ≡ member = same_member sender member it in
-          let new : entries_of sender (slice_set logs i y) ≡ y.log.entries = ap entries_from (find-set (is_of sender) logs i y (first-at (is_of sender) logs i at) p.0 (ap (λ (m : Member). is_same_member m sender) same ∙ passes)) in
-          let old : entries_of sender logs ≡ d.log.entries = ap entries_from (found-at (is_of sender) logs i d at) ∙ ap (λ (l : CountedLog). l.log.entries) (sym item) in
-          let was : entries_of sender logs ≡ by_number reported = subst (λ (m : Member). entries_of m logs ≡ by_number reported) (sym to) is in
-          rw it (subst (λ (m : Member). entries_of m (slice_set logs i y) ≡ by_number (reported ++ entries)) to (new ∙ add reported (sym old ∙ was)))
-      | inr other ↦
-          let fails : is_of member d ≡ false = ap (λ (m : Member). is_same_member m member) by ∙ other in
-          let fails' : is_of member y ≡ false = ap (λ (m : Member). is_same_member m member) same ∙ fails in
-          rw (other, append-nil) (ap entries_from (find_past (is_of member) logs i y d (ap (is_of member) (sym item) ∙ fails) fails') ∙ is)
-    ]
+    grind (arith, nat_tests, position-Some, same_member, find-set, first-at, found-at, append-nil, find_past)
 
 none_or : {X : Type 0} (found : Option X) → option_or found None ≡ found
 none_or None = refl
@@ -77,13 +63,7 @@ pub renewed : (test : Member → ℕ → Bool) (member : Member) (logs : List Co
     → ((r : List LogEntry) → d.log.entries ≡ by_number r → y.log.entries ≡ by_number r)
     → entries_of member (filter (judged test) logs) ≡ by_number reported → entries_of member (filter (judged test) (slice_set logs i y)) ≡ by_number reported
 renewed test member [] i d y reported within item same stamp keeps is = absurd (omega arith)
-renewed test member (x ∷ xs) zero d y reported within item same stamp keeps is =
-    let was : entries_of member (filter (judged test) (d ∷ xs)) ≡ by_number reported = subst (λ (l : CountedLog). entries_of member (filter (judged test) (l ∷ xs)) ≡ by_number reported) (sym item) is in
-    let alike : (judged test y && is_of member y) ≡ (judged test d && is_of member d) = λ k. test (same k) (stamp k) && is_same_member (same k) member in
-    elim (cases_Bool (judged test d && is_of member d)) [
-      | inl it ↦ grind (arith, head-entries (judged test) member y xs, head-entries (judged test) member d xs)
-      | inr other ↦ grind (arith, head-entries (judged test) member y xs, head-entries (judged test) member d xs)
-    ]
+renewed test member (x ∷ xs) zero d y reported within item same stamp keeps is = grind (arith, nat_tests, head-entries)
 renewed test member (x ∷ xs) (suc i) d y reported within item same stamp keeps is =
     let old : List LogEntry = entries_of member (filter (judged test) xs) in
     let new : List LogEntry = entries_of member (filter (judged test) (slice_set xs i y)) in
@@ -98,23 +78,13 @@ renewed test member (x ∷ xs) (suc i) d y reported within item same stamp keeps
 pub renewed-one : (member : Member) (logs : List CountedLog) (i : ℕ) (d y log : CountedLog) (info : Info) (reported : List LogEntry) → position (is_of member) logs ≡ Some i → d ≡ get_or logs i d → y.member ≡ d.member
     → ((r : List LogEntry) → d.log.entries ≡ by_number r → IsLogOf info r y.log)
     → entries_of member logs ≡ by_number reported → log_of member (slice_set logs i y) ≡ Some log → IsLogOf info reported log.log
-renewed-one member logs i d y log info reported at item same bounds is found =
-    let p = position-Some (is_of member) logs i d at in
-    let passes : is_of member d ≡ true = ap (is_of member) item ∙ p.1 in
-    let one : log_of member (slice_set logs i y) ≡ Some y = find-set (is_of member) logs i y (first-at (is_of member) logs i at) p.0 (ap (λ (m : Member). is_same_member m member) same ∙ passes) in
-    grind (arith, found-at (is_of member) logs i d)
+renewed-one member logs i d y log info reported at item same bounds is found = grind (arith, nat_tests, position-Some, find-set, first-at, found-at)
 
 -- ---- one more report
 
 pub reported_in-more : (g : GroupLog) (told : List Report) (x : Report) (member : Member)
     → reported_in g (told ++ x ∷ []) member ≡ reported_in g told member ++ (if is_same_member x.member member && is_counted g x.member x.stamp then x.log else [])
-reported_in-more g told x member =
-    let test : Report → Bool = λ report. is_same_member report.member member && is_counted g report.member report.stamp in
-    let entries : Report → List LogEntry = λ report. report.log in
-    ap (flat_map entries) (filter-append test told (x ∷ [])) ∙ (elim (cases_Bool (test x)) [
-      | inl passes ↦ rw (passes) (flat_map-push entries (filter test told) x)
-      | inr fails ↦ rw (fails) (ap (flat_map entries) (append-nil (filter test told)) ∙ sym (append-nil (flat_map entries (filter test told))))
-    ])
+reported_in-more g told x member = grind (arith, nat_tests, filter-append, flat_map-push, append-nil)
 
 -- one that counts, and one that doesn't
 pub told-counted : (g : GroupLog) (told : List Report) (x : Report) (member : Member) → is_counted g x.member x.stamp ≡ true
@@ -155,9 +125,7 @@ KeepsReports-grown g after more old kept on told sent is all seen logs = record 
       (All-append (λ (r : Report). r.stamp ≤ epoch (incs after)) (reports g) more
       (All-weaker (λ (r : Report). r.stamp ≤ epoch (incs g)) (λ (r : Report). r.stamp ≤ epoch (incs after))
       (λ r early. omega (arith, early, on.rises)) (reports g) (is.each_sent (sent settled).0)) (sent settled).1);
-  logs_sent = λ settled. subst (λ (l : List CountedLog). All (λ (log : CountedLog). log.stamp ≤ epoch (incs after)) l) (sym logs)
-      (All-weaker (λ (l : CountedLog). l.stamp ≤ epoch (incs g)) (λ (l : CountedLog). l.stamp ≤ epoch (incs after))
-      (λ l early. omega (arith, early, on.rises)) old.logs.of_members.items (is.logs_sent (sent settled).0));
+  logs_sent = grind (arith, nat_tests, All-weaker);
   logs_are = λ settled member.
       let looked_at : List Report = take old.seen (reports g) in
       let was : Option CountedLog = log_of member (filter (counts g) old.logs.of_members.items) in
@@ -191,9 +159,7 @@ pub KeepsReports-on : (g after : GroupLog) (old kept : Reports) → Outlasts g a
     → kept.all.items ≡ old.all.items → kept.seen ≡ old.seen → kept.logs.of_members.items ≡ old.logs.of_members.items
     → kept.ahead ≡ old.ahead → KeepsReports after kept
 KeepsReports-on g after old kept on told is all seen logs ahead =
-    KeepsReports-grown g after [] old kept on (told ∙ sym (append-nil (reports g)))
-    (λ settled. (sym ahead ∙ settled, All-nil (λ report. report.stamp ≤ epoch (incs after))))
-    is (all ∙ sym (append-nil old.all.items)) seen logs
+    grind (arith, nat_tests, KeepsReports-grown g after, append-nil (reports g), append-nil old.all.items)
 
 pub KeepsReports-new : (g after : GroupLog) (report : Report) (at : ℕ) (old kept : Reports) → at ≡ epoch (incs g) → IsReportedBy g report after → KeepsReports g old
     → kept.all.items ≡ old.all.items ++ report ∷ [] → kept.seen ≡ old.seen → kept.logs.of_members.items ≡ old.logs.of_members.items → kept.ahead ≡ (old.ahead || nat_lt at report.stamp)
@@ -220,9 +186,7 @@ AreCounted-judged g old kept is settled all seen ahead logs = record {
       (λ log there. passes log
       (All-contains (λ (l : CountedLog). counts g l ≡ true) (filter (counts g) old.logs.of_members.items) log (filter_passes (counts g) old.logs.of_members.items) there)
       (All-contains (λ (l : CountedLog). l.stamp ≤ epoch (incs g)) (filter (counts g) old.logs.of_members.items) log (All-filter (counts g) (λ (l : CountedLog). l.stamp ≤ epoch (incs g)) old.logs.of_members.items (is.logs_sent settled)) there)));
-  logs_are =
-      subst (λ (n : ℕ). AreLogsOf g (take n (reports g)) kept.logs.of_members.items) (sym seen)
-      (subst (AreLogsOf g (take old.seen (reports g))) (sym logs) (is.logs_are settled));
+  logs_are = grind (arith, nat_tests);
 }
   where
     passes : (log : CountedLog) → counts g log ≡ true → log.stamp ≤ epoch (incs g) → counts_by g (epoch (incs g)) log ≡ true
@@ -242,15 +206,8 @@ KeepsReports-heard g old kept is all ahead seen logs counted =
       all_are = all ∙ is.all_are;
       seen_within = omega (arith, long);
       each_sent = λ settled. is.each_sent (sym ahead ∙ settled);
-      logs_sent = λ settled.
-          All-weaker (λ (log : CountedLog). counts_by g (epoch (incs g)) log ≡ true) (λ (log : CountedLog). log.stamp ≤ epoch (incs g))
-          (λ log counts'. early log (and_parts (counts g log) (nat_le log.stamp (epoch (incs g))) counts').1) kept.logs.of_members.items (counted (sym ahead ∙ settled));
-      logs_are = λ settled.
-          let each : filter (counts g) kept.logs.of_members.items ≡ kept.logs.of_members.items =
-          filter-each (counts g) kept.logs.of_members.items
-          (λ log there. (and_parts (counts g log) (nat_le log.stamp (epoch (incs g)))
-          (All-contains (λ (l : CountedLog). counts_by g (epoch (incs g)) l ≡ true) kept.logs.of_members.items log (counted (sym ahead ∙ settled)) there)).0) in
-          subst (λ (l : List Report). AreLogsOf g l (filter (counts g) kept.logs.of_members.items)) (sym whole) (subst (AreLogsOf g (reports g)) (sym each) logs);
+      logs_sent = grind (arith, nat_tests, All-weaker, and_parts);
+      logs_are = grind (arith, nat_tests, filter-each, and_parts, All-contains);
     }
   where
     early : (log : CountedLog) → nat_le log.stamp (epoch (incs g)) ≡ true → log.stamp ≤ epoch (incs g)

@@ -1,12 +1,12 @@
 -- A group whose intervals, reports and devices are the same in two logs has the same view, except for count and epoch.
-use Rattle.pgp_group.proofs.Common.{◌≡◌, ℕ, arith, List, [], ◌++◌, Option, Some, None, is_none, Bool, true, not, ◌&&◌, nat_eq, nat_lt, length, map, fold, max, refl, ap, ap₂, ◌∙◌, if◌then◌else◌, is_some, sym, Contains, filter, find, flat_map, list_any, range_with_len, slice_index_or, filter_map, option_and_then, option_map, option_map_or, unwrap_or, or-true, nat_tests, enough_of, is_by_place, enough_of-mono, AnyCode, is_same_member, Entry, EpochState, Member, Membership, Past, PgId, Info, Report, Verdict, History, current_first, contains-any, filter-contains, map_some, device, epoch, is_whole, held_member, members_of, prior_set, blocks-same, ascending, is_before, status, status_by, Status, incs_of, GroupLog, group_with, infos, reports, incs, has_member, is_counted, heard, last_of_each_member, les, reported, past, prior, best, whole_best, peer_states, has_osd, was_member, names, told_at, holds, in_order, needs_up_thru, is_short, view_of}
+use Rattle.pgp_group.proofs.Common.{◌≡◌, ℕ, arith, List, [], ◌++◌, Option, Some, None, is_none, Bool, true, not, ◌&&◌, nat_eq, nat_lt, length, map, fold, max, refl, ap, ap₂, ◌∙◌, if◌then◌else◌, Contains, filter, find, flat_map, list_any, range_with_len, slice_index_or, filter_map, option_and_then, option_map, option_map_or, unwrap_or, or-true, nat_tests, enough_of, is_by_place, enough_of-mono, AnyCode, is_same_member, Entry, EpochState, Member, Membership, Past, PgId, Info, Report, Verdict, History, current_first, contains-any, filter-contains, map_some, device, epoch, is_whole, held_member, members_of, prior_set, blocks-same, ascending, is_before, status, status_by, Status, incs_of, GroupLog, group_with, infos, reports, incs, has_member, is_counted, heard, last_of_each_member, les, reported, past, prior, best, whole_best, peer_states, has_osd, was_member, names, told_at, holds, in_order, needs_up_thru, is_short, view_of}
 use Rattle.pgp_ids.specs.declared.verdict.Verdict.TheVariants as the
 use Rattle.pgp_prior.specs.Blocks as block
 use Rattle.pgp_group.specs.Peering.{info_of}
 use Rattle.pgp_group.proofs.Lists.{filter-agree, flat_map-agree, any-agree, filter_map-contains, index-contains, any-found}
 use Rattle.pgp_group.proofs.PeerLemmas.{compared}
 use Rattle.pgp_group.proofs.UntoldLemmas.{osd-there}
-use Rattle.pgp_group.proofs.FoundLemmas.{present-is}
+use Rattle.pgp_group.proofs.PartLemmas.{present-is}
 
 -- ---- a group that is alike in two logs
 
@@ -25,9 +25,7 @@ pub record AreAlike (g after : GroupLog) : Type 0 where
 
 module _ (g after : GroupLog) (same : AreAlike g after) where
   has_member-same : (member : Member) → has_member member (heard after) ≡ has_member member (heard g)
-  has_member-same member =
-      any-found (λ (info : Info). is_same_member info.member member) (heard after) ∙ ap is_some (same.heard member)
-      ∙ sym (any-found (λ (info : Info). is_same_member info.member member) (heard g))
+  has_member-same member = grind (arith, nat_tests, any-found)
 
   whole_best-same : whole_best after ≡ whole_best g
   whole_best-same = λ i. option_and_then (λ info. if is_whole info (same.reported info.member i) then Some info else None) (same.best i)

@@ -1,15 +1,15 @@
 -- That a group which served may have gone read-write in its interval, once that is past, and that whoever serves later has
 -- reckoned with it.
-use Rattle.pgp_group.proofs.Common.{◌≡◌, ℕ, ◌+◌, ◌<◌, ◌≤◌, List, [], ◌∷◌, ◌++◌, Some, None, is_some, Bool, true, false, not, nat_le, nat_lt, refl, ap, sym, ◌∙◌, subst, inl, inr, ◌⊎◌, arith, Contains, or_parts, nat_tests, filter_map-append, enough_of, is_by_place, AnyCode, osd_count, Entry, Incremental, Membership, Past, PgId, Verdict, Short, Serve, History, current_first, current_ending, contains-append, Contains-here, none_is, some_is, some_mapped, taken-along, are_checked, is_faultless, up_from, up_thru, epoch, map_fault, then_with, inc_of, incs_of, group_history, primary_facts, GroupLog, cleans, group_in, incs, IsAfter, past, WentReadWrite, IsRemembered, holds, place_of, verdict, ◌&&◌, ◌||◌, map, cases_Bool, or-true, enough_of-mono, Member, Down, Waiting, filter-contains, contains-filter, map-contains, contains-map, none-contains, nat_order, ascending-contains, contains-ascending, acting_where, blocks, has_down, is_settled, matters, settled_slots, slots_of, status, Status, les, heard, has_member, prior, is_lost, acting_of, heard_or_lost, IsAccountedFor, IsReckonedWith}
+use Rattle.pgp_group.proofs.Common.{◌≡◌, ℕ, ◌+◌, ◌<◌, ◌≤◌, List, [], ◌∷◌, ◌++◌, Some, None, is_some, Bool, true, false, not, nat_le, nat_lt, refl, ap, sym, ◌∙◌, subst, inl, inr, ◌⊎◌, arith, Contains, or_parts, nat_tests, filter_map-append, enough_of, is_by_place, AnyCode, osd_count, Entry, Incremental, Membership, Past, PgId, Verdict, Short, Serve, History, current_first, current_ending, contains-append, Contains-here, none_is, some_is, some_mapped, taken-along, are_checked, is_faultless, up_from, up_thru, epoch, map_fault, then_with, inc_of, incs_of, group_history, primary_facts, GroupLog, cleans, group_in, incs, IsAfter, past, WentReadWrite, IsRemembered, holds, place_of, verdict, ◌&&◌, ◌||◌, map, or-true, enough_of-mono, Member, Down, Waiting, filter-contains, contains-filter, map-contains, contains-map, none-contains, nat_order, ascending-contains, contains-ascending, acting_where, blocks, has_down, is_settled, matters, settled_slots, slots_of, status, Status, les, heard, has_member, prior, is_lost, acting_of, heard_or_lost, IsAccountedFor, IsReckonedWith}
 use Rattle.pgp_interval.specs.ReadWrite.{acting_slots, may_have_gone_rw}
 use Rattle.pgp_map.proofs.CheckedLemmas.{up_thru-more}
 use Rattle.pgp_group.proofs.DeviceLemmas.{checked-front, checked-last, up_from-stays}
-use Rattle.pgp_group.proofs.FirstLemmas.{along}
+use Rattle.pgp_group.proofs.FirstLemmas.{Ends, Moves, along, moves, past_of}
 use Rattle.pgp_group.proofs.GrowthLemmas.{has_group-grows, next_epoch}
 use Rattle.pgp_group.proofs.LaterLemmas.{histories}
 use Rattle.pgp_group.proofs.Lists.{contains-push}
-use Rattle.pgp_group.proofs.OpeningLemmas.{IsOpened, Ends, Moves, moves, opened, past_of, primary-up}
-use Rattle.pgp_group.proofs.OpeningLemmas.Moves.{on, ends}
+use Rattle.pgp_group.proofs.OpeningLemmas.{IsOpened, opened, primary-up}
+use Rattle.pgp_group.proofs.FirstLemmas.Moves.{on, ends}
 use Rattle.pgp_group.proofs.ViewLemmas.{history_there}
 use Rattle.pgp_ids.specs.SlotSet.{is_within}
 use Rattle.pgp_prior.proofs.PriorLemmas.{IsProbed-probe}
@@ -66,8 +66,7 @@ stands-ended : (cleans : List ℕ) (first osd : ℕ) (incs : List Incremental) (
 stands-ended cleans first osd incs inc h after next opened over runs =
     let ending : Past = current_ending enough_of is_by_place cleans h (primary_facts incs h.current.acting_primary) in
     let is : current_first h ≡ first = runs.first_is in
-    let rw' : ending.rw ≡ true =
-    went_rw h.code cleans h.current osd (current_first h) ending.last incs runs.fit (omega (arith, runs.thru, is)) (omega (arith, runs.since, is)) in
+    let rw' : ending.rw ≡ true = grind (arith, nat_tests, went_rw) in
     record {
       went = grind (arith, contains-append (past_of cleans h) (ending ∷ []) ending (inr (Contains-here ending [])), opened);
       each = λ interval in' same. elim
@@ -83,12 +82,7 @@ over-ended : (cleans : List ℕ) (first : ℕ) (incs : List Incremental) (inc : 
 over-ended cleans first incs inc h after next opened ended over =
     let ending : Past = current_ending enough_of is_by_place cleans h (primary_facts incs h.current.acting_primary) in
     record {
-      went = record {
-        interval = over.went.interval;
-        there = subst (λ (l : List Past). Contains l over.went.interval) (sym (ended.past cleans)) (contains-append (past_of cleans h) (ending ∷ []) over.went.interval (inl over.went.there));
-        opened = over.went.opened;
-        rw = over.went.rw;
-      };
+      went = grind (arith, nat_tests, contains-append (past_of cleans h) (ending ∷ []) over.went.interval (inl over.went.there), past_of cleans h, opened);
       each = λ interval in' same. elim
           (contains-push (past_of cleans h) ending interval (subst (λ (l : List Past). Contains l interval) (ended.past cleans) in')) [
             | inl before ↦ over.each interval before same
@@ -133,8 +127,7 @@ standing g after later is serves =
     let first : ℕ = current_first g.history in
     let hs = histories g later after is in
     let open' : IsOpened (incs g) g.history = opened g.pg (incs g) (checked-front (incs g) (incs_of later) hs.checked) g.history hs.before in
-    let runs : Stands (cleans after) first osd (incs g) g.history =
-    inl (record { fit = s.1.fit; first_is = refl; thru = s.1.thru; since = open'.since osd s.1.fit.leads }) in
+    let runs : Stands (cleans after) first osd (incs g) g.history = grind (arith, nat_tests) in
     record {
       osd = osd;
       stands = subst (λ (l : List Incremental). Stands (cleans after) first osd l after.history) (sym hs.incs_are)
@@ -186,17 +179,13 @@ unblocked late suffices down matters' free = grind arith
 heard-up : (g : GroupLog) (interval : Past) (member : Member) → verdict g ≡ Serve → Contains (past g) interval → matters (les g) interval ≡ true → Contains (acting_of g interval) member
     → status (incs g) member.osd interval.first ≡ the.Up → has_member member (heard g) ≡ true
 heard-up g interval member serves there matters' acts up =
-    let probed : Contains (prior g).probe member =
-    IsProbed-probe (is_by_place g.history.code) (status (incs g)) (les g) (past g) g.history.current member (inr (inr (interval, there, matters', acts, up))) in
+    let probed : Contains (prior g).probe member = grind (arith, nat_tests, IsProbed-probe) in
     not_false _ (none-contains (λ (m : Member). not (has_member m (heard g))) (prior g).probe member (no_cause g Waiting serves (omega arith)) probed)
 
 settled-counts : (g : GroupLog) (interval : Past) (member : Member) → verdict g ≡ Serve → Contains (past g) interval → matters (les g) interval ≡ true → Contains (acting_of g interval) member
     → is_settled (status (incs g) member.osd interval.first) ≡ true
     → has_member member (heard g) || is_lost (status (incs g) member.osd interval.first) ≡ true
-settled-counts g interval member serves there matters' acts settled = elim (settled_is (status (incs g) member.osd interval.first) settled) [
-  | inl up ↦ rw (heard-up g interval member serves there matters' acts up) refl
-  | inr lost ↦ rw lost (or-true (has_member member (heard g)))
-]
+settled-counts g interval member serves there matters' acts settled = grind (arith, nat_tests, settled_is, heard-up, or-true)
 
 -- the slots of members that are settled are among those that were heard or lost
 settled-within : (g : GroupLog) (interval : Past) → verdict g ≡ Serve → Contains (past g) interval → matters (les g) interval ≡ true
@@ -208,9 +197,7 @@ settled-within g interval serves there matters' =
     let found = map-contains slot settled k (ascending-contains nat_lt (map slot settled) k in') in
     let member : Member = found.0 in
     let kept = filter-contains (λ (m : Member). is_settled (status (incs g) m.osd interval.first)) (acting_of g interval) member found.1.0 in
-    let counts : Contains (heard_or_lost g interval) member =
-    contains-filter (λ (m : Member). has_member m (heard g) || is_lost (status (incs g) m.osd interval.first)) (acting_of g interval) member kept.0
-    (settled-counts g interval member serves there matters' kept.0 kept.1) in
+    let counts : Contains (heard_or_lost g interval) member = grind (arith, nat_tests, contains-filter, settled-counts) in
     contains-ascending nat_lt nat_order (map slot (heard_or_lost g interval)) k
     (subst (Contains (map slot (heard_or_lost g interval))) found.1.1 (contains-map slot (heard_or_lost g interval) member counts)))
 
@@ -221,9 +208,7 @@ reckoned-with g interval serves there matters' =
     let free : blocks (enough_of g.history.code) (is_by_place g.history.code) (status (incs g)) (les g) interval ≡ false =
     none-contains (blocks (enough_of g.history.code) (is_by_place g.history.code) (status (incs g)) (les g)) (past g) interval (no_cause g Down serves (omega arith)) there in
     elim (unblocked (matters (les g) interval) (enough_of g.history.code settled) (has_down (is_by_place g.history.code) (status (incs g)) interval) matters' free) [
-      | inl enough ↦ inl (enough_of-mono g.history.code settled (slots_of (heard_or_lost g interval))
-          (IsSlotSet-slots_of (acting_where is_settled (is_by_place g.history.code) (status (incs g)) interval))
-          (IsSlotSet-slots_of (heard_or_lost g interval)) (settled-within g interval serves there matters') enough)
+      | inl enough ↦ grind (arith, nat_tests, enough_of-mono, IsSlotSet-slots_of, settled-within)
       | inr none ↦ inr none
     ]
 
@@ -236,15 +221,9 @@ reckoned g after later interval is served there same serves since =
 -- whoever serves again has accounted for the interval, where it isn't current still
 pub served_again : (g after : GroupLog) (later : List Entry) → IsAfter g later after → verdict g ≡ Serve → verdict after ≡ Serve
     → (current_first after.history ≡ current_first g.history) ⊎ IsAccountedFor (current_first g.history) after
-served_again g after later is served serves = elim (remembered g after later is served) [
-  | inl same ↦ inl same
-  | inr went ↦ inr (record {
-    interval = went.interval;
-    there = went.there;
-    opened = went.opened;
-    how = elim (cases_Bool (nat_le (les after) went.interval.last)) [
-      | inl since ↦ inl (reckoned-with after went.interval serves went.there (rw (went.rw, since) refl))
-      | inr early ↦ inr (grind (arith, nat_tests))
-    ];
-  })
-]
+served_again g after later is served serves = grind (arith, nat_tests, remembered, reckoned-with)
+
+-- what the laws say
+pub ruleset served_laws = (remembered, stays_there)
+
+pub ruleset reckoned_laws = (reckoned, served_again)

@@ -1,5 +1,5 @@
 -- What an incremental leaves as it was: devices that it doesn't name, and a group that it doesn't touch.
-use Rattle.pgp_group.proofs.Common.{◌≡◌, ℕ, arith, List, [], ◌∷◌, ◌++◌, Option, Some, None, is_some, Bool, true, false, ◌||◌, nat_eq, nat_lt, map, length, refl, ap, ap₂, sym, ◌∙◌, subst, inl, inr, ◌⊎◌, if◌then◌else◌, Contains, filter, list_any, option_eq, option_map, option_map_or, or_parts, eqb-true, nat_tests, same_Some, first_osd, DeviceEpoch, Incremental, Membership, PgId, PoolSpec, Contains-first, Contains-later, contains-any, filter-contains, map-contains, if_some, boots, takes_down, destroys, device, is_up, map_fault, then_with, pool, temp, is_same_group, may_place_elsewhere, moves, raw_set, raw_set_of, members_with, pool_membership, primary_facts, has_osd, changed_devices, turned_devices, moves_all, changes_pool, changes_temp}
+use Rattle.pgp_group.proofs.Common.{◌≡◌, ℕ, arith, List, [], ◌∷◌, Option, Some, None, is_some, Bool, true, false, nat_eq, nat_lt, map, length, refl, ap, ap₂, sym, ◌∙◌, subst, inl, inr, ◌⊎◌, if◌then◌else◌, Contains, filter, list_any, option_eq, option_map_or, or_parts, eqb-true, nat_tests, same_Some, first_osd, Incremental, Membership, PgId, PoolSpec, Contains-first, Contains-later, contains-any, filter-contains, map-contains, if_some, boots, takes_down, destroys, device, is_up, map_fault, then_with, pool, temp, is_same_group, may_place_elsewhere, moves, raw_set, raw_set_of, members_with, pool_membership, primary_facts, has_osd, changed_devices, turned_devices, moves_all, changes_pool, changes_temp}
 use Rattle.pgp_ids.specs.Pool.{is_by_place}
 use Rattle.pgp_ids.specs.declared.incremental.TempList.{TempList}
 use Rattle.pgp_sets.proofs.RawSetLemmas.{unmoved-unplaced}
@@ -19,27 +19,11 @@ record IsUntold (inc : Incremental) (osd : ℕ) : Type 0 where
 -- no device that the incremental boots, takes down or destroys passes the test, but this one does
 unturned : (test : ℕ → Bool) (inc : Incremental) (osd : ℕ) → list_any test (turned_devices inc) ≡ false → test osd ≡ true
     → (boots osd inc ≡ false) × (takes_down osd inc ≡ false) × (destroys osd inc ≡ false)
-unturned test inc osd none passes =
-    let a = none-append test (inc.up ++ inc.down) inc.gone none in
-    let b = none-append test inc.up inc.down a.0 in
-    let is : (x : ℕ) → nat_eq osd x ≡ true → test x ≡ true = λ x same. ap test (sym (eqb-true osd x same)) ∙ passes in (
-      none-narrower (nat_eq osd) test is inc.up b.0,
-      none-narrower (nat_eq osd) test is inc.down b.1,
-      none-narrower (nat_eq osd) test is inc.gone a.1,
-    )
+unturned test inc osd none passes = grind (arith, nat_tests, none-append, eqb-true, none-narrower)
 
 -- no device of the incremental passes the test, but this one does
 untold : (test : ℕ → Bool) (inc : Incremental) (osd : ℕ) → list_any test (changed_devices inc) ≡ false → test osd ≡ true → IsUntold inc osd
-untold test inc osd none passes =
-    let thru : List ℕ = map (λ (told : DeviceEpoch). told.osd) inc.up_thru in
-    let lost : List ℕ = map (λ (told : DeviceEpoch). told.osd) inc.lost in
-    let a = none-append test (turned_devices inc ++ thru) lost none in
-    let b = none-append test (turned_devices inc) thru a.0 in
-    let silent = unturned test inc osd b.0 passes in
-    let told_is : (told : DeviceEpoch) → nat_eq told.osd osd ≡ true → test told.osd ≡ true = λ told same. ap test (eqb-true told.osd osd same) ∙ passes in
-    let each : (told : List DeviceEpoch) → list_any test (map (λ t. t.osd) told) ≡ false → list_any (λ t. nat_eq t.osd osd) told ≡ false =
-    λ told silent. none-narrower (λ (t : DeviceEpoch). nat_eq t.osd osd) (λ (t : DeviceEpoch). test t.osd) told_is told (sym (any-mapped (λ (t : DeviceEpoch). t.osd) test told) ∙ silent) in
-    record { booted = silent.0; downed = silent.1; gone = silent.2; thru = each inc.up_thru b.1; lost = each inc.lost a.1 }
+untold test inc osd none passes = grind (arith, nat_tests, none-append, unturned, eqb-true, none-narrower, any-mapped)
 
 -- such a device stays as it was
 device-stays : (incs : List Incremental) (inc : Incremental) (osd : ℕ) → IsUntold inc osd → device (then_with incs inc) osd ≡ device incs osd
@@ -88,9 +72,7 @@ up-same up now places same (Some osd) there = same osd there
 
 without-same : (up now : ℕ → Bool) (by_place : Bool) (places : List (Option ℕ)) → ((osd : ℕ) → Contains places (Some osd) → now osd ≡ up osd) → without now by_place places ≡ without up by_place places
 unfolding without
-without-same up now true places same =
-    map-agree (λ (place : Option ℕ). if option_map_or now place false then place else None) (λ (place : Option ℕ). if option_map_or up place false then place else None) places
-    (λ place there. ap (λ (b : Bool). if b then place else None) (up-same up now places same place there))
+without-same up now true places same = grind (arith, nat_tests, map-agree, up-same)
 without-same up now false places same = search (filter-agree, up-same)
 
 -- its devices are those of the list
@@ -147,10 +129,7 @@ pub record IsLeft (incs : List Incremental) (inc : Incremental) (pg : PgId) : Ty
   pub temp : changes_temp inc pg ≡ false
 
 raw-same : RawSetsStay → (incs : List Incremental) (inc : Incremental) (pg : PgId) (made : PoolSpec) → map_fault incs inc ≡ None → IsLeft incs inc pg → pool incs pg.pool ≡ Some made → raw_set (then_with incs inc) made pg ≡ raw_set incs made pg
-raw-same raws incs inc pg made fine left is =
-    let now : pool (then_with incs inc) pg.pool ≡ Some made = pool-same incs inc pg.pool left.pool ∙ is in
-    let before : raw_set_of incs pg ≡ Some (raw_set incs made pg) = ap (option_map (λ m. raw_set incs m pg)) is in
-    same_Some _ _ (ap (option_map (λ m. raw_set (then_with incs inc) m pg)) (sym now) ∙ raws incs inc pg (raw_set incs made pg) fine left.still before)
+raw-same raws incs inc pg made fine left is = grind (arith, nat_tests, pool-same, same_Some)
 
 -- the devices on which the group lies, or may lie by pg_temp, stay as they were
 pub record DevicesStay (incs : List Incremental) (inc : Incremental) (pg : PgId) (made : PoolSpec) : Type 0 where
@@ -167,10 +146,7 @@ ups-stay incs inc pg made stay = grind arith
 
 -- a device that passes the test, while none does that the incremental boots, takes down or destroys
 pub same_up : (test : ℕ → Bool) (incs : List Incremental) (inc : Incremental) (osd : ℕ) → list_any test (turned_devices inc) ≡ false → test osd ≡ true → is_up (then_with incs inc) osd ≡ is_up incs osd
-same_up test incs inc osd none passes =
-    let silent = unturned test inc osd none passes in
-    let moves' : list_any (λ i. boots osd i || takes_down osd i || destroys osd i) (inc ∷ []) ≡ false = rw (silent.0, silent.1, silent.2) refl in
-    ap (λ (last : Option Incremental). option_map_or (boots osd) last false) (last_where-none (λ (i : Incremental). boots osd i || takes_down osd i || destroys osd i) incs (inc ∷ []) moves')
+same_up test incs inc osd none passes = grind (arith, nat_tests, unturned, last_where-none)
 
 pub members-same : RawSetsStay → (incs : List Incremental) (inc : Incremental) (pg : PgId) (made : PoolSpec) → map_fault incs inc ≡ None → IsLeft incs inc pg → pool incs pg.pool ≡ Some made → UpsStay incs inc pg made
     → pool_membership (then_with incs inc) pg made ≡ pool_membership incs pg made

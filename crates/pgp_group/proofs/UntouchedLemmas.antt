@@ -1,5 +1,5 @@
 -- An entry that doesn't touch a group leaves its view as it was, except for count and epoch.
-use Rattle.pgp_group.proofs.Common.{◌≡◌, ℕ, List, [], ◌∷◌, ◌++◌, Option, Some, None, true, false, ◌||◌, length, map, refl, ap, sym, ◌∙◌, arith, filter, list_any, option_map, or_parts, enough_of, is_by_place, AnyCode, Entry, EpochState, PrimaryFacts, Incremental, PgId, PoolSpec, Info, Report, History, stepped, current_first, past_intervals, are_checked, device, epoch, map_fault, then_with, pool, has_group, is_same_group, membership, pool_membership, inc_of, incs_of, infos_of, reports_of, primary_facts, group_history, group_with, names, has_to_do_with, changed_devices, moves_all, changes_pool, changes_temp, is_touched, told_at, view_of, scratch}
+use Rattle.pgp_group.proofs.Common.{◌≡◌, ℕ, List, [], ◌∷◌, ◌++◌, Option, Some, None, true, false, length, map, refl, ap, sym, ◌∙◌, arith, filter, list_any, option_map, or_parts, enough_of, is_by_place, AnyCode, Entry, EpochState, PrimaryFacts, Incremental, PgId, PoolSpec, Info, Report, History, stepped, current_first, past_intervals, are_checked, device, epoch, then_with, pool, has_group, is_same_group, membership, pool_membership, inc_of, incs_of, infos_of, reports_of, primary_facts, group_history, group_with, names, has_to_do_with, changed_devices, is_touched, told_at, view_of, scratch, nat_tests}
 use Rattle.pgp_ids.specs.declared.entry.Entry.TheVariants as entry
 use Rattle.pgp_group.proofs.GroupLemmas.{infos-other, infos-same, reports-other, reports-same}
 use Rattle.pgp_group.proofs.GrowthLemmas.{Shortens, EndsWell, checked-numbered, history-grows}
@@ -48,42 +48,22 @@ pub record IsApart (log : List Entry) (inc : Incremental) (pg : PgId) : Type 0 w
   pub devices : list_any (has_to_do_with log pg) (changed_devices inc) ≡ false
 
 pub apart : (log : List Entry) (inc : Incremental) (pg : PgId) → is_touched log (entry.Inc inc) pg ≡ false → IsApart log inc pg
-apart log inc pg untouched =
-    let a = or_parts (moves_all inc || changes_pool inc pg.pool || changes_temp inc pg) (list_any (has_to_do_with log pg) (changed_devices inc)) untouched in
-    let b = or_parts (moves_all inc || changes_pool inc pg.pool) (changes_temp inc pg) a.0 in
-    let c = or_parts (moves_all inc) (changes_pool inc pg.pool) b.0 in
-    record { left = record { still = unplaced (incs_of log) inc pg c.0 c.1; pool = c.1; temp = b.1 }; devices = a.1 }
+apart log inc pg untouched = grind (arith, nat_tests, or_parts, unplaced)
 
 -- the devices on which the group lies, or may lie by pg_temp, stay as they were
 pub devices-stay : (log : List Entry) (inc : Incremental) (pg : PgId) (made : PoolSpec) → IsApart log inc pg → pool (incs_of log) pg.pool ≡ Some made → DevicesStay (incs_of log) inc pg made
-devices-stay log inc pg made is there = record {
-  placed = λ osd stands.
-      let near : has_to_do_with log pg osd ≡ true = grind arith in
-      same_device (has_to_do_with log pg) (incs_of log) inc osd is.devices near;
-  given = λ osd stands.
-      let near : has_to_do_with log pg osd ≡ true = grind arith in
-      same_device (has_to_do_with log pg) (incs_of log) inc osd is.devices near;
-}
+devices-stay log inc pg made is there = grind (arith, nat_tests, same_device)
 
 -- devices of which the group speaks
 named-stay : (log : List Entry) (inc : Incremental) (pg : PgId) (h : History AnyCode) (osd : ℕ) → IsApart log inc pg → group_history (incs_of log) pg ≡ Some h → names osd (group_with log pg h) ≡ true → device (then_with (incs_of log) inc) osd ≡ device (incs_of log) osd
-named-stay log inc pg h osd is there named =
-    let near : has_to_do_with log pg osd ≡ true = grind arith in
-    same_device (has_to_do_with log pg) (incs_of log) inc osd is.devices near
+named-stay log inc pg h osd is there named = grind (arith, nat_tests, same_device)
 
 -- the current interval goes on
 history-goes_on : Shortens → EndsWell → RawSetsStay → (log : List Entry) (inc : Incremental) (pg : PgId) (h : History AnyCode) (made : PoolSpec) → are_checked (then_with (incs_of log) inc) ≡ true → IsApart log inc pg
     → group_history (incs_of log) pg ≡ Some h → pool (incs_of log) pg.pool ≡ Some made
     → group_history (then_with (incs_of log) inc) pg ≡ Some (stepped h h.current (primary_facts (incs_of log) h.current.acting_primary))
 history-goes_on shorten fine raws log inc pg h made checked is there found =
-    let incs : List Incremental = incs_of log in
-    let facts : PrimaryFacts = primary_facts incs h.current.acting_primary in
-    let unrefused : map_fault incs inc ≡ None = fine incs inc checked in
-    let stays : membership (then_with incs inc) pg ≡ membership incs pg =
-    ap (option_map (pool_membership (then_with incs inc) pg)) (pool-same incs inc pg.pool is.left.pool ∙ found)
-    ∙ ap Some (members-same raws incs inc pg made unrefused is.left found (ups-stay incs inc pg made (devices-stay log inc pg made is found)))
-    ∙ ap (option_map (pool_membership incs pg)) (sym found) in
-    grind (arith, history-grows incs inc pg h (checked-numbered shorten fine incs (shorten incs (inc ∷ []) checked)) unrefused there, history-current incs pg h there)
+    grind (arith, nat_tests, pool-same, members-same, ups-stay, devices-stay, history-grows, checked-numbered, history-current)
 
 view-stays : Shortens → EndsWell → RawSetsStay → GoesOn → (log : List Entry) (inc : Incremental) (pg : PgId) (h : History AnyCode) → are_checked (then_with (incs_of log) inc) ≡ true → IsApart log inc pg
     → group_history (incs_of log) pg ≡ Some h → Stays log (entry.Inc inc) pg
@@ -92,8 +72,7 @@ view-stays shorten fine raws on log inc pg h checked is there =
     let facts : PrimaryFacts = primary_facts (incs_of log) h.current.acting_primary in
     let lived : List EpochState = (stepped h h.current facts).lived in
     let grown : incs_of (log ++ entry.Inc inc ∷ []) ≡ then_with (incs_of log) inc = one_new inc_of log (entry.Inc inc) inc refl in
-    let after : group_history (incs_of (log ++ entry.Inc inc ∷ [])) pg ≡ Some (stepped h h.current facts) =
-    ap (λ (l : List Incremental). group_history l pg) grown ∙ history-goes_on shorten fine raws log inc pg h made.0 checked is there made.1.0 in
+    let after : group_history (incs_of (log ++ entry.Inc inc ∷ [])) pg ≡ Some (stepped h h.current facts) = grind (arith, nat_tests, history-goes_on) in
     let leads : (osd : ℕ) → h.current.acting_primary ≡ Some osd → device (incs_of (log ++ entry.Inc inc ∷ [])) osd ≡ device (incs_of log) osd = λ osd first.
     let first' : (pool_membership (incs_of log) pg made.0).acting_primary ≡ Some osd = ap (λ (t : History AnyCode). t.current.acting_primary) made.1.1 ∙ first in
     ap (λ (l : List Incremental). device l osd) grown ∙ leader-same (incs_of log) inc pg made.0 osd (devices-stay log inc pg made.0 is made.1.0) first' in
@@ -110,16 +89,10 @@ view-stays shorten fine raws on log inc pg h checked is there =
 
 -- a group that isn't there doesn't come
 none-stays : (log : List Entry) (inc : Incremental) (pg : PgId) → IsApart log inc pg → group_history (incs_of log) pg ≡ None → Stays log (entry.Inc inc) pg
-none-stays log inc pg is none =
-    let grown : incs_of (log ++ entry.Inc inc ∷ []) ≡ then_with (incs_of log) inc = one_new inc_of log (entry.Inc inc) inc refl in
-    grind (arith, pool-same (incs_of log) inc pg.pool is.left.pool, history_there (then_with (incs_of log) inc) pg, history_there (incs_of log) pg)
+none-stays log inc pg is none = grind (arith, nat_tests, one_new, pool-same, history_there)
 
 inc-stays : Shortens → EndsWell → RawSetsStay → GoesOn → (log : List Entry) (inc : Incremental) (pg : PgId) → are_checked (then_with (incs_of log) inc) ≡ true → is_touched log (entry.Inc inc) pg ≡ false → Stays log (entry.Inc inc) pg
-inc-stays shorten fine raws on log inc pg checked untouched = by_history (group_history (incs_of log) pg) refl
-  where
-    by_history : (found : Option (History AnyCode)) → group_history (incs_of log) pg ≡ found → Stays log (entry.Inc inc) pg
-    by_history None none = none-stays log inc pg (apart log inc pg untouched) none
-    by_history (Some h) there = view-stays shorten fine raws on log inc pg h checked (apart log inc pg untouched) there
+inc-stays shorten fine raws on log inc pg checked untouched = grind (arith, nat_tests, none-stays, apart, view-stays)
 
 -- ---- any entry
 

@@ -16,7 +16,7 @@ pub mod DeviceFacts
 pub mod KeptPrior
 pub mod GroupOf
 pub mod Reaching
-pub mod Found
+pub mod Parts
 pub mod Later
 pub mod Touched
 pub mod KeptNames

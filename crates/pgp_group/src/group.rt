@@ -2,64 +2,49 @@
 
 ghost use Rattle.std.specs.Prelude.{◌≡◌, ◌≤◌, ◌++◌, ℕ, [], ◌∷◌, List, Some, None, true, false, length, option_map, IfOk, OnOk, OnErr};
 ghost use Rattle.pgp_code.specs.AnyCode.{enough_of, is_by_place};
-ghost use Rattle.pgp_code.specs.Pool.{code_of};
 ghost use Rattle.pgp_code.specs.declared.any.AnyCode.{AnyCode as Code};
-ghost use Rattle.pgp_ids.specs.Member.{is_before};
-ghost use Rattle.pgp_interval.specs.History.{History, begun};
+ghost use Rattle.pgp_interval.specs.History.{History};
 ghost use Rattle.pgp_interval.specs.IntervalsOf.{IsIntervalsOf};
 ghost use Rattle.pgp_interval.specs.Runs.{current_first};
-ghost use Rattle.pgp_lists.specs.Ordered.{ascending};
-ghost use Rattle.pgp_prior.specs.Members.{members_of};
-ghost use Rattle.pgp_sets.specs.Sets.{membership};
 ghost use Rattle.pgp_ids.specs.declared.entry.Entry.{Entry as Told};
 ghost use Rattle.pgp_ids.specs.declared.entry.Entry.TheVariants as entry;
 ghost use Rattle.pgp_ids.specs.declared.incremental.Incremental.{Incremental};
-ghost use Rattle.pgp_ids.specs.declared.log_entry.LogEntry.{LogEntry};
 ghost use Rattle.pgp_ids.specs.declared.pg_id.PgId.{PgId as Id};
-ghost use Rattle.pgp_ids.specs.declared.report.Info.{Info as Sent};
 ghost use Rattle.pgp_map.specs.Held.{HasGroup};
 ghost use Rattle.pgp_map.specs.Map.{epoch as epoch_of};
 ghost use Rattle.pgp_map.specs.MapFault.{map_fault, then_with};
 ghost use Rattle.pgp_map.specs.MapOf.{IsMapOf};
-ghost use Rattle.pgp_map.specs.Pools.{pool, has_group, is_same_group};
-ghost use Rattle.pgp_missing.specs.Kept.{IsLogOf};
-ghost use Rattle.pgp_missing.specs.Log.{is_whole};
+ghost use Rattle.pgp_map.specs.Pools.{has_group, is_same_group};
 ghost use Rattle.pgp_group.specs.Entries.{inc_of, incs_of};
 ghost use Rattle.pgp_group.specs.GroupHistory.{AreNumbered, made_at};
 ghost use Rattle.pgp_group.specs.Causes.{AreCauses};
-ghost use Rattle.pgp_group.specs.Found.{AreHeard, AreLogsHeard, IsFound, AreNeeds};
 ghost use Rattle.pgp_group.specs.GroupLog.{GroupLog, cleans, incs};
 ghost use Rattle.pgp_group.specs.GroupOf.{Keeps, IsGroupOf, IsSilent, Follows, TellsNothingAhead};
-ghost use Rattle.pgp_group.specs.Heard.{les, reported};
+ghost use Rattle.pgp_group.specs.Heard.{les};
 ghost use Rattle.pgp_group.specs.KeptPrior.{IsReckoned, KeepsPrior};
-ghost use Rattle.pgp_group.specs.Peering.{best as best_of, peer_states};
+ghost use Rattle.pgp_group.specs.Parts.{AreHeard, AreLogsHeard, IsBestCopy, AreNeeds};
 ghost use Rattle.pgp_group.specs.Present.{IsPresent};
 ghost use Rattle.pgp_group.specs.Verdict.{verdict as verdict_of};
 ghost use Rattle.pgp_group.specs.View.{view_of, scratch};
 
+mod best_copy;
 mod names;
 mod next;
 
 use super::causes::Causes;
 use super::counted::primary_facts;
-use super::found::{Found, Needs};
 use super::heard::{is_waiting, leader};
 use super::infos::Infos;
 use super::kept_prior::KeptPrior;
 use super::named_devices::NamedDevices;
-use super::peers::states;
+use super::parts::{BestCopy, Needs};
 use super::reports::Reports;
 use super::standing::{is_short, needs_up_thru};
 use pgp_code::{AnyCode, Recoverable};
-use pgp_ids::{
-    Entry, Epoch, Info, Member, Membership, PeerMissing, PgId, PoolKind, Report, Seq, Verdict, View,
-};
+use pgp_ids::{Entry, Epoch, Info, Membership, PgId, Report, Seq, Verdict, View};
 use pgp_info::{Best, Preference};
 use pgp_interval::Intervals;
-use pgp_lists::insert_in_order;
 use pgp_map::OsdMap;
-use pgp_missing::MemberLog;
-use pgp_prior::members_of;
 use pgp_sets::up_acting;
 use std::alloc::{AllocError, Global};
 
@@ -103,7 +88,7 @@ impl Group {
             → has_group (incs_of log) pg ≡ true → made_at (incs_of log) pg.pool ≡ epoch_of (incs_of log)
             → IsSilent log pg → IsGroupOf log pg result }
     {
-        // Not `pg` itself, which the toolchain takes for moved.
+        // By a reference: the toolchain takes `pg` itself for moved by the first call, although it is copied.
         let id = &pg;
         let members = up_acting(map, *id);
         Group::begin_members(alloc, map, pg, members)
@@ -153,9 +138,9 @@ impl Group {
         Ok(())
     }
 
-    /// Takes an epoch in which the group was clean: it marks the interval of that epoch, current or past, as one in which the
-    /// group may have gone read-write. A past one of which the prior set isn't reckoned yet will have its mark when it is. It
-    /// takes no memory. An epoch that is still to come, which no log takes, is left out.
+    /// Marks the interval of this epoch, current or past, as one in which the group may have gone read-write: the group was
+    /// clean then. Where the interval is past, the prior set takes the mark too, or will take the interval with its mark. It
+    /// takes no memory. An epoch that is still to come, which no log has, marks nothing.
     fn take_clean(&mut self, epoch: Epoch)
         ensures intervals { (h : History Code) (told : List ℕ) → epoch ≤ self.old.intervals.last
             → IsIntervalsOf enough_of is_by_place h told self.old.intervals
@@ -202,7 +187,7 @@ impl Group {
     {
         let (first, current) = self.intervals.current();
         self.hear_more(map, first, &current)?;
-        self.reckoned.look(map, &self.intervals, self.infos.les())?;
+        self.reckoned.look(map, &self.intervals, self.infos.les)?;
         self.view_of_heard(map, count, first, current)
     }
 
@@ -224,7 +209,7 @@ impl Group {
         let prefer = Preference::of_pool(by_place, leader(by_place, &current.acting));
         self.infos.look(self.alloc, map, first, prefer)?;
         self.reports.look(self.alloc, map, first)?;
-        if let Some(best) = self.infos.heard().best() {
+        if let Some(best) = self.infos.heard.best() {
             self.reports.logs.renew(best);
         }
         Ok(())
@@ -243,77 +228,19 @@ impl Group {
             → AreLogsHeard g self.now.reports.logs.of_members.items → IsReckoned g self.now.reckoned.index
             → length g.log ≡ count → view_of g ≡ view) }
     {
-        let heard = self.infos.heard();
-        let found = self.found(&current, heard)?;
+        let heard = &self.infos.heard;
+        let copy = self.best_copy(&current, heard)?;
         let needs = self.needs(heard)?;
-        let causes = self.causes(map, first, &current, &found, &needs);
-        Ok(seen(
+        let causes = self.causes(map, first, &current, &copy, &needs);
+        Ok(view_of_parts(
             count,
             map.epoch(),
             first,
             current,
-            found,
+            copy,
             needs,
             causes.verdict(),
         ))
-    }
-
-    /// The best copy of those that were heard, and the states of the others.
-    fn found(&self, current: &Membership, heard: &Best<Preference>) -> Result<Found, AllocError>
-        ensures { IfOk result (λ found. (g : GroupLog) → Keeps g self.now → current.now ≡ g.history.current
-            → AreHeard g heard.now → AreLogsHeard g self.now.reports.logs.of_members.items → IsFound g found) }
-    {
-        let Some(best) = heard.best() else {
-            return Ok(no_log_to_follow(self.alloc, None));
-        };
-        match self.reports.logs.log_of(best.member) {
-            Some(log) => self.found_by(current, log, best, heard),
-            None => {
-                let empty = MemberLog::begin(self.alloc, best);
-                self.found_by(current, &empty, best, heard)
-            }
-        }
-    }
-
-    /// The best copy is that of the member with this info and this log; where the log is whole, the states of the others.
-    fn found_by(
-        &self,
-        current: &Membership,
-        log: &MemberLog,
-        best: &Info,
-        heard: &Best<Preference>,
-    ) -> Result<Found, AllocError>
-        ensures { IfOk result (λ found. (g : GroupLog) → Keeps g self.now → current.now ≡ g.history.current
-            → AreHeard g heard.now → best_of g ≡ Some best.now
-            → IsLogOf best.now (reported g best.now.member) log.now → IsFound g found) }
-    {
-        if !log.whole() {
-            return Ok(no_log_to_follow(self.alloc, Some(best.member)));
-        }
-        Ok(Found {
-            best: Some(best.member),
-            whole: true,
-            states: self.states(current, log, best.member, heard)?,
-        })
-    }
-
-    /// The states of the members of up and acting that were heard, except for the best one, by its log, which is whole.
-    fn states(
-        &self,
-        current: &Membership,
-        log: &MemberLog,
-        best: Member,
-        heard: &Best<Preference>,
-    ) -> Result<Seq<PeerMissing>, AllocError>
-        requires { (info : Sent) (told : List LogEntry) → IsLogOf info told log.now → is_whole info told ≡ true }
-        ensures { IfOk result (λ states. (g : GroupLog) (info : Sent) → Keeps g self.now → current.now ≡ g.history.current
-            → AreHeard g heard.now → best_of g ≡ Some info → info.member ≡ best
-            → IsLogOf info (reported g info.member) log.now → states ≡ peer_states g) }
-    {
-        let by_place = self.intervals.code().by_place();
-        let members = present_members(self.alloc, by_place, current)?;
-        let states = states(self.alloc, log, best, members.as_slice(), heard)?;
-        Ok(Seq::from_vec(states))
     }
 
     /// Whom the group has to hear, and whether it was.
@@ -321,7 +248,7 @@ impl Group {
         ensures { IfOk result (λ needs. (g : GroupLog) → Keeps g self.now → IsReckoned g self.now.reckoned.index
             → AreHeard g heard.now → AreNeeds g needs) }
     {
-        let les = self.infos.les();
+        let les = self.infos.les;
         let intervals = self.intervals.past(self.alloc)?;
         let prior = self.reckoned.index.prior()?;
         let waiting = is_waiting(prior.probe.as_slice(), heard);
@@ -339,82 +266,36 @@ impl Group {
         map: &OsdMap,
         first: Epoch,
         current: &Membership,
-        found: &Found,
+        copy: &BestCopy,
         needs: &Needs,
     ) -> Causes
         ensures { (g : GroupLog) → Keeps g self.now → IsPresent g map.now first → current.now ≡ g.history.current
-            → IsFound g found.now → AreNeeds g needs.now → AreCauses g result }
+            → IsBestCopy g copy.now → AreNeeds g needs.now → AreCauses g result }
     {
         Causes {
             no_primary: current.acting_primary.is_none(),
             down: needs.prior.down,
             waiting: needs.waiting,
-            incomplete: found.best.is_none(),
+            incomplete: copy.member.is_none(),
             short: is_short(self.intervals.code(), current),
-            need_log: !found.whole,
+            need_log: !copy.whole,
             need_up_thru: needs_up_thru(map, first, current.acting_primary),
         }
     }
 }
 
-/// The intervals of a group of a pool of this kind at its first epoch.
-fn opening(alloc: Global, kind: PoolKind, first: Epoch, members: Membership) -> Intervals<AnyCode>
-    ensures { IsIntervalsOf enough_of is_by_place (begun (code_of kind) first members) [] result }
-{
-    Intervals::begin(alloc, AnyCode::of_pool(kind), first, members)
-}
-
-/// The kind of the group's pool.
-fn kind_of(map: &OsdMap, pg: &PgId) -> PoolKind
-    requires { HasGroup map.now pg.now }
-    ensures { (incs : List Incremental) → IsMapOf incs map.now
-        → option_map (λ made. made.kind) (pool incs pg.now.pool) ≡ Some result }
-{
-    map.pool(pg.pool).unwrap().kind
-}
-
-/// There is no best copy, or it is that of this member, whose log isn't whole.
-fn no_log_to_follow(alloc: Global, best: Option<Member>) -> Found
-    ensures best { result.best ≡ best }
-    ensures whole { result.whole ≡ false }
-    ensures states { result.states ≡ [] }
-{
-    Found {
-        best,
-        whole: false,
-        states: Seq::new(alloc),
-    }
-}
-
-/// The members of up and acting, in ascending order, each once.
-fn present_members(
-    alloc: Global,
-    by_place: bool,
-    current: &Membership,
-) -> Result<Vec<Member>, AllocError>
-    ensures { IfOk result (λ members. members.items ≡ ascending is_before
-        (members_of by_place current.now.up ++ members_of by_place current.now.acting)) }
-{
-    let mut members = Vec::new(alloc);
-    let up = members_of(by_place, &current.up);
-    for member in up.chain(members_of(by_place, &current.acting)) {
-        insert_in_order(&mut members, member)?;
-    }
-    Ok(members)
-}
-
 /// The view that is made of these parts.
-fn seen(
+fn view_of_parts(
     count: usize,
     epoch: Epoch,
     first: Epoch,
     current: Membership,
-    found: Found,
+    copy: BestCopy,
     needs: Needs,
     verdict: Verdict,
 ) -> View
     ensures { (g : GroupLog) → length g.log ≡ count → epoch_of (incs g) ≡ epoch → current_first g.history ≡ first
-        → g.history.current ≡ current → IsFound g found → AreNeeds g needs → verdict_of g ≡ verdict → view_of g ≡ result }
+        → g.history.current ≡ current → IsBestCopy g copy → AreNeeds g needs → verdict_of g ≡ verdict → view_of g ≡ result }
 {
     View {
         count,
@@ -429,7 +310,7 @@ fn seen(
         probe: needs.prior.probe,
         blocked_by: needs.prior.blocked_by,
         verdict,
-        best: found.best,
-        missing: found.states,
+        best: copy.member,
+        missing: copy.states,
     }
 }

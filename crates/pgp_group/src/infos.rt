@@ -24,9 +24,9 @@ pub(crate) struct Infos {
     /// All infos, counted or not, in the order in which they came.
     all: Vec<Info>,
     /// The last epoch in which the group is known to have begun to serve, by all infos.
-    les: Epoch,
+    pub(crate) les: Epoch,
     /// Of the infos that were looked at, the last of each member that counted then, and the best of these.
-    heard: Best<Preference>,
+    pub(crate) heard: Best<Preference>,
     /// How many were looked at.
     seen: usize,
     /// Whether an info came before the epoch in which it says that it was sent. Such an info may begin to count later, so
@@ -60,20 +60,6 @@ impl Infos {
         Ok(())
     }
 
-    /// The last epoch in which the group is known to have begun to serve.
-    pub(crate) fn les(&self) -> Epoch
-        ensures { result ≡ self.now.les }
-    {
-        self.les
-    }
-
-    /// Whom the group has heard, as of the last look.
-    pub(crate) fn heard(&self) -> &Best<Preference>
-        ensures { result.now ≡ self.now.heard }
-    {
-        &self.heard
-    }
-
     /// Looks at the infos that came since the last look, and again at those that are kept, by the last map and the first
     /// epoch of the current interval. After an error the infos are as before, or all will be looked at again.
     pub(crate) fn look(
@@ -96,7 +82,7 @@ impl Infos {
         let unseen = unseen(self.all.as_slice(), self.seen);
         match hear(&mut self.heard, map, first, unseen) {
             Ok(()) => {
-                self.seen = self.count();
+                self.seen = self.all.len();
                 Ok(())
             }
             Err(fault) => {
@@ -111,7 +97,7 @@ impl Infos {
         ensures settled { result ≡ true → self.now.ahead ≡ false }
         ensures same { result ≡ true → prefer.now ≡ self.now.heard.prefer }
     {
-        !self.ahead && is_same(prefer, self.heard.prefer())
+        !self.ahead && prefer == self.heard.prefer()
     }
 
     /// Finds the best of those who are heard anew, by another preference.
@@ -128,7 +114,7 @@ impl Infos {
     {
         let heard = self.heard_by(alloc, map, first, prefer)?;
         self.heard = heard;
-        self.seen = self.count();
+        self.seen = self.all.len();
         Ok(())
     }
 
@@ -163,17 +149,10 @@ impl Infos {
         self.heard = nobody;
         self.seen = 0;
     }
-
-    /// How many infos there are.
-    fn count(&self) -> usize
-        ensures { result ≡ length self.now.all.items }
-    {
-        self.all.len()
-    }
 }
 
-/// The infos after those that were looked at.
-fn unseen(all: &[Info], seen: usize) -> &[Info]
+/// The infos or reports after those that were looked at.
+pub(crate) fn unseen<T>(all: &[T], seen: usize) -> &[T]
     ensures { seen ≤ length all.now → result.now ≡ drop seen all.now }
 {
     if seen <= all.len() {
@@ -182,13 +161,6 @@ fn unseen(all: &[Info], seen: usize) -> &[Info]
     } else {
         all
     }
-}
-
-/// Whether both prefer the same copies.
-fn is_same(a: &Preference, b: &Preference) -> bool
-    ensures { result ≡ true → a.now ≡ b.now }
-{
-    a == b
 }
 
 /// The later one of two epochs.

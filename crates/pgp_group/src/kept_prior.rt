@@ -1,6 +1,6 @@
 //! The prior set of a group, in running form.
 
-ghost use Rattle.std.specs.Prelude.{◌≡◌, ◌+◌, ◌≤◌, ℕ, Some, length, slice_get, OnOk, OnErr};
+ghost use Rattle.std.specs.Prelude.{◌≡◌, ◌+◌, Some, length, slice_get, OnOk, OnErr};
 ghost use Rattle.pgp_code.specs.AnyCode.{enough_of, is_by_place};
 ghost use Rattle.pgp_interval.specs.IntervalsOf.{IsIntervalsOf};
 ghost use Rattle.pgp_map.specs.MapOf.{IsMapOf};
@@ -23,6 +23,7 @@ use std::alloc::{AllocError, Global};
 /// about the past intervals that came since, and about those that have a device of which the map says something else.
 #[derive(Drop)]
 pub(crate) struct KeptPrior {
+    /// The prior set of the last look, with what it takes to follow the statuses of devices.
     pub(crate) index: PriorIndex<AnyCode>,
     /// What the map of the last look said of each device of the intervals that the index has.
     noted: Vec<DeviceFacts>,

@@ -41,12 +41,14 @@ ghost use Rattle.pgp_group.specs.View.{scratch};
 ghost use Rattle.pgp_group.specs.Examples.{in_slot, at, on_three, shards_on, known_up, give_up, was, maps, two_shards_down, copy, copy_up_to, shard, shard_up_to, infos_sent, modify, delete, entries_of, entries_of_first, lacks, peer, three_writes, with_entries, before_serving, until_serving};
 
 /// The verdict is the first whose cause holds, and the only one that is.
+#[tactic(auto, using(crate::proofs::PartLemmas::verdict_laws))]
 pub fn verdict_is_the_first_that_holds()
     ensures first { (g : GroupLog) → IsFirstCause g (verdict g) }
     ensures only { (g : GroupLog) (other : Verdict) → IsFirstCause g other → verdict g ≡ other }
 {}
 
 /// The members that were heard are distinct, and the info of each is its last one that counts.
+#[tactic(auto, using(crate::proofs::HeardLemmas::heard_laws))]
 pub fn each_heard_info_is_the_last_of_its_member()
     ensures distinct { (g : GroupLog) → HasDistinctMembers (heard g) }
     ensures last { (g : GroupLog) (info : Info)
@@ -62,6 +64,7 @@ pub fn best_info_of_a_group()
 
 /// The history of a group has a state for each epoch from the one that made its pool to the one before the last, that of
 /// the map of the epoch, and ends with the membership of the last map.
+#[tactic(auto, using(crate::proofs::HistoryLemmas::history_laws))]
 pub fn history_has_each_epoch()
     ensures length { (incs : List Incremental) (pg : PgId) (h : History AnyCode)
         → group_history incs pg ≡ Some h → length h.lived ≡ epoch incs - h.first }
@@ -81,6 +84,7 @@ pub fn each_other_heard_member_is_a_peer()
 {}
 
 /// A log has a view of a group exactly where its last map has the group.
+#[tactic(auto, using(crate::proofs::ViewLemmas::scratch_there))]
 pub fn view_is_there_where_the_group_is()
     ensures { (log : List Entry) (pg : PgId) → is_some (scratch log pg) ≡ has_group (incs_of log) pg }
 {}

@@ -1,13 +1,13 @@
 //! The reports of log entries of a group, and the logs of its members by them.
 
-ghost use Rattle.std.specs.Prelude.{◌≡◌, ◌≤◌, [], length, drop, OnOk, OnErr};
+ghost use Rattle.std.specs.Prelude.{◌≡◌, [], OnOk, OnErr};
 ghost use Rattle.pgp_map.specs.Map.{epoch as epoch_of};
 ghost use Rattle.pgp_group.specs.GroupLog.{GroupLog, incs, reports};
 ghost use Rattle.pgp_group.specs.KeptReports.{KeepsReports, IsReportedBy, AreCounted, AreLogsOf};
 ghost use Rattle.pgp_group.specs.Present.{IsPresent};
 
 use super::copies::copy_of;
-use super::infos::is_ahead;
+use super::infos::{is_ahead, unseen};
 use super::logs::Logs;
 use pgp_ids::{Epoch, Report};
 use pgp_map::OsdMap;
@@ -90,7 +90,7 @@ impl Reports {
         let unseen = unseen(self.all.as_slice(), self.seen);
         match self.logs.hear(alloc, map, first, unseen) {
             Ok(()) => {
-                self.seen = self.count();
+                self.seen = self.all.len();
                 Ok(())
             }
             Err(fault) => {
@@ -98,13 +98,6 @@ impl Reports {
                 Err(fault)
             }
         }
-    }
-
-    /// How many reports there are.
-    fn count(&self) -> usize
-        ensures { result ≡ length self.now.all.items }
-    {
-        self.all.len()
     }
 
     /// Forgets what was looked at.
@@ -116,17 +109,5 @@ impl Reports {
     {
         self.logs = Logs::new(alloc);
         self.seen = 0;
-    }
-}
-
-/// The reports after those that were looked at.
-fn unseen(all: &[Report], seen: usize) -> &[Report]
-    ensures { seen ≤ length all.now → result.now ≡ drop seen all.now }
-{
-    if seen <= all.len() {
-        let (_, unseen) = all.split_at(seen);
-        unseen
-    } else {
-        all
     }
 }

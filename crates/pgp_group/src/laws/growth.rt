@@ -22,25 +22,20 @@ ghost use Rattle.pgp_group.specs.GroupOf.{IsGroupOf, Follows};
 ghost use Rattle.pgp_group.specs.Heard.{les};
 ghost use Rattle.pgp_group.specs.declared.group.Group.{Group};
 
-use pgp_code::AnyCode;
-use pgp_interval::laws::{
-    a_step_continues_or_ends_the_current_interval, current_interval_reaches_the_last_epoch,
-    same_memberships_are_equal,
-};
 use pgp_map::laws::{checked_lists_grow_by_incrementals_without_fault, pools_of_checked_lists};
 
 /// The epochs of incrementals that were checked one by one are 1, 2, and so on: the last is the number of incrementals, and
 /// the map of that epoch is what they all make.
+#[tactic(auto, using(crate::proofs::GrowthLemmas::numbered_laws))]
 pub fn checked_incrementals_are_numbered()
     ensures counts { (incs : List Incremental) → are_checked incs ≡ true → AreNumbered incs }
     ensures last { (incs : List Incremental) → are_checked incs ≡ true → epoch incs ≡ length incs }
     ensures all { (incs : List Incremental) → are_checked incs ≡ true → up_to (epoch incs) incs ≡ incs }
-{
-    checked_lists_grow_by_incrementals_without_fault();
-}
+{}
 
 /// A history grows by one state for each incremental: the membership of the new map follows, and what the map before said of
 /// the primary that was acting completes the epoch that was current. A group that is there stays.
+#[tactic(auto, using(crate::proofs::GrowthLemmas::growth_laws))]
 pub fn history_grows_by_one_state()
     ensures grows { (incs : List Incremental) (inc : Incremental) (pg : PgId) (h : History AnyCode)
         → are_checked (then_with incs inc) ≡ true → group_history incs pg ≡ Some h
@@ -49,12 +44,11 @@ pub fn history_grows_by_one_state()
     ensures stays { (incs : List Incremental) (inc : Incremental) (pg : PgId) (h : History AnyCode)
         → are_checked (then_with incs inc) ≡ true → group_history incs pg ≡ Some h
         → has_group (then_with incs inc) pg ≡ true }
-{
-    checked_lists_grow_by_incrementals_without_fault();
-}
+{}
 
 /// With one more incremental the current interval goes on where the membership stays, and opens with the new epoch where it
 /// doesn't, so that its first epoch never falls.
+#[tactic(auto, using(crate::proofs::FirstLemmas::first_laws))]
 pub fn the_current_interval_never_opens_earlier()
     ensures goes_on { (incs : List Incremental) (inc : Incremental) (pg : PgId) (h after : History AnyCode)
         → are_checked (then_with incs inc) ≡ true → group_history incs pg ≡ Some h → group_history (then_with incs inc) pg ≡ Some after
@@ -65,14 +59,10 @@ pub fn the_current_interval_never_opens_earlier()
     ensures never_falls { (incs later : List Incremental) (pg : PgId) (h after : History AnyCode)
         → are_checked (incs ++ later) ≡ true → group_history incs pg ≡ Some h → group_history (incs ++ later) pg ≡ Some after
         → current_first h ≤ current_first after }
-{
-    checked_lists_grow_by_incrementals_without_fault();
-    same_memberships_are_equal();
-    current_interval_reaches_the_last_epoch::<AnyCode>();
-    a_step_continues_or_ends_the_current_interval::<AnyCode>();
-}
+{}
 
 /// A history begins with the epoch that makes the pool, which has no other.
+#[tactic(auto, using(crate::proofs::GrowthLemmas::begin_laws))]
 pub fn history_begins_with_its_pool()
     ensures made { (incs : List Incremental) (inc : Incremental) (id : ℕ) → makes id inc ≡ true
         → made_at (then_with incs inc) id ≡ inc.epoch }
@@ -93,6 +83,7 @@ pub fn the_next_map_follows()
 }
 
 /// The last epoch in which a group is known to have begun to serve never falls.
+#[tactic(auto, using(crate::proofs::LaterLemmas::later_laws))]
 pub fn serving_is_never_forgotten()
     ensures { (log later : List Entry) (pg : PgId) (g after : GroupLog) → group_in log pg ≡ Some g
         → group_in (log ++ later) pg ≡ Some after → les g ≤ les after }

@@ -23,6 +23,7 @@ ghost use Rattle.pgp_group.specs.Verdict.{verdict};
 /// Where a group served, the interval that was current then is current still, or it is past and may have gone read-write, so
 /// that nobody forgets that writes may have been taken in it. A group that is there stays. It rests on two refusals of maps: up_thru never falls, and a
 /// device that is up doesn't boot.
+#[tactic(auto, using(crate::proofs::ServedLemmas::served_laws))]
 pub fn served()
     ensures remembered { (g after : GroupLog) (later : List Entry) → IsAfter g later after → verdict g ≡ Serve
         → IsRemembered g after }
@@ -35,6 +36,7 @@ pub fn served()
 /// Whoever serves later has reckoned with that interval, unless the group is known to have begun to serve since: enough of its
 /// acting members were heard or given up for lost, or none of them is down. So each group that serves again has accounted for
 /// the interval in which it served, or is in it still.
+#[tactic(auto, using(crate::proofs::ServedLemmas::reckoned_laws))]
 pub fn reckoned()
     ensures interval { (g after : GroupLog) (later : List Entry) (interval : Past) → IsAfter g later after → verdict g ≡ Serve
         → Contains (past after) interval → interval.first ≡ current_first g.history
@@ -45,6 +47,7 @@ pub fn reckoned()
 
 /// A group that isn't down doesn't become so by an incremental that takes no device down, destroys none, and gives none up for
 /// lost at an earlier epoch than before, whatever interval it closes; nor by a report that raises no flag.
+#[tactic(auto, using(crate::proofs::ReliefLemmas::relief_laws))]
 pub fn relief()
     ensures map { (g after : GroupLog) (inc : Incremental) → IsAfter g (entry.Inc inc ∷ []) after
         → TakesNothingAway (incs g) inc → (prior g).down ≡ false → (prior after).down ≡ false }

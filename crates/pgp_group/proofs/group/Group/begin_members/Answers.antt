@@ -1,4 +1,4 @@
-use Rattle.pgp_group.proofs.Common.{ℕ, [], refl, subst, sym, ◌∙◌, enough_of, is_by_place, code_of, begun, IsIntervalsOf, incs_of}
+use Rattle.pgp_group.proofs.Common.{refl, sym, ◌∙◌, incs_of}
 use Rattle.pgp_group.proofs.GroupLemmas.{IsGroupOf-begun}
 use Rattle.pgp_group.proofs.group.Group.begin_members.Goals as goal
 
@@ -8,5 +8,5 @@ returns c = λ log counts is there now silent lies.
     let members = c.args.members in
     IsGroupOf-begun log c.args.pg kind members _ counts there now silent
     (c.kind_of-kind.ensures (incs_of log) is) lies refl c.new.ensures c.new-2.ensures
-    (subst (λ (e : ℕ). IsIntervalsOf enough_of is_by_place (begun (code_of kind) e members) [] c.opening-intervals.result) (c.epoch.ensures (incs_of log) is) c.opening-intervals.ensures) c.new-3.ensures
-    (λ g code_is. c.begin-reckoned.ensures g (c.code.ensures ∙ c.opening-intervals.ensures.code_is ∙ sym code_is))
+    (rw (← c.of_pool.ensures, ← c.epoch.ensures (incs_of log) is) c.begin-intervals.ensures) c.new-3.ensures
+    (λ g code_is. c.begin-reckoned.ensures g (c.code.ensures ∙ c.begin-intervals.ensures.code_is ∙ c.of_pool.ensures ∙ sym code_is))

@@ -1,5 +1,5 @@
 use Rattle.pgp_group.proofs.Common.{◌≡◌, Some, ap, refl, subst, sym, ◌∙◌, option_copied, Info, IsLogOf, GroupLog, reports, Keeps, reported, AreLogsOf, log_of, best, IsPresent, arith}
-use Rattle.pgp_group.proofs.FoundLemmas.{heard-is}
+use Rattle.pgp_group.proofs.PartLemmas.{heard-is}
 use Rattle.pgp_group.proofs.ReportsLemmas.{AreLogsOf-renewed, KeepsReports-renewed}
 use Rattle.pgp_group.proofs.group.Group.hear_more.Goals as goal
 use Rattle.pgp_group.proofs.group.Group.hear_more.Goals.{After-best}
@@ -32,6 +32,16 @@ returns-in-Some-clause-kept c = λ g keeps here. record {
   infos_are = c.look.ensures.kept g here keeps.infos_are;
   reports_are =
       KeepsReports-renewed g c.look-2.new.self _ (c.look-2.ensures.kept g here keeps.reports_are) refl refl refl c.renew.ensures.entries c.renew.ensures.each;
+  named_are = keeps.named_are;
+  prior_is = keeps.prior_is;
+}
+
+pub returns-in_default-clause-kept : goal.returns-in_default-clause-kept
+returns-in_default-clause-kept c = λ g keeps here. record {
+  pg_is = keeps.pg_is;
+  intervals_are = keeps.intervals_are;
+  infos_are = c.look.ensures.kept g here keeps.infos_are;
+  reports_are = c.look-2.ensures.kept g here keeps.reports_are;
   named_are = keeps.named_are;
   prior_is = keeps.prior_is;
 }

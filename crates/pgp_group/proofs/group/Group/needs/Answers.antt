@@ -1,5 +1,5 @@
 use Rattle.pgp_group.proofs.Common.{◌≡◌, ap, not, ◌∙◌, list_any, Member, has_member, cleans, past, prior, basis_of}
-use Rattle.pgp_group.proofs.FoundLemmas.{waiting-is}
+use Rattle.pgp_group.proofs.PartLemmas.{waiting-is}
 use Rattle.pgp_group.proofs.group.Group.needs.Goals as goal
 
 pub returns : goal.returns
@@ -8,7 +8,7 @@ returns c = λ g keeps reckoned heard.
     let prior_is : c.in_ok-prior.prior ≡ prior g = c.in_ok-prior.ensures (basis_of g) reckoned in
     record {
       intervals = c.from_vec.ensures ∙ past_is;
-      les = c.les-les.ensures ∙ keeps.infos_are.les_is;
+      les = keeps.infos_are.les_is;
       prior = prior_is;
       waiting = c.is_waiting-waiting.ensures
           ∙ ap (list_any (λ (member : Member). not (has_member member c.args.heard.now.infos))) c.as_slice.ensures

@@ -1,5 +1,5 @@
 use Rattle.pgp_group.proofs.Common.{◌≡◌, true, map, sym, ◌∙◌, reported, has_whole_log, others_heard, peer_missing, present_members, arith}
-use Rattle.pgp_group.proofs.FoundLemmas.{present-is, states-whole}
+use Rattle.pgp_group.proofs.PartLemmas.{present-is, states-whole}
 use Rattle.pgp_group.proofs.group.Group.states.Goals as goal
 
 pub returns : goal.returns

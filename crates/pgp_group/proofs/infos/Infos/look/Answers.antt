@@ -1,4 +1,4 @@
-use Rattle.pgp_group.proofs.Common.{◌≡◌, ◌≤◌, List, refl, length, drop, ap, ap₂, subst, sym, ◌∙◌, filter, Info, Heard, with_infos, Preference, infos, heard}
+use Rattle.pgp_group.proofs.Common.{◌≡◌, ◌≤◌, List, refl, length, drop, ap, ap₂, subst, sym, ◌∙◌, filter, Info, Heard, with_infos, Preference, infos, heard, arith}
 use Rattle.pgp_group.specs.KeptInfos.{counts}
 use Rattle.pgp_group.proofs.InfosLemmas.{heard-on, KeepsInfos-heard, KeepsInfos-unseen}
 use Rattle.pgp_group.proofs.infos.Infos.look.Goals as goal
@@ -17,7 +17,7 @@ returns-in-Ok-clause-ok c = λ g here is.
 
 pub returns-in-Ok-clause-kept : goal.returns-in-Ok-clause-kept
 returns-in-Ok-clause-kept c = λ g here is.
-    KeepsInfos-heard g c.args.self.now _ is refl refl refl c.count-self.ensures (ap (λ (h : Heard Preference). h.infos) (returns-in-Ok-clause-ok c g here is))
+    KeepsInfos-heard g c.args.self.now _ is refl refl refl (grind arith) (ap (λ (h : Heard Preference). h.infos) (returns-in-Ok-clause-ok c g here is))
 
 pub returns-in-Err-clause-kept : goal.returns-in-Err-clause-kept
 returns-in-Err-clause-kept c = λ g here is.

@@ -1,4 +1,4 @@
-use Rattle.pgp_group.proofs.Common.{◌≡◌, ◌≤◌, List, ◌++◌, length, drop, take, ap, refl, subst, sym, ◌∙◌, All, take-append-drop, All-drop, Report, epoch, incs, reports, AreLogsOf}
+use Rattle.pgp_group.proofs.Common.{◌≡◌, ◌≤◌, List, ◌++◌, length, drop, take, ap, refl, subst, sym, ◌∙◌, All, take-append-drop, All-drop, Report, epoch, incs, reports, AreLogsOf, arith}
 use Rattle.pgp_group.proofs.ReportsLemmas.{KeepsReports-heard}
 use Rattle.pgp_group.proofs.reports.Reports.hear_unseen.Goals as goal
 
@@ -17,7 +17,7 @@ returns-in-Ok-clause-kept c = λ g here is.
     let all : c.as_slice.result.now ≡ reports g = c.as_slice.ensures.value ∙ is.all_are in
     let unseen : c.unseen-unseen.result.now ≡ drop seen (reports g) =
     c.unseen-unseen.ensures (subst (λ (l : List Report). seen ≤ length l) (sym all) is.seen_within) ∙ ap (drop seen) all in
-    KeepsReports-heard g c.args.self.now _ is refl refl c.count-self.ensures (returns-in-Ok-clause-ok c g here is)
+    KeepsReports-heard g c.args.self.now _ is refl refl (grind arith) (returns-in-Ok-clause-ok c g here is)
     (λ settled. c.in-Ok.ensures.count g (epoch (incs g)) here
     (subst (All (λ (r : Report). r.stamp ≤ epoch (incs g))) (sym unseen) (All-drop (λ (r : Report). r.stamp ≤ epoch (incs g)) seen (reports g) (is.each_sent settled)))
     (is.each_counts settled))

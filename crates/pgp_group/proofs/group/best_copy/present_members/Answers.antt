@@ -3,7 +3,7 @@ use Rattle.pgp_lists.proofs.Ordered.{IsAscending-with_item}
 use Rattle.pgp_prior.specs.MemberOrder.{member_order}
 use Rattle.pgp_prior.proofs.Lists.{members-in_order}
 use Rattle.pgp_group.proofs.PresentLemmas.{left-next, left-done}
-use Rattle.pgp_group.proofs.group.present_members.Goals as goal
+use Rattle.pgp_group.proofs.group.best_copy.present_members.Goals as goal
 
 pub loop-member-preserved : goal.loop-member-preserved
 loop-member-preserved c =

@@ -1,7 +1,7 @@
 use Rattle.pgp_group.proofs.Common.{◌≡◌, [], ◌++◌, members_of, is_before}
 use Rattle.pgp_lists.specs.Ordered.{IsAscending, with_items}
 use Rattle.pgp_group.proofs.PresentLemmas.{left}
-use Rattle.pgp_group.proofs.group.present_members.Given as goal
+use Rattle.pgp_group.proofs.group.best_copy.present_members.Given as goal
 
 -- the list so far, with the members that are left, is the list with all of them
 abbrev pub invariant-loop-member : goal.invariant-loop-member

@@ -1,23 +1,12 @@
 -- The parts of a view are those of its definition, and its verdict is the first whose cause holds.
-use Rattle.pgp_group.proofs.Common.{◌≡◌, List, [], ◌++◌, Option, Some, None, Bool, true, false, not, is_some, map, refl, ap₂, sym, ◌∙◌, if◌then◌else◌, list_any, slice_get, option_and_then, option_map, option_map_or, is_by_place, AnyCode, is_before, Member, Membership, PeerMissing, Info, best_info, Heard, newest_first, oldest_first, Preference, ascending, KeptLog, members_of, Prior, AreHeard, IsFound, GroupLog, heard, has_member, prior, leader, best, has_whole_log, if_whole, present_members, peers, peer_missing, peer_states, is_waiting, CountedLog, arith, nat_tests, ℕ, suc, ◌<◌, ◌∷◌, inl, inr, find, unwrap_or, cases_Bool, cases_lt, true≢false, Verdict, NoPrimary, Down, Waiting, Incomplete, Short, NeedLog, NeedUpThru, Serve, holds, verdict, place_of, IsFirstCause}
+use Rattle.pgp_group.proofs.Common.{◌≡◌, List, [], ◌++◌, Option, Some, None, Bool, true, false, not, map, refl, ap₂, sym, ◌∙◌, list_any, option_map, is_by_place, is_before, Membership, Info, best_info, Heard, Preference, ascending, KeptLog, members_of, Prior, AreHeard, GroupLog, heard, has_member, prior, leader, best, has_whole_log, present_members, peers, peer_missing, peer_states, is_waiting, CountedLog, arith, nat_tests, ℕ, suc, ◌<◌, ◌∷◌, find, unwrap_or, cases_lt, true≢false, Verdict, NoPrimary, Down, Waiting, Incomplete, Short, NeedLog, NeedUpThru, Serve, holds, verdict, place_of, IsFirstCause}
 use Rattle.pgp_info.specs.Prefers.{prefers as prefers_by}
 use Rattle.pgp_group.specs.Prefers.{prefers}
-use Rattle.pgp_group.specs.declared.found.Found.{Found}
 
 -- ---- the best copy
 
 pub best-is : (g : GroupLog) (found : Heard Preference) → AreHeard g found → best_info (prefers_by found.prefer) found.infos ≡ best g
 best-is g found are = ap₂ best_info are.prefer are.infos
-
--- the states of the peers, where this is the best info with a whole log
-abbrev states_by : GroupLog → Option Info → List PeerMissing
-states_by g whole = option_map_or (λ (b : Info). map (peer_missing g b) (peers g b)) whole []
-
-found_with : (g : GroupLog) (found : Found) (found_best whole : Option Info) → best g ≡ found_best → option_and_then (if_whole g) found_best ≡ whole → found.best ≡ option_map (λ info. info.member) found_best → found.whole ≡ is_some whole → found.states ≡ states_by g whole → IsFound g found
-found_with g found found_best whole is log best' whole' states = grind (arith, nat_tests)
-
-pub found-none : (g : GroupLog) (found : Found) → best g ≡ None → found.best ≡ None → found.whole ≡ false → found.states ≡ [] → IsFound g found
-found-none g found is best' whole states = found_with g found None None is refl best' whole states
 
 pub states-whole : (g : GroupLog) (info : Info) → best g ≡ Some info → has_whole_log g info ≡ true → peer_states g ≡ map (peer_missing g info) (peers g info)
 states-whole g info is log = grind (arith, nat_tests)
@@ -25,11 +14,6 @@ states-whole g info is log = grind (arith, nat_tests)
 -- the members of up and acting, by the same place rule and membership
 pub present-is : (g : GroupLog) (by_place : Bool) (current : Membership) → by_place ≡ is_by_place g.history.code → current ≡ g.history.current → ascending is_before (members_of by_place current.up ++ members_of by_place current.acting) ≡ present_members g
 present-is g by_place current by_is current_is = λ i. ascending is_before (members_of (by_is i) (current_is i).up ++ members_of (by_is i) (current_is i).acting)
-
--- the preference of the pool, by the place rule of its code and the member that leads
-pub prefer-is : (g : GroupLog) (by_place : Bool) (primary : Option Member) (current : Membership) → by_place ≡ is_by_place g.history.code → current ≡ g.history.current → primary ≡ slice_get (members_of by_place current.acting) 0
-    → (if by_place then oldest_first primary else newest_first primary) ≡ prefers g.history.code (leader g)
-prefer-is g by_place primary current by_is current_is primary_is = grind (arith, nat_tests)
 
 -- ---- whom the group needs
 
@@ -42,10 +26,7 @@ pub heard-is : (g : GroupLog) (found : Heard Preference) (prefer : Preference) �
 heard-is g found prefer is by = grind (arith, nat_tests)
 
 pub log-there : (found : Option CountedLog) (log : KeptLog) → Some log ≡ option_map (λ l. l.log) found → (l : CountedLog) × (found ≡ Some l) × (l.log ≡ log)
-log-there None log is = absurd (nothing is)
-  where
-    nothing : Some log ≡ None → ⊥
-    nothing same = cc
+log-there None log is = grind (arith, nat_tests)
 log-there (Some l) log is = (l, refl, let same : Some log ≡ Some l.log = is in cc)
 
 -- ---- places tell verdicts apart
@@ -70,10 +51,7 @@ first_here g v below here = record { cause = here; none_before = below }
 
 -- the first of the verdicts from this one on, where no earlier one's cause holds
 first_of : (g : GroupLog) (v : Verdict) (rest : List Verdict) → NoneBelow g (place_of v) → (NoneBelow g (suc (place_of v)) → IsFirstCause g (unwrap_or (find (holds g) rest) Serve)) → IsFirstCause g (unwrap_or (find (holds g) (v ∷ rest)) Serve)
-first_of g v rest below later = elim (cases_Bool (holds g v)) [
-  | inl here ↦ rw here (first_here g v below here)
-  | inr fails ↦ rw fails (later (none_below-next g v below fails))
-]
+first_of g v rest below later = grind (arith, nat_tests, first_here, none_below-next)
 
 pub IsFirstCause-verdict : (g : GroupLog) → IsFirstCause g (verdict g)
 IsFirstCause-verdict g =
@@ -93,3 +71,6 @@ one_first g v w first_v first_w less = true≢false (sym first_v.cause ∙ first
 pub verdict-IsFirstCause : (g : GroupLog) (v : Verdict) → IsFirstCause g v → verdict g ≡ v
 verdict-IsFirstCause g v first =
     grind (arith, cases_lt (place_of v) (place_of (verdict g)), IsFirstCause-verdict g, cases_lt (place_of (verdict g)) (place_of v))
+
+-- what the laws say
+pub ruleset verdict_laws = (IsFirstCause-verdict, verdict-IsFirstCause)

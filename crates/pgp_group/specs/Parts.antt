@@ -11,9 +11,9 @@ use Rattle.pgp_group.specs.KeptReports.{AreLogsOf, log_of}
 use Rattle.pgp_group.specs.Peering.{past, prior, leader, best, whole_best, peer_states}
 use Rattle.pgp_group.specs.Prefers.{prefers}
 use Rattle.pgp_group.specs.Verdict.{is_waiting}
-use Rattle.pgp_group.specs.declared.found.Found.{Found}
-use Rattle.pgp_group.specs.declared.found.Needs.{Needs}
 use Rattle.pgp_group.specs.declared.logs.CountedLog.{CountedLog}
+use Rattle.pgp_group.specs.declared.parts.BestCopy.{BestCopy}
+use Rattle.pgp_group.specs.declared.parts.Needs.{Needs}
 
 -- these are the infos that are heard, with the preference of the group's pool
 pub record AreHeard (g : GroupLog) (found : Heard Preference) : Type 0 where
@@ -27,10 +27,10 @@ pub record AreLogsHeard (g : GroupLog) (logs : List CountedLog) : Type 0 where
       → IsLogOf info (reported g info.member) log.log
 
 -- this is the best copy of the group, and these are the states of the others
-pub record IsFound (g : GroupLog) (found : Found) : Type 0 where
-  pub best : found.best ≡ option_map (λ info. info.member) (best g)
-  pub whole : found.whole ≡ is_some (whole_best g)
-  pub states : found.states ≡ peer_states g
+pub record IsBestCopy (g : GroupLog) (copy : BestCopy) : Type 0 where
+  pub member : copy.member ≡ option_map (λ info. info.member) (best g)
+  pub whole : copy.whole ≡ is_some (whole_best g)
+  pub states : copy.states ≡ peer_states g
 
 -- these are the members that the group needs
 pub record AreNeeds (g : GroupLog) (needs : Needs) : Type 0 where

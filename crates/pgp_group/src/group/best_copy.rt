@@ -1,0 +1,119 @@
+//! Whose copy of a group is the best, and how the other copies compare with it.
+
+ghost use Rattle.std.specs.Prelude.{◌≡◌, ◌++◌, [], List, Some, true, false, IfOk};
+ghost use Rattle.pgp_ids.specs.Member.{is_before};
+ghost use Rattle.pgp_ids.specs.declared.log_entry.LogEntry.{LogEntry};
+ghost use Rattle.pgp_ids.specs.declared.report.Info.{Info as Sent};
+ghost use Rattle.pgp_lists.specs.Ordered.{ascending};
+ghost use Rattle.pgp_prior.specs.Members.{members_of};
+ghost use Rattle.pgp_missing.specs.Kept.{IsLogOf};
+ghost use Rattle.pgp_missing.specs.Log.{is_whole};
+ghost use Rattle.pgp_group.specs.GroupLog.{GroupLog};
+ghost use Rattle.pgp_group.specs.GroupOf.{Keeps};
+ghost use Rattle.pgp_group.specs.Heard.{reported};
+ghost use Rattle.pgp_group.specs.Parts.{AreHeard, AreLogsHeard, IsBestCopy};
+ghost use Rattle.pgp_group.specs.Peering.{best as best_of, peer_states};
+
+use super::{BestCopy, Group};
+use crate::peers::states;
+use pgp_code::Recoverable;
+use pgp_ids::{Info, Member, Membership, PeerMissing, Seq};
+use pgp_info::{Best, Preference};
+use pgp_lists::insert_in_order;
+use pgp_missing::MemberLog;
+use pgp_prior::members_of;
+use std::alloc::{AllocError, Global};
+
+impl Group {
+    /// The best copy of those that were heard, and the states of the others.
+    pub(super) fn best_copy(
+        &self,
+        current: &Membership,
+        heard: &Best<Preference>,
+    ) -> Result<BestCopy, AllocError>
+        ensures { IfOk result (λ copy. (g : GroupLog) → Keeps g self.now → current.now ≡ g.history.current
+            → AreHeard g heard.now → AreLogsHeard g self.now.reports.logs.of_members.items → IsBestCopy g copy) }
+    {
+        let Some(best) = heard.best() else {
+            return Ok(no_log_to_follow(self.alloc, None));
+        };
+        match self.reports.logs.log_of(best.member) {
+            Some(log) => self.copy_of_best(current, log, best, heard),
+            None => {
+                let empty = MemberLog::begin(self.alloc, best);
+                self.copy_of_best(current, &empty, best, heard)
+            }
+        }
+    }
+
+    /// The best copy is that of the member with this info and this log; where the log is whole, the states of the others.
+    fn copy_of_best(
+        &self,
+        current: &Membership,
+        log: &MemberLog,
+        best: &Info,
+        heard: &Best<Preference>,
+    ) -> Result<BestCopy, AllocError>
+        ensures { IfOk result (λ copy. (g : GroupLog) → Keeps g self.now → current.now ≡ g.history.current
+            → AreHeard g heard.now → best_of g ≡ Some best.now
+            → IsLogOf best.now (reported g best.now.member) log.now → IsBestCopy g copy) }
+    {
+        if !log.whole() {
+            return Ok(no_log_to_follow(self.alloc, Some(best.member)));
+        }
+        Ok(BestCopy {
+            member: Some(best.member),
+            whole: true,
+            states: self.states(current, log, best.member, heard)?,
+        })
+    }
+
+    /// The states of the members of up and acting that were heard, except for the best one, by its log, which is whole.
+    fn states(
+        &self,
+        current: &Membership,
+        log: &MemberLog,
+        best: Member,
+        heard: &Best<Preference>,
+    ) -> Result<Seq<PeerMissing>, AllocError>
+        requires { (info : Sent) (reported : List LogEntry) → IsLogOf info reported log.now → is_whole info reported ≡ true }
+        ensures { IfOk result (λ states. (g : GroupLog) (info : Sent) → Keeps g self.now → current.now ≡ g.history.current
+            → AreHeard g heard.now → best_of g ≡ Some info → info.member ≡ best
+            → IsLogOf info (reported g info.member) log.now → states ≡ peer_states g) }
+    {
+        let by_place = self.intervals.code().by_place();
+        let members = present_members(self.alloc, by_place, current)?;
+        let states = states(self.alloc, log, best, members.as_slice(), heard)?;
+        Ok(Seq::from_vec(states))
+    }
+}
+
+/// There is no best copy, or it is that of this member, whose log isn't whole.
+fn no_log_to_follow(alloc: Global, member: Option<Member>) -> BestCopy
+    ensures member { result.member ≡ member }
+    ensures whole { result.whole ≡ false }
+    ensures states { result.states ≡ [] }
+{
+    BestCopy {
+        member,
+        whole: false,
+        states: Seq::new(alloc),
+    }
+}
+
+/// The members of up and acting, in ascending order, each once.
+fn present_members(
+    alloc: Global,
+    by_place: bool,
+    current: &Membership,
+) -> Result<Vec<Member>, AllocError>
+    ensures { IfOk result (λ members. members.items ≡ ascending is_before
+        (members_of by_place current.now.up ++ members_of by_place current.now.acting)) }
+{
+    let mut members = Vec::new(alloc);
+    let up = members_of(by_place, &current.up);
+    for member in up.chain(members_of(by_place, &current.acting)) {
+        insert_in_order(&mut members, member)?;
+    }
+    Ok(members)
+}
