@@ -1,8 +1,7 @@
 -- What a shard keeps beside the entries that it has read, or that it keeps nothing, and the marks.
-use Rattle.pgp_log.proofs.Common.{◌≡◌, List, [], ◌∷◌, ◌++◌, Option, Some, None, IfSome, true, false, ◌&&◌, map, refl, sym, ap, ◌∙◌, subst, map-append, Entry, PgId, Incremental, has_group, incs_of, is_touched, fits, AreOwnGroupsOf, IsKeptBeside, marks_of, owns, shard_with, AreAllMarked, is_legal, AreMarked, MarksOnlyTouched, is_among, Groups, Owner}
+use Rattle.pgp_log.proofs.Common.{◌≡◌, List, [], ◌∷◌, ◌++◌, Option, Some, None, IfSome, false, ◌&&◌, map, refl, sym, ap, ◌∙◌, subst, map-append, Entry, PgId, Incremental, has_group, incs_of, is_touched, AreOwnGroupsOf, IsKeptBeside, marks_of, owns, shard_with, AreAllMarked, AreMarked, MarksOnlyTouched, is_among, Groups, Owner}
 use Rattle.pgp_ids.specs.declared.entry.Entry.TheVariants as entry
 use Rattle.pgp_log.proofs.ComingLemmas.{has_group-same}
-use Rattle.pgp_log.proofs.LogLemmas.{legal-snoc}
 use Rattle.pgp_log.proofs.MarksLemmas.{all-marks, marks-once, pool-left}
 use Rattle.pgp_log.proofs.TakeLemmas.{incs-inc, incs-other}
 
@@ -16,33 +15,15 @@ groups-there owner log found groups is there = subst (λ (o : Option Groups). If
 pub front-longer : {X : Type 0} (f : X → Entry) (before after : List X) (copy : X) (new : Entry) → after ≡ before ++ copy ∷ [] → f copy ≡ new → map f after ≡ map f before ++ new ∷ []
 front-longer f before after copy new longer same = ap (map f) longer ∙ map-append f before (copy ∷ []) ∙ ap (λ (e : Entry). map f before ++ e ∷ []) same
 
--- nothing is there
-pub beside-away : (owner : Owner) (log longer : List Entry) (new : Entry) (found left : Option Groups) → IsKeptBeside owner log found → fits log new ≡ None → longer ≡ log ++ new ∷ [] → left ≡ None → IsKeptBeside owner longer left
-beside-away owner log longer new found left is fit more away =
-    subst (λ (l : List Entry). IsKeptBeside owner l left) (sym more)
-    (subst (IsKeptBeside owner (log ++ new ∷ [])) (sym away) (record { legal = legal-snoc log new is.legal fit; groups_are = tt }))
-
--- what is there takes the entry
-pub beside-read : (owner : Owner) (log longer : List Entry) (new : Entry) (after : Groups) → is_legal log ≡ true → fits log new ≡ None → longer ≡ log ++ new ∷ [] → AreOwnGroupsOf owner (log ++ new ∷ []) after
-    → IsKeptBeside owner longer (Some after)
-beside-read owner log longer new after legal fit more is =
-    subst (λ (l : List Entry). IsKeptBeside owner l (Some after)) (sym more) (record { legal = legal-snoc log new legal fit; groups_are = is })
-
 -- an entry that doesn't touch a group leaves the map the group, or without it
 has-untouched : (log : List Entry) (new : Entry) (pg : PgId) → is_touched log new pg ≡ false → has_group (incs_of (log ++ new ∷ [])) pg ≡ has_group (incs_of log) pg
 has-untouched log (entry.Inc inc) pg untouched =
     ap (λ (l : List Incremental). has_group l pg) (incs-inc log (entry.Inc inc) inc refl) ∙ has_group-same (incs_of log) inc pg (pool-left log inc pg untouched)
 has-untouched log new pg untouched = ap (λ (l : List Incremental). has_group l pg) (incs-other log new refl)
 
-pub marks-away : (owner : Owner) (log longer : List Entry) (new : Entry) (found left : Option Groups) → found ≡ None → longer ≡ log ++ new ∷ [] → left ≡ None
-    → MarksOnlyTouched new (shard_with owner log found) (shard_with owner longer left)
-marks-away owner log longer new found left none more away =
-    subst (λ (o : Option Groups). MarksOnlyTouched new (shard_with owner log o) (shard_with owner longer left)) (sym none)
-    (subst (λ (o : Option Groups). MarksOnlyTouched new (shard_with owner log None) (shard_with owner longer o)) (sym away)
-    (subst (λ (l : List Entry). MarksOnlyTouched new (shard_with owner log None) (shard_with owner l None)) (sym more) (record {
-      others = λ pg untouched. ap (λ b. owns owner pg && b) (has-untouched log new pg untouched);
-      there = refl;
-    })))
+-- where nothing is kept
+pub marks-away : (owner : Owner) (log : List Entry) (new : Entry) → MarksOnlyTouched new (shard_with owner log None) (shard_with owner (log ++ new ∷ []) None)
+marks-away owner log new = record { others = λ pg untouched. ap (λ b. owns owner pg && b) (has-untouched log new pg untouched); there = refl }
 
 -- ---- the marks
 

@@ -2,7 +2,7 @@
 use Rattle.pgp_log.proofs.Common.{◌≡◌, ℕ, List, [], ◌∷◌, ◌++◌, Bor, Option, Some, None, is_some, option_map, Bool, true, false, not, ◌&&◌, ◌||◌, IfSome, ◌+◌, ◌<◌, length, set, take, get_or, nat_eq, nat_lt, eq-eqb, inl, inr, arith, refl, sym, ap, ◌∙◌, subst, list_any, option_copied, option_map_or, slice_get, with_item, and-true, and_from, and_parts, cases_Bool, cases_lt, eqb-true, false_from_ne_true, true_from_ne_false, true≢false, list_any_more, same_tests, none-at, Entry, Incremental, PgId, PoolSpec, View, checked-has_group, HasGroup, map_fault, then_with, IsMapOf, has_group, is_same_group, pool, OsdMap, unmade, scratch_there, inc_of, incs_of, makes, told_at, scratch, fits, AreGroupsOf, AreOwnGroupsOf, HasOwn, HasStill, IsKeptIfOwn, IsOwnIfKept, IsStepping, KeepsAll, keeps, marks_of, owns, IsKeptOf, IsRowOf, IsStep, IsViewOf, ids_of, epoch_of, is_legal, is_among, IsMapBefore, MapBefore, Groups, KeptGroup, Owner, Row}
 use Rattle.pgp_ids.specs.declared.entry.Entry.TheVariants as entry
 use Rattle.std.specs.HashMap as hash
-use Rattle.pgp_log.proofs.GroupsLemmas.{groups-anew, ids-set, keeps-found}
+use Rattle.pgp_log.proofs.GroupsLemmas.{groups-anew, groups-on, ids-set, keeps-found}
 use Rattle.pgp_log.proofs.KeptLemmas.{grown, step-checked, step-fine, still-there}
 use Rattle.pgp_log.proofs.LogLemmas.{legal-snoc}
 use Rattle.pgp_log.proofs.RawSetLemmas.{same_group}
@@ -33,6 +33,11 @@ groups-step owner log inc old before groups is step are ids = record {
       and_from (owns owner pg) (has_group (then_with (incs_of log) inc) pg) was.0
       (still-there (incs_of log) inc pg (step-fine log inc before groups.map step) was.1);
 }
+
+-- each of them stays as it is
+pub groups-pass : (owner : Owner) (log : List Entry) (inc : Incremental) (old : Groups) (before : MapBefore) (after : OsdMap) → AreOwnGroupsOf owner log old → IsStep log inc before after
+    → ((place : ℕ) (kept : KeptGroup) → slice_get old.kept.items place ≡ Some kept → IsKeptOf log kept → IsKeptOf (log ++ entry.Inc inc ∷ []) kept) → IsStepping owner log inc (record old { map = after })
+groups-pass owner log inc old before after is step each = groups-step owner log inc old before _ is step (groups-on log (log ++ entry.Inc inc ∷ []) old after each is.groups_are) refl
 
 -- and the owner's groups that come with it are there
 pub step-ends : (owner : Owner) (log : List Entry) (inc : Incremental) (moved : Groups) → IsStepping owner log inc moved → HasOwn owner (then_with (incs_of log) inc) moved

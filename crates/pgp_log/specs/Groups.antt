@@ -1,6 +1,6 @@
 -- What follows for a shard from the entries that it has read: the map that they make, and the shard's groups (this project's
 -- own choice).
-use Rattle.std.specs.Prelude.{◌≡◌, ℕ, ◌++◌, ◌&&◌, List, [], ◌∷◌, slice_get, set, Option, None, Some, IfSome, is_some, option_map, Result, OnOk, OnErr, Bool, true, false}
+use Rattle.std.specs.Prelude.{◌≡◌, ℕ, ◌++◌, ◌&&◌, List, [], ◌∷◌, slice_get, set, Option, None, Some, IfSome, is_some, option_map, Result, OnOk, OnErr, Bool, true, false, length, if◌then◌else◌}
 use Rattle.std.specs.HashMap as hash
 use Rattle.std.specs.declared.alloc.AllocError.{AllocError}
 use Rattle.pgp_ids.specs.declared.entry.Entry.{Entry}
@@ -14,13 +14,14 @@ use Rattle.pgp_group.specs.Entries.{incs_of}
 use Rattle.pgp_group.specs.GroupHistory.{makes}
 use Rattle.pgp_group.specs.Touched.{is_touched}
 use Rattle.pgp_log.specs.Fits.{fits}
-use Rattle.pgp_log.specs.KeptGroup.{AreAllMarked, AreKeptOf, AreRowsOf, IsStep, ids_of, is_marked, marks_in}
+use Rattle.pgp_log.specs.KeptGroup.{AreAllMarked, AreKeptOf, AreRowsOf, IsRowOf, IsStep, ids_of, is_marked, marks_in}
 use Rattle.pgp_log.specs.Log.{is_legal}
 use Rattle.pgp_log.specs.Shard.{Shard, is_among, is_own}
 use Rattle.pgp_log.specs.declared.before.MapBefore.{MapBefore}
 use Rattle.pgp_log.specs.declared.groups.Groups.{Groups}
 use Rattle.pgp_log.specs.declared.kept_group.KeptGroup.{KeptGroup}
 use Rattle.pgp_log.specs.declared.owner.Owner.{Owner}
+use Rattle.pgp_log.specs.declared.row.Row.{Row}
 
 -- ---- the groups that are kept
 
@@ -121,6 +122,34 @@ pub record CanAbsorbInc (groups : Groups) (inc : Incremental) : Type 0 where
   pub owner : Owner
   pub can : CanAbsorb owner groups (entry.Inc inc)
 
+-- one group more is kept, at the next place
+pub record HasOneMore (kept : KeptGroup) (old new : Groups) : Type 0 where
+  pub row : Row
+  pub map : new.map ≡ old.map
+  pub found : (pg : PgId) → hash.get is_same_group new.places pg ≡ (if is_same_group kept.pg pg then Some (length old.kept.items) else hash.get is_same_group old.places pg)
+  pub rows : new.rows ≡ old.rows ++ row ∷ []
+  pub row_is : IsRowOf row kept
+  pub items : new.kept.items ≡ old.kept.items ++ kept ∷ []
+  pub worked : new.some_worked_out ≡ old.some_worked_out
+
+-- Some log, by which these groups are kept, takes the incremental next, and the map has it.
+pub record CanPassOn (groups : Groups) (inc : Incremental) (before : MapBefore) : Type 0 where
+  pub log : List Entry
+  pub are : AreKeptOf log groups.kept.items
+  pub rows : AreRowsOf groups.rows groups.kept.items
+  pub step : IsStep log inc before groups.map
+
+-- Each of the groups has taken the incremental, in each log that takes it next. It marks only groups that it touches.
+pub record HavePassedOn (inc : Incremental) (before : MapBefore) (old new : Groups) : Type 0 where
+  pub map : new.map ≡ old.map
+  pub places : new.places ≡ old.places
+  pub worked : new.some_worked_out ≡ old.some_worked_out
+  pub ids : ids_of new.kept.items ≡ ids_of old.kept.items
+  pub rows : AreRowsOf new.rows new.kept.items
+  pub each : (log : List Entry) → AreKeptOf log old.kept.items → IsStep log inc before old.map → AreKeptOf (log ++ entry.Inc inc ∷ []) new.kept.items
+  pub marks : (log : List Entry) → AreKeptOf log old.kept.items → IsStep log inc before old.map → MarksTouched log (entry.Inc inc) old new
+  pub marked : AreAllMarked old.kept.items → AreAllMarked new.kept.items
+
 -- of the groups only the one at this place was to be worked out, where it is marked: it is another now, whose view is there, unless
 -- there was no memory
 pub record IsRenewedAt (place : ℕ) (result : Result (Unit {0}) AllocError) (old new : Groups) : Type 0 where
@@ -139,6 +168,12 @@ pub record IsRenewedAt (place : ℕ) (result : Result (Unit {0}) AllocError) (ol
 pub record IsKeptBeside (owner : Owner) (log : List Entry) (groups : Option Groups) : Type 0 where
   pub legal : is_legal log ≡ true
   pub groups_are : IfSome groups (AreOwnGroupsOf owner log)
+
+-- Some legal log, from which follows what the shard keeps beside it, takes the entry next.
+pub record CanReadOn (owner : Owner) (groups : Option Groups) (new : Entry) : Type 0 where
+  pub log : List Entry
+  pub is : IsKeptBeside owner log groups
+  pub fits : fits log new ≡ None
 
 -- the owner's shard, which has read these entries and keeps this beside them
 abbrev pub shard_with : Owner → List Entry → Option Groups → Shard

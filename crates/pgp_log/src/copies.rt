@@ -6,7 +6,8 @@ ghost use Rattle.pgp_group.specs.Touched.{told_at};
 use pgp_ids::{Epoch, MissingObject, Past, PeerMissing, PeerState, Seq, View};
 use std::alloc::{AllocError, Global};
 
-/// A copy of the view, at this epoch and after this many entries.
+/// A copy of the view, at this epoch and after this many entries. It asks for room once for each of its lists, and once for each
+/// name of a missing object.
 pub(crate) fn copy_at(
     alloc: Global,
     view: &View,
@@ -15,23 +16,13 @@ pub(crate) fn copy_at(
 ) -> Result<View, AllocError>
     ensures { IfOk result (λ copy. copy ≡ told_at count epoch view.now) }
 {
-    let mut copy = copy_of_view(alloc, view)?;
-    copy.epoch = epoch;
-    copy.count = count;
-    Ok(copy)
-}
-
-/// A copy of the view. It asks for room once for each of its lists, and once for each name of a missing object.
-fn copy_of_view(alloc: Global, view: &View) -> Result<View, AllocError>
-    ensures { IfOk result (λ copy. copy ≡ view.now) }
-{
     let intervals = copy_of_intervals(alloc, view.intervals.as_slice())?;
     let probe = copy_of_list(alloc, view.probe.as_slice())?;
     let blocked_by = copy_of_list(alloc, view.blocked_by.as_slice())?;
     let missing = copy_of_states(alloc, view.missing.as_slice())?;
     Ok(View {
-        count: view.count,
-        epoch: view.epoch,
+        count,
+        epoch,
         up: view.up.copy(),
         up_primary: view.up_primary,
         acting: view.acting.copy(),

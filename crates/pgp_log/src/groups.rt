@@ -14,7 +14,7 @@ ghost use Rattle.pgp_group.specs.Entries.{inc_of, incs_of};
 ghost use Rattle.pgp_group.specs.GroupHistory.{makes};
 ghost use Rattle.pgp_group.specs.Touched.{is_touched};
 ghost use Rattle.pgp_log.specs.Fits.{fits};
-ghost use Rattle.pgp_log.specs.Groups.{AreAtPlaces, AreOwnGroupsOf, IsStepping, CanStepOn, CanAddTo, CanAbsorb, CanAbsorbInc, IsKeptIfOwn, HasOwn, HasStill, IsRenewedAt, MarksTouched, marks_of, owns};
+ghost use Rattle.pgp_log.specs.Groups.{AreAtPlaces, AreOwnGroupsOf, IsStepping, CanStepOn, CanAddTo, CanAbsorb, CanAbsorbInc, CanPassOn, HasOneMore, HavePassedOn, IsKeptIfOwn, HasOwn, HasStill, IsRenewedAt, MarksTouched, marks_of, owns};
 ghost use Rattle.pgp_log.specs.KeptGroup.{AreAllMarked, IsViewOf};
 ghost use Rattle.pgp_log.specs.Log.{HasInc, is_legal};
 ghost use Rattle.pgp_log.specs.Shard.{is_among, without};
@@ -103,9 +103,9 @@ impl Groups {
         }
     }
 
-    /// Takes an incremental, except for the groups that come with it. What groups need of the map before is noted first. Groups
-    /// that the incremental can't touch by their rows are passed by. An incremental that changes the epoch alone goes to no group.
-    /// While all groups are marked, nor does one that moves no group. After an `Err` they are of no further use.
+    /// Takes an incremental, except for the groups that come with it. What groups need of the map before is noted first. An
+    /// incremental that changes the epoch alone goes to no group. While all groups are marked, nor does one that moves no group.
+    /// After an `Err` they are of no further use.
     fn absorb_inc(&mut self, inc: &Incremental) -> Result<(), AllocError>
         requires { CanAbsorbInc self.old inc.now }
         ensures ok { OnOk result ((owner : AnyOwner) (log : List AnyEntry) → AreOwnGroupsOf owner log self.old
@@ -122,11 +122,20 @@ impl Groups {
         if !self.some_worked_out && moves_none(inc) {
             return Ok(());
         }
-        let changes = Changes::of(&before, &self.map, inc);
+        self.pass_on(&before, inc)
+    }
+
+    /// Has each group take an incremental, which the map has taken. Groups that it can't touch by their rows are passed by. After an
+    /// `Err` they are of no further use.
+    fn pass_on(&mut self, before: &MapBefore, inc: &Incremental) -> Result<(), AllocError>
+        requires { CanPassOn self.old inc.now before.now }
+        ensures { OnOk result (HavePassedOn inc.now before.now self.old self.new) }
+    {
+        let changes = Changes::of(before, &self.map, inc);
         let mut from = 0;
         while let Some(place) = self.rows.next(from, &changes, inc) {
             let kept = &mut self.kept[place];
-            kept.absorb_inc(&before, &self.map, inc)?;
+            kept.absorb_inc(before, &self.map, inc)?;
             self.rows.set(place, kept.row());
             from = place + 1;
         }
@@ -190,11 +199,18 @@ impl Groups {
         if self.places.contains_key(&pg) {
             return Ok(());
         }
-        let place = self.kept.len();
         let kept = KeptGroup::begin(self.alloc, &self.map, pg);
+        self.keep(kept)
+    }
+
+    /// Keeps one more group, at the next place. After an `Err` they are of no further use.
+    fn keep(&mut self, kept: KeptGroup) -> Result<(), AllocError>
+        ensures { OnOk result (HasOneMore kept self.old self.new) }
+    {
+        let place = self.kept.len();
+        self.places.insert(kept.pg, place)?;
         self.rows.push(kept.row())?;
         self.kept.push(kept)?;
-        self.places.insert(pg, place)?;
         Ok(())
     }
 

@@ -4,7 +4,7 @@ ghost use Rattle.std.specs.Prelude.{◌≡◌, List, true};
 ghost use Rattle.pgp_ids.specs.declared.incremental.Incremental.{Incremental as AnyIncremental};
 ghost use Rattle.pgp_map.specs.MapFault.{then_with};
 ghost use Rattle.pgp_map.specs.MapOf.{IsMapOf};
-ghost use Rattle.pgp_log.specs.MapBefore.{IsMapBefore, moves_some, only_lightens};
+ghost use Rattle.pgp_log.specs.MapBefore.{IsMapBefore, moves_some};
 ghost use Rattle.pgp_log.specs.KeptGroup.{IsChangesOf, IsPassedByRow, devices_for, may_place};
 
 use super::before::MapBefore;
@@ -92,13 +92,7 @@ fn moves_some(before: &MapBefore, after: &OsdMap, inc: &Incremental) -> bool
     ensures { (incs : List AnyIncremental) → IsMapBefore incs inc.now before.now → IsMapOf (then_with incs inc.now) after.now
         → result ≡ moves_some incs inc.now }
 {
-    changes_placements(inc) && !only_lightens(before, after, inc)
-}
-
-/// The incremental changes placements by weights alone, and makes no device heavier. Such weights can only take devices out.
-fn only_lightens(before: &MapBefore, after: &OsdMap, inc: &Incremental) -> bool
-    ensures { (incs : List AnyIncremental) → IsMapBefore incs inc.now before.now → IsMapOf (then_with incs inc.now) after.now
-        → result ≡ only_lightens incs inc.now }
-{
-    inc.crush.is_none() && changes_no_pool(inc) && !before.makes_heavier(after)
+    // Weights by which no device gets heavier can only take devices out.
+    let only_lightens = inc.crush.is_none() && changes_no_pool(inc) && !before.makes_heavier(after);
+    changes_placements(inc) && !only_lightens
 }

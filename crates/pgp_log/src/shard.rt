@@ -1,14 +1,15 @@
 //! One shard: what it has read of the log, and what it answers by that.
 
-ghost use Rattle.std.specs.Prelude.{◌≡◌, ◌≢◌, ◌<◌, ◌++◌, min, length, map, is_some, option_copied, option_map, false, true, None, Some, Err, IsOk, IfOk, IfSome, OnOk, OnErr};
+ghost use Rattle.std.specs.Prelude.{◌≡◌, ◌≢◌, ◌<◌, [], ◌∷◌, List, ◌++◌, min, length, map, is_some, option_copied, option_map, false, true, None, Some, Err, IsOk, IfOk, IfSome, OnOk, OnErr};
 ghost use Rattle.std.specs.Arc.{arc_value};
 ghost use Rattle.pgp_ids.specs.declared.ask_refusal.AskRefusal.TheVariants.{UnknownGroup, Memory};
+ghost use Rattle.pgp_ids.specs.declared.entry.Entry.{Entry as AnyEntry};
 ghost use Rattle.pgp_map.specs.Pools.{has_group};
 ghost use Rattle.pgp_group.specs.Entries.{incs_of};
 ghost use Rattle.pgp_group.specs.Touched.{told_at};
 ghost use Rattle.pgp_group.specs.View.{scratch};
 ghost use Rattle.pgp_log.specs.Fits.{is_closed, fits};
-ghost use Rattle.pgp_log.specs.Groups.{AreOwnGroupsOf, IsKeptBeside, marks_of, shard_with};
+ghost use Rattle.pgp_log.specs.Groups.{AreOwnGroupsOf, CanReadOn, IsKeptBeside, marks_of, shard_with};
 ghost use Rattle.pgp_log.specs.Log.{HasInc, epoch_of, is_legal};
 ghost use Rattle.pgp_log.specs.Shard.{opening_shard, having_read, having_read_all, HasReadSame, HasReadSome, shard_of, is_own, is_marked, AreMarked, MarksOnlyTouched, IsUnmarked, AreUnmarked};
 
@@ -102,20 +103,11 @@ impl ShardState {
         ensures marks { OnOk result (MarksOnlyTouched (arc_value entry.now) self.old self.new) }
         ensures err { OnErr result (HasReadSame self.old self.new) }
     {
-        self.front.push(Arc::try_clone(entry)?)?;
-        let Some(mut groups) = self.groups.take() else {
-            return Ok(());
-        };
-        match groups.absorb(self.owner, entry) {
-            Ok(()) => {
-                self.groups = Some(groups);
-                Ok(())
-            }
-            Err(error) => {
-                self.front.pop();
-                Err(error)
-            }
-        }
+        self.front.reserve(1)?;
+        let copy = Arc::try_clone(entry)?;
+        self.groups = read_on(self.owner, self.groups.take(), entry)?;
+        self.front.push_reserved(copy);
+        Ok(())
     }
 
     /// Reads these entries, which come next. Without memory for one of them, the shard has read those before it.
@@ -251,6 +243,21 @@ fn take_or_make(
         Some(groups) => Ok(groups),
         None => Groups::of(alloc, owner, entries),
     }
+}
+
+/// What is kept beside the entries when the next one is read, if anything is. Without memory for the entry it is given up.
+fn read_on(owner: Owner, kept: Option<Groups>, entry: &Entry) -> Result<Option<Groups>, AllocError>
+    requires { CanReadOn owner kept entry.now }
+    ensures is { IfOk result (λ left. (log : List AnyEntry) → IsKeptBeside owner log kept → fits log entry.now ≡ None
+        → IsKeptBeside owner (log ++ entry.now ∷ []) left) }
+    ensures marks { IfOk result (λ left. (log : List AnyEntry) → IsKeptBeside owner log kept → fits log entry.now ≡ None
+        → MarksOnlyTouched entry.now (shard_with owner log kept) (shard_with owner (log ++ entry.now ∷ []) left)) }
+{
+    let Some(mut groups) = kept else {
+        return Ok(None);
+    };
+    groups.absorb(owner, entry)?;
+    Ok(Some(groups))
 }
 
 /// The shard, of this many, that answers for the group.

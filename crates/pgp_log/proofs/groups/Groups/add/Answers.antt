@@ -1,5 +1,4 @@
-use Rattle.pgp_log.proofs.Common.{◌≡◌, true, false, List, [], ◌∷◌, ◌++◌, ℕ, Some, cond, refl, sym, ap, ◌∙◌, subst, All-push, PgId, then_with, has_group, is_same_group, incs_of, keeps, AreAllMarked, ids_of, is_marked, marks_in, is_among, Groups, KeptGroup}
-use Rattle.std.specs.HashMap as hash
+use Rattle.pgp_log.proofs.Common.{◌≡◌, true, false, List, [], ◌∷◌, ◌++◌, sym, ap, ◌∙◌, subst, All-push, PgId, then_with, has_group, is_same_group, incs_of, keeps, AreAllMarked, ids_of, is_marked, marks_in, is_among, on_ok_weaker, HasOneMore, Groups, KeptGroup}
 use Rattle.pgp_ids.specs.declared.entry.Entry.TheVariants as entry
 use Rattle.pgp_log.proofs.GroupsLemmas.{groups-more, keeps-found, keeps-last, keeps-others}
 use Rattle.pgp_log.proofs.KeptLemmas.{step-fine}
@@ -22,35 +21,32 @@ pub returns : goal.returns
 returns c =
     let pg = c.args.pg in
     let old : Groups = c.args.self.now in
-    let new : Groups = record old { places = c.insert.new.self; rows = c.push.new.self; kept = c.push-2.new.self } in
+    let new : Groups = c.keep.new.self in
     let kept : KeptGroup = c.begin-kept.result in
     let begun = c.begin-kept.ensures in
-    let items = c.in_ok-push-2.ensures.items in
-    let here : keeps pg new ≡ true =
-    ap (λ (l : List KeptGroup). is_among pg (ids_of l)) items
+    let here : HasOneMore kept old new → keeps pg new ≡ true = λ more.
+    ap (λ (l : List KeptGroup). is_among pg (ids_of l)) more.items
     ∙ subst (λ (p : PgId). is_among p (ids_of (old.kept.items ++ kept ∷ [])) ≡ true) begun.pg (keeps-last old.kept.items kept) in
-    let others : (other : PgId) → is_same_group other pg ≡ false → keeps other new ≡ keeps other old =
-    λ other differs. ap (λ (l : List KeptGroup). is_among other (ids_of l)) items ∙ keeps-others old.kept.items kept other (ap (is_same_group other) begun.pg ∙ differs) in
+    let others : HasOneMore kept old new → (other : PgId) → is_same_group other pg ≡ false → keeps other new ≡ keeps other old = λ more other differs.
+    ap (λ (l : List KeptGroup). is_among other (ids_of l)) more.items ∙ keeps-others old.kept.items kept other (ap (is_same_group other) begun.pg ∙ differs) in
     record {
-      ok = λ log inc made is.
+      ok = on_ok_weaker c.keep.result (λ more log inc made is.
           let there : has_group (then_with (incs_of log) inc) pg ≡ true = sym (c.has_group.ensures (then_with (incs_of log) inc) is.step.after_is) ∙ c.if-not-has_group.false in
           let absent : has_group (incs_of log) pg ≡ false = absent-before log inc pg (step-fine log inc is.before old.map is.step) made in
           record {
             before = is.before;
-            step = is.step;
-            groups_are = groups-more (log ++ entry.Inc inc ∷ []) old new kept c.row.result
-                (rw begun.pg (sym c.contains_key.ensures ∙ c.if-contains_key.false))
-                (λ q. rw begun.pg (c.in_ok-insert.ensures.updates.0 q
-                ∙ ap (λ (n : ℕ). cond (is_same_group pg q) (Some n) (hash.get is_same_group old.places q)) (c.len-place.ensures ∙ old.kept.ok.0)))
-                items refl begun.marked (begun.is log inc is.before is.step absent there) c.row.ensures c.in_ok-push.ensures.ok is.groups_are;
-            own_are = λ other own was. keeps-still old new pg here others other (is.own_are other own was);
-            only_own = only-more c.args.owner (then_with (incs_of log) inc) old new pg (sym c.owns.ensures ∙ c.if-not-owns.false) there others is.only_own;
-          };
-      own = λ log inc is own there. here;
-      still = record {
-        groups_are = keeps-still old new pg here others;
-        marked = λ all. subst AreAllMarked (sym items) (All-push (λ (k : KeptGroup). is_marked k ≡ true) old.kept.items kept all begun.marked);
-      };
-      marks = λ other differs.
-          ap (λ (l : List KeptGroup). is_among other (marks_in l)) items ∙ marks-push old.kept.items kept other (ap (is_same_group other) begun.pg ∙ other-pool pg other differs);
+            step = rw more.map is.step;
+            groups_are = groups-more (log ++ entry.Inc inc ∷ []) old new kept more.row (rw begun.pg (sym c.contains_key.ensures ∙ c.if-contains_key.false)) more.found
+                more.items more.worked begun.marked (begun.is log inc is.before is.step absent there) more.row_is more.rows is.groups_are;
+            own_are = λ other own was. keeps-still old new pg (here more) (others more) other (is.own_are other own was);
+            only_own = only-more c.args.owner (then_with (incs_of log) inc) old new pg (sym c.owns.ensures ∙ c.if-not-owns.false) there (others more) is.only_own;
+          }) c.keep.ensures;
+      own = on_ok_weaker c.keep.result (λ more log inc is own there. here more) c.keep.ensures;
+      still = on_ok_weaker c.keep.result (λ more. record {
+        groups_are = keeps-still old new pg (here more) (others more);
+        marked = λ all. subst AreAllMarked (sym more.items) (All-push (λ (k : KeptGroup). is_marked k ≡ true) old.kept.items kept all begun.marked);
+      }) c.keep.ensures;
+      marks = on_ok_weaker c.keep.result (λ more other differs.
+          ap (λ (l : List KeptGroup). is_among other (marks_in l)) more.items ∙ marks-push old.kept.items kept other (ap (is_same_group other) begun.pg ∙ other-pool pg other differs))
+          c.keep.ensures;
     }

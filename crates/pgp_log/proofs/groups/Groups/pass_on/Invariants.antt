@@ -1,6 +1,6 @@
 use Rattle.pgp_log.proofs.Common.{◌≡◌, false, ℕ, ◌<◌, ◌≤◌, ◌-◌, List, [], ◌∷◌, ◌++◌, Some, length, slice_get, Entry, PgId, is_touched, marks_of, AreAllMarked, AreKeptOf, AreRowsOf, IsKeptOf, IsStep, ids_of, is_among, KeptGroup}
 use Rattle.pgp_ids.specs.declared.entry.Entry.TheVariants as entry
-use Rattle.pgp_log.proofs.groups.Groups.absorb_inc.Given as goal
+use Rattle.pgp_log.proofs.groups.Groups.pass_on.Given as goal
 
 abbrev pub invariant-loop-place : goal.invariant-loop-place
 invariant-loop-place l = record {
