@@ -1,6 +1,7 @@
-//! What a member tells of its copy.
+//! What members tell of their copies.
 
 use super::ids::{group, member, version};
+use super::maps::COPIES;
 use pgp_ids::{Epoch, Info};
 
 /// A complete copy of [`group`] without a write, which never served, as device 0 tells of it in epoch 1. Tests change the
@@ -18,3 +19,26 @@ pub fn empty_copy() -> Info {
         complete: true,
     }
 }
+
+/// The lines of such infos, of the devices 0, 1 and 2.
+pub const EMPTY_0: &str =
+    r#"{"op":"info","pg":[1,0],"from":[0,0],"stamp":1,"les":0,"history_les":0,"last_update":[0,0],"log_tail":[0,0],"complete":true}"#;
+
+pub const EMPTY_1: &str =
+    r#"{"op":"info","pg":[1,0],"from":[1,0],"stamp":1,"les":0,"history_les":0,"last_update":[0,0],"log_tail":[0,0],"complete":true}"#;
+
+pub const EMPTY_2: &str =
+    r#"{"op":"info","pg":[1,0],"from":[2,0],"stamp":1,"les":0,"history_les":0,"last_update":[0,0],"log_tail":[0,0],"complete":true}"#;
+
+/// The incremental by which device 0 is known to have been up in epoch 1.
+pub const KNOWN_UP: &str = r#"{"op":"inc","epoch":2,"up_thru":[[0,1]]}"#;
+
+/// The entries after which a group of three copies serves: two have writes that the third lacks.
+pub const TO_SERVE: [&str; 6] = [
+    COPIES,
+    r#"{"op":"info","pg":[1,0],"from":[0,0],"stamp":1,"les":0,"history_les":0,"last_update":[1,2],"log_tail":[0,0],"complete":true}"#,
+    r#"{"op":"info","pg":[1,0],"from":[1,0],"stamp":1,"les":0,"history_les":0,"last_update":[1,1],"log_tail":[0,0],"complete":true}"#,
+    EMPTY_2,
+    r#"{"op":"entries","pg":[1,0],"from":[0,0],"stamp":1,"log":[[1,1,"modify","a"],[1,2,"modify","b"]]}"#,
+    KNOWN_UP,
+];

@@ -17,7 +17,7 @@ mod words;
 pub use dice::Dice;
 pub use ids::{NO_OSD, group, member, osd, places, pool, version};
 pub use incrementals::changing_nothing;
-pub use infos::empty_copy;
+pub use infos::{EMPTY_0, EMPTY_1, EMPTY_2, KNOWN_UP, TO_SERVE, empty_copy};
 pub use intervals::{lying_on, two_epochs};
 pub use lines::{entry, entry_surely, incremental, text_of};
 pub use maps::{
