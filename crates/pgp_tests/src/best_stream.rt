@@ -1,7 +1,7 @@
 //! The best of infos that come and go, as it is kept, against the best found among all that came, over seeded streams.
 
 use pgp_fixtures::{Dice, empty_copy, member, version};
-use pgp_ids::{Epoch, Info, Member};
+use pgp_ids::{Epoch, Info, Member, Version};
 use pgp_info::{Best, Preference};
 use std::alloc::{AllocError, Global};
 use std::test::Fail;
@@ -46,9 +46,10 @@ impl Came {
 
     fn is_unbeaten(&self, info: &Info) -> bool {
         for place in &self.infos {
-            match place {
-                Some(other) if self.may_lead(other) && self.prefers(other, info) => return false,
-                _ => {}
+            if let Some(other) = place {
+                if self.may_lead(other) && self.prefers(other, info) {
+                    return false;
+                }
             }
         }
         true
@@ -57,9 +58,10 @@ impl Came {
     /// The best of the infos of such copies: the pool follows no other.
     fn best(&self) -> Option<&Info> {
         for place in &self.infos {
-            match place {
-                Some(info) if self.may_lead(info) && self.is_unbeaten(info) => return Some(info),
-                _ => {}
+            if let Some(info) = place {
+                if self.may_lead(info) && self.is_unbeaten(info) {
+                    return Some(info);
+                }
             }
         }
         None
@@ -67,18 +69,30 @@ impl Came {
 
     /// Whether the pool follows the copy of `a` and not that of `b`.
     fn prefers(&self, a: &Info, b: &Info) -> bool {
-        if a.last_update != b.last_update {
-            return self.by_place == (a.last_update < b.last_update);
+        let (last, other) = (order_of(a.last_update), order_of(b.last_update));
+        if last != other {
+            return self.by_place == (last < other);
         }
-        if a.log_tail != b.log_tail {
-            return a.log_tail < b.log_tail;
+        let (tail, other) = (order_of(a.log_tail), order_of(b.log_tail));
+        if tail != other {
+            return tail < other;
         }
-        match self.primary {
-            Some(primary) if primary == a.member => a.member != b.member,
-            Some(primary) if primary == b.member => false,
-            _ => a.member < b.member,
+        self.rank(&a.member) < self.rank(&b.member)
+    }
+
+    /// The primary comes first, and then the members by their places.
+    fn rank(&self, member: &Member) -> usize {
+        let place = place_of(member);
+        match &self.primary {
+            Some(primary) if place_of(primary) == place => 0,
+            _ => place.saturating_add(1),
         }
     }
+}
+
+/// Versions go by their epochs, and in one epoch by their numbers.
+fn order_of(version: Version) -> u64 {
+    u64::from(version.epoch.number()) << 32 | u64::from(version.v)
 }
 
 /// The place of the member's info.
@@ -149,13 +163,22 @@ fn step(
     Ok(())
 }
 
+/// Whether these are the same info, or both none.
+fn is_same(a: Option<&Info>, b: Option<&Info>) -> bool {
+    match (a, b) {
+        (Some(a), Some(b)) => *a == *b,
+        (None, None) => true,
+        (_, _) => false,
+    }
+}
+
 /// Whether both have the same best info, and tell the same of each member.
 fn say_the_same(heard: &Best<Preference>, came: &Came) -> bool {
-    let mut same = heard.best() == came.best();
+    let mut same = is_same(heard.best(), came.best());
     for osd in 0..DEVICES {
         for slot in 0..2 {
             let member = member(osd, slot);
-            same = heard.info_of(&member) == came.info_of(&member) && same;
+            same = is_same(heard.info_of(&member), came.info_of(&member)) && same;
         }
     }
     same
@@ -181,11 +204,10 @@ fn run(alloc: Global, by_place: bool, seed: u64) -> Result<bool, AllocError> {
 
 #[test]
 fn best_that_is_kept_is_the_best_of_all_that_came(rt: HostRuntime) -> Result<(), Fail> {
-    for seed in 0..20 {
-        for by_place in [false, true] {
-            let same = run(rt.alloc(), by_place, seed)?;
-            assert!(rt; same, "stream {seed}, by place: {by_place}");
-        }
+    for stream in 0..40 {
+        let (seed, by_place) = (stream / 2, stream % 2 == 1);
+        let same = run(rt.alloc(), by_place, seed)?;
+        assert!(rt; same, "stream {seed}, by place: {by_place}");
     }
     Ok(())
 }

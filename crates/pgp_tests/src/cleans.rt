@@ -1,13 +1,15 @@
 //! Infos that tell when a group was clean, over seeded streams of maps and reports: what a shard keeps of the group's past
 //! intervals and prior set, against both worked out from scratch.
 
-ghost use Rattle.std.specs.Prelude.{◌<◌, length, IfOk};
+ghost use Rattle.std.specs.Prelude.{◌≡◌, length, IfOk};
 
 use super::plain_history::History;
+use super::transcripts::{started, takes, view_of};
 use pgp_fixtures::{Dice, TWO_GROUPS_OF_EACH_KIND, any_line, entry, group, incremental};
-use pgp_ids::{Entry, Incremental, Info, Verdict, View};
+use pgp_ids::{Entry, Incremental, Info, Past, Verdict, View};
 use pgp_log::World;
-use std::alloc::{AllocError, Global};
+use pgp_prior::Prior;
+use std::alloc::Global;
 use std::process::Abort;
 use std::test::Fail;
 
@@ -24,19 +26,18 @@ struct Tally {
     blocked: usize,
 }
 
-/// How many past intervals the group may have gone read-write in, by all infos that came or by none.
-fn count_written(alloc: Global, plain: &History, by_infos: bool) -> Result<usize, AllocError> {
-    let past = plain.past(alloc, by_infos)?;
-    Ok(past.iter().filter(|past| past.rw).count())
-}
-
 /// How many past intervals have their flag by an info alone, and for how many devices that are down the group has to wait.
 fn counts(alloc: Global, plain: &History) -> Result<(usize, usize), Fail> {
-    let all = count_written(alloc, plain, true)?;
-    let by_maps = count_written(alloc, plain, false)?;
     let past = plain.past(alloc, true)?;
+    let by_maps = plain.past(alloc, false)?;
+    let mut raised = 0usize;
+    for (all, known) in past.iter().zip(by_maps.iter()) {
+        if all.rw && !known.rw {
+            raised = raised.saturating_add(1);
+        }
+    }
     let prior = plain.prior(alloc, past.as_slice())?;
-    Ok((all.saturating_sub(by_maps), prior.blocked_by.len()))
+    Ok((raised, prior.blocked_by.len()))
 }
 
 /// Whether the info counts.
@@ -67,28 +68,45 @@ fn take(alloc: Global, plain: &mut History, entry: &Entry, tally: &mut Tally) ->
     Ok(())
 }
 
+/// The plain history takes the entry that the line is, if the world has taken it.
+fn take_line(
+    alloc: Global,
+    plain: &mut History,
+    line: &str,
+    is_taken: bool,
+    tally: &mut Tally,
+) -> Result<(), Fail> {
+    let told = entry(alloc, line).ok_or("no entry")?;
+    if is_taken {
+        take(alloc, plain, &told, tally)?;
+    }
+    Ok(())
+}
+
 /// Whether the view and the plain history tell the same of the group's past, and of whom it has to hear.
 fn says_the_same(alloc: Global, view: &View, plain: &History) -> Result<bool, Fail> {
     let past = plain.past(alloc, true)?;
     let prior = plain.prior(alloc, past.as_slice())?;
+    Ok(has_past(view, plain, past.as_slice()) && hears(view, &prior))
+}
+
+fn has_past(view: &View, plain: &History, past: &[Past]) -> bool {
+    view.first == plain.first() && view.les == plain.les && view.intervals.as_slice() == past
+}
+
+fn hears(view: &View, prior: &Prior) -> bool {
     let waits = prior.down && view.acting_primary.is_some();
-    Ok(
-        view.first == plain.first()
-            && view.les == plain.les
-            && view.intervals.as_slice() == past.as_slice()
-            && view.probe.as_slice() == prior.probe.as_slice()
-            && view.blocked_by.as_slice() == prior.blocked_by.as_slice()
-            && waits == (view.verdict == Verdict::Down),
-    )
+    view.probe.as_slice() == prior.probe.as_slice()
+        && view.blocked_by.as_slice() == prior.blocked_by.as_slice()
+        && waits == (view.verdict == Verdict::Down)
 }
 
 /// The shard reads all that there is, and both tell the same of the group.
 fn agree<R: Abort + AllocGlobal>(rt: &R, world: &mut World, plain: &History) -> Result<(), Fail>
-    requires { 0 < length world.old.read }
-    ensures { 0 < length world.new.read }
+    requires { length world.old.read ≡ 1 }
+    ensures { length world.new.read ≡ 1 }
 {
-    world.absorb(0, 100)?;
-    let view = world.ask(group())?;
+    let view = view_of(world, 1)?;
     assert!(rt;
         says_the_same(rt.alloc(), &view, plain)?,
         "in epoch {}",
@@ -97,26 +115,28 @@ fn agree<R: Abort + AllocGlobal>(rt: &R, world: &mut World, plain: &History) -> 
     Ok(())
 }
 
-/// Both take the entry that the line is, unless it is refused.
-fn step(
-    alloc: Global,
+/// An entry of a stream comes, which the plain history takes if the world does. The group is asked about then, or now and then.
+fn step<R: Abort + AllocGlobal>(
+    rt: &R,
     world: &mut World,
     plain: &mut History,
-    line: &str,
+    is_often: bool,
+    dice: &mut Dice,
     tally: &mut Tally,
 ) -> Result<(), Fail>
-    requires { 0 < length world.old.read }
-    ensures { 0 < length world.new.read }
+    requires { length world.old.read ≡ 1 }
+    ensures { length world.new.read ≡ 1 }
 {
-    let told = entry(alloc, line).ok_or("no entry")?;
-    if world.submit(told).is_ok() {
-        let told = entry(alloc, line).ok_or("no entry")?;
-        take(alloc, plain, &told, tally)?;
+    let line = any_line(rt.alloc(), plain.map.epoch().number(), dice)?;
+    let is_taken = takes(rt.alloc(), world, line.as_str());
+    take_line(rt.alloc(), plain, line.as_str(), is_taken, tally)?;
+    if is_often || dice.below(6) == 0 {
+        agree(rt, world, plain)?;
     }
     Ok(())
 }
 
-/// A stream of entries. The group is asked about after each of them, or now and then.
+/// A stream of entries.
 fn follow<R: Abort + AllocGlobal>(
     rt: &R,
     world: &mut World,
@@ -124,24 +144,20 @@ fn follow<R: Abort + AllocGlobal>(
     seed: u64,
     tally: &mut Tally,
 ) -> Result<(), Fail>
-    requires { 0 < length world.old.read }
+    requires { length world.old.read ≡ 1 }
 {
     let mut dice = Dice::seeded(seed);
     for _ in 0..80 {
-        let line = any_line(rt.alloc(), plain.epoch(), &mut dice)?;
-        step(rt.alloc(), world, plain, line.as_str(), tally)?;
-        if seed % 2 == 0 || dice.below(6) == 0 {
-            agree(rt, world, plain)?;
-        }
+        step(rt, world, plain, seed % 2 == 0, &mut dice, tally)?;
     }
     agree(rt, world, plain)
 }
 
 /// A world of one shard that has taken the incremental.
 fn begun(alloc: Global, inc: Incremental) -> Result<World, Fail>
-    ensures { IfOk result (λ world. 0 < length world.read) }
+    ensures { IfOk result (λ world. length world.read ≡ 1) }
 {
-    let mut world = World::start(alloc, 1)?;
+    let mut world = started(alloc, 1)?;
     world.submit(Entry::Inc(inc))?;
     Ok(world)
 }

@@ -3,32 +3,14 @@
 mod alone;
 mod grouped;
 
+use super::peering::{LOST_1, MOVED};
 use super::transcripts::{Script, go_so};
-use pgp_fixtures::{COPIES, SHARDS};
+use pgp_fixtures::{COPIES, EMPTY_0, EMPTY_1, EMPTY_2, KNOWN_UP, SHARDS};
 use std::test::Fail;
-
-/// An empty copy.
-const EMPTY_0: &str =
-    r#"{"op":"info","pg":[1,0],"from":[0,0],"stamp":1,"les":0,"history_les":0,"last_update":[0,0],"log_tail":[0,0],"complete":true}"#;
-
-const EMPTY_1: &str =
-    r#"{"op":"info","pg":[1,0],"from":[1,0],"stamp":1,"les":0,"history_les":0,"last_update":[0,0],"log_tail":[0,0],"complete":true}"#;
-
-const EMPTY_2: &str =
-    r#"{"op":"info","pg":[1,0],"from":[2,0],"stamp":1,"les":0,"history_les":0,"last_update":[0,0],"log_tail":[0,0],"complete":true}"#;
 
 /// A copy with a log of three writes.
 const WRITTEN: &str =
     r#"{"op":"info","pg":[1,0],"from":[0,0],"stamp":1,"les":0,"history_les":0,"last_update":[1,3],"log_tail":[0,0],"complete":true}"#;
-
-/// Device 0 is known to have been up in epoch 1.
-const SERVED: &str = r#"{"op":"inc","epoch":2,"up_thru":[[0,1]]}"#;
-
-/// Two of three shards went down, and the group lies elsewhere.
-const MOVED: &str = r#"{"op":"inc","epoch":3,"down":[1,2],"temp":[[1,0,[0,3,4]]]}"#;
-
-/// One of them is given up for lost.
-const LOST: &str = r#"{"op":"inc","epoch":4,"lost":[[1,2]]}"#;
 
 /// New sizes open an interval.
 const RESIZED: &str = r#"{"op":"inc","epoch":2,"sizes":[[1,3,1]]}"#;
@@ -113,11 +95,6 @@ static SCRIPTS: [Script; 7] = [
     ),
 ];
 
-#[test]
-fn groups_are_answered_by_their_lines(rt: HostRuntime) -> Result<(), Fail> {
-    go_so(&rt, 1, &SCRIPTS)
-}
-
 /// Two of three shards went down, after three entries.
 const TWO_DOWN: &str =
     r#"{"acting":[0,3,4],"acting_primary":0,"best":null,"blocked_by":[1,2],"count":3,"epoch":3,"first":3,"intervals":[{"acting":[0,1,2],"acting_primary":0,"first":1,"last":2,"min_size":2,"rw":true,"size":3,"up":[null,null,null],"up_primary":null}],"les":0,"missing":[],"ok":"ask","pg":[1,0],"probe":[[0,0],[3,1],[4,2]],"up":[null,null,null],"up_primary":null,"verdict":"Down"}"#;
@@ -132,10 +109,10 @@ static OUTAGES: [Script; 4] = [
         "follows shards that are destroyed after one was lost",
         &[
             SHARDS,
-            SERVED,
+            KNOWN_UP,
             MOVED,
             TWO_DOWN,
-            LOST,
+            LOST_1,
             ONE_GIVEN_UP,
             r#"{"op":"inc","epoch":5,"gone":[1]}"#,
             r#"{"acting":[0,3,4],"acting_primary":0,"best":null,"blocked_by":[2],"count":5,"epoch":5,"first":3,"intervals":[{"acting":[0,1,2],"acting_primary":0,"first":1,"last":2,"min_size":2,"rw":true,"size":3,"up":[null,null,null],"up_primary":null}],"les":0,"missing":[],"ok":"ask","pg":[1,0],"probe":[[0,0],[3,1],[4,2]],"up":[null,null,null],"up_primary":null,"verdict":"Down"}"#,
@@ -147,10 +124,10 @@ static OUTAGES: [Script; 4] = [
         "follows a shard that is lost and then is so no more",
         &[
             SHARDS,
-            SERVED,
+            KNOWN_UP,
             MOVED,
             TWO_DOWN,
-            LOST,
+            LOST_1,
             ONE_GIVEN_UP,
             r#"{"op":"inc","epoch":5,"lost":[[1,1]]}"#,
             r#"{"acting":[0,3,4],"acting_primary":0,"best":null,"blocked_by":[1,2],"count":5,"epoch":5,"first":3,"intervals":[{"acting":[0,1,2],"acting_primary":0,"first":1,"last":2,"min_size":2,"rw":true,"size":3,"up":[null,null,null],"up_primary":null}],"les":0,"missing":[],"ok":"ask","pg":[1,0],"probe":[[0,0],[3,1],[4,2]],"up":[null,null,null],"up_primary":null,"verdict":"Down"}"#,
@@ -162,7 +139,7 @@ static OUTAGES: [Script; 4] = [
         "waits on for a shard lost before the interval began",
         &[
             SHARDS,
-            SERVED,
+            KNOWN_UP,
             MOVED,
             TWO_DOWN,
             r#"{"op":"inc","epoch":4,"lost":[[1,1]]}"#,
@@ -173,7 +150,7 @@ static OUTAGES: [Script; 4] = [
         "follows a shard that comes up again",
         &[
             SHARDS,
-            SERVED,
+            KNOWN_UP,
             MOVED,
             TWO_DOWN,
             r#"{"op":"inc","epoch":4,"up":[1]}"#,
@@ -187,8 +164,10 @@ static OUTAGES: [Script; 4] = [
 ];
 
 #[test]
-fn groups_are_answered_after_each_line(rt: HostRuntime) -> Result<(), Fail> {
-    go_so(&rt, 1, &OUTAGES)
+fn groups_are_answered_by_their_lines(rt: HostRuntime) -> Result<(), Fail> {
+    go_so(&rt, 1, &SCRIPTS)?;
+    go_so(&rt, 1, &OUTAGES)?;
+    go_so(&rt, 1, &grouped::SCRIPTS)
 }
 
 /// A group that comes to serve.
@@ -201,15 +180,14 @@ static SERVES: [Script; 1] = [Script(
         EMPTY_2,
         r#"{"op":"entries","pg":[1,0],"from":[0,0],"stamp":1,"log":[[1,1,"modify","a"],[1,2,"modify","b"]]}"#,
         r#"{"acting":[0,1,2],"acting_primary":0,"best":[0,0],"blocked_by":[],"count":5,"epoch":1,"first":1,"intervals":[],"les":0,"missing":[{"member":[1,0],"objects":{"b":[1,2]},"state":"missing"},{"member":[2,0],"objects":{"a":[1,1],"b":[1,2]},"state":"missing"}],"ok":"ask","pg":[1,0],"probe":[[0,0],[1,0],[2,0]],"up":[0],"up_primary":0,"verdict":"NeedUpThru"}"#,
-        SERVED,
+        KNOWN_UP,
         r#"{"acting":[0,1,2],"acting_primary":0,"best":[0,0],"blocked_by":[],"count":6,"epoch":2,"first":1,"intervals":[],"les":0,"missing":[{"member":[1,0],"objects":{"b":[1,2]},"state":"missing"},{"member":[2,0],"objects":{"a":[1,1],"b":[1,2]},"state":"missing"}],"ok":"ask","pg":[1,0],"probe":[[0,0],[1,0],[2,0]],"up":[0],"up_primary":0,"verdict":"Serve"}"#,
     ],
 )];
 
 #[test]
 fn worlds_come_to_serve(rt: HostRuntime) -> Result<(), Fail> {
-    for shards in [1, 2, 64] {
-        go_so(&rt, shards, &SERVES)?;
-    }
-    Ok(())
+    go_so(&rt, 1, &SERVES)?;
+    go_so(&rt, 2, &SERVES)?;
+    go_so(&rt, 64, &SERVES)
 }

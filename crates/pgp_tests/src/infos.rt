@@ -8,17 +8,16 @@ use std::test::Fail;
 
 /// What a member tells: its device and slot, the epochs of its last start and of the group's, the number of its last write,
 /// which was in epoch 1 if there was one, and whether its copy is complete.
-#[derive(Clone, Copy)]
 struct Told(u8, u8, u32, u32, u32, bool);
 
-fn info(told: Told) -> Info {
+fn info(told: &Told) -> Info {
     let Told(osd, slot, les, history_les, v, complete) = told;
     Info {
-        member: member(osd, slot),
-        les: Epoch::new(les),
-        history_les: Epoch::new(history_les),
-        last_update: version(u32::from(v > 0), v),
-        complete,
+        member: member(*osd, *slot),
+        les: Epoch::new(*les),
+        history_les: Epoch::new(*history_les),
+        last_update: version(u32::from(*v > 0), *v),
+        complete: *complete,
         ..empty_copy()
     }
 }
@@ -32,7 +31,7 @@ fn heard_of<P: Prefer + Drop>(
 ) -> Result<Best<P>, AllocError> {
     let mut heard = Best::new(alloc, prefer);
     for told in infos.iter().take(count) {
-        heard.put(info(*told))?;
+        heard.put(info(told))?;
     }
     Ok(heard)
 }

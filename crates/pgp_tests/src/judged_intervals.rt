@@ -11,7 +11,6 @@ use std::alloc::{AllocError, Global};
 use std::test::Fail;
 
 /// What the index is told.
-#[derive(Clone, Copy)]
 enum Step {
     /// Nothing.
     Begun,
@@ -137,14 +136,14 @@ fn index_of<'a>(
 }
 
 /// The index is told the step.
-fn take(index: &mut Index<'_>, table: &mut Table, step: Step) {
+fn take(index: &mut Index<'_>, table: &mut Table, step: &Step) {
     match step {
         Step::Begun => {}
         Step::Turned(turn, status) => {
-            table.set(1, status);
+            table.set(1, *status);
             turn.tell(index, osd(1), table);
         }
-        Step::Raised(place) => index.raise(place),
+        Step::Raised(place) => index.raise(*place),
     }
 }
 
@@ -154,7 +153,7 @@ fn first_wrong(alloc: Global, scene: &Scene) -> Result<Option<usize>, AllocError
     let mut table = Table::of(alloc, &scene.statuses)?;
     let mut index = index_of(alloc, scene, &asked, &table)?;
     for (place, Told(step, counts, words)) in scene.steps.iter().enumerate() {
-        take(&mut index, &mut table, *step);
+        take(&mut index, &mut table, step);
         let found = prior_text(alloc, &index.prior()?)?;
         if asked.counts() != *counts || found.as_str() != *words {
             return Ok(Some(place));

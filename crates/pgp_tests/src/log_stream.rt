@@ -55,11 +55,6 @@ impl Reported {
         before == self.info.last_update
     }
 
-    /// The version with this number.
-    fn version(&self, v: u32) -> Option<Version> {
-        Some(self.entry(v)?.version)
-    }
-
     /// The last entry of the object above this number.
     fn newest_of(&self, name: usize, above: u32) -> Option<Wrote> {
         let mut newest = None;
@@ -95,11 +90,15 @@ impl Reported {
     fn state_of(&self, alloc: Global, peer: &Info) -> Result<String, AllocError> {
         let last = peer.last_update;
         let tail = self.info.log_tail;
+        let wrote_last = match self.entry(last.v) {
+            Some(wrote) => wrote.version == last,
+            None => false,
+        };
         if !self.is_whole() {
             String::from_str(alloc, "not whole")
         } else if !peer.complete || last < tail {
             String::from_str(alloc, "backfill")
-        } else if last != tail && self.version(last.v) != Some(last) {
+        } else if last != tail && !wrote_last {
             String::from_str(alloc, "diverged")
         } else {
             self.lacking(alloc, last.v)

@@ -3,7 +3,7 @@
 ghost use Rattle.std.specs.Prelude.{◌≡◌, OnOk};
 ghost use Rattle.pgp_log.specs.Judge.{IsJudgeOf};
 
-use pgp_fixtures::{COPIES, TWO_GROUPS, entry};
+use pgp_fixtures::{TO_SERVE, TWO_GROUPS, entry};
 use pgp_log::{Judge, ShardState};
 use std::alloc::Global;
 use std::process::Abort;
@@ -12,16 +12,6 @@ use std::test::Fail;
 
 /// Lines that a shard reads, how many groups it may work out anew then, how many are left after that, and why.
 struct Step(&'static [&'static str], usize, usize, &'static str);
-
-/// A pool of one group of three copies, whose members report, and whose primary is known to have been up.
-const ENTRIES: [&str; 6] = [
-    COPIES,
-    r#"{"op":"info","pg":[1,0],"from":[0,0],"stamp":1,"les":0,"history_les":0,"last_update":[1,2],"log_tail":[0,0],"complete":true}"#,
-    r#"{"op":"info","pg":[1,0],"from":[1,0],"stamp":1,"les":0,"history_les":0,"last_update":[1,1],"log_tail":[0,0],"complete":true}"#,
-    r#"{"op":"info","pg":[1,0],"from":[2,0],"stamp":1,"les":0,"history_les":0,"last_update":[0,0],"log_tail":[0,0],"complete":true}"#,
-    r#"{"op":"entries","pg":[1,0],"from":[0,0],"stamp":1,"log":[[1,1,"modify","a"],[1,2,"modify","b"]]}"#,
-    r#"{"op":"inc","epoch":2,"up_thru":[[0,1]]}"#,
-];
 
 /// An entry that has nothing to do with the group, one that tells of it, and one that changes it.
 const STRANGE: &str = r#"{"op":"inc","epoch":3}"#;
@@ -33,7 +23,7 @@ const CHANGING: &str = r#"{"op":"inc","epoch":4,"down":[2]}"#;
 
 /// The shard's only group has to be worked out anew after each entry that touches it, and after no other.
 static TOUCHED: [Step; 6] = [
-    Step(&ENTRIES, 0, 1, "nothing was worked out yet"),
+    Step(&TO_SERVE, 0, 1, "nothing was worked out yet"),
     Step(&[], 1, 0, "the only group was worked out"),
     Step(&[STRANGE], 0, 0, "an entry that has nothing to do with it"),
     Step(&[TOUCHING], 0, 1, "a report of the group"),
@@ -97,12 +87,8 @@ fn goes_so<R: Abort + AllocGlobal>(rt: &R, steps: &[Step]) -> Result<(), Fail> {
 }
 
 #[test]
-fn shards_work_out_anew_what_was_touched(rt: HostRuntime) -> Result<(), Fail> {
-    goes_so(&rt, &TOUCHED)
-}
-
-#[test]
-fn fresh_shards_work_out_as_many_groups_as_they_may(rt: HostRuntime) -> Result<(), Fail> {
+fn shards_work_out_what_was_touched_or_never_worked_out(rt: HostRuntime) -> Result<(), Fail> {
+    goes_so(&rt, &TOUCHED)?;
     goes_so(&rt, &ONE_A_CALL)?;
     goes_so(&rt, &BOTH_BY_THE_SECOND_CALL)?;
     goes_so(&rt, &BOTH_BY_THE_FIRST_CALL)

@@ -77,7 +77,7 @@ const FAR: Entries = &[(1, 1, MADE, "a"), (1, 2, MADE, "b"), (2, MAX, MADE, "c")
 const MAX: u32 = u32::MAX;
 
 /// The version before the best copy's log and that of its last write, each an epoch and a number; its log entries; the same
-/// two versions of a peer's copy; and the peer's state.
+/// two versions of a peer's copy; and the peer's state where that copy is complete. One that isn't is backfilled.
 static STATES: [([u32; 4], Entries, [u32; 4], &str); 23] = [
     ([1, 1, 2, 3], TWO, [1, 2, 1, 2], "missing b [2,3]"),
     ([1, 1, 2, 3], TWO, [1, 1, 1, 1], "missing a [1,2] b [2,3]"),
@@ -114,10 +114,10 @@ static STATES: [([u32; 4], Entries, [u32; 4], &str); 23] = [
     ([2, 3, 2, 3], TWO, [2, 2, 2, 2], "backfill"),
 ];
 
-/// The copy by these numbers, which is complete.
-fn copy_of(numbers: [u32; 4]) -> Info {
+/// The copy by these numbers.
+fn copy_of(numbers: [u32; 4], complete: bool) -> Info {
     let [tail_epoch, tail, epoch, v] = numbers;
-    info(version(tail_epoch, tail), version(epoch, v), true)
+    info(version(tail_epoch, tail), version(epoch, v), complete)
 }
 
 /// The log of the member with this info, after these entries.
@@ -132,21 +132,16 @@ fn log_of(alloc: Global, info: &Info, entries: Entries) -> Result<MemberLog, Fai
 #[test]
 fn finds_what_peers_miss(rt: HostRuntime) -> Result<(), Fail> {
     for (best, entries, peer, words) in &STATES {
-        let log = log_of(rt.alloc(), &copy_of(*best), entries)?;
-        let found = judged(rt.alloc(), &log, &copy_of(*peer))?;
+        let log = log_of(rt.alloc(), &copy_of(*best, true), entries)?;
+        let found = judged(rt.alloc(), &log, &copy_of(*peer, true))?;
         assert!(rt; found.as_str() == *words, "{found}: {best:?}, {peer:?}");
+        let found = judged(rt.alloc(), &log, &copy_of(*peer, false))?;
+        let expected = if *words == "not whole" {
+            "not whole"
+        } else {
+            "backfill"
+        };
+        assert!(rt; found.as_str() == expected, "{found}: {best:?}, {peer:?}");
     }
-    Ok(())
-}
-
-#[test]
-fn a_peer_that_is_not_complete_is_backfilled(rt: HostRuntime) -> Result<(), Fail> {
-    let best = copy_of([1, 1, 2, 3]);
-    let log = log_of(rt.alloc(), &best, TWO)?;
-    let peer = Info {
-        complete: false,
-        ..best
-    };
-    assert!(rt; judged(rt.alloc(), &log, &peer)?.as_str() == "backfill");
     Ok(())
 }

@@ -3,7 +3,7 @@
 
 use super::prior_sets::{DOWN, GONE, LOST, UP, prior_text};
 use pgp_code::AnyCode;
-use pgp_fixtures::{COPIES, SHARDS, WITHOUT_TEMP, group, incremental, osd, text_of};
+use pgp_fixtures::{COPIES, KNOWN_UP, SHARDS, WITHOUT_TEMP, group, incremental, osd, text_of};
 use pgp_ids::{Epoch, EpochState, Incremental, PrimaryFacts, Seq};
 use pgp_interval::Intervals;
 use pgp_map::OsdMap;
@@ -165,14 +165,11 @@ fn follows_intervals(rt: HostRuntime) -> Result<(), Fail> {
     Ok(())
 }
 
-/// The group may have gone read-write in the epochs 1 and 2.
-const SERVED: &str = r#"{"op":"inc","epoch":2,"up_thru":[[0,1]]}"#;
-
 /// Two of its three shards went down, and it lies elsewhere.
-const MOVED: &str = r#"{"op":"inc","epoch":3,"down":[1,2],"temp":[[1,0,[0,3,4]]]}"#;
+pub const MOVED: &str = r#"{"op":"inc","epoch":3,"down":[1,2],"temp":[[1,0,[0,3,4]]]}"#;
 
 /// Device 1 is given up for lost.
-const LOST_1: &str = r#"{"op":"inc","epoch":4,"lost":[[1,2]]}"#;
+pub const LOST_1: &str = r#"{"op":"inc","epoch":4,"lost":[[1,2]]}"#;
 
 /// The same, but as of an epoch before the group may have gone read-write.
 const LOST_BEFORE: &str = r#"{"op":"inc","epoch":4,"lost":[[1,1]]}"#;
@@ -186,21 +183,21 @@ const ALL_DOWN: &str = r#"{"op":"inc","epoch":2,"down":[0,1,2]}"#;
 /// Incrementals, and the group's prior set. It waits for both shards that are down, until one is given up for lost after the
 /// interval began, and then for the other again where that one is destroyed.
 static PRIOR_SETS: [(&[&str], &str); 6] = [
-    (&[SHARDS, SERVED, MOVED], "asks 0:0 3:1 4:2, down 1 2"),
+    (&[SHARDS, KNOWN_UP, MOVED], "asks 0:0 3:1 4:2, down 1 2"),
     (
-        &[SHARDS, SERVED, MOVED, LOST_BEFORE],
+        &[SHARDS, KNOWN_UP, MOVED, LOST_BEFORE],
         "asks 0:0 3:1 4:2, down 1 2",
     ),
     (
-        &[SHARDS, SERVED, MOVED, LOST_1],
+        &[SHARDS, KNOWN_UP, MOVED, LOST_1],
         "asks 0:0 3:1 4:2, not down",
     ),
     (
-        &[SHARDS, SERVED, MOVED, LOST_1, GONE_1],
+        &[SHARDS, KNOWN_UP, MOVED, LOST_1, GONE_1],
         "asks 0:0 3:1 4:2, down 2",
     ),
     (
-        &[SHARDS, SERVED, MOVED, UP_1],
+        &[SHARDS, KNOWN_UP, MOVED, UP_1],
         "asks 0:0 1:1 3:1 4:2, not down",
     ),
     (&[SHARDS, ALL_DOWN], "asks, not down"),

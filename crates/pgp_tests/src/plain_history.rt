@@ -73,11 +73,6 @@ impl History {
         Ok(())
     }
 
-    /// The epoch of the last map.
-    pub fn epoch(&self) -> u32 {
-        self.map.epoch().number()
-    }
-
     /// The last state of the interval that ends with this epoch, where one does.
     fn ended_with(&self, epoch: u32) -> Option<&EpochState> {
         let after = epoch as usize;
@@ -92,7 +87,7 @@ impl History {
     /// The first epoch of the interval that isn't over.
     pub fn first(&self) -> Epoch {
         let mut first = 1u32;
-        for epoch in 1..self.epoch() {
+        for epoch in 1..self.map.epoch().number() {
             if self.ended_with(epoch).is_some() {
                 first = epoch.saturating_add(1);
             }
@@ -104,7 +99,7 @@ impl History {
     pub fn past(&self, alloc: Global, by_infos: bool) -> Result<Vec<Past>, AllocError> {
         let mut past = Vec::new(alloc);
         let mut first = 1u32;
-        for last in 1..self.epoch() {
+        for last in 1..self.map.epoch().number() {
             if let Some(ended) = self.ended_with(last) {
                 past.push(self.past_of(first, last, ended, by_infos))?;
                 first = last.saturating_add(1);

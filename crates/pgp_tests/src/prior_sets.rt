@@ -49,7 +49,6 @@ fn tell_devices(text: &mut String, devices: &[OsdId]) -> Result<(), AllocError> 
 
 /// A group by its history: how many shards give an object back (0 for whole copies), its past acting sets, its present up and
 /// acting sets, and the epoch in which it last began to serve.
-#[derive(Clone, Copy)]
 struct Lived(u8, &'static [Places], Places, Places, u32);
 
 type Places = &'static [u16];
@@ -106,14 +105,14 @@ fn code_of(k: u8) -> AnyCode {
 }
 
 /// The prior set of this group in words.
-fn found(alloc: Global, lived: Lived, statuses: &[Status]) -> Result<String, AllocError> {
+fn found(alloc: Global, lived: &Lived, statuses: &[Status]) -> Result<String, AllocError> {
     let Lived(k, past, up, acting, les) = lived;
     let found = prior(
         alloc,
-        &code_of(k),
+        &code_of(*k),
         written_on(alloc, past)?.as_slice(),
         &lying_on(up, acting),
-        Epoch::new(les),
+        Epoch::new(*les),
         &Table::of(alloc, statuses)?,
     )?;
     prior_text(alloc, &found)
@@ -122,7 +121,7 @@ fn found(alloc: Global, lived: Lived, statuses: &[Status]) -> Result<String, All
 #[test]
 fn finds_prior_sets(rt: HostRuntime) -> Result<(), Fail> {
     for (lived, statuses, words) in &PRIOR_SETS {
-        let found = found(rt.alloc(), *lived, statuses)?;
+        let found = found(rt.alloc(), lived, statuses)?;
         assert!(rt; found.as_str() == *words, "{found}");
     }
     Ok(())

@@ -4,7 +4,7 @@
 ghost use Rattle.std.specs.Prelude.{◌≡◌, ◌<◌, length, IfOk, OnOk};
 
 use pgp_fixtures::{entry, group, text_of};
-use pgp_ids::{AskRefusal, View};
+use pgp_ids::View;
 use pgp_log::World;
 use pgp_text::Reply;
 use std::alloc::{AllocError, Global};
@@ -15,7 +15,7 @@ use std::test::Fail;
 pub struct Script(pub &'static str, pub &'static [&'static str]);
 
 /// A world of this many shards.
-fn started(alloc: Global, shards: usize) -> Result<World, AllocError>
+pub fn started(alloc: Global, shards: usize) -> Result<World, AllocError>
     requires { 0 < shards }
     ensures { IfOk result (λ world. length world.read ≡ shards) }
 {
@@ -26,7 +26,7 @@ fn started(alloc: Global, shards: usize) -> Result<World, AllocError>
 }
 
 /// Whether the world takes the entry that the line is.
-fn takes(alloc: Global, world: &mut World, line: &str) -> bool
+pub fn takes(alloc: Global, world: &mut World, line: &str) -> bool
     ensures { length world.new.read ≡ length world.old.read }
 {
     match entry(alloc, line) {
@@ -48,23 +48,24 @@ fn read_all(world: &mut World, shards: usize) -> Result<(), AllocError>
     Ok(())
 }
 
-/// What the world knows of the group.
-fn view(world: &mut World) -> Result<View, AskRefusal>
-    ensures { length world.new.read ≡ length world.old.read }
-{
-    match world.ask(group()) {
-        Ok(view) => Ok(view),
-        Err(_) => world.ask(group()),
-    }
-}
-
-/// What is answered of the group once each shard has read all that there is.
-fn answer(alloc: Global, world: &mut World, shards: usize) -> Result<Vec<u8>, Fail>
+/// What the world knows of the group once each shard has read all that there is.
+pub fn view_of(world: &mut World, shards: usize) -> Result<View, Fail>
     requires { length world.old.read ≡ shards }
     ensures { length world.new.read ≡ shards }
 {
     read_all(world, shards)?;
-    let view = view(world)?;
+    match world.ask(group()) {
+        Ok(view) => Ok(view),
+        Err(_) => Ok(world.ask(group())?),
+    }
+}
+
+/// What is answered of the group then.
+fn answer(alloc: Global, world: &mut World, shards: usize) -> Result<Vec<u8>, Fail>
+    requires { length world.old.read ≡ shards }
+    ensures { length world.new.read ≡ shards }
+{
+    let view = view_of(world, shards)?;
     Ok(text_of(alloc, Reply::Asked(group(), view))?)
 }
 

@@ -52,10 +52,10 @@ fn crowd(alloc: Global, count: u16) -> Result<Vec<BucketSpec>, AllocError> {
 
 #[test]
 fn counts_buckets(rt: HostRuntime) -> Result<(), Fail> {
-    for (count, fault) in [(1024, None), (1025, Some(TreeFault::TooMany))] {
-        let tree = Tree::check(rt.alloc(), crowd(rt.alloc(), count)?);
-        assert!(rt; tree.err() == fault, "{count} buckets");
-    }
+    let most = Tree::check(rt.alloc(), crowd(rt.alloc(), 1024)?);
+    assert!(rt; most.is_ok());
+    let more = Tree::check(rt.alloc(), crowd(rt.alloc(), 1025)?);
+    assert!(rt; more.err() == Some(TreeFault::TooMany));
     Ok(())
 }
 

@@ -9,7 +9,7 @@ ghost use Rattle.pgp_group.specs.Entries.{inc_of};
 ghost use Rattle.pgp_group.specs.GroupHistory.{makes};
 ghost use Rattle.pgp_tests.specs.Alone.{AreTold, IsNext, TakesMap, TakesReport, tells_ahead};
 
-use pgp_fixtures::{COPIES, entry_surely, group, text_of};
+use pgp_fixtures::{COPIES, EMPTY_0, EMPTY_1, EMPTY_2, KNOWN_UP, entry_surely, group, text_of};
 use pgp_group::Group;
 use pgp_group::laws::growth::{
     checked_incrementals_are_numbered, history_begins_with_its_pool, the_next_map_follows,
@@ -22,20 +22,7 @@ use pgp_text::Reply;
 use std::alloc::{AllocError, Global};
 use std::test::Fail;
 
-/// The info of a copy without a write.
-const EMPTY_0: &str =
-    r#"{"op":"info","pg":[1,0],"from":[0,0],"stamp":1,"les":0,"history_les":0,"last_update":[0,0],"log_tail":[0,0],"complete":true}"#;
-
-const EMPTY_1: &str =
-    r#"{"op":"info","pg":[1,0],"from":[1,0],"stamp":1,"les":0,"history_les":0,"last_update":[0,0],"log_tail":[0,0],"complete":true}"#;
-
-const EMPTY_2: &str =
-    r#"{"op":"info","pg":[1,0],"from":[2,0],"stamp":1,"les":0,"history_les":0,"last_update":[0,0],"log_tail":[0,0],"complete":true}"#;
-
-/// Device 0 is known to have been up in epoch 1.
-const KNOWN_UP: &str = r#"{"op":"inc","epoch":2,"up_thru":[[0,1]]}"#;
-
-/// What is answered of the group then: it serves.
+/// What is answered of the group once its primary is known to have been up: it serves.
 const SERVES: &str =
     r#"{"acting":[0,1,2],"acting_primary":0,"best":[0,0],"blocked_by":[],"count":5,"epoch":2,"first":1,"intervals":[],"les":0,"missing":[{"member":[1,0],"objects":{},"state":"missing"},{"member":[2,0],"objects":{},"state":"missing"}],"ok":"ask","pg":[1,0],"probe":[[0,0],[1,0],[2,0]],"up":[0],"up_primary":0,"verdict":"Serve"}"#;
 

@@ -1,21 +1,20 @@
 //! Transcripts of a group of a grouped pool: what is answered as whole parts go down, are given up for lost and come back, as
 //! it lies by other lists and sizes, and as its infos tell when it was clean.
 
-use super::SERVED;
-use crate::transcripts::{Script, go_so};
-use std::test::Fail;
+use crate::transcripts::Script;
+use pgp_fixtures::KNOWN_UP;
 
 /// Pool 1 of five shards over eight devices without weight. Of the slots 0 and 1 one has to be there, and one of 2 and 3;
 /// slot 4 is in no part. pg_temp puts its one group on the first five devices.
 const PARTS: &str =
     r#"{"op":"inc","v":2,"epoch":1,"up":[0,1,2,3,4,5,6,7],"weight":[[0,0],[1,0],[2,0],[3,0],[4,0],[5,0],[6,0],[7,0]],"crush":[{"id":-1,"type":1,"alg":"uniform","items":[0,1,2,3,4,5,6,7]}],"pools":[{"id":1,"pg_num":1,"kind":"grouped","groups":[[[0,1],1],[[2,3],1]],"size":5,"min_size":2,"leaf":0}],"temp":[[1,0,[0,1,2,3,4]]]}"#;
 
-static SCRIPTS: [Script; 3] = [
+pub static SCRIPTS: [Script; 3] = [
     Script(
         "follows parts that go and come back",
         &[
             PARTS,
-            SERVED,
+            KNOWN_UP,
             // Both slots of the second part are down.
             r#"{"op":"inc","epoch":3,"down":[2,3],"temp":[[1,0,[0,1,5,6,4]]]}"#,
             r#"{"acting":[0,1,5,6,4],"acting_primary":0,"best":null,"blocked_by":[2,3],"count":3,"epoch":3,"first":3,"intervals":[{"acting":[0,1,2,3,4],"acting_primary":0,"first":1,"last":2,"min_size":2,"rw":true,"size":5,"up":[null,null,null,null,null],"up_primary":null}],"les":0,"missing":[],"ok":"ask","pg":[1,0],"probe":[[0,0],[1,1],[4,4],[5,2],[6,3]],"up":[null,null,null,null,null],"up_primary":null,"verdict":"Down"}"#,
@@ -88,8 +87,3 @@ static SCRIPTS: [Script; 3] = [
         ],
     ),
 ];
-
-#[test]
-fn grouped_pools_are_answered_after_each_line(rt: HostRuntime) -> Result<(), Fail> {
-    go_so(&rt, 1, &SCRIPTS)
-}
