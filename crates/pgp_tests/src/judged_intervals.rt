@@ -147,15 +147,27 @@ fn take(index: &mut Index<'_>, table: &mut Table, step: &Step) {
     }
 }
 
+/// Whether the code was asked as often after this step, and the prior set is this one.
+fn goes_so(
+    alloc: Global,
+    index: &mut Index<'_>,
+    asked: &Asked,
+    table: &mut Table,
+    told: &Told,
+) -> Result<bool, AllocError> {
+    let Told(step, counts, words) = told;
+    take(index, table, step);
+    let found = prior_text(alloc, &index.prior()?)?;
+    Ok(asked.counts() == *counts && found.as_str() == *words)
+}
+
 /// The place of the first step after which the code was asked otherwise, or the prior set is another.
 fn first_wrong(alloc: Global, scene: &Scene) -> Result<Option<usize>, AllocError> {
     let asked = Asked::new();
     let mut table = Table::of(alloc, &scene.statuses)?;
     let mut index = index_of(alloc, scene, &asked, &table)?;
-    for (place, Told(step, counts, words)) in scene.steps.iter().enumerate() {
-        take(&mut index, &mut table, step);
-        let found = prior_text(alloc, &index.prior()?)?;
-        if asked.counts() != *counts || found.as_str() != *words {
+    for (place, told) in scene.steps.iter().enumerate() {
+        if !goes_so(alloc, &mut index, &asked, &mut table, told)? {
             return Ok(Some(place));
         }
     }

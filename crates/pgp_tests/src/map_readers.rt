@@ -2,7 +2,7 @@
 
 use super::peering::grow;
 use pgp_fixtures::{COPIES, group, osd, places};
-use pgp_ids::Epoch;
+use pgp_ids::{Epoch, OsdId};
 use pgp_map::OsdMap;
 use std::test::Fail;
 
@@ -17,19 +17,33 @@ static LINES: [&str; 6] = [
     r#"{"op":"inc","epoch":6,"down":[1]}"#,
 ];
 
+/// Whether the map says so of device 1.
+fn knows_the_device(map: &OsdMap, osd: OsdId) -> bool {
+    map.exists(osd)
+        && !map.is_up(osd)
+        && map.up_from(osd) == Epoch::new(5)
+        && map.up_thru(osd) == Epoch::new(1)
+        && map.down_at(osd) == Epoch::new(6)
+        && map.lost_at(osd) == Epoch::new(2)
+        && map.weight(osd) == 32768
+}
+
+/// Whether the map says so of its pool, its group and its tree.
+fn knows_the_group(map: &OsdMap) -> Result<bool, Fail> {
+    let pg = group();
+    let made = map.pool(pg.pool).ok_or("no pool")?;
+    let lies = map.temp(pg) == places(&[0, 1, 2]).as_slice();
+    Ok(made.pg_num == 1 && lies && map.tree().is_some())
+}
+
 #[test]
 fn a_map_says_what_its_incrementals_say(rt: HostRuntime) -> Result<(), Fail> {
     let mut map = OsdMap::empty(rt.alloc());
     for line in &LINES {
         grow(rt.alloc(), &mut map, line)?;
     }
-    let device = osd(1);
-    assert!(rt; map.exists(device) && !map.is_up(device));
-    assert!(rt; map.up_from(device) == Epoch::new(5) && map.up_thru(device) == Epoch::new(1));
-    assert!(rt; map.down_at(device) == Epoch::new(6) && map.lost_at(device) == Epoch::new(2));
-    assert!(rt; map.weight(device) == 32768 && map.epoch() == Epoch::new(6));
-    let made = map.pool(group().pool).ok_or("no pool")?;
-    assert!(rt; made.pg_num == 1 && map.tree().is_some());
-    assert!(rt; map.temp(group()) == places(&[0, 1, 2]).as_slice());
+    assert!(rt; map.epoch() == Epoch::new(6));
+    assert!(rt; knows_the_device(&map, osd(1)), "another device");
+    assert!(rt; knows_the_group(&map)?, "another group");
     Ok(())
 }

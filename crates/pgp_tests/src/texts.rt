@@ -113,6 +113,13 @@ static UNKNOWN_KEYS: [&str; 4] = [
     r#"last_epoch_clean: {"op":"entries","pg":[1,0],"from":[0,0],"stamp":1,"last_epoch_clean":1,"log":[]}"#,
 ];
 
+/// Whether the key before the line is named in the answer to it.
+fn is_named(alloc: Global, code: u8, name: &str, row: &str) -> Result<bool, Fail> {
+    let (key, line) = row.split_once(": ").ok_or("no key")?;
+    let expected = format!(in alloc; r#"{{"code":{code},"key":"{key}","refused":"{name}"}}"#)?;
+    Ok(answer_to(alloc, line)?.as_slice() == expected.as_bytes())
+}
+
 /// The key is named in the answer to each of these lines.
 fn are_named<R: Abort + AllocGlobal>(
     rt: &R,
@@ -121,12 +128,7 @@ fn are_named<R: Abort + AllocGlobal>(
     rows: &[&str],
 ) -> Result<(), Fail> {
     for row in rows {
-        let (key, line) = row.split_once(": ").ok_or("no key")?;
-        let expected = format!(in rt.alloc();
-            r#"{{"code":{code},"key":"{key}","refused":"{name}"}}"#
-        )?;
-        let answer = answer_to(rt.alloc(), line)?;
-        assert!(rt; answer.as_slice() == expected.as_bytes(), "{row}");
+        assert!(rt; is_named(rt.alloc(), code, name, row)?, "{row}");
     }
     Ok(())
 }
