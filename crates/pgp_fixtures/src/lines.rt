@@ -22,10 +22,7 @@ pub fn entry_surely(alloc: Global, line: &str) -> Option<Entry> {
 
 /// The incremental that the line is.
 pub fn incremental(alloc: Global, line: &str) -> Option<Incremental> {
-    match entry(alloc, line) {
-        Some(Entry::Inc(inc)) => Some(inc),
-        _ => None,
-    }
+    entry(alloc, line)?.into_incremental()
 }
 
 /// The text of the reply, for which one allocation may be refused.

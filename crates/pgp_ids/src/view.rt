@@ -8,7 +8,7 @@ use super::seq::Seq;
 use super::verdict::Verdict;
 
 /// All that the log so far says of a placement group.
-#[derive(Debug, Drop)]
+#[derive(Debug)]
 pub struct View {
     /// How many entries the log has.
     pub count: usize,
@@ -35,4 +35,26 @@ pub struct View {
     pub best: Option<Member>,
     /// The states of the other members that were heard, in ascending order of the members.
     pub missing: Seq<PeerMissing>,
+}
+
+// Written out, so that a crate which lets one go has nothing to prove of what lies within.
+impl Drop for View {
+    fn drop(self) {
+        let View {
+            count: _,
+            epoch: _,
+            up: _,
+            up_primary: _,
+            acting: _,
+            acting_primary: _,
+            first: _,
+            intervals: _,
+            les: _,
+            probe: _,
+            blocked_by: _,
+            verdict: _,
+            best: _,
+            missing: _,
+        } = self;
+    }
 }

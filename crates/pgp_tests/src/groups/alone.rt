@@ -49,8 +49,9 @@ impl GroupAlone {
     fn begin(alloc: Global, line: &str) -> Result<GroupAlone, Fail>
         ensures { IfOk result (λ alone. AreTold alone.before alone.after alone.group) }
     {
-        match entry_surely(alloc, line) {
-            Some(Entry::Inc(inc)) => GroupAlone::made_by(alloc, &inc),
+        let entry = entry_surely(alloc, line).ok_or("no entry")?;
+        match &entry {
+            Entry::Inc(inc) => GroupAlone::made_by(alloc, inc),
             _ => Err(Fail::new("no incremental")),
         }
     }
