@@ -8,7 +8,7 @@ use Rattle.pgp_core.specs.declared.fault.ScriptFault.{ScriptFault}
 use Rattle.pgp_core.specs.declared.fault.ScriptFault.TheVariants.{Read, Write, Gone}
 
 -- a front of what was pending went out
-Went-on : (a b c : Option (List ℕ)) (text pending still : List ℕ) → Went a b text pending → Went b c pending still → Went a c text still
+pub Went-on : (a b c : Option (List ℕ)) (text pending still : List ℕ) → Went a b text pending → Went b c pending still → Went a c text still
 Went-on a b c text pending still before more = record {
   out = before.out ++ more.out;
   whole = append_assoc before.out more.out still ∙ ap (λ l. before.out ++ l) more.whole ∙ before.whole;
@@ -16,7 +16,7 @@ Went-on a b c text pending still before more = record {
 }
 
 -- more text after it is pending too
-Went-longer : (a b : Option (List ℕ)) (text pending more : List ℕ) → Went a b text pending → Went a b (text ++ more) (pending ++ more)
+pub Went-longer : (a b : Option (List ℕ)) (text pending more : List ℕ) → Went a b text pending → Went a b (text ++ more) (pending ++ more)
 Went-longer a b text pending more before = record {
   out = before.out;
   whole = sym (append_assoc before.out pending more) ∙ ap (λ l. l ++ more) before.whole;
@@ -25,9 +25,6 @@ Went-longer a b text pending more before = record {
 
 pub Went-more : (a b c : Option (List ℕ)) (text rest : List ℕ) (n : ℕ) → Went a b text rest → Appends b c (take n rest) → Went a c text (drop n rest)
 Went-more a b c text rest n before more = Went-on a b c text rest (drop n rest) before (record { out = take n rest; whole = take-append-drop n rest; went = more })
-
-pub Went-all : (a b : Option (List ℕ)) (text rest : List ℕ) → Went a b text rest → rest ≡ [] → Appends a b text
-Went-all a b text rest all none = subst (Appends a b) (sym (append-nil all.out) ∙ ap (λ l. all.out ++ l) (sym none) ∙ all.whole) all.went
 
 -- a front of what was pending went out, and then a write failed
 pub FrontWent-pending : (a b c : Option (List ℕ)) (text pending : List ℕ) → Went a b text pending → FrontWent b c pending → FrontWent a c text
@@ -40,13 +37,6 @@ FrontWent-longer a b text more front = record { rest = front.rest ++ more; front
 -- after a text that went out whole
 pub FrontWent-after : (a b c : Option (List ℕ)) (first text : List ℕ) → Appends a b first → FrontWent b c text → FrontWent a c (first ++ text)
 FrontWent-after a b c first text all front = FrontWent-pending a b c (first ++ text) text (record { out = first; whole = refl; went = all }) front
-
--- a text pending in part, and then more after what was pending
-pub Went-then : (a b c : Option (List ℕ)) (first pending text still : List ℕ) → Went a b first pending → Went b c (pending ++ text) still → Went a c (first ++ text) still
-Went-then a b c first pending text still before more = Went-on a b c (first ++ text) (pending ++ text) still (Went-longer a b first pending text before) more
-
-pub FrontWent-then : (a b c : Option (List ℕ)) (first pending text : List ℕ) → Went a b first pending → FrontWent b c (pending ++ text) → FrontWent a c (first ++ text)
-FrontWent-then a b c first pending text before more = FrontWent-pending a b c (first ++ text) (pending ++ text) (Went-longer a b first pending text before) more
 
 -- what was pending has been written
 pub Went-flushed : (a b c : Option (List ℕ)) (text pending : List ℕ) → Went a b text pending → Appends b c pending → Appends a c text

@@ -1,27 +1,25 @@
 -- How an answering goes on, and how it stops.
-use Rattle.std.proofs.Common.{◌≡◌, ◌≢◌, ℕ, ◌+◌, ◌-◌, ◌<◌, ◌≤◌, List, [], ◌∷◌, ◌++◌, Bool, true, false, Option, length, take, refl, sym, ap, ◌∙◌, append_assoc, append-nil, arith, take_all, nat_lt, inl, inr, subst, Result, Ok, Err}
+use Rattle.std.proofs.Common.{◌≡◌, ◌≢◌, ◌⊎◌, ℕ, ◌+◌, ◌-◌, ◌<◌, ◌≤◌, List, [], ◌∷◌, ◌++◌, Bool, true, false, Option, drop, length, take, refl, sym, ap, ◌∙◌, append_assoc, append-nil, arith, take-append-drop, take_all, nat_lt, inl, inr, subst, Result, Ok, Err}
 use Rattle.std.specs.Result.{IsErrAnd, MatchResult}
 use Rattle.std.proofs.lemmas.Bool.{cases_eq}
 use Rattle.std.proofs.lemmas.Bool.Decides.{nat_tests}
-use Rattle.std.proofs.Math.Seq.{take-append-add}
+use Rattle.std.proofs.Math.Seq.{drop-append_seam, take-append-add}
 use Rattle.std.specs.List.{list_any}
-use Rattle.std.specs.Io.KnownBytes.{Appends}
 use Rattle.std.proofs.lemmas.List.{length-append}
 use Rattle.pgp_ids.specs.declared.entry.Entry.{Entry}
 use Rattle.pgp_core.specs.Lines.{is_line_feed, cut, last_line, lines_of}
 use Rattle.pgp_core.specs.Line.{Holds}
 use Rattle.pgp_core.specs.Input.{HasRead}
 use Rattle.pgp_core.specs.Output.{Went, FrontWent}
-use Rattle.pgp_core.specs.Script.{Within}
-use Rattle.pgp_core.specs.Run.{IsBeyond}
-use Rattle.pgp_core.specs.Told.{AreTold, PutsLine}
-use Rattle.pgp_core.specs.Telling.{Began, Puts, StopsAt, IsAfter, IsDone, WentBy, IsStopped, StoppedAtLast, StopsIn, whole_lines, Taken}
+use Rattle.pgp_core.specs.Script.{IsBeyond, Within, whole_lines}
+use Rattle.pgp_core.specs.Told.{PutsLine, StartsLeft}
+use Rattle.pgp_core.specs.Telling.{AreAnswered, Began, IsAfter, IsDone, WentBy, IsStopped, StoppedAtLast, Taken}
 use Rattle.pgp_core.specs.declared.input.Bounds.{Bounds}
 use Rattle.pgp_core.specs.declared.input.Input.{Input}
 use Rattle.pgp_core.specs.declared.script.Script.{Script}
 use Rattle.pgp_core.specs.declared.fault.ScriptFault.{ScriptFault}
 use Rattle.pgp_core.specs.declared.fault.ScriptFault.TheVariants.{Read, Write, Gone}
-use Rattle.pgp_core.proofs.OutputLemmas.{Went-none, Went-then, FrontWent-then, FrontWent-pending, Went-flushed, WentBy-pending}
+use Rattle.pgp_core.proofs.OutputLemmas.{Went-longer, Went-on, WentBy-pending}
 use Rattle.pgp_core.proofs.CutLemmas.{lines_after, cut-goes, lines-closed, some-line}
 use Rattle.pgp_core.proofs.InputLemmas.{whole-piece, whole-line}
 use Rattle.pgp_core.proofs.LineLemmas.{is-empty}
@@ -48,20 +46,20 @@ later_lines began bytes more =
     take (began.bounds.lines - length (cut bytes).whole) (lines_after (cut bytes).rest (cut (take (began.bounds.bytes - length bytes) more)).whole)
 
 front_of_cut : (began : Began) (bytes more : List ℕ) → length bytes ≤ began.bounds.bytes → length (cut bytes).whole ≤ began.bounds.lines
-    → whole_lines began (bytes ++ more) ≡ (cut bytes).whole ++ later_lines began bytes more
+    → whole_lines began.bounds (bytes ++ more) ≡ (cut bytes).whole ++ later_lines began bytes more
 front_of_cut began bytes more few_bytes few_lines =
     ap (λ b. take began.bounds.lines (cut b).whole) (take_within began.bounds.bytes bytes more few_bytes)
     ∙ ap (take began.bounds.lines) (cut-goes bytes (take (began.bounds.bytes - length bytes) more))
     ∙ take_within began.bounds.lines (cut bytes).whole (lines_after (cut bytes).rest (cut (take (began.bounds.bytes - length bytes) more)).whole) few_lines
 
 -- all the lines that the bounds allow have ended
-pub all_lines : (began : Began) (input : Input) (bytes more : List ℕ) → HasRead began.bounds input bytes → input.left.lines ≡ 0 → later_lines began bytes more ≡ []
+all_lines : (began : Began) (input : Input) (bytes more : List ℕ) → HasRead began.bounds input bytes → input.left.lines ≡ 0 → later_lines began bytes more ≡ []
 all_lines began input bytes more read none =
     let no : began.bounds.lines - length (cut bytes).whole ≡ 0 = omega (arith, read.lines_left, none) in
     rw no refl
 
 -- all the bytes that the bounds allow were read
-pub all_bytes : (began : Began) (input : Input) (bytes more : List ℕ) → HasRead began.bounds input bytes → input.left.bytes ≡ 0 → later_lines began bytes more ≡ []
+all_bytes : (began : Began) (input : Input) (bytes more : List ℕ) → HasRead began.bounds input bytes → input.left.bytes ≡ 0 → later_lines began bytes more ≡ []
 all_bytes began input bytes more read none =
     let no : began.bounds.bytes - length bytes ≡ 0 = omega (arith, read.bytes_left, none) in
     rw no (take_all (began.bounds.lines - length (cut bytes).whole) [] (omega arith))
@@ -71,79 +69,67 @@ pub all_read : (began : Began) (bytes : List ℕ) → later_lines began bytes []
 all_read began bytes =
     rw (take_all {A = ℕ} (began.bounds.bytes - length bytes) [] (omega arith)) (take_all (began.bounds.lines - length (cut bytes).whole) [] (omega arith))
 
--- ---- one step
+-- ---- lines
 
--- the text of a line was put, and then the rest of it
-pub puts-rest : (alone : Bool) (before after : List Entry) (line : List ℕ) (old new : Option (List ℕ)) (pending put rest still : List ℕ)
-    → PutsLine alone before after line pending put rest → Went old new (put ++ rest) still → Puts alone before after line old new pending still
-puts-rest alone before after line old new pending put rest still puts went =
-    record { text = puts.text; told = puts.told; went = subst (λ l. Went old new l still) puts.whole went }
+-- the text for one line more was put behind what is pending
+pub told-line : (alone : Bool) (began : Began) (before after : List Entry) (lines : List (List ℕ)) (line pending put rest : List ℕ) (now : Option (List ℕ))
+    → AreAnswered alone began lines before now pending → PutsLine alone before after line pending put rest
+    → AreAnswered alone began (lines ++ line ∷ []) after now (put ++ rest)
+told-line alone began before after lines line pending put rest now so_far puts = record {
+  out = so_far.out ++ puts.text;
+  told = told-push alone began.log before after lines line so_far.out puts.text so_far.told puts.told;
+  went = subst (Went began.written now (so_far.out ++ puts.text)) (sym puts.whole) (Went-longer began.written now so_far.out pending puts.text so_far.went);
+}
 
--- a write failed as the rest was put
-pub stops-at-rest : (alone : Bool) (before after : List Entry) (line : List ℕ) (old new : Option (List ℕ)) (pending put rest : List ℕ)
-    → PutsLine alone before after line pending put rest → FrontWent old new (put ++ rest) → StopsAt alone Write before after line old new pending
-stops-at-rest alone before after line old new pending put rest puts front =
-    inl (refl, record { text = puts.text; told = puts.told; front = subst (FrontWent old new) puts.whole front })
+-- a front of what was pending went out
+pub went-on : (alone : Bool) (began : Began) (lines : List (List ℕ)) (log : List Entry) (now new : Option (List ℕ)) (pending still : List ℕ)
+    → AreAnswered alone began lines log now pending → Went now new pending still → AreAnswered alone began lines log new still
+went-on alone began lines log now new pending still so_far more =
+    record { out = so_far.out; told = so_far.told; went = Went-on began.written now new so_far.out pending still so_far.went more }
 
+-- the answering stops after these lines
+pub stopped : (fault : ScriptFault) (alone : Bool) (began : Began) (lines others : List (List ℕ)) (log : List Entry) (now new : Option (List ℕ)) (pending : List ℕ)
+    → AreAnswered alone began lines log now pending → WentBy fault now new pending → (fault ≡ Read → others ≡ []) → (fault ≡ Gone → StartsLeft alone others)
+    → IsStopped alone began fault new (lines ++ others)
+stopped fault alone began lines others log now new pending so_far went all left = record {
+  done = lines;
+  others = others;
+  parts = refl;
+  log = log;
+  out = so_far.out;
+  told = so_far.told;
+  went = WentBy-pending fault began.written now new so_far.out pending so_far.went went;
+  all = all;
+  left = left;
+}
+
+-- a write failed
+pub cut_off : (alone : Bool) (began : Began) (lines others : List (List ℕ)) (log : List Entry) (now new : Option (List ℕ)) (pending : List ℕ)
+    → AreAnswered alone began lines log now pending → FrontWent now new pending → IsStopped alone began Write new (lines ++ others)
+cut_off alone began lines others log now new pending so_far front =
+    stopped Write alone began lines others log now new pending so_far front (λ read. absurd cc) (λ gone. absurd cc)
+
+-- ---- bytes
+
+-- what was pending went out as far as the fault let it, after these bytes
+pub stopped-after : (fault : ScriptFault) (alone : Bool) (began : Began) (script : Script) (log : List Entry) (now new : Option (List ℕ)) (bytes more : List ℕ)
+    → IsAfter alone began script log now bytes → fault ≢ Gone → WentBy fault now new script.output.pending.items
+    → (fault ≡ Read → later_lines began bytes more ≡ []) → IsStopped alone began fault new (whole_lines began.bounds (bytes ++ more))
+stopped-after fault alone began script log now new bytes more after known went all =
+    subst (IsStopped alone began fault new) (sym (front_of_cut began bytes more (omega (arith, after.read.bytes_left)) (omega (arith, after.read.lines_left))))
+    (stopped fault alone began (cut bytes).whole (later_lines began bytes more) log now new _ after.answered went all (λ gone. absurd (known gone)))
+
+-- a piece more of the line that is being read
 pub after-piece : (alone : Bool) (began : Began) (script : Script) (input : Input) (log : List Entry) (now : Option (List ℕ)) (bytes piece : List ℕ)
     → list_any is_line_feed piece ≡ false → ((bounds : Bounds) (bytes : List ℕ) → HasRead bounds script.input bytes → HasRead bounds input (bytes ++ piece))
     → IsAfter alone began script log now bytes → IsAfter alone began (record script { input = input }) log now (bytes ++ piece)
-after-piece alone began script input log now bytes piece none step after = record {
-  read = step began.bounds bytes after.read;
-  out = after.out;
-  told = rw (whole-piece bytes piece none) after.told;
-  text = after.text;
-}
-
-pub after-line : (alone : Bool) (began : Began) (script next : Script) (before after : List Entry) (now new : Option (List ℕ)) (bytes piece : List ℕ)
-    → list_any is_line_feed piece ≡ false
-    → ((bounds : Bounds) (bytes : List ℕ) → HasRead bounds script.input bytes → HasRead bounds next.input (bytes ++ (piece ++ 10 ∷ [])))
-    → Puts alone before after ((cut bytes).rest ++ piece) now new script.output.pending.items next.output.pending.items
-    → IsAfter alone began script before now bytes → IsAfter alone began next after new (bytes ++ (piece ++ 10 ∷ []))
-after-line alone began script next before after now new bytes piece none step puts so_far = record {
-  read = step began.bounds bytes so_far.read;
-  out = so_far.out ++ puts.text;
-  told = rw (whole-line bytes piece none) (told-push alone began.log before after (cut bytes).whole ((cut bytes).rest ++ piece) so_far.out puts.text so_far.told puts.told);
-  text = Went-then began.written now new _ _ _ _ so_far.text puts.went;
-}
-
--- no read fault stops the answering at a line
-unread : (fault : ScriptFault) (alone : Bool) (before after : List Entry) (line : List ℕ) (now new : Option (List ℕ)) (pending : List ℕ)
-    → StopsAt alone fault before after line now new pending → fault ≢ Read
-unread fault alone before after line now new pending (inl put) = λ read. cc (put.0)
-unread fault alone before after line now new pending (inr left) = left.other
-
--- the answering stops at a line: a write failed as the answer to it was put, or nobody answers it any more
-at_line : (fault : ScriptFault) (alone : Bool) (began : Began) (before after : List Entry) (now new : Option (List ℕ)) (pending out : List ℕ) (done others lines : List (List ℕ))
-    (line : List ℕ) → lines ≡ (done ++ line ∷ []) ++ others → AreTold alone began.log done before out → Went began.written now out pending
-    → StopsAt alone fault before after line now new pending → IsStopped alone began fault new lines
-at_line fault alone began before after now new pending out done others lines line parts told went (inl put) = record {
-  done = done ++ line ∷ [];
-  others = others;
-  parts = parts;
-  log = after;
-  out = out ++ put.1.text;
-  told = told-push alone began.log before after done line out put.1.text told put.1.told;
-  went = subst (λ f. WentBy f began.written new (out ++ put.1.text)) (sym put.0) (FrontWent-then began.written now new out pending put.1.text went put.1.front);
-  all = λ read. absurd (cc (put.0));
-  left = λ gone. absurd (cc (put.0));
-}
-at_line fault alone began before after now new pending out done others lines line parts told went (inr left) = record {
-  done = done;
-  others = line ∷ others;
-  parts = parts ∙ append_assoc done (line ∷ []) others;
-  log = before;
-  out = out;
-  told = told;
-  went = WentBy-pending fault began.written now new out pending went left.went;
-  all = λ read. absurd (left.other read);
-  left = λ gone. left.left;
-}
+after-piece alone began script input log now bytes piece none step after =
+    record { read = step began.bounds bytes after.read; answered = rw (whole-piece bytes piece none) after.answered }
 
 -- the line that a piece and a line feed end is the next of the lines, where the bounds allow it
-line_of_cut : (began : Began) (input : Input) (bytes piece more : List ℕ) → list_any is_line_feed piece ≡ false → 0 < input.left.lines
+pub line_of_cut : (began : Began) (input : Input) (bytes piece more : List ℕ) → list_any is_line_feed piece ≡ false → 0 < input.left.lines
     → length piece < input.left.bytes → HasRead began.bounds input bytes
-    → whole_lines began (bytes ++ (piece ++ 10 ∷ more)) ≡ ((cut bytes).whole ++ ((cut bytes).rest ++ piece) ∷ []) ++ later_lines began (bytes ++ (piece ++ 10 ∷ [])) more
+    → whole_lines began.bounds (bytes ++ (piece ++ 10 ∷ more)) ≡ (cut bytes).whole ++ ((cut bytes).rest ++ piece) ∷ later_lines began (bytes ++ (piece ++ 10 ∷ [])) more
 line_of_cut began input bytes piece more none room fits read =
     let line = piece ++ 10 ∷ [] in
     let whole = whole-line bytes piece none in
@@ -151,35 +137,9 @@ line_of_cut began input bytes piece more none room fits read =
     let few_bytes : length (bytes ++ line) ≤ began.bounds.bytes = omega (arith, fits, read.bytes_left, length-append bytes line, length-append piece (10 ∷ [])) in
     let few_lines : length (cut (bytes ++ line)).whole ≤ began.bounds.lines = omega (arith, many, room, read.lines_left) in
     let parts : bytes ++ (piece ++ 10 ∷ more) ≡ (bytes ++ line) ++ more = simp append_assoc in
-    ap (whole_lines began) parts ∙ front_of_cut began (bytes ++ line) more few_bytes few_lines ∙ ap (λ w. w ++ later_lines began (bytes ++ line) more) whole
-
-pub stopped-at-line : (fault : ScriptFault) (alone : Bool) (script : Script) (before after : List Entry) (now new : Option (List ℕ)) (piece : List ℕ)
-    → list_any is_line_feed piece ≡ false → 0 < script.input.left.lines → length piece < script.input.left.bytes
-    → ((line : List ℕ) → Holds script.input.line line → StopsAt alone fault before after (line ++ piece) now new script.output.pending.items)
-    → (began : Began) (bytes more : List ℕ) → IsAfter alone began script before now bytes → StopsIn alone began fault new (bytes ++ (piece ++ 10 ∷ more))
-stopped-at-line fault alone script before after now new piece none room fits stops began bytes more so_far =
-    let parts = line_of_cut began script.input bytes piece more none room fits so_far.read in
-    let at = stops (cut bytes).rest so_far.read.line in
-    record {
-      stopped = at_line fault alone began before after now new _ so_far.out (cut bytes).whole _ _ ((cut bytes).rest ++ piece) parts so_far.told so_far.text at;
-      beyond = λ read. absurd (unread fault alone before after _ now new _ at read);
-    }
-
--- what is pending was written, or a write of it failed
-pub stopped : (fault : ScriptFault) (alone : Bool) (began : Began) (script : Script) (log : List Entry) (now new : Option (List ℕ)) (bytes more : List ℕ)
-    → IsAfter alone began script log now bytes → fault ≢ Gone → WentBy fault now new script.output.pending.items
-    → (fault ≡ Read → later_lines began bytes more ≡ []) → IsStopped alone began fault new (whole_lines began (bytes ++ more))
-stopped fault alone began script log now new bytes more after known went all = record {
-  done = (cut bytes).whole;
-  others = later_lines began bytes more;
-  parts = front_of_cut began bytes more (omega (arith, after.read.bytes_left)) (omega (arith, after.read.lines_left));
-  log = log;
-  out = after.out;
-  told = after.told;
-  went = WentBy-pending fault began.written now new _ _ after.text went;
-  all = all;
-  left = λ gone. absurd (known gone);
-}
+    let later = later_lines began (bytes ++ line) more in
+    ap (whole_lines began.bounds) parts ∙ front_of_cut began (bytes ++ line) more few_bytes few_lines ∙ ap (λ w. w ++ later) whole
+    ∙ append_assoc (cut bytes).whole (((cut bytes).rest ++ piece) ∷ []) later
 
 -- ---- the loop over a chunk
 
@@ -196,25 +156,49 @@ taken-more alone old mid new before between after was now then chunk rest piece 
 -- ---- more than the bounds allow
 
 -- a byte stands after the last line that the bounds allow
-pub beyond_lines : (began : Began) (input : Input) (bytes more : List ℕ) → HasRead began.bounds input bytes → input.left.lines ≡ 0 → 0 < length more → IsBeyond began.bounds (bytes ++ more)
+beyond_lines : (began : Began) (input : Input) (bytes more : List ℕ) → HasRead began.bounds input bytes → input.left.lines ≡ 0 → 0 < length more → IsBeyond began.bounds (bytes ++ more)
 beyond_lines began input bytes more read none some within =
     let lines = ap length (lines-closed bytes more (read.closed none)) in
     let both = length-append (cut bytes).whole (lines_of more) in
     absurd (omega (arith, read.lines_left, none, lines, both, some-line more some, within.few_lines))
 
 -- a byte stands after the last one that the bounds allow
-pub beyond_bytes : (began : Began) (input : Input) (bytes more : List ℕ) → HasRead began.bounds input bytes → input.left.bytes ≡ 0 → 0 < length more → IsBeyond began.bounds (bytes ++ more)
+beyond_bytes : (began : Began) (input : Input) (bytes more : List ℕ) → HasRead began.bounds input bytes → input.left.bytes ≡ 0 → 0 < length more → IsBeyond began.bounds (bytes ++ more)
 beyond_bytes began input bytes more read none some within =
     absurd (omega (arith, read.bytes_left, none, length-append bytes more, some, within.few_bytes))
 
+-- where the bounds allow no byte more, no line ends in further bytes, and these are too many
+pub full : (began : Began) (input : Input) (bytes more : List ℕ) → HasRead began.bounds input bytes → (input.left.lines ≡ 0) ⊎ (input.left.bytes ≡ 0) → 0 < length more
+    → (later_lines began bytes more ≡ []) × IsBeyond began.bounds (bytes ++ more)
+full began input bytes more read (inl none) some = (all_lines began input bytes more read none, beyond_lines began input bytes more read none some)
+full began input bytes more read (inr none) some = (all_bytes began input bytes more read none, beyond_bytes began input bytes more read none some)
+
 -- ---- one list of bytes, cut in other ways
 
-pub regroup : (bytes done rest chunk more : List ℕ) → done ++ rest ≡ chunk → (bytes ++ done) ++ (rest ++ more) ≡ bytes ++ (chunk ++ more)
-regroup bytes done rest chunk more whole = rw (← whole) (simp append_assoc)
+pub regroup : (bytes done rest chunk : List ℕ) → done ++ rest ≡ chunk → (bytes ++ done) ++ rest ≡ bytes ++ chunk
+regroup bytes done rest chunk whole = append_assoc bytes done rest ∙ ap (λ l. bytes ++ l) whole
 
-pub regroup_line : (bytes done rest chunk piece others more : List ℕ) → done ++ rest ≡ chunk → rest ≡ piece ++ 10 ∷ others
-    → (bytes ++ done) ++ (piece ++ 10 ∷ (others ++ more)) ≡ bytes ++ (chunk ++ more)
-regroup_line bytes done rest chunk piece others more whole parts = rw (← whole, parts) (simp append_assoc)
+pub regroup_line : (bytes done rest chunk piece more : List ℕ) → done ++ rest ≡ chunk → rest ≡ (piece ++ 10 ∷ []) ++ more
+    → (bytes ++ done) ++ (piece ++ 10 ∷ more) ≡ bytes ++ chunk
+regroup_line bytes done rest chunk piece more whole parts = rw (← whole, parts) (simp append_assoc)
+
+-- a front, and the bytes behind it
+front-behind : (front more rest : List ℕ) → front ++ more ≡ rest → rest ≡ front ++ drop (length front) rest
+front-behind front more rest whole = sym whole ∙ ap (λ l. front ++ l) (sym (drop-append_seam front more) ∙ ap (drop (length front)) whole)
+
+-- the front is as many bytes as are allowed
+pub piece-front : (n : ℕ) (rest allowed : List ℕ) → allowed ≡ take n rest → rest ≡ allowed ++ drop (length allowed) rest
+piece-front n rest allowed is = front-behind allowed (drop n rest) rest (ap (λ l. l ++ drop n rest) is ∙ take-append-drop n rest)
+
+-- it is a piece that a line feed ends within these
+pub line-front : (n : ℕ) (rest allowed piece others : List ℕ) → allowed ≡ take n rest → allowed ≡ piece ++ 10 ∷ others
+    → rest ≡ (piece ++ 10 ∷ []) ++ drop (length piece + 1) rest
+line-front n rest allowed piece others is parts =
+    let line = piece ++ 10 ∷ [] in
+    let whole : line ++ (others ++ drop n rest) ≡ rest =
+    append_assoc piece (10 ∷ []) (others ++ drop n rest) ∙ sym (append_assoc piece (10 ∷ others) (drop n rest))
+    ∙ ap (λ l. l ++ drop n rest) (sym parts ∙ is) ∙ take-append-drop n rest in
+    front-behind line (others ++ drop n rest) rest whole ∙ ap (λ k. line ++ drop k rest) (length-append piece (10 ∷ []))
 
 -- ---- the end of the script
 
@@ -229,7 +213,7 @@ no_line : (bytes : List ℕ) → nat_lt 0 (length (cut bytes).rest) ≡ false �
 no_line bytes none = ap (λ rest. (cut bytes).whole ++ last_line rest) (is-empty (cut bytes).rest none) ∙ append-nil (cut bytes).whole
 
 -- a line can only be open where the bounds allow another
-within_started : (bounds : Bounds) (input : Input) (bytes : List ℕ) → nat_lt 0 (length (cut bytes).rest) ≡ true → HasRead bounds input bytes → Within bounds.lines bounds.bytes bytes
+within_started : (bounds : Bounds) (input : Input) (bytes : List ℕ) → nat_lt 0 (length (cut bytes).rest) ≡ true → HasRead bounds input bytes → Within bounds bytes
 within_started bounds input bytes started read =
     let some : 0 < length (cut bytes).rest = grind (arith, nat_tests) in
     let room : 0 < input.left.lines = elim (cases_eq input.left.lines 0) [
@@ -241,19 +225,19 @@ within_started bounds input bytes started read =
       few_bytes = omega (arith, read.bytes_left);
     }
 
+-- the last line was answered
 pub done_started : (alone : Bool) (script : Script) (before after : List Entry) (now new : Option (List ℕ)) (still : List ℕ) → script.input.line.started ≡ true
-    → ((line : List ℕ) → Holds script.input.line line → Puts alone before after (line ++ []) now new script.output.pending.items still)
+    → ((line : List ℕ) → Holds script.input.line line → (began : Began) (lines : List (List ℕ)) → AreAnswered alone began lines before now script.output.pending.items
+    → AreAnswered alone began (lines ++ (line ++ []) ∷ []) after new still)
     → (began : Began) (bytes : List ℕ) → IsAfter alone began script before now bytes → IsDone alone began after new still bytes
 done_started alone script before after now new still started puts began bytes so_far =
     let begun = sym so_far.read.line.started ∙ started in
-    let put = puts (cut bytes).rest so_far.read.line in
     record {
       within = within_started began.bounds script.input bytes begun so_far.read;
-      out = so_far.out ++ put.text;
-      told = rw (started_line bytes begun) (told-push alone began.log before after (cut bytes).whole ((cut bytes).rest ++ []) so_far.out put.text so_far.told put.told);
-      text = Went-then began.written now new _ _ _ _ so_far.text put.went;
+      answered = rw (started_line bytes begun) (puts (cut bytes).rest so_far.read.line began (cut bytes).whole so_far.answered);
     }
 
+-- there is no last line
 pub done_ended : (alone : Bool) (script : Script) (log : List Entry) (now : Option (List ℕ)) → script.input.line.started ≡ false
     → (began : Began) (bytes : List ℕ) → IsAfter alone began script log now bytes → IsDone alone began log now script.output.pending.items bytes
 done_ended alone script log now none began bytes after =
@@ -263,48 +247,19 @@ done_ended alone script log now none began bytes after =
         few_lines = rw lines (omega (arith, after.read.lines_left));
         few_bytes = omega (arith, after.read.bytes_left);
       };
-      out = after.out;
-      told = rw lines after.told;
-      text = after.text;
+      answered = rw lines after.answered;
     }
 
-pub stopped-at-last : (fault : ScriptFault) (alone : Bool) (script : Script) (before after : List Entry) (now new : Option (List ℕ)) → script.input.line.started ≡ true
-    → ((line : List ℕ) → Holds script.input.line line → StopsAt alone fault before after (line ++ []) now new script.output.pending.items)
+-- the answering stopped at the last line
+pub stopped-at-last : (fault : ScriptFault) (alone : Bool) (script : Script) (before : List Entry) (now new : Option (List ℕ)) → script.input.line.started ≡ true
+    → ((line : List ℕ) → Holds script.input.line line → (began : Began) (lines others : List (List ℕ)) → AreAnswered alone began lines before now script.output.pending.items
+    → (fault ≢ Read) × IsStopped alone began fault new (lines ++ (line ++ []) ∷ others))
     → (began : Began) (bytes : List ℕ) → IsAfter alone began script before now bytes → StoppedAtLast alone began fault new bytes
-stopped-at-last fault alone script before after now new started stops began bytes so_far =
+stopped-at-last fault alone script before now new started stops began bytes so_far =
     let begun = sym so_far.read.line.started ∙ started in
-    let at = stops (cut bytes).rest so_far.read.line in
+    let stop = stops (cut bytes).rest so_far.read.line began (cut bytes).whole [] so_far.answered in
     record {
-      other = unread fault alone before after _ now new _ at;
+      other = stop.0;
       within = within_started began.bounds script.input bytes begun so_far.read;
-      stopped = at_line fault alone began before after now new _ so_far.out (cut bytes).whole [] _ ((cut bytes).rest ++ []) (started_line bytes begun ∙ sym (append-nil _))
-          so_far.told so_far.text at;
+      stopped = rw (started_line bytes begun) stop.1;
     }
-
--- what was pending at the end was written, or a write of it failed
-pub done_closed : (alone : Bool) (log : List Entry) (now new : Option (List ℕ)) (pending : List ℕ) → Appends now new pending
-    → (began : Began) (bytes : List ℕ) → IsDone alone began log now pending bytes → IsDone alone began log new [] bytes
-done_closed alone log now new pending wrote began bytes done = record {
-  within = done.within;
-  out = done.out;
-  told = done.told;
-  text = Went-none began.written new done.out (Went-flushed began.written now new _ _ done.text wrote);
-}
-
-pub broken_close : (alone : Bool) (log : List Entry) (now new : Option (List ℕ)) (pending : List ℕ) → FrontWent now new pending
-    → (began : Began) (bytes : List ℕ) → IsDone alone began log now pending bytes → StoppedAtLast alone began Write new bytes
-broken_close alone log now new pending front began bytes done = record {
-  other = λ read. cc;
-  within = done.within;
-  stopped = record {
-    done = lines_of bytes;
-    others = [];
-    parts = sym (append-nil (lines_of bytes));
-    log = log;
-    out = done.out;
-    told = done.told;
-    went = FrontWent-pending began.written now new _ _ done.text front;
-    all = λ _. refl;
-    left = λ gone. absurd (cc);
-  };
-}

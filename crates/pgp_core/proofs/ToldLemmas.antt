@@ -1,11 +1,11 @@
--- One line more of what is written for lines, and what is written where one thread alone adds to the log.
+-- One line more of what is written for lines, and what is written where nobody else adds to the log.
 use Rattle.std.proofs.Common.{◌≡◌, ℕ, suc, ◌<◌, List, [], ◌∷◌, ◌++◌, Bool, true, false, Option, Some, None, length, nat_lt, arith, refl, sym, ap, ap₂, subst, ◌∙◌, append_assoc, append-nil}
 use Rattle.std.proofs.lemmas.Bool.Decides.{nat_tests}
 use Rattle.pgp_ids.specs.declared.entry.Entry.{Entry}
 use Rattle.pgp_core.specs.Answer.{long_text}
 use Rattle.pgp_core.specs.Answerer.{MayAnswerBy}
 use Rattle.pgp_core.specs.Lines.{is_blank}
-use Rattle.pgp_core.specs.Script.{MayMeet, MayMeetEach, answer, answers, log_past, longest_line, Answers, want_text}
+use Rattle.pgp_core.specs.Script.{Answers, MayMeet, MayMeetEach, answer, answers, log_past, logs, longest_line, want_text}
 use Rattle.pgp_core.specs.Told.{IsTold, PutsLine, AreTold}
 use Rattle.pgp_core.specs.declared.want.Want.{Want}
 use Rattle.pgp_core.proofs.ScriptLemmas.{answers-cons}
@@ -48,29 +48,38 @@ told-push alone before mid after (first ∷ lines) line out text told last =
       ),
     )
 
--- ---- where one thread alone adds to the log
+-- ---- where nobody else adds to the log
 
--- of each of these lines what there was no memory for, if anything, where this was written for them
-record Meets (log : List Entry) (lines : List (List ℕ)) (out : List ℕ) : Type 0 where
-  pub met : List (Option Want)
-  pub each : length met ≡ length lines
-  pub may : MayMeetEach met lines
-  pub text : out ≡ answers log met lines
-
-meets : (log after : List Entry) (lines : List (List ℕ)) (out : List ℕ) → AreTold true log lines after out → Meets log lines out
-meets log after [] out told = record { met = []; each = refl; may = tt; text = told.1 }
-meets log after (line ∷ lines) out told =
+-- what is written for lines is their answers
+pub answers-told : (before after : List Entry) (lines : List (List ℕ)) (out : List ℕ) → AreTold true before lines after out → Answers before after lines out
+answers-told before after [] out told = record { met = []; each = refl; may = tt; text = told.1; log = told.0 }
+answers-told before after (line ∷ lines) out told =
     let turn = told.0 in
-    let head : IsTold true log turn.log line turn.first = told.1.0 in
-    let rest = meets turn.log after lines turn.others told.1.1 in
-    let first : turn.first ≡ answer log head.met line = head.text_is ∙ ap (λ l. answer l head.met line) head.may in
-    let later : turn.log ≡ log_past log head.met line = head.log_is ∙ ap (λ l. log_past l head.met line) head.may in
+    let head : IsTold true before turn.log line turn.first = told.1.0 in
+    let rest = answers-told turn.log after lines turn.others told.1.1 in
+    let first : turn.first ≡ answer before head.met line = head.text_is ∙ ap (λ l. answer l head.met line) head.may in
+    let later : turn.log ≡ log_past before head.met line = head.log_is ∙ ap (λ l. log_past l head.met line) head.may in
     record {
       met = head.met ∷ rest.met;
       each = ap suc rest.each;
       may = (head.meets, rest.may);
-      text = told.1.2 ∙ ap₂ (λ (a b : List ℕ). a ++ b) first (rest.text ∙ ap (λ l. answers l rest.met lines) later) ∙ sym (answers-cons log head.met rest.met line lines);
+      text = told.1.2 ∙ ap₂ (λ (a b : List ℕ). a ++ b) first (rest.text ∙ ap (λ l. answers l rest.met lines) later) ∙ sym (answers-cons before head.met rest.met line lines);
+      log = rest.log ∙ ap (λ l. logs l rest.met lines) later;
     }
 
-pub answers-told : (after : List Entry) (lines : List (List ℕ)) (out : List ℕ) → AreTold true [] lines after out → Answers lines out
-answers-told after lines out told = let all = meets [] after lines out told in record { met = all.met; each = all.each; may = all.may; text = all.text }
+-- their answers are what is written for them
+pub told-answers : (before : List Entry) (met : List (Option Want)) (lines : List (List ℕ)) → length met ≡ length lines → MayMeetEach met lines
+    → AreTold true before lines (logs before met lines) (answers before met lines)
+told-answers before [] [] each may = (refl, refl)
+told-answers before [] (line ∷ lines) each may = absurd (omega arith)
+told-answers before (m ∷ met) [] each may = absurd may
+told-answers before (m ∷ met) (line ∷ lines) each may =
+    let tails : length met ≡ length lines = omega arith in
+    let past = log_past before m line in (
+      record { log = past; first = answer before m line; others = answers past met lines },
+      (
+        record { by = before; may = refl; met = m; meets = may.0; text_is = refl; log_is = refl },
+        told-answers past met lines tails may.1,
+        answers-cons before m met line lines,
+      ),
+    )

@@ -11,6 +11,7 @@ use Rattle.pgp_replies.specs.declared.reply.Reply.TheVariants.{Refused}
 use Rattle.pgp_replies.specs.declared.reply.refused.Refused.TheVariants as why
 use Rattle.pgp_core.specs.Answer.{line_text, line_log, long_text}
 use Rattle.pgp_core.specs.Lines.{cut, lines_of, is_blank}
+use Rattle.pgp_core.specs.declared.input.Bounds.{Bounds}
 use Rattle.pgp_core.specs.declared.want.Want.{Want}
 use Rattle.pgp_core.specs.declared.want.Want.TheVariants as want
 
@@ -73,23 +74,30 @@ MayMeetEach [] lines = Unit {0}
 MayMeetEach (met ∷ more) [] = ⊥
 MayMeetEach (met ∷ more) (line ∷ lines) = MayMeet met line × MayMeetEach more lines
 
--- `out` is the answers to these lines, the log being empty before them. Some of the lines may have been out of memory, each
--- as it can be.
-pub record Answers (lines : List (List ℕ)) (out : List ℕ) : Type 0 where
+-- `out` is the answers to these lines, by the log before them, and the log goes from `before` to `after`. Some of the lines may
+-- have been out of memory, each as it can be.
+pub record Answers (before after : List Entry) (lines : List (List ℕ)) (out : List ℕ) : Type 0 where
   pub met : List (Option Want)
   pub each : length met ≡ length lines
   pub may : MayMeetEach met lines
-  pub text : out ≡ answers [] met lines
-
--- bytes with at most this many lines, and at most this many of them
-pub record Within (lines bytes : ℕ) (script : List ℕ) : Type 0 where
-  pub few_lines : length (lines_of script) ≤ lines
-  pub few_bytes : length script ≤ bytes
-
--- the lines that a line feed ends, of a script that is cut off at these bounds
-abbrev pub lines_before_cut : ℕ → ℕ → List ℕ → List (List ℕ)
-lines_before_cut lines bytes script = take lines (cut (take bytes script)).whole
+  pub text : out ≡ answers before met lines
+  pub log : after ≡ logs before met lines
 
 -- the bytes that are written for a script, given of each line what there was no memory for, if anything
 abbrev pub script_text : List (Option Want) → List ℕ → List ℕ
 script_text met script = answers [] met (lines_of script)
+
+-- ---- how large a script may be
+
+-- it has at most so many lines and so many bytes
+pub record Within (bounds : Bounds) (script : List ℕ) : Type 0 where
+  pub few_lines : length (lines_of script) ≤ bounds.lines
+  pub few_bytes : length script ≤ bounds.bytes
+
+-- it is larger than that
+abbrev pub IsBeyond : Bounds → List ℕ → Type 0
+IsBeyond bounds script = Within bounds script → ⊥
+
+-- the lines that a line feed ends, of a script that is cut off at these bounds
+abbrev pub whole_lines : Bounds → List ℕ → List (List ℕ)
+whole_lines bounds script = take bounds.lines (cut (take bounds.bytes script)).whole

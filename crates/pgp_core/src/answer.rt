@@ -9,7 +9,7 @@ ghost use Rattle.pgp_core.specs.Lines.{is_blank};
 ghost use Rattle.pgp_core.specs.Script.{longest_line};
 ghost use Rattle.pgp_core.specs.Told.{PutsFault, PutsReply, PutsText, MayLack};
 ghost use Rattle.pgp_lines.specs.LineFault.{told};
-ghost use Rattle.pgp_core.specs.Wants.{LacksReply};
+ghost use Rattle.pgp_core.specs.Wants.{LacksReply, want_of};
 
 use super::accepted::{LONGEST_ACCEPTED, put_accepted};
 use super::answerer::{Answerer, NoReply};
@@ -44,10 +44,8 @@ pub fn answer_line<A: Answerer>(
     }
 }
 
-/// Puts the answerer's reply to a command that was read behind the text, with a line feed.
-///
-/// There is room for the answer to an entry that is taken before the answerer is asked, so that it can't fail once the log
-/// has the entry.
+/// Puts the answerer's reply to a command that was read behind the text, with a line feed. A question about a group it puts
+/// itself.
 fn answer_command<A: Answerer>(
     alloc: Global,
     writer: &mut ReplyWriter,
@@ -61,15 +59,44 @@ fn answer_command<A: Answerer>(
     ensures text { OnErr result (text.new.items ≡ text.old.items) }
     ensures log { OnErr result (MayAnswerBy A.alone (A.log answerer.old) (A.log answerer.new)) }
 {
-    let want = match command {
-        Command::Ask(pg) => return answerer.put_asked(alloc, writer, pg, text),
-        Command::Submit(_) => Want::Entry,
-        Command::Locate { .. } | Command::Trace { .. } => Want::Line,
-    };
+    match command {
+        Command::Ask(pg) => answerer.put_asked(alloc, writer, pg, text),
+        command => put_reply_to(alloc, writer, command, answerer, text),
+    }
+}
+
+/// The same, where the answerer only gives the reply.
+///
+/// There is room for the answer to an entry that is taken before the answerer is asked, so that it can't fail once the log
+/// has the entry.
+fn put_reply_to<A: Answerer>(
+    alloc: Global,
+    writer: &mut ReplyWriter,
+    command: Command,
+    answerer: &mut A,
+    text: &mut Vec<u8>,
+) -> Result<(), NoReply>
+    requires { IsInRange command }
+    ensures ok { OnOk result (PutsReply A.alone (A.log answerer.old) (A.log answerer.new) command text.old.items text.new.items) }
+    ensures lacks { IfErr result (LacksReply A.alone command) }
+    ensures text { OnErr result (text.new.items ≡ text.old.items) }
+    ensures log { OnErr result (MayAnswerBy A.alone (A.log answerer.old) (A.log answerer.new)) }
+{
+    let want = want_of(&command);
     text.reserve(LONGEST_ACCEPTED)
         .or(Err(NoReply::Memory(want)))?;
     let reply = answerer.reply(alloc, command)?;
     put_reply(alloc, writer, &reply, text).or(Err(NoReply::Memory(want)))
+}
+
+/// What a command has no memory for, where it is out of memory.
+fn want_of(command: &Command) -> Want
+    ensures { result ≡ want_of command.now }
+{
+    match command {
+        Command::Submit(_) => Want::Entry,
+        Command::Ask(_) | Command::Locate { .. } | Command::Trace { .. } => Want::Line,
+    }
 }
 
 /// Puts the answer to a line that has this fault behind the text, with a line feed.
@@ -85,8 +112,7 @@ fn put_fault(
     ensures err { OnErr result (text.new.items ≡ text.old.items) }
 {
     let reply = Reply::Refused(Refused::Line(fault));
-    put_reply(alloc, writer, &reply, text)?;
-    Ok(())
+    put_reply(alloc, writer, &reply, text).or(Err(NoReply::Memory(Want::Line)))
 }
 
 /// Puts what the log says of a group behind the text, with a line feed: the text of the reply [`asked`], written from where the

@@ -14,8 +14,8 @@ use pgp_ids::PgId;
 use pgp_text::{Command, Reply, ReplyWriter};
 use std::alloc::{AllocError, Global};
 
-/// Why a command, or the line that it was read from, has no reply.
-#[derive(Clone, Copy, Debug)]
+/// Why a command has no reply, and its line no answer.
+#[derive(Clone, Copy)]
 pub enum NoReply {
     /// There was no memory for this.
     Memory(Want),
@@ -23,6 +23,7 @@ pub enum NoReply {
     Gone,
 }
 
+/// There was no memory for a line, or for the answer to it.
 impl From<AllocError> for NoReply {
     ghost use Rattle.std.specs.Prelude.{◌≡◌};
     ghost use Rattle.pgp_core.specs.declared.answerer.NoReply.TheVariants.{Memory};
@@ -69,7 +70,6 @@ pub trait Answerer {
         ensures lacks { IfErr result (LacksReply alone (Ask pg)) }
     {
         let reply = self.reply(alloc, Command::Ask(pg))?;
-        put_reply(alloc, writer, &reply, text)?;
-        Ok(())
+        put_reply(alloc, writer, &reply, text).or(Err(NoReply::Memory(Want::Line)))
     }
 }

@@ -1,6 +1,6 @@
 //! Cutting the bytes of a script into lines, within bounds.
 
-ghost use Rattle.std.specs.Prelude.{◌≡◌, ℕ, ◌+◌, ◌-◌, ◌<◌, ◌≤◌, List, [], ◌∷◌, ◌++◌, false, IfSome, IfNone, length};
+ghost use Rattle.std.specs.Prelude.{◌≡◌, ◌⊎◌, ◌↔◌, ℕ, ◌+◌, ◌-◌, ◌<◌, ◌≤◌, List, [], ◌∷◌, ◌++◌, false, IsTrue, IfSome, IfNone, length, take};
 ghost use Rattle.std.specs.List.{list_any};
 ghost use Rattle.pgp_core.specs.Lines.{is_line_feed};
 ghost use Rattle.pgp_core.specs.Input.{HasRead};
@@ -39,6 +39,24 @@ impl Input {
         Input {
             line: LineBuffer::new(alloc),
             left: bounds,
+        }
+    }
+
+    /// Whether the bounds allow no byte more.
+    pub fn is_full(&self) -> bool
+        ensures { IsTrue result ↔ ((self.now.left.lines ≡ 0) ⊎ (self.now.left.bytes ≡ 0)) }
+    {
+        self.left.lines == 0 || self.left.bytes == 0
+    }
+
+    /// The first of these bytes, as many as the bounds allow.
+    pub fn allowed<'a>(&self, bytes: &'a [u8]) -> &'a [u8]
+        ensures { result.now ≡ take self.now.left.bytes bytes.now }
+    {
+        if bytes.len() as u64 <= self.left.bytes {
+            bytes
+        } else {
+            &bytes[..self.left.bytes as usize]
         }
     }
 

@@ -1,12 +1,11 @@
 //! The line that is being read, and what is written for it.
 
-ghost use Rattle.std.specs.Prelude.{◌≡◌, ℕ, List, [], ◌∷◌, ◌++◌, IfOk, IfErr, OnErr};
+ghost use Rattle.std.specs.Prelude.{◌≡◌, ◌≤◌, ℕ, List, [], ◌∷◌, ◌++◌, IfSome, None, false, length};
 ghost use Rattle.pgp_core.specs.Answer.{long_text};
-ghost use Rattle.pgp_core.specs.Answerer.{MayAnswerBy};
 ghost use Rattle.pgp_core.specs.Line.{KeptBy, Holds};
 ghost use Rattle.pgp_core.specs.Lines.{is_blank};
-ghost use Rattle.pgp_core.specs.Script.{want_text};
-ghost use Rattle.pgp_core.specs.Told.{PutsLine, MayLack};
+ghost use Rattle.pgp_core.specs.Script.{longest_line, want_text};
+ghost use Rattle.pgp_core.specs.Told.{IsLeft, PutsLine};
 
 use super::answer::answer_line;
 use super::answerer::{Answerer, NoReply};
@@ -97,9 +96,9 @@ impl LineBuffer {
     }
 
     /// Puts the answer to the line, which ends with this piece, behind the text, and gives what is still to be written of it:
-    /// where the line is too long, a constant text. A line that lies whole in the piece is read where it lies. Where the line is
-    /// an entry that the log takes, the log has it from now on. Where it has no answer, the text stays and the line adds nothing
-    /// to the log.
+    /// a constant text, where the line is too long or was out of memory. A line that lies whole in the piece is read where it
+    /// lies. Where the line is an entry that the log takes, the log has it from now on. Where nobody answers it any more, the
+    /// text stays.
     pub fn answer<A: Answerer>(
         &mut self,
         alloc: Global,
@@ -107,49 +106,63 @@ impl LineBuffer {
         piece: &[u8],
         answerer: &mut A,
         text: &mut Vec<u8>,
-    ) -> Result<&'static [u8], NoReply>
-        ensures ok { IfOk result (λ rest. (line : List ℕ) → Holds self.old line
+    ) -> Option<&'static [u8]>
+        ensures put { IfSome result (λ rest. (line : List ℕ) → Holds self.old line
             → PutsLine A.alone (A.log answerer.old) (A.log answerer.new) (line ++ piece.now) text.old.items text.new.items rest.now) }
-        ensures lacks { IfErr result (λ why. (line : List ℕ) → Holds self.old line → MayLack A.alone why (line ++ piece.now)) }
-        ensures text { OnErr result (text.new.items ≡ text.old.items) }
-        ensures log { OnErr result (MayAnswerBy A.alone (A.log answerer.old) (A.log answerer.new)) }
+        ensures left { result ≡ None → (line : List ℕ) → Holds self.old line → IsLeft A.alone (line ++ piece.now) }
+        ensures text { result ≡ None → text.new.items ≡ text.old.items }
     {
         if self.started || piece.len() > LONGEST_LINE {
             self.add(piece);
             return self.answer_kept(alloc, codec, answerer, text);
         }
         if all_blank(piece) {
-            return Ok(&[]);
+            return Some(&[]);
         }
-        answer_line(alloc, codec, piece, answerer, text)?;
-        Ok(&[])
+        answer_bytes(alloc, codec, piece, answerer, text)
     }
 
-    /// The same, where the line has ended.
+    /// The same, where the line has ended and its last piece was appended.
     fn answer_kept<A: Answerer>(
         &self,
         alloc: Global,
         codec: &mut Codec,
         answerer: &mut A,
         text: &mut Vec<u8>,
-    ) -> Result<&'static [u8], NoReply>
-        ensures ok { IfOk result (λ rest. (line : List ℕ) → Holds self.now line
+    ) -> Option<&'static [u8]>
+        ensures put { IfSome result (λ rest. (line : List ℕ) → Holds self.now line
             → PutsLine A.alone (A.log answerer.old) (A.log answerer.new) line text.old.items text.new.items rest.now) }
-        ensures lacks { IfErr result (λ why. (line : List ℕ) → Holds self.now line → MayLack A.alone why line) }
-        ensures text { OnErr result (text.new.items ≡ text.old.items) }
-        ensures log { OnErr result (MayAnswerBy A.alone (A.log answerer.old) (A.log answerer.new)) }
+        ensures left { result ≡ None → (line : List ℕ) → Holds self.now line → IsLeft A.alone line }
+        ensures text { result ≡ None → text.new.items ≡ text.old.items }
     {
         if self.blank {
-            return Ok(&[]);
+            return Some(&[]);
         }
         match self.fate {
-            Fate::Kept => {
-                answer_line(alloc, codec, self.bytes.as_slice(), answerer, text)?;
-                Ok(&[])
-            }
-            Fate::TooLong => Ok(long_line()),
-            Fate::NoMemory { .. } => Err(NoReply::Memory(Want::Line)),
+            Fate::Kept => answer_bytes(alloc, codec, self.bytes.as_slice(), answerer, text),
+            Fate::TooLong => Some(long_line()),
+            Fate::NoMemory { .. } => Some(want_line(Want::Line)),
         }
+    }
+}
+
+/// The same, of the bytes of a line that isn't blank and not too long.
+fn answer_bytes<A: Answerer>(
+    alloc: Global,
+    codec: &mut Codec,
+    line: &[u8],
+    answerer: &mut A,
+    text: &mut Vec<u8>,
+) -> Option<&'static [u8]>
+    ensures put { IfSome result (λ rest. is_blank line.now ≡ false → length line.now ≤ longest_line
+        → PutsLine A.alone (A.log answerer.old) (A.log answerer.new) line.now text.old.items text.new.items rest.now) }
+    ensures left { result ≡ None → is_blank line.now ≡ false → length line.now ≤ longest_line → IsLeft A.alone line.now }
+    ensures text { result ≡ None → text.new.items ≡ text.old.items }
+{
+    match answer_line(alloc, codec, line, answerer, text) {
+        Ok(()) => Some(&[]),
+        Err(NoReply::Memory(want)) => Some(want_line(want)),
+        Err(NoReply::Gone) => None,
     }
 }
 

@@ -1,28 +1,29 @@
 //! The log of a script, and what it takes next.
-ghost use Rattle.std.specs.Prelude.{◌≡◌, ◌≢◌, ◌≤◌, ◌+◌, List, [], ◌∷◌, ◌++◌, length, map, false, true, None, Some, Err, IfOk, IsOk, OnOk, OnErr, IfErr};
+ghost use Rattle.std.specs.Prelude.{◌≡◌, List, [], ◌∷◌, ◌++◌, map, false, true, None, IfOk, OnOk, OnErr};
 ghost use Rattle.std.specs.Arc.{arc_value};
 ghost use Rattle.pgp_ids.specs.declared.entry.Entry.{Entry as AnyEntry};
-ghost use Rattle.pgp_ids.specs.declared.refusal.Refusal.TheVariants.{Memory};
 ghost use Rattle.pgp_map.specs.MapOf.{IsMapOf};
 ghost use Rattle.pgp_map.specs.Pools.{pool};
 ghost use Rattle.pgp_group.specs.Entries.{incs_of};
 ghost use Rattle.pgp_group.specs.View.{scratch};
-ghost use Rattle.pgp_log.specs.Fits.{is_closed, fits, longest_log};
-ghost use Rattle.pgp_log.specs.Judge.{IsJudgeOf, MapMayLack};
-ghost use Rattle.pgp_log.specs.Log.{epoch_of, is_legal};
+ghost use Rattle.pgp_lines.specs.declared.command.Command.TheVariants.{Submit};
+ghost use Rattle.pgp_log.specs.Fits.{fits};
+ghost use Rattle.pgp_log.specs.Judge.{IsJudgeOf};
+ghost use Rattle.pgp_log.specs.Log.{is_legal};
 ghost use Rattle.pgp_log.specs.RawSets.{AreRawSets};
 ghost use Rattle.pgp_log.specs.Running.{IsReading};
 ghost use Rattle.pgp_log.specs.Shard.{HasReadSame, is_marked, is_own};
-ghost use Rattle.pgp_core.specs.Answer.{located_reply};
+ghost use Rattle.pgp_core.specs.Answer.{located_reply, log_with, submitted_reply};
+ghost use Rattle.pgp_core.specs.Wants.{MayFindNone};
 
 use super::answer::put_told;
 use super::answerer::{Answerer, NoReply};
-use super::replies::{asked, submit, traced};
+use super::replies::{asked, traced};
 use super::want::Want;
-use pgp_ids::{AskRefusal, Entry, Epoch, LocateRefusal, ObjectName, PgId, PoolId, Refusal, View};
+use pgp_ids::{AskRefusal, Entry, LocateRefusal, ObjectName, PgId, PoolId, Refusal, View};
 use pgp_log::{Judge, RawSets, ShardState};
 use pgp_map::OsdMap;
-use pgp_text::{Command, Refused, Reply, ReplyWriter};
+use pgp_text::{Command, EntryOp, Refused, Reply, ReplyWriter};
 use std::alloc::{AllocError, Global};
 use std::marker::Model;
 use std::sync::Arc;
@@ -72,17 +73,9 @@ impl Log {
     {
         let mut log = Log::new(alloc);
         for entry in entries {
-            log.take_shared(Arc::try_clone(entry)?)?;
+            log.take(Arc::try_clone(entry)?)?;
         }
         Ok(log)
-    }
-
-    /// How many entries it has.
-    pub fn count(&self) -> usize
-        ensures count { result ≡ length self.now }
-        ensures few { result ≤ longest_log + 1 }
-    {
-        self.judge.count()
     }
 
     /// The map that the entries make.
@@ -135,35 +128,43 @@ impl Log {
         }
     }
 
-    /// Why the log doesn't take the entry, if it doesn't. `Memory` comes only where there was none to look at an incremental
-    /// of an open log, of the next epoch, that has a long list or whose tree alone may have a fault.
-    pub fn judge(&self, entry: &Entry) -> Result<(), Refusal>
-        ensures ok { IsOk result → fits self.now entry.now ≡ None }
-        ensures err { IfErr result (λ refusal. refusal ≢ Memory → fits self.now entry.now ≡ Some refusal) }
-        ensures wants { result ≡ Err Memory → (is_closed self.now ≡ false) × MapMayLack self.now entry.now }
+    /// The reply to an entry. Where the log takes it, the log has it from now on.
+    pub fn submit(&mut self, entry: Entry) -> Result<Reply, AllocError>
+        ensures reply { IfOk result (λ reply. reply ≡ submitted_reply self.old entry (fits self.old entry)) }
+        ensures log { OnOk result (self.new ≡ log_with self.old entry (fits self.old entry)) }
+        ensures kept { OnErr result (self.new ≡ self.old) }
+        ensures memory { OnErr result (MayFindNone self.old (Submit entry)) }
     {
-        self.judge.fits(entry)
+        let op = EntryOp::of(&entry);
+        match self.take_if_fits(entry)? {
+            None => Ok(Reply::Accepted {
+                op,
+                count: self.judge.count(),
+                epoch: self.judge.map().epoch(),
+            }),
+            Some(refusal) => Ok(Reply::Refused(Refused::Entry(refusal))),
+        }
     }
 
-    /// The epoch of the map that the log makes with the entry.
-    pub fn epoch_with(&self, entry: &Entry) -> Epoch
-        ensures { result ≡ epoch_of (self.now ++ entry.now ∷ []) }
+    /// Takes the entry if it fits, and else says why it doesn't.
+    pub fn take_if_fits(&mut self, entry: Entry) -> Result<Option<Refusal>, AllocError>
+        ensures why { IfOk result (λ why. why ≡ fits self.old entry) }
+        ensures log { OnOk result (self.new ≡ log_with self.old entry (fits self.old entry)) }
+        ensures kept { OnErr result (self.new ≡ self.old) }
+        ensures memory { OnErr result (MayFindNone self.old (Submit entry)) }
     {
-        self.judge.epoch_with(entry)
+        match self.judge.fits(&entry) {
+            Ok(()) => {
+                self.take(Arc::new(self.alloc, entry)?)?;
+                Ok(None)
+            }
+            Err(Refusal::Memory) => Err(AllocError),
+            Err(refusal) => Ok(Some(refusal)),
+        }
     }
 
-    /// Takes an entry. Where there is no memory for it, the log stays as it was.
-    pub fn take(&mut self, entry: Entry) -> Result<(), AllocError>
-        requires { fits self.old entry ≡ None }
-        ensures ok { OnOk result (self.new ≡ self.old ++ entry ∷ []) }
-        ensures err { OnErr result (self.new ≡ self.old) }
-    {
-        let entry = Arc::new(self.alloc, entry)?;
-        self.take_shared(entry)
-    }
-
-    /// The same, of an entry that others may hold too.
-    fn take_shared(&mut self, entry: Arc<Entry>) -> Result<(), AllocError>
+    /// Takes an entry that fits, which others may hold too. Where there is no memory for it, the log stays as it was.
+    fn take(&mut self, entry: Arc<Entry>) -> Result<(), AllocError>
         requires { fits self.old (arc_value entry) ≡ None }
         ensures ok { OnOk result (self.new ≡ self.old ++ arc_value entry ∷ []) }
         ensures err { OnErr result (self.new ≡ self.old) }
@@ -183,10 +184,7 @@ impl Answerer for Log {
 
     fn reply(&mut self, alloc: Global, command: Command) -> Result<Reply, NoReply> {
         match command {
-            Command::Submit(entry) => match submit(entry, self) {
-                Ok(reply) => Ok(reply),
-                Err(AllocError) => Err(NoReply::Memory(Want::Entry)),
-            },
+            Command::Submit(entry) => self.submit(entry).or(Err(NoReply::Memory(Want::Entry))),
             Command::Ask(pg) => Ok(asked(pg, self.ask(pg)?)),
             Command::Locate { pool, name } => Ok(self.locate(pool, &name)),
             Command::Trace { code, epochs } => Ok(traced(alloc, code, epochs)?),

@@ -8,12 +8,12 @@ ghost use Rattle.pgp_map.specs.Pools.{has_group};
 
 use super::line::{LONGEST_LINE, all_blank};
 use super::log::Log;
-use pgp_ids::{AskRefusal, Entry, LocateRefusal, ObjectName, PgId, PoolId, Refusal, TextFault};
+use pgp_ids::{AskRefusal, Entry, LocateRefusal, ObjectName, PgId, PoolId, TextFault};
 use pgp_text::{Command, LineReader, Refused};
 use std::alloc::{AllocError, Global};
 
 /// What a line of a script is to the log before it.
-#[derive(Debug, Drop)]
+#[derive(Drop)]
 pub enum LineOutcome {
     /// It has only blanks.
     Blank,
@@ -61,26 +61,22 @@ fn obey(log: &mut Log, command: Command) -> Result<LineOutcome, AllocError>
     ensures kept { OnErr result (log.new ≡ log.old) }
 {
     match command {
-        Command::Submit(entry) => take_if_fits(log, entry),
+        Command::Submit(entry) => offered(log, entry),
         Command::Ask(pg) => Ok(asked(log, pg)),
         Command::Locate { pool, name } => Ok(located(log, pool, &name)),
         Command::Trace { code: _, epochs: _ } => Ok(LineOutcome::Asked),
     }
 }
 
-/// Takes the entry if it fits.
-fn take_if_fits(log: &mut Log, entry: Entry) -> Result<LineOutcome, AllocError>
+/// Takes the entry if it fits, and says what it is to the log.
+fn offered(log: &mut Log, entry: Entry) -> Result<LineOutcome, AllocError>
     ensures outcome { IfOk result (IsOutcomeOf log.old (Submit entry)) }
     ensures log { IfOk result (λ _. log.new ≡ with_added log.old (taken_from log.old (Submit entry))) }
     ensures kept { OnErr result (log.new ≡ log.old) }
 {
-    match log.judge(&entry) {
-        Ok(()) => {
-            log.take(entry)?;
-            Ok(LineOutcome::Taken)
-        }
-        Err(Refusal::Memory) => Err(AllocError),
-        Err(refusal) => Ok(LineOutcome::Refused(Refused::Entry(refusal))),
+    match log.take_if_fits(entry)? {
+        None => Ok(LineOutcome::Taken),
+        Some(refusal) => Ok(LineOutcome::Refused(Refused::Entry(refusal))),
     }
 }
 

@@ -1,6 +1,6 @@
 //! Answering a script: its lines are read, and the answer to each is written.
 
-ghost use Rattle.std.specs.Prelude.{◌≡◌, ◌≢◌, ℕ, ◌+◌, ◌<◌, ◌≤◌, List, [], ◌∷◌, ◌++◌, Bool, false, Option, OnOk, IfOk, IfErr, length};
+ghost use Rattle.std.specs.Prelude.{◌≡◌, ◌≢◌, ℕ, ◌+◌, ◌<◌, ◌≤◌, List, [], ◌∷◌, ◌++◌, Bool, false, true, Option, OnOk, IfOk, IfErr, length};
 ghost use Rattle.std.specs.List.{list_any};
 ghost use Rattle.std.specs.Io.KnownBytes.{IsAtEnd};
 ghost use Rattle.pgp_ids.specs.declared.entry.Entry.{Entry};
@@ -8,13 +8,12 @@ ghost use Rattle.pgp_core.specs.Lines.{is_line_feed};
 ghost use Rattle.pgp_core.specs.Line.{Holds};
 ghost use Rattle.pgp_core.specs.Account.{account, ReadsFailed, WritesFailed, WriteFailedBy};
 ghost use Rattle.pgp_core.specs.Run.{AllAnswered, Stopped, bounds_of, script_bounds};
-ghost use Rattle.pgp_core.specs.Telling.{Began, Puts, StopsAt, IsAfter, IsDone, StoppedAtLast, WentBy, StopsIn, Reads, Stops, RanToEnd, WasStopped, began_at};
+ghost use Rattle.pgp_core.specs.Telling.{AreAnswered, Began, IsAfter, IsDone, IsStopped, StoppedAtLast, WentBy, StopsIn, Reads, Stops, RanToEnd, WasStopped, began_at};
 
-use super::answerer::{Answerer, NoReply};
+use super::answerer::Answerer;
 use super::codec::Codec;
 use super::fault::ScriptFault;
 use super::input::{Bounds, Input, SCRIPT_BOUNDS, split_line};
-use super::line::want_line;
 use super::log::Log;
 use super::output::Output;
 use super::streams::{Sink, Source};
@@ -53,8 +52,8 @@ impl Script {
         }
     }
 
-    /// Answers the line that is being read, which ends with this piece. Where it was out of memory, its answer is a constant
-    /// text. Where nobody answers it any more, what is pending is written.
+    /// Answers the line that is being read, which ends with this piece. Where nobody answers it any more, what is pending is
+    /// written.
     fn put_answer<A: Answerer, W: Sink>(
         &mut self,
         alloc: Global,
@@ -62,12 +61,12 @@ impl Script {
         answerer: &mut A,
         writer: &mut W,
     ) -> Result<(), ScriptFault>
-        ensures ok { OnOk result ((line : List ℕ) → Holds self.old.input.line line
-            → Puts A.alone (A.log answerer.old) (A.log answerer.new) (line ++ piece.now) (W.contents writer.old) (W.contents writer.new)
-            self.old.output.pending.items self.new.output.pending.items) }
-        ensures err { IfErr result (λ fault. (line : List ℕ) → Holds self.old.input.line line
-            → StopsAt A.alone fault (A.log answerer.old) (A.log answerer.new) (line ++ piece.now) (W.contents writer.old) (W.contents writer.new)
-            self.old.output.pending.items) }
+        ensures ok { OnOk result ((line : List ℕ) → Holds self.old.input.line line → (began : Began) (lines : List (List ℕ))
+            → AreAnswered A.alone began lines (A.log answerer.old) (W.contents writer.old) self.old.output.pending.items
+            → AreAnswered A.alone began (lines ++ (line ++ piece.now) ∷ []) (A.log answerer.new) (W.contents writer.new) self.new.output.pending.items) }
+        ensures err { IfErr result (λ fault. (line : List ℕ) → Holds self.old.input.line line → (began : Began) (lines others : List (List ℕ))
+            → AreAnswered A.alone began lines (A.log answerer.old) (W.contents writer.old) self.old.output.pending.items
+            → (fault ≢ ScriptFault.Read) × IsStopped A.alone began fault (W.contents writer.new) (lines ++ (line ++ piece.now) ∷ others)) }
         ensures failed { WritesFailed result (W.failed writer.old) (W.failed writer.new) }
         ensures left { self.new.input.left ≡ self.old.input.left }
     {
@@ -78,20 +77,12 @@ impl Script {
             answerer,
             &mut self.output.pending,
         );
-        match answer {
-            Ok(rest) => {
-                self.output.put(rest, writer)?;
-                Ok(())
-            }
-            Err(NoReply::Memory(want)) => {
-                self.output.put(want_line(want), writer)?;
-                Ok(())
-            }
-            Err(NoReply::Gone) => {
-                self.output.close(writer)?;
-                Err(ScriptFault::Gone)
-            }
-        }
+        let Some(rest) = answer else {
+            self.output.close(writer)?;
+            return Err(ScriptFault::Gone);
+        };
+        self.output.put(rest, writer)?;
+        Ok(())
     }
 
     /// Writes what is pending, and says which fault ends the script: that of the write comes first.
@@ -133,44 +124,7 @@ impl Script {
 }
 
 impl Script {
-    /// Takes bytes that the bounds on bytes allow.
-    fn take_allowed<A: Answerer, W: Sink>(
-        &mut self,
-        alloc: Global,
-        chunk: &[u8],
-        answerer: &mut A,
-        writer: &mut W,
-    ) -> Result<(), ScriptFault>
-        requires fits { length chunk.now ≤ self.old.input.left.bytes }
-        ensures left { OnOk result (self.new.input.left.bytes + length chunk.now ≡ self.old.input.left.bytes) }
-        ensures ok { OnOk result ((began : Began) (bytes : List ℕ)
-            → IsAfter A.alone began self.old (A.log answerer.old) (W.contents writer.old) bytes
-            → IsAfter A.alone began self.new (A.log answerer.new) (W.contents writer.new) (bytes ++ chunk.now)) }
-        ensures err { IfErr result (λ fault. (began : Began) (bytes more : List ℕ)
-            → IsAfter A.alone began self.old (A.log answerer.old) (W.contents writer.old) bytes
-            → StopsIn A.alone began fault (W.contents writer.new) (bytes ++ (chunk.now ++ more))) }
-        ensures failed { WritesFailed result (W.failed writer.old) (W.failed writer.new) }
-    {
-        let mut rest = chunk;
-        while !rest.is_empty() {
-            if self.input.left.lines == 0 {
-                return Err(self.stop_reading(writer));
-            }
-            match split_line(rest) {
-                Some((piece, others)) => {
-                    self.end_line(alloc, piece, answerer, writer)?;
-                    rest = others;
-                }
-                None => {
-                    self.input.add(rest);
-                    rest = &[];
-                }
-            }
-        }
-        Ok(())
-    }
-
-    /// Takes bytes that were read.
+    /// Takes bytes that were read, as far as the bounds allow.
     fn take<A: Answerer, W: Sink>(
         &mut self,
         alloc: Global,
@@ -187,14 +141,24 @@ impl Script {
             → StopsIn A.alone began fault (W.contents writer.new) (bytes ++ chunk.now)) }
         ensures failed { WritesFailed result (W.failed writer.old) (W.failed writer.new) }
     {
-        if chunk.len() as u64 <= self.input.left.bytes {
-            return self.take_allowed(alloc, chunk, answerer, writer);
+        let mut rest = chunk;
+        while !rest.is_empty() {
+            if self.input.is_full() {
+                return Err(self.stop_reading(writer));
+            }
+            let allowed = self.input.allowed(rest);
+            match split_line(allowed) {
+                Some((piece, _)) => {
+                    self.end_line(alloc, piece, answerer, writer)?;
+                    rest = &rest[piece.len() + 1..];
+                }
+                None => {
+                    self.input.add(allowed);
+                    rest = &rest[allowed.len()..];
+                }
+            }
         }
-        let allowed = &chunk[..self.input.left.bytes as usize];
-        match self.take_allowed(alloc, allowed, answerer, writer) {
-            Ok(()) => Err(self.stop_reading(writer)),
-            Err(fault) => Err(fault),
-        }
+        Ok(())
     }
 
     /// Answers a last line that no line feed ends.
@@ -280,10 +244,10 @@ pub fn run_script<R: Source, W: Sink>(
     reader: &mut R,
     writer: &mut W,
 ) -> Result<(), ScriptFault>
-    ensures ok { OnOk result (AllAnswered script_bounds
+    ensures ok { OnOk result (AllAnswered true script_bounds
         (account (R.remaining reader.old) (W.contents writer.old) (R.failed reader.old) (W.failed writer.old))
         (account (R.remaining reader.new) (W.contents writer.new) (R.failed reader.new) (W.failed writer.new))) }
-    ensures err { IfErr result (Stopped script_bounds
+    ensures err { IfErr result (Stopped true script_bounds
         (account (R.remaining reader.old) (W.contents writer.old) (R.failed reader.old) (W.failed writer.old))
         (account (R.remaining reader.new) (W.contents writer.new) (R.failed reader.new) (W.failed writer.new))) }
     ensures never_gone { result ≢ Err ScriptFault.Gone }
@@ -310,10 +274,10 @@ pub fn run_script_within<R: Source, W: Sink>(
     max_lines: u64,
     max_bytes: u64,
 ) -> Result<(), ScriptFault>
-    ensures ok { OnOk result (AllAnswered (bounds_of max_lines max_bytes)
+    ensures ok { OnOk result (AllAnswered true (bounds_of max_lines max_bytes)
         (account (R.remaining reader.old) (W.contents writer.old) (R.failed reader.old) (W.failed writer.old))
         (account (R.remaining reader.new) (W.contents writer.new) (R.failed reader.new) (W.failed writer.new))) }
-    ensures err { IfErr result (Stopped (bounds_of max_lines max_bytes)
+    ensures err { IfErr result (Stopped true (bounds_of max_lines max_bytes)
         (account (R.remaining reader.old) (W.contents writer.old) (R.failed reader.old) (W.failed writer.old))
         (account (R.remaining reader.new) (W.contents writer.new) (R.failed reader.new) (W.failed writer.new))) }
     ensures never_gone { result ≢ Err ScriptFault.Gone }
@@ -346,5 +310,6 @@ pub fn answer_script<A: Answerer, R: Source, W: Sink>(
     let mut chunk = [0u8; CHUNK];
     let mut script = Script::new(alloc, bounds);
     while script.read_on(alloc, &mut chunk, answerer, reader, writer)? != 0 {}
-    script.finish(alloc, answerer, writer)
+    script.finish(alloc, answerer, writer)?;
+    Ok(())
 }

@@ -13,7 +13,6 @@ use super::answerer::NoReply;
 use super::codec::Codec;
 use super::line::{LONGEST_LINE, all_blank, long_line, want_line};
 use super::log::Log;
-use super::replies::submit;
 use super::want::Want;
 use pgp_ids::{Entry, ObjectName, PgId, PoolId, View};
 use pgp_text::Reply;
@@ -84,14 +83,14 @@ impl Session {
             self.last = LastAnswer::LineTooLong;
             return Ok(());
         }
-        let told = answer_line(
+        let answered = answer_line(
             self.alloc,
             &mut self.codec,
             line,
             &mut self.log,
             &mut self.text,
         );
-        match told {
+        match answered {
             Ok(()) => Ok(()),
             Err(NoReply::Memory(want)) => {
                 self.last = LastAnswer::NoMemory(want);
@@ -139,7 +138,7 @@ impl Session {
         ensures kept { OnErr result (self.new.log ≡ self.old.log) }
         ensures memory { OnErr result (MayFindNone self.old.log (Submit entry)) }
     {
-        submit(entry, &mut self.log)
+        self.log.submit(entry)
     }
 
     /// The entries of its log, in the order in which they were taken: a legal log.

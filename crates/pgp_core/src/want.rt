@@ -1,5 +1,5 @@
 /// What there was no memory for.
-#[derive(Clone, Copy, Debug)]
+#[derive(Clone, Copy)]
 pub enum Want {
     /// A line, or the answer to it.
     Line,

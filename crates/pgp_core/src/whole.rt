@@ -8,22 +8,18 @@ ghost use Rattle.pgp_core.specs.Whole.{GivesTooMuch, IsWholeScript};
 use super::input::{Bounds, split_line};
 use super::streams::Source;
 use std::alloc::{AllocError, Global};
-use thiserror::Error;
 
 /// How many bytes a read asks for.
 const CHUNK: usize = 65536;
 
 /// Why a script could not be read whole.
-#[derive(Clone, Copy, Debug, PartialEq, Eq, Error)]
+#[derive(Clone, Copy)]
 pub enum WholeFault {
     /// A read failed.
-    #[error("read fault")]
     Read,
     /// It is larger than its bounds.
-    #[error("the script is too large")]
     TooLarge,
     /// There was no memory to keep it.
-    #[error("out of memory")]
     Memory,
 }
 

@@ -1,15 +1,24 @@
-use Rattle.std.proofs.Common.{sym}
-use Rattle.pgp_core.proofs.RunLemmas.{passed_on, after-line, stopped-at-line}
+use Rattle.std.proofs.Common.{subst, sym}
+use Rattle.pgp_core.specs.Lines.{cut}
+use Rattle.pgp_core.specs.Telling.{IsStopped}
+use Rattle.pgp_core.proofs.InputLemmas.{whole-line}
+use Rattle.pgp_core.proofs.RunLemmas.{line_of_cut, passed_on}
 use Rattle.pgp_core.proofs.script.Script.end_line.Goals as goal
 
 pub returns-in_err-put_answer-clause-err : goal.returns-in_err-put_answer-clause-err
 returns-in_err-put_answer-clause-err g c =
     passed_on _ _ _ _ c.from_residual.ensures.1
-    (stopped-at-line _ g.A.Answerer.alone c.args.self.now _ _ _ _ c.args.piece.now c.requires.one_line c.requires.room c.requires.fits
-    c.in_err-put_answer.ensures.err)
+    (λ began bytes more so_far.
+    let stop = c.in_err-put_answer.ensures.err (cut bytes).rest so_far.read.line began (cut bytes).whole _ so_far.answered in
+    record {
+      stopped = subst (IsStopped g.A.Answerer.alone began _ _)
+          (sym (line_of_cut began c.args.self.now.input bytes c.args.piece.now more c.requires.one_line c.requires.room c.requires.fits so_far.read)) stop.1;
+      beyond = λ read. absurd (stop.0 read);
+    })
 
 pub returns-clause-ok : goal.returns-clause-ok
-returns-clause-ok g c began bytes so_far =
-    after-line g.A.Answerer.alone began c.args.self.now _ _ _ _ _ bytes c.args.piece.now c.requires.one_line
-    (λ bounds bytes. c.end_line.ensures.read bounds c.args.self.now.input bytes (sym c.in_ok-put_answer.ensures.left))
-    (c.in_ok-put_answer.ensures.ok _ so_far.read.line) so_far
+returns-clause-ok g c began bytes so_far = record {
+  read = c.end_line.ensures.read began.bounds c.args.self.now.input bytes (sym c.in_ok-put_answer.ensures.left) so_far.read;
+  answered = rw (whole-line bytes c.args.piece.now c.requires.one_line)
+      (c.in_ok-put_answer.ensures.ok (cut bytes).rest so_far.read.line began (cut bytes).whole so_far.answered);
+}

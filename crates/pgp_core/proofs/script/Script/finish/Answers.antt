@@ -1,11 +1,21 @@
-use Rattle.pgp_core.proofs.RunLemmas.{passed_on, done_closed, broken_close}
+use Rattle.std.proofs.Common.{[], append-nil}
+use Rattle.pgp_core.specs.Lines.{lines_of}
+use Rattle.pgp_core.proofs.RunLemmas.{cut_off, passed_on}
+use Rattle.pgp_core.proofs.TurnLemmas.{written}
 use Rattle.pgp_core.proofs.script.Script.finish.Goals as goal
 
 pub returns-clause-ok : goal.returns-clause-ok
 returns-clause-ok g c began bytes so_far =
-    done_closed g.A.Answerer.alone _ _ _ _ c.in_ok-close.ensures.ok began bytes (c.in_ok-put_last.ensures.ok began bytes so_far)
+    let done = c.in_ok-put_last.ensures.ok began bytes so_far in
+    record { within = done.within; answered = written g.A.Answerer.alone began (lines_of bytes) _ _ _ _ done.answered c.in_ok-close.ensures.ok }
 
 pub returns-in_err-close-clause-err : goal.returns-in_err-close-clause-err
 returns-in_err-close-clause-err g c =
     passed_on _ _ _ _ c.from_residual-in_err-close.ensures.1
-    (λ began bytes so_far. broken_close g.A.Answerer.alone _ _ _ _ c.in_err-close.ensures.err began bytes (c.in_ok-put_last.ensures.ok began bytes so_far))
+    (λ began bytes so_far.
+    let done = c.in_ok-put_last.ensures.ok began bytes so_far in
+    record {
+      other = λ read. cc;
+      within = done.within;
+      stopped = rw append-nil at (cut_off g.A.Answerer.alone began (lines_of bytes) [] _ _ _ _ done.answered c.in_err-close.ensures.err);
+    })

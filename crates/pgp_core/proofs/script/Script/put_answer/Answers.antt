@@ -1,23 +1,30 @@
-use Rattle.std.proofs.Common.{◌++◌, subst}
-use Rattle.pgp_core.specs.Told.{MayLack}
-use Rattle.pgp_core.proofs.RunLemmas.{passed_on, puts-rest, stops-at-rest}
-use Rattle.pgp_core.proofs.ToldLemmas.{told-want}
+use Rattle.std.proofs.Common.{◌≡◌, ◌≢◌, ◌++◌, [], ◌∷◌, Option, Some, None, refl, subst, append_assoc}
+use Rattle.pgp_core.specs.Telling.{IsStopped}
+use Rattle.pgp_core.specs.declared.fault.ScriptFault.TheVariants.{Write}
+use Rattle.pgp_core.proofs.RunLemmas.{cut_off, passed_on, told-line, went-on}
 use Rattle.pgp_core.proofs.script.Script.put_answer.Goals as goal
 
-pub returns-in_ok-put-in-Err-Memory-clause-ok : goal.returns-in_ok-put-in-Err-Memory-clause-ok
-returns-in_ok-put-in-Err-Memory-clause-ok g c before holds =
-    let line = before ++ c.args.piece.now in
-    let lack = subst (λ why. MayLack g.A.Answerer.alone why line) (rw c.in-Err-Memory.is at c.in-Err-Memory.field-0-is) (c.in-Err-Memory.ensures.lacks before holds) in
-    puts-rest g.A.Answerer.alone _ _ line _ _ _ _ _ _
-    (told-want g.A.Answerer.alone _ _ line _ _ c.in-Err-Memory.want lack c.in-Err-Memory.ensures.log c.in-Err-Memory.ensures.text)
-    (rw c.want_line.ensures at c.in_ok-put-in-Err-Memory.ensures.ok)
+none_there : {X : Type 0} (r : Option X) → ((x : X) → r ≢ Some x) → r ≡ None
+none_there None never = refl
+none_there (Some x) never = absurd (never x refl)
 
-pub returns-in_err-put-in-Err-Memory-clause-err : goal.returns-in_err-put-in-Err-Memory-clause-err
-returns-in_err-put-in-Err-Memory-clause-err g c =
-    passed_on _ _ _ _ c.from_residual-in_err-put-in-Err-Memory.ensures.1
-    (λ before holds.
-    let line = before ++ c.args.piece.now in
-    let lack = subst (λ why. MayLack g.A.Answerer.alone why line) (rw c.in-Err-Memory.is at c.in-Err-Memory.field-0-is) (c.in-Err-Memory.ensures.lacks before holds) in
-    stops-at-rest g.A.Answerer.alone _ _ line _ _ _ _ _
-    (told-want g.A.Answerer.alone _ _ line _ _ c.in-Err-Memory.want lack c.in-Err-Memory.ensures.log c.in-Err-Memory.ensures.text)
-    (rw c.want_line.ensures at c.in_err-put-in-Err-Memory.ensures.err))
+pub returns-clause-ok : goal.returns-clause-ok
+returns-clause-ok g c line holds began lines so_far =
+    went-on g.A.Answerer.alone began _ _ _ _ _ _
+    (told-line g.A.Answerer.alone began _ _ lines (line ++ c.args.piece.now) _ _ _ _ so_far (c.in-Some.ensures.put line holds)) c.in_ok-put.ensures.ok
+
+pub returns-in_err-put-clause-err : goal.returns-in_err-put-clause-err
+returns-in_err-put-clause-err g c =
+    passed_on _ _ _ _ c.from_residual-in_err-put.ensures.1
+    (λ line holds began lines others so_far.
+    let all = line ++ c.args.piece.now in
+    let told = told-line g.A.Answerer.alone began _ _ lines all _ _ _ _ so_far (c.in-Some.ensures.put line holds) in (
+      λ read. cc,
+      subst (IsStopped g.A.Answerer.alone began Write _) (append_assoc lines (all ∷ []) others) (cut_off g.A.Answerer.alone began (lines ++ all ∷ []) others _ _ _ _ told c.in_err-put.ensures.err),
+    ))
+
+pub returns-in_err-close-clause-err : goal.returns-in_err-close-clause-err
+returns-in_err-close-clause-err g c =
+    let same = c.answer-answer.ensures.text (none_there _ c.in_default.not-Some) in
+    passed_on _ _ _ _ c.from_residual.ensures.1
+    (λ line holds began lines others so_far. (λ read. cc, cut_off g.A.Answerer.alone began lines _ _ _ _ _ so_far (rw same at c.in_err-close.ensures.err)))

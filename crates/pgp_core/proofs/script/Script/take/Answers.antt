@@ -1,32 +1,65 @@
-use Rattle.std.proofs.Common.{◌≡◌, ◌<◌, [], ◌++◌, length, take, drop, subst, append_assoc, append-nil, take-append-drop, arith, length-drop, length-take}
-use Rattle.std.proofs.lemmas.Result.{IfErr-weaker}
-use Rattle.pgp_core.specs.Telling.{StopsIn}
-use Rattle.pgp_core.proofs.RunLemmas.{stopped, all_bytes, beyond_bytes}
+use Rattle.std.proofs.Common.{◌≡◌, ◌<◌, [], ◌∷◌, ◌++◌, ◌∙◌, ap, length, subst, sym, append-nil, arith, length-append, length-take}
+use Rattle.std.proofs.lemmas.Bool.Decides.{nat_tests}
+use Rattle.std.proofs.lemmas.List.{nil_from_length, take_rest}
+use Rattle.pgp_core.specs.Telling.{IsAfter, StopsIn}
+use Rattle.pgp_core.proofs.RunLemmas.{after-piece, full, line-front, passed_on, piece-front, regroup, regroup_line, stopped-after, taken-more}
 use Rattle.pgp_core.proofs.script.Script.take.Goals as goal
 
-pub returns-then-chunk-self-clause-err : goal.returns-then-chunk-self-clause-err
-returns-then-chunk-self-clause-err g c =
-    IfErr-weaker c.take_allowed.result _ _
-    (λ fault stops began bytes after.
-    subst (λ l. StopsIn g.A.Answerer.alone began fault (g.W.Sink.contents c.take_allowed.new.writer) (bytes ++ l)) (append-nil c.args.chunk.now) (stops began bytes [] after))
-    c.take_allowed.ensures.err
-
-pub returns-in-Ok-clause-err : goal.returns-in-Ok-clause-err
-returns-in-Ok-clause-err g c began bytes so_far =
-    let left = c.args.self.now.input.left.bytes in
-    let chunk = c.args.chunk.now in
-    let whole : (bytes ++ take left chunk) ++ drop left chunk ≡ bytes ++ chunk = rw (append_assoc, take-append-drop) in
-    let script = c.take_allowed-2.new.self in
-    let none : script.input.left.bytes ≡ 0 = omega (arith, c.in-Ok.ensures.left, length-take left chunk, c.if-chunk-self.false) in
-    let some : 0 < length (drop left chunk) = omega (arith, length-drop left chunk, c.if-chunk-self.false) in
-    let here = c.in-Ok.ensures.ok began bytes so_far in
-    subst (StopsIn g.A.Answerer.alone began c.stop_reading.result _) whole
+pub returns-then-is_full-clause-err : goal.returns-then-is_full-clause-err
+returns-then-is_full-clause-err g c began bytes so_far =
+    let taken = c.loop-rest.invariant.taken in
+    let here = taken.goes began bytes so_far in
+    let rest = c.loop-rest.rest.now in
+    let some : 0 < length rest = grind (arith, nat_tests) in
+    let ends = full began c.loop-rest.self.input (bytes ++ taken.done) rest here.read (c.is_full.ensures.0 c.if-is_full.true) some in
+    subst (StopsIn g.A.Answerer.alone began c.stop_reading.result _) (regroup bytes taken.done rest c.args.chunk.now taken.whole)
     (record {
-      stopped = stopped c.stop_reading.result g.A.Answerer.alone began script _ _ _ (bytes ++ take left chunk) (drop left chunk) here c.stop_reading.ensures.not_gone c.stop_reading.ensures.went
-          (λ _. all_bytes began script.input (bytes ++ take left chunk) (drop left chunk) here.read none);
-      beyond = λ _. beyond_bytes began script.input (bytes ++ take left chunk) (drop left chunk) here.read none some;
+      stopped = stopped-after c.stop_reading.result g.A.Answerer.alone began c.loop-rest.self _ _ _ (bytes ++ taken.done) rest here c.stop_reading.ensures.not_gone
+          c.stop_reading.ensures.went (λ _. ends.0);
+      beyond = λ _. ends.1;
     })
 
-pub returns-in-Err-clause-err : goal.returns-in-Err-clause-err
-returns-in-Err-clause-err g c began bytes so_far =
-    rw take-append-drop at (c.in-Err.ensures.err began bytes (drop c.args.self.now.input.left.bytes c.args.chunk.now) so_far)
+pub returns-in_err-end_line-in-Some-clause-err : goal.returns-in_err-end_line-in-Some-clause-err
+returns-in_err-end_line-in-Some-clause-err g c =
+    passed_on _ _ _ _ c.from_residual.ensures.1
+    (λ began bytes so_far.
+    let taken = c.loop-rest.invariant.taken in
+    let parts = line-front _ c.loop-rest.rest.now c.allowed-allowed.result.now c.in-Some.piece.now _ c.allowed-allowed.ensures c.in-Some.ensures.whole in
+    subst (StopsIn g.A.Answerer.alone began c.in_err-end_line-in-Some.field-0.0 (g.W.Sink.contents c.end_line.new.writer))
+    (regroup_line bytes taken.done c.loop-rest.rest.now c.args.chunk.now c.in-Some.piece.now _ taken.whole parts)
+    (c.in_err-end_line-in-Some.ensures.err began (bytes ++ taken.done) _ (taken.goes began bytes so_far)))
+
+pub loop-rest-preserved-in-Some : goal.loop-rest-preserved-in-Some
+loop-rest-preserved-in-Some g c =
+    let invariant = c.loop-rest.invariant in
+    let piece = c.in-Some.piece.now in
+    let parts = line-front _ c.loop-rest.rest.now c.allowed-allowed.result.now piece _ c.allowed-allowed.ensures c.in-Some.ensures.whole in
+    let after_end = c.in_ok-end_line-in-Some.ensures.left in
+    let long = ap length parts ∙ length-append (piece ++ 10 ∷ []) _ in
+    record {
+      left = omega (arith, long, length-append piece (10 ∷ []), after_end, invariant.left);
+      kept = c.in_ok-end_line-in-Some.ensures.failed ∙ invariant.kept;
+      taken = rw take_rest (taken-more _ _ _ _ _ _ _ _ _ _ _ _ (piece ++ 10 ∷ []) _ invariant.taken parts c.in_ok-end_line-in-Some.ensures.ok);
+    }
+
+pub loop-rest-preserved : goal.loop-rest-preserved
+loop-rest-preserved g c =
+    let invariant = c.loop-rest.invariant in
+    let allowed = c.allowed-allowed.result.now in
+    let parts = piece-front _ c.loop-rest.rest.now allowed c.allowed-allowed.ensures in
+    let long = ap length parts ∙ length-append allowed _ in
+    let after_add = c.add.ensures.left in
+    let few = ap length c.allowed-allowed.ensures ∙ length-take _ c.loop-rest.rest.now in
+    record {
+      left = omega (arith, after_add, long, few, invariant.left);
+      kept = invariant.kept;
+      taken = rw take_rest (taken-more _ _ _ _ _ _ _ _ _ _ _ _ allowed _ invariant.taken parts
+          (λ began bytes. after-piece g.A.Answerer.alone began c.loop-rest.self c.add.new.self _ _ bytes allowed c.in-None.ensures.none c.add.ensures.read));
+    }
+
+pub returns-clause-ok : goal.returns-clause-ok
+returns-clause-ok g c began bytes so_far =
+    let taken = c.loop-rest.invariant.taken in
+    let none : c.loop-rest.rest.now ≡ [] = nil_from_length c.loop-rest.rest.now (grind (arith, nat_tests)) in
+    subst (IsAfter g.A.Answerer.alone began c.loop-rest.self _ _)
+    (ap (λ l. bytes ++ l) (sym (append-nil taken.done) ∙ ap (λ l. taken.done ++ l) (sym none) ∙ taken.whole)) (taken.goes began bytes so_far)

@@ -1,10 +1,9 @@
-use Rattle.std.proofs.Common.{◌≡◌, ◌+◌, ◌≤◌, length}
+use Rattle.std.proofs.Common.{◌≡◌, ◌+◌, length}
 use Rattle.pgp_core.specs.Telling.{Taken}
-use Rattle.pgp_core.proofs.script.Script.take_allowed.Given as goal
+use Rattle.pgp_core.proofs.script.Script.take.Given as goal
 
 abbrev pub invariant-loop-rest : goal.invariant-loop-rest
 invariant-loop-rest g l = record {
-  fits : length l.rest ≤ l.self.input.left.bytes;
   left : l.self.input.left.bytes + length l.chunk ≡ l.initial.self.input.left.bytes + length l.rest;
   kept : g.W.Sink.failed l.writer ≡ g.W.Sink.failed l.initial.writer;
   taken : Taken g.A.Answerer.alone l.initial.self l.self (g.A.Answerer.log l.initial.answerer) (g.A.Answerer.log l.answerer)
