@@ -1,10 +1,10 @@
 //! A script over an engine.
-ghost use Rattle.std.specs.Prelude.{◌≡◌, ◌+◌, ◌⊎◌, ◌≤◌, [], length, All, IfErr, OnOk};
+ghost use Rattle.std.specs.Prelude.{◌≡◌, ◌+◌, ◌⊎◌, ◌≤◌, [], false, length, All, IfErr, OnOk};
 ghost use Rattle.pgp_core.specs.Account.{account};
+ghost use Rattle.pgp_core.specs.Run.{AllAnswered, Stopped, script_bounds};
 ghost use Rattle.pgp_feed.specs.Feeds.{told_of};
 ghost use Rattle.pgp_feed.specs.Receipts.{entries_of, feed_of};
 ghost use Rattle.pgp_feed.specs.Taps.{last_of};
-ghost use Rattle.pgp_run.specs.Run.{ToldByEngine, StoppedByEngine};
 
 use crate::answerer::EngineAnswerer;
 use crate::workers::{all_started, close};
@@ -34,11 +34,11 @@ pub fn run_engine<R: Source, W: Sink, T: Threads + Wait + Sync>(
 ) -> Result<(), ScriptFault>
     requires shards { (1 ≤ shards) × (shards ≤ 64) }
     requires workers { (1 ≤ workers) × (workers ≤ 64) }
-    ensures ok { OnOk result (ToldByEngine
+    ensures ok { OnOk result (AllAnswered false script_bounds
         (account (R.remaining reader.old) (W.contents writer.old) (R.failed reader.old) (W.failed writer.old))
         (account (R.remaining reader.new) (W.contents writer.new) (R.failed reader.new) (W.failed writer.new))) }
     ensures err { IfErr result (λ fault. ((fault ≡ ScriptFault.Gone) × (reader.new ≡ reader.old) × (writer.new ≡ writer.old))
-        ⊎ StoppedByEngine
+        ⊎ Stopped false script_bounds
         (account (R.remaining reader.old) (W.contents writer.old) (R.failed reader.old) (W.failed writer.old))
         (account (R.remaining reader.new) (W.contents writer.new) (R.failed reader.new) (W.failed writer.new)) fault) }
 {
@@ -64,10 +64,10 @@ fn run_over<J: Naming + Send + Sync, R: Source, W: Sink, T: Threads + Wait + Syn
     requires each { All (λ tap. last_of tap ≡ told_of made.0) made.1.items }
     requires shards { (1 ≤ shards) × (shards ≤ 64) }
     requires workers { (1 ≤ workers) × (workers ≤ 64) }
-    ensures ok { OnOk result (ToldByEngine (account (R.remaining reader.old) (W.contents writer.old) (R.failed reader.old) (W.failed writer.old))
+    ensures ok { OnOk result (AllAnswered false script_bounds (account (R.remaining reader.old) (W.contents writer.old) (R.failed reader.old) (W.failed writer.old))
         (account (R.remaining reader.new) (W.contents writer.new) (R.failed reader.new) (W.failed writer.new))) }
     ensures err { IfErr result (λ fault. ((fault ≡ ScriptFault.Gone) × (reader.new ≡ reader.old) × (writer.new ≡ writer.old))
-        ⊎ StoppedByEngine (account (R.remaining reader.old) (W.contents writer.old) (R.failed reader.old) (W.failed writer.old))
+        ⊎ Stopped false script_bounds (account (R.remaining reader.old) (W.contents writer.old) (R.failed reader.old) (W.failed writer.old))
         (account (R.remaining reader.new) (W.contents writer.new) (R.failed reader.new) (W.failed writer.new)) fault) }
 {
     let (feed, taps) = made;
@@ -105,10 +105,10 @@ fn run_among_workers<'r, 'w, J: Naming + Send + Sync, R: Source, W: Sink, T: Thr
     requires { workers ≤ engine.now.workers }
     ensures reader { result.reader.ghost_name ≡ reader.entry.ghost_name }
     ensures writer { result.writer.ghost_name ≡ writer.entry.ghost_name }
-    ensures ok { OnOk result.outcome (ToldByEngine (account (R.remaining reader.entry.now) (W.contents writer.entry.now) (R.failed reader.entry.now) (W.failed writer.entry.now))
+    ensures ok { OnOk result.outcome (AllAnswered false script_bounds (account (R.remaining reader.entry.now) (W.contents writer.entry.now) (R.failed reader.entry.now) (W.failed writer.entry.now))
         (account (R.remaining result.reader.now) (W.contents result.writer.now) (R.failed result.reader.now) (W.failed result.writer.now))) }
     ensures err { IfErr result.outcome (λ fault. ((fault ≡ ScriptFault.Gone) × (result.reader.now ≡ reader.entry.now) × (result.writer.now ≡ writer.entry.now))
-        ⊎ StoppedByEngine (account (R.remaining reader.entry.now) (W.contents writer.entry.now) (R.failed reader.entry.now) (W.failed writer.entry.now))
+        ⊎ Stopped false script_bounds (account (R.remaining reader.entry.now) (W.contents writer.entry.now) (R.failed reader.entry.now) (W.failed writer.entry.now))
         (account (R.remaining result.reader.now) (W.contents result.writer.now) (R.failed result.reader.now) (W.failed result.writer.now)) fault) }
 {
     thread::scope(
@@ -118,10 +118,10 @@ fn run_among_workers<'r, 'w, J: Naming + Send + Sync, R: Source, W: Sink, T: Thr
             requires { workers ≤ engine.now.workers }
             ensures reader { result.reader.ghost_name ≡ reader.entry.ghost_name }
             ensures writer { result.writer.ghost_name ≡ writer.entry.ghost_name }
-            ensures ok { OnOk result.outcome (ToldByEngine (account (R.remaining reader.entry.now) (W.contents writer.entry.now) (R.failed reader.entry.now) (W.failed writer.entry.now))
+            ensures ok { OnOk result.outcome (AllAnswered false script_bounds (account (R.remaining reader.entry.now) (W.contents writer.entry.now) (R.failed reader.entry.now) (W.failed writer.entry.now))
                 (account (R.remaining result.reader.now) (W.contents result.writer.now) (R.failed result.reader.now) (W.failed result.writer.now))) }
             ensures err { IfErr result.outcome (λ fault. ((fault ≡ ScriptFault.Gone) × (result.reader.now ≡ reader.entry.now) × (result.writer.now ≡ writer.entry.now))
-                ⊎ StoppedByEngine (account (R.remaining reader.entry.now) (W.contents writer.entry.now) (R.failed reader.entry.now) (W.failed writer.entry.now))
+                ⊎ Stopped false script_bounds (account (R.remaining reader.entry.now) (W.contents writer.entry.now) (R.failed reader.entry.now) (W.failed writer.entry.now))
                 (account (R.remaining result.reader.now) (W.contents result.writer.now) (R.failed result.reader.now) (W.failed result.writer.now)) fault) }
         {
             if !all_started(rt, scope, engine, workers) {
@@ -152,9 +152,9 @@ fn answer_by<J: Naming, R: Source, W: Sink, T: Wait>(
     reader: &mut R,
     writer: &mut W,
 ) -> Result<(), ScriptFault>
-    ensures ok { OnOk result (ToldByEngine (account (R.remaining reader.old) (W.contents writer.old) (R.failed reader.old) (W.failed writer.old))
+    ensures ok { OnOk result (AllAnswered false script_bounds (account (R.remaining reader.old) (W.contents writer.old) (R.failed reader.old) (W.failed writer.old))
         (account (R.remaining reader.new) (W.contents writer.new) (R.failed reader.new) (W.failed writer.new))) }
-    ensures err { IfErr result (StoppedByEngine (account (R.remaining reader.old) (W.contents writer.old) (R.failed reader.old) (W.failed writer.old))
+    ensures err { IfErr result (Stopped false script_bounds (account (R.remaining reader.old) (W.contents writer.old) (R.failed reader.old) (W.failed writer.old))
         (account (R.remaining reader.new) (W.contents writer.new) (R.failed reader.new) (W.failed writer.new))) }
 {
     let mut answerer = EngineAnswerer::new(rt, engine, client);
