@@ -1,16 +1,14 @@
 //! What the program does, over any reader and writers, and how it ends.
 
-ghost use Rattle.std.specs.Prelude.{◌≡◌, ◌⊎◌, ◌≤◌, true, map, string_bytes, if◌then◌else◌};
+ghost use Rattle.std.specs.Prelude.{◌≡◌, ◌⊎◌, ◌≤◌, true, map, string_bytes, OnOk, IfErr, if◌then◌else◌};
 ghost use Rattle.pgp_cli.specs.Options.{Counts, counts_of, AreWrong, AsksForRun, AsksForWorkers, AsksForCompact, AsksForExplain, AsksForHelp, AsksForSomeExplain};
-ghost use Rattle.pgp_cli.specs.Status.{CompactIsDone, ExplainIsCutShort, ExplainIsDone, Grows, RunIsDone, RunIsStopped};
+ghost use Rattle.pgp_cli.specs.Status.{CompactIsDone, ExplainIsCutShort, ExplainIsDone, Grows, RunIsDone, RunIsStopped, is_alone};
 ghost use Rattle.pgp_cli.specs.declared.explain_options.ExplainOptions.{ExplainOptions as TheOptions};
 ghost use Rattle.pgp_cli.specs.declared.fault.Fault.TheVariants.{NoEngine, Read as ReadFailed, TooLarge, Write as WriteFailed};
 ghost use Rattle.pgp_compact_script.specs.Compaction.{IsCutShort};
 ghost use Rattle.pgp_core.specs.Account.{account};
-ghost use Rattle.pgp_core.specs.Run.{AllAnswered, Stopped, script_bounds};
-ghost use Rattle.pgp_core.specs.declared.fault.ScriptFault.{ScriptFault as TheFault};
+ghost use Rattle.pgp_core.specs.Run.{Stopped, script_bounds};
 ghost use Rattle.pgp_explain.specs.Reading.{IsRefusedInPart};
-ghost use Rattle.pgp_run.specs.Run.{StoppedByEngine, ToldByEngine};
 
 use super::ending::Ending;
 use super::explain_options::ExplainOptions;
@@ -42,18 +40,20 @@ pub fn status_of<R: Source, W: Sink, E: Write, T: Threads + Wait + Sync>(
 ) -> Ending
     // The script was answered to its end, or help was asked for and nothing was read, or the script was explained as asked, or
     // what remains of it was written.
+    // No call failed then.
     ensures done { result ≡ Ending.Done
         → ((counts : Counts) × (AsksForRun (map string_bytes words.now) counts × RunIsDone counts
         (account (R.remaining reader.old) (W.contents writer.old) (R.failed reader.old) (W.failed writer.old))
         (account (R.remaining reader.new) (W.contents writer.new) (R.failed reader.new) (W.failed writer.new))))
         ⊎ (AsksForHelp (map string_bytes words.now) × (reader.new ≡ reader.old)
-        × Grows (W.contents writer.old) (W.contents writer.new))
-        ⊎ ((options : TheOptions) × (AsksForExplain (map string_bytes words.now) options
-        × ExplainIsDone options (R.remaining reader.old) (R.remaining reader.new) (W.contents writer.old) (W.contents writer.new)))
-        ⊎ (AsksForCompact (map string_bytes words.now) × CompactIsDone (R.remaining reader.old) (R.remaining reader.new)
-        (W.contents writer.old) (W.contents writer.new)) }
-    // No call failed. Nothing was told, unless a script was explained of which a line is refused, or one was compacted.
-    ensures kept { result ≡ Ending.Done → (R.failed reader.new ≡ R.failed reader.old) × (W.failed writer.new ≡ W.failed writer.old) }
+        × Grows (W.contents writer.old) (W.contents writer.new) × (W.failed writer.new ≡ W.failed writer.old))
+        ⊎ ((options : TheOptions) × (AsksForExplain (map string_bytes words.now) options × ExplainIsDone options
+        (account (R.remaining reader.old) (W.contents writer.old) (R.failed reader.old) (W.failed writer.old))
+        (account (R.remaining reader.new) (W.contents writer.new) (R.failed reader.new) (W.failed writer.new))))
+        ⊎ (AsksForCompact (map string_bytes words.now) × CompactIsDone
+        (account (R.remaining reader.old) (W.contents writer.old) (R.failed reader.old) (W.failed writer.old))
+        (account (R.remaining reader.new) (W.contents writer.new) (R.failed reader.new) (W.failed writer.new))) }
+    // Nothing was told, unless a script was explained of which a line is refused, or one was compacted.
     ensures quiet { result ≡ Ending.Done → (errors.new ≡ errors.old)
         ⊎ (AsksForSomeExplain (map string_bytes words.now) × IsRefusedInPart (R.remaining reader.old) (R.remaining reader.new))
         ⊎ AsksForCompact (map string_bytes words.now) }
@@ -87,7 +87,7 @@ pub fn status_of<R: Source, W: Sink, E: Write, T: Threads + Wait + Sync>(
     }
 }
 
-/// Answers the script, on one thread or over an engine.
+/// Answers the script, and says how that ended.
 fn run<R: Source, W: Sink, E: Write, T: Threads + Wait + Sync>(
     rt: &T,
     alloc: Global,
@@ -101,67 +101,39 @@ fn run<R: Source, W: Sink, E: Write, T: Threads + Wait + Sync>(
         (account (R.remaining reader.new) (W.contents writer.new) (R.failed reader.new) (W.failed writer.new)) }
     ensures quiet { result ≡ Ending.Done → errors.new ≡ errors.old }
     ensures only { (result ≡ Ending.Done) ⊎ (result ≡ Ending.Fault) }
-    ensures fault { result ≡ Ending.Fault
-        → RunIsStopped (counts_of options)
+    ensures fault { result ≡ Ending.Fault → RunIsStopped (counts_of options)
         (account (R.remaining reader.old) (W.contents writer.old) (R.failed reader.old) (W.failed writer.old))
         (account (R.remaining reader.new) (W.contents writer.new) (R.failed reader.new) (W.failed writer.new))
         ⊎ ((1 ≤ options.workers) × (reader.new ≡ reader.old) × (writer.new ≡ writer.old)) }
 {
-    if options.workers == 0 {
-        run_alone(alloc, reader, writer, errors)
-    } else {
-        run_shared(rt, alloc, options, reader, writer, errors)
-    }
-}
-
-/// Answers the script on one thread.
-fn run_alone<R: Source, W: Sink, E: Write>(
-    alloc: Global,
-    reader: &mut R,
-    writer: &mut W,
-    errors: &mut E,
-) -> Ending
-    ensures done { result ≡ Ending.Done → AllAnswered script_bounds
-        (account (R.remaining reader.old) (W.contents writer.old) (R.failed reader.old) (W.failed writer.old))
-        (account (R.remaining reader.new) (W.contents writer.new) (R.failed reader.new) (W.failed writer.new)) }
-    ensures quiet { result ≡ Ending.Done → errors.new ≡ errors.old }
-    ensures only { (result ≡ Ending.Done) ⊎ (result ≡ Ending.Fault) }
-    ensures fault { result ≡ Ending.Fault → (why : TheFault) × Stopped script_bounds
-        (account (R.remaining reader.old) (W.contents writer.old) (R.failed reader.old) (W.failed writer.old))
-        (account (R.remaining reader.new) (W.contents writer.new) (R.failed reader.new) (W.failed writer.new)) why }
-{
-    match run_script(alloc, reader, writer) {
+    match answer(rt, alloc, options, reader, writer) {
         Ok(()) => Ending::Done,
         Err(why) => fault(script_fault(why, reader), errors),
     }
 }
 
-/// Answers the script over an engine.
-fn run_shared<R: Source, W: Sink, E: Write, T: Threads + Wait + Sync>(
+/// Answers the script: without workers on this thread, with them over an engine.
+fn answer<R: Source, W: Sink, T: Threads + Wait + Sync>(
     rt: &T,
     alloc: Global,
     options: RunOptions,
     reader: &mut R,
     writer: &mut W,
-    errors: &mut E,
-) -> Ending
-    requires { 1 ≤ options.workers }
-    ensures done { result ≡ Ending.Done → ToldByEngine
+) -> Result<(), ScriptFault>
+    ensures ok { OnOk result (RunIsDone (counts_of options)
         (account (R.remaining reader.old) (W.contents writer.old) (R.failed reader.old) (W.failed writer.old))
-        (account (R.remaining reader.new) (W.contents writer.new) (R.failed reader.new) (W.failed writer.new)) }
-    ensures quiet { result ≡ Ending.Done → errors.new ≡ errors.old }
-    ensures only { (result ≡ Ending.Done) ⊎ (result ≡ Ending.Fault) }
-    ensures fault { result ≡ Ending.Fault → ((reader.new ≡ reader.old) × (writer.new ≡ writer.old))
-        ⊎ ((why : TheFault) × StoppedByEngine
+        (account (R.remaining reader.new) (W.contents writer.new) (R.failed reader.new) (W.failed writer.new))) }
+    ensures err { IfErr result (λ why. Stopped (is_alone (counts_of options)) script_bounds
         (account (R.remaining reader.old) (W.contents writer.old) (R.failed reader.old) (W.failed writer.old))
-        (account (R.remaining reader.new) (W.contents writer.new) (R.failed reader.new) (W.failed writer.new)) why) }
+        (account (R.remaining reader.new) (W.contents writer.new) (R.failed reader.new) (W.failed writer.new)) why
+        ⊎ ((1 ≤ options.workers) × (reader.new ≡ reader.old) × (writer.new ≡ writer.old))) }
 {
+    if options.workers == 0 {
+        return run_script(alloc, reader, writer);
+    }
     let shards = usize::from(options.shards);
     let workers = usize::from(options.workers);
-    match run_engine(rt, alloc, reader, writer, shards, workers) {
-        Ok(()) => Ending::Done,
-        Err(why) => fault(script_fault(why, reader), errors),
-    }
+    run_engine(rt, alloc, reader, writer, shards, workers)
 }
 
 /// The fault that stopped a script.
@@ -185,9 +157,9 @@ fn explain_script<R: Source, W: Sink, E: Write>(
     writer: &mut W,
     errors: &mut E,
 ) -> Ending
-    ensures done { result ≡ Ending.Done → ExplainIsDone options.now (R.remaining reader.old) (R.remaining reader.new)
-        (W.contents writer.old) (W.contents writer.new) }
-    ensures kept { result ≡ Ending.Done → (R.failed reader.new ≡ R.failed reader.old) × (W.failed writer.new ≡ W.failed writer.old) }
+    ensures done { result ≡ Ending.Done → ExplainIsDone options.now
+        (account (R.remaining reader.old) (W.contents writer.old) (R.failed reader.old) (W.failed writer.old))
+        (account (R.remaining reader.new) (W.contents writer.new) (R.failed reader.new) (W.failed writer.new)) }
     ensures quiet { result ≡ Ending.Done → (errors.new ≡ errors.old) ⊎ IsRefusedInPart (R.remaining reader.old) (R.remaining reader.new) }
     ensures only { (result ≡ Ending.Done) ⊎ (result ≡ Ending.Fault) }
     ensures fault { result ≡ Ending.Fault → (writer.new ≡ writer.old)
@@ -231,9 +203,9 @@ fn compact<R: Source, W: Sink, E: Write>(
     writer: &mut W,
     errors: &mut E,
 ) -> Ending
-    ensures done { result ≡ Ending.Done → CompactIsDone (R.remaining reader.old) (R.remaining reader.new) (W.contents writer.old)
-        (W.contents writer.new) }
-    ensures kept { result ≡ Ending.Done → (R.failed reader.new ≡ R.failed reader.old) × (W.failed writer.new ≡ W.failed writer.old) }
+    ensures done { result ≡ Ending.Done → CompactIsDone
+        (account (R.remaining reader.old) (W.contents writer.old) (R.failed reader.old) (W.failed writer.old))
+        (account (R.remaining reader.new) (W.contents writer.new) (R.failed reader.new) (W.failed writer.new)) }
     ensures only { (result ≡ Ending.Done) ⊎ (result ≡ Ending.Fault) }
     ensures fault { result ≡ Ending.Fault → (writer.new ≡ writer.old)
         ⊎ IsCutShort (R.remaining reader.old) (R.remaining reader.new) (W.contents writer.old) (W.contents writer.new)

@@ -1,22 +1,7 @@
-use Rattle.std.proofs.Common.{◌≢◌, rules, inl, inr, map, string_bytes, arith}
-use Rattle.std.proofs.lemmas.Bool.{cases_eq}
-use Rattle.pgp_core.specs.Account.{Account, NoCallFailed}
+use Rattle.std.proofs.Common.{rules, inl, inr, map, string_bytes}
 use Rattle.pgp_cli.specs.Options.{Counts, counts_of, AsksForCompact, AsksForRun}
-use Rattle.pgp_cli.specs.Status.{RunIsDone}
 use Rattle.pgp_cli.proofs.Requests.{are_wrong, help_asked}
 use Rattle.pgp_cli.proofs.status.status_of.Goals as goal
-
--- in a run that was answered to its end no call failed
-run_quiet : (counts : Counts) (before after : Account) → RunIsDone counts before after → NoCallFailed before after
-run_quiet counts before after done = elim (cases_eq counts.workers 0) [
-  | inl none ↦ let answered = done.alone none in answered.quiet
-  | inr other ↦
-      let some : counts.workers ≢ 0 = other in
-      let told = done.shared (omega (arith, some)) in told.ran.quiet
-]
-
-pub returns-in-Ok-Run-clause-kept : goal.returns-in-Ok-Run-clause-kept
-returns-in-Ok-Run-clause-kept g c done = run_quiet _ _ _ (c.run.ensures.done done)
 
 pub returns-in-Ok-Run-clause-fault : goal.returns-in-Ok-Run-clause-fault
 returns-in-Ok-Run-clause-fault g c fault =
@@ -39,7 +24,7 @@ returns-in-Ok-Compact-clause-fault g c fault =
 pub returns-in-Err-clause-done : goal.returns-in-Err-clause-done
 returns-in-Err-clause-done g c done =
     let shown = c.help_or_usage.ensures.done done in
-    inr (inl (help_asked c.in-Err.error (map string_bytes c.args.words.now) shown.0 c.in-Err.ensures.fails, search rules, shown.1))
+    inr (inl (help_asked c.in-Err.error (map string_bytes c.args.words.now) shown.0 c.in-Err.ensures.fails, search rules, shown.1, c.help_or_usage.ensures.kept done))
 
 pub returns-in-Err-clause-usage : goal.returns-in-Err-clause-usage
 returns-in-Err-clause-usage g c usage =
