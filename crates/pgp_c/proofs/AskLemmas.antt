@@ -29,67 +29,85 @@ is-refusal (Some view) status e = cc
 pub asks_view : (was now : Option LogAndAnswer) (pool pg : ℕ) (view : View) (old new : PgpView) (status : ℕ) → now ≡ was
     → Answers was pool pg (Ok view) → new ≡ view_of view → status ≡ status_number Done → Asks was now pool pg old new status
 asks_view None now pool pg view old new status same h puts done = cc
-asks_view (Some was) now pool pg view old new status same h puts done = (same, record {
-  bad = λ no. let e = h.bad no in cc;
-  good = λ is. elim (h.good is) [
-    | inl e ↦ rw (is-view (view_in was.log (group pool pg)) view e) (inl (puts, done))
-    | inr e ↦ cc
-  ];
-})
+asks_view (Some was) now pool pg view old new status same h puts done = (
+  same,
+  record {
+    bad = λ no. let e = h.bad no in cc;
+    good = λ is. elim (h.good is) [
+      | inl e ↦ rw (is-view (view_in was.log (group pool pg)) view e) (inl (puts, done))
+      | inr e ↦ cc
+    ];
+  },
+)
 
 pub asks_none : (was now : Option LogAndAnswer) (pool pg status : ℕ) (old : PgpView) → now ≡ was
     → Answers was pool pg (Err status) → Asks was now pool pg old old status
 asks_none None now pool pg status old same h = (same, refl, cc)
-asks_none (Some was) now pool pg status old same h = (same, record {
-  bad = λ no. let e = h.bad no in (refl, cc);
-  good = λ is. elim (h.good is) [
-    | inl e ↦ let none = is-refusal (view_in was.log (group pool pg)) status e in rw none.0 (inl (refl, none.1))
-    | inr e ↦ inr (record { same = refl; status_is = cc })
-  ];
-})
+asks_none (Some was) now pool pg status old same h = (
+  same,
+  record {
+    bad = λ no. let e = h.bad no in (refl, cc);
+    good = λ is. elim (h.good is) [
+      | inl e ↦ let none = is-refusal (view_in was.log (group pool pg)) status e in rw none.0 (inl (refl, none.1))
+      | inr e ↦ inr (record { same = refl; status_is = cc })
+    ];
+  },
+)
 
 pub lists_view : {C : Type 0} (was now : Option LogAndAnswer) (pool pg : ℕ) (view : View) (list : View → List C) (old new : List C) (count status : ℕ) → now ≡ was
     → Answers was pool pg (Ok view) → new ≡ put_in (list view) old → count ≡ length (list view) → status ≡ status_number (put_status (list view) old)
     → Lists was now pool pg list old new count status
 lists_view None now pool pg view list old new count status same h puts many done = cc
-lists_view (Some was) now pool pg view list old new count status same h puts many done = (same, record {
-  bad = λ no. let e = h.bad no in cc;
-  good = λ is. elim (h.good is) [
-    | inl e ↦ rw (is-view (view_in was.log (group pool pg)) view e) (inl (puts, many, done))
-    | inr e ↦ cc
-  ];
-})
+lists_view (Some was) now pool pg view list old new count status same h puts many done = (
+  same,
+  record {
+    bad = λ no. let e = h.bad no in cc;
+    good = λ is. elim (h.good is) [
+      | inl e ↦ rw (is-view (view_in was.log (group pool pg)) view e) (inl (puts, many, done))
+      | inr e ↦ cc
+    ];
+  },
+)
 
 pub lists_none : {C : Type 0} (was now : Option LogAndAnswer) (pool pg status : ℕ) (list : View → List C) (old : List C) → now ≡ was
     → Answers was pool pg (Err status) → Lists was now pool pg list old old 0 status
 lists_none None now pool pg status list old same h = (same, record { room = refl; none = refl; status_is = cc })
-lists_none (Some was) now pool pg status list old same h = (same, record {
-  bad = λ no. let e = h.bad no in record { room = refl; none = refl; status_is = cc };
-  good = λ is. elim (h.good is) [
-    | inl e ↦ let none = is-refusal (view_in was.log (group pool pg)) status e in rw none.0 (inl (refl, refl, none.1))
-    | inr e ↦ inr (record { room = refl; none = refl; status_is = cc })
-  ];
-})
+lists_none (Some was) now pool pg status list old same h = (
+  same,
+  record {
+    bad = λ no. let e = h.bad no in record { room = refl; none = refl; status_is = cc };
+    good = λ is. elim (h.good is) [
+      | inl e ↦ let none = is-refusal (view_in was.log (group pool pg)) status e in rw none.0 (inl (refl, refl, none.1))
+      | inr e ↦ inr (record { room = refl; none = refl; status_is = cc })
+    ];
+  },
+)
 
 pub objects_view : (was now : Option LogAndAnswer) (pool pg osd slot : ℕ) (view : View) (old new : List PgpObject) (count status : ℕ) → now ≡ was
     → Answers was pool pg (Ok view) → IsMember osd slot → PutsObjects (objects_of view.missing (member osd slot)) old new count status
     → Objects was now pool pg osd slot old new count status
 objects_view None now pool pg osd slot view old new count status same h of_member puts = cc
-objects_view (Some was) now pool pg osd slot view old new count status same h of_member puts = (same, record {
-  bad = λ no. let e = h.bad (λ is. no is of_member) in cc;
-  good = λ is also. elim (h.good is) [
-    | inl e ↦ rw (is-view (view_in was.log (group pool pg)) view e) (inl puts)
-    | inr e ↦ cc
-  ];
-})
+objects_view (Some was) now pool pg osd slot view old new count status same h of_member puts = (
+  same,
+  record {
+    bad = λ no. let e = h.bad (λ is. no is of_member) in cc;
+    good = λ is also. elim (h.good is) [
+      | inl e ↦ rw (is-view (view_in was.log (group pool pg)) view e) (inl puts)
+      | inr e ↦ cc
+    ];
+  },
+)
 
 pub objects_none : (was now : Option LogAndAnswer) (pool pg osd slot status : ℕ) (old : List PgpObject) → now ≡ was
     → Answers was pool pg (Err status) → IsMember osd slot → Objects was now pool pg osd slot old old 0 status
 objects_none None now pool pg osd slot status old same h of_member = (same, record { room = refl; none = refl; status_is = cc })
-objects_none (Some was) now pool pg osd slot status old same h of_member = (same, record {
-  bad = λ no. let e = h.bad (λ is. no is of_member) in record { room = refl; none = refl; status_is = cc };
-  good = λ is also. elim (h.good is) [
-    | inl e ↦ let none = is-refusal (view_in was.log (group pool pg)) status e in rw none.0 (inl (record { room = refl; none = refl; status_is = none.1 }))
-    | inr e ↦ inr (record { room = refl; none = refl; status_is = cc })
-  ];
-})
+objects_none (Some was) now pool pg osd slot status old same h of_member = (
+  same,
+  record {
+    bad = λ no. let e = h.bad (λ is. no is of_member) in record { room = refl; none = refl; status_is = cc };
+    good = λ is also. elim (h.good is) [
+      | inl e ↦ let none = is-refusal (view_in was.log (group pool pg)) status e in rw none.0 (inl (record { room = refl; none = refl; status_is = none.1 }))
+      | inr e ↦ inr (record { room = refl; none = refl; status_is = cc })
+    ];
+  },
+)
