@@ -40,7 +40,7 @@ fn written_for<T: Threads + Wait + Sync>(
 
 /// Each number within its bounds goes with each of the other one: also more workers than shards.
 #[test]
-fn takes_counts_within_their_bounds(rt: HostRuntime) -> Result<(), Fail> {
+fn counts_are_taken_within_their_bounds(rt: HostRuntime) -> Result<(), Fail> {
     let alloc = rt.alloc();
     for (shards, workers) in [
         ("1", "0"),
@@ -61,7 +61,7 @@ fn takes_counts_within_their_bounds(rt: HostRuntime) -> Result<(), Fail> {
 
 /// The words of an option in one, in the other order, and one option alone.
 #[test]
-fn takes_counts_in_each_form(rt: HostRuntime) -> Result<(), Fail> {
+fn counts_are_taken_in_each_form(rt: HostRuntime) -> Result<(), Fail> {
     let alloc = rt.alloc();
     for words in [
         ["pgpeer", "run", "--workers=64", "--shards=1"].as_slice(),
@@ -93,7 +93,7 @@ fn names_in_order(text: &[u8], words: &[&str]) -> bool {
 
 /// Help names what may be asked for, and the options of a run with their bounds.
 #[test]
-fn shows_help(rt: HostRuntime) -> Result<(), Fail> {
+fn help_names_what_may_be_asked_for(rt: HostRuntime) -> Result<(), Fail> {
     let alloc = rt.alloc();
     for (words, names) in [
         (

@@ -114,7 +114,7 @@ fn run_with<R: Read + Drop, W: Write + Drop, T: Threads + Wait + Sync>(
 }
 
 #[test]
-fn reads_the_command_line(rt: HostRuntime) -> Result<(), Fail> {
+fn the_command_line_is_read(rt: HostRuntime) -> Result<(), Fail> {
     let alloc = rt.alloc();
     for (words, wanted, answered, silent) in [
         (["pgpeer", "run"].as_slice(), DONE, true, true),
@@ -141,7 +141,7 @@ fn reads_the_command_line(rt: HostRuntime) -> Result<(), Fail> {
 }
 
 #[test]
-fn tells_faults(rt: HostRuntime) -> Result<(), Fail> {
+fn faults_are_named(rt: HostRuntime) -> Result<(), Fail> {
     let alloc = rt.alloc();
     for words in RUNS {
         let (status, _, errors) = run_with(&rt, alloc, words, Broken, Vec::new(alloc))?;
@@ -158,7 +158,7 @@ fn tells_faults(rt: HostRuntime) -> Result<(), Fail> {
 
 /// A number out of its bounds, or none where one has to be.
 #[test]
-fn refuses_wrong_counts(rt: HostRuntime) -> Result<(), Fail> {
+fn wrong_counts_are_refused(rt: HostRuntime) -> Result<(), Fail> {
     let alloc = rt.alloc();
     for (words, told) in [
         (["pgpeer", "run", "--shards", "0"].as_slice(), WRONG_COUNT),
@@ -186,7 +186,7 @@ fn refuses_wrong_counts(rt: HostRuntime) -> Result<(), Fail> {
 
 /// A word that is no group's name, or no offset.
 #[test]
-fn refuses_wrong_explanations(rt: HostRuntime) -> Result<(), Fail> {
+fn wrong_words_of_explain_are_refused(rt: HostRuntime) -> Result<(), Fail> {
     let alloc = rt.alloc();
     for (word, more, told) in [
         ("1", "--json", WRONG_GROUP),
@@ -212,7 +212,7 @@ fn refuses_wrong_explanations(rt: HostRuntime) -> Result<(), Fail> {
 
 /// A file is named where none can be.
 #[test]
-fn tells_where_a_script_comes_from(rt: HostRuntime) -> Result<(), Fail> {
+fn a_script_comes_from_standard_input(rt: HostRuntime) -> Result<(), Fail> {
     let alloc = rt.alloc();
     for (words, told) in [
         (
@@ -232,7 +232,7 @@ fn tells_where_a_script_comes_from(rt: HostRuntime) -> Result<(), Fail> {
 }
 
 #[test]
-fn tells_why_nothing_is_explained(rt: HostRuntime) -> Result<(), Fail> {
+fn an_unknown_group_is_named(rt: HostRuntime) -> Result<(), Fail> {
     let alloc = rt.alloc();
     let words = ["pgpeer", "explain", "1.A"];
     let (status, out, errors) = run_with(&rt, alloc, words.as_slice(), SCRIPT, Vec::new(alloc))?;
@@ -249,7 +249,7 @@ fn tells_why_nothing_is_explained(rt: HostRuntime) -> Result<(), Fail> {
 }
 
 #[test]
-fn tells_its_version(rt: HostRuntime) -> Result<(), Fail> {
+fn the_version_is_shown(rt: HostRuntime) -> Result<(), Fail> {
     let alloc = rt.alloc();
     let (status, out, _) = run_with(
         &rt,
@@ -264,7 +264,7 @@ fn tells_its_version(rt: HostRuntime) -> Result<(), Fail> {
 }
 
 #[test]
-fn tells_of_words_that_could_not_be_read(rt: HostRuntime) -> Result<(), Fail> {
+fn words_that_could_not_be_read_are_named(rt: HostRuntime) -> Result<(), Fail> {
     for (kind, told) in [
         (
             ErrorKind::InvalidData,
@@ -287,7 +287,7 @@ const ANSWERS: &[u8] =
     b"{\"code\":32,\"refused\":\"NoOp\"}\n{\"code\":32,\"refused\":\"NoOp\"}\n{\"count\":1,\"epoch\":0,\"ok\":\"close\"}\n";
 
 #[test]
-fn answers_the_same_with_workers(rt: HostRuntime) -> Result<(), Fail> {
+fn workers_change_no_answer(rt: HostRuntime) -> Result<(), Fail> {
     let alloc = rt.alloc();
     for (shards, workers) in [("1", "1"), ("3", "2"), ("64", "64")] {
         let words = ["pgpeer", "run", "--shards", shards, "--workers", workers];
@@ -309,7 +309,7 @@ fn is_told(status: u8, errors: &[u8], fault: &[u8]) -> bool {
 }
 
 #[test]
-fn tells_of_each_read_that_fails(rt: HostRuntime) -> Result<(), Fail> {
+fn each_failed_read_is_named(rt: HostRuntime) -> Result<(), Fail> {
     let alloc = rt.alloc();
     for words in RUNS {
         for calls_left in 0..6 {
@@ -328,7 +328,7 @@ fn tells_of_each_read_that_fails(rt: HostRuntime) -> Result<(), Fail> {
 }
 
 #[test]
-fn tells_of_each_write_that_fails(rt: HostRuntime) -> Result<(), Fail> {
+fn each_failed_write_is_named(rt: HostRuntime) -> Result<(), Fail> {
     let alloc = rt.alloc();
     for words in RUNS {
         let mut done = false;

@@ -203,7 +203,7 @@ fn run(alloc: Global, by_place: bool, seed: u64) -> Result<bool, AllocError> {
 }
 
 #[test]
-fn best_that_is_kept_is_the_best_of_all_that_came(rt: HostRuntime) -> Result<(), Fail> {
+fn the_best_that_is_kept_is_the_best_of_all_that_came(rt: HostRuntime) -> Result<(), Fail> {
     for stream in 0..40 {
         let (seed, by_place) = (stream / 2, stream % 2 == 1);
         let same = run(rt.alloc(), by_place, seed)?;

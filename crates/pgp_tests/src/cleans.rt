@@ -176,7 +176,7 @@ fn run<R: Abort + AllocGlobal>(
 }
 
 #[test]
-fn past_that_is_kept_is_that_of_all_cleans(rt: HostRuntime) -> Result<(), Fail> {
+fn the_past_that_is_kept_is_that_of_all_cleans(rt: HostRuntime) -> Result<(), Fail> {
     for line in &TWO_GROUPS_OF_EACH_KIND {
         let mut tally = Tally {
             raised: 0,

@@ -66,7 +66,7 @@ fn hash(words: &[u32]) -> Option<u32> {
 }
 
 #[test]
-fn hashes_words(rt: HostRuntime) {
+fn words_have_their_hashes(rt: HostRuntime) {
     for (words, full) in &HASHES {
         assert!(rt; hash(words) == Some(*full), "of {words:?}");
     }
@@ -77,7 +77,7 @@ fn hashes_words(rt: HostRuntime) {
 }
 
 #[test]
-fn mixes_three_words(rt: HostRuntime) {
+fn three_words_are_mixed(rt: HostRuntime) {
     for (given, mixed) in [
         ([1, 0, 0], [0xfda0_dfc7, 0x7904_20aa, 0x8ec2_12aa]),
         (
@@ -148,7 +148,7 @@ fn group_of(name: &[u8]) -> u32 {
 }
 
 #[test]
-fn hashes_names(rt: HostRuntime) {
+fn names_have_their_hashes(rt: HostRuntime) {
     for (name, hash) in &NAMES {
         assert!(rt; name_hash(name) == *hash, "of {name:?}");
         assert!(rt; group_of(name) == hash & 0x3fff_ffff, "of {name:?}");
@@ -159,7 +159,7 @@ fn hashes_names(rt: HostRuntime) {
 }
 
 #[test]
-fn finds_groups(rt: HostRuntime) {
+fn each_hash_falls_into_a_group(rt: HostRuntime) {
     for (groups, mask) in [
         (0, 0),
         (1, 0),

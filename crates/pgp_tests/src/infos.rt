@@ -83,7 +83,7 @@ static BEST: [(&[Told], usize, Option<u16>, Option<u16>); 9] = [
 ];
 
 #[test]
-fn finds_the_best(rt: HostRuntime) -> Result<(), Fail> {
+fn the_best_info_leads(rt: HostRuntime) -> Result<(), Fail> {
     let primary = Some(member(0, 0));
     for (row, (infos, count, newest, oldest)) in BEST.iter().enumerate() {
         let copies = heard_of(rt.alloc(), NewestFirst { primary }, infos, *count)?;
@@ -97,7 +97,7 @@ fn finds_the_best(rt: HostRuntime) -> Result<(), Fail> {
 }
 
 #[test]
-fn forgets_members(rt: HostRuntime) -> Result<(), Fail> {
+fn a_dropped_member_is_never_the_best(rt: HostRuntime) -> Result<(), Fail> {
     let primary = Some(member(0, 0));
     let mut heard = heard_of(rt.alloc(), NewestFirst { primary }, &AGAIN, 3)?;
     for (osd, best) in [(0, Some(1)), (1, Some(2)), (2, None)] {

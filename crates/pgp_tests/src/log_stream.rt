@@ -193,7 +193,7 @@ fn run(alloc: Global, seed: u64) -> Result<bool, Fail> {
 }
 
 #[test]
-fn log_that_is_kept_says_what_all_reported_entries_say(rt: HostRuntime) -> Result<(), Fail> {
+fn the_log_that_is_kept_says_what_all_reported_entries_say(rt: HostRuntime) -> Result<(), Fail> {
     for seed in 0..20 {
         let same = run(rt.alloc(), seed)?;
         assert!(rt; same, "the states of stream {seed} differ");

@@ -136,7 +136,7 @@ fn state_of(alloc: Global, best: [u32; 4], entries: Entries, peer: &Info) -> Res
 }
 
 #[test]
-fn finds_what_peers_miss(rt: HostRuntime) -> Result<(), Fail> {
+fn peers_miss_what_the_best_log_has(rt: HostRuntime) -> Result<(), Fail> {
     for (best, entries, peer, words) in &STATES {
         let found = state_of(rt.alloc(), *best, entries, &copy_of(*peer, true))?;
         assert!(rt; found.as_str() == *words, "{found}: {best:?}, {peer:?}");

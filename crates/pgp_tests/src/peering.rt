@@ -157,7 +157,7 @@ static INTERVALS: [(&[&str], &str); 7] = [
 ];
 
 #[test]
-fn follows_intervals(rt: HostRuntime) -> Result<(), Fail> {
+fn intervals_follow_the_maps(rt: HostRuntime) -> Result<(), Fail> {
     for (lines, answer) in &INTERVALS {
         let text = intervals(rt.alloc(), lines)?;
         assert!(rt; text.as_slice() == answer.as_bytes(), "{answer}");
@@ -204,7 +204,7 @@ static PRIOR_SETS: [(&[&str], &str); 6] = [
 ];
 
 #[test]
-fn follows_prior_sets(rt: HostRuntime) -> Result<(), Fail> {
+fn prior_sets_follow_the_maps(rt: HostRuntime) -> Result<(), Fail> {
     for (lines, words) in &PRIOR_SETS {
         let found = prior_words(rt.alloc(), lines)?;
         assert!(rt; found.as_str() == *words, "{found}");
@@ -232,7 +232,7 @@ fn statuses(map: &OsdMap) -> (Status, Status) {
 }
 
 #[test]
-fn follows_statuses(rt: HostRuntime) -> Result<(), Fail> {
+fn statuses_follow_the_maps(rt: HostRuntime) -> Result<(), Fail> {
     let mut map = OsdMap::empty(rt.alloc());
     assert!(rt; statuses(&map) == (GONE, GONE));
     for (line, first, second) in &STATUSES {

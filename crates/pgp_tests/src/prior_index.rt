@@ -124,7 +124,7 @@ pub fn begun<'a>(alloc: Global, k: u8, asked: &'a Asked, current: &[u16; 3]) -> 
 }
 
 #[test]
-fn index_says_what_the_plain_prior_set_says(rt: HostRuntime) -> Result<(), Fail> {
+fn the_index_says_what_the_plain_prior_set_says(rt: HostRuntime) -> Result<(), Fail> {
     for seed in 0..20 {
         let (same, few) = run(rt.alloc(), seed)?;
         assert!(rt; same, "the prior sets of stream {seed} differ");

@@ -119,7 +119,7 @@ fn found(alloc: Global, lived: &Lived, statuses: &[Status]) -> Result<String, Al
 }
 
 #[test]
-fn finds_prior_sets(rt: HostRuntime) -> Result<(), Fail> {
+fn prior_sets_are_worked_out(rt: HostRuntime) -> Result<(), Fail> {
     for (lived, statuses, words) in &PRIOR_SETS {
         let found = found(rt.alloc(), lived, statuses)?;
         assert!(rt; found.as_str() == *words, "{found}");

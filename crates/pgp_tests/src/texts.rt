@@ -33,7 +33,7 @@ fn words_of(alloc: Global, line: &str) -> Result<String, Fail> {
 }
 
 #[test]
-fn reads_lines(rt: HostRuntime) -> Result<(), Fail> {
+fn lines_are_read_as_commands(rt: HostRuntime) -> Result<(), Fail> {
     for row in &LINES {
         let (line, words) = row.split_once(" => ").ok_or("no words")?;
         let told = words_of(rt.alloc(), line)?;
@@ -61,7 +61,7 @@ fn is_read(alloc: Global, reader: &mut LineReader, line: &str) -> bool {
 /// None of these lines takes memory: under `rt try --test --fail-alloc N`, where the Nth allocation is refused, each is read
 /// too. The longer line is then read once more.
 #[test]
-fn reads_lines_in_room_that_is_there(rt: HostRuntime) {
+fn lines_are_read_in_room_that_is_there(rt: HostRuntime) {
     let mut reader = LineReader::new(rt.alloc());
     let read = is_read(rt.alloc(), &mut reader, LONG) || is_read(rt.alloc(), &mut reader, LONG);
     assert!(rt; read);
@@ -134,7 +134,7 @@ fn are_named<R: Abort + AllocGlobal>(
 }
 
 #[test]
-fn names_the_least_bad_key(rt: HostRuntime) -> Result<(), Fail> {
+fn the_least_bad_key_is_named(rt: HostRuntime) -> Result<(), Fail> {
     are_named(&rt, 34, "BadField", &BAD_KEYS)?;
     are_named(&rt, 33, "UnknownKey", &UNKNOWN_KEYS)
 }
@@ -146,7 +146,7 @@ fn is_refused(alloc: Global, refused: Refused, answer: &str) -> Result<bool, All
 }
 
 #[test]
-fn tells_what_no_script_shows(rt: HostRuntime) -> Result<(), Fail> {
+fn refusals_that_no_script_shows_have_their_text(rt: HostRuntime) -> Result<(), Fail> {
     let bytes = b"{\"op\":\"\xff\"}";
     let fault = read_line(rt.alloc(), bytes).err().ok_or("a command")?;
     let not_json = r#"{"code":31,"refused":"NotJson"}"#;
@@ -199,7 +199,7 @@ fn waiting(alloc: Global) -> Result<View, Fail> {
 }
 
 #[test]
-fn writes_a_view(rt: HostRuntime) -> Result<(), Fail> {
+fn a_view_is_written(rt: HostRuntime) -> Result<(), Fail> {
     let text = text_of(rt.alloc(), Reply::Asked(group(), waiting(rt.alloc())?))?;
     let expected =
         r#"{"acting":[null,5],"acting_primary":5,"best":[2,3],"blocked_by":[2],"count":5,"epoch":9,"first":8,"intervals":[],"les":7,"missing":[{"member":[2,3],"objects":{"a\"":[1,2]},"state":"missing"}],"ok":"ask","pg":[1,0],"probe":[[2,3]],"up":[],"up_primary":null,"verdict":"NeedUpThru"}"#;

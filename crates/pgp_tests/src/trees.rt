@@ -51,7 +51,7 @@ fn crowd(alloc: Global, count: u16) -> Result<Vec<BucketSpec>, AllocError> {
 }
 
 #[test]
-fn counts_buckets(rt: HostRuntime) -> Result<(), Fail> {
+fn a_tree_has_at_most_1024_buckets(rt: HostRuntime) -> Result<(), Fail> {
     let most = Tree::check(rt.alloc(), crowd(rt.alloc(), 1024)?);
     assert!(rt; most.is_ok());
     let more = Tree::check(rt.alloc(), crowd(rt.alloc(), 1025)?);
@@ -106,7 +106,7 @@ fn weights() -> [u32; 4096] {
 }
 
 #[test]
-fn places_where_ceph_places(rt: HostRuntime) -> Result<(), Fail> {
+fn placements_are_those_of_ceph(rt: HostRuntime) -> Result<(), Fail> {
     let tree = tree_of(rt.alloc(), FOUR_LEVELS)?;
     let weights = weights();
     for (indep, leaf, x, devices) in &PLACEMENTS {

@@ -49,7 +49,7 @@ fn given(alloc: Global, script: &[u8], fails_at: usize) -> (Option<ScriptFault>,
 }
 
 #[test]
-fn answers_the_lines_before_and_tells_a_failed_write_first(rt: HostRuntime) {
+fn lines_before_the_answerer_leaves_are_answered(rt: HostRuntime) {
     for script in &SCRIPTS {
         let (fault, out) = given(rt.alloc(), script, NEVER);
         assert!(rt; fault == Some(ScriptFault::Gone) && out.as_slice() == ANSWERS);

@@ -20,7 +20,7 @@ static BOUNDS: [(&[u8], u64, u64, Option<ScriptFault>, &[u8]); 7] = [
 ];
 
 #[test]
-fn keeps_the_bounds(rt: HostRuntime) {
+fn a_script_is_read_within_its_bounds(rt: HostRuntime) {
     for (row, (script, lines, bytes, fault, expected)) in BOUNDS.iter().enumerate() {
         let (found, out) = run(rt.alloc(), Giver::new(script, 1, NEVER), *lines, *bytes);
         assert!(rt; found == *fault && out.as_slice() == *expected, "row {row}");
@@ -28,7 +28,7 @@ fn keeps_the_bounds(rt: HostRuntime) {
 }
 
 #[test]
-fn stops_endless_readers(rt: HostRuntime) {
+fn an_endless_reader_is_stopped(rt: HostRuntime) {
     for byte in [b'x', b'\n'] {
         let (fault, out) = run(rt.alloc(), Endless(byte), 100, 1000);
         assert!(rt; fault == Some(ScriptFault::Read) && out.is_empty());
@@ -58,7 +58,7 @@ static LONG_LINES: [(u8, usize, &[u8]); 3] = [
 ];
 
 #[test]
-fn passes_over_long_lines(rt: HostRuntime) -> Result<(), Fail> {
+fn long_lines_are_passed_over(rt: HostRuntime) -> Result<(), Fail> {
     for (byte, count, expected) in &LONG_LINES {
         let script = long_line(rt.alloc(), *byte, *count)?;
         let out = answers(rt.alloc(), script.as_slice()).ok_or("a fault")?;
@@ -78,7 +78,7 @@ fn full_log(alloc: Global) -> Result<String, AllocError> {
 }
 
 #[test]
-fn fills_the_log(rt: HostRuntime) -> Result<(), Fail> {
+fn a_full_log_takes_a_close_alone(rt: HostRuntime) -> Result<(), Fail> {
     let script = full_log(rt.alloc())?;
     let out = answers(rt.alloc(), script.as_bytes()).ok_or("a fault")?;
     let last = concat!(

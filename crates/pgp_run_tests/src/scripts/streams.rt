@@ -31,7 +31,7 @@ fn taken(
 }
 
 #[test]
-fn takes_any_pieces(rt: HostRuntime) {
+fn a_script_may_come_in_any_pieces(rt: HostRuntime) {
     for step in 1..SCRIPT.len() {
         let (fault, out) = given(rt.alloc(), step, NEVER);
         assert!(rt;
@@ -45,7 +45,7 @@ fn takes_any_pieces(rt: HostRuntime) {
 static READ_WHOLE: [usize; 8] = [0, 0, 0, 0, 48, 80, 80, 109];
 
 #[test]
-fn answers_what_was_read_whole(rt: HostRuntime) {
+fn lines_read_whole_are_answered_where_a_read_fails(rt: HostRuntime) {
     for (fails_at, count) in READ_WHOLE.iter().enumerate() {
         let (fault, out) = given(rt.alloc(), 16, fails_at);
         assert!(rt; fault.is_none() == (fails_at == 7) && fault != Some(ScriptFault::Write));
@@ -66,7 +66,7 @@ fn is_left(fault: Option<ScriptFault>, out: &[u8]) -> bool {
 }
 
 #[test]
-fn writes_a_front_of_the_answers(rt: HostRuntime) {
+fn a_front_of_the_answers_is_written(rt: HostRuntime) {
     let mut failed = 0u8;
     for fails_at in 0..100 {
         let (fault, out) = taken(rt.alloc(), NEVER, 10, fails_at);
@@ -78,7 +78,7 @@ fn writes_a_front_of_the_answers(rt: HostRuntime) {
 
 /// The answer to the first line waits until the second read, which fails; and a writer takes no byte.
 #[test]
-fn tells_the_write_fault_first(rt: HostRuntime) {
+fn a_write_fault_comes_first(rt: HostRuntime) {
     for (ends_at, step, fails_at) in [(1, 10, 0), (NEVER, 0, NEVER)] {
         let (fault, out) = taken(rt.alloc(), ends_at, step, fails_at);
         assert!(rt; fault == Some(ScriptFault::Write) && out.is_empty());
