@@ -63,7 +63,7 @@ fn device_at(devices: &Osds, place: usize) -> u16
     ensures { result ≡ device_at devices.now place }
 {
     match devices.as_slice().get(place) {
-        Some(device) => device_number(*device),
+        Some(place) => device_number(place.osd()),
         None => NO_DEVICE,
     }
 }

@@ -9,7 +9,7 @@ ghost use Rattle.pgp_crush.specs.Cells.{is_open, holds, after_try, after_look, c
 use super::candidate::{Candidate, Input, Pick};
 use super::descent::Rank;
 use super::first_n::TRIES;
-use pgp_ids::{MAX_OSDS, Osds};
+use pgp_ids::{MAX_OSDS, Osds, Place};
 
 /// What a position has so far.
 #[derive(Clone, Copy)]
@@ -124,10 +124,10 @@ fn leaves_held(cells: &[Cell]) -> Osds
 {
     let mut osds = Osds::new();
     for cell in cells {
-        osds.push(match cell {
+        osds.push(Place::new(match cell {
             Cell::Held(pick) => Some(pick.leaf),
             _ => None,
-        });
+        }));
     }
     osds
 }

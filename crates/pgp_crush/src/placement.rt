@@ -8,7 +8,7 @@ use super::candidate::Input;
 use super::out::DEVICES;
 use super::rule::Rule;
 use super::tree::Tree;
-use pgp_ids::{MAX_OSDS, Osds};
+use pgp_ids::{MAX_OSDS, Osds, Place};
 
 /// The devices that `rule` gives `n` places on the tree.
 ///
@@ -47,7 +47,7 @@ fn unplaced(rule: Rule, n: u8) -> Osds
     let mut osds = Osds::new();
     if rule.indep {
         for _place in 0..n {
-            osds.push(None);
+            osds.push(Place::new(None));
         }
     }
     osds

@@ -5,7 +5,7 @@ ghost use Rattle.pgp_crush.specs.Picks.{no_picks, with_pick, is_taken, has_leaf}
 
 use super::candidate::Pick;
 use arrayvec::ArrayVec;
-use pgp_ids::{MAX_OSDS, OsdId, Osds};
+use pgp_ids::{MAX_OSDS, OsdId, Osds, Place};
 use std::marker::Model;
 
 /// The items taken so far, and their leaves.
@@ -51,7 +51,7 @@ impl TakenItems {
     {
         if let Some(pick) = found {
             self.items.push(pick.item);
-            self.leaves.push(Some(pick.leaf));
+            self.leaves.push(Place::new(Some(pick.leaf)));
         }
     }
 
@@ -63,8 +63,8 @@ impl TakenItems {
 }
 
 /// Some place has this device.
-fn has_leaf(leaves: &[Option<OsdId>], osd: OsdId) -> bool
+fn has_leaf(leaves: &[Place], osd: OsdId) -> bool
     ensures { result ≡ has_leaf leaves.now osd }
 {
-    leaves.contains(&Some(osd))
+    leaves.iter().any(|place| place.osd() == Some(osd))
 }

@@ -2,7 +2,7 @@
 
 ghost use Rattle.std.specs.Prelude.{◌≡◌};
 
-use pgp_ids::{Epoch, MAX_OSDS, Member, OsdId, Osds, PgId, PoolId, Version};
+use pgp_ids::{Epoch, MAX_OSDS, Member, OsdId, Osds, PgId, Place, PoolId, Version};
 
 /// A number that no device has: an empty place of a list.
 pub const NO_OSD: u16 = 9999;
@@ -27,7 +27,7 @@ pub fn places(numbers: &[u16]) -> Osds {
     let mut places = Osds::new();
     for number in numbers {
         if places.len() < MAX_OSDS {
-            places.push(OsdId::new(*number));
+            places.push(Place::new(OsdId::new(*number)));
         }
     }
     places

@@ -83,8 +83,8 @@ impl NamedDevices {
         ensures capacity { vec_capacity self.new.osds ≡ vec_capacity self.old.osds }
     {
         for place in places.as_slice() {
-            if let Some(osd) = place {
-                self.add(*osd);
+            if let Some(osd) = place.osd() {
+                self.add(osd);
             }
         }
     }

@@ -6,7 +6,7 @@ ghost use Rattle.pgp_group_words.specs.Text.{Text, joint as joint_of, listed as 
 ghost use Rattle.pgp_group_words.specs.declared.names.Naming.{Naming as TheNaming};
 
 use super::names::{Device, Naming};
-use pgp_ids::{Member, OsdId, Osds};
+use pgp_ids::{Member, OsdId, Osds, Place};
 use std::alloc::{AllocError, Global};
 
 /// What has a name in a sentence.
@@ -42,11 +42,11 @@ impl Word for Member {
 }
 
 /// A place of up or acting.
-impl Word for Option<OsdId> {
+impl Word for Place {
     ghost word = { λ _ place. place_name place };
 
     fn put(&self, _naming: Naming, text: &mut String) -> Result<(), AllocError> {
-        match self {
+        match self.osd() {
             Some(osd) => write!(text, "{}", osd.number()),
             None => text.push_str("NONE"),
         }

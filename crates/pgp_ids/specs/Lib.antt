@@ -1,3 +1,4 @@
+pub mod Place
 pub mod Osds
 pub mod SlotSet
 pub mod SlotBits

@@ -2,6 +2,7 @@ use super::bucket::BucketSpec;
 use super::epoch::Epoch;
 use super::osd::OsdId;
 use super::pg_id::PgId;
+use super::place::Place;
 use super::pool::{PoolSizes, PoolSpec};
 use super::seq::Seq;
 
@@ -23,7 +24,7 @@ pub struct DeviceEpoch {
 #[derive(Debug, Drop)]
 pub struct TempList {
     pub pg: PgId,
-    pub osds: Seq<Option<OsdId>>,
+    pub osds: Seq<Place>,
 }
 
 /// The step from one cluster map to the next. All its parts take effect together.

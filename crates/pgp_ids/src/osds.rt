@@ -2,6 +2,7 @@ ghost use Rattle.std.specs.Prelude.{◌≡◌, ℕ, ◌+◌, ◌<◌, ◌≤◌,
 ghost use Rattle.pgp_ids.specs.Osds.{first_osd, osd_count};
 
 use super::osd::OsdId;
+use super::place::Place;
 use arrayvec::ArrayVec;
 use std::alloc::{AllocError, Global};
 use std::marker::Model;
@@ -14,7 +15,7 @@ pub const MAX_OSDS: usize = 16;
 /// In a replicated pool the places have no meaning beyond their order; in an erasure pool place `i` holds shard `i`.
 #[derive(Debug, PartialEq, Eq, Drop)]
 pub struct Osds {
-    places: ArrayVec<Option<OsdId>, 16>,
+    places: ArrayVec<Place, 16>,
 }
 
 impl Model for Osds {
@@ -56,7 +57,7 @@ impl Osds {
     }
 
     /// Appends a place.
-    pub fn push(&mut self, place: Option<OsdId>)
+    pub fn push(&mut self, place: Place)
         requires { length self.old < MAX_OSDS }
         ensures { self.new ≡ self.old ++ place ∷ [] }
     {
@@ -64,7 +65,7 @@ impl Osds {
     }
 
     /// The places in order.
-    pub fn as_slice(&self) -> &[Option<OsdId>]
+    pub fn as_slice(&self) -> &[Place]
         ensures value { result.now ≡ self.now }
         ensures within { length result.now ≤ MAX_OSDS }
     {
@@ -96,17 +97,17 @@ impl Osds {
         self.places
             .as_slice()
             .iter()
-            .filter(|place| place.is_some())
+            .filter(|place| place.osd().is_some())
             .count()
     }
 }
 
-fn first_of(places: &[Option<OsdId>]) -> Option<OsdId>
+fn first_of(places: &[Place]) -> Option<OsdId>
     ensures { result ≡ first_osd places.now }
 {
     for place in places {
-        if let Some(osd) = place {
-            return Some(*osd);
+        if let Some(osd) = place.osd() {
+            return Some(osd);
         }
     }
     None

@@ -1,7 +1,7 @@
 ghost use Rattle.std.specs.Prelude.{◌≡◌, ◌≤◌, length};
 ghost use Rattle.pgp_interval.specs.ReadWrite.{held_places, acting_slots};
 
-use pgp_ids::{MAX_OSDS, OsdId, Osds, SlotSet};
+use pgp_ids::{MAX_OSDS, Osds, Place, SlotSet};
 
 /// The slots of an acting list: its places that hold a device, or slot 0 alone for whole copies.
 pub fn acting_slots(by_place: bool, acting: &Osds) -> SlotSet
@@ -17,14 +17,14 @@ pub fn acting_slots(by_place: bool, acting: &Osds) -> SlotSet
 }
 
 #[tactic(auto, using(crate::proofs::Places::place_laws))]
-fn held_places(places: &[Option<OsdId>]) -> SlotSet
+fn held_places(places: &[Place]) -> SlotSet
     requires { length places.now ≤ MAX_OSDS }
     ensures { result ≡ held_places places.now }
 {
     let mut held = SlotSet::empty();
-    for (place, osd) in places.iter().enumerate() {
-        if osd.is_some() {
-            held = held.with(place as u8);
+    for (slot, place) in places.iter().enumerate() {
+        if place.osd().is_some() {
+            held = held.with(slot as u8);
         }
     }
     held

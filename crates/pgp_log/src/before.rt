@@ -12,7 +12,9 @@ ghost use Rattle.pgp_log.specs.RawSets.{IsRawSet};
 
 use super::touch::has_sizes;
 use pgp_group::primary_facts;
-use pgp_ids::{DeviceEpoch, DeviceWeight, Epoch, Incremental, OsdId, PgId, PrimaryFacts};
+use pgp_ids::{
+    DeviceEpoch, DeviceWeight, Epoch, Incremental, OsdId, PgId, Place, PrimaryFacts,
+};
 use pgp_map::OsdMap;
 use pgp_sets::switches_any;
 use std::alloc::{AllocError, Global};
@@ -59,7 +61,7 @@ impl MapBefore {
         after: &OsdMap,
         inc: &Incremental,
         pg: &PgId,
-        raw: &[Option<OsdId>],
+        raw: &[Place],
     ) -> bool
         requires { HasGroup after.now pg.now }
         ensures stays { result ≡ false → (incs : List AnyIncremental) → IsMapBefore incs inc.now self.now → IsRawSet incs pg.now raw.now
@@ -74,7 +76,7 @@ impl MapBefore {
 
     /// Whether a weight of the map after may bring a device in for the group or take one out of these places. Of more than
     /// [`MOST_TESTED`] weights it isn't looked at: a placement is cheaper.
-    fn may_switch(&self, after: &OsdMap, pg: &PgId, raw: &[Option<OsdId>]) -> bool
+    fn may_switch(&self, after: &OsdMap, pg: &PgId, raw: &[Place]) -> bool
         requires { HasGroup after.now pg.now }
         ensures { result ≡ false → (incs : List AnyIncremental) → IsMapOf incs after.now
             → switches_any incs pg.now raw.now self.now.weights.items ≡ false }

@@ -6,7 +6,7 @@ ghost use Rattle.std.specs.Option.{option_eq};
 ghost use Rattle.pgp_group.specs.Touched.{has_osd};
 ghost use Rattle.pgp_log.specs.OsdFilter.{Covers, CoversStill};
 
-use pgp_ids::{DeviceEpoch, DeviceWeight, OsdId};
+use pgp_ids::{DeviceEpoch, DeviceWeight, OsdId, Place};
 
 /// A set of devices, in three words. It may say of a device that it is in the set when it isn't, and never the other way.
 #[derive(Clone, Copy)]
@@ -79,7 +79,7 @@ impl OsdFilter {
     }
 
     /// Adds each device that stands on one of the places.
-    pub(crate) fn add_places(&mut self, places: &[Option<OsdId>])
+    pub(crate) fn add_places(&mut self, places: &[Place])
         ensures there { (osd : ℕ) → has_osd osd places.now ≡ true → Covers self.new osd }
         ensures still { CoversStill self.old self.new }
     {
@@ -89,11 +89,11 @@ impl OsdFilter {
     }
 
     /// Adds the device that stands on the place, if one does.
-    fn add_place(&mut self, place: Option<OsdId>)
+    fn add_place(&mut self, place: Place)
         ensures there { (osd : ℕ) → option_eq nat_eq (Some osd) place ≡ true → Covers self.new osd }
         ensures still { CoversStill self.old self.new }
     {
-        if let Some(osd) = place {
+        if let Some(osd) = place.osd() {
             self.add(osd);
         }
     }

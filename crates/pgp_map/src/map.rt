@@ -20,7 +20,7 @@ use super::trees::{check_tree, given_tree};
 use super::weights::Weights;
 use super::{ranges, repeats, standing, temp_check};
 use pgp_crush::{DEVICES, Tree};
-use pgp_ids::{Epoch, Incremental, MAX_OSDS, OsdId, Osds, PgId, PoolId, PoolSpec};
+use pgp_ids::{Epoch, Incremental, MAX_OSDS, OsdId, Osds, PgId, Place, PoolId, PoolSpec};
 use pgp_tables::{Device, devices, pools, temps};
 use std::alloc::{AllocError, Global};
 use std::collections::HashMap;
@@ -297,7 +297,7 @@ impl OsdMap {
     }
 
     /// The group's pg_temp list; empty if it has none.
-    pub fn temp(&self, pg: PgId) -> &[Option<OsdId>]
+    pub fn temp(&self, pg: PgId) -> &[Place]
         ensures within { length result.now ≤ MAX_OSDS }
         ensures value { Says self.now (λ incs. result.now ≡ temp incs pg) }
     {

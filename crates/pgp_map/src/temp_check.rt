@@ -7,17 +7,17 @@ ghost use Rattle.pgp_map.specs.MapFault.{is_bad_list, has_bad_places};
 ghost use Rattle.pgp_tables.specs.PoolTable.{new_pool};
 
 use super::new_pools::NewPools;
-use pgp_ids::{MAX_OSDS, OsdId, PoolId, PoolSpec, TempList};
+use pgp_ids::{MAX_OSDS, OsdId, Place, PoolId, PoolSpec, TempList};
 use std::collections::HashMap;
 
 /// A device is twice among the places.
-fn has_device_twice(places: &[Option<OsdId>]) -> bool
+fn has_device_twice(places: &[Place]) -> bool
     ensures { result ≡ has_repeat nat_eq (filter_map (λ place. place) places.now) }
 {
     let mut rest = places;
     while let Some((first, others)) = rest.split_first() {
-        if let Some(osd) = first
-            && is_placed(*osd, others)
+        if let Some(osd) = first.osd()
+            && is_placed(osd, others)
         {
             return true;
         }
@@ -28,21 +28,21 @@ fn has_device_twice(places: &[Option<OsdId>]) -> bool
 
 /// The device stands in one of the places.
 #[tactic(auto, using(crate::proofs::RepeatLemmas::placed_steps))]
-fn is_placed(osd: OsdId, places: &[Option<OsdId>]) -> bool
+fn is_placed(osd: OsdId, places: &[Place]) -> bool
     ensures { result ≡ list_any (nat_eq osd) (filter_map (λ place. place) places.now) }
 {
-    places.contains(&Some(osd))
+    places.iter().any(|place| place.osd() == Some(osd))
 }
 
 /// A place of the list is empty.
-fn has_empty_place(places: &[Option<OsdId>]) -> bool
+fn has_empty_place(places: &[Place]) -> bool
     ensures { result ≡ list_any is_none places.now }
 {
-    places.iter().any(|place| place.is_none())
+    places.iter().any(|place| place.osd().is_none())
 }
 
 /// The pool can't have such a list.
-fn has_bad_places(made: &PoolSpec, places: &[Option<OsdId>]) -> bool
+fn has_bad_places(made: &PoolSpec, places: &[Place]) -> bool
     ensures { result ≡ has_bad_places made.now places.now }
 {
     if made.kind.is_by_place() {

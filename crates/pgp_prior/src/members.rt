@@ -2,14 +2,14 @@ ghost use Rattle.std.specs.Prelude.{◌≡◌, ◌<◌, All};
 ghost use Rattle.std.specs.Iterator.{YieldsFirst, item_count};
 ghost use Rattle.pgp_prior.specs.Members.{members_of};
 
-use pgp_ids::{Member, OsdId, Osds};
+use pgp_ids::{Member, Osds, Place};
 use std::marker::Model;
 
 /// The members of a list of devices, in the order of their places. Contracts see it as the list of those that are left.
 #[derive(Drop)]
 pub struct Members<'a> {
     by_place: bool,
-    places: &'a [Option<OsdId>],
+    places: &'a [Place],
     /// The place that is looked at next.
     place: u8,
 }
@@ -36,12 +36,12 @@ impl<'a> Iterator for Members<'a> {
     ghost remaining = { item_count (λ rest. rest) };
 
     fn next(&mut self) -> Option<Member> {
-        while let Some(osd) = self.places.get(usize::from(self.place)) {
+        while let Some(held) = self.places.get(usize::from(self.place)) {
             let place = self.place;
             self.place += 1;
-            if let Some(osd) = osd {
+            if let Some(osd) = held.osd() {
                 let slot = if self.by_place { place } else { 0 };
-                return Some(Member { osd: *osd, slot });
+                return Some(Member { osd, slot });
             }
         }
         None

@@ -7,12 +7,12 @@ ghost use Rattle.pgp_map.specs.Held.{held_up};
 ghost use Rattle.pgp_map.specs.MapOf.{IsMapOf};
 ghost use Rattle.pgp_sets.specs.Sets.{without_down};
 
-use pgp_ids::{MAX_OSDS, OsdId, Osds, PoolSpec};
+use pgp_ids::{MAX_OSDS, Osds, Place, PoolSpec};
 use pgp_map::OsdMap;
 
 /// The list without devices that aren't up. In an erasure or grouped pool their places are empty, in a replicated one they
 /// are left out.
-pub(crate) fn without_down(map: &OsdMap, pool: &PoolSpec, places: &[Option<OsdId>]) -> Osds
+pub(crate) fn without_down(map: &OsdMap, pool: &PoolSpec, places: &[Place]) -> Osds
     requires { length places.now ≤ MAX_OSDS }
     ensures { (incs : List Incremental) → IsMapOf incs map.now
         → result ≡ without_down incs pool.now places.now }
@@ -25,7 +25,7 @@ pub(crate) fn without_down(map: &OsdMap, pool: &PoolSpec, places: &[Option<OsdId
 }
 
 /// The places whose devices are up.
-fn left_out(map: &OsdMap, places: &[Option<OsdId>]) -> Osds
+fn left_out(map: &OsdMap, places: &[Place]) -> Osds
     requires { length places.now ≤ MAX_OSDS }
     ensures { result ≡ filter (λ place. option_map_or (held_up map.now) place false) places.now }
 {
@@ -39,22 +39,26 @@ fn left_out(map: &OsdMap, places: &[Option<OsdId>]) -> Osds
 }
 
 /// Each place, emptied if its device isn't up.
-fn emptied(map: &OsdMap, places: &[Option<OsdId>]) -> Osds
+fn emptied(map: &OsdMap, places: &[Place]) -> Osds
     requires { length places.now ≤ MAX_OSDS }
     ensures { result ≡ map_list (λ place. if option_map_or (held_up map.now) place false then place else None) places.now }
 {
     let mut osds = Osds::new();
     for place in places {
-        osds.push(if holds_up(map, *place) { *place } else { None });
+        osds.push(if holds_up(map, *place) {
+            *place
+        } else {
+            Place::new(None)
+        });
     }
     osds
 }
 
 /// Whether the place holds a device that is up.
-fn holds_up(map: &OsdMap, place: Option<OsdId>) -> bool
+fn holds_up(map: &OsdMap, place: Place) -> bool
     ensures { result ≡ option_map_or (held_up map.now) place false }
 {
-    match place {
+    match place.osd() {
         Some(osd) => map.is_up(osd),
         None => false,
     }

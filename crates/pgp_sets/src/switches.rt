@@ -10,7 +10,7 @@ ghost use Rattle.pgp_sets.specs.Sets.{has_osd, switches, switches_any};
 
 use super::membership::{placement_input, pool_of};
 use pgp_crush::is_in_by;
-use pgp_ids::{DeviceWeight, OsdId, PgId};
+use pgp_ids::{DeviceWeight, OsdId, PgId, Place};
 use pgp_map::OsdMap;
 
 /// Whether one of these devices, which had these weights before this map, comes in for the group by the weight that it has now, or
@@ -19,7 +19,7 @@ use pgp_map::OsdMap;
 pub fn switches_any(
     after: &OsdMap,
     pg: &PgId,
-    places: &[Option<OsdId>],
+    places: &[Place],
     before: &[DeviceWeight],
 ) -> bool
     requires { HasGroup after.now pg.now }
@@ -36,7 +36,7 @@ pub fn switches_any(
 fn switches_any_for(
     x: u32,
     after: &OsdMap,
-    places: &[Option<OsdId>],
+    places: &[Place],
     before: &[DeviceWeight],
 ) -> bool
     ensures { (incs : List Incremental) → IsMapOf incs after.now
@@ -53,7 +53,7 @@ fn switches_any_for(
 /// Whether the device comes in by its new weight, or goes out of the places. A device that gets lighter never comes in: it is looked
 /// for among the places first, since a hash takes longer.
 #[tactic(auto, using(crate::proofs::RawSetLemmas::switch_by_weight))]
-fn switches(x: u32, places: &[Option<OsdId>], osd: OsdId, before: u32, after: u32) -> bool
+fn switches(x: u32, places: &[Place], osd: OsdId, before: u32, after: u32) -> bool
     ensures { result ≡ switches x places.now osd before after }
 {
     if after > before {
@@ -67,8 +67,8 @@ fn switches(x: u32, places: &[Option<OsdId>], osd: OsdId, before: u32, after: u3
 }
 
 /// The device stands in the list.
-pub fn has_osd(places: &[Option<OsdId>], osd: OsdId) -> bool
+pub fn has_osd(places: &[Place], osd: OsdId) -> bool
     ensures { result ≡ has_osd osd places.now }
 {
-    places.iter().any(|place| Some(osd) == *place)
+    places.iter().any(|place| Some(osd) == place.osd())
 }

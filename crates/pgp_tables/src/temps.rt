@@ -7,12 +7,12 @@ ghost use Rattle.pgp_lists.specs.Last.{last_where};
 ghost use Rattle.pgp_tables.specs.TempTable.{is_same_group};
 ghost use Rattle.pgp_tables.specs.TempTable.{temp_at, has_temp, with_temp};
 
-use pgp_ids::{MAX_OSDS, OsdId, Osds, PgId, TempList};
+use pgp_ids::{MAX_OSDS, Osds, PgId, Place, TempList};
 use std::alloc::AllocError;
 use std::collections::HashMap;
 
 /// The pg_temp list of the group, empty where it has none.
-pub fn temp_at(table: &HashMap<PgId, Osds>, pg: PgId) -> &[Option<OsdId>]
+pub fn temp_at(table: &HashMap<PgId, Osds>, pg: PgId) -> &[Place]
     ensures within { length result.now ≤ MAX_OSDS }
     ensures value { result.now ≡ temp_at table.now pg }
 {
@@ -48,7 +48,7 @@ pub fn place_all(table: &mut HashMap<PgId, Osds>, temps: &[TempList]) -> Result<
 }
 
 /// The first sixteen places of the list.
-fn osds_of(places: &[Option<OsdId>]) -> Osds
+fn osds_of(places: &[Place]) -> Osds
     ensures { result ≡ take MAX_OSDS places.now }
 {
     let mut osds = Osds::new();

@@ -27,7 +27,7 @@ fn slots_of(by_place: bool, acting: &Osds) -> SlotSet {
     let mut slots = SlotSet::empty();
     let mut slot = 0u8;
     for place in acting.as_slice() {
-        if place.is_some() && slot < SLOT_LIMIT {
+        if place.osd().is_some() && slot < SLOT_LIMIT {
             slots = slots.with(slot);
         }
         if by_place {

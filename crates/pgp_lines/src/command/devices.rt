@@ -7,7 +7,7 @@ ghost use Rattle.pgp_lines.specs.Devices.{device_weight_in, device_epoch_in};
 use super::lists::{Shape, read_pair};
 use super::numbers::{read_epoch, read_osd, read_place, read_word};
 use super::value::Value;
-use pgp_ids::{DeviceEpoch, DeviceWeight, OsdId};
+use pgp_ids::{DeviceEpoch, DeviceWeight, OsdId, Place};
 use std::alloc::{AllocError, Global};
 
 impl Shape for OsdId {
@@ -18,10 +18,10 @@ impl Shape for OsdId {
     }
 }
 
-impl Shape for Option<OsdId> {
+impl Shape for Place {
     ghost shape = { place_in true };
 
-    fn read(_alloc: Global, value: &Value<'_, '_>) -> Result<Option<Option<OsdId>>, AllocError> {
+    fn read(_alloc: Global, value: &Value<'_, '_>) -> Result<Option<Place>, AllocError> {
         Ok(read_place(value, true))
     }
 }

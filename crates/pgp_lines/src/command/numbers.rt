@@ -5,7 +5,7 @@ ghost use Rattle.pgp_lines.specs.Shapes.{number_in, integer_in, field};
 ghost use Rattle.pgp_lines.specs.Ids.{osd_in, place_in, pool_id_in, byte_in, word_in, group_in};
 
 use super::value::Value;
-use pgp_ids::{Epoch, OsdId, PgId, PoolId};
+use pgp_ids::{Epoch, OsdId, PgId, Place, PoolId};
 
 /// The greatest number of a group in its pool.
 const MAX_PG: u64 = 1023;
@@ -53,14 +53,14 @@ pub(super) fn read_osd(value: &Value<'_, '_>) -> Option<OsdId>
 }
 
 /// A device, or null where `nulls` allows an empty place.
-pub(super) fn read_place(value: &Value<'_, '_>, nulls: bool) -> Option<Option<OsdId>>
+pub(super) fn read_place(value: &Value<'_, '_>, nulls: bool) -> Option<Place>
     ensures { result ≡ place_in nulls (view value.now) }
 {
     if nulls && value.is_null() {
-        return Some(None);
+        return Some(Place::new(None));
     }
     let osd = read_osd(value)?;
-    Some(Some(osd))
+    Some(Place::new(Some(osd)))
 }
 
 /// A pool, 1 to 255.

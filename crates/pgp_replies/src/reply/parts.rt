@@ -6,7 +6,7 @@ ghost use Rattle.pgp_replies.specs.Answered.{place_data};
 ghost use Rattle.pgp_replies.specs.Written.{tokens_of, fields_tokens};
 
 use json::Writer;
-use pgp_ids::{Epoch, OsdId, Osds, Seq};
+use pgp_ids::{Epoch, OsdId, Osds, Place, Seq};
 use std::alloc::{AllocError, Global};
 
 /// What is written as one JSON value.
@@ -49,6 +49,15 @@ impl Json for OsdId {
 
     fn write(&self, _alloc: Global, out: &mut Writer) -> Result<(), AllocError> {
         out.u64(u64::from(self.number()))
+    }
+}
+
+/// Null where it is empty.
+impl Json for Place {
+    ghost value = { place_data };
+
+    fn write(&self, alloc: Global, out: &mut Writer) -> Result<(), AllocError> {
+        self.osd().write(alloc, out)
     }
 }
 

@@ -1,0 +1,56 @@
+ghost use Rattle.std.specs.Prelude.{◌≡◌};
+
+use super::osd::OsdId;
+use std::fmt;
+use std::marker::Model;
+
+/// A place of a list of devices, which holds a device or is empty (NONE). Contracts see it as an `Option` of its device.
+///
+/// It takes two bytes, where an `Option<OsdId>` takes four.
+#[derive(Clone, Copy, Default, PartialEq, Eq)]
+pub struct Place {
+    /// 0 where it is empty, and else one more than its device.
+    code: u16,
+}
+
+impl Model for Place {
+    ghost use Rattle.std.specs.Prelude.{ℕ, ◌≤◌, Option};
+    ghost use Rattle.pgp_ids.specs.Place.{place_of, code_of, code_of-place_of};
+
+    ghost Value = { Option ℕ };
+
+    ghost view = { λ p. place_of p.code };
+
+    ghost invariant = { λ p. p.code ≤ 4096 };
+
+    ghost inverse = { λ place. record { code = code_of place } };
+
+    ghost inverse_ok = { λ p _. code_of-place_of p };
+}
+
+impl Place {
+    pub fn new(osd: Option<OsdId>) -> Self
+        ensures { result ≡ osd }
+    {
+        let code = match osd {
+            Some(osd) => osd.number() + 1,
+            None => 0,
+        };
+        Place { code }
+    }
+
+    /// The device that it holds.
+    pub fn osd(self) -> Option<OsdId>
+        ensures { result ≡ self }
+    {
+        let number = self.code.checked_sub(1)?;
+        OsdId::new(number)
+    }
+}
+
+/// It is shown as the `Option` that it stands for.
+impl fmt::Debug for Place {
+    fn fmt<W: fmt::Write>(&self, f: &mut fmt::Formatter<W>) -> fmt::Result {
+        fmt::Debug::fmt(&self.osd(), f)
+    }
+}
