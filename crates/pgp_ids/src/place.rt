@@ -1,4 +1,7 @@
-ghost use Rattle.std.specs.Prelude.{◌≡◌};
+ghost use Rattle.std.specs.Prelude.{◌≡◌, nat_eq};
+ghost use Rattle.std.specs.Option.{option_eq};
+ghost use Rattle.std.specs.Cmp.{partial_equiv_from_equiv, nat_eq_equiv};
+ghost use Rattle.std.specs.Cmp.Lexicographic.{options_equiv};
 
 use super::osd::OsdId;
 use std::fmt;
@@ -7,7 +10,7 @@ use std::marker::Model;
 /// A place of a list of devices, which holds a device or is empty (NONE). Contracts see it as an `Option` of its device.
 ///
 /// It takes two bytes, where an `Option<OsdId>` takes four.
-#[derive(Clone, Copy, Default, PartialEq, Eq)]
+#[derive(Clone, Copy, Default)]
 pub struct Place {
     /// 0 where it is empty, and else one more than its device.
     code: u16,
@@ -46,6 +49,21 @@ impl Place {
         let number = self.code.checked_sub(1)?;
         OsdId::new(number)
     }
+}
+
+/// It is compared as the `Option` that it stands for.
+impl PartialEq for Place {
+    ghost eq = { option_eq nat_eq };
+
+    ghost laws = { partial_equiv_from_equiv (options_equiv nat_eq_equiv) };
+
+    fn eq(&self, other: &Place) -> bool {
+        self.osd() == other.osd()
+    }
+}
+
+impl Eq for Place {
+    ghost laws = { options_equiv nat_eq_equiv };
 }
 
 /// It is shown as the `Option` that it stands for.
