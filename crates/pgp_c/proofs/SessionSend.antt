@@ -6,7 +6,7 @@ use Rattle.std_heap.specs.contracts.Global as Heap
 use Rattle.std_heap.specs.contracts.GlobalAllocator.TheImpl.{ghosts}
 use Rattle.json.proofs.scratch.Scratch.TheSendSync.{the_send as scratch}
 use Rattle.pgp_lines.specs.contracts.command.LineReader as LineReader
-use Rattle.pgp_replies.proofs.reply.ReplyWriter.TheSendSync.{the_send as writer}
+use Rattle.pgp_text.proofs.reply.ReplyWriter.TheSendSync.{the_send as writer}
 use Rattle.pgp_core.specs.contracts.codec.Codec as Codec
 use Rattle.pgp_core.specs.contracts.session.Session as Session
 use Rattle.pgp_core.specs.contracts.session.Session.TheInside as Inside

@@ -6,9 +6,9 @@ use Rattle.pgp_ids.specs.declared.report.Info.{Info}
 use Rattle.pgp_ids.specs.Refusal.{refusal_number}
 use Rattle.pgp_lines.specs.declared.command.Command.TheVariants.{Submit}
 use Rattle.pgp_log.specs.Fits.{fits}
-use Rattle.pgp_replies.specs.declared.reply.Reply.{Reply}
-use Rattle.pgp_replies.specs.declared.reply.Reply.TheVariants.{Accepted, Asked, Located, Traced, Refused}
-use Rattle.pgp_replies.specs.declared.reply.refused.Refused.TheVariants as why
+use Rattle.pgp_text.specs.declared.reply.Reply.{Reply}
+use Rattle.pgp_text.specs.declared.reply.Reply.TheVariants.{Accepted, Asked, Located, Traced, Refused}
+use Rattle.pgp_text.specs.declared.reply.refused.Refused.TheVariants as why
 use Rattle.pgp_core.specs.Session.{LogAndAnswer, log_in, reply_in}
 use Rattle.pgp_c.specs.Ask.{IsGroup, group}
 use Rattle.pgp_c.specs.Member.{IsMember, member}

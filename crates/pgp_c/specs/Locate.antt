@@ -5,8 +5,8 @@ use Rattle.pgp_ids.specs.declared.entry.Entry.{Entry}
 use Rattle.pgp_ids.specs.LocateRefusal.{locate_refusal_number}
 use Rattle.pgp_ids.specs.declared.locate_refusal.LocateRefusal.TheVariants.{UnknownPool}
 use Rattle.pgp_lines.specs.declared.command.Command.TheVariants.{Locate}
-use Rattle.pgp_replies.specs.declared.reply.Reply.{Reply}
-use Rattle.pgp_replies.specs.declared.reply.Reply.TheVariants.{Accepted, Asked, Located, Traced, Refused}
+use Rattle.pgp_text.specs.declared.reply.Reply.{Reply}
+use Rattle.pgp_text.specs.declared.reply.Reply.TheVariants.{Accepted, Asked, Located, Traced, Refused}
 use Rattle.pgp_core.specs.Session.{LogAndAnswer, reply_in}
 use Rattle.pgp_c.specs.Place.{place_of}
 use Rattle.pgp_c.specs.Status.{status_number}

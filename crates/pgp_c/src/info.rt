@@ -8,7 +8,7 @@ use super::ask::group_of;
 use super::status::Status;
 use pgp_core::Session;
 use pgp_ids::{Entry, Epoch, Info, Member, OsdId, Version};
-use pgp_replies::{Refused, Reply};
+use pgp_text::{Refused, Reply};
 
 /// The greatest slot of a member.
 const LAST_SLOT: u32 = 15;

@@ -7,7 +7,7 @@ use super::place::{PgpPlace, place_of};
 use super::status::Status;
 use pgp_core::Session;
 use pgp_ids::{LocateRefusal, ObjectName, PoolId};
-use pgp_replies::Reply;
+use pgp_text::Reply;
 use std::alloc::Global;
 use std::str::from_utf8;
 

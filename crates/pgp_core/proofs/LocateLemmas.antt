@@ -5,7 +5,7 @@ use Rattle.pgp_ids.specs.declared.entry.Entry.{Entry}
 use Rattle.pgp_ids.specs.declared.pool.PoolSpec.{PoolSpec}
 use Rattle.pgp_map.specs.Pools.{pool}
 use Rattle.pgp_group.specs.Entries.{incs_of}
-use Rattle.pgp_replies.specs.declared.reply.Reply.TheVariants.{Located}
+use Rattle.pgp_text.specs.declared.reply.Reply.TheVariants.{Located}
 use Rattle.pgp_log.specs.Locate.{place_of_object}
 use Rattle.pgp_log.specs.Log.{epoch_of}
 use Rattle.pgp_log.specs.declared.place.Place.{Place}

@@ -11,7 +11,7 @@ use Rattle.pgp_group.specs.Touched.{told_at}
 use Rattle.pgp_group.specs.View.{scratch}
 use Rattle.pgp_lines.specs.declared.command.Command.{Command}
 use Rattle.pgp_lines.specs.declared.command.Command.TheVariants.{Submit, Ask, Locate, Trace}
-use Rattle.pgp_replies.specs.declared.reply.Reply.{Reply}
+use Rattle.pgp_text.specs.declared.reply.Reply.{Reply}
 use Rattle.pgp_log.specs.Fits.{fits}
 use Rattle.pgp_log.specs.Log.{epoch_of}
 use Rattle.pgp_text.specs.Command.{command_of}

@@ -8,8 +8,8 @@ use Rattle.pgp_text.specs.Reply.{reply_text}
 use Rattle.pgp_lines.specs.declared.command.Command.{Command}
 use Rattle.pgp_lines.specs.declared.command.Command.TheVariants.{Submit, Ask, Locate, Trace}
 use Rattle.pgp_log.specs.Fits.{fits}
-use Rattle.pgp_replies.specs.declared.reply.Reply.{Reply}
-use Rattle.pgp_replies.specs.declared.reply.Reply.TheVariants as reply
+use Rattle.pgp_text.specs.declared.reply.Reply.{Reply}
+use Rattle.pgp_text.specs.declared.reply.Reply.TheVariants as reply
 use Rattle.pgp_core.specs.Answer.{reply_of}
 use Rattle.pgp_core.specs.Lines.{is_blank}
 use Rattle.pgp_core.specs.Script.{longest_line, reply_text_of}

@@ -2,8 +2,8 @@
 use Rattle.std.specs.Prelude.{◌≡◌, List, Bool, true, false}
 use Rattle.pgp_ids.specs.declared.entry.Entry.{Entry}
 use Rattle.pgp_lines.specs.declared.command.Command.{Command}
-use Rattle.pgp_replies.specs.declared.reply.Reply.{Reply}
-use Rattle.pgp_replies.specs.declared.reply.Reply.TheVariants.{Accepted, Asked, Located, Traced, Refused}
+use Rattle.pgp_text.specs.declared.reply.Reply.{Reply}
+use Rattle.pgp_text.specs.declared.reply.Reply.TheVariants.{Accepted, Asked, Located, Traced, Refused}
 use Rattle.pgp_log.specs.Log.{IsFrontOf}
 use Rattle.pgp_core.specs.Answer.{reply_of, log_after}
 

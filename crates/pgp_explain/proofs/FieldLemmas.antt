@@ -2,9 +2,9 @@
 use Rattle.std.proofs.Common.{◌≡◌, ℕ, ◌+◌, ◌<◌, List, [], ◌++◌, length, take, get_or, flat_map, sym, ap, ◌∙◌}
 use Rattle.std.proofs.lemmas.List.{flat_map_more, take_more}
 use Rattle.json.specs.Token.{Token}
-use Rattle.pgp_replies.specs.Json.{Field}
-use Rattle.pgp_replies.specs.Written.{fields_tokens}
-use Rattle.pgp_replies.proofs.Tokens.{fields_then}
+use Rattle.pgp_text.specs.Json.{Field}
+use Rattle.pgp_text.specs.Written.{fields_tokens}
+use Rattle.pgp_text.proofs.Tokens.{fields_then}
 
 -- the fields of one item more
 pub fields_more : {A : Type 0} (f : A → List Field) (xs : List A) (i : ℕ) (d : A) (old mid new : List Token) → i < length xs

@@ -1,8 +1,8 @@
 -- Which log a script makes, and whether one of its lines is refused.
 use Rattle.std.specs.Prelude.{◌≡◌, ◌⊎◌, ℕ, List, [], ◌∷◌, Option}
 use Rattle.pgp_ids.specs.declared.entry.Entry.{Entry}
-use Rattle.pgp_replies.specs.declared.reply.refused.Refused.{Refused}
-use Rattle.pgp_replies.specs.declared.reply.Reply.TheVariants as reply
+use Rattle.pgp_text.specs.declared.reply.refused.Refused.{Refused}
+use Rattle.pgp_text.specs.declared.reply.Reply.TheVariants as reply
 use Rattle.pgp_core.specs.Added.{IsRefused, added_by, log_of_lines, with_added}
 use Rattle.pgp_core.specs.Lines.{lines_of}
 use Rattle.pgp_core.specs.Run.{script_bounds}

@@ -5,7 +5,7 @@ use Rattle.serde_json.specs.Written.{compact_text}
 use Rattle.pgp_ids.specs.Names.{verdict_name}
 use Rattle.pgp_ids.specs.declared.verdict.Verdict.{Verdict}
 use Rattle.pgp_ids.specs.declared.verdict.Verdict.TheVariants.{NoPrimary, Down, Waiting, Incomplete, Short, NeedLog, NeedUpThru, Serve}
-use Rattle.pgp_replies.specs.Json.{Field, object_with, number_data, list_data}
+use Rattle.pgp_text.specs.Json.{Field, object_with, number_data, list_data}
 use Rattle.pgp_group_words.specs.Text.{Text, joined, line}
 use Rattle.pgp_group_words.specs.Names.{epoch_name, device_name, plural}
 use Rattle.pgp_group_words.specs.Json.{epoch_data}

@@ -1,8 +1,8 @@
 //! A summary as JSON.
 
 ghost use Rattle.std.specs.Prelude.{◌≡◌, ◌++◌, ◌∷◌, [], codes, flat_map, IfOk, OnOk, string_bytes};
-ghost use Rattle.pgp_replies.specs.Json.{list_data};
-ghost use Rattle.pgp_replies.specs.Written.{fields_tokens, tokens_of};
+ghost use Rattle.pgp_text.specs.Json.{list_data};
+ghost use Rattle.pgp_text.specs.Written.{fields_tokens, tokens_of};
 ghost use Rattle.pgp_explain.specs.SummaryText.{device_data, summary_data, summary_json, tally_data, verdict_field, verdict_fields};
 
 use super::summary::Summary;
@@ -40,7 +40,7 @@ pub(crate) fn json_of(
     into_line(out)
 }
 
-#[tactic(auto, using(pgp_replies::proofs::Tokens::token_steps))]
+#[tactic(auto, using(pgp_text::proofs::Tokens::token_steps))]
 fn write_summary(out: &mut Writer, offset: EpochOffset, summary: &Summary) -> Result<(), AllocError>
     ensures ok { OnOk result
         (out.new.tokens ≡ out.old.tokens ++ tokens_of (summary_data offset summary.now)) }
@@ -55,7 +55,7 @@ fn write_summary(out: &mut Writer, offset: EpochOffset, summary: &Summary) -> Re
 }
 
 /// The devices for which groups wait.
-#[tactic(auto, unfolding(pgp_replies::specs::Written::fields_tokens))]
+#[tactic(auto, unfolding(pgp_text::specs::Written::fields_tokens))]
 fn write_devices(
     out: &mut Writer,
     offset: EpochOffset,
@@ -87,7 +87,7 @@ fn write_each_device(
 }
 
 /// For how many groups the device is waited.
-#[tactic(auto, using(pgp_replies::proofs::Tokens::token_steps))]
+#[tactic(auto, using(pgp_text::proofs::Tokens::token_steps))]
 fn write_device(
     out: &mut Writer,
     offset: EpochOffset,
@@ -109,7 +109,7 @@ fn write_device(
 impl Json for Tally {
     ghost value = { λ _ tally. tally_data tally };
 
-    #[tactic(auto, using(pgp_replies::proofs::Tokens::token_steps), unfolding(crate::specs::SummaryText::verdict_fields))]
+    #[tactic(auto, using(pgp_text::proofs::Tokens::token_steps), unfolding(crate::specs::SummaryText::verdict_fields))]
     fn write(&self, out: &mut Writer, offset: EpochOffset) -> Result<(), AllocError> {
         out.begin_object()?;
         write_verdicts(out, offset, self, &VERDICTS)?;
@@ -117,7 +117,7 @@ impl Json for Tally {
     }
 }
 
-#[tactic(auto, using(pgp_replies::proofs::Tokens::token_steps))]
+#[tactic(auto, using(pgp_text::proofs::Tokens::token_steps))]
 fn write_verdicts(
     out: &mut Writer,
     offset: EpochOffset,
@@ -135,7 +135,7 @@ fn write_verdicts(
 }
 
 /// How many groups have the verdict, where some have it.
-#[tactic(auto, unfolding(pgp_replies::specs::Written::fields_tokens))]
+#[tactic(auto, unfolding(pgp_text::specs::Written::fields_tokens))]
 fn write_verdict(
     out: &mut Writer,
     offset: EpochOffset,

@@ -8,8 +8,8 @@ use Rattle.pgp_ids.specs.declared.version.Version.{Version}
 use Rattle.pgp_reasons.specs.declared.blocking.Blocking.{Blocking}
 use Rattle.pgp_reasons.specs.declared.gap.Gap.{Gap}
 use Rattle.pgp_reasons.specs.declared.ways.Ways.{Ways}
-use Rattle.pgp_replies.specs.Answered.{pair_data, group_data, member_data, place_data, osds_data}
-use Rattle.pgp_replies.specs.Json.{Field, object_with, number_data, list_data, option_data}
+use Rattle.pgp_text.specs.Answered.{pair_data, group_data, member_data, place_data, osds_data}
+use Rattle.pgp_text.specs.Json.{Field, object_with, number_data, list_data, option_data}
 use Rattle.pgp_group_words.specs.Text.{Text}
 use Rattle.pgp_group_words.specs.Names.{cluster_epoch}
 use Rattle.pgp_group_words.specs.Sentence.{sentence_of, unheard_of}

@@ -2,7 +2,7 @@
 
 ghost use Rattle.std.specs.Prelude.{◌≡◌, ◌++◌, ◌∷◌, [], IfOk, OnOk, OnErr, string_bytes};
 ghost use Rattle.json.specs.Print.{print};
-ghost use Rattle.pgp_replies.specs.Written.{fields_tokens, tokens_of};
+ghost use Rattle.pgp_text.specs.Written.{fields_tokens, tokens_of};
 ghost use Rattle.pgp_group_words.specs.Json.{explanation_data, json_of, place_fields, reason_fields, sentence_fields, verdict_fields};
 
 use super::explanation::Explanation;
@@ -30,7 +30,7 @@ pub fn put_json(
 }
 
 /// The object in one line.
-#[tactic(auto, using(pgp_replies::proofs::Tokens::text_steps), unfolding(crate::specs::Json::json_of))]
+#[tactic(auto, using(pgp_text::proofs::Tokens::text_steps), unfolding(crate::specs::Json::json_of))]
 fn line_of(
     alloc: Global,
     explanation: &Explanation,
@@ -43,7 +43,7 @@ fn line_of(
     into_line(out)
 }
 
-#[tactic(auto, using(pgp_replies::proofs::Tokens::token_steps))]
+#[tactic(auto, using(pgp_text::proofs::Tokens::token_steps))]
 fn write_explanation(
     alloc: Global,
     out: &mut Writer,
@@ -63,7 +63,7 @@ fn write_explanation(
 }
 
 /// Where the group lies, what blocks it, and since when.
-#[tactic(auto, using(pgp_replies::proofs::Tokens::token_steps))]
+#[tactic(auto, using(pgp_text::proofs::Tokens::token_steps))]
 fn write_place(
     out: &mut Writer,
     offset: EpochOffset,
@@ -82,7 +82,7 @@ fn write_place(
 }
 
 /// What its log lacks, whom it has heard, when it last served, and what may be given up.
-#[tactic(auto, using(pgp_replies::proofs::Tokens::token_steps))]
+#[tactic(auto, using(pgp_text::proofs::Tokens::token_steps))]
 fn write_reasons(
     out: &mut Writer,
     offset: EpochOffset,
@@ -100,7 +100,7 @@ fn write_reasons(
 }
 
 /// The group, the sentence on its verdict, what may be started, and whom it has to hear yet.
-#[tactic(auto, using(pgp_replies::proofs::Tokens::token_steps))]
+#[tactic(auto, using(pgp_text::proofs::Tokens::token_steps))]
 fn write_sentence(
     alloc: Global,
     out: &mut Writer,
@@ -120,7 +120,7 @@ fn write_sentence(
 }
 
 /// Where placement puts it, and its verdict.
-#[tactic(auto, using(pgp_replies::proofs::Tokens::token_steps))]
+#[tactic(auto, using(pgp_text::proofs::Tokens::token_steps))]
 fn write_verdict(
     out: &mut Writer,
     offset: EpochOffset,

@@ -2,9 +2,9 @@
 
 ghost use Rattle.std.specs.Prelude.{◌≡◌, ◌++◌, ◌∷◌, [], OnOk};
 ghost use Rattle.serde_json.specs.Data.{Data, string, boolean};
-ghost use Rattle.pgp_replies.specs.Answered.{group_data, member_data, pair_data, place_data};
-ghost use Rattle.pgp_replies.specs.Json.{list_data, number_data, option_data};
-ghost use Rattle.pgp_replies.specs.Written.{fields_tokens, tokens_of};
+ghost use Rattle.pgp_text.specs.Answered.{group_data, member_data, pair_data, place_data};
+ghost use Rattle.pgp_text.specs.Json.{list_data, number_data, option_data};
+ghost use Rattle.pgp_text.specs.Written.{fields_tokens, tokens_of};
 ghost use Rattle.pgp_group_words.specs.Json.{blocking_data, copy_fields, epoch_data, gap_data, info_data, log_fields, served_fields, span_fields, ways_data, write_data};
 ghost use Rattle.pgp_group_words.specs.declared.offset.EpochOffset.{EpochOffset as TheOffset};
 
@@ -156,7 +156,7 @@ fn write_pair(out: &mut Writer, a: u64, b: u64) -> Result<(), AllocError>
 impl Json for Info {
     ghost value = { info_data };
 
-    #[tactic(auto, using(pgp_replies::proofs::Tokens::token_steps))]
+    #[tactic(auto, using(pgp_text::proofs::Tokens::token_steps))]
     fn write(&self, out: &mut Writer, offset: EpochOffset) -> Result<(), AllocError> {
         out.begin_object()?;
         write_copy(out, offset, self)?;
@@ -166,7 +166,7 @@ impl Json for Info {
 }
 
 /// Who sent an info, and how far its copy goes.
-#[tactic(auto, using(pgp_replies::proofs::Tokens::token_steps))]
+#[tactic(auto, using(pgp_text::proofs::Tokens::token_steps))]
 fn write_copy(out: &mut Writer, offset: EpochOffset, info: &Info) -> Result<(), AllocError>
     ensures ok { OnOk result
         (out.new.tokens ≡ out.old.tokens ++ fields_tokens (copy_fields offset info.now)) }
@@ -179,7 +179,7 @@ fn write_copy(out: &mut Writer, offset: EpochOffset, info: &Info) -> Result<(), 
 }
 
 /// How far its log goes, and when it was sent.
-#[tactic(auto, using(pgp_replies::proofs::Tokens::token_steps))]
+#[tactic(auto, using(pgp_text::proofs::Tokens::token_steps))]
 fn write_log(out: &mut Writer, offset: EpochOffset, info: &Info) -> Result<(), AllocError>
     ensures ok { OnOk result
         (out.new.tokens ≡ out.old.tokens ++ fields_tokens (log_fields offset info.now)) }
@@ -194,7 +194,7 @@ fn write_log(out: &mut Writer, offset: EpochOffset, info: &Info) -> Result<(), A
 impl Json for Blocking {
     ghost value = { blocking_data };
 
-    #[tactic(auto, using(pgp_replies::proofs::Tokens::token_steps))]
+    #[tactic(auto, using(pgp_text::proofs::Tokens::token_steps))]
     fn write(&self, out: &mut Writer, offset: EpochOffset) -> Result<(), AllocError> {
         out.begin_object()?;
         write_served(out, offset, self)?;
@@ -204,7 +204,7 @@ impl Json for Blocking {
 }
 
 /// Who served in an interval that blocks, and who of them is down.
-#[tactic(auto, using(pgp_replies::proofs::Tokens::token_steps))]
+#[tactic(auto, using(pgp_text::proofs::Tokens::token_steps))]
 fn write_served(
     out: &mut Writer,
     offset: EpochOffset,
@@ -220,7 +220,7 @@ fn write_served(
 }
 
 /// When it was, and what it lacks.
-#[tactic(auto, using(pgp_replies::proofs::Tokens::token_steps))]
+#[tactic(auto, using(pgp_text::proofs::Tokens::token_steps))]
 fn write_span(out: &mut Writer, offset: EpochOffset, interval: &Blocking) -> Result<(), AllocError>
     ensures ok { OnOk result
         (out.new.tokens ≡ out.old.tokens ++ fields_tokens (span_fields offset interval.now)) }
@@ -234,7 +234,7 @@ fn write_span(out: &mut Writer, offset: EpochOffset, interval: &Blocking) -> Res
 impl Json for Ways {
     ghost value = { λ _ ways. ways_data ways };
 
-    #[tactic(auto, using(pgp_replies::proofs::Tokens::token_steps))]
+    #[tactic(auto, using(pgp_text::proofs::Tokens::token_steps))]
     fn write(&self, out: &mut Writer, offset: EpochOffset) -> Result<(), AllocError> {
         out.begin_object()?;
         write_field(out, offset, "more", &self.more)?;
@@ -244,7 +244,7 @@ impl Json for Ways {
 }
 
 /// Writes a field of the object that is open.
-#[tactic(auto, unfolding(pgp_replies::specs::Written::fields_tokens))]
+#[tactic(auto, unfolding(pgp_text::specs::Written::fields_tokens))]
 pub fn write_field<T: Json>(
     out: &mut Writer,
     offset: EpochOffset,

@@ -6,7 +6,7 @@ use super::lines::{format_of, op_of, shape_at};
 use super::walk::fault_in;
 use super::wrong::key_words;
 use pgp_ids::{Refusal, TextFault};
-use pgp_replies::Refused;
+use pgp_text::Refused;
 use serde_json::Value;
 use std::alloc::{AllocError, Global};
 use std::str::from_utf8;

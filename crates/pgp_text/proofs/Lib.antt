@@ -1,1 +1,3 @@
 pub mod FaultLemmas
+pub mod Tokens
+pub mod Versions

@@ -1,5 +1,13 @@
 pub use Rattle.pgp_lines.specs.Command
 pub use Rattle.pgp_lines.specs.LineFault
-pub use Rattle.pgp_replies.specs.EntryOp
+pub mod Json
+pub mod Answered
+pub mod Refused
+pub mod EntryOp
+pub mod Asked
 pub mod Reply
+pub mod Written
+pub mod Versions
+pub mod Parts
 pub mod WorkedLines
+pub mod WorkedReplies

@@ -4,3 +4,4 @@ pub mod faults;
 pub mod grouped;
 pub mod incrementals;
 pub mod lines;
+pub mod replies;

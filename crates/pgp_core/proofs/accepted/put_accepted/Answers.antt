@@ -1,10 +1,10 @@
 use Rattle.std.proofs.Common.{◌≡◌, ℕ, List, [], ◌∷◌, ◌++◌, codes, decimal, ap, ◌∙◌, append_assoc}
 use Rattle.serde_json.proofs.OnLiterals.{serde_json_on_literals}
-use Rattle.pgp_replies.specs.Reply.{reply_text}
-use Rattle.pgp_replies.specs.EntryOp.{entry_op_name}
-use Rattle.pgp_replies.specs.declared.reply.Reply.TheVariants.{Accepted}
-use Rattle.pgp_replies.specs.declared.reply.entry_op.EntryOp.{EntryOp}
-use Rattle.pgp_replies.specs.declared.reply.entry_op.EntryOp.TheVariants.{Inc, Info, Entries, Close}
+use Rattle.pgp_text.specs.Reply.{reply_text}
+use Rattle.pgp_text.specs.EntryOp.{entry_op_name}
+use Rattle.pgp_text.specs.declared.reply.Reply.TheVariants.{Accepted}
+use Rattle.pgp_text.specs.declared.reply.entry_op.EntryOp.{EntryOp}
+use Rattle.pgp_text.specs.declared.reply.entry_op.EntryOp.TheVariants.{Inc, Info, Entries, Close}
 use Rattle.pgp_core.proofs.accepted.put_accepted.Goals as goal
 
 text_is : (op : EntryOp) (count epoch : ℕ)

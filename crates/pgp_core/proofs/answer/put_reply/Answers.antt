@@ -1,7 +1,7 @@
 use Rattle.std.proofs.Common.{◌≢◌, ℕ, true, refl}
-use Rattle.pgp_replies.specs.declared.reply.Reply.{Reply}
-use Rattle.pgp_replies.specs.declared.reply.Reply.TheVariants.{Accepted, Asked, Located, Traced, Refused}
-use Rattle.pgp_replies.specs.declared.reply.entry_op.EntryOp.{EntryOp}
+use Rattle.pgp_text.specs.declared.reply.Reply.{Reply}
+use Rattle.pgp_text.specs.declared.reply.Reply.TheVariants.{Accepted, Asked, Located, Traced, Refused}
+use Rattle.pgp_text.specs.declared.reply.entry_op.EntryOp.{EntryOp}
 use Rattle.pgp_core.specs.Answerer.{is_accepted}
 use Rattle.pgp_core.proofs.answer.put_reply.Goals as goal
 

@@ -1,5 +1,5 @@
 use Rattle.std.proofs.Common.{[], sym, ap, ap₂, ◌∙◌}
-use Rattle.pgp_replies.specs.declared.reply.Reply.TheVariants.{Traced}
+use Rattle.pgp_text.specs.declared.reply.Reply.TheVariants.{Traced}
 use Rattle.pgp_core.specs.Answer.{traced_reply}
 use Rattle.pgp_core.proofs.replies.traced.Goals as goal
 

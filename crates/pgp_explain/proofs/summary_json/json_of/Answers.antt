@@ -1,7 +1,7 @@
 use Rattle.std.proofs.Common.{◌++◌, ap, ◌∙◌}
 use Rattle.json.specs.Print.{print}
 use Rattle.serde_json.proofs.Texts.{print-outline}
-use Rattle.pgp_replies.specs.Written.{tokens_of}
+use Rattle.pgp_text.specs.Written.{tokens_of}
 use Rattle.pgp_explain.specs.SummaryText.{summary_data, summary_json}
 use Rattle.pgp_explain.proofs.summary_json.json_of.Goals as goal
 

@@ -1,5 +1,5 @@
 use Rattle.std.proofs.lemmas.Result.{on_ok_weaker}
-use Rattle.pgp_replies.proofs.Tokens.{fields_then, object_written}
+use Rattle.pgp_text.proofs.Tokens.{fields_then, object_written}
 use Rattle.pgp_explain.proofs.summary_json.write_device.Goals as goal
 
 pub returns-clause-ok : goal.returns-clause-ok

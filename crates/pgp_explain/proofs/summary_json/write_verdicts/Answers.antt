@@ -1,5 +1,5 @@
 use Rattle.std.proofs.Common.{◌∙◌, sym, refl, append-nil}
-use Rattle.pgp_replies.specs.Written.{fields_tokens}
+use Rattle.pgp_text.specs.Written.{fields_tokens}
 use Rattle.pgp_explain.proofs.FieldLemmas.{fields_more}
 use Rattle.pgp_explain.proofs.summary_json.write_verdicts.Goals as goal
 

@@ -1,5 +1,5 @@
 use Rattle.std.proofs.Common.{◌≡◌, ◌++◌, take, flat_map}
-use Rattle.pgp_replies.specs.Written.{fields_tokens}
+use Rattle.pgp_text.specs.Written.{fields_tokens}
 use Rattle.pgp_explain.specs.SummaryText.{verdict_field}
 use Rattle.pgp_explain.proofs.summary_json.write_verdicts.Given as goal
 

@@ -1,7 +1,7 @@
 use Rattle.std.proofs.Common.{◌++◌, ap, ◌∙◌}
 use Rattle.json.specs.Print.{print}
 use Rattle.serde_json.proofs.Texts.{print-outline}
-use Rattle.pgp_replies.specs.Written.{tokens_of}
+use Rattle.pgp_text.specs.Written.{tokens_of}
 use Rattle.pgp_group_words.specs.Json.{explanation_data, json_of}
 use Rattle.pgp_group_words.proofs.group_json.line_of.Goals as goal
 

@@ -1,5 +1,5 @@
 use Rattle.std.proofs.lemmas.Result.{on_ok_weaker}
-use Rattle.pgp_replies.proofs.Tokens.{fields_then}
+use Rattle.pgp_text.proofs.Tokens.{fields_then}
 use Rattle.pgp_group_words.proofs.group_json.write_place.Goals as goal
 
 pub returns-clause-ok : goal.returns-clause-ok

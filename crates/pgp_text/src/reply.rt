@@ -1,0 +1,213 @@
+//! The answers to lines, and their text.
+ghost use Rattle.std.specs.Prelude.{◌≡◌, ◌++◌, [], IfOk, OnOk, OnErr};
+ghost use Rattle.json.specs.Print.{print};
+ghost use Rattle.pgp_text.specs.Reply.{accepted_data, located_data, traced_data, reply_data, reply_text};
+ghost use Rattle.pgp_text.specs.Parts.{place_fields};
+ghost use Rattle.pgp_text.specs.Written.{tokens_of, fields_tokens};
+ghost use Rattle.pgp_text.specs.declared.reply.Reply.TheVariants.{Asked};
+
+mod asked;
+mod devices;
+mod entry_op;
+mod intervals;
+mod members;
+mod parts;
+mod peers;
+mod refused;
+
+use asked::write_asked;
+use devices::{write_acting, write_up};
+pub use entry_op::EntryOp;
+use json::Writer;
+use parts::{Json, write_field};
+use pgp_ids::{Epoch, Membership, Past, PgId, Seq, View};
+pub use refused::Refused;
+use std::alloc::{AllocError, Global};
+use std::mem;
+
+/// What a line is answered.
+#[derive(Drop)]
+pub enum Reply {
+    /// The log took an entry, and has `count` entries now; the epoch is that of the map now.
+    Accepted {
+        op: EntryOp,
+        count: usize,
+        epoch: Epoch,
+    },
+    /// All that the log says of a group.
+    Asked(PgId, View),
+    /// The group of an object, and where it lies in the map of this epoch.
+    Located {
+        pg: PgId,
+        members: Membership,
+        epoch: Epoch,
+    },
+    /// The epoch in which the current interval began, and the past intervals in ascending order.
+    Traced {
+        first: Epoch,
+        past: Seq<Past>,
+    },
+    /// Why the line had no effect.
+    Refused(Refused),
+}
+
+/// The text of a reply, without a line feed: compact JSON, the keys of each object in ascending byte order.
+pub fn write_reply(alloc: Global, reply: &Reply) -> Result<Vec<u8>, AllocError>
+    ensures { IfOk result (λ text. text.items ≡ reply_text reply.now) }
+{
+    let mut text = Vec::new(alloc);
+    ReplyWriter::new(alloc).put(alloc, reply, &mut text)?;
+    Ok(text)
+}
+
+/// Writes replies one after the other, with room that it keeps from reply to reply.
+#[derive(Drop)]
+pub struct ReplyWriter {
+    room: Vec<u8>,
+}
+
+impl ReplyWriter {
+    pub fn new(alloc: Global) -> Self {
+        ReplyWriter {
+            room: Vec::new(alloc),
+        }
+    }
+
+    /// Puts the text of a reply, as [`write_reply`] writes it, behind what `text` has. Where there is no memory,
+    /// `text` stays as it was.
+    #[tactic(auto, using(crate::proofs::Tokens::text_steps))]
+    pub fn put(
+        &mut self,
+        alloc: Global,
+        reply: &Reply,
+        text: &mut Vec<u8>,
+    ) -> Result<(), AllocError>
+        ensures ok { OnOk result (text.new.items ≡ text.old.items ++ reply_text reply.now) }
+        ensures err { OnErr result (text.new.items ≡ text.old.items) }
+    {
+        let mut out = self.begin(alloc);
+        reply.write(alloc, &mut out)?;
+        self.end(out, text)
+    }
+
+    /// Puts the text of [`Reply::Asked`] of this view with this count and this epoch, as [`ReplyWriter::put`] does, wherever the
+    /// view is kept.
+    pub fn put_asked(
+        &mut self,
+        alloc: Global,
+        pg: PgId,
+        view: &View,
+        count: usize,
+        epoch: Epoch,
+        text: &mut Vec<u8>,
+    ) -> Result<(), AllocError>
+        ensures ok { OnOk result (text.new.items
+            ≡ text.old.items ++ reply_text (Asked pg (record view.now { count = count; epoch = epoch }))) }
+        ensures err { OnErr result (text.new.items ≡ text.old.items) }
+    {
+        let mut out = self.begin(alloc);
+        write_asked(alloc, &mut out, pg, view, count, epoch)?;
+        self.end(out, text)
+    }
+
+    /// Begins a reply, in the room that is kept.
+    fn begin(&mut self, alloc: Global) -> Writer
+        ensures tokens { result.tokens ≡ [] }
+        ensures before { result.before ≡ [] }
+    {
+        self.room.clear();
+        Writer::new(mem::replace(&mut self.room, Vec::new(alloc)))
+    }
+
+    /// Puts what was written behind what `text` has, and keeps the room.
+    fn end(&mut self, out: Writer, text: &mut Vec<u8>) -> Result<(), AllocError>
+        ensures ok { OnOk result (text.new.items ≡ text.old.items ++ (out.before ++ print out.tokens)) }
+        ensures err { OnErr result (text.new.items ≡ text.old.items) }
+    {
+        self.room = out.into_inner();
+        text.extend_from_slice(self.room.as_slice())
+    }
+}
+
+impl Json for Reply {
+    ghost value = { reply_data };
+
+    fn write(&self, alloc: Global, out: &mut Writer) -> Result<(), AllocError> {
+        match self {
+            Reply::Accepted { op, count, epoch } => write_accepted(alloc, out, *op, *count, *epoch),
+            Reply::Asked(pg, view) => write_asked(alloc, out, *pg, view, view.count, view.epoch),
+            Reply::Located { pg, members, epoch } => write_located(
+                alloc, out, *pg, members, *epoch,
+            ),
+            Reply::Traced { first, past } => write_traced(alloc, out, *first, past),
+            Reply::Refused(refused) => refused.write(alloc, out),
+        }
+    }
+}
+
+#[tactic(auto, using(crate::proofs::Tokens::token_steps))]
+fn write_accepted(
+    alloc: Global,
+    out: &mut Writer,
+    op: EntryOp,
+    count: usize,
+    epoch: Epoch,
+) -> Result<(), AllocError>
+    ensures ok { OnOk result
+        (out.new.tokens ≡ out.old.tokens ++ tokens_of (accepted_data op count epoch)) }
+    ensures before { out.new.before ≡ out.old.before }
+{
+    out.begin_object()?;
+    write_field(alloc, out, "count", &count)?;
+    write_field(alloc, out, "epoch", &epoch)?;
+    write_field(alloc, out, "ok", &op.name())?;
+    out.end_object()
+}
+
+#[tactic(auto, using(crate::proofs::Tokens::token_steps))]
+fn write_located(
+    alloc: Global,
+    out: &mut Writer,
+    pg: PgId,
+    members: &Membership,
+    epoch: Epoch,
+) -> Result<(), AllocError>
+    ensures ok { OnOk result
+        (out.new.tokens ≡ out.old.tokens ++ tokens_of (located_data pg members.now epoch)) }
+    ensures before { out.new.before ≡ out.old.before }
+{
+    out.begin_object()?;
+    write_acting(alloc, out, &members.acting, members.acting_primary)?;
+    write_place(alloc, out, pg, epoch)?;
+    write_up(alloc, out, &members.up, members.up_primary)?;
+    out.end_object()
+}
+
+/// The group, and the epoch of the map that says where it lies.
+#[tactic(auto, using(crate::proofs::Tokens::token_steps))]
+fn write_place(alloc: Global, out: &mut Writer, pg: PgId, epoch: Epoch) -> Result<(), AllocError>
+    ensures ok { OnOk result
+        (out.new.tokens ≡ out.old.tokens ++ fields_tokens (place_fields pg epoch)) }
+    ensures before { out.new.before ≡ out.old.before }
+{
+    write_field(alloc, out, "epoch", &epoch)?;
+    write_field(alloc, out, "ok", &"locate")?;
+    write_field(alloc, out, "pg", &pg)
+}
+
+fn write_traced(
+    alloc: Global,
+    out: &mut Writer,
+    first: Epoch,
+    past: &Seq<Past>,
+) -> Result<(), AllocError>
+    ensures ok { OnOk result
+        (out.new.tokens ≡ out.old.tokens ++ tokens_of (traced_data first past.now)) }
+    ensures before { out.new.before ≡ out.old.before }
+{
+    out.begin_object()?;
+    write_field(alloc, out, "first", &first)?;
+    write_field(alloc, out, "intervals", past)?;
+    write_field(alloc, out, "ok", &"trace")?;
+    out.end_object()
+}

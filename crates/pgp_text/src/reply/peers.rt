@@ -1,0 +1,84 @@
+//! The states of peers, and the objects that they lack, as JSON.
+ghost use Rattle.std.specs.Prelude.{◌≡◌, ◌++◌, IfOk, OnOk};
+ghost use Rattle.serde_json.specs.Data.{object};
+ghost use Rattle.pgp_text.specs.Asked.{with_object, objects_data, objects_fields, missing_data};
+ghost use Rattle.pgp_text.specs.Versions.{versions_members};
+ghost use Rattle.pgp_text.specs.Written.{fields_tokens};
+
+use super::parts::{Json, write_field};
+use json::Writer;
+use pgp_ids::{MissingObject, PeerMissing, PeerState, Version};
+use std::alloc::{AllocError, Global};
+use std::collections::BTreeMap;
+
+impl Json for PeerMissing {
+    ghost value = { missing_data };
+
+    #[tactic(auto, using(crate::proofs::Tokens::token_steps))]
+    fn write(&self, alloc: Global, out: &mut Writer) -> Result<(), AllocError> {
+        out.begin_object()?;
+        write_field(alloc, out, "member", &self.member)?;
+        write_objects(alloc, out, &self.state)?;
+        write_field(alloc, out, "state", &self.state.name())?;
+        out.end_object()
+    }
+}
+
+/// Writes the objects that a peer lacks, where it is known which.
+#[tactic(auto, unfolding(crate::specs::Written::fields_tokens))]
+fn write_objects(alloc: Global, out: &mut Writer, state: &PeerState) -> Result<(), AllocError>
+    ensures ok { OnOk result
+        (out.new.tokens ≡ out.old.tokens ++ fields_tokens (objects_fields state.now)) }
+    ensures before { out.new.before ≡ out.old.before }
+{
+    match state {
+        PeerState::Missing(objects) => {
+            let versions = versions_of(alloc, objects.as_slice())?;
+            write_field(alloc, out, "objects", &versions)
+        }
+        _ => Ok(()),
+    }
+}
+
+/// The versions of objects by their names, in ascending byte order; of a name that is twice in the list the last.
+fn versions_of(
+    alloc: Global,
+    objects: &[MissingObject],
+) -> Result<BTreeMap<String, Version>, AllocError>
+    ensures { IfOk result (λ m. object (versions_members m.entries) ≡ objects_data objects.now) }
+{
+    let mut versions = BTreeMap::new(alloc);
+    for missing in objects {
+        insert_version(alloc, &mut versions, missing)?;
+    }
+    Ok(versions)
+}
+
+/// Puts an object's version under its name, in place of any that stands there.
+#[tactic(auto, using(crate::proofs::Versions::version_steps))]
+fn insert_version(
+    alloc: Global,
+    versions: &mut BTreeMap<String, Version>,
+    missing: &MissingObject,
+) -> Result<(), AllocError>
+    ensures { OnOk result (versions_members versions.new.entries
+        ≡ with_object (versions_members versions.old.entries) missing.now) }
+{
+    let name = String::from_str(alloc, missing.object.as_str())?;
+    versions.insert(name, missing.version)?;
+    Ok(())
+}
+
+/// An object from name to version.
+impl Json for BTreeMap<String, Version> {
+    ghost value = { λ versions. object (versions_members versions.entries) };
+
+    #[tactic(auto, using(crate::proofs::Tokens::field_of_members))]
+    fn write(&self, alloc: Global, out: &mut Writer) -> Result<(), AllocError> {
+        out.begin_object()?;
+        for (name, version) in self.iter() {
+            write_field(alloc, out, name.as_str(), version)?;
+        }
+        out.end_object()
+    }
+}

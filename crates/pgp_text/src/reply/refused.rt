@@ -1,0 +1,134 @@
+//! Refusals, and how they are written.
+ghost use Rattle.std.specs.Prelude.{◌≡◌, ◌++◌, codes, option_map, OnOk};
+ghost use Rattle.serde_json.specs.Data.{string};
+ghost use Rattle.pgp_text.specs.Json.{number_data};
+ghost use Rattle.pgp_text.specs.Refused.{fault_name, fault_key, field_if, refused_number, refused_name, refused_key, refused_tree, refused_data};
+ghost use Rattle.pgp_text.specs.Written.{fields_tokens};
+
+use super::parts::{Json, write_field};
+use json::Writer;
+use pgp_ids::{AskRefusal, LocateRefusal, Refusal, TextFault};
+use std::alloc::{AllocError, Global};
+
+/// Why a line had no effect.
+#[derive(Debug, Drop)]
+pub enum Refused {
+    /// It is no command.
+    Line(TextFault),
+    /// The log doesn't take the entry.
+    Entry(Refusal),
+    /// The question about a group has no answer.
+    Ask(AskRefusal),
+    /// The question where an object lies has no answer.
+    Locate(LocateRefusal),
+}
+
+impl Refused {
+    /// The number of the refusal.
+    pub fn number(&self) -> u8
+        ensures { result ≡ refused_number self.now }
+    {
+        match self {
+            Refused::Line(fault) => fault.number(),
+            Refused::Entry(refusal) => refusal.number(),
+            Refused::Ask(refusal) => refusal.number(),
+            Refused::Locate(refusal) => refusal.number(),
+        }
+    }
+
+    /// The name of the refusal.
+    pub fn name(&self) -> &'static str
+        ensures { result.now ≡ refused_name self.now }
+    {
+        match self {
+            Refused::Line(fault) => fault_name(fault),
+            Refused::Entry(refusal) => refusal.name(),
+            Refused::Ask(refusal) => refusal.name(),
+            Refused::Locate(refusal) => refusal.name(),
+        }
+    }
+
+    /// The key of the line that is at fault, where it is one key.
+    pub fn key(&self) -> Option<&str>
+        ensures { option_map (λ key. key.now) result ≡ refused_key self.now }
+    {
+        match self {
+            Refused::Line(fault) => fault_key(fault),
+            _ => None,
+        }
+    }
+
+    /// The number of the tree's fault, 1 to 7, where that is the refusal.
+    pub fn tree(&self) -> Option<u8>
+        ensures { result ≡ refused_tree self.now }
+    {
+        match self {
+            Refused::Entry(refusal) => refusal.tree(),
+            _ => None,
+        }
+    }
+}
+
+/// The name of a line's fault.
+fn fault_name(fault: &TextFault) -> &'static str
+    ensures { result.now ≡ fault_name fault.now }
+{
+    match fault {
+        TextFault::LineTooLong => "LineTooLong",
+        TextFault::NotJson => "NotJson",
+        TextFault::NoOp => "NoOp",
+        TextFault::UnknownKey(_) => "UnknownKey",
+        TextFault::BadField(_) => "BadField",
+        TextFault::Memory => "Memory",
+    }
+}
+
+/// The key that a line's fault names.
+fn fault_key(fault: &TextFault) -> Option<&str>
+    ensures { option_map (λ key. key.now) result ≡ fault_key fault.now }
+{
+    match fault {
+        TextFault::UnknownKey(key) | TextFault::BadField(key) => Some(key.as_str()),
+        _ => None,
+    }
+}
+
+impl Json for Refused {
+    ghost value = { refused_data };
+
+    #[tactic(auto, using(crate::proofs::Tokens::token_steps))]
+    fn write(&self, alloc: Global, out: &mut Writer) -> Result<(), AllocError> {
+        out.begin_object()?;
+        write_field(alloc, out, "code", &self.number())?;
+        write_key(alloc, out, self)?;
+        write_field(alloc, out, "refused", &self.name())?;
+        write_tree(alloc, out, self)?;
+        out.end_object()
+    }
+}
+
+/// Writes the key, where one is named.
+#[tactic(auto, unfolding(crate::specs::Written::fields_tokens))]
+fn write_key(alloc: Global, out: &mut Writer, refused: &Refused) -> Result<(), AllocError>
+    ensures ok { OnOk result (out.new.tokens ≡ out.old.tokens
+        ++ fields_tokens (field_if (codes "key") string (refused_key refused.now))) }
+    ensures before { out.new.before ≡ out.old.before }
+{
+    match refused.key() {
+        Some(key) => write_field(alloc, out, "key", &key),
+        None => Ok(()),
+    }
+}
+
+/// Writes the tree's fault, where that is the refusal.
+#[tactic(auto, unfolding(crate::specs::Written::fields_tokens))]
+fn write_tree(alloc: Global, out: &mut Writer, refused: &Refused) -> Result<(), AllocError>
+    ensures ok { OnOk result (out.new.tokens ≡ out.old.tokens
+        ++ fields_tokens (field_if (codes "tree") number_data (refused_tree refused.now))) }
+    ensures before { out.new.before ≡ out.old.before }
+{
+    match refused.tree() {
+        Some(tree) => write_field(alloc, out, "tree", &tree),
+        None => Ok(()),
+    }
+}
