@@ -1,13 +1,14 @@
 //! The command line: what its words ask for, and how the program ends.
 //!
 //! [`status_of`] does what the words ask for, over any reader and writers: `pgp_core` answers a script on one thread, and
-//! `pgp_run` one with workers; `pgp_explain` explains one, and `pgp_compact_script` compacts one. [`WatchedStream`] is a stream
-//! that notes whether one of its calls failed, on which the contract of a run depends.
+//! [`run_engine`] one with workers; `pgp_explain` explains one, and `pgp_compact_script` compacts one. [`WatchedStream`] is a
+//! stream that notes whether one of its calls failed, on which the contract of a run depends.
 #![tactic(auto)]
 
 mod commands;
 mod compact_words;
 mod ending;
+mod engine_run;
 mod explain_options;
 mod explain_words;
 mod fault;
@@ -22,6 +23,7 @@ mod words;
 
 pub use compact_words::compaction;
 pub use ending::{DONE, Ending, FAULT, USAGE};
+pub use engine_run::run_engine;
 pub use explain_options::ExplainOptions;
 pub use explain_words::explanation;
 pub use laws::{

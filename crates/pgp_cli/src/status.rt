@@ -11,6 +11,7 @@ ghost use Rattle.pgp_core.specs.Run.{Stopped, script_bounds};
 ghost use Rattle.pgp_explain.specs.Reading.{IsRefusedInPart};
 
 use super::ending::Ending;
+use super::engine_run::run_engine;
 use super::explain_options::ExplainOptions;
 use super::fault::Fault;
 use super::request::{Request, read_request};
@@ -19,7 +20,6 @@ use super::tell::{fault, help_or_usage, left_out};
 use pgp_compact_script::{CompactFault, compact_script};
 use pgp_core::{ScriptFault, Sink, Source, run_script};
 use pgp_explain::{ExplainFault, explain};
-use pgp_run::run_engine;
 use std::alloc::Global;
 use std::io::Write;
 use std::sync::Wait;

@@ -2,8 +2,8 @@
 ghost use Rattle.std.specs.Prelude.{◌≤◌};
 
 use crate::fakes::{Giver, Taker};
+use pgp_cli::run_engine;
 use pgp_core::{ScriptFault, run_script};
-use pgp_run::run_engine;
 use std::alloc::Global;
 use std::sync::Wait;
 use std::thread::Threads;

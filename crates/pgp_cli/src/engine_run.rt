@@ -1,4 +1,8 @@
-//! A script over an engine.
+//! A script over an engine: [`run_engine`] submits and asks line by line on the caller's thread, while workers have the shards
+//! read what was submitted.
+//!
+//! Each line is answered by a front of the engine's one log that holds all that the lines before it were told of. The bytes
+//! don't show how many shards and workers there are.
 ghost use Rattle.std.specs.Prelude.{◌≡◌, ◌+◌, ◌⊎◌, ◌≤◌, [], false, length, All, IfErr, OnOk};
 ghost use Rattle.pgp_core.specs.Account.{account};
 ghost use Rattle.pgp_core.specs.Run.{AllAnswered, Stopped, script_bounds};
@@ -6,8 +10,10 @@ ghost use Rattle.pgp_feed.specs.Feeds.{told_of};
 ghost use Rattle.pgp_feed.specs.Receipts.{entries_of, feed_of};
 ghost use Rattle.pgp_feed.specs.Taps.{last_of};
 
-use crate::answerer::EngineAnswerer;
-use crate::workers::{all_started, close};
+mod answerer;
+mod workers;
+
+use answerer::EngineAnswerer;
 use pgp_core::{SCRIPT_BOUNDS, ScriptFault, Sink, Source, answer_script};
 use pgp_engine::{Client, Engine, Naming};
 use pgp_feed::{Feed, Tap};
@@ -16,6 +22,7 @@ use std::marker::Brand;
 use std::sync::Wait;
 use std::thread;
 use std::thread::Threads;
+use workers::{all_started, close};
 
 /// Answers the script that the reader gives over an engine of this many shards and workers: at most a million lines, and 4 GiB.
 ///

@@ -1,7 +1,7 @@
 use Rattle.pgp_feed.specs.Receipts.{entries_of}
 use Rattle.pgp_feed.proofs.Fronts.{front_trans}
-use Rattle.pgp_run.proofs.ReplyLemmas.{located}
-use Rattle.pgp_run.proofs.answerer.EngineAnswerer.locate.Goals as goal
+use Rattle.pgp_cli.proofs.ReplyLemmas.{located}
+use Rattle.pgp_cli.proofs.engine_run.answerer.EngineAnswerer.locate.Goals as goal
 
 pub returns-in-Ok-clause-reply : goal.returns-in-Ok-clause-reply
 returns-in-Ok-clause-reply g c =

@@ -1,6 +1,6 @@
 use Rattle.pgp_feed.specs.Feeds.{told_of}
 use Rattle.pgp_feed.specs.Receipts.{feed_of}
-use Rattle.pgp_run.proofs.run.run_engine.Given as goal
+use Rattle.pgp_cli.proofs.engine_run.run_engine.Given as goal
 
 -- the feed that was just made
 abbrev pub ghosts-run_over : goal.ghosts-run_over

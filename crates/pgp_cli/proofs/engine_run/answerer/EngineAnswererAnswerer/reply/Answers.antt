@@ -1,6 +1,6 @@
 use Rattle.std.proofs.Common.{refl}
 use Rattle.pgp_feed.proofs.Fronts.{front_self}
-use Rattle.pgp_run.proofs.answerer.EngineAnswererAnswerer.reply.Goals as goal
+use Rattle.pgp_cli.proofs.engine_run.answerer.EngineAnswererAnswerer.reply.Goals as goal
 
 pub returns-in_ok-traced-in-Trace-clause-reply : goal.returns-in_ok-traced-in-Trace-clause-reply
 returns-in_ok-traced-in-Trace-clause-reply g c =
