@@ -8,7 +8,7 @@ use Rattle.pgp_lines.specs.declared.command.Command.TheVariants.{Submit}
 use Rattle.pgp_log.specs.Fits.{fits}
 use Rattle.pgp_text.specs.declared.reply.Reply.{Reply}
 use Rattle.pgp_text.specs.declared.reply.Reply.TheVariants.{Accepted, Asked, Located, Traced, Refused}
-use Rattle.pgp_text.specs.declared.reply.refused.Refused.TheVariants as why
+use Rattle.pgp_text.specs.declared.reply.line_refusal.LineRefusal.TheVariants as why
 use Rattle.pgp_core.specs.Session.{LogAndAnswer, log_in, reply_in}
 use Rattle.pgp_c.specs.Ask.{IsGroup, group}
 use Rattle.pgp_c.specs.Member.{IsMember, member}

@@ -8,7 +8,7 @@ use super::ask::group_of;
 use super::status::Status;
 use pgp_core::Session;
 use pgp_ids::{Entry, Epoch, Info, Member, OsdId, Version};
-use pgp_text::{Refused, Reply};
+use pgp_text::{LineRefusal, Reply};
 
 /// The greatest slot of a member.
 const LAST_SLOT: u32 = 15;
@@ -50,7 +50,7 @@ pub fn submit_info(session: &mut Session, told: &PgpInfo) -> u32
         return Status::BadArgument.number();
     };
     match session.submit(Entry::Info(info)) {
-        Ok(Reply::Refused(Refused::Entry(refusal))) => u32::from(refusal.number()),
+        Ok(Reply::Refused(LineRefusal::Entry(refusal))) => u32::from(refusal.number()),
         Ok(_) => Status::Done.number(),
         Err(_) => Status::NoMemory.number(),
     }

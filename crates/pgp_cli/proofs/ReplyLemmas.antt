@@ -9,7 +9,7 @@ use Rattle.pgp_map.specs.Pools.{pool}
 use Rattle.pgp_group.specs.Entries.{incs_of}
 use Rattle.pgp_lines.specs.declared.command.Command.TheVariants.{Submit, Locate}
 use Rattle.pgp_text.specs.declared.reply.Reply.TheVariants.{Accepted, Located, Refused}
-use Rattle.pgp_text.specs.declared.reply.refused.Refused.TheVariants as why
+use Rattle.pgp_text.specs.declared.reply.line_refusal.LineRefusal.TheVariants as why
 use Rattle.pgp_text.specs.EntryOp.{entry_op}
 use Rattle.pgp_log.specs.Fits.{fits}
 use Rattle.pgp_log.specs.Locate.{place_with, place_of_object}

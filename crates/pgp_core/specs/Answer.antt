@@ -24,7 +24,7 @@ use Rattle.pgp_lines.specs.declared.command.Command.{Command}
 use Rattle.pgp_lines.specs.declared.command.Command.TheVariants.{Submit, Ask, Locate, Trace}
 use Rattle.pgp_text.specs.declared.reply.Reply.{Reply}
 use Rattle.pgp_text.specs.declared.reply.Reply.TheVariants.{Accepted, Asked, Located, Traced, Refused}
-use Rattle.pgp_text.specs.declared.reply.refused.Refused.TheVariants as why
+use Rattle.pgp_text.specs.declared.reply.line_refusal.LineRefusal.TheVariants as why
 use Rattle.pgp_log.specs.Fits.{fits}
 use Rattle.pgp_log.specs.Locate.{group_in_pool}
 use Rattle.pgp_log.specs.Log.{epoch_of}

@@ -8,7 +8,7 @@ use Rattle.pgp_text.specs.Command.{command_of}
 use Rattle.pgp_text.specs.Reply.{reply_text}
 use Rattle.pgp_lines.specs.declared.command.Command.TheVariants.{Submit}
 use Rattle.pgp_text.specs.declared.reply.Reply.TheVariants.{Refused}
-use Rattle.pgp_text.specs.declared.reply.refused.Refused.TheVariants as why
+use Rattle.pgp_text.specs.declared.reply.line_refusal.LineRefusal.TheVariants as why
 use Rattle.pgp_core.specs.Answer.{line_text, line_log, long_text}
 use Rattle.pgp_core.specs.Lines.{cut, lines_of, is_blank}
 use Rattle.pgp_core.specs.declared.input.Bounds.{Bounds}

@@ -17,7 +17,7 @@ use super::codec::Codec;
 use super::replies::asked;
 use super::want::Want;
 use pgp_ids::{Epoch, PgId, TextFault, View};
-use pgp_text::{Command, Refused, Reply, ReplyWriter};
+use pgp_text::{Command, LineRefusal, Reply, ReplyWriter};
 use std::alloc::{AllocError, Global};
 
 /// Puts the answer to a line that isn't blank and not too long behind the text, with a line feed.
@@ -111,7 +111,7 @@ fn put_fault(
     ensures lacks { IfErr result (λ why. why ≡ NoReply.Memory Want.Line) }
     ensures err { OnErr result (text.new.items ≡ text.old.items) }
 {
-    let reply = Reply::Refused(Refused::Line(fault));
+    let reply = Reply::Refused(LineRefusal::Line(fault));
     put_reply(alloc, writer, &reply, text).or(Err(NoReply::Memory(Want::Line)))
 }
 

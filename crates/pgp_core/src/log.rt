@@ -23,7 +23,7 @@ use super::want::Want;
 use pgp_ids::{AskRefusal, Entry, LocateRefusal, ObjectName, PgId, PoolId, Refusal, View};
 use pgp_log::{Judge, RawSets, ShardState};
 use pgp_map::OsdMap;
-use pgp_text::{Command, EntryOp, Refused, Reply, ReplyWriter};
+use pgp_text::{Command, EntryOp, LineRefusal, Reply, ReplyWriter};
 use std::alloc::{AllocError, Global};
 use std::marker::Model;
 use std::sync::Arc;
@@ -111,7 +111,7 @@ impl Log {
                 members: place.members,
                 epoch: map.epoch(),
             },
-            None => Reply::Refused(Refused::Locate(LocateRefusal::UnknownPool)),
+            None => Reply::Refused(LineRefusal::Locate(LocateRefusal::UnknownPool)),
         }
     }
 
@@ -142,7 +142,7 @@ impl Log {
                 count: self.judge.count(),
                 epoch: self.judge.map().epoch(),
             }),
-            Some(refusal) => Ok(Reply::Refused(Refused::Entry(refusal))),
+            Some(refusal) => Ok(Reply::Refused(LineRefusal::Entry(refusal))),
         }
     }
 

@@ -9,7 +9,7 @@ ghost use Rattle.pgp_map.specs.Pools.{has_group};
 use super::line::{LONGEST_LINE, all_blank};
 use super::log::Log;
 use pgp_ids::{AskRefusal, Entry, LocateRefusal, ObjectName, PgId, PoolId, TextFault};
-use pgp_text::{Command, LineReader, Refused};
+use pgp_text::{Command, LineReader, LineRefusal};
 use std::alloc::{AllocError, Global};
 
 /// What a line of a script is to the log before it.
@@ -22,7 +22,7 @@ pub enum LineOutcome {
     /// A question that a run would answer. It changes nothing.
     Asked,
     /// It is refused, and changes nothing.
-    Refused(Refused),
+    Refused(LineRefusal),
 }
 
 impl Log {
@@ -44,12 +44,12 @@ impl Log {
             return Ok(LineOutcome::Blank);
         }
         if line.len() > LONGEST_LINE {
-            return Ok(LineOutcome::Refused(Refused::Line(TextFault::LineTooLong)));
+            return Ok(LineOutcome::Refused(LineRefusal::Line(TextFault::LineTooLong)));
         }
         match reader.read(alloc, line) {
             Ok(command) => obey(self, command),
             Err(TextFault::Memory) => Err(AllocError),
-            Err(fault) => Ok(LineOutcome::Refused(Refused::Line(fault))),
+            Err(fault) => Ok(LineOutcome::Refused(LineRefusal::Line(fault))),
         }
     }
 }
@@ -76,7 +76,7 @@ fn offered(log: &mut Log, entry: Entry) -> Result<LineOutcome, AllocError>
 {
     match log.take_if_fits(entry)? {
         None => Ok(LineOutcome::Taken),
-        Some(refusal) => Ok(LineOutcome::Refused(Refused::Entry(refusal))),
+        Some(refusal) => Ok(LineOutcome::Refused(LineRefusal::Entry(refusal))),
     }
 }
 
@@ -87,7 +87,7 @@ fn asked(log: &Log, pg: PgId) -> LineOutcome
     if has_group(log, pg) {
         LineOutcome::Asked
     } else {
-        LineOutcome::Refused(Refused::Ask(AskRefusal::UnknownGroup))
+        LineOutcome::Refused(LineRefusal::Ask(AskRefusal::UnknownGroup))
     }
 }
 
@@ -107,6 +107,6 @@ fn located(log: &Log, id: PoolId, _name: &ObjectName) -> LineOutcome
 {
     match log.map().pool(id) {
         Some(_) => LineOutcome::Asked,
-        None => LineOutcome::Refused(Refused::Locate(LocateRefusal::UnknownPool)),
+        None => LineOutcome::Refused(LineRefusal::Locate(LocateRefusal::UnknownPool)),
     }
 }

@@ -5,7 +5,7 @@ ghost use Rattle.pgp_core.specs.Answer.{asked_reply, traced_reply};
 use super::history::history;
 use pgp_code::AnyCode;
 use pgp_ids::{AskRefusal, Epoch, EpochState, PgId, PoolKind, Seq, View};
-use pgp_text::{MAX_EPOCHS, Refused, Reply};
+use pgp_text::{LineRefusal, MAX_EPOCHS, Reply};
 use std::alloc::{AllocError, Global};
 
 /// The reply to a question about a group of which this is said.
@@ -14,7 +14,7 @@ pub fn asked(pg: PgId, view: Option<View>) -> Reply
 {
     match view {
         Some(view) => Reply::Asked(pg, view),
-        None => Reply::Refused(Refused::Ask(AskRefusal::UnknownGroup)),
+        None => Reply::Refused(LineRefusal::Ask(AskRefusal::UnknownGroup)),
     }
 }
 

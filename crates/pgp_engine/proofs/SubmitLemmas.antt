@@ -7,13 +7,13 @@ use Rattle.pgp_log.specs.Log.{IsFrontOf}
 use Rattle.pgp_feed.specs.declared.receipt.Receipt.{Receipt}
 use Rattle.pgp_feed.specs.Receipts.{entries_of, feed_of}
 use Rattle.pgp_engine.specs.declared.fault.SubmitFault.{SubmitFault}
-use Rattle.pgp_engine.specs.declared.submitted.Submitted.{Submitted}
+use Rattle.pgp_engine.specs.declared.submit_answer.SubmitAnswer.{SubmitAnswer}
 use Rattle.pgp_engine.specs.declared.fault.SubmitFault.TheVariants.{Refused, Memory, NoReader}
 use Rattle.pgp_engine.specs.Fronts.{Names}
 use Rattle.pgp_engine.specs.Intakes.{MayRefuse, MayFailToSubmit, IsSubmitted}
 use Rattle.pgp_engine.proofs.FrontLemmas.{front_short, receipt_legal}
 
-pub submitted : (r : Result Submitted SubmitFault) (feed : Book) (q : Receipt) (old new : List Entry) (entry : Entry)
+pub submitted : (r : Result SubmitAnswer SubmitFault) (feed : Book) (q : Receipt) (old new : List Entry) (entry : Entry)
     → feed_of q ≡ feed → IsFrontOf (entries_of q) old
     → MatchResult r (λ _. new ≡ old ++ entry ∷ []) (λ _. new ≡ old)
     → MatchResult r (λ s. Names feed new s.at) (MayRefuse feed old entry)

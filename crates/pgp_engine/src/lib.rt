@@ -17,7 +17,7 @@ mod gate;
 mod intake;
 mod naming;
 mod shard;
-mod submitted;
+mod submit_answer;
 
 pub use answer::Answer;
 pub use client::{Client, LocateFault, Place};
@@ -28,4 +28,4 @@ pub use intake::Intake;
 pub use naming::Naming;
 pub use pgp_feed::MakeFault;
 pub use shard::Shard;
-pub use submitted::Submitted;
+pub use submit_answer::SubmitAnswer;

@@ -1,7 +1,7 @@
 -- Which log a script makes, and whether one of its lines is refused.
 use Rattle.std.specs.Prelude.{◌≡◌, ◌⊎◌, ℕ, List, [], ◌∷◌, Option}
 use Rattle.pgp_ids.specs.declared.entry.Entry.{Entry}
-use Rattle.pgp_text.specs.declared.reply.refused.Refused.{Refused}
+use Rattle.pgp_text.specs.declared.reply.line_refusal.LineRefusal.{LineRefusal}
 use Rattle.pgp_text.specs.declared.reply.Reply.TheVariants as reply
 use Rattle.pgp_core.specs.Added.{IsRefused, added_by, log_of_lines, with_added}
 use Rattle.pgp_core.specs.Lines.{lines_of}
@@ -18,7 +18,7 @@ pub record IsLogOfScript (log : List Entry) (from to : Option (List ℕ)) : Type
 
 -- a run would refuse the line
 abbrev pub IsRefusedLine : List Entry → List ℕ → Type 0
-IsRefusedLine log line = (why : Refused) × IsRefused log line (reply.Refused why)
+IsRefusedLine log line = (why : LineRefusal) × IsRefused log line (reply.Refused why)
 
 -- it would refuse one of the lines, each by the log that those before it make
 abbrev pub HasRefused : List Entry → List (List ℕ) → Type 0

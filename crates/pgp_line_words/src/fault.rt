@@ -6,7 +6,7 @@ use super::lines::{format_of, op_of, shape_at};
 use super::walk::fault_in;
 use super::wrong::key_words;
 use pgp_ids::{Refusal, TextFault};
-use pgp_text::Refused;
+use pgp_text::LineRefusal;
 use serde_json::Value;
 use std::alloc::{AllocError, Global};
 use std::str::from_utf8;
@@ -19,7 +19,7 @@ pub fn put_fault(
     alloc: Global,
     line: &[u8],
     number: u64,
-    refused: &Refused,
+    refused: &LineRefusal,
     errors: &mut String,
 ) -> Result<(), AllocError>
     ensures ok { OnOk result ((told : List ℕ)
@@ -41,23 +41,23 @@ fn line_of(alloc: Global, number: u64, told: &str) -> Result<String, AllocError>
 }
 
 /// The name of a refusal, and what is wrong. What the log refuses, and what has no answer, has its number behind its name.
-fn text_of(alloc: Global, line: &[u8], refused: &Refused) -> Result<String, AllocError> {
+fn text_of(alloc: Global, line: &[u8], refused: &LineRefusal) -> Result<String, AllocError> {
     let name = refused.name();
     let number = refused.number();
     let what = what_of(alloc, line, refused)?;
     match refused {
-        Refused::Line(_) => format!(in alloc; "{name}: {what}"),
+        LineRefusal::Line(_) => format!(in alloc; "{name}: {what}"),
         _ => format!(in alloc; "{name} ({number}): {what}"),
     }
 }
 
 /// What is wrong.
-fn what_of(alloc: Global, line: &[u8], refused: &Refused) -> Result<String, AllocError> {
+fn what_of(alloc: Global, line: &[u8], refused: &LineRefusal) -> Result<String, AllocError> {
     match refused {
-        Refused::Line(fault) => line_fault(alloc, line, fault),
-        Refused::Entry(refusal) => entry_fault(alloc, *refusal),
-        Refused::Ask(refusal) => format!(in alloc; "{refusal}"),
-        Refused::Locate(refusal) => format!(in alloc; "{refusal}"),
+        LineRefusal::Line(fault) => line_fault(alloc, line, fault),
+        LineRefusal::Entry(refusal) => entry_fault(alloc, *refusal),
+        LineRefusal::Ask(refusal) => format!(in alloc; "{refusal}"),
+        LineRefusal::Locate(refusal) => format!(in alloc; "{refusal}"),
     }
 }
 

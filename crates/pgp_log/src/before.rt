@@ -12,9 +12,7 @@ ghost use Rattle.pgp_log.specs.RawSets.{IsRawSet};
 
 use super::touch::has_sizes;
 use pgp_group::primary_facts;
-use pgp_ids::{
-    DeviceEpoch, DeviceWeight, Epoch, Incremental, OsdId, PgId, Place, PrimaryFacts,
-};
+use pgp_ids::{DeviceEpoch, DeviceWeight, Epoch, Incremental, OsdId, PgId, Place, PrimaryFacts};
 use pgp_map::OsdMap;
 use pgp_sets::switches_any;
 use std::alloc::{AllocError, Global};

@@ -16,12 +16,7 @@ use pgp_map::OsdMap;
 /// Whether one of these devices, which had these weights before this map, comes in for the group by the weight that it has now, or
 /// goes out of these places, which the tree gave the group before. If it is so of no device that was
 /// weighed, and neither a tree nor sizes of the pool came, the group stays there ([`laws`](crate::laws)). No memory is taken.
-pub fn switches_any(
-    after: &OsdMap,
-    pg: &PgId,
-    places: &[Place],
-    before: &[DeviceWeight],
-) -> bool
+pub fn switches_any(after: &OsdMap, pg: &PgId, places: &[Place], before: &[DeviceWeight]) -> bool
     requires { HasGroup after.now pg.now }
     ensures { (incs : List Incremental) → IsMapOf incs after.now → result ≡ switches_any incs pg.now places.now before.now }
 {
@@ -33,12 +28,7 @@ pub fn switches_any(
 }
 
 /// Whether one of the devices is switched for this input, which gave these places.
-fn switches_any_for(
-    x: u32,
-    after: &OsdMap,
-    places: &[Place],
-    before: &[DeviceWeight],
-) -> bool
+fn switches_any_for(x: u32, after: &OsdMap, places: &[Place], before: &[DeviceWeight]) -> bool
     ensures { (incs : List Incremental) → IsMapOf incs after.now
         → result ≡ list_any (λ old. switches x places.now old.osd old.weight (weight incs old.osd)) before.now }
 {

@@ -6,7 +6,7 @@ use pgp_ids::{
     AskRefusal, Epoch, MissingObject, ObjectName, Osds, PeerMissing, PeerState, Refusal, Seq,
     Verdict, View,
 };
-use pgp_text::{LineReader, Refused, Reply, read_line};
+use pgp_text::{LineReader, LineRefusal, Reply, read_line};
 use std::alloc::{AllocError, Global};
 use std::process::Abort;
 use std::test::Fail;
@@ -102,7 +102,7 @@ static BAD_KEYS: [&str; 21] = [
 /// What is answered to the line, which is no command.
 fn answer_to(alloc: Global, line: &str) -> Result<Vec<u8>, Fail> {
     let fault = read_line(alloc, line.as_bytes()).err().ok_or("a command")?;
-    Ok(text_of(alloc, Reply::Refused(Refused::Line(fault)))?)
+    Ok(text_of(alloc, Reply::Refused(LineRefusal::Line(fault)))?)
 }
 
 /// Lines with keys that their operation doesn't have, each after the key that is named.
@@ -140,7 +140,7 @@ fn the_least_bad_key_is_named(rt: HostRuntime) -> Result<(), Fail> {
 }
 
 /// Whether this is answered to what was refused.
-fn is_refused(alloc: Global, refused: Refused, answer: &str) -> Result<bool, AllocError> {
+fn is_refused(alloc: Global, refused: LineRefusal, answer: &str) -> Result<bool, AllocError> {
     let text = text_of(alloc, Reply::Refused(refused))?;
     Ok(text.as_slice() == answer.as_bytes())
 }
@@ -150,11 +150,11 @@ fn refusals_that_no_script_shows_have_their_text(rt: HostRuntime) -> Result<(), 
     let bytes = b"{\"op\":\"\xff\"}";
     let fault = read_line(rt.alloc(), bytes).err().ok_or("a command")?;
     let not_json = r#"{"code":31,"refused":"NotJson"}"#;
-    assert!(rt; is_refused(rt.alloc(), Refused::Line(fault), not_json)?);
+    assert!(rt; is_refused(rt.alloc(), LineRefusal::Line(fault), not_json)?);
     let no_entry = r#"{"code":51,"refused":"Memory"}"#;
-    assert!(rt; is_refused(rt.alloc(), Refused::Entry(Refusal::Memory), no_entry)?);
+    assert!(rt; is_refused(rt.alloc(), LineRefusal::Entry(Refusal::Memory), no_entry)?);
     let no_view = r#"{"code":41,"refused":"Memory"}"#;
-    assert!(rt; is_refused(rt.alloc(), Refused::Ask(AskRefusal::Memory), no_view)?);
+    assert!(rt; is_refused(rt.alloc(), LineRefusal::Ask(AskRefusal::Memory), no_view)?);
     Ok(())
 }
 

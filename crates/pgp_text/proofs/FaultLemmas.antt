@@ -3,8 +3,8 @@ use Rattle.std.proofs.Common.{◌≡◌, refl, IfSome}
 use Rattle.pgp_ids.specs.declared.text_fault.TextFault.{TextFault}
 use Rattle.pgp_ids.specs.declared.text_fault.TextFault.TheVariants.{LineTooLong, NotJson, NoOp, UnknownKey, BadField, Memory}
 use Rattle.pgp_lines.specs.LineFault.{told}
-use Rattle.pgp_text.specs.Refused.{refused_data}
-use Rattle.pgp_text.specs.declared.reply.refused.Refused.TheVariants.{Line}
+use Rattle.pgp_text.specs.LineRefusal.{refused_data}
+use Rattle.pgp_text.specs.declared.reply.line_refusal.LineRefusal.TheVariants.{Line}
 use Rattle.pgp_text.specs.Reply.{line_fault_data}
 
 pub written_as_told : (fault : TextFault) → IfSome (told fault) (λ f. line_fault_data f ≡ refused_data (Line fault))

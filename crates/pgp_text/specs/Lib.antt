@@ -2,7 +2,7 @@ pub use Rattle.pgp_lines.specs.Command
 pub use Rattle.pgp_lines.specs.LineFault
 pub mod Json
 pub mod Answered
-pub mod Refused
+pub mod LineRefusal
 pub mod EntryOp
 pub mod Asked
 pub mod Reply

@@ -11,7 +11,7 @@ use Rattle.pgp_text.specs.Json.{object_with, number_data}
 use Rattle.pgp_text.specs.Answered.{group_data, place_data, osds_data, intervals_data}
 use Rattle.pgp_text.specs.Asked.{asked_data}
 use Rattle.pgp_text.specs.EntryOp.{entry_op_name}
-use Rattle.pgp_text.specs.Refused.{refusal_data, refused_data}
+use Rattle.pgp_text.specs.LineRefusal.{refusal_data, refused_data}
 use Rattle.pgp_text.specs.declared.reply.Reply.{Reply}
 use Rattle.pgp_text.specs.declared.reply.Reply.TheVariants.{Accepted, Asked, Located, Traced, Refused}
 use Rattle.pgp_text.specs.declared.reply.entry_op.EntryOp.{EntryOp}

@@ -7,4 +7,4 @@ pub mod laws;
 mod reply;
 
 pub use pgp_lines::{Command, LineReader, MAX_EPOCHS, read_line};
-pub use reply::{EntryOp, Refused, Reply, ReplyWriter, write_reply};
+pub use reply::{EntryOp, LineRefusal, Reply, ReplyWriter, write_reply};

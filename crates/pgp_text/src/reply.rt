@@ -10,18 +10,18 @@ mod asked;
 mod devices;
 mod entry_op;
 mod intervals;
+mod line_refusal;
 mod members;
 mod parts;
 mod peers;
-mod refused;
 
 use asked::write_asked;
 use devices::{write_acting, write_up};
 pub use entry_op::EntryOp;
 use json::Writer;
+pub use line_refusal::LineRefusal;
 use parts::{Json, write_field};
 use pgp_ids::{Epoch, Membership, Past, PgId, Seq, View};
-pub use refused::Refused;
 use std::alloc::{AllocError, Global};
 use std::mem;
 
@@ -48,7 +48,7 @@ pub enum Reply {
         past: Seq<Past>,
     },
     /// Why the line had no effect.
-    Refused(Refused),
+    Refused(LineRefusal),
 }
 
 /// The text of a reply, without a line feed: compact JSON, the keys of each object in ascending byte order.

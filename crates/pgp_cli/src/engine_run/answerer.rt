@@ -8,11 +8,11 @@ ghost use Rattle.pgp_core.specs.Wants.{LacksReply};
 
 use pgp_core::{Answerer, NoReply, Want, asked, traced};
 use pgp_engine::{
-    Answer, AskFault, Client, Engine, LocateFault, Naming, Place, SubmitFault, Submitted,
+    Answer, AskFault, Client, Engine, LocateFault, Naming, Place, SubmitAnswer, SubmitFault,
 };
 use pgp_feed::Receipt;
 use pgp_ids::{Entry, LocateRefusal, ObjectName, PgId, PoolId, View};
-use pgp_text::{Command, EntryOp, Refused, Reply};
+use pgp_text::{Command, EntryOp, LineRefusal, Reply};
 use std::alloc::Global;
 use std::marker::Model;
 use std::sync::Wait;
@@ -62,14 +62,14 @@ impl<'a, J: Naming, T: Wait> EngineAnswerer<'a, J, T> {
     {
         let op = EntryOp::of(&entry);
         match self.engine.submit_with_epoch(self.rt, entry, &self.at) {
-            Ok(Submitted { at, epoch }) => {
+            Ok(SubmitAnswer { at, epoch }) => {
                 let count = at.len();
                 self.at = at;
                 Ok(Reply::Accepted { op, count, epoch })
             }
             Err(SubmitFault::Refused { why, at }) => {
                 self.at = at;
-                Ok(Reply::Refused(Refused::Entry(why)))
+                Ok(Reply::Refused(LineRefusal::Entry(why)))
             }
             Err(SubmitFault::Memory) => Err(NoReply::Memory(Want::Entry)),
             Err(SubmitFault::NoReader) => Err(NoReply::Gone),
@@ -118,7 +118,7 @@ impl<'a, J: Naming, T: Wait> EngineAnswerer<'a, J, T> {
             }
             Err(LocateFault::UnknownPool { at }) => {
                 self.at = at;
-                Ok(Reply::Refused(Refused::Locate(LocateRefusal::UnknownPool)))
+                Ok(Reply::Refused(LineRefusal::Locate(LocateRefusal::UnknownPool)))
             }
             Err(LocateFault::Memory) => Err(NoReply::Memory(Want::Line)),
             Err(LocateFault::NoReader) => Err(NoReply::Gone),

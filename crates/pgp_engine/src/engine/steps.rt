@@ -11,7 +11,7 @@ use super::locks::{intake_turn, shard_turn};
 use crate::answer::Answer;
 use crate::fault::{AskFault, SubmitFault};
 use crate::naming::Naming;
-use crate::submitted::Submitted;
+use crate::submit_answer::SubmitAnswer;
 use pgp_feed::Receipt;
 use pgp_ids::{Entry, PgId};
 use std::sync::{MutexGuard, Wait};
@@ -35,7 +35,7 @@ impl<J: Naming> Engine<J> {
         rt: &R,
         entry: Entry,
         q: &Receipt,
-    ) -> Result<Submitted, SubmitFault>
+    ) -> Result<SubmitAnswer, SubmitFault>
         requires { feed_of q.now ≡ J.feed }
         ensures submitted { MatchResult result (λ submitted. IsSubmitted q.now entry submitted.at) (MayFailToSubmit q.now entry) }
         ensures epoch { IfOk result (λ submitted. submitted.epoch ≡ epoch_of (entries_of submitted.at)) }
@@ -51,7 +51,7 @@ impl<J: Naming> Engine<J> {
         rt: &R,
         entry: Entry,
         q: &Receipt,
-    ) -> Result<Submitted, SubmitFault>
+    ) -> Result<SubmitAnswer, SubmitFault>
         requires { feed_of q.now ≡ J.feed }
         ensures submitted { MatchResult result (λ submitted. IsSubmitted q.now entry submitted.at) (MayFailToSubmit q.now entry) }
         ensures epoch { IfOk result (λ submitted. submitted.epoch ≡ epoch_of (entries_of submitted.at)) }

@@ -13,7 +13,7 @@ use super::judging::{catch_up, judge_next, publish};
 use crate::entry_buffer::EntryBuffer;
 use crate::fault::SubmitFault;
 use crate::naming::Naming;
-use crate::submitted::Submitted;
+use crate::submit_answer::SubmitAnswer;
 use pgp_feed::{Feed, Receipt, Tap};
 use pgp_ids::Entry;
 use pgp_log::Judge;
@@ -78,7 +78,7 @@ impl<J: Naming> Intake<J> {
         &mut self,
         rt: &R,
         entry: Entry,
-    ) -> Result<Submitted, SubmitFault>
+    ) -> Result<SubmitAnswer, SubmitFault>
         ensures log { MatchResult result (λ _. self.new ≡ self.old ++ entry ∷ []) (λ _. self.new ≡ self.old) }
         ensures told { MatchResult result (λ submitted. Names J.feed self.new submitted.at) (MayRefuse J.feed self.old entry) }
         ensures epoch { IfOk result (λ submitted. submitted.epoch ≡ epoch_of (entries_of submitted.at)) }
@@ -94,7 +94,7 @@ impl<J: Naming> Intake<J> {
         )?;
         let epoch = self.judge.epoch_with(&entry);
         let at = publish(rt, self.alloc, &mut self.feed, &mut self.judge, entry)?;
-        Ok(Submitted { at, epoch })
+        Ok(SubmitAnswer { at, epoch })
     }
 
     /// Ends the feed. Its taps find no copy from then on.

@@ -19,7 +19,7 @@ impl Answerer for Leaving {
 
     fn reply(&mut self, _alloc: Global, command: Command) -> Result<Reply, NoReply> {
         match command {
-            Command::Locate { .. } => Ok(Reply::Refused(Refused::Locate(
+            Command::Locate { .. } => Ok(Reply::Refused(LineRefusal::Locate(
                 LocateRefusal::UnknownPool,
             ))),
             _ => Err(NoReply::Gone),

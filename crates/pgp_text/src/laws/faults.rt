@@ -4,8 +4,8 @@
 ghost use Rattle.std.specs.Prelude.{◌≡◌, codes, IfSome};
 ghost use Rattle.pgp_ids.specs.declared.text_fault.TextFault.{TextFault};
 ghost use Rattle.pgp_lines.specs.LineFault.{told, not_json, bad_field};
-ghost use Rattle.pgp_text.specs.Refused.{refused_data};
-ghost use Rattle.pgp_text.specs.declared.reply.refused.Refused.TheVariants.{Line};
+ghost use Rattle.pgp_text.specs.LineRefusal.{refused_data};
+ghost use Rattle.pgp_text.specs.declared.reply.line_refusal.LineRefusal.TheVariants.{Line};
 ghost use Rattle.pgp_text.specs.Reply.{line_fault_data, fault_text};
 
 /// What is written of a line's fault by what the line has for one.

@@ -4,7 +4,7 @@ use pgp_ids::Epoch;
 
 /// The front that ends with the entry, and the epoch of its map.
 #[derive(Drop)]
-pub struct Submitted {
+pub struct SubmitAnswer {
     pub at: Receipt,
     pub epoch: Epoch,
 }

@@ -8,8 +8,8 @@ use Rattle.pgp_ids.specs.TextFault.{fault_number}
 use Rattle.pgp_ids.specs.declared.text_fault.TextFault.{TextFault}
 use Rattle.pgp_ids.specs.declared.text_fault.TextFault.TheVariants.{LineTooLong, NotJson, NoOp, UnknownKey, BadField, Memory}
 use Rattle.pgp_text.specs.Json.{Field, object_with, number_data}
-use Rattle.pgp_text.specs.declared.reply.refused.Refused.{Refused}
-use Rattle.pgp_text.specs.declared.reply.refused.Refused.TheVariants.{Line, Entry, Ask, Locate}
+use Rattle.pgp_text.specs.declared.reply.line_refusal.LineRefusal.{LineRefusal}
+use Rattle.pgp_text.specs.declared.reply.line_refusal.LineRefusal.TheVariants.{Line, Entry, Ask, Locate}
 
 -- the name of a line's fault
 abbrev pub fault_name : TextFault → List ℕ
@@ -30,28 +30,28 @@ fault_key (BadField key) = Some (string_bytes key)
 fault_key Memory = None
 
 -- the number of a refusal
-abbrev pub refused_number : Refused → ℕ
+abbrev pub refused_number : LineRefusal → ℕ
 refused_number (Line fault) = fault_number fault
 refused_number (Entry refusal) = refusal_number refusal
 refused_number (Ask refusal) = ask_refusal_number refusal
 refused_number (Locate refusal) = locate_refusal_number refusal
 
 -- its name
-abbrev pub refused_name : Refused → List ℕ
+abbrev pub refused_name : LineRefusal → List ℕ
 refused_name (Line fault) = fault_name fault
 refused_name (Entry refusal) = refusal_name refusal
 refused_name (Ask refusal) = ask_refusal_name refusal
 refused_name (Locate refusal) = locate_refusal_name refusal
 
 -- the key of the line that it names
-abbrev pub refused_key : Refused → Option (List ℕ)
+abbrev pub refused_key : LineRefusal → Option (List ℕ)
 refused_key (Line fault) = fault_key fault
 refused_key (Entry refusal) = None
 refused_key (Ask refusal) = None
 refused_key (Locate refusal) = None
 
 -- the number of the tree's fault
-abbrev pub refused_tree : Refused → Option ℕ
+abbrev pub refused_tree : LineRefusal → Option ℕ
 refused_tree (Line fault) = None
 refused_tree (Entry refusal) = refusal_tree refusal
 refused_tree (Ask refusal) = None
@@ -67,5 +67,5 @@ abbrev pub refusal_data : ℕ → Option (List ℕ) → List ℕ → Option ℕ 
 refusal_data code key name tree =
     object_with ((codes "code", number_data code) ∷ (field_if (codes "key") string key ++ ((codes "refused", string name) ∷ field_if (codes "tree") number_data tree)))
 
-abbrev pub refused_data : Refused → Data
+abbrev pub refused_data : LineRefusal → Data
 refused_data r = refusal_data (refused_number r) (refused_key r) (refused_name r) (refused_tree r)

@@ -2,7 +2,7 @@
 ghost use Rattle.std.specs.Prelude.{◌≡◌, ◌++◌, codes, option_map, OnOk};
 ghost use Rattle.serde_json.specs.Data.{string};
 ghost use Rattle.pgp_text.specs.Json.{number_data};
-ghost use Rattle.pgp_text.specs.Refused.{fault_name, fault_key, field_if, refused_number, refused_name, refused_key, refused_tree, refused_data};
+ghost use Rattle.pgp_text.specs.LineRefusal.{fault_name, fault_key, field_if, refused_number, refused_name, refused_key, refused_tree, refused_data};
 ghost use Rattle.pgp_text.specs.Written.{fields_tokens};
 
 use super::parts::{Json, write_field};
@@ -12,7 +12,7 @@ use std::alloc::{AllocError, Global};
 
 /// Why a line had no effect.
 #[derive(Debug, Drop)]
-pub enum Refused {
+pub enum LineRefusal {
     /// It is no command.
     Line(TextFault),
     /// The log doesn't take the entry.
@@ -23,16 +23,16 @@ pub enum Refused {
     Locate(LocateRefusal),
 }
 
-impl Refused {
+impl LineRefusal {
     /// The number of the refusal.
     pub fn number(&self) -> u8
         ensures { result ≡ refused_number self.now }
     {
         match self {
-            Refused::Line(fault) => fault.number(),
-            Refused::Entry(refusal) => refusal.number(),
-            Refused::Ask(refusal) => refusal.number(),
-            Refused::Locate(refusal) => refusal.number(),
+            LineRefusal::Line(fault) => fault.number(),
+            LineRefusal::Entry(refusal) => refusal.number(),
+            LineRefusal::Ask(refusal) => refusal.number(),
+            LineRefusal::Locate(refusal) => refusal.number(),
         }
     }
 
@@ -41,10 +41,10 @@ impl Refused {
         ensures { result.now ≡ refused_name self.now }
     {
         match self {
-            Refused::Line(fault) => fault_name(fault),
-            Refused::Entry(refusal) => refusal.name(),
-            Refused::Ask(refusal) => refusal.name(),
-            Refused::Locate(refusal) => refusal.name(),
+            LineRefusal::Line(fault) => fault_name(fault),
+            LineRefusal::Entry(refusal) => refusal.name(),
+            LineRefusal::Ask(refusal) => refusal.name(),
+            LineRefusal::Locate(refusal) => refusal.name(),
         }
     }
 
@@ -53,7 +53,7 @@ impl Refused {
         ensures { option_map (λ key. key.now) result ≡ refused_key self.now }
     {
         match self {
-            Refused::Line(fault) => fault_key(fault),
+            LineRefusal::Line(fault) => fault_key(fault),
             _ => None,
         }
     }
@@ -63,7 +63,7 @@ impl Refused {
         ensures { result ≡ refused_tree self.now }
     {
         match self {
-            Refused::Entry(refusal) => refusal.tree(),
+            LineRefusal::Entry(refusal) => refusal.tree(),
             _ => None,
         }
     }
@@ -93,7 +93,7 @@ fn fault_key(fault: &TextFault) -> Option<&str>
     }
 }
 
-impl Json for Refused {
+impl Json for LineRefusal {
     ghost value = { refused_data };
 
     #[tactic(auto, using(crate::proofs::Tokens::token_steps))]
@@ -109,7 +109,7 @@ impl Json for Refused {
 
 /// Writes the key, where one is named.
 #[tactic(auto, unfolding(crate::specs::Written::fields_tokens))]
-fn write_key(alloc: Global, out: &mut Writer, refused: &Refused) -> Result<(), AllocError>
+fn write_key(alloc: Global, out: &mut Writer, refused: &LineRefusal) -> Result<(), AllocError>
     ensures ok { OnOk result (out.new.tokens ≡ out.old.tokens
         ++ fields_tokens (field_if (codes "key") string (refused_key refused.now))) }
     ensures before { out.new.before ≡ out.old.before }
@@ -122,7 +122,7 @@ fn write_key(alloc: Global, out: &mut Writer, refused: &Refused) -> Result<(), A
 
 /// Writes the tree's fault, where that is the refusal.
 #[tactic(auto, unfolding(crate::specs::Written::fields_tokens))]
-fn write_tree(alloc: Global, out: &mut Writer, refused: &Refused) -> Result<(), AllocError>
+fn write_tree(alloc: Global, out: &mut Writer, refused: &LineRefusal) -> Result<(), AllocError>
     ensures ok { OnOk result (out.new.tokens ≡ out.old.tokens
         ++ fields_tokens (field_if (codes "tree") number_data (refused_tree refused.now))) }
     ensures before { out.new.before ≡ out.old.before }
