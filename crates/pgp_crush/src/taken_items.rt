@@ -66,5 +66,5 @@ impl TakenItems {
 fn has_leaf(leaves: &[Place], osd: OsdId) -> bool
     ensures { result ≡ has_leaf leaves.now osd }
 {
-    leaves.iter().any(|place| place.osd() == Some(osd))
+    leaves.contains(&Place::new(Some(osd)))
 }

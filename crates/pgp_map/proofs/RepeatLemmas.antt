@@ -58,9 +58,14 @@ repeat-joined f g same xs ys =
 pub ruleset repeat_steps = (repeat-mapped, repeat-three, repeat-joined)
 
 -- a place that holds a device is one of the list without the empty places
-pub any-held : (osd : ℕ) (places : List (Option ℕ)) → list_any (option_eq nat_eq (Some osd)) places ≡ list_any (nat_eq osd) (filter_map (λ place. place) places)
-any-held osd [] = refl
-any-held osd (None ∷ places) = any-held osd places
-any-held osd (Some other ∷ places) = λ i. nat_eq osd other || any-held osd places i
+pub any-held : (osd : ℕ) (sought : Option ℕ) (places : List (Option ℕ)) → sought ≡ Some osd
+    → list_any (λ place. option_eq nat_eq place sought) places ≡ list_any (nat_eq osd) (filter_map (λ place. place) places)
+any-held osd sought places is = rw is (held places)
+  where
+    same : (a b : ℕ) → nat_eq a b ≡ nat_eq b a
+    same a b = grind arith
 
-pub ruleset placed_steps = (any-held)
+    held : (places : List (Option ℕ)) → list_any (λ place. option_eq nat_eq place (Some osd)) places ≡ list_any (nat_eq osd) (filter_map (λ place. place) places)
+    held [] = refl
+    held (None ∷ places) = held places
+    held (Some other ∷ places) = λ i. same other osd i || held places i

@@ -27,11 +27,11 @@ fn has_device_twice(places: &[Place]) -> bool
 }
 
 /// The device stands in one of the places.
-#[tactic(auto, using(crate::proofs::RepeatLemmas::placed_steps))]
 fn is_placed(osd: OsdId, places: &[Place]) -> bool
     ensures { result ≡ list_any (nat_eq osd) (filter_map (λ place. place) places.now) }
 {
-    places.iter().any(|place| place.osd() == Some(osd))
+    let sought = Place::new(Some(osd));
+    places.contains(&sought)
 }
 
 /// A place of the list is empty.
