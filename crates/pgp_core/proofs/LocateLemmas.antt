@@ -8,13 +8,13 @@ use Rattle.pgp_group.specs.Entries.{incs_of}
 use Rattle.pgp_text.specs.declared.reply.Reply.TheVariants.{Located}
 use Rattle.pgp_log.specs.Locate.{place_of_object}
 use Rattle.pgp_log.specs.Log.{epoch_of}
-use Rattle.pgp_log.specs.declared.place.Place.{Place}
+use Rattle.pgp_log.specs.declared.place.ObjectPlace.{ObjectPlace}
 use Rattle.pgp_core.specs.Answer.{located_reply}
 
 -- the reply, where the object lies there
-pub located-there : (log : List Entry) (id : ℕ) (name : List ℕ) (place : Place) (now : ℕ) → place_of_object (incs_of log) id name ≡ Some place → now ≡ epoch_of log
+pub located-there : (log : List Entry) (id : ℕ) (name : List ℕ) (place : ObjectPlace) (now : ℕ) → place_of_object (incs_of log) id name ≡ Some place → now ≡ epoch_of log
     → Located place.pg place.members now ≡ located_reply log id name (pool (incs_of log) id)
 located-there log id name place now lies epoch = go (pool (incs_of log) id) refl where
   go : (found : Option PoolSpec) → pool (incs_of log) id ≡ found → Located place.pg place.members now ≡ located_reply log id name found
   go None none = let no = simp none at lies in cc
-  go (Some made) there = ap₂ (λ (p : Place) (e : ℕ). Located p.pg p.members e) (same_Some _ _ (sym (simp there at lies))) epoch
+  go (Some made) there = ap₂ (λ (p : ObjectPlace) (e : ℕ). Located p.pg p.members e) (same_Some _ _ (sym (simp there at lies))) epoch

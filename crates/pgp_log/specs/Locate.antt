@@ -12,7 +12,7 @@ use Rattle.pgp_map.specs.MapOf.{IsMapOf}
 use Rattle.pgp_map.specs.Pools.{pool}
 use Rattle.pgp_map.specs.declared.map.OsdMap.{OsdMap}
 use Rattle.pgp_sets.specs.Sets.{membership}
-use Rattle.pgp_log.specs.declared.place.Place.{Place}
+use Rattle.pgp_log.specs.declared.place.ObjectPlace.{ObjectPlace}
 
 -- the group of an object in the pool of this number
 abbrev pub group_in_pool : ℕ → List ℕ → PoolSpec → PgId
@@ -23,11 +23,11 @@ abbrev pub group_of_object : List Incremental → ℕ → List ℕ → Option Pg
 group_of_object incs id name = option_map (group_in_pool id name) (pool incs id)
 
 -- the place of every object of the group, where these are its members
-abbrev pub place_with : PgId → Membership → Place
+abbrev pub place_with : PgId → Membership → ObjectPlace
 place_with pg members = record { pg = pg; members = members }
 
 -- the group of an object and its membership, where the map has the pool
-abbrev pub place_of_object : List Incremental → ℕ → List ℕ → Option Place
+abbrev pub place_of_object : List Incremental → ℕ → List ℕ → Option ObjectPlace
 place_of_object incs id name =
     option_and_then (λ pg. option_map (place_with pg) (membership incs pg)) (group_of_object incs id name)
 

@@ -1,45 +1,23 @@
 //! Where an object lies.
 
-ghost use Rattle.std.specs.Prelude.{◌≡◌, ◌<◌, List, Some, IfSome, option_map};
+ghost use Rattle.std.specs.Prelude.{◌≡◌, ◌<◌, List, Some, IfSome};
 ghost use Rattle.pgp_hash.specs.NameHash.{name_hash};
 ghost use Rattle.pgp_hash.specs.StableMod.{stable_mod};
 ghost use Rattle.pgp_map.specs.Held.{HasGroup};
 ghost use Rattle.pgp_ids.specs.declared.incremental.Incremental.{Incremental as AnyIncremental};
 ghost use Rattle.pgp_map.specs.MapOf.{IsMapOf, Says};
 ghost use Rattle.pgp_map.specs.Pools.{has_group, temp};
-ghost use Rattle.pgp_log.specs.Locate.{group_of_object, place_with, place_of_object, IsCheckedMap};
-ghost use Rattle.pgp_sets.specs.Sets.{membership};
+ghost use Rattle.pgp_log.specs.Locate.{group_of_object, IsCheckedMap};
 
 use pgp_hash::{mask_of, name_hash, stable_mod};
 use pgp_ids::{Membership, ObjectName, Osds, PgId, PoolId, PoolSpec};
 use pgp_map::OsdMap;
-use pgp_sets::up_acting;
 
 /// Where an object lies: its group, and where the map puts the group.
 #[derive(Drop)]
-pub struct Place {
+pub struct ObjectPlace {
     pub pg: PgId,
     pub members: Membership,
-}
-
-/// Where the object of this name lies by the map, if the map has the pool. It takes no memory.
-pub fn locate(map: &OsdMap, id: PoolId, name: &ObjectName) -> Option<Place>
-    requires { IsCheckedMap map.now }
-    ensures { Says map.now (λ incs. result ≡ place_of_object incs id name.now) }
-{
-    let pg = group_of_object(map, id, name)?;
-    Some(place_of(map, &pg))
-}
-
-/// The place of every object of the group.
-fn place_of(map: &OsdMap, pg: &PgId) -> Place
-    requires { HasGroup map.now pg.now }
-    ensures { Says map.now (λ incs. option_map (place_with pg.now) (membership incs pg.now) ≡ Some result) }
-{
-    Place {
-        pg: *pg,
-        members: up_acting(map, *pg),
-    }
 }
 
 /// The group in which the object of this name lies, if the map has the pool.

@@ -13,7 +13,7 @@ ghost use Rattle.pgp_log.specs.Locate.{place_of_object, IsCheckedMap};
 ghost use Rattle.pgp_log.specs.RawSets.{AreRawSets, moves_any};
 
 use super::entry::inc_of;
-use super::place::{Place, group_of_object};
+use super::place::{ObjectPlace, group_of_object};
 use pgp_ids::{Entry, Membership, ObjectName, Osds, PgId, PoolId};
 use pgp_map::OsdMap;
 use pgp_sets::{filter, raw};
@@ -63,7 +63,7 @@ impl RawSets {
 
     /// Where the object of this name lies by the map, if the map has the pool. The raw set of its group is kept, where there
     /// is memory for it.
-    pub fn locate(&mut self, map: &OsdMap, id: PoolId, name: &ObjectName) -> Option<Place>
+    pub fn locate(&mut self, map: &OsdMap, id: PoolId, name: &ObjectName) -> Option<ObjectPlace>
         requires { IsCheckedMap map.now }
         ensures place { (incs : List AnyIncremental) → IsMapOf incs map.now → AreRawSets incs self.old
             → result ≡ place_of_object incs id name.now }
@@ -71,7 +71,7 @@ impl RawSets {
     {
         let pg = group_of_object(map, id, name)?;
         let members = self.members(map, &pg);
-        Some(Place { pg, members })
+        Some(ObjectPlace { pg, members })
     }
 
     /// Where the group lies by the map. Its raw set is kept, where there is memory for it.
