@@ -7,7 +7,6 @@ pub mod FeedLemmas
 pub mod CutLemmas
 pub mod InputLemmas
 pub mod LocateLemmas
-pub mod ReadingLemmas
 pub mod RunLemmas
 pub mod TurnLemmas
 pub mod HistoryLemmas

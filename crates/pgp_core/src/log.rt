@@ -8,7 +8,6 @@ ghost use Rattle.pgp_group.specs.Entries.{incs_of};
 ghost use Rattle.pgp_group.specs.View.{scratch};
 ghost use Rattle.pgp_lines.specs.declared.command.Command.TheVariants.{Submit};
 ghost use Rattle.pgp_log.specs.Fits.{fits};
-ghost use Rattle.pgp_log.specs.Judge.{IsJudgeOf};
 ghost use Rattle.pgp_log.specs.Log.{is_legal};
 ghost use Rattle.pgp_log.specs.RawSets.{AreRawSets};
 ghost use Rattle.pgp_log.specs.Running.{IsReading};
@@ -21,20 +20,18 @@ use super::answerer::{Answerer, NoReply};
 use super::replies::{asked, traced};
 use super::want::Want;
 use pgp_ids::{AskRefusal, Entry, LocateRefusal, ObjectName, PgId, PoolId, Refusal, View};
-use pgp_log::{Judge, RawSets, ShardState};
+use pgp_log::{JudgedLog, RawSets, ShardState};
 use pgp_map::OsdMap;
 use pgp_text::{Command, EntryOp, LineRefusal, Reply, ReplyWriter};
 use std::alloc::{AllocError, Global};
 use std::marker::Model;
 use std::sync::Arc;
 
-/// The log that the lines of a script make, which contracts see as the list of the entries that were taken, with a judge of the
-/// next one and a shard that reads them when a group is asked for.
+/// The log that the lines of a script make, which contracts see as the list of the entries that were taken, with a shard that
+/// reads them when a group is asked for.
 #[derive(Drop)]
 pub struct Log {
-    alloc: Global,
-    entries: Vec<Arc<Entry>>,
-    judge: Judge,
+    log: JudgedLog,
     /// The only one of its log.
     shard: ShardState,
     raw_sets: RawSets,
@@ -43,12 +40,11 @@ pub struct Log {
 impl Model for Log {
     ghost Value = { List AnyEntry };
 
-    ghost view = { λ log. map arc_value log.entries.items };
+    ghost view = { λ log. log.log };
 
     ghost invariant = { λ log. record {
-      judge_is : IsJudgeOf (map arc_value log.entries.items) log.judge;
-      shard_is : IsReading (map arc_value log.entries.items) 1 0 log.shard;
-      raw_sets : AreRawSets (incs_of (map arc_value log.entries.items)) log.raw_sets;
+      shard_is : IsReading log.log 1 0 log.shard;
+      raw_sets : AreRawSets (incs_of log.log) log.raw_sets;
     } };
 }
 
@@ -57,13 +53,7 @@ impl Log {
     pub fn new(alloc: Global) -> Self
         ensures { result ≡ [] }
     {
-        Log {
-            alloc,
-            entries: Vec::new(alloc),
-            judge: Judge::start(alloc),
-            shard: ShardState::start(alloc, 0, 1),
-            raw_sets: RawSets::new(alloc),
-        }
+        Log::of(alloc, JudgedLog::new(alloc))
     }
 
     /// The log of these entries, which it shares: a legal log.
@@ -71,32 +61,39 @@ impl Log {
         requires { is_legal (map arc_value entries.now) ≡ true }
         ensures { IfOk result (λ log. log ≡ map arc_value entries.now) }
     {
-        let mut log = Log::new(alloc);
-        for entry in entries {
-            log.take(Arc::try_clone(entry)?)?;
+        Ok(Log::of(alloc, JudgedLog::over(alloc, entries)?))
+    }
+
+    /// This log, of which its shard has read nothing.
+    fn of(alloc: Global, log: JudgedLog) -> Self
+        ensures { result ≡ log }
+    {
+        Log {
+            log,
+            shard: ShardState::start(alloc, 0, 1),
+            raw_sets: RawSets::new(alloc),
         }
-        Ok(log)
     }
 
     /// The map that the entries make.
     pub fn map(&self) -> &OsdMap
         ensures { IsMapOf (incs_of self.now) result.now }
     {
-        self.judge.map()
+        self.log.map()
     }
 
     /// The entries, in the order in which they were taken.
     pub fn entries(&self) -> &[Arc<Entry>]
         ensures { map arc_value result.now ≡ self.now }
     {
-        self.entries.as_slice()
+        self.log.entries()
     }
 
     /// The entries are a legal log. It does nothing else than to say so.
     pub fn stays_legal(&self)
         ensures { is_legal self.now ≡ true }
     {
-        let _log = &self.judge;
+        let _entries = self.log.entries();
     }
 
     /// Where the object of this name lies by the map that the entries make: the reply to a question that changes nothing.
@@ -104,7 +101,7 @@ impl Log {
         ensures reply { result ≡ located_reply self.old id name.now (pool (incs_of self.old) id) }
         ensures same { self.new ≡ self.old }
     {
-        let map = self.judge.map();
+        let map = self.log.map();
         match self.raw_sets.locate(map, id, name) {
             Some(place) => Reply::Located {
                 pg: place.pg,
@@ -120,7 +117,7 @@ impl Log {
         ensures view { IfOk result (λ view. view ≡ scratch self.old pg) }
         ensures same { self.new ≡ self.old }
     {
-        read_on(&mut self.shard, self.entries.as_slice())?;
+        self.shard.absorb_next(self.log.entries(), self.log.len())?;
         match self.shard.ask(pg) {
             Ok(view) => Ok(Some(view)),
             Err(AskRefusal::UnknownGroup) => Ok(None),
@@ -139,8 +136,8 @@ impl Log {
         match self.take_if_fits(entry)? {
             None => Ok(Reply::Accepted {
                 op,
-                count: self.judge.count(),
-                epoch: self.judge.map().epoch(),
+                count: self.log.len(),
+                epoch: self.log.map().epoch(),
             }),
             Some(refusal) => Ok(Reply::Refused(LineRefusal::Entry(refusal))),
         }
@@ -153,27 +150,15 @@ impl Log {
         ensures kept { OnErr result (self.new ≡ self.old) }
         ensures memory { OnErr result (MayFindNone self.old (Submit entry)) }
     {
-        match self.judge.fits(&entry) {
+        match self.log.fits(&entry) {
             Ok(()) => {
-                self.take(Arc::new(self.alloc, entry)?)?;
+                self.raw_sets.follow(&entry);
+                self.log.take(entry)?;
                 Ok(None)
             }
             Err(Refusal::Memory) => Err(AllocError),
             Err(refusal) => Ok(Some(refusal)),
         }
-    }
-
-    /// Takes an entry that fits, which others may hold too. Where there is no memory for it, the log stays as it was.
-    fn take(&mut self, entry: Arc<Entry>) -> Result<(), AllocError>
-        requires { fits self.old (arc_value entry) ≡ None }
-        ensures ok { OnOk result (self.new ≡ self.old ++ arc_value entry ∷ []) }
-        ensures err { OnErr result (self.new ≡ self.old) }
-    {
-        self.entries.reserve(1)?;
-        self.judge.take(&entry)?;
-        self.raw_sets.follow(&entry);
-        self.entries.push_reserved(entry);
-        Ok(())
     }
 }
 
@@ -199,25 +184,14 @@ impl Answerer for Log {
         pg: PgId,
         text: &mut Vec<u8>,
     ) -> Result<(), NoReply> {
-        read_on(&mut self.shard, self.entries.as_slice())?;
+        let count = self.log.len();
+        self.shard.absorb_next(self.log.entries(), count)?;
         work_out(&mut self.shard, &pg)?;
-        let count = self.judge.count();
-        let epoch = self.judge.map().epoch();
+        let epoch = self.log.map().epoch();
         let view = self.shard.view_of(&pg);
         put_told(alloc, writer, pg, view, count, epoch, text)?;
         Ok(())
     }
-}
-
-/// Has the only shard of this log read the entries that it has not read yet. Without memory it may have read some of them.
-fn read_on(shard: &mut ShardState, entries: &[Arc<Entry>]) -> Result<(), AllocError>
-    requires legal { is_legal (map arc_value entries.now) ≡ true }
-    requires reading { IsReading (map arc_value entries.now) 1 0 shard.old }
-    ensures all { OnOk result (shard.new.front ≡ map arc_value entries.now) }
-    ensures reading { IsReading (map arc_value entries.now) 1 0 shard.new }
-{
-    let read = shard.count();
-    shard.absorb_all(&entries[read..])
 }
 
 /// Has the only shard of a log work out the group, where there is one. What it has read stays.

@@ -55,7 +55,7 @@ pub use Rattle.pgp_log.specs.OsdFilter.{Covers, CoversStill}
 pub use Rattle.pgp_log.specs.RawSets.{AreRawSets, IsRawSet, moves_any}
 pub use Rattle.pgp_log.specs.ReportFault.{has_bad_info, has_future_stamp, has_unknown_group, has_unknown_member, info_fault, report_fault}
 pub use Rattle.pgp_log.specs.Rows.{AreInBlocks, IsInBlock}
-pub use Rattle.pgp_log.specs.Shard.{AreMarked, HasReadSame, HasReadSome, IsUnmarked, MarksOnlyTouched, Shard, has_own, having_read, having_read_all, is_among, is_own, opening_shard, shard_of, without}
+pub use Rattle.pgp_log.specs.Shard.{AreMarked, HasReadFewer, HasReadSame, HasReadSome, IsUnmarked, MarksOnlyTouched, Shard, has_own, having_read, having_read_all, having_read_front, is_among, is_own, opening_shard, shard_of, without}
 pub use Rattle.pgp_log.specs.Touch.{changes_no_pool, changes_nothing, changes_placements, moves_none, tells_nothing, turns_none}
 pub use Rattle.pgp_log.specs.World.{Reply, Step, World, after, after_absorb, after_all, after_submit, front_of, replies, reply_to, submit_reply, view_reply}
 pub use Rattle.pgp_log.specs.World.Reply.{Absorbed, Asked, Submitted}

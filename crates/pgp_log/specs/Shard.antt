@@ -52,6 +52,16 @@ pub record HasReadSome (s : Shard) (news : List Entry) (after : Shard) : Type 0 
   pub fewer : read < length news
   pub after_is : HasReadSame (having_read_all s (take read news)) after
 
+-- the shard that has read this many entries of the log
+abbrev pub having_read_front : ℕ → List Entry → Shard → Shard
+having_read_front n log s = record s { front = take n log }
+
+-- of the next entries of the log, at most this many, the shard has read the first few, and not all
+pub record HasReadFewer (count : ℕ) (log : List Entry) (s after : Shard) : Type 0 where
+  pub read : ℕ
+  pub fewer : read < length (take count (drop (length s.front) log))
+  pub after_is : HasReadSame (having_read_front (length s.front + read) log s) after
+
 -- ---- which of its groups have to be worked out anew
 
 -- the group is one of these

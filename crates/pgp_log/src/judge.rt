@@ -1,7 +1,6 @@
 //! Which entry a log takes next.
 
-ghost use Rattle.std.specs.Prelude.{◌≡◌, ◌≢◌, ◌≤◌, ◌+◌, List, ◌∷◌, ◌++◌, [], length, map, true, false, is_some, None, Some, Err, IsOk, OnOk, OnErr, IfOk, IfErr, IfSome, IfNone};
-ghost use Rattle.std.specs.Arc.{arc_value};
+ghost use Rattle.std.specs.Prelude.{◌≡◌, ◌≢◌, ◌≤◌, ◌+◌, List, ◌∷◌, ◌++◌, [], length, true, false, is_some, None, Some, Err, IsOk, OnOk, OnErr, IfErr, IfSome, IfNone};
 ghost use Rattle.pgp_ids.specs.declared.entry.Entry.{Entry as AnyEntry};
 ghost use Rattle.pgp_ids.specs.declared.incremental.Incremental.{Incremental as AnyIncremental};
 ghost use Rattle.pgp_ids.specs.declared.refusal.Refusal.TheVariants.{Memory};
@@ -10,14 +9,13 @@ ghost use Rattle.pgp_map.specs.MapOf.{IsMapOf};
 ghost use Rattle.pgp_group.specs.Entries.{inc_of, incs_of};
 ghost use Rattle.pgp_log.specs.Fits.{is_closed, entry_fault, fits, longest_log};
 ghost use Rattle.pgp_log.specs.Judge.{IsJudgeOf, OfItsLog, CanTake, MapMayLack};
-ghost use Rattle.pgp_log.specs.Log.{epoch_of, is_legal};
+ghost use Rattle.pgp_log.specs.Log.{epoch_of};
 
 use super::entry::{inc_of, is_close};
 use super::report::{entries_fault, info_fault};
 use pgp_ids::{Entry, Epoch, Refusal};
 use pgp_map::OsdMap;
 use std::alloc::{AllocError, Global};
-use std::sync::Arc;
 
 /// How many entries a log takes; a Close is taken beyond.
 pub const LONGEST_LOG: usize = 65535;
@@ -51,18 +49,6 @@ impl Judge {
             count: 0,
             closed: false,
         }
-    }
-
-    /// The judge of the log of these entries.
-    pub fn of(alloc: Global, entries: &[Arc<Entry>]) -> Result<Self, AllocError>
-        requires { is_legal (map arc_value entries.now) ≡ true }
-        ensures { IfOk result (IsJudgeOf (map arc_value entries.now)) }
-    {
-        let mut judge = Judge::start(alloc);
-        for entry in entries {
-            judge.take(entry)?;
-        }
-        Ok(judge)
     }
 
     /// How many entries the log has.

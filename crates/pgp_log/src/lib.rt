@@ -7,6 +7,7 @@ mod copies;
 mod entry;
 mod groups;
 mod judge;
+mod judged_log;
 mod kept_group;
 pub mod laws;
 mod osd_filter;
@@ -22,6 +23,7 @@ mod world;
 
 pub use entry::{inc_of, is_close};
 pub use judge::{Judge, LONGEST_LOG};
+pub use judged_log::JudgedLog;
 pub use pgp_sets::has_osd;
 pub use place::{ObjectPlace, group_of, has_group, temp_of};
 pub use raw_sets::RawSets;

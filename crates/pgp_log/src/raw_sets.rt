@@ -42,10 +42,12 @@ impl RawSets {
         }
     }
 
-    /// Stays true of the map after an entry that fits. What is kept is given up where the entry may move groups.
+    /// Stays true of the map after an entry that fits, and of the map before it. What is kept is given up where the entry may
+    /// move groups.
     pub fn follow(&mut self, entry: &Entry)
-        ensures { (log : List AnyEntry) → fits log entry.now ≡ None → AreRawSets (incs_of log) self.old
+        ensures next { (log : List AnyEntry) → fits log entry.now ≡ None → AreRawSets (incs_of log) self.old
             → AreRawSets (incs_of (log ++ entry.now ∷ [])) self.new }
+        ensures kept { (incs : List AnyIncremental) → AreRawSets incs self.old → AreRawSets incs self.new }
     {
         if may_move(entry) {
             self.clear();

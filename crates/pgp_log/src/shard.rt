@@ -1,6 +1,6 @@
 //! One shard: what it has read of the log, and what it answers by that.
 
-ghost use Rattle.std.specs.Prelude.{◌≡◌, ◌≢◌, ◌<◌, [], ◌∷◌, List, ◌++◌, min, length, map, is_some, option_copied, option_map, false, true, None, Some, Err, IsOk, IfOk, IfSome, OnOk, OnErr};
+ghost use Rattle.std.specs.Prelude.{◌≡◌, ◌≢◌, ℕ, ◌+◌, ◌<◌, ◌≤◌, [], ◌∷◌, List, ◌++◌, drop, min, take, length, map, is_some, option_copied, option_map, false, true, None, Some, Err, IsOk, IfOk, IfSome, OnOk, OnErr};
 ghost use Rattle.std.specs.Arc.{arc_value};
 ghost use Rattle.pgp_ids.specs.declared.ask_refusal.AskRefusal.TheVariants.{UnknownGroup, Memory};
 ghost use Rattle.pgp_ids.specs.declared.entry.Entry.{Entry as AnyEntry};
@@ -10,8 +10,9 @@ ghost use Rattle.pgp_group.specs.Touched.{told_at};
 ghost use Rattle.pgp_group.specs.View.{scratch};
 ghost use Rattle.pgp_log.specs.Fits.{is_closed, fits};
 ghost use Rattle.pgp_log.specs.Groups.{AreOwnGroupsOf, CanReadOn, IsKeptBeside, marks_of, shard_with};
-ghost use Rattle.pgp_log.specs.Log.{HasInc, epoch_of, is_legal};
-ghost use Rattle.pgp_log.specs.Shard.{opening_shard, having_read, having_read_all, HasReadSame, HasReadSome, shard_of, is_own, is_marked, AreMarked, MarksOnlyTouched, IsUnmarked, AreUnmarked};
+ghost use Rattle.pgp_log.specs.Log.{HasInc, IsFrontOf, epoch_of, is_legal};
+ghost use Rattle.pgp_log.specs.Running.{IsReading};
+ghost use Rattle.pgp_log.specs.Shard.{opening_shard, having_read, having_read_all, having_read_front, HasReadFewer, HasReadSame, HasReadSome, shard_of, is_own, is_marked, AreMarked, MarksOnlyTouched, IsUnmarked, AreUnmarked};
 
 use super::copies::copy_at;
 use super::entry::is_close;
@@ -123,6 +124,20 @@ impl ShardState {
         Ok(())
     }
 
+    /// Reads the next entries of a log of which it has read a front, at most this many. Without memory for one of them, the
+    /// shard has read those before it.
+    pub fn absorb_next(&mut self, log: &[Arc<Entry>], count: usize) -> Result<(), AllocError>
+        requires legal { is_legal (map arc_value log.now) ≡ true }
+        requires front { IsFrontOf self.old.front (map arc_value log.now) }
+        ensures ok { OnOk result (HasReadSame (having_read_front (length self.old.front + count) (map arc_value log.now) self.old) self.new) }
+        ensures there { OnOk result (is_some self.new.marks ≡ is_some self.old.marks) }
+        ensures err { OnErr result (HasReadFewer count (map arc_value log.now) self.old self.new) }
+        ensures reading { (shards n : ℕ) → IsReading (map arc_value log.now) shards n self.old → IsReading (map arc_value log.now) shards n self.new }
+    {
+        let next = unread_entries(log, self.count(), count);
+        self.absorb_all(next)
+    }
+
     /// Works out what the shard has read says of one of its groups, where it is marked, and takes the mark away. `UnknownGroup`:
     /// what was read makes no such group. `Memory`: there was none, which is so only where an incremental was read, and, where the
     /// marks are there, only where the group is marked. What the shard has read stays.
@@ -222,6 +237,19 @@ impl ShardState {
         let left = groups.renew(max, count);
         self.groups = Some(groups);
         left
+    }
+}
+
+/// The entries after those that were read, at most `count` of them.
+fn unread_entries(entries: &[Arc<Entry>], read: usize, count: usize) -> &[Arc<Entry>]
+    requires { read ≤ length entries.now }
+    ensures { result.now ≡ take count (drop read entries.now) }
+{
+    let rest = &entries[read..];
+    if count < rest.len() {
+        &rest[..count]
+    } else {
+        rest
     }
 }
 

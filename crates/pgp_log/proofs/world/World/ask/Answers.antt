@@ -1,9 +1,9 @@
-use Rattle.pgp_log.proofs.Common.{◌≡◌, length, map, ap, ◌∙◌, arith, arc_value, shard_of}
+use Rattle.pgp_log.proofs.Common.{◌≡◌, length, ap, ◌∙◌, arith, shard_of}
 use Rattle.pgp_log.proofs.RunningLemmas.{IsShardAt, asked-reply, own-at, still-asked}
 use Rattle.pgp_log.proofs.world.World.ask.Goals as goal
 use Rattle.pgp_log.proofs.world.World.ask.Goals.{After-index_mut-state}
 
-here : (c : After-index_mut-state) → IsShardAt (map arc_value c.self.inside.entries.items) c.self.inside.judge c.self.inside.shards.items c.shard_of-shard.result c.index_mut-state.result.now
+here : (c : After-index_mut-state) → IsShardAt c.self.inside.log c.self.inside.shards.items c.shard_of-shard.result c.index_mut-state.result.now
 here c = record { running = c.self.invariant; there = omega (arith, c.shard_of-shard.ensures.within, c.len.ensures); here = c.index_mut-state.ensures.value }
 
 number : (c : After-index_mut-state) → c.shard_of-shard.result ≡ shard_of (length c.self.inside.shards.items) c.args.pg
@@ -21,5 +21,5 @@ pub returns-clause-reply : goal.returns-clause-reply
 returns-clause-reply c =
     let known = (goal.at.returns-clause-reply c).After-index_mut-state in
     rw (← c.self.view_is)
-    (asked-reply (map arc_value c.self.inside.entries.items) _ c.self.inside.shards.items c.args.pg c.shard_of-shard.result _ c.ask.new.self c.ask.result (here known) (number known)
+    (asked-reply c.self.inside.log c.self.inside.shards.items c.args.pg c.shard_of-shard.result _ c.ask.new.self c.ask.result (here known) (number known)
     c.ask.ensures.same c.ask.ensures.ok c.ask.ensures.unknown c.ask.ensures.wants)

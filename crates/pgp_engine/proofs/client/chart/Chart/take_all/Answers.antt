@@ -34,7 +34,7 @@ loop-entry-preserved c log is legal =
       judge_is = subst (λ (l : List Entry). IsJudgeOf l c.take.new.self) (ap (λ (e : Entry). before ++ e ∷ []) first ∙ sym next)
           (c.in_ok-take.ensures.ok before here.judge_is (subst (λ (e : Entry). fits before e ≡ None) (sym first) fit));
       sets_are = subst (λ (l : List Entry). AreRawSets (incs_of l) c.follow.new.self) (ap (λ (e : Entry). before ++ e ∷ []) second ∙ sym next)
-          (c.follow.ensures before (subst (λ (e : Entry). fits before e ≡ None) (sym second) fit) here.sets_are);
+          (c.follow.ensures.next before (subst (λ (e : Entry). fits before e ≡ None) (sym second) fit) here.sets_are);
     }
 
 pub returns-in_err-take-clause-within : goal.returns-in_err-take-clause-within
