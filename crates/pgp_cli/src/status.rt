@@ -4,10 +4,11 @@ ghost use Rattle.std.specs.Prelude.{◌≡◌, ◌⊎◌, ◌≤◌, true, map, 
 ghost use Rattle.pgp_cli.specs.Options.{Counts, counts_of, AreWrong, AsksForRun, AsksForWorkers, AsksForCompact, AsksForExplain, AsksForHelp, AsksForSomeExplain};
 ghost use Rattle.pgp_cli.specs.Status.{CompactIsDone, ExplainIsCutShort, ExplainIsDone, Grows, RunIsDone, RunIsStopped, is_alone};
 ghost use Rattle.pgp_cli.specs.declared.explain_options.ExplainOptions.{ExplainOptions as TheOptions};
-ghost use Rattle.pgp_cli.specs.declared.fault.Fault.TheVariants.{NoEngine, Read as ReadFailed, TooLarge, Write as WriteFailed};
+ghost use Rattle.pgp_cli.specs.declared.fault.Fault.TheVariants.{NoEngine, Script, Write as WriteFailed};
 ghost use Rattle.pgp_compact_script.specs.Compaction.{IsCutShort};
 ghost use Rattle.pgp_core.specs.Account.{account};
 ghost use Rattle.pgp_core.specs.Run.{Stopped, script_bounds};
+ghost use Rattle.pgp_core.specs.declared.whole.WholeFault.TheVariants.{Read as ReadFailed, TooLarge};
 ghost use Rattle.pgp_explain.specs.Reading.{IsRefusedInPart};
 
 use super::ending::Ending;
@@ -18,7 +19,7 @@ use super::request::{Request, read_request};
 use super::run_options::RunOptions;
 use super::tell::{fault, help_or_usage, left_out};
 use pgp_compact_script::{CompactFault, compact_script};
-use pgp_core::{ScriptFault, Sink, Source, run_script};
+use pgp_core::{ScriptFault, Sink, Source, WholeFault, run_script};
 use pgp_explain::{ExplainFault, explain};
 use std::alloc::Global;
 use std::io::Write;
@@ -138,7 +139,7 @@ fn answer<R: Source, W: Sink, T: Threads + Wait + Sync>(
 
 /// The fault that stopped a script.
 fn script_fault<R: Source>(why: ScriptFault, reader: &R) -> Fault
-    ensures read { why ≡ ScriptFault.Read → result ≡ (if R.failed reader.now then ReadFailed else TooLarge) }
+    ensures read { why ≡ ScriptFault.Read → result ≡ Script (if R.failed reader.now then ReadFailed else TooLarge) }
     ensures write { why ≡ ScriptFault.Write → result ≡ WriteFailed }
     ensures gone { why ≡ ScriptFault.Gone → result ≡ NoEngine }
 {
@@ -185,14 +186,12 @@ fn explain_script<R: Source, W: Sink, E: Write>(
 /// The fault that ended an explanation.
 fn fault_of(why: ExplainFault, options: &ExplainOptions) -> Fault {
     match why {
-        ExplainFault::Read => Fault::Read,
-        ExplainFault::TooLarge => Fault::TooLarge,
+        ExplainFault::Script(why) => Fault::Script(why),
         ExplainFault::Write => Fault::Write,
         ExplainFault::UnknownGroup => match options.pg {
             Some(pg) => Fault::UnknownGroup(pg),
-            None => Fault::Memory,
+            None => Fault::Script(WholeFault::Memory),
         },
-        ExplainFault::Memory => Fault::Memory,
     }
 }
 
@@ -223,9 +222,7 @@ fn compact<R: Source, W: Sink, E: Write>(
 /// The fault that ended a compaction.
 fn compact_fault(why: CompactFault) -> Fault {
     match why {
-        CompactFault::Read => Fault::Read,
-        CompactFault::TooLarge => Fault::TooLarge,
+        CompactFault::Script(why) => Fault::Script(why),
         CompactFault::Write => Fault::Write,
-        CompactFault::Memory => Fault::Memory,
     }
 }

@@ -6,18 +6,8 @@ use Rattle.pgp_core.specs.Lines.{lines_of}
 use Rattle.pgp_core.specs.Output.{FrontWent}
 use Rattle.pgp_core.specs.Run.{script_bounds}
 use Rattle.pgp_core.specs.Whole.{IsWholeScript}
-use Rattle.pgp_core.specs.declared.whole.WholeFault.{WholeFault}
-use Rattle.pgp_core.specs.declared.whole.WholeFault.TheVariants as whole
 use Rattle.pgp_compact_script.specs.Remaining.{compacted_text, remaining_lines}
 use Rattle.pgp_compact_script.specs.declared.compact.Compaction.{Compaction}
-use Rattle.pgp_compact_script.specs.declared.fault.CompactFault.{CompactFault}
-use Rattle.pgp_compact_script.specs.declared.fault.CompactFault.TheVariants.{Read, TooLarge, Memory}
-
--- why a script that could not be read whole isn't compacted
-abbrev pub fault_of : WholeFault → CompactFault
-fault_of whole.Read = Read
-fault_of whole.TooLarge = TooLarge
-fault_of whole.Memory = Memory
 
 -- how many entries the script has, and how many of them remain
 pub record HasCounts (script : List ℕ) (counts : Compaction) : Type 0 where

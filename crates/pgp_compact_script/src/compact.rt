@@ -12,7 +12,7 @@ use super::entries::read_entries;
 use super::fault::CompactFault;
 use super::text::text_of;
 use pgp_compact::needed;
-use pgp_core::{SCRIPT_BOUNDS, Sink, Source, WriteFault, read_whole, write_out};
+use pgp_core::{SCRIPT_BOUNDS, Sink, Source, WholeFault, WriteFault, read_whole, write_out};
 use std::alloc::{AllocError, Global};
 
 /// What became of the lines of a script.
@@ -39,13 +39,13 @@ pub fn compact_script<R: Source, W: Sink>(
 ) -> Result<Compaction, CompactFault>
     ensures ok { IfOk result (λ counts. IsCompacted counts (R.remaining reader.old) (R.remaining reader.new)
         (W.contents writer.old) (W.contents writer.new)) }
-    ensures read { result ≡ Err CompactFault.Read → R.failed reader.new ≡ true }
-    ensures large { result ≡ Err CompactFault.TooLarge → GivesTooMuch script_bounds (R.remaining reader.old) (R.remaining reader.new) }
+    ensures read { result ≡ Err (CompactFault.Script WholeFault.Read) → R.failed reader.new ≡ true }
+    ensures large { result ≡ Err (CompactFault.Script WholeFault.TooLarge) → GivesTooMuch script_bounds (R.remaining reader.old) (R.remaining reader.new) }
     ensures write { result ≡ Err CompactFault.Write → IsCutShort (R.remaining reader.old) (R.remaining reader.new)
         (W.contents writer.old) (W.contents writer.new) (W.failed writer.new) }
     ensures quiet { OnErr result (result ≢ Err CompactFault.Write → writer.new ≡ writer.old) }
     ensures kept { OnOk result (W.failed writer.new ≡ W.failed writer.old) }
-    ensures kept_reader { result ≢ Err CompactFault.Read → R.failed reader.new ≡ R.failed reader.old }
+    ensures kept_reader { result ≢ Err (CompactFault.Script WholeFault.Read) → R.failed reader.new ≡ R.failed reader.old }
 {
     let script = read_whole(alloc, reader, SCRIPT_BOUNDS)?;
     let (text, counts) = compacted(alloc, script.as_slice())?;

@@ -7,28 +7,34 @@ use thiserror::Error;
 /// Why a script was not compacted.
 #[derive(Clone, Copy, Debug, PartialEq, Eq, Error)]
 pub enum CompactFault {
-    /// A read failed.
-    #[error("read fault")]
-    Read,
-    /// The script has more lines or bytes than it may have.
-    #[error("the script is too large")]
-    TooLarge,
+    /// The script could not be read whole, or there was no memory to compact it.
+    #[error(transparent)]
+    Script(WholeFault),
     /// A write failed, or took no byte.
     #[error("write fault")]
     Write,
-    /// Memory ran out.
-    #[error("out of memory")]
-    Memory,
+}
+
+impl From<WholeFault> for CompactFault {
+    ghost use Rattle.std.specs.Prelude.{◌≡◌};
+    ghost use Rattle.pgp_compact_script.specs.declared.fault.CompactFault.TheVariants.{Script};
+
+    ghost from_gives = { λ why fault. fault ≡ Script why };
+
+    fn from(fault: WholeFault) -> CompactFault {
+        CompactFault::Script(fault)
+    }
 }
 
 impl From<AllocError> for CompactFault {
     ghost use Rattle.std.specs.Prelude.{◌≡◌};
-    ghost use Rattle.pgp_compact_script.specs.declared.fault.CompactFault.TheVariants.{Memory};
+    ghost use Rattle.pgp_core.specs.declared.whole.WholeFault.TheVariants.{Memory};
+    ghost use Rattle.pgp_compact_script.specs.declared.fault.CompactFault.TheVariants.{Script};
 
-    ghost from_gives = { λ _ fault. fault ≡ Memory };
+    ghost from_gives = { λ _ fault. fault ≡ Script Memory };
 
     fn from(_error: AllocError) -> CompactFault {
-        CompactFault::Memory
+        CompactFault::Script(WholeFault::Memory)
     }
 }
 
@@ -40,20 +46,5 @@ impl From<WriteFault> for CompactFault {
 
     fn from(_fault: WriteFault) -> CompactFault {
         CompactFault::Write
-    }
-}
-
-impl From<WholeFault> for CompactFault {
-    ghost use Rattle.std.specs.Prelude.{◌≡◌};
-    ghost use Rattle.pgp_compact_script.specs.Compaction.{fault_of};
-
-    ghost from_gives = { λ why fault. fault ≡ fault_of why };
-
-    fn from(fault: WholeFault) -> CompactFault {
-        match fault {
-            WholeFault::Read => CompactFault::Read,
-            WholeFault::TooLarge => CompactFault::TooLarge,
-            WholeFault::Memory => CompactFault::Memory,
-        }
     }
 }

@@ -8,18 +8,22 @@ ghost use Rattle.pgp_core.specs.Whole.{GivesTooMuch, IsWholeScript};
 use super::input::{Bounds, split_line};
 use super::streams::Source;
 use std::alloc::{AllocError, Global};
+use thiserror::Error;
 
 /// How many bytes a read asks for.
 const CHUNK: usize = 65536;
 
-/// Why a script could not be read whole.
-#[derive(Clone, Copy)]
+/// Why a script could not be read whole, or nothing could be made of it.
+#[derive(Clone, Copy, Debug, PartialEq, Eq, Error)]
 pub enum WholeFault {
     /// A read failed.
+    #[error("read fault")]
     Read,
     /// It is larger than its bounds.
+    #[error("the script is too large")]
     TooLarge,
-    /// There was no memory to keep it.
+    /// Memory ran out.
+    #[error("out of memory")]
     Memory,
 }
 

@@ -9,6 +9,7 @@ use Rattle.pgp_group.specs.GroupLog.{GroupLog, group_in}
 use Rattle.pgp_group.specs.View.{scratch}
 use Rattle.pgp_reasons.specs.Reasons.{AreReasons}
 use Rattle.pgp_core.specs.Output.{FrontWent}
+use Rattle.pgp_core.specs.declared.whole.WholeFault.TheVariants.{Read, TooLarge, Memory}
 use Rattle.pgp_group_words.specs.Json.{json_of}
 use Rattle.pgp_group_words.specs.Text.{Text}
 use Rattle.pgp_group_words.specs.Words.{words_of}
@@ -19,7 +20,7 @@ use Rattle.pgp_explain.specs.Reading.{IsLogOfScript}
 use Rattle.pgp_explain.specs.Summary.{summary_of}
 use Rattle.pgp_explain.specs.SummaryText.{summary_text}
 use Rattle.pgp_explain.specs.declared.explain_fault.ExplainFault.{ExplainFault}
-use Rattle.pgp_explain.specs.declared.explain_fault.ExplainFault.TheVariants.{Read, TooLarge, Write, UnknownGroup, Memory}
+use Rattle.pgp_explain.specs.declared.explain_fault.ExplainFault.TheVariants.{Script, Write, UnknownGroup}
 
 -- what is asked for: a group, or else a summary of all; as JSON, or else in words; and by how much epochs are ahead
 pub record Question : Type 0 where
@@ -90,9 +91,9 @@ AsksForNone (Some pg) from to = HasNoGroup pg from to
 
 -- why there is no text: the map has no such group, or there was no memory
 abbrev pub StopsText : ExplainFault → List Entry → Option PgId → Type 0
-StopsText Read log pg = ⊥
-StopsText TooLarge log pg = ⊥
+StopsText (Script Read) log pg = ⊥
+StopsText (Script TooLarge) log pg = ⊥
+StopsText (Script Memory) log pg = Unit {0}
 StopsText Write log pg = ⊥
 StopsText UnknownGroup log None = ⊥
 StopsText UnknownGroup log (Some pg) = scratch log pg ≡ None
-StopsText Memory log pg = Unit {0}

@@ -8,7 +8,7 @@ use Rattle.pgp_core.specs.Lines.{lines_of}
 use Rattle.pgp_core.specs.Run.{script_bounds}
 use Rattle.pgp_core.specs.Whole.{IsWholeScript}
 use Rattle.pgp_explain.specs.declared.explain_fault.ExplainFault.{ExplainFault}
-use Rattle.pgp_explain.specs.declared.explain_fault.ExplainFault.TheVariants.{Read, TooLarge, Write, UnknownGroup, Memory}
+use Rattle.pgp_explain.specs.declared.explain_fault.ExplainFault.TheVariants.{Script, Write, UnknownGroup}
 
 -- The reader gave a script within its bounds, to its end, and this is the log that its lines make.
 pub record IsLogOfScript (log : List Entry) (from to : Option (List ℕ)) : Type 0 where
@@ -33,8 +33,6 @@ pub record IsRefusedInPart (from to : Option (List ℕ)) : Type 0 where
 
 -- why a script makes no log: a read failed, it is larger than its bounds, or there was no memory
 abbrev pub IsOfReading : ExplainFault → Type 0
-IsOfReading Read = Unit {0}
-IsOfReading TooLarge = Unit {0}
+IsOfReading (Script why) = Unit {0}
 IsOfReading Write = ⊥
 IsOfReading UnknownGroup = ⊥
-IsOfReading Memory = Unit {0}

@@ -1,35 +1,41 @@
-use pgp_core::WriteFault;
+use pgp_core::{WholeFault, WriteFault};
 use std::alloc::AllocError;
 use thiserror::Error;
 
 /// Why a script wasn't explained.
 #[derive(Clone, Copy, Debug, PartialEq, Eq, Error)]
 pub enum ExplainFault {
-    /// A read failed.
-    #[error("read fault")]
-    Read,
-    /// The script is larger than its bounds.
-    #[error("the script has more than 1000000 lines or 4294967296 bytes")]
-    TooLarge,
+    /// The script could not be read whole, or there was no memory to explain it.
+    #[error(transparent)]
+    Script(WholeFault),
     /// A write failed, or took no byte.
     #[error("write fault")]
     Write,
     /// The map has no such group.
     #[error("the map has no such group")]
     UnknownGroup,
-    /// There was no memory.
-    #[error("out of memory")]
-    Memory,
+}
+
+impl From<WholeFault> for ExplainFault {
+    ghost use Rattle.std.specs.Prelude.{◌≡◌};
+    ghost use Rattle.pgp_explain.specs.declared.explain_fault.ExplainFault.TheVariants.{Script};
+
+    ghost from_gives = { λ why fault. fault ≡ Script why };
+
+    fn from(fault: WholeFault) -> ExplainFault {
+        ExplainFault::Script(fault)
+    }
 }
 
 impl From<AllocError> for ExplainFault {
     ghost use Rattle.std.specs.Prelude.{◌≡◌};
-    ghost use Rattle.pgp_explain.specs.declared.explain_fault.ExplainFault.TheVariants.{Memory};
+    ghost use Rattle.pgp_core.specs.declared.whole.WholeFault.TheVariants.{Memory};
+    ghost use Rattle.pgp_explain.specs.declared.explain_fault.ExplainFault.TheVariants.{Script};
 
-    ghost from_gives = { λ _ fault. fault ≡ Memory };
+    ghost from_gives = { λ _ fault. fault ≡ Script Memory };
 
     fn from(_error: AllocError) -> ExplainFault {
-        ExplainFault::Memory
+        ExplainFault::Script(WholeFault::Memory)
     }
 }
 

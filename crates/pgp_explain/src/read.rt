@@ -24,16 +24,12 @@ pub fn read_log<R: Source, E: Write>(
     ensures ok { IfOk result (λ log. IsLogOfScript log (R.remaining reader.old) (R.remaining reader.new)) }
     ensures told { (errors.new ≡ errors.old) ⊎ IsRefusedInPart (R.remaining reader.old) (R.remaining reader.new) }
     ensures err { IfErr result (λ fault. IsOfReading fault) }
-    ensures read { result ≡ Err ExplainFault.Read → R.failed reader.new ≡ true }
-    ensures large { result ≡ Err ExplainFault.TooLarge → GivesTooMuch script_bounds (R.remaining reader.old) (R.remaining reader.new) }
-    ensures kept { result ≢ Err ExplainFault.Read → R.failed reader.new ≡ R.failed reader.old }
+    ensures read { result ≡ Err (ExplainFault.Script WholeFault.Read) → R.failed reader.new ≡ true }
+    ensures large { result ≡ Err (ExplainFault.Script WholeFault.TooLarge) → GivesTooMuch script_bounds (R.remaining reader.old) (R.remaining reader.new) }
+    ensures kept { result ≢ Err (ExplainFault.Script WholeFault.Read) → R.failed reader.new ≡ R.failed reader.old }
 {
-    match read_whole(alloc, reader, SCRIPT_BOUNDS) {
-        Ok(script) => Ok(read_lines(alloc, script.as_slice(), errors)?),
-        Err(WholeFault::Read) => Err(ExplainFault::Read),
-        Err(WholeFault::TooLarge) => Err(ExplainFault::TooLarge),
-        Err(WholeFault::Memory) => Err(ExplainFault::Memory),
-    }
+    let script = read_whole(alloc, reader, SCRIPT_BOUNDS)?;
+    Ok(read_lines(alloc, script.as_slice(), errors)?)
 }
 
 /// The log that the lines of the script make. What is wrong with them goes to `errors`, once all are read.

@@ -14,7 +14,7 @@ use super::groups::explanation_of;
 use super::read::read_log;
 use super::summary::summary_of;
 use super::summary_text::text_of_summary;
-use pgp_core::{Log, Sink, Source, WriteFault, write_out};
+use pgp_core::{Log, Sink, Source, WholeFault, WriteFault, write_out};
 use pgp_group_words::{EpochOffset, Explanation, put_json, put_words};
 use pgp_ids::PgId;
 use std::alloc::{AllocError, Global};
@@ -38,9 +38,9 @@ pub fn explain<R: Source, W: Sink, E: Write>(
         (W.contents writer.old) (W.contents writer.new)) }
     ensures kept { OnOk result (W.failed writer.new ≡ W.failed writer.old) }
     // A read failed, or the script is too large. At every other outcome no read failed.
-    ensures read { result ≡ Err ExplainFault.Read → R.failed reader.new ≡ true }
-    ensures large { result ≡ Err ExplainFault.TooLarge → GivesTooMuch script_bounds (R.remaining reader.old) (R.remaining reader.new) }
-    ensures reads { result ≢ Err ExplainFault.Read → R.failed reader.new ≡ R.failed reader.old }
+    ensures read { result ≡ Err (ExplainFault.Script WholeFault.Read) → R.failed reader.new ≡ true }
+    ensures large { result ≡ Err (ExplainFault.Script WholeFault.TooLarge) → GivesTooMuch script_bounds (R.remaining reader.old) (R.remaining reader.new) }
+    ensures reads { result ≢ Err (ExplainFault.Script WholeFault.Read) → R.failed reader.new ≡ R.failed reader.old }
     // A write failed, and what went out is a front of that text.
     ensures write { result ≡ Err ExplainFault.Write → (W.failed writer.new ≡ true) × IsCutShort (question pg json epoch_offset)
         (R.remaining reader.old) (R.remaining reader.new) (W.contents writer.old) (W.contents writer.new) }

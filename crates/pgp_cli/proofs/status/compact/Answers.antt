@@ -1,14 +1,12 @@
 use Rattle.std.proofs.Common.{◌≡◌, ◌≢◌, ◌⊎◌, Err, inl, inr, refl, ap, ◌∙◌}
 use Rattle.pgp_compact_script.specs.declared.fault.CompactFault.{CompactFault}
-use Rattle.pgp_compact_script.specs.declared.fault.CompactFault.TheVariants.{Read, TooLarge, Write, Memory}
+use Rattle.pgp_compact_script.specs.declared.fault.CompactFault.TheVariants.{Script, Write}
 use Rattle.pgp_cli.proofs.status.compact.Goals as goal
 
 -- a fault is a failed write, or another one
 write_or_other : (fault : CompactFault) → (fault ≡ Write) ⊎ (fault ≢ Write)
-write_or_other Read = inr (λ is. cc)
-write_or_other TooLarge = inr (λ is. cc)
+write_or_other (Script why) = inr (λ is. cc)
 write_or_other Write = inl refl
-write_or_other Memory = inr (λ is. cc)
 
 pub returns-in-Err-clause-fault : goal.returns-in-Err-clause-fault
 returns-in-Err-clause-fault g c fault = elim (write_or_other c.in-Err.why) [

@@ -1,15 +1,13 @@
 use Rattle.std.proofs.Common.{◌≡◌, ◌≢◌, ◌⊎◌, Err, inl, inr, refl, ap, ◌∙◌}
 use Rattle.pgp_explain.specs.declared.explain_fault.ExplainFault.{ExplainFault}
-use Rattle.pgp_explain.specs.declared.explain_fault.ExplainFault.TheVariants.{Read, TooLarge, Write, UnknownGroup, Memory}
+use Rattle.pgp_explain.specs.declared.explain_fault.ExplainFault.TheVariants.{Script, Write, UnknownGroup}
 use Rattle.pgp_cli.proofs.status.explain_script.Goals as goal
 
 -- a fault is a failed write, or another one
 write_or_other : (fault : ExplainFault) → (fault ≡ Write) ⊎ (fault ≢ Write)
-write_or_other Read = inr (λ is. cc)
-write_or_other TooLarge = inr (λ is. cc)
+write_or_other (Script why) = inr (λ is. cc)
 write_or_other Write = inl refl
 write_or_other UnknownGroup = inr (λ is. cc)
-write_or_other Memory = inr (λ is. cc)
 
 pub returns-in-Err-clause-fault : goal.returns-in-Err-clause-fault
 returns-in-Err-clause-fault g c fault = elim (write_or_other c.in-Err.why) [
