@@ -2,7 +2,6 @@
 -- the devices 0, 1 and 2, and now it lies on 0, 3 and 4.
 use Rattle.std.specs.Prelude.{ℕ, zero, suc, List, [], ◌∷◌, Option, Some, true, false, nat_lt, if◌then◌else◌}
 use Rattle.pgp_ids.specs.Osds.{first_osd}
-use Rattle.pgp_ids.specs.declared.member.Member.{Member}
 use Rattle.pgp_ids.specs.declared.membership.Membership.{Membership}
 use Rattle.pgp_ids.specs.declared.past.Past.{Past}
 pub use Rattle.pgp_ids.specs.Examples.{in_slot}
