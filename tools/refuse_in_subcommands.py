@@ -5,10 +5,10 @@
 
 PROGRAM is the built pgpeer, SUBCOMMAND `explain` or `compact`, SCRIPT a file of lines, and the WORDs are those behind the
 subcommand, as 1.0 or --json. A run with no allocation refused says what is to be written. Then, for N = 1, 2, .., until a run
-meets no Nth, a run in which the Nth is refused has to write just that, with the same on standard error; or to end with status 3
-and `pgpeer: out of memory`, or with status 2 before it reads, and write nothing. An explanation may also tell of a line that
-there was no memory for it, whatever it then says; a compaction may not, since the line's entry would be lost. Exits with 1 where
-a run did something else, or didn't end in a minute. Needs a C compiler, `cc`.
+has no Nth, a run in which the Nth is refused has to write just that, with the same on standard error; or to end with status 3
+and `pgpeer: out of memory`, or with status 2 before it reads, and write nothing. So a line that is out of memory ends both: what
+came after it would lack its entry. An explanation may have named refused lines on standard error by then. Exits with 1 where a
+run did something else, or didn't end in a minute. Needs a C compiler, `cc`.
 """
 
 import argparse
@@ -22,23 +22,16 @@ NO_MEMORY = b"pgpeer: out of memory\n"
 SUBCOMMANDS = ("explain", "compact")
 
 
-def tells_of_a_line(errors):
-    """Tells whether standard error says of a line that there was no memory for it."""
-    return any(line.startswith(b"line ") and b": Memory" in line for line in errors.splitlines())
-
-
 def verdict(subcommand, run, whole):
     """Names what a run did, or gives None where it did what no run may."""
     if (run.returncode, run.stdout, run.stderr) == (whole.returncode, whole.stdout, whole.stderr):
         return "the same"
-    if subcommand == "explain" and tells_of_a_line(run.stderr) and (run.returncode == 0 or not run.stdout):
-        return "a line met no memory, and is told"
     if run.stdout:
         return None
     if run.returncode == 2:
         return "status 2, nothing read"
-    is_told = run.stderr.endswith(NO_MEMORY) if subcommand == "explain" else run.stderr == NO_MEMORY
-    return "out of memory" if run.returncode == 3 and is_told else None
+    ends_so = run.stderr.endswith(NO_MEMORY) if subcommand == "explain" else run.stderr == NO_MEMORY
+    return "out of memory" if run.returncode == 3 and ends_so else None
 
 
 def runs(command, text):

@@ -12,6 +12,7 @@ import refuse_in_subcommands  # noqa: E402
 
 NO_MEMORY = refuse_in_subcommands.NO_MEMORY
 A_LINE = b"line 3: Memory (51): there was no memory to take it\n"
+REFUSED = b"line 3: NoOp: it has no op, or one that is not known\n"
 SAID = b"pgpeer: left out 1 of 3 entries\n"
 
 
@@ -38,11 +39,14 @@ class Verdicts(unittest.TestCase):
             ):
                 self.assertEqual(verdict(subcommand, *end), wanted, (subcommand, *end))
 
-    def test_a_line_that_met_no_memory_ends_a_compaction(self):
-        for end in ((0, b"other\n", A_LINE), (3, b"", A_LINE + NO_MEMORY)):
-            self.assertEqual(verdict("explain", *end), "a line met no memory, and is told")
-            self.assertIsNone(verdict("compact", *end))
-        self.assertIsNone(verdict("explain", 3, b"other\n", A_LINE))
+    def test_a_line_that_is_out_of_memory_ends_both(self):
+        for subcommand in refuse_in_subcommands.SUBCOMMANDS:
+            for end in ((0, b"other\n", A_LINE), (3, b"", A_LINE), (3, b"other\n", A_LINE)):
+                self.assertIsNone(verdict(subcommand, *end), (subcommand, *end))
+
+    def test_an_explanation_may_have_named_refused_lines(self):
+        self.assertEqual(verdict("explain", 3, b"", REFUSED + NO_MEMORY), "out of memory")
+        self.assertIsNone(verdict("compact", 3, b"", REFUSED + NO_MEMORY))
 
 
 if __name__ == "__main__":

@@ -21,7 +21,7 @@ SAYS = {
     "tools/check_statuses.py": "14 runs, 0 wrong",
     "tools/compare_workers.py": "8 scripts, 3 runs of each with workers, 0 wrong",
     "tools/refuse_allocations.py": "153 allocations, 8 answers",
-    "tools/refuse_in_subcommands.py": "261 allocations\n   170 a line met no memory, and is told",
+    "tools/refuse_in_subcommands.py": "261 allocations\n   170 out of memory",
     "tools/check_c_library.py": "names right\nRust skipped, since cargo isn't there\n9 checks, 0 wrong",
     "fuzz/fuzz.py": "1,060 scripts, 55,530 lines, 9 bytes, 0 wrong answers, 0 other statuses, 0 hangs.",
     "fuzz/explain.py": "60 logs, 125 ends\n1,352 groups, 800 subsets, 0 wrong",
