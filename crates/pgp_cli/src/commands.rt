@@ -30,14 +30,14 @@ They are the same, byte for byte, whatever the numbers of shards and workers are
 
 Exit status:
   0  the script was answered to its end
-  2  the command line is wrong, or there was no memory to read it
+  2  the command line is wrong, or it was out of memory
   3  a read or a write failed, the script has more than 1000000 lines or
      4294967296 bytes, or there was no engine to answer it";
 
 /// What `pgpeer explain --help` says after its usage.
 const EXPLAIN_HELP: &str = "\
 The script is read as 'pgpeer run' reads it: each line is judged by the lines
-before it. Lines that are refused are told on standard error, with their numbers;
+before it. Standard error says which lines are refused, by their numbers, and why;
 ask, locate and trace lines are read and not answered. At the end of the script
 comes the explanation: of one group its verdict, what it waits for, and what would
 bring it back; without a group, how many groups have each verdict, and which
@@ -49,9 +49,9 @@ Example:
 
 Exit status:
   0  the script was read to its end, and the explanation was written
-  2  the command line is wrong, or there was no memory to read it
+  2  the command line is wrong, or it was out of memory
   3  a read or a write failed, the script has more than 1000000 lines or
-     4294967296 bytes, the map has no such group, or memory ran out";
+     4294967296 bytes, the map has no such group, or it was out of memory";
 
 /// What `pgpeer compact --help` says after its usage.
 const COMPACT_HELP: &str = "\
@@ -59,18 +59,17 @@ The script is read as 'pgpeer run' reads it: each line is judged by the lines
 before it. The lines whose entries an answer can still need, now or after
 whatever lines follow, are written as they are: all incrementals, and the reports
 that nothing later makes needless. Questions, blank lines and refused lines are
-left out. How many entries were left out is told on standard error. A run of what
-is written, and of any lines behind it, gives the same answers except
-for count.
+left out. Standard error says how many entries were left out. A run of what is
+written, and of any lines behind it, gives the same answers except for count.
 
 Example:
   pgpeer compact < script.jsonl > shorter.jsonl
 
 Exit status:
   0  the script was read to its end, and what remains of it was written
-  2  the command line is wrong, or there was no memory to read it
+  2  the command line is wrong, or it was out of memory
   3  a read or a write failed, the script has more than 1000000 lines or
-     4294967296 bytes, or memory ran out";
+     4294967296 bytes, or it was out of memory";
 
 const SHARDS_HELP: &str = "How many shards share the groups, 1 to 64 [default: 1]";
 
@@ -83,7 +82,7 @@ const GROUP_HELP: &str =
 const JSON_HELP: &str = "Writes one line of JSON in place of words";
 
 const OFFSET_HELP: &str =
-    "Adds N, 0 to 4294967295, to each epoch that is told, but to 0 [default: 0]";
+    "Adds N, 0 to 4294967295, to each epoch that is written, except to 0 [default: 0]";
 
 /// The program's command line.
 pub fn pgpeer<'a>(alloc: Global) -> Result<Command<'a>, AllocError>

@@ -41,7 +41,7 @@ pub is-long : (buffer : LineBuffer) → buffer.fate ≡ TooLong → buffer.blank
     → (is_blank line ≡ false) × (longest_line < length line)
 is-long buffer fate some line holds = (sym holds.blank ∙ some, subst (λ f. KeptBy f buffer.bytes.items line) fate holds.kept)
 
--- one that found no memory
+-- one that was out of memory
 pub is-short : (buffer : LineBuffer) (few : ℕ) → buffer.fate ≡ NoMemory few → buffer.blank ≡ false → (line : List ℕ) → Holds buffer line
     → (is_blank line ≡ false) × (length line ≤ longest_line)
 is-short buffer few fate some line holds =

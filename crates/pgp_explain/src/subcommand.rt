@@ -23,7 +23,7 @@ use std::io::Write;
 /// Reads a script whole, and says at its end why the group has its verdict and what brings it back; without a group, how many
 /// groups have each verdict and for which devices they wait. What is wrong with lines goes to `errors`.
 ///
-/// With `json` it says so as one JSON object. `epoch_offset` is added to each epoch but 0.
+/// With `json` it says so as one JSON object. `epoch_offset` is added to each epoch except 0.
 pub fn explain<R: Source, W: Sink, E: Write>(
     alloc: Global,
     reader: &mut R,

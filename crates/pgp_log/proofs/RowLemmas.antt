@@ -139,7 +139,7 @@ lightened log inc before after changes row kept says light is holds apart =
     parts.0 sizes (lighter-elsewhere (then_with (incs_of log) inc) kept.pg places (map (weighed (incs_of log)) inc.weight) parts.2
     (any-mapped (weighed (incs_of log)) (λ old. has_osd old.osd places) inc.weight ∙ sym (any-mapped osd_of (λ osd. has_osd osd places) inc.weight) ∙ none))
 
--- the devices of the row were held against those that concern a marked group, if it is marked, or against all
+-- the devices of the row were compared with those that concern a marked group, if it is marked, or against all
 module _ (marked : Bool) (inc : Incremental) (changes : Changes) (before : MapBefore) (after : OsdMap) (row : Row) (kept : KeptGroup) (log : List Entry) (only : marked ≡ true → row.marked ≡ true)
     (apart : (osd : ℕ) → Covers row.devices osd → Covers (devices_for marked changes) osd → ⊥) (says : IsChangesOf inc before after changes) (is : IsRowOf row kept) (holds : IsKeptOf log kept) where
   none-turned : list_any (may_lie_on (incs_of log) kept.pg) (turned_devices inc) ≡ false

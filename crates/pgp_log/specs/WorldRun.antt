@@ -27,7 +27,7 @@ pub record HasReadPart (w : World) (shard count : ℕ) (next : World) : Type 0 w
   pub fewer : read < length (take count (drop (slice_index w.read shard) w.log))
   pub next_is : next ≡ after_absorb w shard read
 
--- the step found no memory
+-- the step was out of memory
 abbrev pub IsWanting : World → Step → Reply → World → Type 0
 IsWanting w (Submit entry) reply next = (reply ≡ Submitted (Err refusal.Memory)) × ((next ≡ w) × MayLackMemory w.log entry)
 IsWanting w (Absorb shard count) reply next = (reply ≡ Absorbed (Err alloc_error)) × HasReadPart w shard count next

@@ -93,7 +93,7 @@ impl KeptGroup {
     }
 
     /// Takes an incremental, which leads from the map before to the one after. Where the group lies as before, that takes no
-    /// placement and no memory: the group sleeps on, and one that isn't marked is held against the incremental. After an `Err` it
+    /// placement and no memory: the group sleeps on, and one that isn't marked is compared with the incremental. After an `Err` it
     /// is of no further use.
     pub(crate) fn absorb_inc(
         &mut self,

@@ -13,7 +13,7 @@ use super::touch::{changes_no_pool, changes_placement, changes_placements};
 use pgp_ids::{Incremental, PgId};
 use pgp_map::OsdMap;
 
-/// What of a group an incremental is held against first. Rows lie side by side in memory, so that a shard passes by the groups
+/// What of a group an incremental is compared with first. Rows lie side by side in memory, so that a shard passes by the groups
 /// that an incremental doesn't touch without a look at what it keeps of them.
 #[derive(Clone, Copy)]
 pub(crate) struct Row {
@@ -36,7 +36,7 @@ impl Row {
     }
 }
 
-/// What an incremental changes, as far as rows are held against it.
+/// What an incremental changes, as far as rows are compared with it.
 #[derive(Drop)]
 pub(crate) struct Changes {
     /// It may change where some group lies, whatever becomes of devices.

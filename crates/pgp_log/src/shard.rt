@@ -29,7 +29,7 @@ pub struct ShardState {
     owner: Owner,
     front: Vec<Arc<Entry>>,
     /// What follows from the front, for the owner's groups. It isn't there until the first question or the first `renew` makes it,
-    /// and again from an entry for which it found no memory until the next of these.
+    /// and again from an entry for which it was out of memory until the next of these.
     groups: Option<Groups>,
 }
 

@@ -14,7 +14,7 @@ const TWO: Size = Size {
     workers: 2,
 };
 
-/// The answers to a line that found no memory: to one that wasn't read as an entry, and to an entry.
+/// The answers to a line that was out of memory: to one that wasn't read as an entry, and to an entry.
 const LINE_WITHOUT: &[u8] = b"{\"code\":41,\"refused\":\"Memory\"}";
 
 const ENTRY_WITHOUT: &[u8] = b"{\"code\":51,\"refused\":\"Memory\"}";

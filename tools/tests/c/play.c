@@ -81,7 +81,7 @@ static int asks(const uint8_t *line, size_t length) {
     return 0;
 }
 
-// Looks at what a line left that met no memory: in the room, where it fits, and as the answer of the session.
+// Looks at what a line left that was out of memory: in the room, where it fits, and as the answer of the session.
 static void look_at_lack(pgp_session *session, const uint8_t *line, size_t length, const uint8_t *room, size_t room_length,
                          size_t wanted) {
     uint8_t again[64];
