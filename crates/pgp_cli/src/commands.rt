@@ -30,7 +30,7 @@ They are the same, byte for byte, whatever the numbers of shards and workers are
 
 Exit status:
   0  the script was answered to its end
-  2  the command line is wrong, or it was out of memory
+  2  the command line is wrong, or memory ran out while it was read
   3  a read or a write failed, the script has more than 1000000 lines or
      4294967296 bytes, or there was no engine to answer it";
 
@@ -49,9 +49,9 @@ Example:
 
 Exit status:
   0  the script was read to its end, and the explanation was written
-  2  the command line is wrong, or it was out of memory
+  2  the command line is wrong, or memory ran out while it was read
   3  a read or a write failed, the script has more than 1000000 lines or
-     4294967296 bytes, the map has no such group, or it was out of memory";
+     4294967296 bytes, the map has no such group, or memory ran out";
 
 /// What `pgpeer compact --help` says after its usage.
 const COMPACT_HELP: &str = "\
@@ -67,9 +67,9 @@ Example:
 
 Exit status:
   0  the script was read to its end, and what remains of it was written
-  2  the command line is wrong, or it was out of memory
+  2  the command line is wrong, or memory ran out while it was read
   3  a read or a write failed, the script has more than 1000000 lines or
-     4294967296 bytes, or it was out of memory";
+     4294967296 bytes, or memory ran out";
 
 const SHARDS_HELP: &str = "How many shards share the groups, 1 to 64 [default: 1]";
 
