@@ -10,7 +10,7 @@ ghost use Rattle.pgp_group_words.specs.declared.offset.EpochOffset.{EpochOffset 
 
 use super::offset::EpochOffset;
 use json::Writer;
-use pgp_ids::{Epoch, Info, Member, OsdId, Osds, PgId, Seq, Version};
+use pgp_ids::{Epoch, Info, Member, OsdId, Osds, PgId, Place, Seq, Version};
 use pgp_reasons::{Blocking, Gap, Ways};
 use std::alloc::AllocError;
 
@@ -62,6 +62,15 @@ impl Json for OsdId {
 
     fn write(&self, out: &mut Writer, _offset: EpochOffset) -> Result<(), AllocError> {
         out.u64(u64::from(self.number()))
+    }
+}
+
+/// Null where it is empty.
+impl Json for Place {
+    ghost value = { λ _ place. place_data place };
+
+    fn write(&self, out: &mut Writer, offset: EpochOffset) -> Result<(), AllocError> {
+        self.osd().write(out, offset)
     }
 }
 
