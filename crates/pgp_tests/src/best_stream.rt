@@ -163,22 +163,14 @@ fn step(
     Ok(())
 }
 
-/// Whether these are the same info, or both none.
-fn is_same(a: Option<&Info>, b: Option<&Info>) -> bool {
-    match (a, b) {
-        (Some(a), Some(b)) => *a == *b,
-        (None, None) => true,
-        (_, _) => false,
-    }
-}
-
 /// Whether both have the same best info, and tell the same of each member.
 fn say_the_same(heard: &Best<Preference>, came: &Came) -> bool {
-    let mut same = is_same(heard.best(), came.best());
+    let mut same = heard.best().copied() == came.best().copied();
     for osd in 0..DEVICES {
         for slot in 0..2 {
             let member = member(osd, slot);
-            same = is_same(heard.info_of(&member), came.info_of(&member)) && same;
+            let (kept, told) = (heard.info_of(&member), came.info_of(&member));
+            same = kept.copied() == told.copied() && same;
         }
     }
     same

@@ -61,14 +61,14 @@ static SCRIPTS: [Script; 7] = [
         ],
     ),
     Script(
-        "takes the last entry of each number",
+        "takes the last entry of each number, and lists objects whatever their names",
         &[
             COPIES,
             WRITTEN,
             EMPTY_1,
             EMPTY_2,
-            r#"{"op":"entries","pg":[1,0],"from":[0,0],"stamp":1,"log":[[1,3,"modify","c"],[1,1,"modify","a"],[1,2,"modify","x"],[1,2,"modify","b"]]}"#,
-            r#"{"acting":[0,1,2],"acting_primary":0,"best":[0,0],"blocked_by":[],"count":5,"epoch":1,"first":1,"intervals":[],"les":0,"missing":[{"member":[1,0],"objects":{"a":[1,1],"b":[1,2],"c":[1,3]},"state":"missing"},{"member":[2,0],"objects":{"a":[1,1],"b":[1,2],"c":[1,3]},"state":"missing"}],"ok":"ask","pg":[1,0],"probe":[[0,0],[1,0],[2,0]],"up":[0],"up_primary":0,"verdict":"NeedUpThru"}"#,
+            r#"{"op":"entries","pg":[1,0],"from":[0,0],"stamp":1,"log":[[1,3,"modify","c\""],[1,1,"modify","a"],[1,2,"modify","x"],[1,2,"modify","b"]]}"#,
+            r#"{"acting":[0,1,2],"acting_primary":0,"best":[0,0],"blocked_by":[],"count":5,"epoch":1,"first":1,"intervals":[],"les":0,"missing":[{"member":[1,0],"objects":{"a":[1,1],"b":[1,2],"c\"":[1,3]},"state":"missing"},{"member":[2,0],"objects":{"a":[1,1],"b":[1,2],"c\"":[1,3]},"state":"missing"}],"ok":"ask","pg":[1,0],"probe":[[0,0],[1,0],[2,0]],"up":[0],"up_primary":0,"verdict":"NeedUpThru"}"#,
         ],
     ),
     Script(

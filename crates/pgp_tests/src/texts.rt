@@ -1,11 +1,8 @@
 //! Lines and answers that no script shows: what a line is read as, whatever its bytes, and what is answered to what can't be
 //! asked or doesn't come to pass where there is memory.
 
-use pgp_fixtures::{NO_OSD, group, member, osd, places, text_of, version};
-use pgp_ids::{
-    AskRefusal, Epoch, MissingObject, ObjectName, Osds, PeerMissing, PeerState, Refusal, Seq,
-    Verdict, View,
-};
+use pgp_fixtures::text_of;
+use pgp_ids::{AskRefusal, Refusal};
 use pgp_text::{LineReader, LineRefusal, Reply, read_line};
 use std::alloc::{AllocError, Global};
 use std::process::Abort;
@@ -155,54 +152,5 @@ fn refusals_that_no_script_shows_have_their_text(rt: HostRuntime) -> Result<(), 
     assert!(rt; is_refused(rt.alloc(), LineRefusal::Entry(Refusal::Memory), no_entry)?);
     let no_view = r#"{"code":41,"refused":"Memory"}"#;
     assert!(rt; is_refused(rt.alloc(), LineRefusal::Ask(AskRefusal::Memory), no_view)?);
-    Ok(())
-}
-
-/// A list of one item.
-fn one<T: Drop>(alloc: Global, item: T) -> Result<Seq<T>, AllocError> {
-    let mut items = Seq::new(alloc);
-    items.push(item)?;
-    Ok(items)
-}
-
-/// Device 2 in slot 3 lacks one object.
-fn peer(alloc: Global) -> Result<PeerMissing, Fail> {
-    let object = ObjectName::new(alloc, "a\"")?.ok_or("a name")?;
-    let version = version(1, 2);
-    Ok(PeerMissing {
-        member: member(2, 3),
-        state: PeerState::Missing(one(alloc, MissingObject { object, version })?),
-    })
-}
-
-/// A view of a group that device 5 serves alone, and in which one device has to be heard and waited for.
-fn waiting(alloc: Global) -> Result<View, Fail> {
-    let probe = one(alloc, member(2, 3))?;
-    let blocked_by = one(alloc, osd(2))?;
-    let missing = one(alloc, peer(alloc)?)?;
-    Ok(View {
-        count: 5,
-        epoch: Epoch::new(9),
-        up: Osds::new(),
-        up_primary: None,
-        acting: places(&[NO_OSD, 5]),
-        acting_primary: Some(osd(5)),
-        first: Epoch::new(8),
-        intervals: Seq::new(alloc),
-        les: Epoch::new(7),
-        probe,
-        blocked_by,
-        verdict: Verdict::NeedUpThru,
-        best: Some(member(2, 3)),
-        missing,
-    })
-}
-
-#[test]
-fn a_view_is_written(rt: HostRuntime) -> Result<(), Fail> {
-    let text = text_of(rt.alloc(), Reply::Asked(group(), waiting(rt.alloc())?))?;
-    let expected =
-        r#"{"acting":[null,5],"acting_primary":5,"best":[2,3],"blocked_by":[2],"count":5,"epoch":9,"first":8,"intervals":[],"les":7,"missing":[{"member":[2,3],"objects":{"a\"":[1,2]},"state":"missing"}],"ok":"ask","pg":[1,0],"probe":[[2,3]],"up":[],"up_primary":null,"verdict":"NeedUpThru"}"#;
-    assert!(rt; text.as_slice() == expected.as_bytes());
     Ok(())
 }

@@ -2,9 +2,11 @@
 
 ghost use Rattle.std.specs.Prelude.{◌≤ℤ◌, ◌<ℤ◌, pos, negsuc};
 
+use super::peering::grow;
 use pgp_crush::{Rule, Tree, TreeFault, place};
-use pgp_fixtures::{NO_OSD, incremental, places};
-use pgp_ids::{BucketAlg, BucketSpec, Incremental, Seq};
+use pgp_fixtures::{NO_OSD, places};
+use pgp_ids::{BucketAlg, BucketSpec, Seq};
+use pgp_map::OsdMap;
 use std::alloc::{AllocError, Global};
 use std::test::Fail;
 
@@ -63,18 +65,6 @@ fn a_tree_has_at_most_1024_buckets(rt: HostRuntime) -> Result<(), Fail> {
 const FOUR_LEVELS: &str =
     r#"{"op":"inc","epoch":1,"crush":[{"id":-2,"type":2,"alg":"uniform","items":[0,1,2]},{"id":-3,"type":2,"alg":"list","items":[3,4],"weights":[65536,32768]},{"id":-4,"type":2,"alg":"uniform","items":[5,6]},{"id":-5,"type":3,"alg":"list","items":[-2,-3],"weights":[131072,65536]},{"id":-1,"type":4,"alg":"list","items":[-5,-4],"weights":[196608,98304]}]}"#;
 
-/// The buckets that the incremental gives.
-fn buckets_of(inc: Incremental) -> Option<Seq<BucketSpec>> {
-    inc.crush
-}
-
-/// The tree that the incremental of this line gives.
-fn tree_of(alloc: Global, line: &str) -> Result<Tree, Fail> {
-    let inc = incremental(alloc, line).ok_or("no incremental")?;
-    let buckets = buckets_of(inc).ok_or("no tree")?;
-    Ok(Tree::check(alloc, buckets.into_vec())?)
-}
-
 /// Whether a rule keeps places, the type of its items, an input, and the placement that `crushtool --test` of Ceph 16.2.15
 /// (pacific) makes on this tree, as `tools/compare_with_ceph.py` asks it.
 static PLACEMENTS: [(bool, u8, u32, &[u16]); 16] = [
@@ -107,7 +97,8 @@ fn weights() -> [u32; 4096] {
 
 #[test]
 fn placements_are_those_of_ceph(rt: HostRuntime) -> Result<(), Fail> {
-    let tree = tree_of(rt.alloc(), FOUR_LEVELS)?;
+    let mut map = OsdMap::empty(rt.alloc());
+    grow(rt.alloc(), &mut map, FOUR_LEVELS)?;
     let weights = weights();
     for (indep, leaf, x, devices) in &PLACEMENTS {
         let expected = places(devices);
@@ -116,7 +107,7 @@ fn placements_are_those_of_ceph(rt: HostRuntime) -> Result<(), Fail> {
             leaf: *leaf,
         };
         let count = if *indep && *leaf > 0 { 4 } else { 3 };
-        let found = place(Some(&tree), rule, &weights, *x, count);
+        let found = place(map.tree(), rule, &weights, *x, count);
         assert!(rt; found == expected, "of {x}");
     }
     Ok(())
