@@ -20,44 +20,38 @@ fn both_end<R: Threads + Wait + Sync + Abort + AllocGlobal>(
     ended.fault
 }
 
-fn failing_read(script: &[u8], good_reads: usize) -> Trial<'_> {
-    Trial {
-        script,
-        good_reads,
-        good_writes: ALL,
-    }
-}
-
-fn failing_write(script: &[u8], good_writes: usize) -> Trial<'_> {
-    Trial {
-        script,
-        good_reads: ALL,
-        good_writes,
-    }
-}
-
 #[test]
 fn each_read_may_fail(rt: HostRuntime) -> Result<(), Fail> {
     let script = closed_script(rt.alloc())?;
-    let first = both_end(&rt, &failing_read(script.as_slice(), 0));
-    assert!(&rt; first == Some(ScriptFault::Read));
-    for good_reads in 1..CALLS {
-        both_end(&rt, &failing_read(script.as_slice(), good_reads));
+    for good_reads in 0..=CALLS {
+        let fault = both_end(
+            &rt,
+            &Trial {
+                script: script.as_slice(),
+                good_reads,
+                good_writes: ALL,
+            },
+        );
+        assert!(&rt; good_reads > 0 || fault == Some(ScriptFault::Read));
+        assert!(&rt; good_reads < CALLS || fault.is_none());
     }
-    let none = both_end(&rt, &failing_read(script.as_slice(), CALLS));
-    assert!(&rt; none.is_none());
     Ok(())
 }
 
 #[test]
 fn each_write_may_fail(rt: HostRuntime) -> Result<(), Fail> {
     let script = closed_script(rt.alloc())?;
-    let first = both_end(&rt, &failing_write(script.as_slice(), 0));
-    assert!(&rt; first == Some(ScriptFault::Write));
-    for good_writes in 1..CALLS {
-        both_end(&rt, &failing_write(script.as_slice(), good_writes));
+    for good_writes in 0..=CALLS {
+        let fault = both_end(
+            &rt,
+            &Trial {
+                script: script.as_slice(),
+                good_reads: ALL,
+                good_writes,
+            },
+        );
+        assert!(&rt; good_writes > 0 || fault == Some(ScriptFault::Write));
+        assert!(&rt; good_writes < CALLS || fault.is_none());
     }
-    let none = both_end(&rt, &failing_write(script.as_slice(), CALLS));
-    assert!(&rt; none.is_none());
     Ok(())
 }

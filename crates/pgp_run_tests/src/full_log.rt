@@ -2,15 +2,11 @@
 //!
 //! Under `rt try --test`, which looks at each access, these tests take minutes: it needs `--seconds`.
 
-ghost use Rattle.std.specs.Prelude.{◌≤◌};
-
-use crate::runs::{ALL, MIDDLE, SMALL, Size, Trial, alone, over_engine};
+use crate::runs::{MIDDLE, SMALL};
+use crate::same::is_same;
 use crate::script::LINES;
 use std::alloc::{AllocError, Global};
-use std::process::Abort;
-use std::sync::Wait;
 use std::test::Fail;
-use std::thread::Threads;
 
 /// How many entries a log takes before its Close.
 const MOST_ENTRIES: u32 = 65_535;
@@ -49,30 +45,16 @@ fn full_log(alloc: Global) -> Result<String, AllocError> {
     Ok(script)
 }
 
-// The full log is answered to its end, as on one thread.
-fn is_same<R: Threads + Wait + Sync + Abort + AllocGlobal>(rt: &R, size: &Size) -> Result<(), Fail>
-    requires shards { (1 ≤ size.now.shards) × (size.now.shards ≤ 64) }
-    requires workers { (1 ≤ size.now.workers) × (size.now.workers ≤ 64) }
-{
+#[test]
+fn a_full_log_has_the_same_answers_with_one_worker(rt: HostRuntime) -> Result<(), Fail> {
     let script = full_log(rt.alloc())?;
-    let trial = Trial {
-        script: script.as_bytes(),
-        good_reads: ALL,
-        good_writes: ALL,
-    };
-    let expected = alone(rt.alloc(), &trial);
-    assert!(rt; expected.fault.is_none());
-    assert!(rt; expected.bytes.as_slice().ends_with(LAST_ANSWERS.as_bytes()));
-    assert!(rt; over_engine(rt, rt.alloc(), &trial, size) == expected);
+    is_same(&rt, script.as_bytes(), LAST_ANSWERS, &SMALL);
     Ok(())
 }
 
 #[test]
-fn a_full_log_has_the_same_answers_with_one_worker(rt: HostRuntime) -> Result<(), Fail> {
-    is_same(&rt, &SMALL)
-}
-
-#[test]
 fn a_full_log_has_the_same_answers_with_two_workers(rt: HostRuntime) -> Result<(), Fail> {
-    is_same(&rt, &MIDDLE)
+    let script = full_log(rt.alloc())?;
+    is_same(&rt, script.as_bytes(), LAST_ANSWERS, &MIDDLE);
+    Ok(())
 }

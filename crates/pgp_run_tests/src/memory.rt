@@ -1,6 +1,6 @@
 //! A line that finds no memory is answered so, and has no effect. Under `rt try --test --fail-alloc N` the Nth allocation is
 //! refused; in the gate none is.
-use crate::runs::{ALL, Size, Trial, alone, over_engine};
+use crate::runs::{Size, Trial, alone, over_engine};
 use crate::script::{LINES, script_of};
 use pgp_core::ScriptFault;
 use std::alloc::{AllocError, Global};
@@ -55,11 +55,7 @@ fn others_are_the_same(alloc: Global, answers: &[u8]) -> Result<bool, AllocError
         Ok(kept) => kept,
         Err(_) => with_memory(alloc, answers)?,
     };
-    let trial = Trial {
-        script: kept.script.as_slice(),
-        good_reads: ALL,
-        good_writes: ALL,
-    };
+    let trial = Trial::whole(kept.script.as_slice());
     Ok(alone(alloc, &trial).bytes == kept.answers || alone(alloc, &trial).bytes == kept.answers)
 }
 
@@ -67,11 +63,7 @@ fn one_is_refused<R: Threads + Wait + Sync + Abort + AllocGlobal>(
     rt: &R,
     script: &[u8],
 ) -> Result<(), Fail> {
-    let trial = Trial {
-        script,
-        good_reads: ALL,
-        good_writes: ALL,
-    };
+    let trial = Trial::whole(script);
     let ended = over_engine(rt, rt.alloc(), &trial, &TWO);
     match ended.fault {
         None => {

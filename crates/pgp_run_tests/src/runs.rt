@@ -22,6 +22,17 @@ pub struct Trial<'a> {
     pub good_writes: usize,
 }
 
+impl<'a> Trial<'a> {
+    /// The script, of which no call fails.
+    pub fn whole(script: &'a [u8]) -> Self {
+        Trial {
+            script,
+            good_reads: ALL,
+            good_writes: ALL,
+        }
+    }
+}
+
 /// How large an engine is.
 #[derive(Clone, Copy)]
 pub struct Size {
@@ -46,7 +57,7 @@ pub const LARGE: Size = Size {
 };
 
 /// How a run ended, and what it wrote.
-#[derive(Debug, Drop, PartialEq)]
+#[derive(Drop, PartialEq)]
 pub struct Ended {
     pub fault: Option<ScriptFault>,
     pub bytes: Vec<u8>,

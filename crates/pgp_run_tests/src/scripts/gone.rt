@@ -3,7 +3,7 @@
 use crate::fakes::{Giver, NEVER, Taker};
 use pgp_core::{Answerer, Bounds, NoReply, ScriptFault, answer_script};
 use pgp_ids::LocateRefusal;
-use pgp_text::{Command, Refused, Reply};
+use pgp_text::{Command, LineRefusal, Reply};
 use std::alloc::Global;
 
 /// Says where an object lies in a cluster without a pool, and is gone at any other command.
