@@ -9,7 +9,7 @@ use Rattle.pgp_core.proofs.log.LogAnswerer.put_asked.Goals as goal
 pub returns-clause-ok : goal.returns-clause-ok
 returns-clause-ok c =
     let log = c.self.inside.log in
-    let read : c.absorb_next.new.shard.front ≡ log = c.in_ok-absorb_next.ensures.ok.front_is ∙ rw c.entries.ensures.entries (take_all _ log (omega (arith, c.len-count.ensures))) in
+    let read : c.absorb_next.new.self.front ≡ log = c.in_ok-absorb_next.ensures.ok.front_is ∙ rw c.entries.ensures.entries (take_all _ log (omega (arith, c.len-count.ensures))) in
     rw (← c.self.view_is)
     (record {
       by = log;
