@@ -1,4 +1,4 @@
-use Rattle.pgp_log.proofs.Common.{◌≡◌, length, map, true, ap, ◌∙◌, arith, length-map, is_legal, Shard, World}
+use Rattle.pgp_log.proofs.Common.{length, ap, ◌∙◌, arith, length-map, is_legal, Shard, World}
 use Rattle.pgp_log.proofs.RunningLemmas.{IsShardAt, absorbed-reply, reading-at, still-running}
 use Rattle.pgp_log.proofs.world.World.absorb.Goals as goal
 use Rattle.pgp_log.proofs.world.World.absorb.Goals.{After-index_mut-state}

@@ -1,4 +1,4 @@
-use Rattle.pgp_log.proofs.Common.{◌≡◌, ℕ, List, [], length, map, replicate, ap, ap₂, ◌∙◌, Entry, Shard, World}
+use Rattle.pgp_log.proofs.Common.{◌≡◌, ℕ, List, length, map, replicate, ap, ap₂, ◌∙◌, Entry, Shard, World}
 use Rattle.pgp_log.proofs.RunningLemmas.{openings-read, openings-running}
 use Rattle.pgp_log.proofs.world.World.start.Goals as goal
 
