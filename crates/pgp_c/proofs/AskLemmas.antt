@@ -2,7 +2,6 @@
 use Rattle.std.proofs.Common.{◌≡◌, refl, inl, inr, ℕ, List, Option, Some, None, Ok, Err, length}
 use Rattle.pgp_ids.specs.AskRefusal.{ask_refusal_number}
 use Rattle.pgp_ids.specs.declared.ask_refusal.AskRefusal.TheVariants.{UnknownGroup}
-use Rattle.pgp_ids.specs.declared.member.Member.{Member}
 use Rattle.pgp_ids.specs.declared.view.View.{View}
 use Rattle.pgp_core.specs.Session.{LogAndAnswer, view_in}
 use Rattle.pgp_c.specs.Ask.{Answers, Asks, group, view_or_refusal}
@@ -13,7 +12,7 @@ use Rattle.pgp_c.specs.Objects.{Objects, PutsObjects, objects_of}
 use Rattle.pgp_c.specs.Status.{status_number}
 use Rattle.pgp_c.specs.View.{view_of}
 use Rattle.pgp_c.specs.declared.objects.PgpObject.{PgpObject}
-use Rattle.pgp_c.specs.declared.status.Status.TheVariants.{Done, BadArgument, NotOpen}
+use Rattle.pgp_c.specs.declared.status.Status.TheVariants.{Done}
 use Rattle.pgp_c.specs.declared.view.PgpView.{PgpView}
 
 -- an answer that is a view is what the log says

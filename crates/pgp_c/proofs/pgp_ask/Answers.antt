@@ -1,4 +1,3 @@
-use Rattle.std.proofs.Common.{rules}
 use Rattle.pgp_c.proofs.AskLemmas.{asks_view, asks_none}
 use Rattle.pgp_c.proofs.pgp_ask.Goals as goal
 

@@ -1,5 +1,5 @@
 use Rattle.std.proofs.Common.{rules, inl, inr, map, string_bytes}
-use Rattle.pgp_cli.specs.Options.{Counts, counts_of, AsksForCompact, AsksForRun}
+use Rattle.pgp_cli.specs.Options.{counts_of, AsksForCompact, AsksForRun}
 use Rattle.pgp_cli.proofs.Requests.{are_wrong, help_asked}
 use Rattle.pgp_cli.proofs.status.status_of.Goals as goal
 
