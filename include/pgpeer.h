@@ -14,7 +14,7 @@
  *   that is waited for, or an atomic in sequentially consistent order stands between its calls. Two sessions share nothing.
  * - No call is made from a signal handler, or in the child that a process with threads forked.
  *
- * Everything else a status answers. The library takes memory by malloc, realloc and free.
+ * Anything else that is wrong has a status. The library takes memory by malloc, realloc and free.
  */
 #ifndef PGPEER_H
 #define PGPEER_H
@@ -42,7 +42,7 @@ enum {
     PGP_NO_MEMORY = 2,      /* there was no memory, and the log is as before */
     PGP_NOT_OPEN = 3,       /* the session isn't open, and stays so */
     PGP_ALREADY_OPEN = 4,   /* the session is open already, and stays as it was */
-    PGP_BAD_ARGUMENT = 5,   /* a number or a name is none that there can be, and the session stays as it was */
+    PGP_BAD_ARGUMENT = 5,   /* a number is out of its range or a name is bad, and the session stays as it was */
     PGP_NO_LIST = 6,        /* pgp_missing_objects: there is no such list, and the session stays as it was */
 
     /* pgp_ask and the calls of lists */
@@ -115,7 +115,7 @@ uint32_t pgp_open(pgp_session *session);
 /* Ends a session and frees all that it has: PGP_DONE, or PGP_NOT_OPEN. It may be opened again. */
 uint32_t pgp_close(pgp_session *session);
 
-/* Tells a session a line, given without its line feed, and puts the answer into the front of the room: the same bytes as
+/* Tells a session a line, given without its line feed, and puts the answer at the start of the room: the same bytes as
  * `pgpeer run` writes for the line, with the line feed at their end. A blank line has an answer of no bytes.
  *
  * The answer is put into the room where it fits, and else the room stays as it was. *answer_length is the length of the answer,
@@ -211,7 +211,7 @@ typedef struct pgp_peer {
     uint8_t state;           /* PGP_MISSING, PGP_BACKFILL or PGP_DIVERGED */
 } pgp_peer;
 
-/* Each puts a list of what the session's log says of a group into the front of the room, which has places for `room_length` of
+/* Each puts a list of what the session's log says of a group at the start of the room, which has places for `room_length` of
  * them, and how many they are into *count: PGP_DONE. PGP_ROOM_TOO_SMALL says by *count how many places it wants, and leaves the
  * room as it was. At any other status, which are those of pgp_ask, the room stays as it was too, and *count is 0. The session
  * stays as it was. */
@@ -258,7 +258,7 @@ uint32_t pgp_submit_info(pgp_session *session, const pgp_info *info);
 
 /* Leaves in the session's log only the entries that an answer can still need: PGP_DONE, and *left_out is how many it left out. From
  * then on each answer about a group is the one that the whole log would give, except for its count of entries, and what is told is
- * taken or refused as the whole log would, except that there may be room again. At PGP_NO_MEMORY the log is as before; there and at
+ * taken or refused as by the whole log, except that there may be room again. At PGP_NO_MEMORY the log is as before; there and at
  * PGP_NOT_OPEN *left_out is 0. The answer to the last line is kept. The new log is made beside the old one: until it is there, both
  * take memory. */
 uint32_t pgp_compact_log(pgp_session *session, size_t *left_out);
