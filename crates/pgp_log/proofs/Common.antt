@@ -46,7 +46,7 @@ pub use Rattle.pgp_lists.proofs.Lists.{any-mapped, get-append, get-last, get-set
 pub use Rattle.pgp_lists.proofs.Options.{if_none, map_some, none_is, some-weaker, some_is, some_mapped}
 pub use Rattle.pgp_lists.specs.Repeats.{has_repeat}
 pub use Rattle.pgp_log.specs.Fits.{entry_fault, fits, full_fault, is_close, is_closed}
-pub use Rattle.pgp_log.specs.Groups.{HasOneMore, AreAtPlaces, AreGroupsOf, AreOwnGroupsOf, CanAbsorb, HasOwn, HasStill, IsKeptBeside, IsKeptIfOwn, IsOwnIfKept, IsStepping, KeepsAll, keeps, marks_of, owns, shard_with}
+pub use Rattle.pgp_log.specs.Groups.{HasOneMore, AreAtPlaces, AreGroupsOf, AreOwnGroupsOf, CanAbsorb, HasOwn, HasStill, IsKeptBeside, IsKeptIfOwn, IsOwnIfKept, IsStepping, KeepsAll, KeepsMarks, keeps, marks_of, owns, shard_with}
 pub use Rattle.pgp_log.specs.Judge.{IsJudgeOf}
 pub use Rattle.pgp_log.specs.KeptGroup.{AreAllMarked, AreKeptOf, AreRowsOf, IsChangesOf, IsKeptOf, IsPassedBy, IsPassedByRow, IsRowOf, IsStep, IsViewOf, devices_for, ids_of, is_marked, marks_in, may_place}
 pub use Rattle.pgp_log.specs.Log.{EndsWithClose, EpochsCount, HasInc, IsFrontOf, epoch_of, is_accepted, is_legal, is_taken_at}

@@ -1,5 +1,5 @@
 -- Which groups have to be worked out anew, as the groups change.
-use Rattle.pgp_log.proofs.Common.{◌≡◌, ℕ, zero, suc, ◌+◌, ◌-◌, ◌<◌, ◌≤◌, List, [], ◌∷◌, ◌++◌, Bool, true, false, ◌&&◌, ◌||◌, Option, Some, None, is_some, is_none, Result, Ok, Err, OnOk, length, drop, set, slice_get, refl, sym, ap, ◌∙◌, arith, eq-eqb, length-append, list_any, nat_eq, cases_Bool, false_from_ne_true, or_parts, true≢false, nat_tests, All-head, All-tail, list_any-append, same_Some, and-false, and-true, or-false, Entry, Incremental, View, PgId, or3_parts, none-each, has_repeat, is_same_group, changes_pool, changes_temp, is_touched, moves_all, AreAtPlaces, marks_of, AreAllMarked, ids_of, is_marked, marks_in, is_among, without, Groups, KeptGroup}
+use Rattle.pgp_log.proofs.Common.{◌≡◌, ℕ, zero, suc, ◌+◌, ◌-◌, ◌<◌, ◌≤◌, List, [], ◌∷◌, ◌++◌, Bool, true, false, ◌&&◌, ◌||◌, Option, Some, None, is_some, is_none, Result, Ok, Err, OnOk, length, drop, set, slice_get, refl, sym, ap, ◌∙◌, arith, eq-eqb, length-append, list_any, nat_eq, cases_Bool, false_from_ne_true, or_parts, true≢false, nat_tests, All-head, All-tail, list_any-append, same_Some, and-false, and-true, and_from, and_parts, inl, inr, or-false, or-true, Entry, Incremental, View, PgId, or3_parts, none-each, has_repeat, is_same_group, changes_pool, changes_temp, is_touched, moves_all, AreAtPlaces, marks_of, AreAllMarked, ids_of, is_marked, marks_in, is_among, without, Groups, KeptGroup}
 use Rattle.std.specs.HashMap as hash
 use Rattle.pgp_ids.specs.declared.entry.Entry.TheVariants as entry
 use Rattle.pgp_log.proofs.GroupsLemmas.{missing-group, other-group, place-holds, same-self}
@@ -27,6 +27,36 @@ marks-set xs i old new pg at same keeps =
     alike : (b : Bool) → is_same_group pg old.pg ≡ b → (is_marked new && is_same_group pg old.pg) ≡ (is_marked old && is_same_group pg old.pg)
     alike true is = ap (λ (v : Option View). is_none v && is_same_group pg old.pg) (keeps is)
     alike false is = ap (λ b. is_marked new && b) is ∙ and-false (is_marked new) ∙ sym (ap (λ b. is_marked old && b) is ∙ and-false (is_marked old))
+
+-- what was marked is marked still, where a marked one stays marked
+any-set-still : {X : Type 0} (p : X → Bool) (xs : List X) (i : ℕ) (old new : X) → slice_get xs i ≡ Some old → (p old ≡ true → p new ≡ true) → list_any p xs ≡ true → list_any p (set xs i new) ≡ true
+any-set-still p [] i old new at goes some = some
+any-set-still p (x ∷ xs) zero old new at goes some =
+    let here : x ≡ old = cc in
+    elim (cases_Bool (p x)) [
+      | inl passes ↦ ap (λ b. b || list_any p xs) (goes (ap p (sym here) ∙ passes))
+      | inr fails ↦ ap (λ b. p new || b) (sym (ap (λ b. b || list_any p xs) fails) ∙ some) ∙ or-true (p new)
+    ]
+any-set-still p (x ∷ xs) (suc i) old new at goes some =
+    elim (cases_Bool (p x)) [
+      | inl passes ↦ ap (λ b. b || list_any p (set xs i new)) passes
+      | inr fails ↦ ap (λ b. p x || b) (any-set-still p xs i old new at goes (sym (ap (λ b. b || list_any p xs) fails) ∙ some)) ∙ or-true (p x)
+    ]
+
+pub marks-set-still : (xs : List KeptGroup) (i : ℕ) (old new : KeptGroup) (pg : PgId) → slice_get xs i ≡ Some old → new.pg ≡ old.pg → (is_marked old ≡ true → is_marked new ≡ true)
+    → is_among pg (marks_in xs) ≡ true → is_among pg (marks_in (set xs i new)) ≡ true
+marks-set-still xs i old new pg at same stays was =
+    any-passing is_marked pg_of (is_same_group pg) (set xs i new)
+    ∙ any-set-still (λ k. is_marked k && is_same_group pg k.pg) xs i old new at (λ both.
+    let parts = and_parts (is_marked old) (is_same_group pg old.pg) both in
+    and_from (is_marked new) (is_same_group pg new.pg) (stays parts.0) (ap (is_same_group pg) same ∙ parts.1))
+    (sym (any-passing is_marked pg_of (is_same_group pg) xs) ∙ was)
+
+pub marks-push-still : (xs : List KeptGroup) (kept : KeptGroup) (pg : PgId) → is_among pg (marks_in xs) ≡ true → is_among pg (marks_in (xs ++ kept ∷ [])) ≡ true
+marks-push-still xs kept pg was =
+    any-passing is_marked pg_of (is_same_group pg) (xs ++ kept ∷ [])
+    ∙ list_any-append (λ k. is_marked k && is_same_group pg k.pg) xs (kept ∷ [])
+    ∙ ap (λ b. b || list_any (λ k. is_marked k && is_same_group pg k.pg) (kept ∷ [])) (sym (any-passing is_marked pg_of (is_same_group pg) xs) ∙ was)
 
 -- another group is marked where it was before one comes
 pub marks-push : (xs : List KeptGroup) (kept : KeptGroup) (pg : PgId) → is_same_group pg kept.pg ≡ false → is_among pg (marks_in (xs ++ kept ∷ [])) ≡ is_among pg (marks_in xs)

@@ -111,6 +111,7 @@ has-still owner incs before after pg still has = λ own there. still.groups_are 
 pub still-on : (first before after : Groups) → HasStill first before → HasStill before after → HasStill first after
 still-on first before after one two = record {
   groups_are = λ pg was. two.groups_are pg (one.groups_are pg was);
+  kept = λ pg was. two.kept pg (one.kept pg was);
   marked = λ all. two.marked (one.marked all);
 }
 

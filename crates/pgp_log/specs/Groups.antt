@@ -53,9 +53,14 @@ keeps pg groups = is_among pg (ids_of groups.kept.items)
 abbrev pub KeepsAll : Groups → Groups → Type 0
 KeepsAll before after = (pg : PgId) → keeps pg before ≡ true → keeps pg after ≡ true
 
--- each group that was kept is kept still; and if all were marked, all are
+-- each group that was marked is marked still
+abbrev pub KeepsMarks : Groups → Groups → Type 0
+KeepsMarks before after = (pg : PgId) → is_among pg (marks_of before) ≡ true → is_among pg (marks_of after) ≡ true
+
+-- each group that was kept is kept still; what was marked is marked still; and if all were marked, all are
 pub record HasStill (before after : Groups) : Type 0 where
   pub groups_are : KeepsAll before after
+  pub kept : KeepsMarks before after
   pub marked : AreAllMarked before.kept.items → AreAllMarked after.kept.items
 
 -- the entry marks only groups that it touches: each other is marked after it where it was before
@@ -139,7 +144,8 @@ pub record CanPassOn (groups : Groups) (inc : Incremental) (before : MapBefore) 
   pub rows : AreRowsOf groups.rows groups.kept.items
   pub step : IsStep log inc before groups.map
 
--- Each of the groups has taken the incremental, in each log that takes it next. It marks only groups that it touches.
+-- Each of the groups has taken the incremental, in each log that takes it next. It marks only groups that it touches, and takes
+-- no mark away.
 pub record HavePassedOn (inc : Incremental) (before : MapBefore) (old new : Groups) : Type 0 where
   pub map : new.map ≡ old.map
   pub places : new.places ≡ old.places
@@ -148,6 +154,7 @@ pub record HavePassedOn (inc : Incremental) (before : MapBefore) (old new : Grou
   pub rows : AreRowsOf new.rows new.kept.items
   pub each : (log : List Entry) → AreKeptOf log old.kept.items → IsStep log inc before old.map → AreKeptOf (log ++ entry.Inc inc ∷ []) new.kept.items
   pub marks : (log : List Entry) → AreKeptOf log old.kept.items → IsStep log inc before old.map → MarksTouched log (entry.Inc inc) old new
+  pub kept : KeepsMarks old new
   pub marked : AreAllMarked old.kept.items → AreAllMarked new.kept.items
 
 -- of the groups only the one at this place was to be worked out, where it is marked: it is another now, whose view is there, unless

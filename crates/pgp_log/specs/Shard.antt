@@ -86,9 +86,10 @@ pub record AreMarked (s : Shard) (ids : List PgId) : Type 0 where
   pub once : has_repeat is_same_group ids ≡ false
   pub in_order : IfSome s.marks (λ marks. ids ≡ marks)
 
--- the entry marks only groups that it touches: each other is marked after it just where it was before; and the marks
--- stay there, or stay away
+-- the entry takes no mark away, and marks only groups that it touches: each other is marked after it just where it was
+-- before; and the marks stay there, or stay away
 pub record MarksOnlyTouched (new : Entry) (before after : Shard) : Type 0 where
+  pub kept : (pg : PgId) → is_marked before pg ≡ true → is_marked after pg ≡ true
   pub others : (pg : PgId) → is_touched before.front new pg ≡ false → is_marked after pg ≡ is_marked before pg
   pub there : is_some after.marks ≡ is_some before.marks
 

@@ -14,7 +14,7 @@ ghost use Rattle.pgp_group.specs.Entries.{inc_of, incs_of};
 ghost use Rattle.pgp_group.specs.GroupHistory.{makes};
 ghost use Rattle.pgp_group.specs.Touched.{is_touched};
 ghost use Rattle.pgp_log.specs.Fits.{fits};
-ghost use Rattle.pgp_log.specs.Groups.{AreAtPlaces, AreOwnGroupsOf, IsStepping, CanStepOn, CanAddTo, CanAbsorb, CanAbsorbInc, CanPassOn, HasOneMore, HavePassedOn, IsKeptIfOwn, HasOwn, HasStill, IsRenewedAt, MarksTouched, marks_of, owns};
+ghost use Rattle.pgp_log.specs.Groups.{AreAtPlaces, AreOwnGroupsOf, IsStepping, CanStepOn, CanAddTo, CanAbsorb, CanAbsorbInc, CanPassOn, HasOneMore, HavePassedOn, IsKeptIfOwn, HasOwn, HasStill, IsRenewedAt, KeepsMarks, MarksTouched, marks_of, owns};
 ghost use Rattle.pgp_log.specs.KeptGroup.{AreAllMarked, IsViewOf};
 ghost use Rattle.pgp_log.specs.Log.{HasInc, is_legal};
 ghost use Rattle.pgp_log.specs.Shard.{is_among, without};
@@ -89,6 +89,7 @@ impl Groups {
             → AreOwnGroupsOf owner (log ++ entry.now ∷ []) self.new) }
         ensures marks { OnOk result ((log : List AnyEntry) → AreOwnGroupsOf owner log self.old → fits log entry.now ≡ None
             → MarksTouched log entry.now self.old self.new) }
+        ensures kept { OnOk result (KeepsMarks self.old self.new) }
         ensures marked { OnOk result (AreAllMarked self.old.kept.items → AreAllMarked self.new.kept.items) }
         ensures wants { OnErr result ((log : List AnyEntry) → AreOwnGroupsOf owner log self.old → HasInc (log ++ entry.now ∷ [])) }
     {
@@ -112,6 +113,7 @@ impl Groups {
             → fits log (entry.Inc inc.now) ≡ None → IsStepping owner log inc.now self.new) }
         ensures marks { OnOk result ((owner : AnyOwner) (log : List AnyEntry) → AreOwnGroupsOf owner log self.old
             → fits log (entry.Inc inc.now) ≡ None → MarksTouched log (entry.Inc inc.now) self.old self.new) }
+        ensures kept { OnOk result (KeepsMarks self.old self.new) }
         ensures marked { OnOk result (AreAllMarked self.old.kept.items → AreAllMarked self.new.kept.items) }
     {
         let before = MapBefore::of(self.alloc, &self.map, inc)?;
@@ -229,6 +231,7 @@ impl Groups {
             → AreOwnGroupsOf owner log self.old → AreOwnGroupsOf owner (log ++ entry.now ∷ []) self.new) }
         ensures marks { OnOk result ((other : Id) → is_same_group pg.now other ≡ false
             → is_among other (marks_of self.new) ≡ is_among other (marks_of self.old)) }
+        ensures kept { OnOk result (KeepsMarks self.old self.new) }
         ensures marked { OnOk result (AreAllMarked self.old.kept.items → AreAllMarked self.new.kept.items) }
         ensures wants { OnErr result ((owner : AnyOwner) (log : List AnyEntry) → AreOwnGroupsOf owner log self.old → HasInc log) }
     {

@@ -96,8 +96,8 @@ impl ShardState {
         }
     }
 
-    /// Reads the next entry. Where what follows from the front is there, it stays there, and the entry marks only groups
-    /// that it touches. Without memory for the entry, the shard has read what it had before.
+    /// Reads the next entry. Where what follows from the front is there, it stays there. The entry takes no mark away, and marks
+    /// only groups that it touches. Without memory for the entry, the shard has read what it had before.
     pub fn absorb(&mut self, entry: &Arc<Entry>) -> Result<(), AllocError>
         requires { fits self.old.front (arc_value entry.now) ≡ None }
         ensures ok { OnOk result (HasReadSame (having_read self.old (arc_value entry.now)) self.new) }

@@ -9,7 +9,7 @@ pub returns-in_default-clause-is : goal.returns-in_default-clause-is
 returns-in_default-clause-is c = λ log is fit. record { legal = legal-snoc log c.args.entry.now is.legal fit; groups_are = tt }
 
 pub returns-in_default-clause-marks : goal.returns-in_default-clause-marks
-returns-in_default-clause-marks c = λ log is fit. rw c.in_default.is (marks-away c.args.owner log c.args.entry.now)
+returns-in_default-clause-marks c = λ log is fit. rw c.in_default.is (marks-away c.args.owner log c.args.entry.now fit)
 
 pub returns-clause-is : goal.returns-clause-is
 returns-clause-is c = λ log is fit. record {

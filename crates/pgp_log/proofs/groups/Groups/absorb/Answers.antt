@@ -33,6 +33,7 @@ returns-in_ok-absorb_inc-in-Inc c =
       marks = on_ok_weaker c.add_pools.result
           (λ given log is fit pg untouched. given pg (pool-left log inc pg untouched) ∙ c.in_ok-absorb_inc-in-Inc.ensures.marks owner log is fit pg untouched)
           c.add_pools.ensures.marks;
+      kept = on_ok_weaker c.add_pools.result (λ still pg was. still.kept pg (c.in_ok-absorb_inc-in-Inc.ensures.kept pg was)) c.add_pools.ensures.still;
       marked = on_ok_weaker c.add_pools.result (λ still all. still.marked (c.in_ok-absorb_inc-in-Inc.ensures.marked all)) c.add_pools.ensures.still;
       wants = on_err c.add_pools.result _ (λ log is. inc-after log (entry.Inc inc) inc refl);
     })
@@ -47,6 +48,7 @@ returns-in-Info c =
           (λ given log is fit. given c.args.owner log none fit (λ other differs. ap (λ (e : Entry). is_touched log e other) c.in-Info.is ∙ differs) is) taken.ok;
       marks = on_ok_weaker c.absorb_report.result
           (λ given log is fit other untouched. given other (ap (λ (e : Entry). is_touched log e other) (sym c.in-Info.is) ∙ untouched)) taken.marks;
+      kept = taken.kept;
       marked = taken.marked;
       wants = on_err_weaker c.absorb_report.result (λ given log is. inc-front log (new ∷ []) (given c.args.owner log is)) taken.wants;
     }
@@ -61,6 +63,7 @@ returns-in-Entries c =
           (λ given log is fit. given c.args.owner log none fit (λ other differs. ap (λ (e : Entry). is_touched log e other) c.in-Entries.is ∙ differs) is) taken.ok;
       marks = on_ok_weaker c.absorb_report-in-Entries.result
           (λ given log is fit other untouched. given other (ap (λ (e : Entry). is_touched log e other) (sym c.in-Entries.is) ∙ untouched)) taken.marks;
+      kept = taken.kept;
       marked = taken.marked;
       wants = on_err_weaker c.absorb_report-in-Entries.result (λ given log is. inc-front log (new ∷ []) (given c.args.owner log is)) taken.wants;
     }

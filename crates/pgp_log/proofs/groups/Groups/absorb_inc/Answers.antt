@@ -58,5 +58,8 @@ returns-clause-marks c =
     (step-begins owner log c.args.inc.now c.args.self.now c.in_ok-before.before c.apply.new.self is fit c.in_ok-before.ensures c.in_ok-apply.ensures.ok))
     c.pass_on.ensures
 
+pub returns-clause-kept : goal.returns-clause-kept
+returns-clause-kept c = on_ok_weaker c.pass_on.result (λ given. given.kept) c.pass_on.ensures
+
 pub returns-clause-marked : goal.returns-clause-marked
 returns-clause-marked c = on_ok_weaker c.pass_on.result (λ given. given.marked) c.pass_on.ensures

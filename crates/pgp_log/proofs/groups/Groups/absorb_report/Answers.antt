@@ -3,7 +3,7 @@ use Rattle.std.specs.HashMap as hash
 use Rattle.pgp_log.proofs.FitsLemmas.{nothing_ahead}
 use Rattle.pgp_log.proofs.GroupsLemmas.{groups-anew, groups-on, ids-set, kept-at, kept-within, missing-group, other-group, place-holds, row-within}
 use Rattle.pgp_log.proofs.KeptLemmas.{kept-inc, kept-untold}
-use Rattle.pgp_log.proofs.MarksLemmas.{another, marks-set, ok-anyhow}
+use Rattle.pgp_log.proofs.MarksLemmas.{another, marks-set, marks-set-still, ok-anyhow}
 use Rattle.pgp_log.proofs.OwnGroupsLemmas.{own-told}
 use Rattle.pgp_log.proofs.SharedLemmas.{on_err}
 use Rattle.pgp_log.proofs.groups.Groups.absorb_report.Goals as goal
@@ -36,6 +36,7 @@ returns-in-Some c =
           taken.ok;
       marks = ok-anyhow c.absorb_report-taken.result _
           (λ other differs. marks-set old.kept.items place kept after other at taken.pg (another pg kept.pg other (place-holds old pg place kept c.requires is at) differs));
+      kept = ok-anyhow c.absorb_report-taken.result _ (λ other was. marks-set-still old.kept.items place kept after other at taken.pg (λ _. taken.marked) was);
       marked = ok-anyhow c.absorb_report-taken.result _ (All-set (λ (k : KeptGroup). is_marked k ≡ true) old.kept.items place after taken.marked);
       wants = on_err c.absorb_report-taken.result _ (λ owner log own. kept-inc log kept (own.groups_are.each.each place kept at));
     })

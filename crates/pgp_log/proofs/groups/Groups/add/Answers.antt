@@ -2,7 +2,7 @@ use Rattle.pgp_log.proofs.Common.{◌≡◌, true, false, List, [], ◌∷◌, �
 use Rattle.pgp_ids.specs.declared.entry.Entry.TheVariants as entry
 use Rattle.pgp_log.proofs.GroupsLemmas.{groups-more, keeps-found, keeps-last, keeps-others}
 use Rattle.pgp_log.proofs.KeptLemmas.{step-fine}
-use Rattle.pgp_log.proofs.MarksLemmas.{marks-push, other-pool}
+use Rattle.pgp_log.proofs.MarksLemmas.{marks-push, marks-push-still, other-pool}
 use Rattle.pgp_log.proofs.OwnGroupsLemmas.{absent-before, keeps-still, next-has_group, only-more}
 use Rattle.pgp_log.proofs.groups.Groups.add.Goals as goal
 
@@ -44,6 +44,7 @@ returns c =
       own = on_ok_weaker c.keep.result (λ more log inc is own there. here more) c.keep.ensures;
       still = on_ok_weaker c.keep.result (λ more. record {
         groups_are = keeps-still old new pg (here more) (others more);
+        kept = λ other was. ap (λ (l : List KeptGroup). is_among other (marks_in l)) more.items ∙ marks-push-still old.kept.items kept other was;
         marked = λ all. subst AreAllMarked (sym more.items) (All-push (λ (k : KeptGroup). is_marked k ≡ true) old.kept.items kept all begun.marked);
       }) c.keep.ensures;
       marks = on_ok_weaker c.keep.result (λ more other differs.

@@ -12,7 +12,7 @@ pub loop-number-init : goal.loop-number-init
 loop-number-init c = record {
   is = λ log inc made is. is;
   own = λ log inc made is pg same below. absurd (omega arith);
-  still = record { groups_are = λ pg was. was; marked = λ all. all };
+  still = record { groups_are = λ pg was. was; kept = λ pg was. was; marked = λ all. all };
   marks = λ other differs. refl;
 }
 

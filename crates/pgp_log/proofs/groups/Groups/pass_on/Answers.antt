@@ -1,7 +1,7 @@
 use Rattle.pgp_log.proofs.Common.{◌≡◌, ◌+◌, ◌<◌, List, [], ◌∷◌, ◌++◌, Some, true, length, refl, sym, ap, ◌∙◌, inl, inr, arith, slice_get, cases_lt, All-set, slice_get_read, get-set_other, is_touched, AreAllMarked, IsChangesOf, IsKeptOf, is_marked, Groups, KeptGroup}
 use Rattle.pgp_ids.specs.declared.entry.Entry.TheVariants as entry
 use Rattle.pgp_log.proofs.GroupsLemmas.{ids-set, marked-there}
-use Rattle.pgp_log.proofs.MarksLemmas.{marks-set}
+use Rattle.pgp_log.proofs.MarksLemmas.{marks-set, marks-set-still}
 use Rattle.pgp_log.proofs.RawSetLemmas.{same_group}
 use Rattle.pgp_log.proofs.RowLemmas.{each-set, passed-at, rows-set}
 use Rattle.pgp_log.proofs.groups.Groups.pass_on.Goals as goal
@@ -51,6 +51,7 @@ loop-place-preserved c =
           marks-set groups i item new pg at c.absorb_inc.ensures.pg
           (λ same. done.marks log (are.each i item first) step (ap (is_touched log (entry.Inc inc)) (sym (same_group pg item.pg same)) ∙ untouched))
           ∙ so_far.marks log are step pg untouched;
+      kept = λ pg was. marks-set-still groups i item new pg at c.absorb_inc.ensures.pg done.marked (so_far.kept pg was);
       marked = λ all.
           let marked : AreAllMarked groups = so_far.marked all in
           All-set (λ (k : KeptGroup). is_marked k ≡ true) groups i new
@@ -77,5 +78,6 @@ returns c =
         ];
       };
       marks = λ log are step. so_far.marks log are (rw so_far.map step);
+      kept = so_far.kept;
       marked = so_far.marked;
     }

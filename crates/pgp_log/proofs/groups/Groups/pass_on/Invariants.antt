@@ -1,4 +1,4 @@
-use Rattle.pgp_log.proofs.Common.{◌≡◌, false, ℕ, ◌<◌, ◌≤◌, ◌-◌, List, [], ◌∷◌, ◌++◌, Some, length, slice_get, Entry, PgId, is_touched, marks_of, AreAllMarked, AreKeptOf, AreRowsOf, IsKeptOf, IsStep, ids_of, is_among, KeptGroup}
+use Rattle.pgp_log.proofs.Common.{◌≡◌, false, ℕ, ◌<◌, ◌≤◌, ◌-◌, List, [], ◌∷◌, ◌++◌, Some, length, slice_get, Entry, PgId, is_touched, marks_of, AreAllMarked, KeepsMarks, AreKeptOf, AreRowsOf, IsKeptOf, IsStep, ids_of, is_among, KeptGroup}
 use Rattle.pgp_ids.specs.declared.entry.Entry.TheVariants as entry
 use Rattle.pgp_log.proofs.groups.Groups.pass_on.Given as goal
 
@@ -14,6 +14,7 @@ invariant-loop-place l = record {
   rest : (at : ℕ) → l.from ≤ at → slice_get l.self.kept.items at ≡ slice_get l.initial.self.kept.items at;
   marks : (log : List Entry) → AreKeptOf log l.initial.self.kept.items → IsStep log l.inc l.before l.self.map
       → (pg : PgId) → is_touched log (entry.Inc l.inc) pg ≡ false → is_among pg (marks_of l.self) ≡ is_among pg (marks_of l.initial.self);
+  kept : KeepsMarks l.initial.self l.self;
   marked : AreAllMarked l.initial.self.kept.items → AreAllMarked l.self.kept.items;
 }
 
