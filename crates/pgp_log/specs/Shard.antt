@@ -1,6 +1,6 @@
 -- A shard: the front of the log that it has read, for which groups it answers, and which of these have to be worked out anew
 -- (this project's own choice).
-use Rattle.std.specs.Prelude.{◌≡◌, ℕ, ◌+◌, ◌%◌, ◌<◌, List, [], ◌∷◌, ◌++◌, length, take, drop, Bool, false, ◌&&◌, not, nat_eq, Option, None, Some, IfSome, is_some}
+use Rattle.std.specs.Prelude.{◌≡◌, ℕ, ◌+◌, ◌%◌, ◌<◌, List, [], ◌∷◌, ◌++◌, length, take, drop, Bool, true, false, ◌&&◌, not, nat_eq, Option, None, Some, IfSome, is_some}
 use Rattle.std.specs.List.{filter, list_any}
 use Rattle.std.specs.Option.{option_map_or}
 use Rattle.pgp_ids.specs.declared.entry.Entry.{Entry}
