@@ -1,6 +1,6 @@
 //! A log that gets as long as it may has the same answers over an engine as on one thread.
 //!
-//! Under `rt try --test`, which looks at each access, these tests take minutes: it needs `--seconds`.
+//! Under `rt try --test`, which looks at each access, this takes minutes: it needs `--seconds`.
 
 use crate::runs::{MIDDLE, SMALL};
 use crate::same::is_same;
@@ -46,15 +46,11 @@ fn full_log(alloc: Global) -> Result<String, AllocError> {
 }
 
 #[test]
-fn a_full_log_has_the_same_answers_with_one_worker(rt: HostRuntime) -> Result<(), Fail> {
+fn a_full_log_has_the_same_answers_with_one_worker_and_with_two(
+    rt: HostRuntime,
+) -> Result<(), Fail> {
     let script = full_log(rt.alloc())?;
     is_same(&rt, script.as_bytes(), LAST_ANSWERS, &SMALL);
-    Ok(())
-}
-
-#[test]
-fn a_full_log_has_the_same_answers_with_two_workers(rt: HostRuntime) -> Result<(), Fail> {
-    let script = full_log(rt.alloc())?;
     is_same(&rt, script.as_bytes(), LAST_ANSWERS, &MIDDLE);
     Ok(())
 }

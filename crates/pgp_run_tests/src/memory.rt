@@ -21,14 +21,14 @@ const ENTRY_WITHOUT: &[u8] = b"{\"code\":51,\"refused\":\"Memory\"}";
 
 /// Lines of a script, and their answers.
 #[derive(Drop)]
-struct Answered {
+struct AnsweredLines {
     script: Vec<u8>,
     answers: Vec<u8>,
 }
 
 // The lines that found memory, with their answers.
-fn with_memory(alloc: Global, answers: &[u8]) -> Result<Answered, AllocError> {
-    let mut kept = Answered {
+fn with_memory(alloc: Global, answers: &[u8]) -> Result<AnsweredLines, AllocError> {
+    let mut kept = AnsweredLines {
         script: Vec::new(alloc),
         answers: Vec::new(alloc),
     };
@@ -64,14 +64,14 @@ fn one_is_refused<R: Threads + Wait + Sync + Abort + AllocGlobal>(
     script: &[u8],
 ) -> Result<(), Fail> {
     let trial = Trial::whole(script);
-    let ended = over_engine(rt, rt.alloc(), &trial, &TWO);
-    match ended.fault {
+    let end = over_engine(rt, rt.alloc(), &trial, &TWO);
+    match end.fault {
         None => {
-            assert!(rt; others_are_the_same(rt.alloc(), ended.bytes.as_slice())?);
+            assert!(rt; others_are_the_same(rt.alloc(), end.bytes.as_slice())?);
             Ok(())
         }
         Some(ScriptFault::Gone) => {
-            assert!(rt; ended.bytes.is_empty());
+            assert!(rt; end.bytes.is_empty());
             Ok(())
         }
         // The writer of the tests had no room.

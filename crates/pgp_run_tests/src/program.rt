@@ -78,12 +78,12 @@ pub fn end_so<T: Threads + Wait + Sync + Abort + AllocGlobal>(
 
 /// A stream that passes on some bytes at a time, and fails at one call and each later one.
 #[derive(Drop)]
-struct Failing<S: Drop> {
+struct FailingStream<S: Drop> {
     stream: S,
     calls_left: usize,
 }
 
-impl<S: Drop> Failing<S> {
+impl<S: Drop> FailingStream<S> {
     /// Counts a call, which fails where it is its turn.
     fn call(&mut self) -> io::Result<()> {
         if self.calls_left == 0 {
@@ -94,7 +94,7 @@ impl<S: Drop> Failing<S> {
     }
 }
 
-impl<R: Read + Drop> Read for Failing<R> {
+impl<R: Read + Drop> Read for FailingStream<R> {
     fn read(&mut self, buf: &mut [u8]) -> io::Result<usize> {
         self.call()?;
         let count = buf.len().min(10);
@@ -102,7 +102,7 @@ impl<R: Read + Drop> Read for Failing<R> {
     }
 }
 
-impl<W: Write + Drop> Write for Failing<W> {
+impl<W: Write + Drop> Write for FailingStream<W> {
     fn write(&mut self, buf: &[u8]) -> io::Result<usize> {
         self.call()?;
         self.stream.write(&buf[..buf.len().min(10)])
@@ -188,7 +188,7 @@ fn reads_so<T: Threads + Wait + Sync>(
     words: &[&str],
     calls_left: usize,
 ) -> Result<bool, Fail> {
-    let reader = Failing {
+    let reader = FailingStream {
         stream: LINES,
         calls_left,
     };
@@ -209,7 +209,7 @@ fn writes_so<T: Threads + Wait + Sync>(
     words: &[&str],
     calls_left: usize,
 ) -> Result<Option<bool>, Fail> {
-    let writer = Failing {
+    let writer = FailingStream {
         stream: Vec::new(alloc),
         calls_left,
     };
@@ -221,45 +221,31 @@ fn writes_so<T: Threads + Wait + Sync>(
     Ok(if is_right { Some(status == DONE) } else { None })
 }
 
-/// A run on one thread, one over an engine, an explanation, and help.
-const RUN: &[&str] = &["pgpeer", "run"];
-
-const RUN_OVER_ENGINE: &[&str] = &["pgpeer", "run", "--shards", "3", "--workers", "2"];
+/// A run on one thread, and one over an engine.
+static RUNS: [&[&str]; 2] = [
+    &["pgpeer", "run"],
+    &["pgpeer", "run", "--shards", "3", "--workers", "2"],
+];
 
 const EXPLAIN: &[&str] = &["pgpeer", "explain", "1.A"];
 
 const HELP: &[&str] = &["pgpeer", "--help"];
 
-static READING: [&[&str]; 3] = [RUN, RUN_OVER_ENGINE, EXPLAIN];
-
-static WRITING: [&[&str]; 3] = [RUN, RUN_OVER_ENGINE, HELP];
-
-#[test]
-fn faults_are_named(rt: HostRuntime) -> Result<(), Fail> {
-    for words in &READING {
-        assert!(rt; reads_so(&rt, rt.alloc(), words, 0)?, "{words:?}");
-    }
-    for words in &WRITING {
-        let done = writes_so(&rt, rt.alloc(), words, 0)?;
-        assert!(rt; done == Some(false), "{words:?}");
-    }
-    Ok(())
-}
-
 #[test]
 fn each_failed_read_is_named(rt: HostRuntime) -> Result<(), Fail> {
-    for words in &READING[..2] {
+    for words in &RUNS {
         for calls_left in 0..6 {
             let is_so = reads_so(&rt, rt.alloc(), words, calls_left)?;
             assert!(rt; is_so, "{words:?}, read {calls_left}");
         }
     }
+    assert!(rt; reads_so(&rt, rt.alloc(), EXPLAIN, 0)?, "an explanation");
     Ok(())
 }
 
 #[test]
 fn each_failed_write_is_named(rt: HostRuntime) -> Result<(), Fail> {
-    for words in &WRITING[..2] {
+    for words in &RUNS {
         let mut done = Some(false);
         for calls_left in 0..30 {
             let before = done;
@@ -271,5 +257,7 @@ fn each_failed_write_is_named(rt: HostRuntime) -> Result<(), Fail> {
         }
         assert!(rt; done == Some(true), "{words:?}");
     }
+    let done = writes_so(&rt, rt.alloc(), HELP, 0)?;
+    assert!(rt; done == Some(false), "help");
     Ok(())
 }

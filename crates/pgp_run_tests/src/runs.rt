@@ -9,7 +9,7 @@ use std::sync::Wait;
 use std::thread::Threads;
 
 /// More calls than a run makes.
-pub const ALL: usize = 1_000_000;
+const ALL: usize = 1_000_000;
 
 /// How many bytes a call passes on at most.
 const PIECE: usize = 100;
@@ -58,17 +58,17 @@ pub const LARGE: Size = Size {
 
 /// How a run ended, and what it wrote.
 #[derive(Drop, PartialEq)]
-pub struct Ended {
+pub struct RunEnd {
     pub fault: Option<ScriptFault>,
     pub bytes: Vec<u8>,
 }
 
 /// Answers the script on this thread alone.
-pub fn alone(alloc: Global, trial: &Trial) -> Ended {
+pub fn alone(alloc: Global, trial: &Trial) -> RunEnd {
     let mut reader = Giver::new(trial.script, PIECE, trial.good_reads);
     let mut writer = Taker::new(alloc, PIECE, trial.good_writes);
     let ended = run_script(alloc, &mut reader, &mut writer);
-    Ended {
+    RunEnd {
         fault: ended.err(),
         bytes: writer.taken,
     }
@@ -80,7 +80,7 @@ pub fn over_engine<R: Threads + Wait + Sync>(
     alloc: Global,
     trial: &Trial,
     size: &Size,
-) -> Ended
+) -> RunEnd
     requires shards { (1 ≤ size.now.shards) × (size.now.shards ≤ 64) }
     requires workers { (1 ≤ size.now.workers) × (size.now.workers ≤ 64) }
 {
@@ -94,7 +94,7 @@ pub fn over_engine<R: Threads + Wait + Sync>(
         size.shards,
         size.workers,
     );
-    Ended {
+    RunEnd {
         fault: ended.err(),
         bytes: writer.taken,
     }

@@ -2,7 +2,7 @@
 ghost use Rattle.std.specs.Prelude.{◌≤◌};
 
 use crate::runs::{LARGE, MIDDLE, SMALL, Size, Trial, alone, over_engine};
-use crate::script::{LATER_ANSWER, LATER_LINES, closed_script, open_script, script_of};
+use crate::script::{LATER_ANSWER, LATER_LINES, LINES, closed_script, script_of};
 use std::process::Abort;
 use std::sync::Wait;
 use std::test::Fail;
@@ -31,27 +31,18 @@ fn of_each_size<R: Threads + Wait + Sync + Abort + AllocGlobal>(rt: &R, script: 
     is_same(rt, script, last, &LARGE);
 }
 
+/// No line, the lines of the tests, and those of version 2.
 #[test]
-fn no_lines_have_no_answers(rt: HostRuntime) -> Result<(), Fail> {
+fn scripts_without_a_close_have_the_same_answers(rt: HostRuntime) -> Result<(), Fail> {
     of_each_size(&rt, b"", "");
-    Ok(())
-}
-
-#[test]
-fn an_open_log_is_closed_without_an_answer(rt: HostRuntime) -> Result<(), Fail> {
-    of_each_size(&rt, open_script(rt.alloc())?.as_slice(), "");
+    of_each_size(&rt, script_of(rt.alloc(), &LINES)?.as_slice(), "");
+    let later = script_of(rt.alloc(), &LATER_LINES)?;
+    of_each_size(&rt, later.as_slice(), LATER_ANSWER);
     Ok(())
 }
 
 #[test]
 fn lines_after_a_close_are_answered(rt: HostRuntime) -> Result<(), Fail> {
     of_each_size(&rt, closed_script(rt.alloc())?.as_slice(), "");
-    Ok(())
-}
-
-#[test]
-fn lines_of_version_2_and_clean_epochs_are_answered(rt: HostRuntime) -> Result<(), Fail> {
-    let script = script_of(rt.alloc(), &LATER_LINES)?;
-    of_each_size(&rt, script.as_slice(), LATER_ANSWER);
     Ok(())
 }

@@ -74,12 +74,7 @@ pub fn script_of(alloc: Global, lines: &[&str]) -> Result<Vec<u8>, AllocError> {
     Ok(script)
 }
 
-/// The script without a close.
-pub fn open_script(alloc: Global) -> Result<Vec<u8>, AllocError> {
-    script_of(alloc, &LINES)
-}
-
-/// The script with a close, and lines after it.
+/// These lines with a close, and what comes after it.
 pub fn closed_script(alloc: Global) -> Result<Vec<u8>, AllocError> {
     let mut script = script_of(alloc, &LINES)?;
     let closing = script_of(alloc, &CLOSING)?;

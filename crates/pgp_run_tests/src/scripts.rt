@@ -5,7 +5,7 @@ mod gone;
 mod limits;
 mod streams;
 
-use crate::fakes::{Giver, NEVER, Taker};
+use crate::fakes::{NEVER, Taker};
 use pgp_core::{ScriptFault, Source, run_script_within};
 use std::alloc::Global;
 
@@ -19,14 +19,4 @@ fn run<R: Source + Drop>(
     let mut writer = Taker::new(alloc, usize::MAX, NEVER);
     let ended = run_script_within(alloc, &mut reader, &mut writer, max_lines, max_bytes);
     (ended.err(), writer.taken)
-}
-
-/// What was written of the script, whose run ended without a fault.
-fn answers(alloc: Global, script: &[u8]) -> Option<Vec<u8>> {
-    let reader = Giver::new(script, usize::MAX, NEVER);
-    let (fault, taken) = run(alloc, reader, 1_000_000, 4_294_967_296);
-    match fault {
-        None => Some(taken),
-        Some(_) => None,
-    }
 }

@@ -8,9 +8,9 @@ use std::alloc::Global;
 
 /// Says where an object lies in a cluster without a pool, and is gone at any other command.
 #[derive(Drop)]
-struct Leaving;
+struct Leaver;
 
-impl Answerer for Leaving {
+impl Answerer for Leaver {
     ghost use Rattle.std.specs.Prelude.{[], false};
 
     ghost alone = { false };
@@ -44,7 +44,7 @@ fn given(alloc: Global, script: &[u8], fails_at: usize) -> (Option<ScriptFault>,
     };
     let mut writer = Taker::new(alloc, 10, fails_at);
     let mut reader = Giver::new(script, 1000, NEVER);
-    let ended = answer_script(alloc, &mut Leaving, &mut reader, &mut writer, bounds);
+    let ended = answer_script(alloc, &mut Leaver, &mut reader, &mut writer, bounds);
     (ended.err(), writer.taken)
 }
 

@@ -1,6 +1,6 @@
 //! Scripts and lines as long as they may be, and longer.
 
-use super::{answers, run};
+use super::run;
 use crate::fakes::{Endless, Giver, NEVER};
 use pgp_core::ScriptFault;
 use std::alloc::{AllocError, Global};
@@ -19,16 +19,13 @@ static BOUNDS: [(&[u8], u64, u64, Option<ScriptFault>, &[u8]); 7] = [
     (b"[]", 0, 2, Some(ScriptFault::Read), b""),
 ];
 
+/// A reader that never ends is stopped too.
 #[test]
 fn a_script_is_read_within_its_bounds(rt: HostRuntime) {
     for (row, (script, lines, bytes, fault, expected)) in BOUNDS.iter().enumerate() {
         let (found, out) = run(rt.alloc(), Giver::new(script, 1, NEVER), *lines, *bytes);
         assert!(rt; found == *fault && out.as_slice() == *expected, "row {row}");
     }
-}
-
-#[test]
-fn an_endless_reader_is_stopped(rt: HostRuntime) {
     for byte in [b'x', b'\n'] {
         let (fault, out) = run(rt.alloc(), Endless(byte), 100, 1000);
         assert!(rt; fault == Some(ScriptFault::Read) && out.is_empty());
@@ -61,32 +58,12 @@ static LONG_LINES: [(u8, usize, &[u8]); 3] = [
 fn long_lines_are_passed_over(rt: HostRuntime) -> Result<(), Fail> {
     for (byte, count, expected) in &LONG_LINES {
         let script = long_line(rt.alloc(), *byte, *count)?;
-        let out = answers(rt.alloc(), script.as_slice()).ok_or("a fault")?;
-        assert!(rt; out.as_slice() == *expected, "{count} bytes");
+        let reader = Giver::new(script.as_slice(), usize::MAX, NEVER);
+        let (fault, out) = run(rt.alloc(), reader, 100, 10_000_000);
+        assert!(rt;
+            fault.is_none() && out.as_slice() == *expected,
+            "{count} bytes"
+        );
     }
-    Ok(())
-}
-
-/// One incremental more than the log takes, a close, and an incremental after it.
-fn full_log(alloc: Global) -> Result<String, AllocError> {
-    let mut script = String::new(alloc);
-    for epoch in 1..=65_536u32 {
-        write!(script, "{{\"op\":\"inc\",\"epoch\":{epoch}}}\n")?;
-    }
-    script.push_str("{\"op\":\"close\"}\n{\"op\":\"inc\",\"epoch\":65536}\n")?;
-    Ok(script)
-}
-
-#[test]
-fn a_full_log_takes_a_close_alone(rt: HostRuntime) -> Result<(), Fail> {
-    let script = full_log(rt.alloc())?;
-    let out = answers(rt.alloc(), script.as_bytes()).ok_or("a fault")?;
-    let last = concat!(
-        "{\"count\":65535,\"epoch\":65535,\"ok\":\"inc\"}\n",
-        "{\"code\":50,\"refused\":\"LogFull\"}\n",
-        "{\"count\":65536,\"epoch\":65535,\"ok\":\"close\"}\n",
-        "{\"code\":64,\"refused\":\"Closed\"}\n",
-    );
-    assert!(rt; out.as_slice().ends_with(last.as_bytes()));
     Ok(())
 }
