@@ -12,13 +12,13 @@ const DEVICES: u8 = 4;
 /// A pool in which each member has a place or none has, who leads its group, and the last info of each member that wasn't
 /// forgotten since.
 #[derive(Drop)]
-struct Came {
+struct PlainInfos {
     by_place: bool,
     primary: Option<Member>,
     infos: [Option<Info>; 8],
 }
 
-impl Came {
+impl PlainInfos {
     /// The last info of this member.
     fn info_of(&self, member: &Member) -> Option<&Info> {
         self.infos.get(place_of(member))?.as_ref()
@@ -90,7 +90,7 @@ impl Came {
     }
 }
 
-/// Versions go by their epochs, and in one epoch by their numbers.
+/// Versions are ordered by their epochs, and in one epoch by their numbers.
 fn order_of(version: Version) -> u64 {
     u64::from(version.epoch.number()) << 32 | u64::from(version.v)
 }
@@ -98,12 +98,6 @@ fn order_of(version: Version) -> u64 {
 /// The place of the member's info.
 fn place_of(member: &Member) -> usize {
     (usize::from(member.osd.number()) * 2).saturating_add(usize::from(member.slot))
-}
-
-/// Some member.
-fn anyone(dice: &mut Dice) -> Member {
-    let osd = dice.below(4) as u8;
-    member(osd, dice.below(2) as u8)
 }
 
 /// An info of this member. Many are alike except for the member, and few tell of a start that no copy served in.
@@ -140,23 +134,24 @@ fn heard_of(
 fn step(
     alloc: Global,
     heard: &mut Best<Preference>,
-    came: &mut Came,
+    plain: &mut PlainInfos,
     dice: &mut Dice,
 ) -> Result<(), AllocError> {
-    let member = anyone(dice);
+    let osd = dice.below(4) as u8;
+    let member = member(osd, dice.below(2) as u8);
     match dice.below(8) {
         0 => {
-            came.primary = Some(member);
-            let prefer = Preference::of_pool(came.by_place, came.primary);
+            plain.primary = Some(member);
+            let prefer = Preference::of_pool(plain.by_place, plain.primary);
             *heard = heard_of(alloc, prefer, heard.infos())?;
         }
         1 | 2 => {
-            came.set(&member, None);
+            plain.set(&member, None);
             heard.drop_member(&member);
         }
         _ => {
             let info = &any_info(&member, dice);
-            came.set(&member, Some(*info));
+            plain.set(&member, Some(*info));
             heard.put(*info)?;
         }
     }
@@ -164,12 +159,12 @@ fn step(
 }
 
 /// Whether both have the same best info, and tell the same of each member.
-fn say_the_same(heard: &Best<Preference>, came: &Came) -> bool {
-    let mut same = heard.best().copied() == came.best().copied();
+fn say_the_same(heard: &Best<Preference>, plain: &PlainInfos) -> bool {
+    let mut same = heard.best().copied() == plain.best().copied();
     for osd in 0..DEVICES {
         for slot in 0..2 {
             let member = member(osd, slot);
-            let (kept, told) = (heard.info_of(&member), came.info_of(&member));
+            let (kept, told) = (heard.info_of(&member), plain.info_of(&member));
             same = kept.copied() == told.copied() && same;
         }
     }
@@ -179,8 +174,9 @@ fn say_the_same(heard: &Best<Preference>, came: &Came) -> bool {
 /// Whether both say the same at each step of the stream from this seed, in a pool in which each member has a place or none
 /// has.
 fn run(alloc: Global, by_place: bool, seed: u64) -> Result<bool, AllocError> {
+    // Not by `Best::new`, of which the toolchain has no proof here.
     let mut heard = heard_of(alloc, Preference::of_pool(by_place, None), &[])?;
-    let mut came = Came {
+    let mut plain = PlainInfos {
         by_place,
         primary: None,
         infos: [None; 8],
@@ -188,8 +184,8 @@ fn run(alloc: Global, by_place: bool, seed: u64) -> Result<bool, AllocError> {
     let mut dice = Dice::seeded(seed);
     let mut same = true;
     for _ in 0..300 {
-        step(alloc, &mut heard, &mut came, &mut dice)?;
-        same = say_the_same(&heard, &came) && same;
+        step(alloc, &mut heard, &mut plain, &mut dice)?;
+        same = say_the_same(&heard, &plain) && same;
     }
     Ok(same)
 }

@@ -4,7 +4,7 @@
 ghost use Rattle.std.specs.Prelude.{◌≡◌, length, IfOk};
 
 use super::plain_history::History;
-use super::transcripts::{started, takes, view_of};
+use super::transcripts::{takes, view_of};
 use pgp_fixtures::{Dice, TWO_GROUPS_OF_EACH_KIND, any_line, entry, group, incremental};
 use pgp_ids::{Entry, Incremental, Info, Past, Verdict, View};
 use pgp_log::World;
@@ -157,7 +157,7 @@ fn follow<R: Abort + AllocGlobal>(
 fn begun(alloc: Global, inc: Incremental) -> Result<World, Fail>
     ensures { IfOk result (λ world. length world.read ≡ 1) }
 {
-    let mut world = started(alloc, 1)?;
+    let mut world = World::start(alloc, 1)?;
     world.submit(Entry::Inc(inc))?;
     Ok(world)
 }

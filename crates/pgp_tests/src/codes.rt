@@ -78,21 +78,6 @@ static ENOUGH_OF_PARTS: [&[u8]; 6] = [
     &[0, 1, 2, 3, 4],
 ];
 
-#[test]
-fn each_part_has_to_have_its_least_number(rt: HostRuntime) -> Result<(), Fail> {
-    let kind = kind_of(rt.alloc(), PARTS)?;
-    let code = AnyCode::of_pool(kind);
-    assert!(rt; kind.is_by_place() && code.by_place());
-    for list in &ENOUGH_OF_PARTS {
-        assert!(rt; code.enough(slots(list)), "{list:?}");
-    }
-    assert!(rt; count_enough(&code) == ENOUGH_OF_PARTS.len());
-    Ok(())
-}
-
-/// How many sets of the slots 0 to 4 there are.
-const SETS: u8 = 32;
-
 /// The set whose slots are the ones among the five lowest bits.
 fn set_of(bits: u8) -> SlotSet {
     let mut set = SlotSet::empty();
@@ -104,10 +89,10 @@ fn set_of(bits: u8) -> SlotSet {
     set
 }
 
-/// How many of the sets are enough.
+/// How many of the 32 sets of the slots 0 to 4 are enough.
 fn count_enough(code: &AnyCode) -> usize {
     let mut count = 0usize;
-    for bits in 0..SETS {
+    for bits in 0..32u8 {
         if code.enough(set_of(bits)) {
             count = count.saturating_add(1);
         }
@@ -115,19 +100,7 @@ fn count_enough(code: &AnyCode) -> usize {
     count
 }
 
-/// Whether no set within this one is enough, unless this one is.
-fn holds_enough_if_any_within(code: &AnyCode, bits: u8) -> bool {
-    let set = set_of(bits);
-    for fewer in 0..SETS {
-        let part = set_of(fewer);
-        if part.within(set) && code.enough(part) && !code.enough(set) {
-            return false;
-        }
-    }
-    true
-}
-
-/// The parts of grouped codes, and how many of the sets are enough of each.
+/// The parts of grouped codes, and how many sets of the slots 0 to 4 are enough of each.
 static CODES: [(&str, usize); 4] = [
     (PARTS, 6),
     ("[[[0],1],[[1],1],[[2],1],[[3],1],[[4],1]]", 1),
@@ -136,17 +109,17 @@ static CODES: [(&str, usize); 4] = [
 ];
 
 #[test]
-fn more_slots_are_never_less(rt: HostRuntime) -> Result<(), Fail> {
+fn each_part_has_to_have_its_least_number(rt: HostRuntime) -> Result<(), Fail> {
+    let code = AnyCode::of_pool(kind_of(rt.alloc(), PARTS)?);
+    for list in &ENOUGH_OF_PARTS {
+        assert!(rt; code.enough(slots(list)), "{list:?}");
+    }
     for (parts, count) in &CODES {
-        let code = AnyCode::of_pool(kind_of(rt.alloc(), parts)?);
+        let kind = kind_of(rt.alloc(), parts)?;
+        let code = AnyCode::of_pool(kind);
+        assert!(rt; kind.is_by_place() && code.by_place(), "{parts}");
         let none = code.enough(SlotSet::empty());
         assert!(rt; !none && count_enough(&code) == *count, "{parts}");
-        for bits in 0..SETS {
-            assert!(rt;
-                holds_enough_if_any_within(&code, bits),
-                "{bits} of {parts}"
-            );
-        }
     }
     Ok(())
 }

@@ -8,14 +8,20 @@ use std::sync::atomic::{AtomicU64, Ordering};
 /// How often the code was asked about each of four intervals, and about none of them. Where the acting members of each have
 /// four slots of their own, the first of which is always up, that one tells about which interval a question is.
 #[derive(Drop)]
-pub struct Asked {
+pub struct QuestionCounts {
     counts: [AtomicU64; 5],
 }
 
-impl Asked {
+impl QuestionCounts {
     pub fn new() -> Self {
-        Asked {
-            counts: [0; 5].map(AtomicU64::new),
+        QuestionCounts {
+            counts: [
+                AtomicU64::new(0),
+                AtomicU64::new(0),
+                AtomicU64::new(0),
+                AtomicU64::new(0),
+                AtomicU64::new(0),
+            ],
         }
     }
 
@@ -52,15 +58,15 @@ impl Asked {
 
 /// Answers as this code does, and counts each question for its interval.
 #[derive(Clone, Copy)]
-pub struct Counting<'a> {
+pub struct CountingCode<'a> {
     pub code: Erasure,
-    pub asked: &'a Asked,
+    pub asked: &'a QuestionCounts,
 }
 
 /// An index whose questions are counted.
-pub type Index<'a> = PriorIndex<Counting<'a>>;
+pub type Index<'a> = PriorIndex<CountingCode<'a>>;
 
-impl<'a> Recoverable for Counting<'a> {
+impl<'a> Recoverable for CountingCode<'a> {
     ghost use Rattle.std.specs.Prelude.{true};
     ghost use Rattle.pgp_code.specs.Enough.{enough_shards, enough_shards-mono, enough_shards-nil};
 

@@ -163,13 +163,6 @@ static OUTAGES: [Script; 4] = [
     ),
 ];
 
-#[test]
-fn groups_are_answered_by_their_lines(rt: HostRuntime) -> Result<(), Fail> {
-    go_so(&rt, 1, &SCRIPTS)?;
-    go_so(&rt, 1, &OUTAGES)?;
-    go_so(&rt, 1, &grouped::SCRIPTS)
-}
-
 /// A group that comes to serve.
 static SERVES: [Script; 1] = [Script(
     "serves once its primary is known to be up",
@@ -185,8 +178,12 @@ static SERVES: [Script; 1] = [Script(
     ],
 )];
 
+/// The group that comes to serve does so in worlds of each size.
 #[test]
-fn worlds_come_to_serve(rt: HostRuntime) -> Result<(), Fail> {
+fn groups_are_answered_by_their_lines(rt: HostRuntime) -> Result<(), Fail> {
+    go_so(&rt, 1, &SCRIPTS)?;
+    go_so(&rt, 1, &OUTAGES)?;
+    go_so(&rt, 1, &grouped::SCRIPTS)?;
     go_so(&rt, 1, &SERVES)?;
     go_so(&rt, 2, &SERVES)?;
     go_so(&rt, 64, &SERVES)

@@ -65,6 +65,15 @@ fn hash(words: &[u32]) -> Option<u32> {
     }
 }
 
+/// Three words, and what they are mixed to.
+static MIXED: [([u32; 3], [u32; 3]); 2] = [
+    ([1, 0, 0], [0xfda0_dfc7, 0x7904_20aa, 0x8ec2_12aa]),
+    (
+        [0x1234_5678, 0x9abc_def0, 0xfedc_ba98],
+        [0x1a49_f7e8, 0x4235_1709, 0xcceb_9108],
+    ),
+];
+
 #[test]
 fn words_have_their_hashes(rt: HostRuntime) {
     for (words, full) in &HASHES {
@@ -74,20 +83,10 @@ fn words_have_their_hashes(rt: HostRuntime) {
         let found = hash(words).expect(&rt, "two, three or four words");
         assert!(rt; found & 0xffff == *low, "of {words:?}");
     }
-}
-
-#[test]
-fn three_words_are_mixed(rt: HostRuntime) {
-    for (given, mixed) in [
-        ([1, 0, 0], [0xfda0_dfc7, 0x7904_20aa, 0x8ec2_12aa]),
-        (
-            [0x1234_5678, 0x9abc_def0, 0xfedc_ba98],
-            [0x1a49_f7e8, 0x4235_1709, 0xcceb_9108],
-        ),
-    ] {
-        let [a, b, c] = given;
+    for (given, mixed) in &MIXED {
+        let [a, b, c] = *given;
         let words = mix(Triple { a, b, c });
-        assert!(rt; [words.a, words.b, words.c] == mixed);
+        assert!(rt; [words.a, words.b, words.c] == *mixed);
     }
 }
 
@@ -147,8 +146,22 @@ fn group_of(name: &[u8]) -> u32 {
     stable_mod(name_hash(name), 1 << 30, mask_of(1 << 30))
 }
 
+/// Numbers of groups, and their masks.
+static MASKS: [(u32, u32); 7] = [
+    (0, 0),
+    (1, 0),
+    (2, 1),
+    (12, 15),
+    (1024, 1023),
+    (1025, 2047),
+    (0xffff_ffff, 0xffff_ffff),
+];
+
+/// Hashes, and their groups among twelve.
+static GROUPS_OF_HASHES: [(u32, u32); 5] = [(11, 11), (12, 4), (15, 7), (16, 0), (0x29ee_c818, 8)];
+
 #[test]
-fn names_have_their_hashes(rt: HostRuntime) {
+fn names_have_their_hashes_and_hashes_their_groups(rt: HostRuntime) {
     for (name, hash) in &NAMES {
         assert!(rt; name_hash(name) == *hash, "of {name:?}");
         assert!(rt; group_of(name) == hash & 0x3fff_ffff, "of {name:?}");
@@ -156,22 +169,10 @@ fn names_have_their_hashes(rt: HostRuntime) {
     for (name, group) in &GROUPS_OF_NAMES {
         assert!(rt; group_of(name) == *group, "of {name:?}");
     }
-}
-
-#[test]
-fn each_hash_falls_into_a_group(rt: HostRuntime) {
-    for (groups, mask) in [
-        (0, 0),
-        (1, 0),
-        (2, 1),
-        (12, 15),
-        (1024, 1023),
-        (1025, 2047),
-        (0xffff_ffff, 0xffff_ffff),
-    ] {
-        assert!(rt; mask_of(groups) == mask, "for {groups} groups");
+    for (groups, mask) in &MASKS {
+        assert!(rt; mask_of(*groups) == *mask, "for {groups} groups");
     }
-    for (hash, group) in [(11, 11), (12, 4), (15, 7), (16, 0), (0x29ee_c818, 8)] {
-        assert!(rt; stable_mod(hash, 12, mask_of(12)) == group, "of {hash}");
+    for (hash, group) in &GROUPS_OF_HASHES {
+        assert!(rt; stable_mod(*hash, 12, mask_of(12)) == *group, "of {hash}");
     }
 }

@@ -8,10 +8,10 @@ use std::test::Fail;
 
 /// What a member tells: its device and slot, the epochs of its last start and of the group's, the number of its last write,
 /// which was in epoch 1 if there was one, and whether its copy is complete.
-struct Told(u8, u8, u32, u32, u32, bool);
+struct ReportedInfo(u8, u8, u32, u32, u32, bool);
 
-fn info(told: &Told) -> Info {
-    let Told(osd, slot, les, history_les, v, complete) = told;
+fn info(reported: &ReportedInfo) -> Info {
+    let ReportedInfo(osd, slot, les, history_les, v, complete) = reported;
     Info {
         member: member(*osd, *slot),
         les: Epoch::new(*les),
@@ -26,12 +26,12 @@ fn info(told: &Told) -> Info {
 fn heard_of<P: Prefer + Drop>(
     alloc: Global,
     prefer: P,
-    infos: &[Told],
+    infos: &[ReportedInfo],
     count: usize,
 ) -> Result<Best<P>, AllocError> {
     let mut heard = Best::new(alloc, prefer);
-    for told in infos.iter().take(count) {
-        heard.put(info(told))?;
+    for reported in infos.iter().take(count) {
+        heard.put(info(reported))?;
     }
     Ok(heard)
 }
@@ -45,32 +45,32 @@ fn leader<P: Prefer>(heard: &Best<P>) -> Option<u16> {
 }
 
 /// Three copies, of which the first one tells again that it isn't complete, and that it is.
-const AGAIN: [Told; 5] = [
-    Told(0, 0, 0, 0, 0, true),
-    Told(1, 0, 0, 0, 0, true),
-    Told(2, 0, 0, 0, 0, true),
-    Told(0, 0, 0, 0, 0, false),
-    Told(0, 0, 0, 0, 0, true),
+const AGAIN: [ReportedInfo; 5] = [
+    ReportedInfo(0, 0, 0, 0, 0, true),
+    ReportedInfo(1, 0, 0, 0, 0, true),
+    ReportedInfo(2, 0, 0, 0, 0, true),
+    ReportedInfo(0, 0, 0, 0, 0, false),
+    ReportedInfo(0, 0, 0, 0, 0, true),
 ];
 
 /// Members in slots of their own, one of which lacks a write.
-const BEHIND: [Told; 3] = [
-    Told(0, 0, 0, 0, 2, true),
-    Told(1, 1, 0, 0, 1, true),
-    Told(2, 2, 0, 0, 2, true),
+const BEHIND: [ReportedInfo; 3] = [
+    ReportedInfo(0, 0, 0, 0, 2, true),
+    ReportedInfo(1, 1, 0, 0, 1, true),
+    ReportedInfo(2, 2, 0, 0, 2, true),
 ];
 
 /// A copy with a write more and one that served, which then tells that it didn't; the first has heard of a start.
-const SERVED: [Told; 4] = [
-    Told(0, 0, 0, 0, 4, true),
-    Told(1, 0, 1, 0, 3, true),
-    Told(1, 0, 0, 0, 3, true),
-    Told(0, 0, 0, 1, 4, true),
+const SERVED: [ReportedInfo; 4] = [
+    ReportedInfo(0, 0, 0, 0, 4, true),
+    ReportedInfo(1, 0, 1, 0, 3, true),
+    ReportedInfo(1, 0, 0, 0, 3, true),
+    ReportedInfo(0, 0, 0, 1, 4, true),
 ];
 
 /// How many of which infos came, and the device of the best of them where the newest write is preferred, and the oldest.
 /// Device 0 leads.
-static BEST: [(&[Told], usize, Option<u16>, Option<u16>); 9] = [
+static BEST: [(&[ReportedInfo], usize, Option<u16>, Option<u16>); 9] = [
     (&AGAIN, 0, None, None),
     (&AGAIN, 3, Some(0), Some(0)),
     (&AGAIN, 4, Some(1), Some(1)),
@@ -82,8 +82,9 @@ static BEST: [(&[Told], usize, Option<u16>, Option<u16>); 9] = [
     (&SERVED, 4, None, None),
 ];
 
+/// Each row, and then three copies whose members are dropped one after the other.
 #[test]
-fn the_best_info_leads(rt: HostRuntime) -> Result<(), Fail> {
+fn the_best_info_leads_until_its_member_is_dropped(rt: HostRuntime) -> Result<(), Fail> {
     let primary = Some(member(0, 0));
     for (row, (infos, count, newest, oldest)) in BEST.iter().enumerate() {
         let copies = heard_of(rt.alloc(), NewestFirst { primary }, infos, *count)?;
@@ -93,12 +94,6 @@ fn the_best_info_leads(rt: HostRuntime) -> Result<(), Fail> {
             "row {row}"
         );
     }
-    Ok(())
-}
-
-#[test]
-fn a_dropped_member_is_never_the_best(rt: HostRuntime) -> Result<(), Fail> {
-    let primary = Some(member(0, 0));
     let mut heard = heard_of(rt.alloc(), NewestFirst { primary }, &AGAIN, 3)?;
     for (osd, best) in [(0, Some(1)), (1, Some(2)), (2, None)] {
         heard.drop_member(&member(osd, 0));

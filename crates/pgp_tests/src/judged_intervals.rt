@@ -1,7 +1,7 @@
 //! About which past intervals an index of a prior set asks the code, and how often about each, as a device changes and as
 //! intervals may have gone read-write after all.
 
-use super::counting::{Asked, Index};
+use super::counting::{Index, QuestionCounts};
 use super::plain_group::{Table, Turn};
 use super::prior_index::begun;
 use super::prior_sets::{DOWN, GONE, LOST, UP, prior_text};
@@ -22,7 +22,7 @@ enum Step {
 
 /// What the index is told, how often the code is asked about each interval then and about none of them, and what the prior
 /// set is.
-struct Told(Step, [u64; 5], &'static str);
+struct SceneStep(Step, [u64; 5], &'static str);
 
 /// A group that now lies on three devices, where `k` slots are enough: the acting devices of its past intervals, whether it
 /// may have gone read-write in them, and the statuses of the devices before the first change.
@@ -33,7 +33,7 @@ struct Scene {
     acting: &'static [&'static [u16]],
     rw: bool,
     statuses: [Status; 6],
-    steps: &'static [Told],
+    steps: &'static [SceneStep],
 }
 
 const NONE: u16 = NO_OSD;
@@ -57,24 +57,24 @@ static SCENES: [Scene; 3] = [
         rw: true,
         statuses: [UP, DOWN, UP, DOWN, DOWN, DOWN],
         steps: &[
-            Told(
+            SceneStep(
                 Step::Begun,
                 [1, 1, 1, 1, 0],
                 "asks 0:0 0:15 2:1 2:2 2:9 2:14 6:0 6:2 6:4 6:8 6:12, down 1 3 4 5",
             ),
             // The first and the second interval block the group, and the fourth has enough.
-            Told(
+            SceneStep(
                 Step::Turned(Turn::Better, UP),
                 [1, 1, 0, 0, 0],
                 "asks 0:0 0:15 1:1 1:5 1:13 2:1 2:2 2:9 2:14 6:0 6:2 6:4 6:8 6:12, down 4 5",
             ),
             // The second interval still blocks it.
-            Told(
+            SceneStep(
                 Step::Turned(Turn::Worse, DOWN),
                 [1, 0, 0, 1, 0],
                 "asks 0:0 0:15 2:1 2:2 2:9 2:14 6:0 6:2 6:4 6:8 6:12, down 1 3 4 5",
             ),
-            Told(
+            SceneStep(
                 Step::Turned(Turn::Gone, GONE),
                 [1, 1, 0, 1, 0],
                 "asks 0:0 0:15 2:1 2:2 2:9 2:14 6:0 6:2 6:4 6:8 6:12, down 3 4 5",
@@ -89,8 +89,8 @@ static SCENES: [Scene; 3] = [
         rw: true,
         statuses: [UP, LOST, DOWN, UP, UP, UP],
         steps: &[
-            Told(Step::Begun, [1, 0, 0, 0, 0], "asks 0:0 3:1 4:2, not down"),
-            Told(
+            SceneStep(Step::Begun, [1, 0, 0, 0, 0], "asks 0:0 3:1 4:2, not down"),
+            SceneStep(
                 Step::Turned(Turn::Worse, DOWN),
                 [1, 0, 0, 0, 0],
                 "asks 0:0 3:1 4:2, down 1 2",
@@ -105,16 +105,16 @@ static SCENES: [Scene; 3] = [
         rw: false,
         statuses: [UP, DOWN, DOWN, UP, UP, UP],
         steps: &[
-            Told(Step::Begun, [0; 5], "asks 0:0 3:1 4:2, not down"),
+            SceneStep(Step::Begun, [0; 5], "asks 0:0 3:1 4:2, not down"),
             // There is no such interval.
-            Told(Step::Raised(1), [0; 5], "asks 0:0 3:1 4:2, not down"),
-            Told(
+            SceneStep(Step::Raised(1), [0; 5], "asks 0:0 3:1 4:2, not down"),
+            SceneStep(
                 Step::Raised(0),
                 [1, 0, 0, 0, 0],
                 "asks 0:0 3:1 4:2, down 1 2",
             ),
             // It may have gone read-write already.
-            Told(Step::Raised(0), [0; 5], "asks 0:0 3:1 4:2, down 1 2"),
+            SceneStep(Step::Raised(0), [0; 5], "asks 0:0 3:1 4:2, down 1 2"),
         ],
     },
 ];
@@ -123,7 +123,7 @@ static SCENES: [Scene; 3] = [
 fn index_of<'a>(
     alloc: Global,
     scene: &Scene,
-    asked: &'a Asked,
+    asked: &'a QuestionCounts,
     table: &Table,
 ) -> Result<Index<'a>, AllocError> {
     let mut index = begun(alloc, scene.k, asked, &scene.current);
@@ -151,23 +151,23 @@ fn take(index: &mut Index<'_>, table: &mut Table, step: &Step) {
 fn goes_so(
     alloc: Global,
     index: &mut Index<'_>,
-    asked: &Asked,
+    asked: &QuestionCounts,
     table: &mut Table,
-    told: &Told,
+    step: &SceneStep,
 ) -> Result<bool, AllocError> {
-    let Told(step, counts, words) = told;
-    take(index, table, step);
+    let SceneStep(told, counts, words) = step;
+    take(index, table, told);
     let found = prior_text(alloc, &index.prior()?)?;
     Ok(asked.counts() == *counts && found.as_str() == *words)
 }
 
 /// The place of the first step after which the code was asked otherwise, or the prior set is another.
 fn first_wrong(alloc: Global, scene: &Scene) -> Result<Option<usize>, AllocError> {
-    let asked = Asked::new();
+    let asked = QuestionCounts::new();
     let mut table = Table::of(alloc, &scene.statuses)?;
     let mut index = index_of(alloc, scene, &asked, &table)?;
-    for (place, told) in scene.steps.iter().enumerate() {
-        if !goes_so(alloc, &mut index, &asked, &mut table, told)? {
+    for (place, step) in scene.steps.iter().enumerate() {
+        if !goes_so(alloc, &mut index, &asked, &mut table, step)? {
             return Ok(Some(place));
         }
     }

@@ -16,7 +16,7 @@ const LAST: u32 = 9;
 
 /// An entry as it was reported, with the place of the object's name.
 #[derive(Clone, Copy)]
-struct Wrote {
+struct ReportedEntry {
     version: Version,
     change: Change,
     name: usize,
@@ -27,14 +27,14 @@ const NUMBERS: usize = 10;
 
 /// The info that came last, and of each number the entry that was reported last.
 #[derive(Drop)]
-struct Reported {
+struct PlainLog {
     info: Info,
-    entries: [Option<Wrote>; NUMBERS],
+    entries: [Option<ReportedEntry>; NUMBERS],
 }
 
-impl Reported {
+impl PlainLog {
     /// The entry of the log with this number.
-    fn entry(&self, v: u32) -> Option<Wrote> {
+    fn entry(&self, v: u32) -> Option<ReportedEntry> {
         if v <= self.info.log_tail.v || self.info.last_update.v < v {
             return None;
         }
@@ -47,7 +47,7 @@ impl Reported {
         for v in 1..=LAST {
             if self.info.log_tail.v < v && v <= self.info.last_update.v {
                 match self.entry(v) {
-                    Some(wrote) if before.epoch <= wrote.version.epoch => before = wrote.version,
+                    Some(entry) if before.epoch <= entry.version.epoch => before = entry.version,
                     _ => return false,
                 }
             }
@@ -56,12 +56,12 @@ impl Reported {
     }
 
     /// The last entry of the object above this number.
-    fn newest_of(&self, name: usize, above: u32) -> Option<Wrote> {
+    fn newest_of(&self, name: usize, above: u32) -> Option<ReportedEntry> {
         let mut newest = None;
         for v in 1..=LAST {
-            if let Some(wrote) = self.entry(v) {
-                if above < v && wrote.name == name {
-                    newest = Some(wrote);
+            if let Some(entry) = self.entry(v) {
+                if above < v && entry.name == name {
+                    newest = Some(entry);
                 }
             }
         }
@@ -73,7 +73,7 @@ impl Reported {
         let mut text = String::from_str(alloc, "missing")?;
         for (name, word) in NAMES.iter().enumerate() {
             if let Some(
-                Wrote {
+                ReportedEntry {
                     version,
                     change: Change::Modify,
                     name: _,
@@ -90,15 +90,15 @@ impl Reported {
     fn state_of(&self, alloc: Global, peer: &Info) -> Result<String, AllocError> {
         let last = peer.last_update;
         let tail = self.info.log_tail;
-        let wrote_last = match self.entry(last.v) {
-            Some(wrote) => wrote.version == last,
+        let has_last = match self.entry(last.v) {
+            Some(entry) => entry.version == last,
             None => false,
         };
         if !self.is_whole() {
             String::from_str(alloc, "not whole")
         } else if !peer.complete || last < tail {
             String::from_str(alloc, "backfill")
-        } else if last != tail && !wrote_last {
+        } else if last != tail && !has_last {
             String::from_str(alloc, "diverged")
         } else {
             self.lacking(alloc, last.v)
@@ -125,10 +125,10 @@ fn any_copy(dice: &mut Dice) -> Info {
     info(tail, last, dice.below(8) > 0)
 }
 
-fn any_write(dice: &mut Dice) -> Wrote {
+fn any_entry(dice: &mut Dice) -> ReportedEntry {
     let v = dice.below(9) as u32 + 1;
     let deletes = dice.below(3) == 0;
-    Wrote {
+    ReportedEntry {
         version: at(v, dice),
         change: if deletes {
             Change::Delete
@@ -143,18 +143,18 @@ fn any_write(dice: &mut Dice) -> Wrote {
 fn step(
     alloc: Global,
     log: &mut MemberLog,
-    reported: &mut Reported,
+    plain: &mut PlainLog,
     dice: &mut Dice,
 ) -> Result<(), Fail> {
     if dice.below(3) == 0 {
-        reported.info = any_copy(dice);
-        log.renew(&reported.info);
+        plain.info = any_copy(dice);
+        log.renew(&plain.info);
     } else {
-        let wrote = any_write(dice);
-        let name = *NAMES.get(wrote.name).ok_or("a place")?;
-        add(alloc, log, wrote.version, wrote.change, name)?;
-        if let Some(last) = reported.entries.get_mut(wrote.version.v as usize) {
-            *last = Some(wrote);
+        let entry = any_entry(dice);
+        let name = *NAMES.get(entry.name).ok_or("a place")?;
+        add(alloc, log, entry.version, entry.change, name)?;
+        if let Some(last) = plain.entries.get_mut(entry.version.v as usize) {
+            *last = Some(entry);
         }
     }
     Ok(())
@@ -164,13 +164,13 @@ fn step(
 fn says_the_same(
     alloc: Global,
     log: &MemberLog,
-    reported: &Reported,
+    plain: &PlainLog,
     dice: &mut Dice,
 ) -> Result<bool, AllocError> {
     let peer = any_copy(dice);
     let kept = judged(alloc, log, &peer)?;
-    let plain = reported.state_of(alloc, &peer)?;
-    Ok(kept.as_str() == plain.as_str())
+    let expected = plain.state_of(alloc, &peer)?;
+    Ok(kept.as_str() == expected.as_str())
 }
 
 /// Whether both say the same at each step of the stream from this seed.
@@ -178,15 +178,15 @@ fn run(alloc: Global, seed: u64) -> Result<bool, Fail> {
     let mut dice = Dice::seeded(seed);
     let info = any_copy(&mut dice);
     let mut log = MemberLog::begin(alloc, &info);
-    let mut reported = Reported {
+    let mut plain = PlainLog {
         info,
         entries: [None; NUMBERS],
     };
     let mut same = true;
     for _ in 0..300 {
-        step(alloc, &mut log, &mut reported, &mut dice)?;
+        step(alloc, &mut log, &mut plain, &mut dice)?;
         for _ in 0..4 {
-            same = says_the_same(alloc, &log, &reported, &mut dice)? && same;
+            same = says_the_same(alloc, &log, &plain, &mut dice)? && same;
         }
     }
     Ok(same)

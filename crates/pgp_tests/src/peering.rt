@@ -156,15 +156,6 @@ static INTERVALS: [(&[&str], &str); 7] = [
     ),
 ];
 
-#[test]
-fn intervals_follow_the_maps(rt: HostRuntime) -> Result<(), Fail> {
-    for (lines, answer) in &INTERVALS {
-        let text = intervals(rt.alloc(), lines)?;
-        assert!(rt; text.as_slice() == answer.as_bytes(), "{answer}");
-    }
-    Ok(())
-}
-
 /// Two of its three shards went down, and it lies elsewhere.
 pub const MOVED: &str = r#"{"op":"inc","epoch":3,"down":[1,2],"temp":[[1,0,[0,3,4]]]}"#;
 
@@ -203,15 +194,6 @@ static PRIOR_SETS: [(&[&str], &str); 6] = [
     (&[SHARDS, ALL_DOWN], "asks, not down"),
 ];
 
-#[test]
-fn prior_sets_follow_the_maps(rt: HostRuntime) -> Result<(), Fail> {
-    for (lines, words) in &PRIOR_SETS {
-        let found = prior_words(rt.alloc(), lines)?;
-        assert!(rt; found.as_str() == *words, "{found}");
-    }
-    Ok(())
-}
-
 /// Incrementals, one after the other, and what has become of device 1 since an interval that began in epoch 1, and since one
 /// that began in epoch 2: it is down until it is given up for lost, gone once it is destroyed, and up whenever it is up.
 static STATUSES: [(&str, Status, Status); 6] = [
@@ -232,7 +214,15 @@ fn statuses(map: &OsdMap) -> (Status, Status) {
 }
 
 #[test]
-fn statuses_follow_the_maps(rt: HostRuntime) -> Result<(), Fail> {
+fn intervals_prior_sets_and_statuses_follow_the_maps(rt: HostRuntime) -> Result<(), Fail> {
+    for (lines, answer) in &INTERVALS {
+        let text = intervals(rt.alloc(), lines)?;
+        assert!(rt; text.as_slice() == answer.as_bytes(), "{answer}");
+    }
+    for (lines, words) in &PRIOR_SETS {
+        let found = prior_words(rt.alloc(), lines)?;
+        assert!(rt; found.as_str() == *words, "{found}");
+    }
     let mut map = OsdMap::empty(rt.alloc());
     assert!(rt; statuses(&map) == (GONE, GONE));
     for (line, first, second) in &STATUSES {

@@ -111,13 +111,13 @@ fn turned(turn: Turn, old: Status, dice: &mut Dice) -> Status {
 
 /// An interval two epochs long.
 #[derive(Clone, Copy)]
-pub struct Ended {
+pub struct PastInterval {
     pub first: u32,
     pub acting: [u16; 3],
     pub rw: bool,
 }
 
-impl Ended {
+impl PastInterval {
     pub fn past(&self) -> Past {
         two_epochs(self.first, lying_on(&self.acting, &self.acting), self.rw)
     }
@@ -130,7 +130,7 @@ impl Ended {
 /// What the index has to stand for.
 #[derive(Drop)]
 pub struct Group {
-    pub ended: Vec<Ended>,
+    pub ended: Vec<PastInterval>,
     pub current: [u16; 3],
     pub les: u32,
     pub table: Table,
@@ -138,7 +138,7 @@ pub struct Group {
 
 impl Group {
     /// The plain prior set of these intervals.
-    pub fn prior_of(&self, alloc: Global, ended: &[Ended]) -> Result<Prior, AllocError> {
+    pub fn prior_of(&self, alloc: Global, ended: &[PastInterval]) -> Result<Prior, AllocError> {
         let mut past = Vec::new(alloc);
         for one in ended {
             past.push(one.past())?;

@@ -1,8 +1,8 @@
 //! Indexes of prior sets against the plain prior set, over seeded streams of changes, with a code that counts how often it
 //! is asked.
 
-use super::counting::{Asked, Counting, Index};
-use super::plain_group::{Ended, Group, Table, Turn, three};
+use super::counting::{CountingCode, Index, QuestionCounts};
+use super::plain_group::{Group, PastInterval, Table, Turn, three};
 use pgp_code::Erasure;
 use pgp_fixtures::{Dice, lying_on, osd};
 use pgp_ids::Epoch;
@@ -48,7 +48,7 @@ fn end_interval(
 ) -> Result<u64, AllocError> {
     let count = group.ended.len();
     if count < 7 {
-        let one = Ended {
+        let one = PastInterval {
             first: count as u32 * 2 + 1,
             acting: three(dice),
             rw: dice.below(4) > 0,
@@ -95,7 +95,7 @@ fn step(
 
 /// Whether both say the same at each step of the stream from this seed, and the code is asked no more often than it may be.
 fn run(alloc: Global, seed: u64) -> Result<(bool, bool), AllocError> {
-    let asked = Asked::new();
+    let asked = QuestionCounts::new();
     let mut group = Group {
         ended: Vec::new(alloc),
         current: [0, 1, 2],
@@ -115,8 +115,8 @@ fn run(alloc: Global, seed: u64) -> Result<(bool, bool), AllocError> {
 }
 
 /// An index of a group on these devices, where `k` slots are enough, whose questions are counted.
-pub fn begun<'a>(alloc: Global, k: u8, asked: &'a Asked, current: &[u16; 3]) -> Index<'a> {
-    let code = Counting {
+pub fn begun<'a>(alloc: Global, k: u8, asked: &'a QuestionCounts, current: &[u16; 3]) -> Index<'a> {
+    let code = CountingCode {
         code: Erasure::with_shards(k),
         asked,
     };

@@ -49,18 +49,18 @@ fn tell_devices(text: &mut String, devices: &[OsdId]) -> Result<(), AllocError> 
 
 /// A group by its history: how many shards give an object back (0 for whole copies), its past acting sets, its present up and
 /// acting sets, and the epoch in which it last began to serve.
-struct Lived(u8, &'static [Places], Places, Places, u32);
+struct GroupHistory(u8, &'static [Places], Places, Places, u32);
 
 type Places = &'static [u16];
 
 /// In the epochs 1 and 2 two of three shards were enough to serve on the devices 0, 1 and 2.
-const SHARDS: Lived = Lived(2, &[&[0, 1, 2]], &[], &[0, 3, 4], 2);
+const SHARDS: GroupHistory = GroupHistory(2, &[&[0, 1, 2]], &[], &[0, 3, 4], 2);
 
 /// It began to serve after them.
-const SERVED: Lived = Lived(2, &[&[0, 1, 2]], &[], &[0, 3, 4], 3);
+const SERVED: GroupHistory = GroupHistory(2, &[&[0, 1, 2]], &[], &[0, 3, 4], 3);
 
 /// The same devices in other places: each member once, in ascending order.
-const EXCHANGED: Lived = Lived(
+const EXCHANGED: GroupHistory = GroupHistory(
     2,
     &[&[7, 2, 5], &[5, NO_OSD, 7], &[2, 5, 7]],
     &[6, 3, NO_OSD],
@@ -69,7 +69,7 @@ const EXCHANGED: Lived = Lived(
 );
 
 /// Of whole copies one is enough, and a device is one member wherever it stood.
-const COPIES: Lived = Lived(0, &[&[2, 1], &[1]], &[0, 2], &[2, 0], 0);
+const COPIES: GroupHistory = GroupHistory(0, &[&[2, 1], &[1]], &[0, 2], &[2, 0], 0);
 
 pub const UP: Status = Status::Up;
 
@@ -80,7 +80,7 @@ pub const LOST: Status = Status::Lost;
 pub const GONE: Status = Status::Gone;
 
 /// Groups, the statuses of the devices, and the prior sets.
-static PRIOR_SETS: [(Lived, &[Status], &str); 8] = [
+static PRIOR_SETS: [(GroupHistory, &[Status], &str); 8] = [
     (SHARDS, &[UP, DOWN, DOWN], "asks 0:0 3:1 4:2, down 1 2"),
     (SERVED, &[UP, DOWN, DOWN], "asks 0:0 3:1 4:2, not down"),
     (SHARDS, &[UP, LOST, DOWN], "asks 0:0 3:1 4:2, not down"),
@@ -105,8 +105,8 @@ fn code_of(k: u8) -> AnyCode {
 }
 
 /// The prior set of this group in words.
-fn found(alloc: Global, lived: &Lived, statuses: &[Status]) -> Result<String, AllocError> {
-    let Lived(k, past, up, acting, les) = lived;
+fn found(alloc: Global, history: &GroupHistory, statuses: &[Status]) -> Result<String, AllocError> {
+    let GroupHistory(k, past, up, acting, les) = history;
     let found = prior(
         alloc,
         &code_of(*k),
@@ -120,8 +120,8 @@ fn found(alloc: Global, lived: &Lived, statuses: &[Status]) -> Result<String, Al
 
 #[test]
 fn prior_sets_are_worked_out(rt: HostRuntime) -> Result<(), Fail> {
-    for (lived, statuses, words) in &PRIOR_SETS {
-        let found = found(rt.alloc(), lived, statuses)?;
+    for (history, statuses, words) in &PRIOR_SETS {
+        let found = found(rt.alloc(), history, statuses)?;
         assert!(rt; found.as_str() == *words, "{found}");
     }
     Ok(())

@@ -5,7 +5,6 @@ use pgp_fixtures::text_of;
 use pgp_ids::{AskRefusal, Refusal};
 use pgp_text::{LineReader, LineRefusal, Reply, read_line};
 use std::alloc::{AllocError, Global};
-use std::process::Abort;
 use std::test::Fail;
 
 /// Lines, each with the command that it is, as `Debug` writes it.
@@ -67,74 +66,114 @@ fn lines_are_read_in_room_that_is_there(rt: HostRuntime) {
     }
 }
 
-/// Lines with one bad key or several, each after the key that is named: the least in byte order.
-static BAD_KEYS: [&str; 21] = [
-    r#"v: {"op":"ask","pg":[1,0],"v":3}"#,
-    r#"v: {"op":"ask","pg":[1,0],"v":"2"}"#,
-    r#"v: {"op":"close","v":0}"#,
-    r#"v: {"op":"inc","epoch":1,"v":3,"weight":[1]}"#,
+/// What is answered to lines with one bad key or several, each answer before its line. It names the least key in byte order.
+static BAD_KEYS: [(&str, &str); 25] = [
+    (
+        r#"{"code":34,"key":"v","refused":"BadField"}"#,
+        r#"{"op":"ask","pg":[1,0],"v":3}"#,
+    ),
+    (
+        r#"{"code":34,"key":"v","refused":"BadField"}"#,
+        r#"{"op":"ask","pg":[1,0],"v":"2"}"#,
+    ),
+    (
+        r#"{"code":34,"key":"v","refused":"BadField"}"#,
+        r#"{"op":"close","v":0}"#,
+    ),
+    (
+        r#"{"code":34,"key":"v","refused":"BadField"}"#,
+        r#"{"op":"inc","epoch":1,"v":3,"weight":[1]}"#,
+    ),
     // The pools of a line whose version is bad are read as in version 2.
-    r#"v: {"op":"inc","epoch":1,"v":3,"pools":[{"id":2,"pg_num":1,"kind":"grouped","groups":[[[0],1]],"size":3,"min_size":2,"leaf":0}]}"#,
-    r#"pg: {"op":"ask","pg":[0,0],"v":3}"#,
-    r#"up: {"op":"inc","epoch":1,"v":3,"up":[4096]}"#,
-    r#"pools: {"op":"inc","epoch":1,"v":3,"pools":[{"id":2,"pg_num":1,"kind":"grouped","groups":[[[16],1]],"size":3,"min_size":2,"leaf":0}]}"#,
-    r#"pools: {"op":"inc","epoch":1,"v":1,"pools":[{"id":2,"pg_num":1,"kind":"grouped","groups":[[[0],1]],"size":3,"min_size":2,"leaf":0}]}"#,
-    r#"pools: {"op":"inc","epoch":1,"v":2,"temp":[1],"pools":[{"id":2,"pg_num":1,"kind":"grouped","k":1,"groups":[[[0],1]],"size":3,"min_size":2,"leaf":0}]}"#,
-    r#"pools: {"op":"inc","epoch":1,"v":2,"pools":[{"id":2,"pg_num":1,"kind":"grouped","groups":[[[0],256]],"size":3,"min_size":2,"leaf":0}]}"#,
+    (
+        r#"{"code":34,"key":"v","refused":"BadField"}"#,
+        r#"{"op":"inc","epoch":1,"v":3,"pools":[{"id":2,"pg_num":1,"kind":"grouped","groups":[[[0],1]],"size":3,"min_size":2,"leaf":0}]}"#,
+    ),
+    (
+        r#"{"code":34,"key":"pg","refused":"BadField"}"#,
+        r#"{"op":"ask","pg":[0,0],"v":3}"#,
+    ),
+    (
+        r#"{"code":34,"key":"up","refused":"BadField"}"#,
+        r#"{"op":"inc","epoch":1,"v":3,"up":[4096]}"#,
+    ),
+    (
+        r#"{"code":34,"key":"pools","refused":"BadField"}"#,
+        r#"{"op":"inc","epoch":1,"v":3,"pools":[{"id":2,"pg_num":1,"kind":"grouped","groups":[[[16],1]],"size":3,"min_size":2,"leaf":0}]}"#,
+    ),
+    (
+        r#"{"code":34,"key":"pools","refused":"BadField"}"#,
+        r#"{"op":"inc","epoch":1,"v":1,"pools":[{"id":2,"pg_num":1,"kind":"grouped","groups":[[[0],1]],"size":3,"min_size":2,"leaf":0}]}"#,
+    ),
+    (
+        r#"{"code":34,"key":"pools","refused":"BadField"}"#,
+        r#"{"op":"inc","epoch":1,"v":2,"temp":[1],"pools":[{"id":2,"pg_num":1,"kind":"grouped","k":1,"groups":[[[0],1]],"size":3,"min_size":2,"leaf":0}]}"#,
+    ),
+    (
+        r#"{"code":34,"key":"pools","refused":"BadField"}"#,
+        r#"{"op":"inc","epoch":1,"v":2,"pools":[{"id":2,"pg_num":1,"kind":"grouped","groups":[[[0],256]],"size":3,"min_size":2,"leaf":0}]}"#,
+    ),
     // Seventeen slots.
-    r#"pools: {"op":"inc","epoch":1,"v":2,"pools":[{"id":2,"pg_num":1,"kind":"grouped","groups":[[[0,1,2,3,4,5,6,7,8,9,10,11,12,13,14,15,0],1]],"size":16,"min_size":2,"leaf":0}]}"#,
+    (
+        r#"{"code":34,"key":"pools","refused":"BadField"}"#,
+        r#"{"op":"inc","epoch":1,"v":2,"pools":[{"id":2,"pg_num":1,"kind":"grouped","groups":[[[0,1,2,3,4,5,6,7,8,9,10,11,12,13,14,15,0],1]],"size":16,"min_size":2,"leaf":0}]}"#,
+    ),
     // Seventeen parts.
-    r#"pools: {"op":"inc","epoch":1,"v":2,"pools":[{"id":2,"pg_num":1,"kind":"grouped","groups":[[[],0],[[],0],[[],0],[[],0],[[],0],[[],0],[[],0],[[],0],[[],0],[[],0],[[],0],[[],0],[[],0],[[],0],[[],0],[[],0],[[],0]],"size":3,"min_size":2,"leaf":0}]}"#,
-    r#"code: {"op":"trace","code":{"kind":"grouped","groups":[[[0],1]]},"epochs":[]}"#,
+    (
+        r#"{"code":34,"key":"pools","refused":"BadField"}"#,
+        r#"{"op":"inc","epoch":1,"v":2,"pools":[{"id":2,"pg_num":1,"kind":"grouped","groups":[[[],0],[[],0],[[],0],[[],0],[[],0],[[],0],[[],0],[[],0],[[],0],[[],0],[[],0],[[],0],[[],0],[[],0],[[],0],[[],0],[[],0]],"size":3,"min_size":2,"leaf":0}]}"#,
+    ),
+    (
+        r#"{"code":34,"key":"code","refused":"BadField"}"#,
+        r#"{"op":"trace","code":{"kind":"grouped","groups":[[[0],1]]},"epochs":[]}"#,
+    ),
     // Parts that no pool can have.
-    r#"code: {"op":"trace","v":2,"code":{"kind":"grouped","groups":[[[0],1],[[15,0],1]]},"epochs":[]}"#,
-    r#"code: {"op":"trace","v":3,"code":{"kind":"grouped","groups":[]},"epochs":[]}"#,
-    r#"epochs: {"op":"trace","v":2,"code":{"kind":"grouped","groups":[[[0],1]]},"epochs":[]}"#,
-    r#"last_epoch_clean: {"op":"info","pg":[1,0],"from":[0,0],"stamp":1,"les":0,"history_les":0,"last_epoch_clean":4294967296,"last_update":[0,0],"log_tail":[0,0],"complete":true}"#,
-    r#"last_epoch_clean: {"op":"info","pg":[1,0],"from":[0,0],"stamp":1,"history_les":0,"last_epoch_clean":-1,"last_update":[0],"log_tail":[0,0],"complete":true,"v":3}"#,
-    r#"complete: {"op":"info","pg":[1,0],"from":[0,0],"last_epoch_clean":null,"v":3}"#,
-    r#"last_update: {"op":"info","pg":[1,0],"from":[0,0],"stamp":1,"history_les":0,"last_epoch_clean":1,"last_update":[0],"log_tail":[0,0],"complete":true,"v":3}"#,
+    (
+        r#"{"code":34,"key":"code","refused":"BadField"}"#,
+        r#"{"op":"trace","v":2,"code":{"kind":"grouped","groups":[[[0],1],[[15,0],1]]},"epochs":[]}"#,
+    ),
+    (
+        r#"{"code":34,"key":"code","refused":"BadField"}"#,
+        r#"{"op":"trace","v":3,"code":{"kind":"grouped","groups":[]},"epochs":[]}"#,
+    ),
+    (
+        r#"{"code":34,"key":"epochs","refused":"BadField"}"#,
+        r#"{"op":"trace","v":2,"code":{"kind":"grouped","groups":[[[0],1]]},"epochs":[]}"#,
+    ),
+    (
+        r#"{"code":34,"key":"last_epoch_clean","refused":"BadField"}"#,
+        r#"{"op":"info","pg":[1,0],"from":[0,0],"stamp":1,"les":0,"history_les":0,"last_epoch_clean":4294967296,"last_update":[0,0],"log_tail":[0,0],"complete":true}"#,
+    ),
+    (
+        r#"{"code":34,"key":"last_epoch_clean","refused":"BadField"}"#,
+        r#"{"op":"info","pg":[1,0],"from":[0,0],"stamp":1,"history_les":0,"last_epoch_clean":-1,"last_update":[0],"log_tail":[0,0],"complete":true,"v":3}"#,
+    ),
+    (
+        r#"{"code":34,"key":"complete","refused":"BadField"}"#,
+        r#"{"op":"info","pg":[1,0],"from":[0,0],"last_epoch_clean":null,"v":3}"#,
+    ),
+    (
+        r#"{"code":34,"key":"last_update","refused":"BadField"}"#,
+        r#"{"op":"info","pg":[1,0],"from":[0,0],"stamp":1,"history_les":0,"last_epoch_clean":1,"last_update":[0],"log_tail":[0,0],"complete":true,"v":3}"#,
+    ),
+    // Keys that the operation doesn't have.
+    (
+        r#"{"code":33,"key":"w","refused":"UnknownKey"}"#,
+        r#"{"op":"ask","pg":[1,0],"v":3,"w":1}"#,
+    ),
+    (
+        r#"{"code":33,"key":"groups","refused":"UnknownKey"}"#,
+        r#"{"op":"ask","pg":[1,0],"v":2,"groups":[]}"#,
+    ),
+    (
+        r#"{"code":33,"key":"last_epoch_clean","refused":"UnknownKey"}"#,
+        r#"{"op":"close","last_epoch_clean":1}"#,
+    ),
+    (
+        r#"{"code":33,"key":"last_epoch_clean","refused":"UnknownKey"}"#,
+        r#"{"op":"entries","pg":[1,0],"from":[0,0],"stamp":1,"last_epoch_clean":1,"log":[]}"#,
+    ),
 ];
-
-/// What is answered to the line, which is no command.
-fn answer_to(alloc: Global, line: &str) -> Result<Vec<u8>, Fail> {
-    let fault = read_line(alloc, line.as_bytes()).err().ok_or("a command")?;
-    Ok(text_of(alloc, Reply::Refused(LineRefusal::Line(fault)))?)
-}
-
-/// Lines with keys that their operation doesn't have, each after the key that is named.
-static UNKNOWN_KEYS: [&str; 4] = [
-    r#"w: {"op":"ask","pg":[1,0],"v":3,"w":1}"#,
-    r#"groups: {"op":"ask","pg":[1,0],"v":2,"groups":[]}"#,
-    r#"last_epoch_clean: {"op":"close","last_epoch_clean":1}"#,
-    r#"last_epoch_clean: {"op":"entries","pg":[1,0],"from":[0,0],"stamp":1,"last_epoch_clean":1,"log":[]}"#,
-];
-
-/// Whether the key before the line is named in the answer to it.
-fn is_named(alloc: Global, code: u8, name: &str, row: &str) -> Result<bool, Fail> {
-    let (key, line) = row.split_once(": ").ok_or("no key")?;
-    let expected = format!(in alloc; r#"{{"code":{code},"key":"{key}","refused":"{name}"}}"#)?;
-    Ok(answer_to(alloc, line)?.as_slice() == expected.as_bytes())
-}
-
-/// The key is named in the answer to each of these lines.
-fn are_named<R: Abort + AllocGlobal>(
-    rt: &R,
-    code: u8,
-    name: &str,
-    rows: &[&str],
-) -> Result<(), Fail> {
-    for row in rows {
-        assert!(rt; is_named(rt.alloc(), code, name, row)?, "{row}");
-    }
-    Ok(())
-}
-
-#[test]
-fn the_least_bad_key_is_named(rt: HostRuntime) -> Result<(), Fail> {
-    are_named(&rt, 34, "BadField", &BAD_KEYS)?;
-    are_named(&rt, 33, "UnknownKey", &UNKNOWN_KEYS)
-}
 
 /// Whether this is answered to what was refused.
 fn is_refused(alloc: Global, refused: LineRefusal, answer: &str) -> Result<bool, AllocError> {
@@ -142,12 +181,19 @@ fn is_refused(alloc: Global, refused: LineRefusal, answer: &str) -> Result<bool,
     Ok(text.as_slice() == answer.as_bytes())
 }
 
+/// Whether this is answered to the line, which is no command.
+fn is_answered(alloc: Global, line: &[u8], answer: &str) -> Result<bool, Fail> {
+    let fault = read_line(alloc, line).err().ok_or("a command")?;
+    Ok(is_refused(alloc, LineRefusal::Line(fault), answer)?)
+}
+
 #[test]
-fn refusals_that_no_script_shows_have_their_text(rt: HostRuntime) -> Result<(), Fail> {
-    let bytes = b"{\"op\":\"\xff\"}";
-    let fault = read_line(rt.alloc(), bytes).err().ok_or("a command")?;
+fn refusals_have_their_text_and_name_the_least_bad_key(rt: HostRuntime) -> Result<(), Fail> {
+    for (answer, line) in &BAD_KEYS {
+        assert!(rt; is_answered(rt.alloc(), line.as_bytes(), answer)?, "{line}");
+    }
     let not_json = r#"{"code":31,"refused":"NotJson"}"#;
-    assert!(rt; is_refused(rt.alloc(), LineRefusal::Line(fault), not_json)?);
+    assert!(rt; is_answered(rt.alloc(), b"{\"op\":\"\xff\"}", not_json)?);
     let no_entry = r#"{"code":51,"refused":"Memory"}"#;
     assert!(rt; is_refused(rt.alloc(), LineRefusal::Entry(Refusal::Memory), no_entry)?);
     let no_view = r#"{"code":41,"refused":"Memory"}"#;

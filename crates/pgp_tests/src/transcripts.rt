@@ -1,7 +1,7 @@
 //! Worlds that take the entries of lines, and what they answer of the group. Where a call finds no memory it is made once
 //! more, so that a run in which one allocation is refused gives the answers of one in which none is.
 
-ghost use Rattle.std.specs.Prelude.{◌≡◌, ◌<◌, length, IfOk, OnOk};
+ghost use Rattle.std.specs.Prelude.{◌≡◌, ◌<◌, length, OnOk};
 
 use pgp_fixtures::{entry, group, text_of};
 use pgp_ids::View;
@@ -13,17 +13,6 @@ use std::test::Fail;
 
 /// A transcript: what the group does, and lines, each of which is an entry or what is answered of the group after those before.
 pub struct Script(pub &'static str, pub &'static [&'static str]);
-
-/// A world of this many shards.
-pub fn started(alloc: Global, shards: usize) -> Result<World, AllocError>
-    requires { 0 < shards }
-    ensures { IfOk result (λ world. length world.read ≡ shards) }
-{
-    match World::start(alloc, shards) {
-        Ok(world) => Ok(world),
-        Err(_) => World::start(alloc, shards),
-    }
-}
 
 /// Whether the world takes the entry that the line is.
 pub fn takes(alloc: Global, world: &mut World, line: &str) -> bool
@@ -60,39 +49,33 @@ pub fn view_of(world: &mut World, shards: usize) -> Result<View, Fail>
     }
 }
 
-/// What is answered of the group then.
-fn answer(alloc: Global, world: &mut World, shards: usize) -> Result<Vec<u8>, Fail>
-    requires { length world.old.read ≡ shards }
-    ensures { length world.new.read ≡ shards }
-{
-    let view = view_of(world, shards)?;
-    Ok(text_of(alloc, Reply::Asked(group(), view))?)
-}
+/// How the line of an entry begins.
+const ENTRY: &str = r#"{"op":"#;
 
 /// Whether the world takes the entry that the line is, or answers so where it is none.
 fn goes_on(alloc: Global, world: &mut World, shards: usize, line: &str) -> Result<bool, Fail>
     requires { length world.old.read ≡ shards }
     ensures { OnOk result (length world.new.read ≡ shards) }
 {
-    if is_entry(line) {
+    if line.starts_with(ENTRY) {
         return Ok(takes(alloc, world, line) || takes(alloc, world, line));
     }
-    let found = answer(alloc, world, shards)?;
+    let view = view_of(world, shards)?;
+    let found = text_of(alloc, Reply::Asked(group(), view))?;
     Ok(found.as_slice() == line.as_bytes())
-}
-
-fn is_entry(line: &str) -> bool {
-    line.starts_with(r#"{"op":"#)
 }
 
 /// Whether a world of this many shards goes so, which is asked at each answer or at the last line alone.
 fn goes_so(alloc: Global, shards: usize, lines: &[&str], often: bool) -> Result<bool, Fail>
     requires { 0 < shards }
 {
-    let mut world = started(alloc, shards)?;
+    let mut world = match World::start(alloc, shards) {
+        Ok(world) => world,
+        Err(_) => World::start(alloc, shards)?,
+    };
     let mut right = true;
     for (place, line) in lines.iter().enumerate() {
-        if often || is_entry(line) || place + 1 == lines.len() {
+        if often || line.starts_with(ENTRY) || place + 1 == lines.len() {
             right = goes_on(alloc, &mut world, shards, line)? && right;
         }
     }

@@ -1,13 +1,13 @@
-//! One group by itself, over maps of its own, as whoever keeps no shard has it. Where a call finds no memory it is made once
-//! more, so that a run in which one allocation is refused gives the answers of one in which none is.
+//! One group by itself, over maps of its own, as whoever keeps no shard has it. A call that may lack memory is made once more
+//! on the same value, so that a run in which one allocation is refused gives the answers of one in which none is.
 
 ghost use Rattle.std.specs.Prelude.{◌≡◌, [], ◌∷◌, List, None, IfOk, OnOk};
 ghost use Rattle.pgp_ids.specs.declared.incremental.Incremental.{Incremental as AnyIncremental};
-ghost use Rattle.pgp_map.specs.MapFault.{map_fault, given_fault, then_with};
+ghost use Rattle.pgp_map.specs.MapFault.{map_fault, given_fault};
 ghost use Rattle.pgp_map.specs.MapOf.{IsMapOf, Says};
 ghost use Rattle.pgp_group.specs.Entries.{inc_of};
 ghost use Rattle.pgp_group.specs.GroupHistory.{makes};
-ghost use Rattle.pgp_tests.specs.Alone.{AreTold, IsNext, TakesMap, TakesReport, tells_ahead};
+ghost use Rattle.pgp_tests.specs.Alone.{AreTold, tells_ahead};
 
 use pgp_fixtures::{COPIES, EMPTY_0, EMPTY_1, EMPTY_2, KNOWN_UP, entry_surely, group, text_of};
 use pgp_group::Group;
@@ -85,28 +85,24 @@ impl GroupAlone {
         ensures { OnOk result (AreTold self.new.before self.new.after self.new.group) }
     {
         let told = entry_surely(alloc, line).ok_or("no entry")?;
-        self.take(&told)
-    }
-
-    fn take(&mut self, told: &Entry) -> Result<(), Fail>
-        requires { AreTold self.old.before self.old.after self.old.group }
-        ensures { OnOk result (AreTold self.new.before self.new.after self.new.group) }
-    {
-        match told {
+        match &told {
             Entry::Inc(inc) => self.take_inc(inc),
-            _ => self.take_report(told),
+            _ => self.take_report(&told),
         }
     }
 
+    /// No call is made once more here: the incremental that comes names no new device and lets the group lie as before, so it
+    /// takes no memory.
     fn take_inc(&mut self, inc: &Incremental) -> Result<(), Fail>
         requires { AreTold self.old.before self.old.after self.old.group }
         ensures { OnOk result (AreTold self.new.before self.new.after self.new.group) }
     {
         checked_lists_grow_by_incrementals_without_fault();
-        check(&self.after, inc)?;
-        apply(&mut self.after, inc)?;
-        absorb_map(&mut self.group, &self.before, &self.after)?;
-        apply(&mut self.before, inc)?;
+        the_next_map_follows();
+        self.after.check(inc)?;
+        self.after.apply(inc)?;
+        self.group.absorb_map(&self.before, &self.after)?;
+        self.before.apply(inc)?;
         Ok(())
     }
 
@@ -118,20 +114,13 @@ impl GroupAlone {
         if tells_ahead(entry, self.after.epoch()) {
             return Err(Fail::new("an info of an epoch to come"));
         }
-        absorb_report(&mut self.group, entry)?;
-        Ok(())
+        match self.group.absorb_report(entry) {
+            Ok(()) => Ok(()),
+            Err(_) => Ok(self.group.absorb_report(entry)?),
+        }
     }
 
-    /// What is answered of the group after this many entries.
-    fn answer(&mut self, alloc: Global, count: usize) -> Result<Vec<u8>, Fail>
-        requires { AreTold self.old.before self.old.after self.old.group }
-        ensures { AreTold self.new.before self.new.after self.new.group }
-    {
-        let pg = group();
-        let view = self.view(count)?;
-        Ok(text_of(alloc, Reply::Asked(pg, view))?)
-    }
-
+    /// The view of the group after this many entries.
     fn view(&mut self, count: usize) -> Result<View, AllocError>
         requires { AreTold self.old.before self.old.after self.old.group }
         ensures { AreTold self.new.before self.new.after self.new.group }
@@ -150,8 +139,13 @@ fn first_map(alloc: Global, inc: &Incremental) -> Result<OsdMap, Fail>
 {
     let mut map = OsdMap::empty(alloc);
     check(&map, inc)?;
-    apply(&mut map, inc)?;
-    Ok(map)
+    match map.apply(inc) {
+        Ok(()) => Ok(map),
+        Err(_) => {
+            map.apply(inc)?;
+            Ok(map)
+        }
+    }
 }
 
 fn check(map: &OsdMap, inc: &Incremental) -> Result<(), MapFault>
@@ -161,36 +155,6 @@ fn check(map: &OsdMap, inc: &Incremental) -> Result<(), MapFault>
     match map.check(inc) {
         Ok(()) => Ok(()),
         Err(_) => map.check(inc),
-    }
-}
-
-fn apply(map: &mut OsdMap, inc: &Incremental) -> Result<(), AllocError>
-    requires { given_fault inc.now.crush ≡ None }
-    ensures { OnOk result (Says map.old (λ incs. map_fault incs inc.now ≡ None → IsMapOf (then_with incs inc.now) map.new)) }
-{
-    match map.apply(inc) {
-        Ok(()) => Ok(()),
-        Err(_) => map.apply(inc),
-    }
-}
-
-fn absorb_map(group: &mut Group, before: &OsdMap, after: &OsdMap) -> Result<(), AllocError>
-    requires { IsNext before.now after.now group.old }
-    ensures { OnOk result (TakesMap before.now after.now group.old group.new) }
-{
-    the_next_map_follows();
-    match group.absorb_map(before, after) {
-        Ok(()) => Ok(()),
-        Err(_) => group.absorb_map(before, after),
-    }
-}
-
-fn absorb_report(group: &mut Group, entry: &Entry) -> Result<(), AllocError>
-    ensures { OnOk result (TakesReport entry.now group.old group.new) }
-{
-    match group.absorb_report(entry) {
-        Ok(()) => Ok(()),
-        Err(_) => group.absorb_report(entry),
     }
 }
 
@@ -219,7 +183,8 @@ fn a_group_by_itself_comes_to_serve(rt: HostRuntime) -> Result<(), Fail> {
     alone.take_line(alloc, EMPTY_1)?;
     alone.take_line(alloc, EMPTY_2)?;
     alone.take_line(alloc, KNOWN_UP)?;
-    let told = alone.answer(alloc, 5)?;
+    let view = alone.view(5)?;
+    let told = text_of(alloc, Reply::Asked(group(), view))?;
     assert!(&rt; told.as_slice() == SERVES.as_bytes());
     Ok(())
 }
