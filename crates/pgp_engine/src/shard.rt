@@ -14,8 +14,10 @@ pub struct Shard<J: Naming> {
     state: ShardState,
     front: Receipt,
     tap: Tap,
-    // Where the next entries are read to.
+    /// Where the next entries are read to.
     buffer: EntryBuffer,
+    /// How many of its groups were left to work out after its last turn in which there was nothing to read. 0 before the first.
+    left: usize,
     of: PhantomData<J>,
 }
 
@@ -27,6 +29,7 @@ impl<J: Naming> Drop for Shard<J> {
             front: _,
             tap: _,
             buffer: _,
+            left: _,
             of: _,
         } = self;
     }

@@ -16,11 +16,15 @@ use std::sync::{MutexGuard, Wait};
 /// all that it has read.
 const STEPS_A_TURN: usize = 64;
 
-/// How far a shard has read.
+/// How far a shard has come, or several of them.
 #[derive(Drop)]
 pub(super) struct Stand {
+    /// What the one has read that has read least.
     pub front: Receipt,
+    /// That front was closed.
     pub closed: bool,
+    /// None had a group left to work out after its last turn in which there was nothing to read.
+    pub worked_out: bool,
 }
 
 impl<J: Naming> Engine<J> {
@@ -29,8 +33,8 @@ impl<J: Naming> Engine<J> {
     /// `NoReader` end the work, and leave the shards as far as they have read.
     ///
     /// In each of its turns a shard reads a few entries, between the gate's two calls, or works out anew a few of its groups
-    /// where there is nothing to read. Between the turns the lock is free; and after a round in which nothing was read, the
-    /// worker sleeps until the next submit.
+    /// where there is nothing to read. Between the turns the lock is free. After a round in which nothing was read, and which left
+    /// no group to work out, the worker sleeps until the next submit.
     pub fn work<R: Wait, G: Gate>(
         &self,
         rt: &R,
@@ -52,7 +56,7 @@ impl<J: Naming> Engine<J> {
                 return Ok(Some(shortest.front));
             }
             let len = shortest.front.len();
-            if len == read {
+            if len == read && shortest.worked_out {
                 self.sleep(rt, len);
             }
             read = len;
@@ -60,8 +64,8 @@ impl<J: Naming> Engine<J> {
         unreachable!()
     }
 
-    // One turn of each shard of the seat. It tells how far the one that has read least has come: of fronts of one log, this
-    // is closed only where all are.
+    /// One turn of each shard of the seat. It answers how far they have come. Of fronts of one log the shortest is closed only
+    /// where all are.
     fn pass<R: Wait, G: Gate>(&self, rt: &R, seat: usize, gate: &G) -> Result<Stand, AskFault>
         requires workers { seat < self.now.workers }
         requires shards { seat < self.now.shards }
@@ -70,18 +74,23 @@ impl<J: Naming> Engine<J> {
     {
         let shards = self.shards.len();
         let mut shortest = self.turn(rt, seat, gate)?;
+        let mut worked_out = shortest.worked_out;
         for shard in seat + 1..shards {
             if shard % self.workers == seat {
                 let stand = self.turn(rt, shard, gate)?;
+                worked_out = worked_out && stand.worked_out;
                 if stand.front.len() < shortest.front.len() {
                     shortest = stand;
                 }
             }
         }
-        Ok(shortest)
+        Ok(Stand {
+            worked_out,
+            ..shortest
+        })
     }
 
-    // A turn of the shard's lock, in which it reads on, or works out its groups, by one turn's steps at most.
+    /// A turn of the shard's lock, in which it reads on, or works out its groups, by one turn's steps at most.
     fn turn<R: Wait, G: Gate>(&self, rt: &R, shard: usize, gate: &G) -> Result<Stand, AskFault>
         requires { shard < self.now.shards }
         ensures stand { IfOk result (IsStand J.feed) }
@@ -91,16 +100,18 @@ impl<J: Naming> Engine<J> {
         gate.enter(rt, shard);
         let front = turn.absorb_some(STEPS_A_TURN);
         let closed = turn.is_closed();
+        let worked_out = turn.is_worked_out();
         MutexGuard::unlock(turn);
         gate.left(rt, shard);
         Ok(Stand {
             front: front?,
             closed,
+            worked_out,
         })
     }
 
-    // Waits until the log is longer than this. A submit that comes after the look at the log finds this thread asleep, and
-    // wakes it.
+    /// Waits until the log is longer than this. A submit that comes after the look at the log finds this thread asleep, and
+    /// wakes it.
     fn sleep<R: Wait>(&self, rt: &R, len: usize) {
         let intake = self.intake.lock(rt);
         let turn = self

@@ -42,6 +42,7 @@ impl<J: Naming> Shard<J> {
             front,
             tap,
             buffer: EntryBuffer::new(alloc),
+            left: 0,
             of: PhantomData,
         }
     }
@@ -114,8 +115,13 @@ impl<J: Naming> Shard<J> {
         ensures memory { IfErr result (λ fault. fault ≡ Memory) }
         ensures wants { OnErr result (HasInc self.new.front) }
     {
-        self.state.renew(max)?;
+        self.left = self.state.renew(max)?;
         Ok(())
+    }
+
+    /// No group was left to work out after its last turn in which there was nothing to read.
+    pub(crate) fn is_worked_out(&self) -> bool {
+        self.left == 0
     }
 
     /// The log that it has read was closed.
