@@ -23,30 +23,11 @@ impl<J: Naming> Engine<J> {
         requires { feed_of q.now ≡ J.feed }
         ensures { MatchResult result (IsSubmitted q.now entry) (MayFailToSubmit q.now entry) }
     {
-        match self.submit_with_epoch(rt, entry, q) {
-            Ok(submitted) => Ok(submitted.at),
-            Err(fault) => Err(fault),
-        }
+        Ok(self.submit_with_epoch(rt, entry, q)?.at)
     }
 
-    /// The same, with the epoch of the map that the log makes with the entry.
+    /// As [`Engine::submit`], and answers the epoch of the map that the log makes with the entry too.
     pub fn submit_with_epoch<R: Wait>(
-        &self,
-        rt: &R,
-        entry: Entry,
-        q: &Receipt,
-    ) -> Result<SubmitAnswer, SubmitFault>
-        requires { feed_of q.now ≡ J.feed }
-        ensures submitted { MatchResult result (λ submitted. IsSubmitted q.now entry submitted.at) (MayFailToSubmit q.now entry) }
-        ensures epoch { IfOk result (λ submitted. submitted.epoch ≡ epoch_of (entries_of submitted.at)) }
-    {
-        let submitted = self.submit_in_turn(rt, entry, q)?;
-        self.grown.notify_all();
-        Ok(submitted)
-    }
-
-    // The turn of the intake's lock in which it is submitted.
-    fn submit_in_turn<R: Wait>(
         &self,
         rt: &R,
         entry: Entry,
@@ -59,6 +40,9 @@ impl<J: Naming> Engine<J> {
         let mut turn = intake_turn(rt, &self.intake, q);
         let submitted = turn.submit_with_epoch(rt, entry);
         MutexGuard::unlock(turn);
+        if submitted.is_ok() {
+            self.grown.notify_all();
+        }
         submitted
     }
 

@@ -67,13 +67,10 @@ impl<J: Naming> Intake<J> {
         ensures reads { result ≡ Err NoReader → 0 < length self.old }
         ensures wants { result ≡ Err Memory → MayWant self.old entry }
     {
-        match self.submit_with_epoch(rt, entry) {
-            Ok(submitted) => Ok(submitted.at),
-            Err(fault) => Err(fault),
-        }
+        Ok(self.submit_with_epoch(rt, entry)?.at)
     }
 
-    /// The same, with the epoch of the map that the log makes with the entry.
+    /// As [`Intake::submit`], and answers the epoch of the map that the log makes with the entry too.
     pub fn submit_with_epoch<R: Wait>(
         &mut self,
         rt: &R,
