@@ -20,7 +20,7 @@ use pgp_ids::Entry;
 use std::alloc::{AllocError, Global};
 use std::sync::{Arc, Condvar, Mutex, Wait};
 
-// This many shards, each with one of the taps, of which the others are left.
+/// This many shards, each with one of the taps, of which the others are left.
 fn make_shards<J: Naming>(
     alloc: Global,
     taps: &mut Vec<Tap>,
@@ -40,7 +40,7 @@ fn make_shards<J: Naming>(
     Ok(all)
 }
 
-// A client for each of the taps.
+/// A client for each of the taps.
 fn make_clients<J: Naming>(alloc: Global, taps: Vec<Tap>) -> Result<Vec<Client<J>>, AllocError>
     requires { All (λ tap. feed_of (last_of tap) ≡ J.feed) taps.items }
     ensures count { IfOk result (λ clients. length clients.items ≡ length taps.items) }
@@ -54,11 +54,11 @@ fn make_clients<J: Naming>(alloc: Global, taps: Vec<Tap>) -> Result<Vec<Client<J
     Ok(clients)
 }
 
-// Publishes one more owner of an entry that the log takes next.
+/// Publishes one more owner of an entry that the log takes next.
 fn publish_shared<R: Wait>(rt: &R, feed: &mut Feed, entry: &Arc<Entry>) -> Result<(), AllocError>
     requires { fits (entries_of (told_of feed.old)) (arc_value entry.now) ≡ None }
     ensures feed { feed_of (told_of feed.new) ≡ feed_of (told_of feed.old) }
-    ensures told { OnOk result (entries_of (told_of feed.new) ≡ entries_of (told_of feed.old) ++ arc_value entry.now ∷ []) }
+    ensures log { OnOk result (entries_of (told_of feed.new) ≡ entries_of (told_of feed.old) ++ arc_value entry.now ∷ []) }
 {
     let copy = Arc::try_clone(entry)?;
     match feed.publish(rt, copy) {
@@ -67,11 +67,11 @@ fn publish_shared<R: Wait>(rt: &R, feed: &mut Feed, entry: &Arc<Entry>) -> Resul
     }
 }
 
-// Publishes these entries, which the log takes next, one after the other. Refused, it has published the first of them.
+/// Publishes these entries, which the log takes next, one after the other. Refused, it has published the first of them.
 fn publish_all<R: Wait>(rt: &R, feed: &mut Feed, entries: &[Arc<Entry>]) -> Result<(), AllocError>
     requires { is_legal (entries_of (told_of feed.old) ++ map arc_value entries.now) ≡ true }
     ensures feed { feed_of (told_of feed.new) ≡ feed_of (told_of feed.old) }
-    ensures told { OnOk result (entries_of (told_of feed.new) ≡ entries_of (told_of feed.old) ++ map arc_value entries.now) }
+    ensures log { OnOk result (entries_of (told_of feed.new) ≡ entries_of (told_of feed.old) ++ map arc_value entries.now) }
 {
     for entry in entries {
         publish_shared(rt, feed, entry)?;
@@ -106,9 +106,9 @@ impl<J: Naming> Engine<J> {
         Ok((engine, clients))
     }
 
-    /// The same over these entries, which are a legal log: they are published first, and the receipt names the log that they
-    /// make. So whoever hands it in is answered by a front that holds all of them. Each entry is shared with the caller. The
-    /// intake has judged them already, where there was memory for it; shards and clients read them later.
+    /// As [`Engine::make`], over these entries, which are a legal log: they are published first, and the receipt names the log
+    /// that they make. So whoever hands it in is answered by a front that holds all of them. Each entry is shared with the
+    /// caller. The intake has judged them already, where there was memory for it; shards and clients read them later.
     pub fn over<R: Wait>(
         rt: &R,
         alloc: Global,
@@ -142,7 +142,7 @@ impl<J: Naming> Engine<J> {
         Ok((engine, clients, told))
     }
 
-    // The engine, with a client for each of these taps.
+    /// The engine, with a client for each of these taps.
     fn with_clients<R: Wait>(
         self,
         rt: &R,
@@ -164,7 +164,7 @@ impl<J: Naming> Engine<J> {
         }
     }
 
-    // The engine over what the feed has told, and the taps that are left.
+    /// The engine over what the feed has told, and the taps that are left.
     fn with_taps<R: Wait>(
         rt: &R,
         alloc: Global,

@@ -20,7 +20,7 @@ use pgp_log::Judge;
 use std::alloc::{AllocError, Global};
 use std::sync::{Arc, Wait};
 
-// Has the judge take these entries, which come next. Without memory for one of them, it has taken those before it.
+/// Has the judge take these entries, which come next. Without memory for one of them, it has taken those before it.
 fn take_all(judge: &mut Judge, entries: &[Arc<Entry>]) -> Result<(), AllocError>
     requires { CanTakeAll judge.old (map arc_value entries.now) }
     ensures ok { OnOk result (OfItsLog judge.old (λ log. is_legal (log ++ map arc_value entries.now) ≡ true → IsJudgeOf (log ++ map arc_value entries.now) judge.new)) }
@@ -57,7 +57,7 @@ pub(super) fn catch_up(
     Ok(())
 }
 
-// Why the told log doesn't take the entry, if it doesn't.
+/// Why the told log doesn't take the entry, if it doesn't.
 fn fits(judge: &Judge, told: &Receipt, entry: &Entry) -> Result<(), SubmitFault>
     requires { IsJudgeOf (entries_of told.now) judge.now }
     ensures fit { MatchResult result (λ _. fits (entries_of told.now) entry.now ≡ None) (MayRefuse (feed_of told.now) (entries_of told.now) entry.now) }
@@ -97,7 +97,7 @@ pub(super) fn judge_next(
     fits(judge, &told, entry)
 }
 
-// Two owners of one entry.
+/// Two owners of one entry.
 fn two_owners(alloc: Global, entry: Entry) -> Result<(Arc<Entry>, Arc<Entry>), AllocError>
     ensures { IfOk result (λ owners. (arc_value owners.0 ≡ entry) × (arc_value owners.1 ≡ entry)) }
 {
@@ -121,7 +121,7 @@ pub(super) fn publish<R: Wait>(
     requires judge { IsJudgeOf (entries_of (told_of feed.old)) judge.old }
     requires fit { fits (entries_of (told_of feed.old)) entry ≡ None }
     ensures feed { feed_of (told_of feed.new) ≡ feed_of (told_of feed.old) }
-    ensures told { MatchResult result (λ r. (r ≡ told_of feed.new) × (entries_of r ≡ entries_of (told_of feed.old) ++ entry ∷ [])) (λ fault. (fault ≡ submit.Memory) × (told_of feed.new ≡ told_of feed.old)) }
+    ensures published { MatchResult result (λ r. (r ≡ told_of feed.new) × (entries_of r ≡ entries_of (told_of feed.old) ++ entry ∷ [])) (λ fault. (fault ≡ submit.Memory) × (told_of feed.new ≡ told_of feed.old)) }
     ensures follows { Follows (entries_of (told_of feed.new)) judge.new }
 {
     let (entry, copy) = two_owners(alloc, entry)?;

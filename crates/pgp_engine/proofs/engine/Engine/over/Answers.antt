@@ -7,5 +7,5 @@ use Rattle.pgp_engine.proofs.engine.Engine.over.Goals as goal
 pub returns-clause-told : goal.returns-clause-told
 returns-clause-told g c = record {
   of_feed = ap feed_of c.told-told.ensures ∙ (c.publish_all.ensures.feed ∙ c.requires.feed);
-  entries = ap entries_of c.told-told.ensures ∙ (c.in-Ok.ensures.told ∙ ap (λ (l : List Entry). l ++ map arc_value c.args.entries.now) c.requires.empty);
+  entries = ap entries_of c.told-told.ensures ∙ (c.in-Ok.ensures.log ∙ ap (λ (l : List Entry). l ++ map arc_value c.args.entries.now) c.requires.empty);
 }

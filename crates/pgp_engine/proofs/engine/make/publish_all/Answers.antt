@@ -11,7 +11,7 @@ use Rattle.pgp_engine.proofs.engine.make.publish_all.Goals as goal
 pub publish_shared-requires : goal.publish_shared-requires
 publish_shared-requires g c =
     let log : List Entry = entries_of (told_of c.args.feed.now) in
-    subst (λ (l : List Entry). fits l (arc_value c.entry-item.result) ≡ None) (sym c.loop-entry.invariant.told)
+    subst (λ (l : List Entry). fits l (arc_value c.entry-item.result) ≡ None) (sym c.loop-entry.invariant.log)
     (next-of-legal log arc_value c.args.entries.now c.loop-entry.entry-index c.entry-item.result c.requires c.loop-entry-test.true c.entry-item.is)
 
 pub loop-entry-preserved : goal.loop-entry-preserved
@@ -19,11 +19,11 @@ loop-entry-preserved g c =
     let log : List Entry = entries_of (told_of c.args.feed.now) in
     record {
       feed = c.in_ok-publish_shared.ensures.feed ∙ c.loop-entry.invariant.feed;
-      told = c.in_ok-publish_shared.ensures.told ∙ ap (λ (l : List Entry). l ++ arc_value c.entry-item.result ∷ []) c.loop-entry.invariant.told
+      log = c.in_ok-publish_shared.ensures.log ∙ ap (λ (l : List Entry). l ++ arc_value c.entry-item.result ∷ []) c.loop-entry.invariant.log
           ∙ sym (next-after log arc_value c.args.entries.now c.loop-entry.entry-index c.entry-item.result c.loop-entry-test.true c.entry-item.is);
     }
 
-pub returns-clause-told : goal.returns-clause-told
-returns-clause-told g c =
+pub returns-clause-log : goal.returns-clause-log
+returns-clause-log g c =
     let log : List Entry = entries_of (told_of c.args.feed.now) in
-    c.loop-entry.invariant.told ∙ ap (λ l. log ++ map arc_value l) (take_all c.loop-entry.entry-index c.args.entries.now (omega (arith, c.loop-entry-test.false)))
+    c.loop-entry.invariant.log ∙ ap (λ l. log ++ map arc_value l) (take_all c.loop-entry.entry-index c.args.entries.now (omega (arith, c.loop-entry-test.false)))

@@ -7,5 +7,5 @@ use Rattle.pgp_engine.proofs.engine.make.publish_all.Given as goal
 abbrev pub invariant-loop-entry : goal.invariant-loop-entry
 invariant-loop-entry g l = record {
   feed : feed_of (told_of l.feed) ≡ feed_of (told_of l.initial.feed);
-  told : entries_of (told_of l.feed) ≡ entries_of (told_of l.initial.feed) ++ map arc_value (take l.entry-index l.entries);
+  log : entries_of (told_of l.feed) ≡ entries_of (told_of l.initial.feed) ++ map arc_value (take l.entry-index l.entries);
 }
