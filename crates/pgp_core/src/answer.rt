@@ -44,8 +44,11 @@ pub fn answer_line<A: Answerer>(
     }
 }
 
-/// Puts the answerer's reply to a command that was read behind the text, with a line feed. A question about a group it puts
-/// itself.
+/// Puts the answerer's reply to a command that was read behind the text, with a line feed. A question about a group the answerer
+/// puts itself.
+///
+/// Before the answerer is asked for any other reply, there is room for the answer to an entry that is taken: so that answer can't
+/// fail once the log has the entry.
 fn answer_command<A: Answerer>(
     alloc: Global,
     writer: &mut ReplyWriter,
@@ -59,29 +62,9 @@ fn answer_command<A: Answerer>(
     ensures text { OnErr result (text.new.items ≡ text.old.items) }
     ensures log { OnErr result (MayAnswerBy A.alone (A.log answerer.old) (A.log answerer.new)) }
 {
-    match command {
-        Command::Ask(pg) => answerer.put_asked(alloc, writer, pg, text),
-        command => put_reply_to(alloc, writer, command, answerer, text),
+    if let Command::Ask(pg) = &command {
+        return answerer.put_asked(alloc, writer, *pg, text);
     }
-}
-
-/// The same, where the answerer only gives the reply.
-///
-/// There is room for the answer to an entry that is taken before the answerer is asked, so that it can't fail once the log
-/// has the entry.
-fn put_reply_to<A: Answerer>(
-    alloc: Global,
-    writer: &mut ReplyWriter,
-    command: Command,
-    answerer: &mut A,
-    text: &mut Vec<u8>,
-) -> Result<(), NoReply>
-    requires { IsInRange command }
-    ensures ok { OnOk result (PutsReply A.alone (A.log answerer.old) (A.log answerer.new) command text.old.items text.new.items) }
-    ensures lacks { IfErr result (LacksReply A.alone command) }
-    ensures text { OnErr result (text.new.items ≡ text.old.items) }
-    ensures log { OnErr result (MayAnswerBy A.alone (A.log answerer.old) (A.log answerer.new)) }
-{
     let want = want_of(&command);
     text.reserve(LONGEST_ACCEPTED)
         .or(Err(NoReply::Memory(want)))?;

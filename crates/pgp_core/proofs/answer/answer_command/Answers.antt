@@ -1,7 +1,7 @@
 use Rattle.std.proofs.Common.{◌≡◌, Result, Ok, Err, OnOk, sym, ◌∙◌}
 use Rattle.std.specs.Result.{result_or}
 use Rattle.pgp_core.proofs.ReplyLemmas.{stays-unless-put}
-use Rattle.pgp_core.proofs.answer.put_reply_to.Goals as goal
+use Rattle.pgp_core.proofs.answer.answer_command.Goals as goal
 
 -- where a call has not failed, no other fault came in place of its own
 succeeded : {T E F : Type 0} (r : Result T E) (fault : F) (done : T) (P : Type 0) → result_or r (Err fault) ≡ Ok done → OnOk r P → P
