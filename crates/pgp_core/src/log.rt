@@ -82,18 +82,12 @@ impl Log {
         self.log.map()
     }
 
-    /// The entries, in the order in which they were taken.
+    /// The entries, in the order in which they were taken: a legal log.
     pub fn entries(&self) -> &[Arc<Entry>]
-        ensures { map arc_value result.now ≡ self.now }
+        ensures entries { map arc_value result.now ≡ self.now }
+        ensures legal { is_legal self.now ≡ true }
     {
         self.log.entries()
-    }
-
-    /// The entries are a legal log. It does nothing else than to say so.
-    pub fn stays_legal(&self)
-        ensures { is_legal self.now ≡ true }
-    {
-        let _entries = self.log.entries();
     }
 
     /// Where the object of this name lies by the map that the entries make: the reply to a question that changes nothing.

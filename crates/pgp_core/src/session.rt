@@ -146,7 +146,6 @@ impl Session {
         ensures entries { map arc_value result.now ≡ self.now.log }
         ensures legal { is_legal self.now.log ≡ true }
     {
-        self.log.stays_legal();
         self.log.entries()
     }
 

@@ -16,7 +16,7 @@ pub text_of-requires : goal.text_of-requires
 text_of-requires c =
     let made : List EntryLine = entry_lines [] (lines_of c.args.script.now) in
     let read = all-read (lines_of c.args.script.now) c.in_ok-read.read c.in_ok-read.ensures in
-    let choices : c.in_ok-needed.needed.items ≡ are_needed_in (entries_of made) = c.in_ok-needed.ensures ∙ ap are_needed_in (c.entries.ensures ∙ read.0) in
+    let choices : c.in_ok-needed.needed.items ≡ are_needed_in (entries_of made) = c.in_ok-needed.ensures ∙ ap are_needed_in (c.entries.ensures.entries ∙ read.0) in
     ap length (c.as_slice-choices.ensures.value ∙ choices) ∙ are_needed-length (is_needed (entries_of made)) (entries_of made) ∙ length-map made (λ (it : EntryLine). it.entry)
     ∙ sym (ap (λ (l : List (List ℕ)). length l) read.1 ∙ length-map made (λ (it : EntryLine). it.line))
     ∙ length-map c.in_ok-read.read.lines.items (λ line. line.now) ∙ sym (ap length c.as_slice.ensures.value)
@@ -25,7 +25,7 @@ pub returns-clause-text : goal.returns-clause-text
 returns-clause-text c =
     let made : List EntryLine = entry_lines [] (lines_of c.args.script.now) in
     let read = all-read (lines_of c.args.script.now) c.in_ok-read.read c.in_ok-read.ensures in
-    let choices : c.in_ok-needed.needed.items ≡ are_needed_in (entries_of made) = c.in_ok-needed.ensures ∙ ap are_needed_in (c.entries.ensures ∙ read.0) in
+    let choices : c.in_ok-needed.needed.items ≡ are_needed_in (entries_of made) = c.in_ok-needed.ensures ∙ ap are_needed_in (c.entries.ensures.entries ∙ read.0) in
     let lines : map (λ line. line.now) c.as_slice.result.now ≡ bare made = ap (map (λ line. line.now)) c.as_slice.ensures.value ∙ read.1 in
     c.in_ok-text.ensures
     ∙ ap₂ (λ (b : List Bool) (l : List (List ℕ)). text_of_lines (chosen b l)) (c.as_slice-choices.ensures.value ∙ choices) lines
@@ -35,7 +35,7 @@ pub returns-clause-counts : goal.returns-clause-counts
 returns-clause-counts c =
     let made : List EntryLine = entry_lines [] (lines_of c.args.script.now) in
     let read = all-read (lines_of c.args.script.now) c.in_ok-read.read c.in_ok-read.ensures in
-    let choices : c.in_ok-needed.needed.items ≡ are_needed_in (entries_of made) = c.in_ok-needed.ensures ∙ ap are_needed_in (c.entries.ensures ∙ read.0) in record {
+    let choices : c.in_ok-needed.needed.items ≡ are_needed_in (entries_of made) = c.in_ok-needed.ensures ∙ ap are_needed_in (c.entries.ensures.entries ∙ read.0) in record {
       entries = ap (λ (l : List Bool). length l) (c.as_slice-choices.ensures.value ∙ choices) ∙ are_needed-length (is_needed (entries_of made)) (entries_of made) ∙ length-map made (λ (it : EntryLine). it.entry);
       kept = c.count_chosen.ensures ∙ ap (λ (l : List Bool). count_by (λ choice. choice) l) (c.as_slice-choices.ensures.value ∙ choices)
           ∙ count-needed (is_needed (entries_of made)) (entries_of made)

@@ -14,7 +14,7 @@ some_of_map f (Some x) y is = (x, refl)
 
 pub returns-clause-some : goal.returns-clause-some
 returns-clause-some c =
-    let told : map arc_value c.entries.result.now ≡ c.args.log.now = c.entries.ensures ∙ c.ask.ensures.same in
+    let told : map arc_value c.entries.result.now ≡ c.args.log.now = c.entries.ensures.entries ∙ c.ask.ensures.same in
     let view : scratch c.args.log.now c.args.pg ≡ Some c.in-Some.view =
     sym (sym c.in-Some.is ∙ c.in_ok-view.ensures.view ∙ ap (scratch c.args.log.now) c.copy_of.ensures) in
     let found = some_of_map view_of (group_in c.args.log.now c.args.pg) c.in-Some.view view in

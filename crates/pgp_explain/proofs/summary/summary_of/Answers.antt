@@ -26,7 +26,7 @@ returns-clause-value c =
     subst (λ (l : List PgId). AreSums (filter_map (group_in log) l) sums) (c.as_slice.ensures.value ∙ listed) c.in_ok-sums.ensures.value in
     let asked : c.sums_of.new.log ≡ log = c.sums_of.ensures.same in
     let of_log : IsMapOf (incs_of log) c.map-2.result.now = subst (λ (l : List Entry). IsMapOf (incs_of l) c.map-2.result.now) asked c.map-2.ensures in
-    let told : map arc_value c.entries.result.now ≡ log = c.entries.ensures ∙ asked in
+    let told : map arc_value c.entries.result.now ≡ log = c.entries.ensures.entries ∙ asked in
     let hears : AreHeard (groups_in log) sums.waiting set =
     all-heard log pgs sums are c.map-2.result.now set of_log (λ g first member waits present whole. c.in_ok-heard.ensures g first member waits present (told ∙ whole)) in
     let listed-2 : c.as_slice-2.result.now ≡ pgs = c.as_slice-2.ensures.value ∙ listed in
