@@ -1,14 +1,13 @@
 //! What a line of a script is to a log that takes its entries and answers nothing.
 
-ghost use Rattle.std.specs.Prelude.{◌≡◌, IfOk, OnErr};
+ghost use Rattle.std.specs.Prelude.{◌≡◌, ℕ, List, IfOk, OnErr};
 ghost use Rattle.pgp_lines.specs.declared.command.Command.TheVariants.{Ask, Locate, Submit};
 ghost use Rattle.pgp_core.specs.Added.{IsOutcome, IsOutcomeOf, added_by, taken_from, with_added};
-ghost use Rattle.pgp_group.specs.Entries.{incs_of};
-ghost use Rattle.pgp_map.specs.Pools.{has_group};
 
 use super::line::{LONGEST_LINE, all_blank};
 use super::log::Log;
-use pgp_ids::{AskRefusal, Entry, LocateRefusal, ObjectName, PgId, PoolId, TextFault};
+use pgp_ids::{AskRefusal, Entry, LocateRefusal, PgId, PoolId, TextFault};
+use pgp_log::has_group;
 use pgp_text::{Command, LineReader, LineRefusal};
 use std::alloc::{AllocError, Global};
 
@@ -63,8 +62,8 @@ fn obey(log: &mut Log, command: Command) -> Result<LineOutcome, AllocError>
     match command {
         Command::Submit(entry) => offered(log, entry),
         Command::Ask(pg) => Ok(asked(log, pg)),
-        Command::Locate { pool, name } => Ok(located(log, pool, &name)),
-        Command::Trace { code: _, epochs: _ } => Ok(LineOutcome::Asked),
+        Command::Locate { pool, .. } => Ok(located(log, pool)),
+        Command::Trace { .. } => Ok(LineOutcome::Asked),
     }
 }
 
@@ -84,26 +83,17 @@ fn offered(log: &mut Log, entry: Entry) -> Result<LineOutcome, AllocError>
 fn asked(log: &Log, pg: PgId) -> LineOutcome
     ensures { IsOutcomeOf log.now (Ask pg) result }
 {
-    if has_group(log, pg) {
+    if has_group(log.map(), &pg) {
         LineOutcome::Asked
     } else {
         LineOutcome::Refused(LineRefusal::Ask(AskRefusal::UnknownGroup))
     }
 }
 
-/// Whether the log's map has the group.
-fn has_group(log: &Log, pg: PgId) -> bool
-    ensures { result ≡ has_group (incs_of log.now) pg }
-{
-    match log.map().pool(pg.pool) {
-        Some(pool) => pg.pg < pool.pg_num,
-        None => false,
-    }
-}
-
-/// What a question where the object of this name lies is to the log. It has an answer where the map has the pool.
-fn located(log: &Log, id: PoolId, _name: &ObjectName) -> LineOutcome
-    ensures { IsOutcomeOf log.now (Locate id _name.now) result }
+/// What a question where an object of the pool lies is to the log, whatever its name is. It has an answer where the map has the
+/// pool.
+fn located(log: &Log, id: PoolId) -> LineOutcome
+    ensures { (name : List ℕ) → IsOutcomeOf log.now (Locate id name) result }
 {
     match log.map().pool(id) {
         Some(_) => LineOutcome::Asked,
