@@ -1,5 +1,5 @@
 //! Help, and the messages where the program does not do what it is asked for.
-ghost use Rattle.std.specs.Prelude.{◌≡◌, ◌≢◌, ◌⊎◌, true, OnOk, OnErr};
+ghost use Rattle.std.specs.Prelude.{◌≡◌, ◌≢◌, ◌⊎◌, true};
 ghost use Rattle.std.specs.Io.KnownBytes.{Appends};
 ghost use Rattle.std.specs.declared.io.ErrorKind.TheVariants.{InvalidData};
 ghost use Rattle.clap.specs.Values.{kind_of};
@@ -11,7 +11,7 @@ use super::fault::Fault;
 use clap::Error;
 use clap::error::ErrorKind;
 use pgp_compact_script::Compaction;
-use pgp_core::{Sink, WriteFault, write_out};
+use pgp_core::{Sink, pass_on};
 use std::alloc::{AllocError, Global};
 use std::io;
 use std::io::Write;
@@ -99,16 +99,6 @@ fn show_help<W: Sink, E: Write>(help: &str, writer: &mut W, errors: &mut E) -> E
         Ok(()) => Ending::Done,
         Err(_) => fault(Fault::Write, errors),
     }
-}
-
-/// Writes all of `text`, and has the writer pass it on.
-fn pass_on<W: Sink>(writer: &mut W, text: &[u8]) -> Result<(), WriteFault>
-    ensures ok { OnOk result (Appends (W.contents writer.old) (W.contents writer.new) text.now) }
-    ensures told { OnErr result (W.failed writer.new ≡ true) }
-    ensures kept { OnOk result (W.failed writer.new ≡ W.failed writer.old) }
-{
-    write_out(writer, text)?;
-    writer.flush().or(Err(WriteFault))
 }
 
 /// Says why the words of the command line could not be read: one is no text, or there was no memory for them.

@@ -1,8 +1,6 @@
 //! Compacting a script.
 
 ghost use Rattle.std.specs.Prelude.{◌≡◌, ◌≢◌, true, count_by, IfOk, OnOk, OnErr};
-ghost use Rattle.std.specs.Io.KnownBytes.{Appends};
-ghost use Rattle.pgp_core.specs.Output.{FrontWent};
 ghost use Rattle.pgp_core.specs.Run.{script_bounds};
 ghost use Rattle.pgp_core.specs.Whole.{GivesTooMuch};
 ghost use Rattle.pgp_compact_script.specs.Compaction.{HasCounts, IsCompacted, IsCutShort};
@@ -12,7 +10,7 @@ use super::entries::read_entries;
 use super::fault::CompactFault;
 use super::text::text_of;
 use pgp_compact::needed;
-use pgp_core::{SCRIPT_BOUNDS, Sink, Source, WholeFault, WriteFault, read_whole, write_out};
+use pgp_core::{SCRIPT_BOUNDS, Sink, Source, WholeFault, pass_on, read_whole};
 use std::alloc::{AllocError, Global};
 
 /// What became of the lines of a script.
@@ -75,15 +73,4 @@ fn count_chosen(choices: &[bool]) -> usize
     ensures { result ≡ count_by (λ choice. choice) choices.now }
 {
     choices.iter().filter(|choice| **choice).count()
-}
-
-/// Writes all of the text, and has the writer pass it on.
-fn pass_on<W: Sink>(writer: &mut W, text: &[u8]) -> Result<(), WriteFault>
-    ensures ok { OnOk result (Appends (W.contents writer.old) (W.contents writer.new) text.now) }
-    ensures err { OnErr result (FrontWent (W.contents writer.old) (W.contents writer.new) text.now) }
-    ensures told { OnErr result (W.failed writer.new ≡ true) }
-    ensures kept { OnOk result (W.failed writer.new ≡ W.failed writer.old) }
-{
-    write_out(writer, text)?;
-    writer.flush().or(Err(WriteFault))
 }

@@ -29,7 +29,7 @@ pub use input::{Bounds, SCRIPT_BOUNDS, split_line};
 pub use line::{LONGEST_LINE, all_blank};
 pub use log::Log;
 pub use outcome::LineOutcome;
-pub use output::{WriteFault, write_out};
+pub use output::{WriteFault, pass_on};
 pub use replies::{asked, traced};
 pub use script::{answer_script, run_script, run_script_within};
 pub use session::Session;

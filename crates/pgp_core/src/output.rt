@@ -48,8 +48,9 @@ impl Output {
         ensures told { OnErr result (W.failed writer.new ≡ true) }
         ensures kept { OnOk result (W.failed writer.new ≡ W.failed writer.old) }
     {
-        self.flush(writer)?;
-        writer.flush().or(Err(WriteFault))
+        pass_on(writer, self.pending.as_slice())?;
+        self.pending.clear();
+        Ok(())
     }
 
     /// Puts text after what is pending. Where there is no memory for it, all of it is written at once.
@@ -73,7 +74,7 @@ impl Output {
 }
 
 /// Writes all of `text`.
-pub fn write_out<W: Sink>(writer: &mut W, text: &[u8]) -> Result<(), WriteFault>
+fn write_out<W: Sink>(writer: &mut W, text: &[u8]) -> Result<(), WriteFault>
     ensures ok { OnOk result (Appends (W.contents writer.old) (W.contents writer.new) text.now) }
     ensures err { OnErr result (FrontWent (W.contents writer.old) (W.contents writer.new) text.now) }
     ensures told { OnErr result (W.failed writer.new ≡ true) }
@@ -90,4 +91,15 @@ pub fn write_out<W: Sink>(writer: &mut W, text: &[u8]) -> Result<(), WriteFault>
         rest = &rest[count..];
     }
     Ok(())
+}
+
+/// Writes all of `text`, and has the writer pass it on.
+pub fn pass_on<W: Sink>(writer: &mut W, text: &[u8]) -> Result<(), WriteFault>
+    ensures ok { OnOk result (Appends (W.contents writer.old) (W.contents writer.new) text.now) }
+    ensures err { OnErr result (FrontWent (W.contents writer.old) (W.contents writer.new) text.now) }
+    ensures told { OnErr result (W.failed writer.new ≡ true) }
+    ensures kept { OnOk result (W.failed writer.new ≡ W.failed writer.old) }
+{
+    write_out(writer, text)?;
+    writer.flush().or(Err(WriteFault))
 }

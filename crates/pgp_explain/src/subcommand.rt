@@ -1,5 +1,5 @@
 //! The subcommand, over any reader and writers.
-ghost use Rattle.std.specs.Prelude.{◌≡◌, ◌≢◌, ◌⊎◌, true, Some, None, IfOk, IfErr, OnOk, OnErr, string_bytes};
+ghost use Rattle.std.specs.Prelude.{◌≡◌, ◌≢◌, ◌⊎◌, true, Some, None, IfOk, IfErr, OnOk, string_bytes};
 ghost use Rattle.std.specs.Io.KnownBytes.{Appends};
 ghost use Rattle.pgp_core.specs.Output.{FrontWent};
 ghost use Rattle.pgp_core.specs.Run.{script_bounds};
@@ -14,7 +14,7 @@ use super::groups::explanation_of;
 use super::read::read_log;
 use super::summary::summary_of;
 use super::summary_text::text_of_summary;
-use pgp_core::{Log, Sink, Source, WholeFault, WriteFault, write_out};
+use pgp_core::{Log, Sink, Source, WholeFault, pass_on};
 use pgp_group_words::{EpochOffset, Explanation, put_json, put_words};
 use pgp_ids::PgId;
 use std::alloc::{AllocError, Global};
@@ -138,15 +138,4 @@ fn summary_text(
 {
     let summary = summary_of(alloc, log)?;
     Ok(text_of_summary(alloc, &summary, json, offset)?)
-}
-
-/// Writes all of `text`, and has the writer pass it on.
-fn pass_on<W: Sink>(writer: &mut W, text: &[u8]) -> Result<(), WriteFault>
-    ensures ok { OnOk result (Appends (W.contents writer.old) (W.contents writer.new) text.now) }
-    ensures err { OnErr result (FrontWent (W.contents writer.old) (W.contents writer.new) text.now) }
-    ensures told { OnErr result (W.failed writer.new ≡ true) }
-    ensures kept { OnOk result (W.failed writer.new ≡ W.failed writer.old) }
-{
-    write_out(writer, text)?;
-    writer.flush().or(Err(WriteFault))
 }
