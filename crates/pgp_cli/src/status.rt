@@ -19,7 +19,7 @@ use super::request::{Request, read_request};
 use super::run_options::RunOptions;
 use super::tell::{fault, help_or_usage, left_out};
 use pgp_compact_script::{CompactFault, compact_script};
-use pgp_core::{ScriptFault, Sink, Source, WholeFault, run_script};
+use pgp_core::{ScriptFault, Sink, Source, run_script};
 use pgp_explain::{ExplainFault, explain};
 use std::alloc::Global;
 use std::io::Write;
@@ -179,19 +179,16 @@ fn explain_script<R: Source, W: Sink, E: Write>(
     );
     match told {
         Ok(()) => Ending::Done,
-        Err(why) => fault(fault_of(why, options), errors),
+        Err(why) => fault(fault_of(why), errors),
     }
 }
 
 /// The fault that ended an explanation.
-fn fault_of(why: ExplainFault, options: &ExplainOptions) -> Fault {
+fn fault_of(why: ExplainFault) -> Fault {
     match why {
         ExplainFault::Script(why) => Fault::Script(why),
         ExplainFault::Write => Fault::Write,
-        ExplainFault::UnknownGroup => match options.pg {
-            Some(pg) => Fault::UnknownGroup(pg),
-            None => Fault::Script(WholeFault::Memory),
-        },
+        ExplainFault::UnknownGroup(pg) => Fault::UnknownGroup(pg),
     }
 }
 

@@ -84,16 +84,10 @@ pub record HasNoGroup (pg : PgId) (from to : Option (List ℕ)) : Type 0 where
   pub log_is : IsLogOfScript log from to
   pub none : scratch log pg ≡ None
 
--- a group is asked for, and that map has none of this name
-abbrev pub AsksForNone : Option PgId → (from to : Option (List ℕ)) → Type 0
-AsksForNone None from to = ⊥
-AsksForNone (Some pg) from to = HasNoGroup pg from to
-
--- why there is no text: the map has no such group, or there was no memory
+-- why there is no text: the map doesn't have the group that is asked about, or there was no memory
 abbrev pub StopsText : ExplainFault → List Entry → Option PgId → Type 0
 StopsText (Script Read) log pg = ⊥
 StopsText (Script TooLarge) log pg = ⊥
 StopsText (Script Memory) log pg = Unit {0}
 StopsText Write log pg = ⊥
-StopsText UnknownGroup log None = ⊥
-StopsText UnknownGroup log (Some pg) = scratch log pg ≡ None
+StopsText (UnknownGroup asked) log pg = (pg ≡ Some asked) × (scratch log asked ≡ None)

@@ -35,4 +35,4 @@ pub record IsRefusedInPart (from to : Option (List ℕ)) : Type 0 where
 abbrev pub IsOfReading : ExplainFault → Type 0
 IsOfReading (Script why) = Unit {0}
 IsOfReading Write = ⊥
-IsOfReading UnknownGroup = ⊥
+IsOfReading (UnknownGroup pg) = ⊥

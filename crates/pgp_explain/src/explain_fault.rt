@@ -1,4 +1,5 @@
 use pgp_core::{WholeFault, WriteFault};
+use pgp_ids::PgId;
 use std::alloc::AllocError;
 use thiserror::Error;
 
@@ -11,9 +12,9 @@ pub enum ExplainFault {
     /// A write failed, or took no byte.
     #[error("write fault")]
     Write,
-    /// The map has no such group.
+    /// The map does not have this group, which was asked about.
     #[error("the map has no such group")]
-    UnknownGroup,
+    UnknownGroup(PgId),
 }
 
 impl From<WholeFault> for ExplainFault {

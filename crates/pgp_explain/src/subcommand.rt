@@ -1,10 +1,11 @@
 //! The subcommand, over any reader and writers.
 ghost use Rattle.std.specs.Prelude.{◌≡◌, ◌≢◌, ◌⊎◌, true, Some, None, IfOk, IfErr, OnOk, string_bytes};
 ghost use Rattle.std.specs.Io.KnownBytes.{Appends};
+ghost use Rattle.pgp_ids.specs.declared.pg_id.PgId.{PgId as Group};
 ghost use Rattle.pgp_core.specs.Output.{FrontWent};
 ghost use Rattle.pgp_core.specs.Run.{script_bounds};
 ghost use Rattle.pgp_core.specs.Whole.{GivesTooMuch};
-ghost use Rattle.pgp_explain.specs.Explanation.{AsksForNone, IsCutShort, IsExplained, IsGroupText, SaysAsked, StopsText, group_text as text_of_explained, question};
+ghost use Rattle.pgp_explain.specs.Explanation.{HasNoGroup, IsCutShort, IsExplained, IsGroupText, SaysAsked, StopsText, group_text as text_of_explained, question};
 ghost use Rattle.pgp_explain.specs.Reading.{IsRefusedInPart};
 ghost use Rattle.pgp_explain.specs.Summary.{summary_of};
 ghost use Rattle.pgp_explain.specs.SummaryText.{summary_text as text_of_all};
@@ -44,8 +45,9 @@ pub fn explain<R: Source, W: Sink, E: Write>(
     // A write failed, and what went out is a front of that text.
     ensures write { result ≡ Err ExplainFault.Write → (W.failed writer.new ≡ true) × IsCutShort (question pg json epoch_offset)
         (R.remaining reader.old) (R.remaining reader.new) (W.contents writer.old) (W.contents writer.new) }
-    // The map of that log has no such group.
-    ensures unknown { result ≡ Err ExplainFault.UnknownGroup → AsksForNone pg (R.remaining reader.old) (R.remaining reader.new) }
+    // The map of that log doesn't have this group, which is the one that is asked about.
+    ensures unknown { (asked : Group) → result ≡ Err (ExplainFault.UnknownGroup asked) → (pg ≡ Some asked)
+        × HasNoGroup asked (R.remaining reader.old) (R.remaining reader.new) }
     // At every other fault nothing was written.
     ensures unwritten { IfErr result (λ fault. fault ≢ ExplainFault.Write → writer.new ≡ writer.old) }
     // Nothing is told of lines, unless one of the script is refused.
@@ -103,7 +105,7 @@ fn group_text(
     ensures err { IfErr result (λ fault. StopsText fault log.old (Some pg)) }
 {
     let Some(explanation) = explanation_of(alloc, log, pg)? else {
-        return Err(ExplainFault::UnknownGroup);
+        return Err(ExplainFault::UnknownGroup(pg));
     };
     Ok(text_of_group(alloc, &explanation, json, offset)?)
 }

@@ -7,7 +7,7 @@ use Rattle.pgp_cli.proofs.status.explain_script.Goals as goal
 write_or_other : (fault : ExplainFault) → (fault ≡ Write) ⊎ (fault ≢ Write)
 write_or_other (Script why) = inr (λ is. cc)
 write_or_other Write = inl refl
-write_or_other UnknownGroup = inr (λ is. cc)
+write_or_other (UnknownGroup pg) = inr (λ is. cc)
 
 pub returns-in-Err-clause-fault : goal.returns-in-Err-clause-fault
 returns-in-Err-clause-fault g c fault = elim (write_or_other c.in-Err.why) [
