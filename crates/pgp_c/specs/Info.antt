@@ -17,26 +17,26 @@ use Rattle.pgp_c.specs.declared.info.PgpInfo.{PgpInfo}
 use Rattle.pgp_c.specs.declared.status.Status.TheVariants.{Done, NoMemory, NotOpen, BadArgument}
 
 -- the numbers are those of an info
-pub record IsInfo (told : PgpInfo) : Type 0 where
-  pub of_group : IsGroup told.pool told.pg
-  pub of_member : IsMember told.osd told.slot
-  pub complete : told.complete ≤ 1
+pub record IsInfo (info : PgpInfo) : Type 0 where
+  pub of_group : IsGroup info.pool info.pg
+  pub of_member : IsMember info.osd info.slot
+  pub complete : info.complete ≤ 1
 
 abbrev pub info_of : PgpInfo → Info
-info_of told = record {
-  pg = group told.pool told.pg;
-  member = member told.osd told.slot;
-  stamp = told.stamp;
-  les = told.les;
-  history_les = told.history_les;
-  last_epoch_clean = told.last_epoch_clean;
-  last_update = record { epoch = told.last_update_epoch; v = told.last_update };
-  log_tail = record { epoch = told.log_tail_epoch; v = told.log_tail };
-  complete = nat_eq told.complete 1;
+info_of info = record {
+  pg = group info.pool info.pg;
+  member = member info.osd info.slot;
+  stamp = info.stamp;
+  les = info.les;
+  history_les = info.history_les;
+  last_epoch_clean = info.last_epoch_clean;
+  last_update = record { epoch = info.last_update_epoch; v = info.last_update };
+  log_tail = record { epoch = info.log_tail_epoch; v = info.log_tail };
+  complete = nat_eq info.complete 1;
 }
 
 abbrev pub entry_of : PgpInfo → Entry
-entry_of told = entry.Info (info_of told)
+entry_of info = entry.Info (info_of info)
 
 -- the number of the refusal, where the reply says that the log doesn't take an entry
 abbrev pub reply_status : Reply → ℕ
@@ -61,13 +61,13 @@ pub record IsLacking (was now : LogAndAnswer) (new : Entry) (status : ℕ) : Typ
   pub status_is : status ≡ status_number NoMemory
 
 -- An info was told to a session, which goes from `was` to `now`.
-pub record SubmitsIn (was now : LogAndAnswer) (told : PgpInfo) (status : ℕ) : Type 0 where
+pub record SubmitsIn (was now : LogAndAnswer) (info : PgpInfo) (status : ℕ) : Type 0 where
   pub answer : now.answer ≡ was.answer
-  pub bad : (IsInfo told → ⊥) → (now.log ≡ was.log) × (status ≡ status_number BadArgument)
-  pub good : IsInfo told → IsTaken was now (entry_of told) status ⊎ IsLacking was now (entry_of told) status
+  pub bad : (IsInfo info → ⊥) → (now.log ≡ was.log) × (status ≡ status_number BadArgument)
+  pub good : IsInfo info → IsTaken was now (entry_of info) status ⊎ IsLacking was now (entry_of info) status
 
 -- An info was told to a session, where there is one.
 abbrev pub Submits : Option LogAndAnswer → Option LogAndAnswer → PgpInfo → ℕ → Type 0
-Submits None now told status = (now ≡ None) × (status ≡ status_number NotOpen)
-Submits (Some was) None told status = ⊥
-Submits (Some was) (Some now) told status = SubmitsIn was now told status
+Submits None now info status = (now ≡ None) × (status ≡ status_number NotOpen)
+Submits (Some was) None info status = ⊥
+Submits (Some was) (Some now) info status = SubmitsIn was now info status

@@ -43,10 +43,10 @@ pub struct PgpInfo {
 }
 
 /// Adds an info to the session's log.
-pub fn submit_info(session: &mut Session, told: &PgpInfo) -> u32
-    ensures { SubmitsIn session.old session.new told.now result }
+pub fn submit_info(session: &mut Session, info: &PgpInfo) -> u32
+    ensures { SubmitsIn session.old session.new info.now result }
 {
-    let Some(info) = info_of(told) else {
+    let Some(info) = info_of(info) else {
         return Status::BadArgument.number();
     };
     match session.submit(Entry::Info(info)) {
@@ -57,25 +57,25 @@ pub fn submit_info(session: &mut Session, told: &PgpInfo) -> u32
 }
 
 /// The info with these numbers, if each is in its range.
-fn info_of(told: &PgpInfo) -> Option<Info>
-    ensures in_range { IsSome result ↔ IsInfo told.now }
-    ensures value { IfSome result (λ info. info ≡ info_of told.now) }
+fn info_of(info: &PgpInfo) -> Option<Info>
+    ensures in_range { IsSome result ↔ IsInfo info.now }
+    ensures value { IfSome result (λ it. it ≡ info_of info.now) }
 {
-    let pg = group_of(told.pool, told.pg)?;
-    let member = member_of(told.osd, told.slot)?;
-    if told.complete > 1 {
+    let pg = group_of(info.pool, info.pg)?;
+    let member = member_of(info.osd, info.slot)?;
+    if info.complete > 1 {
         return None;
     }
     Some(Info {
         pg,
         member,
-        stamp: Epoch::new(told.stamp),
-        les: Epoch::new(told.les),
-        history_les: Epoch::new(told.history_les),
-        last_epoch_clean: Epoch::new(told.last_epoch_clean),
-        last_update: version_of(told.last_update_epoch, told.last_update),
-        log_tail: version_of(told.log_tail_epoch, told.log_tail),
-        complete: told.complete == 1,
+        stamp: Epoch::new(info.stamp),
+        les: Epoch::new(info.les),
+        history_les: Epoch::new(info.history_les),
+        last_epoch_clean: Epoch::new(info.last_epoch_clean),
+        last_update: version_of(info.last_update_epoch, info.last_update),
+        log_tail: version_of(info.log_tail_epoch, info.log_tail),
+        complete: info.complete == 1,
     })
 }
 

@@ -17,7 +17,7 @@ use super::explain_options::ExplainOptions;
 use super::fault::Fault;
 use super::request::{Request, read_request};
 use super::run_options::RunOptions;
-use super::tell::{fault, help_or_usage, left_out};
+use super::tell::{help_or_usage, report_fault, report_left_out};
 use pgp_compact_script::{CompactFault, compact_script};
 use pgp_core::{ScriptFault, Sink, Source, run_script};
 use pgp_explain::{ExplainFault, explain};
@@ -109,7 +109,7 @@ fn run<R: Source, W: Sink, E: Write, T: Threads + Wait + Sync>(
 {
     match answer(rt, alloc, options, reader, writer) {
         Ok(()) => Ending::Done,
-        Err(why) => fault(script_fault(why, reader), errors),
+        Err(why) => report_fault(script_fault(why, reader), errors),
     }
 }
 
@@ -168,7 +168,7 @@ fn explain_script<R: Source, W: Sink, E: Write>(
         × ExplainIsCutShort options.now (R.remaining reader.old) (R.remaining reader.new) (W.contents writer.old)
         (W.contents writer.new)) }
 {
-    let told = explain(
+    let outcome = explain(
         alloc,
         reader,
         writer,
@@ -177,9 +177,9 @@ fn explain_script<R: Source, W: Sink, E: Write>(
         options.json,
         options.epoch_offset,
     );
-    match told {
+    match outcome {
         Ok(()) => Ending::Done,
-        Err(why) => fault(fault_of(why), errors),
+        Err(why) => report_fault(fault_of(why), errors),
     }
 }
 
@@ -209,10 +209,10 @@ fn compact<R: Source, W: Sink, E: Write>(
 {
     match compact_script(alloc, reader, writer) {
         Ok(counts) => {
-            left_out(&counts, errors);
+            report_left_out(&counts, errors);
             Ending::Done
         }
-        Err(why) => fault(compact_fault(why), errors),
+        Err(why) => report_fault(compact_fault(why), errors),
     }
 }
 

@@ -97,7 +97,7 @@ fn show_help<W: Sink, E: Write>(help: &str, writer: &mut W, errors: &mut E) -> E
 {
     match pass_on(writer, help.as_bytes()) {
         Ok(()) => Ending::Done,
-        Err(_) => fault(Fault::Write, errors),
+        Err(_) => report_fault(Fault::Write, errors),
     }
 }
 
@@ -115,7 +115,7 @@ pub fn without_words<E: Write>(kind: io::ErrorKind, errors: &mut E) -> Ending
 }
 
 /// Reports a fault.
-pub fn fault<E: Write>(fault: Fault, errors: &mut E) -> Ending
+pub fn report_fault<E: Write>(fault: Fault, errors: &mut E) -> Ending
     ensures { result ≡ Ending.Fault }
 {
     let _ = writeln!(errors, "pgpeer: {fault}");
@@ -123,7 +123,7 @@ pub fn fault<E: Write>(fault: Fault, errors: &mut E) -> Ending
 }
 
 /// Reports how many entries a compaction left out, and how many lines were refused.
-pub fn left_out<E: Write>(counts: &Compaction, errors: &mut E) {
+pub fn report_left_out<E: Write>(counts: &Compaction, errors: &mut E) {
     let left_out = counts.entries.saturating_sub(counts.kept);
     let _ = write!(
         errors,

@@ -2,13 +2,13 @@
 use Rattle.std.proofs.Common.{◌≡◌, ℕ, ◌<◌, List, [], ◌∷◌, ◌++◌, Bool, true, false, cond, length, refl, sym, ap, ◌∙◌, append_assoc, append-nil, arith}
 use Rattle.std.specs.List.{list_any}
 use Rattle.std.proofs.lemmas.Bool.{or_parts}
-use Rattle.pgp_core.specs.Lines.{Cut, onto_first, is_line_feed, cut, last_line, lines_of}
+use Rattle.pgp_core.specs.Lines.{LinesAndRest, onto_first, is_line_feed, cut, last_line, lines_of}
 
-abbrev make : List (List ℕ) → List ℕ → Cut
+abbrev make : List (List ℕ) → List ℕ → LinesAndRest
 make lines rest = record { whole = lines; rest = rest }
 
 -- a byte before a cut, by whether it is a line feed
-abbrev before : Bool → ℕ → Cut → Cut
+abbrev before : Bool → ℕ → LinesAndRest → LinesAndRest
 before feed byte c = cond feed (make ([] ∷ c.whole) c.rest) (onto_first byte c.whole c.rest)
 
 -- lines after bytes that no line feed ends: the first of them goes on with these
@@ -22,7 +22,7 @@ rest_after rest [] last = rest ++ last
 rest_after rest (line ∷ lines) last = last
 
 -- one cut after the other
-abbrev join : Cut → Cut → Cut
+abbrev join : LinesAndRest → LinesAndRest → LinesAndRest
 join a b = make (a.whole ++ lines_after a.rest b.whole) (rest_after a.rest b.whole b.rest)
 
 before_join : (feed : Bool) (byte : ℕ) (lines : List (List ℕ)) (rest : List ℕ) (others : List (List ℕ)) (last : List ℕ)
@@ -61,12 +61,12 @@ cut-feed bytes = cut-append bytes (10 ∷ []) ∙ ap (λ line. make ((cut bytes)
 
 -- the lines that have ended stay the first ones
 pub cut-goes : (bytes more : List ℕ) → (cut (bytes ++ more)).whole ≡ (cut bytes).whole ++ lines_after (cut bytes).rest (cut more).whole
-cut-goes bytes more = ap (λ (c : Cut). c.whole) (cut-append bytes more)
+cut-goes bytes more = ap (λ (c : LinesAndRest). c.whole) (cut-append bytes more)
 
 pub lines-closed : (bytes more : List ℕ) → (cut bytes).rest ≡ [] → lines_of (bytes ++ more) ≡ (cut bytes).whole ++ lines_of more
 lines-closed bytes more closed =
     let joined = ap (λ (rest : List ℕ). join (make (cut bytes).whole rest) (cut more)) closed ∙ join_closed (cut bytes).whole (cut more).whole (cut more).rest in
-    ap (λ (c : Cut). c.whole ++ last_line c.rest) (cut-append bytes more ∙ joined) ∙ append_assoc (cut bytes).whole (cut more).whole (last_line (cut more).rest)
+    ap (λ (c : LinesAndRest). c.whole ++ last_line c.rest) (cut-append bytes more ∙ joined) ∙ append_assoc (cut bytes).whole (cut more).whole (last_line (cut more).rest)
 
 some_before : (feed : Bool) (byte : ℕ) (lines : List (List ℕ)) (rest : List ℕ)
     → 0 < length ((before feed byte (make lines rest)).whole ++ last_line (before feed byte (make lines rest)).rest)
@@ -83,15 +83,15 @@ some-line (byte ∷ bytes) some = some_before (is_line_feed byte) byte (cut byte
 
 -- one that a line feed ends
 pub cut-one : (line : List ℕ) → list_any is_line_feed line ≡ false → cut (line ++ 10 ∷ []) ≡ record { whole = line ∷ []; rest = [] }
-cut-one line one = cut-feed line ∙ ap (λ (c : Cut). make (c.whole ++ c.rest ∷ []) []) (cut_piece line one)
+cut-one line one = cut-feed line ∙ ap (λ (c : LinesAndRest). make (c.whole ++ c.rest ∷ []) []) (cut_piece line one)
 
 pub lines-first : (line rest : List ℕ) → list_any is_line_feed line ≡ false → lines_of (line ++ 10 ∷ rest) ≡ line ∷ lines_of rest
 lines-first line rest one =
     ap lines_of (sym (append_assoc line (10 ∷ []) rest))
-    ∙ lines-closed (line ++ 10 ∷ []) rest (ap (λ (c : Cut). c.rest) (cut-one line one))
-    ∙ ap (λ (c : Cut). c.whole ++ lines_of rest) (cut-one line one)
+    ∙ lines-closed (line ++ 10 ∷ []) rest (ap (λ (c : LinesAndRest). c.rest) (cut-one line one))
+    ∙ ap (λ (c : LinesAndRest). c.whole ++ lines_of rest) (cut-one line one)
 
 -- one that is the last
 pub lines-last : (line : List ℕ) → list_any is_line_feed line ≡ false → 0 < length line → lines_of line ≡ line ∷ []
 lines-last [] one some = absurd (omega arith)
-lines-last (byte ∷ line) one some = ap (λ (c : Cut). c.whole ++ last_line c.rest) (cut_piece (byte ∷ line) one)
+lines-last (byte ∷ line) one some = ap (λ (c : LinesAndRest). c.whole ++ last_line c.rest) (cut_piece (byte ∷ line) one)

@@ -10,16 +10,16 @@ use Rattle.pgp_ids.specs.declared.entry.Entry.{Entry}
 use Rattle.pgp_core.specs.Lines.{is_line_feed, cut, last_line, lines_of}
 use Rattle.pgp_core.specs.Line.{Holds}
 use Rattle.pgp_core.specs.Input.{HasRead}
-use Rattle.pgp_core.specs.Output.{Went, FrontWent}
+use Rattle.pgp_core.specs.Output.{WrittenPart, FrontWent}
 use Rattle.pgp_core.specs.Script.{IsBeyond, Within, whole_lines}
 use Rattle.pgp_core.specs.Told.{PutsLine, StartsLeft}
-use Rattle.pgp_core.specs.Telling.{AreAnswered, Began, IsAfter, IsDone, WentBy, IsStopped, StoppedAtLast, Taken}
+use Rattle.pgp_core.specs.Telling.{AreAnswered, RunStart, IsAfter, IsDone, WentBy, IsStopped, StoppedAtLast, ChunkPart}
 use Rattle.pgp_core.specs.declared.input.Bounds.{Bounds}
 use Rattle.pgp_core.specs.declared.input.Input.{Input}
 use Rattle.pgp_core.specs.declared.script.Script.{Script}
 use Rattle.pgp_core.specs.declared.fault.ScriptFault.{ScriptFault}
 use Rattle.pgp_core.specs.declared.fault.ScriptFault.TheVariants.{Read, Write, Gone}
-use Rattle.pgp_core.proofs.OutputLemmas.{Went-longer, Went-on, WentBy-pending}
+use Rattle.pgp_core.proofs.OutputLemmas.{WrittenPart-longer, WrittenPart-on, WentBy-pending}
 use Rattle.pgp_core.proofs.CutLemmas.{lines_after, cut-goes, lines-closed, some-line}
 use Rattle.pgp_core.proofs.InputLemmas.{whole-piece, whole-line}
 use Rattle.pgp_core.proofs.LineLemmas.{is-empty}
@@ -41,137 +41,137 @@ take_within n xs more within =
     ap (λ k. take k (xs ++ more)) split ∙ take-append-add xs more (n - length xs)
 
 -- the lines that end in the bytes after these, within the bounds
-abbrev pub later_lines : Began → List ℕ → List ℕ → List (List ℕ)
-later_lines began bytes more =
-    take (began.bounds.lines - length (cut bytes).whole) (lines_after (cut bytes).rest (cut (take (began.bounds.bytes - length bytes) more)).whole)
+abbrev pub later_lines : RunStart → List ℕ → List ℕ → List (List ℕ)
+later_lines start bytes more =
+    take (start.bounds.lines - length (cut bytes).whole) (lines_after (cut bytes).rest (cut (take (start.bounds.bytes - length bytes) more)).whole)
 
-front_of_cut : (began : Began) (bytes more : List ℕ) → length bytes ≤ began.bounds.bytes → length (cut bytes).whole ≤ began.bounds.lines
-    → whole_lines began.bounds (bytes ++ more) ≡ (cut bytes).whole ++ later_lines began bytes more
-front_of_cut began bytes more few_bytes few_lines =
-    ap (λ b. take began.bounds.lines (cut b).whole) (take_within began.bounds.bytes bytes more few_bytes)
-    ∙ ap (take began.bounds.lines) (cut-goes bytes (take (began.bounds.bytes - length bytes) more))
-    ∙ take_within began.bounds.lines (cut bytes).whole (lines_after (cut bytes).rest (cut (take (began.bounds.bytes - length bytes) more)).whole) few_lines
+front_of_cut : (start : RunStart) (bytes more : List ℕ) → length bytes ≤ start.bounds.bytes → length (cut bytes).whole ≤ start.bounds.lines
+    → whole_lines start.bounds (bytes ++ more) ≡ (cut bytes).whole ++ later_lines start bytes more
+front_of_cut start bytes more few_bytes few_lines =
+    ap (λ b. take start.bounds.lines (cut b).whole) (take_within start.bounds.bytes bytes more few_bytes)
+    ∙ ap (take start.bounds.lines) (cut-goes bytes (take (start.bounds.bytes - length bytes) more))
+    ∙ take_within start.bounds.lines (cut bytes).whole (lines_after (cut bytes).rest (cut (take (start.bounds.bytes - length bytes) more)).whole) few_lines
 
 -- all the lines that the bounds allow have ended
-all_lines : (began : Began) (input : Input) (bytes more : List ℕ) → HasRead began.bounds input bytes → input.left.lines ≡ 0 → later_lines began bytes more ≡ []
-all_lines began input bytes more read none =
-    let no : began.bounds.lines - length (cut bytes).whole ≡ 0 = omega (arith, read.lines_left, none) in
+all_lines : (start : RunStart) (input : Input) (bytes more : List ℕ) → HasRead start.bounds input bytes → input.left.lines ≡ 0 → later_lines start bytes more ≡ []
+all_lines start input bytes more read none =
+    let no : start.bounds.lines - length (cut bytes).whole ≡ 0 = omega (arith, read.lines_left, none) in
     rw no refl
 
 -- all the bytes that the bounds allow were read
-all_bytes : (began : Began) (input : Input) (bytes more : List ℕ) → HasRead began.bounds input bytes → input.left.bytes ≡ 0 → later_lines began bytes more ≡ []
-all_bytes began input bytes more read none =
-    let no : began.bounds.bytes - length bytes ≡ 0 = omega (arith, read.bytes_left, none) in
-    rw no (take_all (began.bounds.lines - length (cut bytes).whole) [] (omega arith))
+all_bytes : (start : RunStart) (input : Input) (bytes more : List ℕ) → HasRead start.bounds input bytes → input.left.bytes ≡ 0 → later_lines start bytes more ≡ []
+all_bytes start input bytes more read none =
+    let no : start.bounds.bytes - length bytes ≡ 0 = omega (arith, read.bytes_left, none) in
+    rw no (take_all (start.bounds.lines - length (cut bytes).whole) [] (omega arith))
 
 -- the reader stopped within the bounds
-pub all_read : (began : Began) (bytes : List ℕ) → later_lines began bytes [] ≡ []
-all_read began bytes =
-    rw (take_all {A = ℕ} (began.bounds.bytes - length bytes) [] (omega arith)) (take_all (began.bounds.lines - length (cut bytes).whole) [] (omega arith))
+pub all_read : (start : RunStart) (bytes : List ℕ) → later_lines start bytes [] ≡ []
+all_read start bytes =
+    rw (take_all {A = ℕ} (start.bounds.bytes - length bytes) [] (omega arith)) (take_all (start.bounds.lines - length (cut bytes).whole) [] (omega arith))
 
 -- ---- lines
 
 -- the text for one line more was put behind what is pending
-pub told-line : (alone : Bool) (began : Began) (before after : List Entry) (lines : List (List ℕ)) (line pending put rest : List ℕ) (now : Option (List ℕ))
-    → AreAnswered alone began lines before now pending → PutsLine alone before after line pending put rest
-    → AreAnswered alone began (lines ++ line ∷ []) after now (put ++ rest)
-told-line alone began before after lines line pending put rest now so_far puts = record {
+pub told-line : (alone : Bool) (start : RunStart) (before after : List Entry) (lines : List (List ℕ)) (line pending put rest : List ℕ) (now : Option (List ℕ))
+    → AreAnswered alone start lines before now pending → PutsLine alone before after line pending put rest
+    → AreAnswered alone start (lines ++ line ∷ []) after now (put ++ rest)
+told-line alone start before after lines line pending put rest now so_far puts = record {
   out = so_far.out ++ puts.text;
-  told = told-push alone began.log before after lines line so_far.out puts.text so_far.told puts.told;
-  went = subst (Went began.written now (so_far.out ++ puts.text)) (sym puts.whole) (Went-longer began.written now so_far.out pending puts.text so_far.went);
+  told = told-push alone start.log before after lines line so_far.out puts.text so_far.told puts.told;
+  went = subst (WrittenPart start.written now (so_far.out ++ puts.text)) (sym puts.whole) (WrittenPart-longer start.written now so_far.out pending puts.text so_far.went);
 }
 
 -- a front of what was pending went out
-pub went-on : (alone : Bool) (began : Began) (lines : List (List ℕ)) (log : List Entry) (now new : Option (List ℕ)) (pending still : List ℕ)
-    → AreAnswered alone began lines log now pending → Went now new pending still → AreAnswered alone began lines log new still
-went-on alone began lines log now new pending still so_far more =
-    record { out = so_far.out; told = so_far.told; went = Went-on began.written now new so_far.out pending still so_far.went more }
+pub went-on : (alone : Bool) (start : RunStart) (lines : List (List ℕ)) (log : List Entry) (now new : Option (List ℕ)) (pending still : List ℕ)
+    → AreAnswered alone start lines log now pending → WrittenPart now new pending still → AreAnswered alone start lines log new still
+went-on alone start lines log now new pending still so_far more =
+    record { out = so_far.out; told = so_far.told; went = WrittenPart-on start.written now new so_far.out pending still so_far.went more }
 
 -- the answering stops after these lines
-pub stopped : (fault : ScriptFault) (alone : Bool) (began : Began) (lines others : List (List ℕ)) (log : List Entry) (now new : Option (List ℕ)) (pending : List ℕ)
-    → AreAnswered alone began lines log now pending → WentBy fault now new pending → (fault ≡ Read → others ≡ []) → (fault ≡ Gone → StartsLeft alone others)
-    → IsStopped alone began fault new (lines ++ others)
-stopped fault alone began lines others log now new pending so_far went all left = record {
+pub stopped : (fault : ScriptFault) (alone : Bool) (start : RunStart) (lines others : List (List ℕ)) (log : List Entry) (now new : Option (List ℕ)) (pending : List ℕ)
+    → AreAnswered alone start lines log now pending → WentBy fault now new pending → (fault ≡ Read → others ≡ []) → (fault ≡ Gone → StartsLeft alone others)
+    → IsStopped alone start fault new (lines ++ others)
+stopped fault alone start lines others log now new pending so_far went all left = record {
   done = lines;
   others = others;
   parts = refl;
   log = log;
   out = so_far.out;
   told = so_far.told;
-  went = WentBy-pending fault began.written now new so_far.out pending so_far.went went;
+  went = WentBy-pending fault start.written now new so_far.out pending so_far.went went;
   all = all;
   left = left;
 }
 
 -- a write failed
-pub cut_off : (alone : Bool) (began : Began) (lines others : List (List ℕ)) (log : List Entry) (now new : Option (List ℕ)) (pending : List ℕ)
-    → AreAnswered alone began lines log now pending → FrontWent now new pending → IsStopped alone began Write new (lines ++ others)
-cut_off alone began lines others log now new pending so_far front =
-    stopped Write alone began lines others log now new pending so_far front (λ read. absurd cc) (λ gone. absurd cc)
+pub cut_off : (alone : Bool) (start : RunStart) (lines others : List (List ℕ)) (log : List Entry) (now new : Option (List ℕ)) (pending : List ℕ)
+    → AreAnswered alone start lines log now pending → FrontWent now new pending → IsStopped alone start Write new (lines ++ others)
+cut_off alone start lines others log now new pending so_far front =
+    stopped Write alone start lines others log now new pending so_far front (λ read. absurd cc) (λ gone. absurd cc)
 
 -- ---- bytes
 
 -- what was pending went out as far as the fault let it, after these bytes
-pub stopped-after : (fault : ScriptFault) (alone : Bool) (began : Began) (script : Script) (log : List Entry) (now new : Option (List ℕ)) (bytes more : List ℕ)
-    → IsAfter alone began script log now bytes → fault ≢ Gone → WentBy fault now new script.output.pending.items
-    → (fault ≡ Read → later_lines began bytes more ≡ []) → IsStopped alone began fault new (whole_lines began.bounds (bytes ++ more))
-stopped-after fault alone began script log now new bytes more after known went all =
-    subst (IsStopped alone began fault new) (sym (front_of_cut began bytes more (omega (arith, after.read.bytes_left)) (omega (arith, after.read.lines_left))))
-    (stopped fault alone began (cut bytes).whole (later_lines began bytes more) log now new _ after.answered went all (λ gone. absurd (known gone)))
+pub stopped-after : (fault : ScriptFault) (alone : Bool) (start : RunStart) (script : Script) (log : List Entry) (now new : Option (List ℕ)) (bytes more : List ℕ)
+    → IsAfter alone start script log now bytes → fault ≢ Gone → WentBy fault now new script.output.pending.items
+    → (fault ≡ Read → later_lines start bytes more ≡ []) → IsStopped alone start fault new (whole_lines start.bounds (bytes ++ more))
+stopped-after fault alone start script log now new bytes more after known went all =
+    subst (IsStopped alone start fault new) (sym (front_of_cut start bytes more (omega (arith, after.read.bytes_left)) (omega (arith, after.read.lines_left))))
+    (stopped fault alone start (cut bytes).whole (later_lines start bytes more) log now new _ after.answered went all (λ gone. absurd (known gone)))
 
 -- a piece more of the line that is being read
-pub after-piece : (alone : Bool) (began : Began) (script : Script) (input : Input) (log : List Entry) (now : Option (List ℕ)) (bytes piece : List ℕ)
+pub after-piece : (alone : Bool) (start : RunStart) (script : Script) (input : Input) (log : List Entry) (now : Option (List ℕ)) (bytes piece : List ℕ)
     → list_any is_line_feed piece ≡ false → ((bounds : Bounds) (bytes : List ℕ) → HasRead bounds script.input bytes → HasRead bounds input (bytes ++ piece))
-    → IsAfter alone began script log now bytes → IsAfter alone began (record script { input = input }) log now (bytes ++ piece)
-after-piece alone began script input log now bytes piece none step after =
-    record { read = step began.bounds bytes after.read; answered = rw (whole-piece bytes piece none) after.answered }
+    → IsAfter alone start script log now bytes → IsAfter alone start (record script { input = input }) log now (bytes ++ piece)
+after-piece alone start script input log now bytes piece none step after =
+    record { read = step start.bounds bytes after.read; answered = rw (whole-piece bytes piece none) after.answered }
 
 -- the line that a piece and a line feed end is the next of the lines, where the bounds allow it
-pub line_of_cut : (began : Began) (input : Input) (bytes piece more : List ℕ) → list_any is_line_feed piece ≡ false → 0 < input.left.lines
-    → length piece < input.left.bytes → HasRead began.bounds input bytes
-    → whole_lines began.bounds (bytes ++ (piece ++ 10 ∷ more)) ≡ (cut bytes).whole ++ ((cut bytes).rest ++ piece) ∷ later_lines began (bytes ++ (piece ++ 10 ∷ [])) more
-line_of_cut began input bytes piece more none room fits read =
+pub line_of_cut : (start : RunStart) (input : Input) (bytes piece more : List ℕ) → list_any is_line_feed piece ≡ false → 0 < input.left.lines
+    → length piece < input.left.bytes → HasRead start.bounds input bytes
+    → whole_lines start.bounds (bytes ++ (piece ++ 10 ∷ more)) ≡ (cut bytes).whole ++ ((cut bytes).rest ++ piece) ∷ later_lines start (bytes ++ (piece ++ 10 ∷ [])) more
+line_of_cut start input bytes piece more none room fits read =
     let line = piece ++ 10 ∷ [] in
     let whole = whole-line bytes piece none in
     let many : length (cut (bytes ++ line)).whole ≡ length (cut bytes).whole + 1 = ap length whole ∙ length-append (cut bytes).whole (((cut bytes).rest ++ piece) ∷ []) in
-    let few_bytes : length (bytes ++ line) ≤ began.bounds.bytes = omega (arith, fits, read.bytes_left, length-append bytes line, length-append piece (10 ∷ [])) in
-    let few_lines : length (cut (bytes ++ line)).whole ≤ began.bounds.lines = omega (arith, many, room, read.lines_left) in
+    let few_bytes : length (bytes ++ line) ≤ start.bounds.bytes = omega (arith, fits, read.bytes_left, length-append bytes line, length-append piece (10 ∷ [])) in
+    let few_lines : length (cut (bytes ++ line)).whole ≤ start.bounds.lines = omega (arith, many, room, read.lines_left) in
     let parts : bytes ++ (piece ++ 10 ∷ more) ≡ (bytes ++ line) ++ more = simp append_assoc in
-    let later = later_lines began (bytes ++ line) more in
-    ap (whole_lines began.bounds) parts ∙ front_of_cut began (bytes ++ line) more few_bytes few_lines ∙ ap (λ w. w ++ later) whole
+    let later = later_lines start (bytes ++ line) more in
+    ap (whole_lines start.bounds) parts ∙ front_of_cut start (bytes ++ line) more few_bytes few_lines ∙ ap (λ w. w ++ later) whole
     ∙ append_assoc (cut bytes).whole (((cut bytes).rest ++ piece) ∷ []) later
 
 -- ---- the loop over a chunk
 
 pub taken-more : (alone : Bool) (old mid new : Script) (before between after : List Entry) (was now then : Option (List ℕ)) (chunk rest piece others : List ℕ)
-    → Taken alone old mid before between was now chunk rest → rest ≡ piece ++ others
-    → ((began : Began) (bytes : List ℕ) → IsAfter alone began mid between now bytes → IsAfter alone began new after then (bytes ++ piece))
-    → Taken alone old new before after was then chunk others
+    → ChunkPart alone old mid before between was now chunk rest → rest ≡ piece ++ others
+    → ((start : RunStart) (bytes : List ℕ) → IsAfter alone start mid between now bytes → IsAfter alone start new after then (bytes ++ piece))
+    → ChunkPart alone old new before after was then chunk others
 taken-more alone old mid new before between after was now then chunk rest piece others taken parts step = record {
   done = taken.done ++ piece;
   whole = append_assoc taken.done piece others ∙ ap (λ l. taken.done ++ l) (sym parts) ∙ taken.whole;
-  goes = λ began bytes so_far. rw (← append_assoc) (step began (bytes ++ taken.done) (taken.goes began bytes so_far));
+  goes = λ start bytes so_far. rw (← append_assoc) (step start (bytes ++ taken.done) (taken.goes start bytes so_far));
 }
 
 -- ---- more than the bounds allow
 
 -- a byte stands after the last line that the bounds allow
-beyond_lines : (began : Began) (input : Input) (bytes more : List ℕ) → HasRead began.bounds input bytes → input.left.lines ≡ 0 → 0 < length more → IsBeyond began.bounds (bytes ++ more)
-beyond_lines began input bytes more read none some within =
+beyond_lines : (start : RunStart) (input : Input) (bytes more : List ℕ) → HasRead start.bounds input bytes → input.left.lines ≡ 0 → 0 < length more → IsBeyond start.bounds (bytes ++ more)
+beyond_lines start input bytes more read none some within =
     let lines = ap length (lines-closed bytes more (read.closed none)) in
     let both = length-append (cut bytes).whole (lines_of more) in
     absurd (omega (arith, read.lines_left, none, lines, both, some-line more some, within.few_lines))
 
 -- a byte stands after the last one that the bounds allow
-beyond_bytes : (began : Began) (input : Input) (bytes more : List ℕ) → HasRead began.bounds input bytes → input.left.bytes ≡ 0 → 0 < length more → IsBeyond began.bounds (bytes ++ more)
-beyond_bytes began input bytes more read none some within =
+beyond_bytes : (start : RunStart) (input : Input) (bytes more : List ℕ) → HasRead start.bounds input bytes → input.left.bytes ≡ 0 → 0 < length more → IsBeyond start.bounds (bytes ++ more)
+beyond_bytes start input bytes more read none some within =
     absurd (omega (arith, read.bytes_left, none, length-append bytes more, some, within.few_bytes))
 
 -- where the bounds allow no byte more, no line ends in further bytes, and these are too many
-pub full : (began : Began) (input : Input) (bytes more : List ℕ) → HasRead began.bounds input bytes → (input.left.lines ≡ 0) ⊎ (input.left.bytes ≡ 0) → 0 < length more
-    → (later_lines began bytes more ≡ []) × IsBeyond began.bounds (bytes ++ more)
-full began input bytes more read (inl none) some = (all_lines began input bytes more read none, beyond_lines began input bytes more read none some)
-full began input bytes more read (inr none) some = (all_bytes began input bytes more read none, beyond_bytes began input bytes more read none some)
+pub full : (start : RunStart) (input : Input) (bytes more : List ℕ) → HasRead start.bounds input bytes → (input.left.lines ≡ 0) ⊎ (input.left.bytes ≡ 0) → 0 < length more
+    → (later_lines start bytes more ≡ []) × IsBeyond start.bounds (bytes ++ more)
+full start input bytes more read (inl none) some = (all_lines start input bytes more read none, beyond_lines start input bytes more read none some)
+full start input bytes more read (inr none) some = (all_bytes start input bytes more read none, beyond_bytes start input bytes more read none some)
 
 -- ---- one list of bytes, cut in other ways
 
@@ -227,20 +227,20 @@ within_started bounds input bytes started read =
 
 -- the last line was answered
 pub done_started : (alone : Bool) (script : Script) (before after : List Entry) (now new : Option (List ℕ)) (still : List ℕ) → script.input.line.started ≡ true
-    → ((line : List ℕ) → Holds script.input.line line → (began : Began) (lines : List (List ℕ)) → AreAnswered alone began lines before now script.output.pending.items
-    → AreAnswered alone began (lines ++ (line ++ []) ∷ []) after new still)
-    → (began : Began) (bytes : List ℕ) → IsAfter alone began script before now bytes → IsDone alone began after new still bytes
-done_started alone script before after now new still started puts began bytes so_far =
+    → ((line : List ℕ) → Holds script.input.line line → (start : RunStart) (lines : List (List ℕ)) → AreAnswered alone start lines before now script.output.pending.items
+    → AreAnswered alone start (lines ++ (line ++ []) ∷ []) after new still)
+    → (start : RunStart) (bytes : List ℕ) → IsAfter alone start script before now bytes → IsDone alone start after new still bytes
+done_started alone script before after now new still started puts start bytes so_far =
     let begun = sym so_far.read.line.started ∙ started in
     record {
-      within = within_started began.bounds script.input bytes begun so_far.read;
-      answered = rw (started_line bytes begun) (puts (cut bytes).rest so_far.read.line began (cut bytes).whole so_far.answered);
+      within = within_started start.bounds script.input bytes begun so_far.read;
+      answered = rw (started_line bytes begun) (puts (cut bytes).rest so_far.read.line start (cut bytes).whole so_far.answered);
     }
 
 -- there is no last line
 pub done_ended : (alone : Bool) (script : Script) (log : List Entry) (now : Option (List ℕ)) → script.input.line.started ≡ false
-    → (began : Began) (bytes : List ℕ) → IsAfter alone began script log now bytes → IsDone alone began log now script.output.pending.items bytes
-done_ended alone script log now none began bytes after =
+    → (start : RunStart) (bytes : List ℕ) → IsAfter alone start script log now bytes → IsDone alone start log now script.output.pending.items bytes
+done_ended alone script log now none start bytes after =
     let lines = no_line bytes (sym after.read.line.started ∙ none) in
     record {
       within = record {
@@ -252,14 +252,14 @@ done_ended alone script log now none began bytes after =
 
 -- the answering stopped at the last line
 pub stopped-at-last : (fault : ScriptFault) (alone : Bool) (script : Script) (before : List Entry) (now new : Option (List ℕ)) → script.input.line.started ≡ true
-    → ((line : List ℕ) → Holds script.input.line line → (began : Began) (lines others : List (List ℕ)) → AreAnswered alone began lines before now script.output.pending.items
-    → (fault ≢ Read) × IsStopped alone began fault new (lines ++ (line ++ []) ∷ others))
-    → (began : Began) (bytes : List ℕ) → IsAfter alone began script before now bytes → StoppedAtLast alone began fault new bytes
-stopped-at-last fault alone script before now new started stops began bytes so_far =
+    → ((line : List ℕ) → Holds script.input.line line → (start : RunStart) (lines others : List (List ℕ)) → AreAnswered alone start lines before now script.output.pending.items
+    → (fault ≢ Read) × IsStopped alone start fault new (lines ++ (line ++ []) ∷ others))
+    → (start : RunStart) (bytes : List ℕ) → IsAfter alone start script before now bytes → StoppedAtLast alone start fault new bytes
+stopped-at-last fault alone script before now new started stops start bytes so_far =
     let begun = sym so_far.read.line.started ∙ started in
-    let stop = stops (cut bytes).rest so_far.read.line began (cut bytes).whole [] so_far.answered in
+    let stop = stops (cut bytes).rest so_far.read.line start (cut bytes).whole [] so_far.answered in
     record {
       other = stop.0;
-      within = within_started began.bounds script.input bytes begun so_far.read;
+      within = within_started start.bounds script.input bytes begun so_far.read;
       stopped = rw (started_line bytes begun) stop.1;
     }

@@ -7,54 +7,54 @@ use Rattle.pgp_core.specs.Account.{Account, ReadFailedBy}
 use Rattle.pgp_core.specs.Lines.{cut}
 use Rattle.pgp_core.specs.Script.{whole_lines}
 use Rattle.pgp_core.specs.Told.{StartsLeft}
-use Rattle.pgp_core.specs.Telling.{Began, AreAnswered, IsAfter, IsStopped, WentBy, StopsIn, StoppedAtLast, Reads, Stops, WasStopped}
+use Rattle.pgp_core.specs.Telling.{RunStart, AreAnswered, IsAfter, IsStopped, WentBy, StopsIn, StoppedAtLast, Reads, Stops, WasStopped}
 use Rattle.pgp_core.specs.declared.input.Bounds.{Bounds}
 use Rattle.pgp_core.specs.declared.output.Output.{Output}
 use Rattle.pgp_core.specs.declared.script.Script.{Script}
 use Rattle.pgp_core.specs.declared.fault.ScriptFault.{ScriptFault}
 use Rattle.pgp_core.specs.declared.fault.ScriptFault.TheVariants.{Read, Write, Gone}
-use Rattle.pgp_core.proofs.OutputLemmas.{Went-none}
+use Rattle.pgp_core.proofs.OutputLemmas.{WrittenPart-none}
 use Rattle.pgp_core.proofs.RunLemmas.{all_read, stopped-after, went-on}
 
 -- what was pending has been written
-pub written : (alone : Bool) (began : Began) (lines : List (List ℕ)) (log : List Entry) (now new : Option (List ℕ)) (pending : List ℕ)
-    → AreAnswered alone began lines log now pending → Appends now new pending → AreAnswered alone began lines log new []
-written alone began lines log now new pending so_far wrote = went-on alone began lines log now new pending [] so_far (Went-none now new pending wrote)
+pub written : (alone : Bool) (start : RunStart) (lines : List (List ℕ)) (log : List Entry) (now new : Option (List ℕ)) (pending : List ℕ)
+    → AreAnswered alone start lines log now pending → Appends now new pending → AreAnswered alone start lines log new []
+written alone start lines log now new pending so_far wrote = went-on alone start lines log now new pending [] so_far (WrittenPart-none now new pending wrote)
 
-after_flush : (alone : Bool) (began : Began) (script : Script) (output : Output) (log : List Entry) (now new : Option (List ℕ)) (bytes : List ℕ)
-    → Appends now new script.output.pending.items → output.pending.items ≡ [] → IsAfter alone began script log now bytes
-    → IsAfter alone began (record script { output = output }) log new bytes
-after_flush alone began script output log now new bytes wrote none after =
-    record { read = after.read; answered = rw none (written alone began (cut bytes).whole log now new _ after.answered wrote) }
+after_flush : (alone : Bool) (start : RunStart) (script : Script) (output : Output) (log : List Entry) (now new : Option (List ℕ)) (bytes : List ℕ)
+    → Appends now new script.output.pending.items → output.pending.items ≡ [] → IsAfter alone start script log now bytes
+    → IsAfter alone start (record script { output = output }) log new bytes
+after_flush alone start script output log now new bytes wrote none after =
+    record { read = after.read; answered = rw none (written alone start (cut bytes).whole log now new _ after.answered wrote) }
 
-pub turn : (alone : Bool) (began : Began) (script new : Script) (output : Output) (before after : List Entry) (from mid to now flushed then : Option (List ℕ)) (chunk : List ℕ)
-    → Reads alone began script before from mid now → Appends now flushed script.output.pending.items → output.pending.items ≡ [] → Consumes mid to chunk
-    → ((began : Began) (bytes : List ℕ) → IsAfter alone began (record script { output = output }) before flushed bytes → IsAfter alone began new after then (bytes ++ chunk))
-    → Reads alone began new after from to then
-turn alone began script new output before after from mid to now flushed then chunk reads wrote none more step = record {
+pub turn : (alone : Bool) (start : RunStart) (script new : Script) (output : Output) (before after : List Entry) (from mid to now flushed then : Option (List ℕ)) (chunk : List ℕ)
+    → Reads alone start script before from mid now → Appends now flushed script.output.pending.items → output.pending.items ≡ [] → Consumes mid to chunk
+    → ((start : RunStart) (bytes : List ℕ) → IsAfter alone start (record script { output = output }) before flushed bytes → IsAfter alone start new after then (bytes ++ chunk))
+    → Reads alone start new after from to then
+turn alone start script new output before after from mid to now flushed then chunk reads wrote none more step = record {
   bytes = reads.bytes ++ chunk;
   consumed = Consumes-trans from mid to reads.bytes chunk reads.consumed more;
-  after = step began reads.bytes (after_flush alone began script output before now flushed reads.bytes wrote none reads.after);
+  after = step start reads.bytes (after_flush alone start script output before now flushed reads.bytes wrote none reads.after);
 }
 
 -- before a chunk was read: what was pending was written, or a write of it failed
-pub stops_at_read : (fault : ScriptFault) (alone : Bool) (began : Began) (script : Script) (log : List Entry) (from mid to now new : Option (List ℕ)) (read_failed : Bool)
-    → fault ≢ Gone → Reads alone began script log from mid now → WentBy fault now new script.output.pending.items → Keeps mid to → (fault ≡ Read → read_failed ≡ true)
-    → Stops alone began fault from to new read_failed
-stops_at_read fault alone began script log from mid to now new read_failed known reads went kept failed = record {
+pub stops_at_read : (fault : ScriptFault) (alone : Bool) (start : RunStart) (script : Script) (log : List Entry) (from mid to now new : Option (List ℕ)) (read_failed : Bool)
+    → fault ≢ Gone → Reads alone start script log from mid now → WentBy fault now new script.output.pending.items → Keeps mid to → (fault ≡ Read → read_failed ≡ true)
+    → Stops alone start fault from to new read_failed
+stops_at_read fault alone start script log from mid to now new read_failed known reads went kept failed = record {
   script = reads.bytes;
   consumed = Consumes-kept from mid to reads.bytes reads.consumed kept;
-  answered = inl (subst (λ b. IsStopped alone began fault new (whole_lines began.bounds b)) (append-nil reads.bytes)
-      (stopped-after fault alone began script log now new reads.bytes [] reads.after known went (λ _. all_read began reads.bytes)));
+  answered = inl (subst (λ b. IsStopped alone start fault new (whole_lines start.bounds b)) (append-nil reads.bytes)
+      (stopped-after fault alone start script log now new reads.bytes [] reads.after known went (λ _. all_read start reads.bytes)));
   cause = λ read. inl (failed read);
 }
 
-pub stops_in_chunk : (alone : Bool) (began : Began) (fault : ScriptFault) (script : Script) (output : Output) (log : List Entry) (from mid to now flushed then : Option (List ℕ)) (chunk : List ℕ) (read_failed : Bool)
-    → Reads alone began script log from mid now → Appends now flushed script.output.pending.items → output.pending.items ≡ [] → Consumes mid to chunk
-    → ((began : Began) (bytes : List ℕ) → IsAfter alone began (record script { output = output }) log flushed bytes → StopsIn alone began fault then (bytes ++ chunk))
-    → Stops alone began fault from to then read_failed
-stops_in_chunk alone began fault script output log from mid to now flushed then chunk read_failed reads wrote none more stop =
-    let stops = stop began reads.bytes (after_flush alone began script output log now flushed reads.bytes wrote none reads.after) in
+pub stops_in_chunk : (alone : Bool) (start : RunStart) (fault : ScriptFault) (script : Script) (output : Output) (log : List Entry) (from mid to now flushed then : Option (List ℕ)) (chunk : List ℕ) (read_failed : Bool)
+    → Reads alone start script log from mid now → Appends now flushed script.output.pending.items → output.pending.items ≡ [] → Consumes mid to chunk
+    → ((start : RunStart) (bytes : List ℕ) → IsAfter alone start (record script { output = output }) log flushed bytes → StopsIn alone start fault then (bytes ++ chunk))
+    → Stops alone start fault from to then read_failed
+stops_in_chunk alone start fault script output log from mid to now flushed then chunk read_failed reads wrote none more stop =
+    let stops = stop start reads.bytes (after_flush alone start script output log now flushed reads.bytes wrote none reads.after) in
     record {
       script = reads.bytes ++ chunk;
       consumed = Consumes-trans from mid to reads.bytes chunk reads.consumed more;
@@ -62,12 +62,12 @@ stops_in_chunk alone began fault script output log from mid to now flushed then 
       cause = λ read. inr (stops.beyond read);
     }
 
-pub stops_at_end : (fault : ScriptFault) (alone : Bool) (began : Began) (script : Script) (log : List Entry) (from to now then : Option (List ℕ)) (read_failed : Bool)
-    → Reads alone began script log from to now → IsAtEnd to
-    → ((began : Began) (bytes : List ℕ) → IsAfter alone began script log now bytes → StoppedAtLast alone began fault then bytes)
-    → Stops alone began fault from to then read_failed
-stops_at_end fault alone began script log from to now then read_failed reads end stop =
-    let last = stop began reads.bytes reads.after in
+pub stops_at_end : (fault : ScriptFault) (alone : Bool) (start : RunStart) (script : Script) (log : List Entry) (from to now then : Option (List ℕ)) (read_failed : Bool)
+    → Reads alone start script log from to now → IsAtEnd to
+    → ((start : RunStart) (bytes : List ℕ) → IsAfter alone start script log now bytes → StoppedAtLast alone start fault then bytes)
+    → Stops alone start fault from to then read_failed
+stops_at_end fault alone start script log from to now then read_failed reads end stop =
+    let last = stop start reads.bytes reads.after in
     record {
       script = reads.bytes;
       consumed = reads.consumed;

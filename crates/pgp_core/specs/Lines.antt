@@ -3,19 +3,19 @@ use Rattle.std.specs.Prelude.{ℕ, List, [], ◌∷◌, ◌++◌, Bool, ◌||◌
 use Rattle.std.specs.List.{list_all}
 
 -- bytes, cut at their line feeds: the lines that a line feed ends, and the bytes after the last line feed
-pub record Cut : Type 0 where
+pub record LinesAndRest : Type 0 where
   pub whole : List (List ℕ)
   pub rest : List ℕ
 
 -- a byte before a cut goes onto the first line, or onto the rest where no line ends
-abbrev pub onto_first : ℕ → List (List ℕ) → List ℕ → Cut
+abbrev pub onto_first : ℕ → List (List ℕ) → List ℕ → LinesAndRest
 onto_first byte [] rest = record { whole = []; rest = byte ∷ rest }
 onto_first byte (line ∷ lines) rest = record { whole = (byte ∷ line) ∷ lines; rest = rest }
 
 abbrev pub is_line_feed : ℕ → Bool
 is_line_feed byte = nat_eq byte 10
 
-abbrev pub cut : List ℕ → Cut
+abbrev pub cut : List ℕ → LinesAndRest
 cut [] = record { whole = []; rest = [] }
 cut (byte ∷ bytes) =
     if is_line_feed byte then record { whole = [] ∷ (cut bytes).whole; rest = (cut bytes).rest }

@@ -3,7 +3,7 @@ use Rattle.std.specs.Prelude.{◌≡◌, ℕ, List, ◌++◌, Option}
 use Rattle.std.specs.Io.KnownBytes.{Appends}
 
 -- the front of the text before `rest` went out, and no other byte
-pub record Went (old new : Option (List ℕ)) (text rest : List ℕ) : Type 0 where
+pub record WrittenPart (old new : Option (List ℕ)) (text rest : List ℕ) : Type 0 where
   pub out : List ℕ
   pub whole : out ++ rest ≡ text
   pub went : Appends old new out
@@ -11,4 +11,4 @@ pub record Went (old new : Option (List ℕ)) (text rest : List ℕ) : Type 0 wh
 -- a front of the text went out, and no other byte
 pub record FrontWent (old new : Option (List ℕ)) (text : List ℕ) : Type 0 where
   pub rest : List ℕ
-  pub front : Went old new text rest
+  pub front : WrittenPart old new text rest

@@ -5,7 +5,7 @@ use Rattle.std.specs.Io.KnownBytes.{Appends, Consumes, IsAtEnd}
 use Rattle.pgp_ids.specs.declared.entry.Entry.{Entry}
 use Rattle.pgp_core.specs.Lines.{cut, lines_of}
 use Rattle.pgp_core.specs.Script.{IsBeyond, Within, whole_lines}
-use Rattle.pgp_core.specs.Output.{Went, FrontWent}
+use Rattle.pgp_core.specs.Output.{WrittenPart, FrontWent}
 use Rattle.pgp_core.specs.Input.{HasRead}
 use Rattle.pgp_core.specs.Told.{AreTold, StartsLeft}
 use Rattle.pgp_core.specs.Account.{Account, NoCallFailed, FailedBy}
@@ -14,22 +14,22 @@ use Rattle.pgp_core.specs.declared.script.Script.{Script}
 use Rattle.pgp_core.specs.declared.fault.ScriptFault.{ScriptFault}
 use Rattle.pgp_core.specs.declared.fault.ScriptFault.TheVariants.{Read, Write, Gone}
 
--- what a run began with: the log, how large its script may be, and what the writer held
-pub record Began : Type 0 where
+-- what a run starts with: the log, how large its script may be, and what the writer held
+pub record RunStart : Type 0 where
   pub log : List Entry
   pub bounds : Bounds
   pub written : Option (List ℕ)
 
-abbrev pub began_at : List Entry → Bounds → Option (List ℕ) → Began
-began_at log bounds written = record { log = log; bounds = bounds; written = written }
+abbrev pub run_start : List Entry → Bounds → Option (List ℕ) → RunStart
+run_start log bounds written = record { log = log; bounds = bounds; written = written }
 
 -- ---- lines
 
 -- The answers to these lines are written, except for what is pending of them, and the log is this one then.
-pub record AreAnswered (alone : Bool) (began : Began) (lines : List (List ℕ)) (log : List Entry) (now : Option (List ℕ)) (pending : List ℕ) : Type 0 where
+pub record AreAnswered (alone : Bool) (start : RunStart) (lines : List (List ℕ)) (log : List Entry) (now : Option (List ℕ)) (pending : List ℕ) : Type 0 where
   pub out : List ℕ
-  pub told : AreTold alone began.log lines log out
-  pub went : Went began.written now out pending
+  pub told : AreTold alone start.log lines log out
+  pub went : WrittenPart start.written now out pending
 
 -- how much of a text went out: a front of it where a write failed, and else all of it
 abbrev pub WentBy : ScriptFault → Option (List ℕ) → Option (List ℕ) → List ℕ → Type 0
@@ -39,64 +39,64 @@ WentBy Gone old new text = Appends old new text
 
 -- The answers to the first of these lines went out as far as the fault let them. Where a read failed these are all lines, and
 -- where nobody answers any more they are those before the first line that was left.
-pub record IsStopped (alone : Bool) (began : Began) (fault : ScriptFault) (now : Option (List ℕ)) (lines : List (List ℕ)) : Type 0 where
+pub record IsStopped (alone : Bool) (start : RunStart) (fault : ScriptFault) (now : Option (List ℕ)) (lines : List (List ℕ)) : Type 0 where
   pub done : List (List ℕ)
   pub others : List (List ℕ)
   pub parts : lines ≡ done ++ others
   pub log : List Entry
   pub out : List ℕ
-  pub told : AreTold alone began.log done log out
-  pub went : WentBy fault began.written now out
+  pub told : AreTold alone start.log done log out
+  pub went : WentBy fault start.written now out
   pub all : fault ≡ Read → others ≡ []
   pub left : fault ≡ Gone → StartsLeft alone others
 
 -- ---- bytes
 
 -- These bytes were read, and the answers to the lines that have ended are written or pending.
-pub record IsAfter (alone : Bool) (began : Began) (script : Script) (log : List Entry) (now : Option (List ℕ)) (bytes : List ℕ) : Type 0 where
-  pub read : HasRead began.bounds script.input bytes
-  pub answered : AreAnswered alone began (cut bytes).whole log now script.output.pending.items
+pub record IsAfter (alone : Bool) (start : RunStart) (script : Script) (log : List Entry) (now : Option (List ℕ)) (bytes : List ℕ) : Type 0 where
+  pub read : HasRead start.bounds script.input bytes
+  pub answered : AreAnswered alone start (cut bytes).whole log now script.output.pending.items
 
 -- The run stopped in these bytes: at a read fault, they are more than the bounds allow.
-pub record StopsIn (alone : Bool) (began : Began) (fault : ScriptFault) (now : Option (List ℕ)) (bytes : List ℕ) : Type 0 where
-  pub stopped : IsStopped alone began fault now (whole_lines began.bounds bytes)
-  pub beyond : fault ≡ Read → IsBeyond began.bounds bytes
+pub record StopsIn (alone : Bool) (start : RunStart) (fault : ScriptFault) (now : Option (List ℕ)) (bytes : List ℕ) : Type 0 where
+  pub stopped : IsStopped alone start fault now (whole_lines start.bounds bytes)
+  pub beyond : fault ≡ Read → IsBeyond start.bounds bytes
 
 -- the front of the chunk before `rest` was taken
-pub record Taken (alone : Bool) (old new : Script) (before after : List Entry) (was now : Option (List ℕ)) (chunk rest : List ℕ) : Type 0 where
+pub record ChunkPart (alone : Bool) (old new : Script) (before after : List Entry) (was now : Option (List ℕ)) (chunk rest : List ℕ) : Type 0 where
   pub done : List ℕ
   pub whole : done ++ rest ≡ chunk
-  pub goes : (began : Began) (bytes : List ℕ) → IsAfter alone began old before was bytes → IsAfter alone began new after now (bytes ++ done)
+  pub goes : (start : RunStart) (bytes : List ℕ) → IsAfter alone start old before was bytes → IsAfter alone start new after now (bytes ++ done)
 
 -- ---- the whole script
 
 -- It is within the bounds, and the answers to its lines are written, except for what is pending of them.
-pub record IsDone (alone : Bool) (began : Began) (log : List Entry) (now : Option (List ℕ)) (pending script : List ℕ) : Type 0 where
-  pub within : Within began.bounds script
-  pub answered : AreAnswered alone began (lines_of script) log now pending
+pub record IsDone (alone : Bool) (start : RunStart) (log : List Entry) (now : Option (List ℕ)) (pending script : List ℕ) : Type 0 where
+  pub within : Within start.bounds script
+  pub answered : AreAnswered alone start (lines_of script) log now pending
 
 -- The fault stopped the run after the whole script was read: no read fault does that.
-pub record StoppedAtLast (alone : Bool) (began : Began) (fault : ScriptFault) (now : Option (List ℕ)) (script : List ℕ) : Type 0 where
+pub record StoppedAtLast (alone : Bool) (start : RunStart) (fault : ScriptFault) (now : Option (List ℕ)) (script : List ℕ) : Type 0 where
   pub other : fault ≢ Read
-  pub within : Within began.bounds script
-  pub stopped : IsStopped alone began fault now (lines_of script)
+  pub within : Within start.bounds script
+  pub stopped : IsStopped alone start fault now (lines_of script)
 
 -- ---- the reader
 
 -- It gave these bytes, and so much is done of them.
-pub record Reads (alone : Bool) (began : Began) (script : Script) (log : List Entry) (from to now : Option (List ℕ)) : Type 0 where
+pub record Reads (alone : Bool) (start : RunStart) (script : Script) (log : List Entry) (from to now : Option (List ℕ)) : Type 0 where
   pub bytes : List ℕ
   pub consumed : Consumes from to bytes
-  pub after : IsAfter alone began script log now bytes
+  pub after : IsAfter alone start script log now bytes
 
 -- It gave these bytes, and the run stopped: in the lines that were read whole or, after the reader's end, in all lines. A read
 -- failed, or the script is too large, or a write failed, or nobody answers any more.
-pub record Stops (alone : Bool) (began : Began) (fault : ScriptFault) (from to now : Option (List ℕ)) (read_failed : Bool) : Type 0 where
+pub record Stops (alone : Bool) (start : RunStart) (fault : ScriptFault) (from to now : Option (List ℕ)) (read_failed : Bool) : Type 0 where
   pub script : List ℕ
   pub consumed : Consumes from to script
-  pub answered : IsStopped alone began fault now (whole_lines began.bounds script)
-      ⊎ (IsAtEnd to × StoppedAtLast alone began fault now script)
-  pub cause : fault ≡ Read → (read_failed ≡ true) ⊎ IsBeyond began.bounds script
+  pub answered : IsStopped alone start fault now (whole_lines start.bounds script)
+      ⊎ (IsAtEnd to × StoppedAtLast alone start fault now script)
+  pub cause : fault ≡ Read → (read_failed ≡ true) ⊎ IsBeyond start.bounds script
 
 -- ---- what is known of the reader and the writer after it
 
@@ -105,10 +105,10 @@ pub record RanToEnd (alone : Bool) (bounds : Bounds) (log_before log_after : Lis
   pub script : List ℕ
   pub consumed : Consumes before.remaining after.remaining script
   pub ended : IsAtEnd after.remaining
-  pub done : IsDone alone (began_at log_before bounds before.contents) log_after after.contents [] script
+  pub done : IsDone alone (run_start log_before bounds before.contents) log_after after.contents [] script
   pub quiet : NoCallFailed before after
 
 -- This fault stopped the answering of the script.
 pub record WasStopped (alone : Bool) (bounds : Bounds) (log_before : List Entry) (before after : Account) (fault : ScriptFault) : Type 0 where
-  pub stopped : Stops alone (began_at log_before bounds before.contents) fault before.remaining after.remaining after.contents after.read_failed
+  pub stopped : Stops alone (run_start log_before bounds before.contents) fault before.remaining after.remaining after.contents after.read_failed
   pub failed : FailedBy fault before after

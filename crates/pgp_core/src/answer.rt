@@ -14,7 +14,7 @@ ghost use Rattle.pgp_core.specs.Wants.{LacksReply, want_of};
 use super::accepted::{LONGEST_ACCEPTED, put_accepted};
 use super::answerer::{Answerer, NoReply};
 use super::codec::Codec;
-use super::replies::asked;
+use super::replies::asked_reply;
 use super::want::Want;
 use pgp_ids::{Epoch, PgId, TextFault, View};
 use pgp_text::{Command, LineRefusal, Reply, ReplyWriter};
@@ -98,9 +98,9 @@ fn put_fault(
     put_reply(alloc, writer, &reply, text).or(Err(NoReply::Memory(Want::Line)))
 }
 
-/// Puts what the log says of a group behind the text, with a line feed: the text of the reply [`asked`], written from where the
+/// Puts what the log says of a group behind the text, with a line feed: the text of the reply [`asked_reply`], written from where the
 /// view is kept. Count and epoch are those of the log.
-pub fn put_told(
+pub fn put_view(
     alloc: Global,
     writer: &mut ReplyWriter,
     pg: PgId,
@@ -114,7 +114,7 @@ pub fn put_told(
     ensures err { OnErr result (text.new.items ≡ text.old.items) }
 {
     let Some(view) = view else {
-        return put_reply(alloc, writer, &asked(pg, None), text);
+        return put_reply(alloc, writer, &asked_reply(pg, None), text);
     };
     let before = text.len();
     writer.put_asked(alloc, pg, view, count, epoch, text)?;

@@ -15,9 +15,9 @@ ghost use Rattle.pgp_log.specs.Shard.{HasReadSame, is_marked, is_own};
 ghost use Rattle.pgp_core.specs.Answer.{located_reply, log_with, submitted_reply};
 ghost use Rattle.pgp_core.specs.Wants.{MayFindNone};
 
-use super::answer::put_told;
+use super::answer::put_view;
 use super::answerer::{Answerer, NoReply};
-use super::replies::{asked, traced};
+use super::replies::{asked_reply, traced_reply};
 use super::want::Want;
 use pgp_ids::{AskRefusal, Entry, LocateRefusal, ObjectName, PgId, PoolId, Refusal, View};
 use pgp_log::{JudgedLog, RawSets, ShardState};
@@ -164,9 +164,9 @@ impl Answerer for Log {
     fn reply(&mut self, alloc: Global, command: Command) -> Result<Reply, NoReply> {
         match command {
             Command::Submit(entry) => self.submit(entry).or(Err(NoReply::Memory(Want::Entry))),
-            Command::Ask(pg) => Ok(asked(pg, self.ask(pg)?)),
+            Command::Ask(pg) => Ok(asked_reply(pg, self.ask(pg)?)),
             Command::Locate { pool, name } => Ok(self.locate(pool, &name)),
-            Command::Trace { code, epochs } => Ok(traced(alloc, code, epochs)?),
+            Command::Trace { code, epochs } => Ok(traced_reply(alloc, code, epochs)?),
         }
     }
 
@@ -183,7 +183,7 @@ impl Answerer for Log {
         work_out(&mut self.shard, &pg)?;
         let epoch = self.log.map().epoch();
         let view = self.shard.view_of(&pg);
-        put_told(alloc, writer, pg, view, count, epoch, text)?;
+        put_view(alloc, writer, pg, view, count, epoch, text)?;
         Ok(())
     }
 }

@@ -1,6 +1,6 @@
 ghost use Rattle.std.specs.Prelude.{◌≡◌, ℕ, List, [], ◌++◌, true, OnOk, OnErr, vec_items};
 ghost use Rattle.std.specs.Io.KnownBytes.{Appends};
-ghost use Rattle.pgp_core.specs.Output.{Went, FrontWent};
+ghost use Rattle.pgp_core.specs.Output.{WrittenPart, FrontWent};
 
 use super::streams::Sink;
 use std::alloc::Global;
@@ -32,7 +32,7 @@ impl Output {
         ensures ok { OnOk result (Appends (W.contents writer.old) (W.contents writer.new) self.old.pending.items) }
         ensures empty { OnOk result (self.new.pending.items ≡ []) }
         ensures err { OnErr result (FrontWent (W.contents writer.old) (W.contents writer.new) self.old.pending.items) }
-        ensures told { OnErr result (W.failed writer.new ≡ true) }
+        ensures failed { OnErr result (W.failed writer.new ≡ true) }
         ensures kept { OnOk result (W.failed writer.new ≡ W.failed writer.old) }
     {
         write_out(writer, self.pending.as_slice())?;
@@ -45,7 +45,7 @@ impl Output {
         ensures ok { OnOk result (Appends (W.contents writer.old) (W.contents writer.new) self.old.pending.items) }
         ensures empty { OnOk result (self.new.pending.items ≡ []) }
         ensures err { OnErr result (FrontWent (W.contents writer.old) (W.contents writer.new) self.old.pending.items) }
-        ensures told { OnErr result (W.failed writer.new ≡ true) }
+        ensures failed { OnErr result (W.failed writer.new ≡ true) }
         ensures kept { OnOk result (W.failed writer.new ≡ W.failed writer.old) }
     {
         pass_on(writer, self.pending.as_slice())?;
@@ -55,11 +55,11 @@ impl Output {
 
     /// Puts text after what is pending. Where there is no memory for it, all of it is written at once.
     pub fn put<W: Sink>(&mut self, text: &[u8], writer: &mut W) -> Result<(), WriteFault>
-        ensures ok { OnOk result (Went (W.contents writer.old) (W.contents writer.new)
+        ensures ok { OnOk result (WrittenPart (W.contents writer.old) (W.contents writer.new)
             (self.old.pending.items ++ text.now) self.new.pending.items) }
         ensures err { OnErr result (FrontWent (W.contents writer.old) (W.contents writer.new)
             (self.old.pending.items ++ text.now)) }
-        ensures told { OnErr result (W.failed writer.new ≡ true) }
+        ensures failed { OnErr result (W.failed writer.new ≡ true) }
         ensures kept { OnOk result (W.failed writer.new ≡ W.failed writer.old) }
     {
         match self.pending.extend_from_slice(text) {
@@ -77,7 +77,7 @@ impl Output {
 fn write_out<W: Sink>(writer: &mut W, text: &[u8]) -> Result<(), WriteFault>
     ensures ok { OnOk result (Appends (W.contents writer.old) (W.contents writer.new) text.now) }
     ensures err { OnErr result (FrontWent (W.contents writer.old) (W.contents writer.new) text.now) }
-    ensures told { OnErr result (W.failed writer.new ≡ true) }
+    ensures failed { OnErr result (W.failed writer.new ≡ true) }
     ensures kept { OnOk result (W.failed writer.new ≡ W.failed writer.old) }
 {
     let mut rest = text;
@@ -97,7 +97,7 @@ fn write_out<W: Sink>(writer: &mut W, text: &[u8]) -> Result<(), WriteFault>
 pub fn pass_on<W: Sink>(writer: &mut W, text: &[u8]) -> Result<(), WriteFault>
     ensures ok { OnOk result (Appends (W.contents writer.old) (W.contents writer.new) text.now) }
     ensures err { OnErr result (FrontWent (W.contents writer.old) (W.contents writer.new) text.now) }
-    ensures told { OnErr result (W.failed writer.new ≡ true) }
+    ensures failed { OnErr result (W.failed writer.new ≡ true) }
     ensures kept { OnOk result (W.failed writer.new ≡ W.failed writer.old) }
 {
     write_out(writer, text)?;

@@ -9,7 +9,7 @@ use pgp_text::{LineRefusal, MAX_EPOCHS, Reply};
 use std::alloc::{AllocError, Global};
 
 /// The reply to a question about a group of which this is said.
-pub fn asked(pg: PgId, view: Option<View>) -> Reply
+pub fn asked_reply(pg: PgId, view: Option<View>) -> Reply
     ensures { result ≡ asked_reply pg view }
 {
     match view {
@@ -19,7 +19,11 @@ pub fn asked(pg: PgId, view: Option<View>) -> Reply
 }
 
 /// The reply to a trace of a group whose pool is of this kind: its intervals in these epochs.
-pub fn traced(alloc: Global, kind: PoolKind, epochs: Seq<EpochState>) -> Result<Reply, AllocError>
+pub fn traced_reply(
+    alloc: Global,
+    kind: PoolKind,
+    epochs: Seq<EpochState>,
+) -> Result<Reply, AllocError>
     requires { length epochs ≤ MAX_EPOCHS }
     ensures { IfOk result (λ reply. reply ≡ traced_reply kind epochs) }
 {

@@ -8,7 +8,7 @@ ghost use Rattle.pgp_core.specs.Lines.{is_line_feed};
 ghost use Rattle.pgp_core.specs.Line.{Holds};
 ghost use Rattle.pgp_core.specs.Account.{account, ReadsFailed, WritesFailed, WriteFailedBy};
 ghost use Rattle.pgp_core.specs.Run.{AllAnswered, Stopped, bounds_of, script_bounds};
-ghost use Rattle.pgp_core.specs.Telling.{AreAnswered, Began, IsAfter, IsDone, IsStopped, StoppedAtLast, WentBy, StopsIn, Reads, Stops, RanToEnd, WasStopped, began_at};
+ghost use Rattle.pgp_core.specs.Telling.{AreAnswered, RunStart, IsAfter, IsDone, IsStopped, StoppedAtLast, WentBy, StopsIn, Reads, Stops, RanToEnd, WasStopped, run_start};
 
 use super::answerer::Answerer;
 use super::codec::Codec;
@@ -43,7 +43,7 @@ impl Script {
     fn new(alloc: Global, bounds: Bounds) -> Self
         ensures left { result.input.left ≡ bounds }
         ensures start { (alone : Bool) (log : List Entry) (written : Option (List ℕ))
-            → IsAfter alone (began_at log bounds written) result log written [] }
+            → IsAfter alone (run_start log bounds written) result log written [] }
     {
         Script {
             input: Input::new(alloc, bounds),
@@ -61,12 +61,12 @@ impl Script {
         answerer: &mut A,
         writer: &mut W,
     ) -> Result<(), ScriptFault>
-        ensures ok { OnOk result ((line : List ℕ) → Holds self.old.input.line line → (began : Began) (lines : List (List ℕ))
-            → AreAnswered A.alone began lines (A.log answerer.old) (W.contents writer.old) self.old.output.pending.items
-            → AreAnswered A.alone began (lines ++ (line ++ piece.now) ∷ []) (A.log answerer.new) (W.contents writer.new) self.new.output.pending.items) }
-        ensures err { IfErr result (λ fault. (line : List ℕ) → Holds self.old.input.line line → (began : Began) (lines others : List (List ℕ))
-            → AreAnswered A.alone began lines (A.log answerer.old) (W.contents writer.old) self.old.output.pending.items
-            → (fault ≢ ScriptFault.Read) × IsStopped A.alone began fault (W.contents writer.new) (lines ++ (line ++ piece.now) ∷ others)) }
+        ensures ok { OnOk result ((line : List ℕ) → Holds self.old.input.line line → (start : RunStart) (lines : List (List ℕ))
+            → AreAnswered A.alone start lines (A.log answerer.old) (W.contents writer.old) self.old.output.pending.items
+            → AreAnswered A.alone start (lines ++ (line ++ piece.now) ∷ []) (A.log answerer.new) (W.contents writer.new) self.new.output.pending.items) }
+        ensures err { IfErr result (λ fault. (line : List ℕ) → Holds self.old.input.line line → (start : RunStart) (lines others : List (List ℕ))
+            → AreAnswered A.alone start lines (A.log answerer.old) (W.contents writer.old) self.old.output.pending.items
+            → (fault ≢ ScriptFault.Read) × IsStopped A.alone start fault (W.contents writer.new) (lines ++ (line ++ piece.now) ∷ others)) }
         ensures failed { WritesFailed result (W.failed writer.old) (W.failed writer.new) }
         ensures left { self.new.input.left ≡ self.old.input.left }
     {
@@ -109,12 +109,12 @@ impl Script {
         requires room { 0 < self.old.input.left.lines }
         requires fits { length piece.now < self.old.input.left.bytes }
         ensures left { OnOk result (self.new.input.left.bytes + (length piece.now + 1) ≡ self.old.input.left.bytes) }
-        ensures ok { OnOk result ((began : Began) (bytes : List ℕ)
-            → IsAfter A.alone began self.old (A.log answerer.old) (W.contents writer.old) bytes
-            → IsAfter A.alone began self.new (A.log answerer.new) (W.contents writer.new) (bytes ++ (piece.now ++ 10 ∷ []))) }
-        ensures err { IfErr result (λ fault. (began : Began) (bytes more : List ℕ)
-            → IsAfter A.alone began self.old (A.log answerer.old) (W.contents writer.old) bytes
-            → StopsIn A.alone began fault (W.contents writer.new) (bytes ++ (piece.now ++ 10 ∷ more))) }
+        ensures ok { OnOk result ((start : RunStart) (bytes : List ℕ)
+            → IsAfter A.alone start self.old (A.log answerer.old) (W.contents writer.old) bytes
+            → IsAfter A.alone start self.new (A.log answerer.new) (W.contents writer.new) (bytes ++ (piece.now ++ 10 ∷ []))) }
+        ensures err { IfErr result (λ fault. (start : RunStart) (bytes more : List ℕ)
+            → IsAfter A.alone start self.old (A.log answerer.old) (W.contents writer.old) bytes
+            → StopsIn A.alone start fault (W.contents writer.new) (bytes ++ (piece.now ++ 10 ∷ more))) }
         ensures failed { WritesFailed result (W.failed writer.old) (W.failed writer.new) }
     {
         self.put_answer(alloc, piece, answerer, writer)?;
@@ -133,12 +133,12 @@ impl Script {
         writer: &mut W,
     ) -> Result<(), ScriptFault>
         ensures left { OnOk result (self.new.input.left.bytes + length chunk.now ≡ self.old.input.left.bytes) }
-        ensures ok { OnOk result ((began : Began) (bytes : List ℕ)
-            → IsAfter A.alone began self.old (A.log answerer.old) (W.contents writer.old) bytes
-            → IsAfter A.alone began self.new (A.log answerer.new) (W.contents writer.new) (bytes ++ chunk.now)) }
-        ensures err { IfErr result (λ fault. (began : Began) (bytes : List ℕ)
-            → IsAfter A.alone began self.old (A.log answerer.old) (W.contents writer.old) bytes
-            → StopsIn A.alone began fault (W.contents writer.new) (bytes ++ chunk.now)) }
+        ensures ok { OnOk result ((start : RunStart) (bytes : List ℕ)
+            → IsAfter A.alone start self.old (A.log answerer.old) (W.contents writer.old) bytes
+            → IsAfter A.alone start self.new (A.log answerer.new) (W.contents writer.new) (bytes ++ chunk.now)) }
+        ensures err { IfErr result (λ fault. (start : RunStart) (bytes : List ℕ)
+            → IsAfter A.alone start self.old (A.log answerer.old) (W.contents writer.old) bytes
+            → StopsIn A.alone start fault (W.contents writer.new) (bytes ++ chunk.now)) }
         ensures failed { WritesFailed result (W.failed writer.old) (W.failed writer.new) }
     {
         let mut rest = chunk;
@@ -168,12 +168,12 @@ impl Script {
         answerer: &mut A,
         writer: &mut W,
     ) -> Result<(), ScriptFault>
-        ensures ok { OnOk result ((began : Began) (bytes : List ℕ)
-            → IsAfter A.alone began self.old (A.log answerer.old) (W.contents writer.old) bytes
-            → IsDone A.alone began (A.log answerer.new) (W.contents writer.new) self.new.output.pending.items bytes) }
-        ensures err { IfErr result (λ fault. (began : Began) (bytes : List ℕ)
-            → IsAfter A.alone began self.old (A.log answerer.old) (W.contents writer.old) bytes
-            → StoppedAtLast A.alone began fault (W.contents writer.new) bytes) }
+        ensures ok { OnOk result ((start : RunStart) (bytes : List ℕ)
+            → IsAfter A.alone start self.old (A.log answerer.old) (W.contents writer.old) bytes
+            → IsDone A.alone start (A.log answerer.new) (W.contents writer.new) self.new.output.pending.items bytes) }
+        ensures err { IfErr result (λ fault. (start : RunStart) (bytes : List ℕ)
+            → IsAfter A.alone start self.old (A.log answerer.old) (W.contents writer.old) bytes
+            → StoppedAtLast A.alone start fault (W.contents writer.new) bytes) }
         ensures failed { WritesFailed result (W.failed writer.old) (W.failed writer.new) }
     {
         if self.input.line.started {
@@ -190,12 +190,12 @@ impl Script {
         answerer: &mut A,
         writer: &mut W,
     ) -> Result<(), ScriptFault>
-        ensures ok { OnOk result ((began : Began) (bytes : List ℕ)
-            → IsAfter A.alone began self.old (A.log answerer.old) (W.contents writer.old) bytes
-            → IsDone A.alone began (A.log answerer.new) (W.contents writer.new) [] bytes) }
-        ensures err { IfErr result (λ fault. (began : Began) (bytes : List ℕ)
-            → IsAfter A.alone began self.old (A.log answerer.old) (W.contents writer.old) bytes
-            → StoppedAtLast A.alone began fault (W.contents writer.new) bytes) }
+        ensures ok { OnOk result ((start : RunStart) (bytes : List ℕ)
+            → IsAfter A.alone start self.old (A.log answerer.old) (W.contents writer.old) bytes
+            → IsDone A.alone start (A.log answerer.new) (W.contents writer.new) [] bytes) }
+        ensures err { IfErr result (λ fault. (start : RunStart) (bytes : List ℕ)
+            → IsAfter A.alone start self.old (A.log answerer.old) (W.contents writer.old) bytes
+            → StoppedAtLast A.alone start fault (W.contents writer.new) bytes) }
         ensures failed { WritesFailed result (W.failed writer.old) (W.failed writer.new) }
     {
         self.put_last(alloc, answerer, writer)?;
@@ -215,14 +215,14 @@ impl Script {
         reader: &mut R,
         writer: &mut W,
     ) -> Result<usize, ScriptFault>
-        ensures ok { OnOk result ((began : Began) (from : Option (List ℕ))
-            → Reads A.alone began self.old (A.log answerer.old) from (R.remaining reader.old) (W.contents writer.old)
-            → Reads A.alone began self.new (A.log answerer.new) from (R.remaining reader.new) (W.contents writer.new)) }
+        ensures ok { OnOk result ((start : RunStart) (from : Option (List ℕ))
+            → Reads A.alone start self.old (A.log answerer.old) from (R.remaining reader.old) (W.contents writer.old)
+            → Reads A.alone start self.new (A.log answerer.new) from (R.remaining reader.new) (W.contents writer.new)) }
         ensures left { IfOk result (λ count. self.new.input.left.bytes + count ≡ self.old.input.left.bytes) }
         ensures end { IfOk result (λ count. count ≡ 0 → 0 < length chunk.old → IsAtEnd (R.remaining reader.new)) }
-        ensures err { IfErr result (λ fault. (began : Began) (from : Option (List ℕ))
-            → Reads A.alone began self.old (A.log answerer.old) from (R.remaining reader.old) (W.contents writer.old)
-            → Stops A.alone began fault from (R.remaining reader.new) (W.contents writer.new) (R.failed reader.new)) }
+        ensures err { IfErr result (λ fault. (start : RunStart) (from : Option (List ℕ))
+            → Reads A.alone start self.old (A.log answerer.old) from (R.remaining reader.old) (W.contents writer.old)
+            → Stops A.alone start fault from (R.remaining reader.new) (W.contents writer.new) (R.failed reader.new)) }
         ensures reads { ReadsFailed result (R.failed reader.old) (R.failed reader.new) }
         ensures writes { WritesFailed result (W.failed writer.old) (W.failed writer.new) }
     {

@@ -18,8 +18,8 @@ pub trait Source {
     fn read(&mut self, buf: &mut [u8]) -> io::Result<usize>
         ensures bound { ReadsAtMost result buf.new }
         ensures bytes { ReadConsumes (remaining self.old) (remaining self.new) result buf.new }
-        ensures told { OnErr result (failed self.new ≡ true) }
-        ensures kept { OnOk result (failed self.new ≡ failed self.old) };
+        ensures kept { OnOk result (failed self.new ≡ failed self.old) }
+        ensures failed { OnErr result (failed self.new ≡ true) };
 
     /// Whether a read of it failed.
     fn has_failed(&self) -> bool
@@ -38,13 +38,13 @@ pub trait Sink {
     fn write(&mut self, buf: &[u8]) -> io::Result<usize>
         ensures bound { WritesAtMost result buf.now }
         ensures bytes { WriteAppends (contents self.old) (contents self.new) result buf.now }
-        ensures told { OnErr result (failed self.new ≡ true) }
         ensures stuck { IfOk result (λ n. n ≡ 0 → 0 < length buf.now → failed self.new ≡ true) }
-        ensures kept { IfOk result (λ n. 0 < n → failed self.new ≡ failed self.old) };
+        ensures kept { IfOk result (λ n. 0 < n → failed self.new ≡ failed self.old) }
+        ensures failed { OnErr result (failed self.new ≡ true) };
 
     /// Passes on what was written.
     fn flush(&mut self) -> io::Result<()>
         ensures bytes { Keeps (contents self.old) (contents self.new) }
-        ensures told { OnErr result (failed self.new ≡ true) }
-        ensures kept { OnOk result (failed self.new ≡ failed self.old) };
+        ensures kept { OnOk result (failed self.new ≡ failed self.old) }
+        ensures failed { OnErr result (failed self.new ≡ true) };
 }

@@ -6,7 +6,7 @@ ghost use Rattle.pgp_log.specs.Log.{IsFrontOf};
 ghost use Rattle.pgp_core.specs.Answerer.{Replies};
 ghost use Rattle.pgp_core.specs.Wants.{LacksReply};
 
-use pgp_core::{Answerer, NoReply, Want, asked, traced};
+use pgp_core::{Answerer, NoReply, Want, asked_reply, traced_reply};
 use pgp_engine::{
     Answer, AskFault, Client, Engine, LocateFault, Naming, Place, SubmitAnswer, SubmitFault,
 };
@@ -134,9 +134,9 @@ impl<'a, J: Naming, T: Wait> Answerer for EngineAnswerer<'a, J, T> {
     fn reply(&mut self, alloc: Global, command: Command) -> Result<Reply, NoReply> {
         match command {
             Command::Submit(entry) => self.submit(entry),
-            Command::Ask(pg) => Ok(asked(pg, self.ask(pg)?)),
+            Command::Ask(pg) => Ok(asked_reply(pg, self.ask(pg)?)),
             Command::Locate { pool, name } => self.locate(pool, &name),
-            Command::Trace { code, epochs } => Ok(traced(alloc, code, epochs)?),
+            Command::Trace { code, epochs } => Ok(traced_reply(alloc, code, epochs)?),
         }
     }
 }

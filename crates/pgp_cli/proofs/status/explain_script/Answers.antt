@@ -11,6 +11,6 @@ write_or_other (UnknownGroup pg) = inr (λ is. cc)
 
 pub returns-in-Err-clause-fault : goal.returns-in-Err-clause-fault
 returns-in-Err-clause-fault g c fault = elim (write_or_other c.in-Err.why) [
-  | inl write ↦ inr (c.explain-told.ensures.write (c.in-Err.is ∙ ap Err write))
+  | inl write ↦ inr (c.explain-outcome.ensures.write (c.in-Err.is ∙ ap Err write))
   | inr other ↦ inl (c.in-Err.ensures.unwritten other)
 ]

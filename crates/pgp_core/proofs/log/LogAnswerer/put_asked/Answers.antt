@@ -14,7 +14,7 @@ returns-clause-ok c =
     (record {
       by = log;
       may = refl;
-      text = c.in_ok-put_told.ensures.ok
+      text = c.in_ok-put_view.ensures.ok
           ∙ ap (λ r. c.args.text.now.items ++ (reply_text r ++ 10 ∷ []))
           (told-reply log c.work_out.new.shard.front c.args.pg c.len-count.result c.epoch-epoch.result (option_copied c.view_of-view.result)
           (c.in_ok-work_out.ensures.same.front_is ∙ read) c.len-count.ensures

@@ -1,5 +1,5 @@
 use Rattle.std.proofs.lemmas.Result.{on_err_weaker, on_ok_weaker}
-use Rattle.pgp_core.proofs.OutputLemmas.{Went-direct, FrontWent-longer, FrontWent-after}
+use Rattle.pgp_core.proofs.OutputLemmas.{WrittenPart-direct, FrontWent-longer, FrontWent-after}
 use Rattle.pgp_lists.proofs.Results.{on_err}
 use Rattle.pgp_core.proofs.output.Output.put.Goals as goal
 
@@ -13,5 +13,5 @@ returns-in_ok-flush-in-Err-clause-err g c =
 
 pub returns-in_ok-flush-in-Err-clause-ok : goal.returns-in_ok-flush-in-Err-clause-ok
 returns-in_ok-flush-in-Err-clause-ok g c =
-    on_ok_weaker _ (Went-direct _ _ _ _ _ _ c.in_ok-flush-in-Err.ensures.empty (rw c.in-Err.ensures.items at c.in_ok-flush-in-Err.ensures.ok))
+    on_ok_weaker _ (WrittenPart-direct _ _ _ _ _ _ c.in_ok-flush-in-Err.ensures.empty (rw c.in-Err.ensures.items at c.in_ok-flush-in-Err.ensures.ok))
     c.write_out.ensures.ok

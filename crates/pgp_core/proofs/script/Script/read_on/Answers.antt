@@ -7,17 +7,17 @@ use Rattle.pgp_core.proofs.script.Script.read_on.Goals as goal
 pub returns-in_err-close-clause-err : goal.returns-in_err-close-clause-err
 returns-in_err-close-clause-err g c =
     passed_on _ _ _ _ c.from_residual.ensures.1
-    (λ began from reads. stops_at_read Write g.A.Answerer.alone began c.args.self.now _ _ _ _ _ _ _ (λ gone. cc) reads c.in_err-close.ensures.err (Keeps-refl _) (λ read. cc))
+    (λ start from reads. stops_at_read Write g.A.Answerer.alone start c.args.self.now _ _ _ _ _ _ _ (λ gone. cc) reads c.in_err-close.ensures.err (Keeps-refl _) (λ read. cc))
 
 pub returns-in-Err-clause-err : goal.returns-in-Err-clause-err
-returns-in-Err-clause-err g c began from reads =
-    stops_at_read Read g.A.Answerer.alone began c.args.self.now _ _ _ _ _ _ _ (λ gone. cc) reads c.in_ok-close.ensures.ok c.in-Err.ensures.bytes (λ read. c.in-Err.ensures.told)
+returns-in-Err-clause-err g c start from reads =
+    stops_at_read Read g.A.Answerer.alone start c.args.self.now _ _ _ _ _ _ _ (λ gone. cc) reads c.in_ok-close.ensures.ok c.in-Err.ensures.bytes (λ read. c.in-Err.ensures.failed)
 
 pub returns-in-Err-take-clause-err : goal.returns-in-Err-take-clause-err
-returns-in-Err-take-clause-err g c began from reads =
-    stops_in_chunk _ began _ c.args.self.now c.close.new.self _ _ _ _ _ _ _ _ _ reads c.in_ok-close.ensures.ok c.in_ok-close.ensures.empty c.in-Ok.ensures.bytes.0
+returns-in-Err-take-clause-err g c start from reads =
+    stops_in_chunk _ start _ c.args.self.now c.close.new.self _ _ _ _ _ _ _ _ _ reads c.in_ok-close.ensures.ok c.in_ok-close.ensures.empty c.in-Ok.ensures.bytes.0
     c.in-Err-take.ensures.err
 
 pub returns-clause-ok : goal.returns-clause-ok
-returns-clause-ok g c began from reads =
-    turn _ began c.args.self.now _ c.close.new.self _ _ _ _ _ _ _ _ _ reads c.in_ok-close.ensures.ok c.in_ok-close.ensures.empty c.in-Ok.ensures.bytes.0 c.in_default.ensures.ok
+returns-clause-ok g c start from reads =
+    turn _ start c.args.self.now _ c.close.new.self _ _ _ _ _ _ _ _ _ reads c.in_ok-close.ensures.ok c.in_ok-close.ensures.empty c.in-Ok.ensures.bytes.0 c.in_default.ensures.ok

@@ -6,15 +6,15 @@ use Rattle.pgp_core.proofs.RunLemmas.{after-piece, full, line-front, passed_on, 
 use Rattle.pgp_core.proofs.script.Script.take.Goals as goal
 
 pub returns-then-is_full-clause-err : goal.returns-then-is_full-clause-err
-returns-then-is_full-clause-err g c began bytes so_far =
+returns-then-is_full-clause-err g c start bytes so_far =
     let taken = c.loop-rest.invariant.taken in
-    let here = taken.goes began bytes so_far in
+    let here = taken.goes start bytes so_far in
     let rest = c.loop-rest.rest.now in
     let some : 0 < length rest = grind (arith, nat_tests) in
-    let ends = full began c.loop-rest.self.input (bytes ++ taken.done) rest here.read (c.is_full.ensures.0 c.if-is_full.true) some in
-    subst (StopsIn g.A.Answerer.alone began c.stop_reading.result _) (regroup bytes taken.done rest c.args.chunk.now taken.whole)
+    let ends = full start c.loop-rest.self.input (bytes ++ taken.done) rest here.read (c.is_full.ensures.0 c.if-is_full.true) some in
+    subst (StopsIn g.A.Answerer.alone start c.stop_reading.result _) (regroup bytes taken.done rest c.args.chunk.now taken.whole)
     (record {
-      stopped = stopped-after c.stop_reading.result g.A.Answerer.alone began c.loop-rest.self _ _ _ (bytes ++ taken.done) rest here c.stop_reading.ensures.not_gone
+      stopped = stopped-after c.stop_reading.result g.A.Answerer.alone start c.loop-rest.self _ _ _ (bytes ++ taken.done) rest here c.stop_reading.ensures.not_gone
           c.stop_reading.ensures.went (λ _. ends.0);
       beyond = λ _. ends.1;
     })
@@ -22,12 +22,12 @@ returns-then-is_full-clause-err g c began bytes so_far =
 pub returns-in_err-end_line-in-Some-clause-err : goal.returns-in_err-end_line-in-Some-clause-err
 returns-in_err-end_line-in-Some-clause-err g c =
     passed_on _ _ _ _ c.from_residual.ensures.1
-    (λ began bytes so_far.
+    (λ start bytes so_far.
     let taken = c.loop-rest.invariant.taken in
     let parts = line-front _ c.loop-rest.rest.now c.allowed-allowed.result.now c.in-Some.piece.now _ c.allowed-allowed.ensures c.in-Some.ensures.whole in
-    subst (StopsIn g.A.Answerer.alone began c.in_err-end_line-in-Some.field-0.0 (g.W.Sink.contents c.end_line.new.writer))
+    subst (StopsIn g.A.Answerer.alone start c.in_err-end_line-in-Some.field-0.0 (g.W.Sink.contents c.end_line.new.writer))
     (regroup_line bytes taken.done c.loop-rest.rest.now c.args.chunk.now c.in-Some.piece.now _ taken.whole parts)
-    (c.in_err-end_line-in-Some.ensures.err began (bytes ++ taken.done) _ (taken.goes began bytes so_far)))
+    (c.in_err-end_line-in-Some.ensures.err start (bytes ++ taken.done) _ (taken.goes start bytes so_far)))
 
 pub loop-rest-preserved-in-Some : goal.loop-rest-preserved-in-Some
 loop-rest-preserved-in-Some g c =
@@ -54,12 +54,12 @@ loop-rest-preserved g c =
       left = omega (arith, after_add, long, few, invariant.left);
       kept = invariant.kept;
       taken = rw take_rest (taken-more _ _ _ _ _ _ _ _ _ _ _ _ allowed _ invariant.taken parts
-          (λ began bytes. after-piece g.A.Answerer.alone began c.loop-rest.self c.add.new.self _ _ bytes allowed c.in-None.ensures.none c.add.ensures.read));
+          (λ start bytes. after-piece g.A.Answerer.alone start c.loop-rest.self c.add.new.self _ _ bytes allowed c.in-None.ensures.none c.add.ensures.read));
     }
 
 pub returns-clause-ok : goal.returns-clause-ok
-returns-clause-ok g c began bytes so_far =
+returns-clause-ok g c start bytes so_far =
     let taken = c.loop-rest.invariant.taken in
     let none : c.loop-rest.rest.now ≡ [] = nil_from_length c.loop-rest.rest.now (grind (arith, nat_tests)) in
-    subst (IsAfter g.A.Answerer.alone began c.loop-rest.self _ _)
-    (ap (λ l. bytes ++ l) (sym (append-nil taken.done) ∙ ap (λ l. taken.done ++ l) (sym none) ∙ taken.whole)) (taken.goes began bytes so_far)
+    subst (IsAfter g.A.Answerer.alone start c.loop-rest.self _ _)
+    (ap (λ l. bytes ++ l) (sym (append-nil taken.done) ∙ ap (λ l. taken.done ++ l) (sym none) ∙ taken.whole)) (taken.goes start bytes so_far)

@@ -1,12 +1,12 @@
 use Rattle.std.proofs.Common.{◌≡◌, ◌+◌, length}
-use Rattle.pgp_core.specs.Telling.{Taken}
+use Rattle.pgp_core.specs.Telling.{ChunkPart}
 use Rattle.pgp_core.proofs.script.Script.take.Given as goal
 
 abbrev pub invariant-loop-rest : goal.invariant-loop-rest
 invariant-loop-rest g l = record {
   left : l.self.input.left.bytes + length l.chunk ≡ l.initial.self.input.left.bytes + length l.rest;
   kept : g.W.Sink.failed l.writer ≡ g.W.Sink.failed l.initial.writer;
-  taken : Taken g.A.Answerer.alone l.initial.self l.self (g.A.Answerer.log l.initial.answerer) (g.A.Answerer.log l.answerer)
+  taken : ChunkPart g.A.Answerer.alone l.initial.self l.self (g.A.Answerer.log l.initial.answerer) (g.A.Answerer.log l.answerer)
       (g.W.Sink.contents l.initial.writer) (g.W.Sink.contents l.writer) l.chunk l.rest;
 }
 
