@@ -30,20 +30,12 @@ pub fn read_request(alloc: Global, words: &[String]) -> Result<Request, Error>
     ensures asked { IfOk result (IsAsked (map string_bytes words.now)) }
 {
     if names(words, "explain") {
-        match explanation(alloc, words) {
-            Ok(options) => Ok(Request::Explain(options)),
-            Err(error) => Err(error),
-        }
+        Ok(Request::Explain(explanation(alloc, words)?))
     } else if names(words, "compact") {
-        match compaction(alloc, words) {
-            Ok(()) => Ok(Request::Compact),
-            Err(error) => Err(error),
-        }
+        compaction(alloc, words)?;
+        Ok(Request::Compact)
     } else {
-        match options(alloc, words) {
-            Ok(options) => Ok(Request::Run(options)),
-            Err(error) => Err(error),
-        }
+        Ok(Request::Run(options(alloc, words)?))
     }
 }
 

@@ -231,9 +231,7 @@ impl Script {
             Ok(count) => count,
             Err(_) => return Err(ScriptFault::Read),
         };
-        if let Err(fault) = self.take(alloc, &chunk[..count], answerer, writer) {
-            return Err(fault);
-        }
+        self.take(alloc, &chunk[..count], answerer, writer)?;
         Ok(count)
     }
 }

@@ -53,14 +53,9 @@ pub fn explain<R: Source, W: Sink, E: Write>(
     // Nothing is told of lines, unless one of the script is refused.
     ensures told { (errors.new ≡ errors.old) ⊎ IsRefusedInPart (R.remaining reader.old) (R.remaining reader.new) }
 {
-    let mut log = match read_log(alloc, reader, errors) {
-        Ok(log) => log,
-        Err(fault) => return Err(fault),
-    };
-    match asked_text(alloc, &mut log, pg, json, EpochOffset(epoch_offset)) {
-        Ok(text) => write_text(writer, text.as_str()),
-        Err(fault) => Err(fault),
-    }
+    let mut log = read_log(alloc, reader, errors)?;
+    let text = asked_text(alloc, &mut log, pg, json, EpochOffset(epoch_offset))?;
+    write_text(writer, text.as_str())
 }
 
 /// Writes all of the text, and has the writer pass it on.

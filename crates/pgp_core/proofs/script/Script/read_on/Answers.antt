@@ -13,11 +13,13 @@ pub returns-in-Err-clause-err : goal.returns-in-Err-clause-err
 returns-in-Err-clause-err g c start from reads =
     stops_at_read Read g.A.Answerer.alone start c.args.self.now _ _ _ _ _ _ _ (λ gone. cc) reads c.in_ok-close.ensures.ok c.in-Err.ensures.bytes (λ read. c.in-Err.ensures.failed)
 
-pub returns-in-Err-take-clause-err : goal.returns-in-Err-take-clause-err
-returns-in-Err-take-clause-err g c start from reads =
+pub returns-in_err-take-clause-err : goal.returns-in_err-take-clause-err
+returns-in_err-take-clause-err g c =
+    passed_on _ _ _ _ c.from_residual-in_err-take.ensures.1
+    (λ start from reads.
     stops_in_chunk _ start _ c.args.self.now c.close.new.self _ _ _ _ _ _ _ _ _ reads c.in_ok-close.ensures.ok c.in_ok-close.ensures.empty c.in-Ok.ensures.bytes.0
-    c.in-Err-take.ensures.err
+    c.in_err-take.ensures.err)
 
 pub returns-clause-ok : goal.returns-clause-ok
 returns-clause-ok g c start from reads =
-    turn _ start c.args.self.now _ c.close.new.self _ _ _ _ _ _ _ _ _ reads c.in_ok-close.ensures.ok c.in_ok-close.ensures.empty c.in-Ok.ensures.bytes.0 c.in_default.ensures.ok
+    turn _ start c.args.self.now _ c.close.new.self _ _ _ _ _ _ _ _ _ reads c.in_ok-close.ensures.ok c.in_ok-close.ensures.empty c.in-Ok.ensures.bytes.0 c.in_ok-take.ensures.ok
