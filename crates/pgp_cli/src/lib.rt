@@ -12,7 +12,7 @@ mod engine_run;
 mod explain_options;
 mod explain_words;
 mod fault;
-mod laws;
+pub mod laws;
 mod named;
 mod request;
 mod run_options;
@@ -26,10 +26,6 @@ pub use ending::{DONE, Ending, FAULT, USAGE};
 pub use engine_run::run_engine;
 pub use explain_options::ExplainOptions;
 pub use explain_words::explanation;
-pub use laws::{
-    command_lines, compact_lines, counts_of_runs, explain_lines, explanations, names_of_groups,
-    one_request, right_counts, right_words, statuses, wrong_counts, wrong_explanations,
-};
 pub use request::{Request, read_request};
 pub use run_options::RunOptions;
 pub use status::status_of;
