@@ -11,8 +11,8 @@ use std::alloc::{AllocError, Global};
 
 /// What `pgpeer --help` says after its usage.
 const HELP: &str = "\
-All read a script from standard input: lines of JSON, of which docs/FORMAT.md
-tells the keys.
+All read a script from standard input: lines of JSON, of which FORMAT.md (in docs,
+or in share/doc/pgpeer) tells the keys.
 
 Example:
   pgpeer run < script.jsonl
@@ -25,14 +25,18 @@ Example:
 const RUN_HELP: &str = "\
 A line is one JSON object, and its key op says what it is: inc, info, entries and
 close add to the log; ask, locate and trace ask. Each line is answered by one line
-of JSON, a blank line by none. docs/FORMAT.md tells the keys of each and the answers.
-They are the same, byte for byte, whatever the numbers of shards and workers are.
+of JSON, a blank line by none. FORMAT.md (in docs, or in share/doc/pgpeer) tells
+the keys of each and the answers. These are the same, byte for byte, whatever the
+numbers of shards and workers are. Workers answer a script more slowly than none:
+they are for programs that link the library.
 
 Exit status:
   0  the script was answered to its end
-  2  the command line is wrong, or memory ran out while it was read
+  2  the command line is wrong, or it was out of memory as it was read
   3  a read or a write failed, the script has more than 1000000 lines or
-     4294967296 bytes, or there was no engine to answer it";
+     4294967296 bytes, or there was no engine to answer it. The last comes only
+     with workers, and has three causes: no memory, no thread, or no copy of the
+     log for the engine";
 
 /// What `pgpeer explain --help` says after its usage.
 const EXPLAIN_HELP: &str = "\
@@ -49,9 +53,9 @@ Example:
 
 Exit status:
   0  the script was read to its end, and the explanation was written
-  2  the command line is wrong, or memory ran out while it was read
+  2  the command line is wrong, or it was out of memory as it was read
   3  a read or a write failed, the script has more than 1000000 lines or
-     4294967296 bytes, the map has no such group, or memory ran out";
+     4294967296 bytes, the map has no such group, or it was out of memory";
 
 /// What `pgpeer compact --help` says after its usage.
 const COMPACT_HELP: &str = "\
@@ -67,9 +71,9 @@ Example:
 
 Exit status:
   0  the script was read to its end, and what remains of it was written
-  2  the command line is wrong, or memory ran out while it was read
+  2  the command line is wrong, or it was out of memory as it was read
   3  a read or a write failed, the script has more than 1000000 lines or
-     4294967296 bytes, or memory ran out";
+     4294967296 bytes, or it was out of memory";
 
 const SHARDS_HELP: &str = "How many shards share the groups, 1 to 64 [default: 1]";
 

@@ -10,7 +10,7 @@ use std::fmt;
 /// Why a script was not answered or explained to its end.
 #[derive(Clone, Copy, Debug)]
 pub enum Fault {
-    /// A read failed, the script has more lines or bytes than it may have, or memory ran out.
+    /// A read failed, the script has more lines or bytes than it may have, or it was out of memory.
     Script(WholeFault),
     /// A write failed, or took no byte.
     Write,

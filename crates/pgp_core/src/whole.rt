@@ -22,7 +22,7 @@ pub enum WholeFault {
     /// It is larger than its bounds.
     #[error("the script is too large")]
     TooLarge,
-    /// Memory ran out.
+    /// It was out of memory.
     #[error("out of memory")]
     Memory,
 }
