@@ -1,5 +1,5 @@
-//! The core of the engine as a static library for C: a session is one log, which takes entries and answers questions on one
-//! thread.
+//! A log and what answers by it, as a static library for C: a session is one log, which takes entries and answers questions on
+//! one thread.
 //!
 //! Each exported function calls [`pgp_core::Session`], and its contract says what C sees. None starts a thread or takes a
 //! lock.

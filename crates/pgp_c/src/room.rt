@@ -1,3 +1,5 @@
+//! Whether an answer's text fits into the caller's room, and what is put there.
+
 ghost use Rattle.std.specs.Prelude.{◌≡◌, length};
 ghost use Rattle.pgp_c.specs.Exports.{put_in, put_status};
 

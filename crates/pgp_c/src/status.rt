@@ -1,3 +1,5 @@
+//! What became of a call, and the number by which C knows it.
+
 ghost use Rattle.std.specs.Prelude.{◌≡◌};
 ghost use Rattle.pgp_c.specs.Status.{status_number};
 
@@ -6,7 +8,7 @@ ghost use Rattle.pgp_c.specs.Status.{status_number};
 pub enum Status {
     /// It did what its name says.
     Done,
-    /// It did, but the answer doesn't fit into the room. The session keeps it.
+    /// It did, and the room is too small for what it gives, and stays as it was.
     RoomTooSmall,
     /// It was out of memory, and the log is as before.
     NoMemory,

@@ -89,7 +89,7 @@ script_text met script = answers [] met (lines_of script)
 
 -- ---- how large a script may be
 
--- it has at most so many lines and so many bytes
+-- it has at most as many lines and bytes as the bounds say
 pub record Within (bounds : Bounds) (script : List ℕ) : Type 0 where
   pub few_lines : length (lines_of script) ≤ bounds.lines
   pub few_bytes : length script ≤ bounds.bytes

@@ -83,7 +83,7 @@ pub record StoppedAtLast (alone : Bool) (start : RunStart) (fault : ScriptFault)
 
 -- ---- the reader
 
--- It gave these bytes, and so much is done of them.
+-- It gave these bytes, which were read, and the answers to the lines that have ended in them are written or pending.
 pub record Reads (alone : Bool) (start : RunStart) (script : Script) (log : List Entry) (from to now : Option (List ℕ)) : Type 0 where
   pub bytes : List ℕ
   pub consumed : Consumes from to bytes

@@ -1,3 +1,5 @@
+//! Why a script was not answered to its end.
+
 use super::output::WriteFault;
 use thiserror::Error;
 

@@ -1,3 +1,5 @@
+//! The history that a trace tells: which intervals of a group its epochs make.
+
 ghost use Rattle.std.specs.Prelude.{◌<◌, [], IfOk, length};
 ghost use Rattle.std.specs.Vec.Iter.{into_iter_items};
 ghost use Rattle.pgp_code.specs.AnyCode.{enough_of, is_by_place};

@@ -1,4 +1,4 @@
-//! The core of the engine: [`run_script`] answers a script, line by line, on one thread, by the log that its lines make.
+//! Scripts and their answers: [`run_script`] answers a script, line by line, on one thread, by the log that its lines make.
 //!
 //! A run has three parts: `Input` cuts the bytes that are read into lines, within bounds; an [`Answerer`] answers the
 //! command of each; and `Output` keeps the answers until they are written.

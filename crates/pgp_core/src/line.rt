@@ -122,7 +122,8 @@ impl LineBuffer {
         answer_bytes(alloc, codec, piece, answerer, text)
     }
 
-    /// The same, where the line has ended and its last piece was appended.
+    /// Puts the answer to the line, which has ended, behind the text, by what is kept of it, and gives what is still to be written
+    /// of it. Where nobody answers the line any more, the text stays.
     fn answer_kept<A: Answerer>(
         &self,
         alloc: Global,
@@ -146,7 +147,9 @@ impl LineBuffer {
     }
 }
 
-/// The same, of the bytes of a line that isn't blank and not too long.
+/// Puts the answer to a line that isn't blank and not too long behind the text: nothing is still to be written of it then. Where
+/// the line was out of memory, the text stays, and the constant text for that is still to be written. Where nobody answers the
+/// line any more, the text stays too.
 fn answer_bytes<A: Answerer>(
     alloc: Global,
     codec: &mut Codec,
@@ -166,7 +169,8 @@ fn answer_bytes<A: Answerer>(
     }
 }
 
-/// What becomes of the bytes of a line with this further piece, of which so much is kept.
+/// What became of the bytes of a line once this piece follows them, where this is what became of those before it. The piece is
+/// appended to `bytes` where all bytes of the line are kept.
 fn keep(bytes: &mut Vec<u8>, fate: Fate, piece: &[u8]) -> Fate
     ensures { (line : List ℕ) → KeptBy fate bytes.old.items line → KeptBy result bytes.new.items (line ++ piece.now) }
 {

@@ -1,3 +1,5 @@
+//! For what a line was out of memory: for itself, or for the entry that it is.
+
 /// What there was no memory for.
 #[derive(Clone, Copy)]
 pub enum Want {

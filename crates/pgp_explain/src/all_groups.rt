@@ -1,3 +1,5 @@
+//! Which groups a map has, and in which order they are gone through.
+
 ghost use Rattle.std.specs.Prelude.{◌≡◌, ◌++◌, IfOk, OnOk};
 ghost use Rattle.pgp_map.specs.MapOf.{Says};
 ghost use Rattle.pgp_explain.specs.Summary.{all_groups, groups_of_pool};

@@ -1,3 +1,5 @@
+//! Why a script was not explained.
+
 use pgp_core::{WholeFault, WriteFault};
 use pgp_ids::PgId;
 use std::alloc::AllocError;

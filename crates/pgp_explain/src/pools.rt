@@ -1,3 +1,5 @@
+//! What is told of a group's pool, and what stands for a pool that the map doesn't have.
+
 ghost use Rattle.pgp_map.specs.MapOf.{Says};
 ghost use Rattle.std.specs.Prelude.{◌≡◌};
 ghost use Rattle.pgp_explain.specs.Pools.{pool_facts};

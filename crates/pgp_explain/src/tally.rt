@@ -1,3 +1,5 @@
+//! How many groups have each verdict, and how many there are.
+
 ghost use Rattle.std.specs.Prelude.{◌≡◌, ◌+◌, ◌<◌, [], ◌∷◌, ◌++◌, List};
 ghost use Rattle.pgp_group.specs.GroupLog.{GroupLog};
 ghost use Rattle.pgp_group.specs.Verdict.{verdict as verdict_of};

@@ -1,3 +1,5 @@
+//! How many groups wait for a device, by why they do.
+
 ghost use Rattle.std.specs.Prelude.{◌≡◌};
 ghost use Rattle.pgp_explain.specs.Summary.{waiting};
 
