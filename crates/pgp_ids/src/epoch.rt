@@ -18,12 +18,14 @@ impl Model for Epoch {
 }
 
 impl Epoch {
+    /// The epoch of this number.
     pub fn new(number: u32) -> Self
         ensures { result ≡ number }
     {
         Epoch { number }
     }
 
+    /// Its number.
     pub fn number(self) -> u32
         ensures { result ≡ self }
     {

@@ -82,6 +82,7 @@ impl ObjectName {
         Ok(Some(ObjectName { text }))
     }
 
+    /// The text of the name.
     pub fn as_str(&self) -> &str
         ensures value { result.now ≡ self.now }
         ensures some { 1 ≤ length result.now }

@@ -34,6 +34,7 @@ impl OsdId {
         }
     }
 
+    /// Its number, at most [`OsdId::MAX`].
     pub fn number(self) -> u16
         ensures value { result ≡ self }
         ensures in_range { result ≤ Self.MAX }

@@ -29,6 +29,7 @@ impl Model for Osds {
 }
 
 impl Osds {
+    /// The list without a place.
     pub fn new() -> Self
         ensures { result ≡ [] }
     {
@@ -37,6 +38,7 @@ impl Osds {
         }
     }
 
+    /// How many places it has, empty ones among them.
     pub fn len(&self) -> usize
         ensures value { result ≡ length self.now }
         ensures within { result ≤ MAX_OSDS }
@@ -44,12 +46,14 @@ impl Osds {
         self.places.len()
     }
 
+    /// Whether it has no place.
     pub fn is_empty(&self) -> bool
         ensures { result ≡ (length self.now == 0) }
     {
         self.places.is_empty()
     }
 
+    /// Whether it has as many places as it can have.
     pub fn is_full(&self) -> bool
         ensures { result ≡ (length self.now == MAX_OSDS) }
     {

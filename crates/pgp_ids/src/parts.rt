@@ -34,6 +34,7 @@ impl Parts {
         Parts { places }
     }
 
+    /// The places in order.
     pub fn places(&self) -> &[Option<Part>]
         ensures { result.now ≡ self.now }
     {

@@ -32,6 +32,7 @@ impl Model for Place {
 }
 
 impl Place {
+    /// The place that holds this device, or the empty place.
     pub fn new(osd: Option<OsdId>) -> Self
         ensures { result ≡ osd }
     {

@@ -31,6 +31,7 @@ impl PoolId {
         }
     }
 
+    /// Its number, at least 1.
     pub fn number(self) -> u8
         ensures value { result ≡ self }
         ensures at_least_one { 1 ≤ result }

@@ -29,6 +29,7 @@ impl Model for SlotSet {
 
 impl SlotSet {
     #[tactic(auto, unfolding(crate::specs::SlotBits::slots_of))]
+    /// The set without a slot.
     pub fn empty() -> Self
         ensures { result ≡ [] }
     {
@@ -45,6 +46,7 @@ impl SlotSet {
         }
     }
 
+    /// Whether the slot is in the set.
     pub fn has(self, slot: u8) -> bool
         requires { slot < SLOT_LIMIT }
         ensures { result ≡ has_slot slot self }
