@@ -4,52 +4,48 @@
     bench/measure_locates.py [--program PATH] [--runs R]
 
 PATH is the built tests (by default crates/pgp_thread_tests/out/pgp_thread_tests_tests). Those of `look_ups` look up on 1, 2 and
-4 threads, 50,000 objects on each, while one more thread submits incrementals. Each is run R times (5), by turns over clients
-and over the lock. What a run without look-ups takes is taken off. Prints a table in Markdown: look-ups a second, of all threads
-together, in the best run and in the median one.
+4 threads, one number after the other, 50,000 objects on each thread, while one more thread submits incrementals, and print how
+long that took. Each test is run R times (5), by turns by clients and under the lock. Prints a table in Markdown: look-ups a
+second, of all threads together, in the best run and in the median one.
 """
 
 import argparse
 import os
+import re
 import statistics
 import subprocess
 import sys
-import time
 
 from measure import HERE, table
 
 
-LOOKUPS = 50_000  # of one thread, as in crates/pgp_thread_tests/src/look_ups.rt
-THREADS = {"one_thread": 1, "two_threads": 2, "four_threads": 4}
+LOOKUPS = 50_000  # of one thread, as in crates/pgp_thread_tests/src/look_ups/entries.rt
 MEANS = ("by_clients", "under_a_lock")
+ROUND = re.compile(r"^threads: (\d+), nanoseconds: (\d+)$", re.M)
 
 
-def elapsed(program, test):
-    """Gives the seconds that a test took, which has to find each object."""
-    before = time.perf_counter()
-    run = subprocess.run([program, f"look_ups::{test}"], capture_output=True)
-    spent = time.perf_counter() - before
-    if run.returncode != 0:
+def rates(program, means):
+    """Gives the look-ups a second of one run, which has to find each object, by the number of threads."""
+    test = f"look_ups::each_object_is_found_{means}"
+    run = subprocess.run([program, test], capture_output=True, text=True)
+    rounds = ROUND.findall(run.stdout)
+    if run.returncode != 0 or not rounds:
         sys.exit(f"{test}: status {run.returncode}, {run.stdout!r}")
-    return spent
-
-
-def rate(program, name, means):
-    """Gives the look-ups a second of one run."""
-    start = elapsed(program, f"none_{means}")
-    spent = elapsed(program, f"{name}_{means}")
-    return THREADS[name] * LOOKUPS / max(spent - start, 1e-9)
+    return {int(threads): int(threads) * LOOKUPS * 1e9 / int(spent) for threads, spent in rounds}
 
 
 def main(options):
+    runs = {means: [] for means in MEANS}
+    for _ in range(options.runs):
+        for means, found in runs.items():
+            found.append(rates(options.program, means))
     rows = []
-    for name, threads in THREADS.items():
-        rates = {means: [] for means in MEANS}
-        for _ in range(options.runs):
-            for means, found in rates.items():
-                found.append(rate(options.program, name, means))
-        best = [f"{max(found):,.0f} / {statistics.median(found):,.0f}" for found in rates.values()]
-        rows.append([str(threads), *best])
+    for threads in sorted(runs[MEANS[0]][0]):
+        cells = []
+        for found in runs.values():
+            seen = [run[threads] for run in found]
+            cells.append(f"{max(seen):,.0f} / {statistics.median(seen):,.0f}")
+        rows.append([str(threads), *cells])
     print(table(["threads", "by clients, a second", "under a lock, a second"], rows))
 
 

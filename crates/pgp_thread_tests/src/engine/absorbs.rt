@@ -1,7 +1,7 @@
 //! Which front a shard reads, and by which one it answers.
 use crate::engine::desk::Desk;
 use crate::engine::lines::{EMPTY_0, MAP, SHARD, TO_SERVE};
-use crate::engine::opened::{Trial, tried};
+use crate::engine::opened::{Row, Trial, all_tried, tried};
 use crate::engine::steps::{is_count, is_serving};
 use crate::ticket::Ticket;
 use pgp_engine::Naming;
@@ -50,38 +50,23 @@ pub fn absorb_by_two<J: Naming + Send + Sync, R: Threads + Wait + Abort + AllocG
     for front in fronts.ok().expect(rt, "memory") {
         is_count(rt, front.len(), TO_SERVE.len());
     }
-    is_serving(rt, desk.ask(rt, &desk.told(rt)).0);
-}
-
-#[test]
-fn two_threads_let_one_shard_read_while_a_third_submits(rt: HostRuntime) {
-    tried(&rt, Trial::TwoAbsorb);
+    is_serving(rt, desk.ask(rt, &desk.told(rt)));
 }
 
 // Asks with the ticket that was told first, after each submit, and may let the shard read the entry before.
 pub fn ask_by_first<J: Naming, R: Wait + Abort + AllocGlobal>(rt: &R, desk: &Desk<J>, reads: bool) {
     let first = desk.put_all(rt, &TO_SERVE[..1]);
     if reads {
-        is_count(rt, desk.ask(rt, &first).1.len(), first.len());
+        is_count(rt, desk.len_of_answer(rt, &first), first.len());
     }
     for line in &TO_SERVE[1..] {
         let told = desk.put(rt, line, &first);
         if reads {
             is_count(rt, desk.read_on(rt, SHARD, 1).len(), told.len());
         }
-        is_count(rt, desk.ask(rt, &first).1.len(), told.len());
+        is_count(rt, desk.len_of_answer(rt, &first), told.len());
     }
     is_count(rt, desk.told(rt).len(), TO_SERVE.len());
-}
-
-#[test]
-fn an_ask_with_an_older_receipt_is_answered_by_what_was_read(rt: HostRuntime) {
-    tried(&rt, Trial::OlderReceipts);
-}
-
-#[test]
-fn an_ask_reads_past_the_callers_receipt(rt: HostRuntime) {
-    tried(&rt, Trial::FirstReceipt);
 }
 
 // Lets the shard take turns in which there is nothing to read, before anyone asks about its group.
@@ -91,12 +76,31 @@ pub fn ask_ahead<J: Naming, R: Wait + Abort + AllocGlobal>(rt: &R, desk: &Desk<J
         let read = desk.read_on(rt, SHARD, TO_SERVE.len());
         is_count(rt, read.len(), told.len());
     }
-    is_serving(rt, desk.ask(rt, &desk.told(rt)).0);
+    is_serving(rt, desk.ask(rt, &desk.told(rt)));
 }
 
+static TRIALS: [Row; 4] = [
+    Row(
+        "an ask with an older receipt is answered by what was read",
+        Trial::OlderReceipts,
+    ),
+    Row(
+        "an ask reads past the caller's receipt",
+        Trial::FirstReceipt,
+    ),
+    Row(
+        "a group that was worked out ahead is answered as any",
+        Trial::WorkedAhead,
+    ),
+    Row(
+        "two threads let one shard read while a third submits",
+        Trial::TwoAbsorb,
+    ),
+];
+
 #[test]
-fn a_group_that_was_worked_out_ahead_is_answered_as_any(rt: HostRuntime) {
-    tried(&rt, Trial::WorkedAhead);
+fn a_shard_answers_by_all_that_it_has_read(rt: HostRuntime) {
+    all_tried(&rt, &TRIALS);
 }
 
 /// How many infos a shard reads at its first ask.
@@ -128,5 +132,5 @@ pub fn ask_once_more<J: Naming, R: Wait + Abort + Clock + AllocGlobal>(rt: &R, d
 
 #[test]
 fn a_shard_reads_an_entry_once(rt: HostRuntime) {
-    tried(&rt, Trial::ReadOnce);
+    tried(&rt, &Trial::ReadOnce);
 }

@@ -114,11 +114,11 @@ fn newer<J: Naming, R: Wait + Abort + AllocGlobal>(
     };
     let told = Ticket::over(told);
     is_count(rt, told.len(), TO_SERVE.len());
-    is_serving(rt, desk.ask(rt, &told).0);
+    is_serving(rt, desk.ask(rt, &told));
     is_count(rt, desk.told(rt).len(), told.len());
     let next = desk.put(rt, EMPTY_1, &told);
     is_count(rt, next.len(), TO_SERVE.len() + 1);
-    is_count(rt, desk.ask(rt, &told).0.count, TO_SERVE.len() + 1);
+    is_count(rt, desk.len_of_answer(rt, &told), TO_SERVE.len() + 1);
     let mut client = clients.pop().expect(rt, "a client");
     is_count(rt, client.newest().len(), next.len());
     desk.end(rt);

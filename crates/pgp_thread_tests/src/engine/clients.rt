@@ -1,7 +1,7 @@
 //! Where clients find objects.
 use crate::engine::desk::Desk;
 use crate::engine::lines::{EMPTY_0, MAP, PLACE};
-use crate::engine::opened::{Trial, tried};
+use crate::engine::opened::{Row, Trial, all_tried};
 use crate::engine::steps::{find, is_count, is_written, sought};
 use pgp_engine::{Client, Naming};
 use std::cmp::Ordering;
@@ -31,11 +31,6 @@ pub fn place_by_two<J: Naming, R: Wait + Abort + AllocGlobal>(
     is_written(rt, &place, PLACE);
 }
 
-#[test]
-fn a_client_places_by_what_another_has_seen(rt: HostRuntime) {
-    tried(&rt, Trial::TwoClients);
-}
-
 // One client has read the map when the engine ends, the other knows of it alone. An info came after it. The first places by
 // what it has read, until it learns of the info.
 pub fn outlive<J: Naming, R: Wait + Abort + AllocGlobal>(
@@ -61,7 +56,15 @@ pub fn outlive<J: Naming, R: Wait + Abort + AllocGlobal>(
     assert!(rt; one.meet(&map.receipt, &newest) == Ordering::Less);
 }
 
+static TRIALS: [Row; 2] = [
+    Row(
+        "a client places by what another has seen",
+        Trial::TwoClients,
+    ),
+    Row("a client keeps its front after the end", Trial::Outlived),
+];
+
 #[test]
-fn a_client_keeps_its_front_after_the_end(rt: HostRuntime) {
-    tried(&rt, Trial::Outlived);
+fn a_client_places_by_the_front_that_it_knows(rt: HostRuntime) {
+    all_tried(&rt, &TRIALS);
 }

@@ -59,11 +59,17 @@ impl<J: Naming> Desk<J> {
         told
     }
 
-    /// What is answered of the group, and by which front.
-    pub fn ask<R: Wait + Abort>(&self, rt: &R, known: &Ticket<J>) -> (View, Ticket<J>) {
+    /// What is answered of the group, by a front with as many entries as the view counts.
+    pub fn ask<R: Wait + Abort>(&self, rt: &R, known: &Ticket<J>) -> View {
         let answer = self.engine.ask(rt, group(), &known.receipt);
         let answer = answer.ok().expect(rt, "an answer");
-        (answer.view, Ticket::over(answer.at))
+        assert_eq!(rt; answer.view.count, answer.at.len(), "the view counts its front");
+        answer.view
+    }
+
+    /// How many entries the front has by which the group is answered.
+    pub fn len_of_answer<R: Wait + Abort>(&self, rt: &R, known: &Ticket<J>) -> usize {
+        self.ask(rt, known).count
     }
 
     /// Lets one of the two shards read on.

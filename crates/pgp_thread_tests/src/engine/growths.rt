@@ -91,5 +91,5 @@ fn absorb_surely<J: Naming, R: Wait + Abort>(rt: &R, desk: &Desk<J>, shard: usiz
 
 #[test]
 fn each_call_can_be_made_again(rt: HostRuntime) {
-    tried(&rt, Trial::EachCallAgain);
+    tried(&rt, &Trial::EachCallAgain);
 }

@@ -3,14 +3,14 @@
 use crate::engine::desk::Desk;
 use crate::engine::gates::Held;
 use crate::engine::lines::{EMPTY_0, EMPTY_1, MOVE, MOVED, PLACE};
-use crate::engine::opened::{Trial, tried};
+use crate::engine::opened::{Row, Trial, all_tried};
 use crate::engine::races::submit_each;
 use crate::engine::steps::{find, is_count, is_written};
 use crate::engine::workers::{Beside, wait_until_read};
 use crate::ticket::Ticket;
 use pgp_engine::{Client, Naming};
 use std::process::Abort;
-use std::sync::Wait;
+use std::sync::{Mutex, Wait};
 use std::thread::Threads;
 use std::time::Clock;
 
@@ -37,18 +37,12 @@ pub fn ask_past<J: Naming + Send + Sync, R: Threads + Wait + Abort + Clock + All
 ) {
     gate.fills();
     let told = told_elsewhere(rt, desk, EMPTY_0, map);
-    let (view, at) = desk.ask(rt, &told);
-    assert!(rt; at.len() >= told.len());
-    is_count(rt, at.len(), 3);
-    is_count(rt, view.count, at.len());
-    is_count(rt, desk.told(rt).len(), at.len());
-    assert!(rt; desk.ask(rt, map).1.len() >= at.len());
+    let len = desk.len_of_answer(rt, &told);
+    assert!(rt; len >= told.len(), "a front that holds the caller's");
+    is_count(rt, len, 3);
+    is_count(rt, desk.told(rt).len(), len);
+    assert!(rt; desk.len_of_answer(rt, map) >= len, "no shard goes back");
     gate.open();
-}
-
-#[test]
-fn a_shard_answers_while_another_is_held(rt: HostRuntime) {
-    tried(&rt, Trial::Works(Beside::HeldShard));
 }
 
 /// Neither worker gets on before both are in at once. Then both read on by themselves.
@@ -63,11 +57,6 @@ pub fn open_both<J: Naming, R: Wait + Abort + Clock>(
     wait_until_read(rt, desk, map.len());
 }
 
-#[test]
-fn two_workers_are_in_at_once(rt: HostRuntime) {
-    tried(&rt, Trial::Works(Beside::BothAtOnce));
-}
-
 /// Once both shards are held, a client places an object by a front that holds what it learnt, and by another map than it did
 /// before.
 pub fn place_past<J: Naming + Send + Sync, R: Threads + Wait + Abort + Clock + AllocGlobal + Sync>(
@@ -75,8 +64,10 @@ pub fn place_past<J: Naming + Send + Sync, R: Threads + Wait + Abort + Clock + A
     desk: &Desk<J>,
     gate: &Held<R>,
     map: &Ticket<J>,
-    client: &mut Client<J>,
+    client: &Mutex<Client<J>>,
 ) {
+    let mut turn = client.lock(rt);
+    let client = &mut *turn;
     is_written(rt, &find(rt, client).0, PLACE);
     gate.fills();
     let told = told_elsewhere(rt, desk, MOVE, map);
@@ -87,7 +78,23 @@ pub fn place_past<J: Naming + Send + Sync, R: Threads + Wait + Abort + Clock + A
     gate.open();
 }
 
+// The first one ends where workers pass no gate, or read nothing. The others would wait for ever.
+static TRIALS: [Row; 3] = [
+    Row(
+        "two workers are in at once",
+        Trial::Works(Beside::BothAtOnce),
+    ),
+    Row(
+        "a shard answers while another is held",
+        Trial::Works(Beside::HeldShard),
+    ),
+    Row(
+        "a client places while both shards are held",
+        Trial::Works(Beside::ClientPasses),
+    ),
+];
+
 #[test]
-fn a_client_places_while_both_shards_are_held(rt: HostRuntime) {
-    tried(&rt, Trial::Works(Beside::ClientPasses));
+fn a_held_shard_holds_up_nobody_else(rt: HostRuntime) {
+    all_tried(&rt, &TRIALS);
 }

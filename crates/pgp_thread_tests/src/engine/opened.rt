@@ -8,13 +8,13 @@ use crate::engine::closes::close_and_submit;
 use crate::engine::desk::Desk;
 use crate::engine::growths::call_again;
 use crate::engine::races::race;
-use crate::engine::submits::{submit_many_times, submit_twice};
+use crate::engine::submits::submit_many_times;
 use crate::engine::workers::{Beside, work_beside};
 use pgp_engine::{Client, Engine, MakeFault, Naming};
 use pgp_feed::{Feed, Tap};
 use std::marker::Brand;
 use std::process::Abort;
-use std::sync::Wait;
+use std::sync::{Mutex, Wait};
 use std::thread::Threads;
 use std::time::Clock;
 
@@ -28,11 +28,9 @@ pub const WORKERS: usize = SHARDS;
 pub const TAPS: usize = SHARDS + 3;
 
 /// What is tried with an engine to which nothing was submitted yet, and with its two clients.
-#[derive(Clone, Copy)]
 pub enum Trial {
     Closes,
     ManySubmits,
-    TwoSubmits,
     OneEpoch,
     TwoAbsorb,
     OlderReceipts,
@@ -45,10 +43,23 @@ pub enum Trial {
     Outlived,
 }
 
+/// What has to hold, and what is tried for it.
+pub struct Row(pub &'static str, pub Trial);
+
+/// Tries each. What has to hold is printed first, so that a test which fails says where.
+pub fn all_tried<
+    R: Threads + Wait + Abort + Clock + Print + AllocGlobal + Sync + Copy + Drop,
+>(rt: &R, rows: &[Row]) {
+    for row in rows {
+        let _ = rt.println(row.0);
+        tried(rt, &row.1);
+    }
+}
+
 /// Tries it. Where one allocation is refused as the feed and the engine are made, they are made once more.
 pub fn tried<R: Threads + Wait + Abort + Clock + AllocGlobal + Sync + Copy + Drop>(
     rt: &R,
-    trial: Trial,
+    trial: &Trial,
 ) {
     for _ in 0..2 {
         if let Ok((feed, taps)) = Feed::make(rt, rt.alloc(), TAPS) {
@@ -63,29 +74,29 @@ pub fn tried<R: Threads + Wait + Abort + Clock + AllocGlobal + Sync + Copy + Dro
 fn over<
     J: Naming + Send + Sync,
     R: Threads + Wait + Abort + Clock + AllocGlobal + Sync + Copy + Drop,
->(rt: &R, trial: Trial, feed: Feed, taps: Vec<Tap>) -> Result<(), MakeFault>
+>(rt: &R, trial: &Trial, feed: Feed, taps: Vec<Tap>) -> Result<(), MakeFault>
     requires opened { IsOpened feed taps.items J.feed }
     requires count { length taps.items ≡ TAPS }
 {
     let workers = WORKERS + usize::from(matches!(trial, Trial::Works(Beside::Idle)));
     let (engine, clients) = Engine::<J>::make(rt, rt.alloc(), feed, taps, SHARDS, workers)?;
-    let (mut one, mut other) = both(clients);
+    let (one, mut other) = both(clients);
+    let mut one = Mutex::new(one);
     let desk = Desk { engine, workers };
     match trial {
         Trial::Closes => close_and_submit(rt, &desk),
         Trial::ManySubmits => submit_many_times(rt, &desk),
-        Trial::TwoSubmits => submit_twice(rt, &desk),
         Trial::OneEpoch => race(rt, &desk),
         Trial::TwoAbsorb => absorb_by_two(rt, &desk),
         Trial::OlderReceipts => ask_by_first(rt, &desk, true),
         Trial::FirstReceipt => ask_by_first(rt, &desk, false),
-        Trial::TwoClients => place_by_two(rt, &desk, &mut one, &mut other),
-        Trial::EachCallAgain => call_again(rt, &desk, &mut one),
+        Trial::TwoClients => place_by_two(rt, &desk, one.get_mut(), &mut other),
+        Trial::EachCallAgain => call_again(rt, &desk, one.get_mut()),
         Trial::WorkedAhead => ask_ahead(rt, &desk),
         Trial::ReadOnce => ask_once_more(rt, &desk),
-        Trial::Works(beside) => work_beside(rt, beside, &desk, &mut one),
+        Trial::Works(beside) => work_beside(rt, beside, &desk, &one),
         Trial::Outlived => {
-            outlive(rt, desk, &mut one, &mut other);
+            outlive(rt, desk, one.get_mut(), &mut other);
             return Ok(());
         }
     }

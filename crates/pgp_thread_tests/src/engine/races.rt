@@ -1,7 +1,6 @@
 //! What threads are answered that submit at once.
 use crate::engine::desk::{Desk, Outcome};
 use crate::engine::lines::STEP;
-use crate::engine::opened::{Trial, tried};
 use crate::engine::steps::{is_count, was_refused};
 use crate::ticket::Ticket;
 use pgp_engine::Naming;
@@ -42,9 +41,4 @@ pub fn race<J: Naming + Send + Sync, R: Threads + Wait + Abort + AllocGlobal + S
         Err(refused) => (other.ok().expect(rt, "one is taken"), refused),
     };
     was_refused(rt, refused, Refusal::EpochGap, &taken);
-}
-
-#[test]
-fn one_of_two_threads_makes_an_epoch(rt: HostRuntime) {
-    tried(&rt, Trial::OneEpoch);
 }

@@ -1,7 +1,7 @@
 //! What is told, and who sleeps or ends, beside workers that nobody holds.
 use crate::engine::desk::Desk;
 use crate::engine::lines::{CLOSE, EMPTY_0, EMPTY_1};
-use crate::engine::opened::{Trial, tried};
+use crate::engine::opened::{Row, Trial, all_tried};
 use crate::engine::races::submit_each;
 use crate::engine::steps::{is_count, was_refused};
 use crate::engine::workers::{Beside, wait_until_read};
@@ -33,11 +33,6 @@ pub fn submit_and_close<
     closed
 }
 
-#[test]
-fn infos_beside_a_close_are_taken_or_refused_by_it(rt: HostRuntime) {
-    tried(&rt, Trial::Works(Beside::Submits));
-}
-
 /// How many infos are submitted, each to workers that sleep.
 const INFOS: usize = 20;
 
@@ -56,12 +51,23 @@ pub fn wake_each<J: Naming, R: Wait + Abort + Clock + AllocGlobal>(
     }
 }
 
-#[test]
-fn each_submit_wakes_the_workers(rt: HostRuntime) {
-    tried(&rt, Trial::Works(Beside::EachWoken));
-}
+// The first one ends where nobody is woken. The others would wait for ever.
+static TRIALS: [Row; 3] = [
+    Row(
+        "each submit wakes the workers",
+        Trial::Works(Beside::EachWoken),
+    ),
+    Row(
+        "infos beside a Close are taken or refused by it",
+        Trial::Works(Beside::Submits),
+    ),
+    Row(
+        "a worker without a shard ends at once",
+        Trial::Works(Beside::Idle),
+    ),
+];
 
 #[test]
-fn a_worker_without_a_shard_ends_at_once(rt: HostRuntime) {
-    tried(&rt, Trial::Works(Beside::Idle));
+fn workers_read_on_until_the_close(rt: HostRuntime) {
+    all_tried(&rt, &TRIALS);
 }

@@ -1,7 +1,7 @@
 //! Which entries the log has after many submits.
 use crate::engine::desk::Desk;
 use crate::engine::lines::{EMPTY_0, MAP};
-use crate::engine::opened::{Trial, tried};
+use crate::engine::opened::{Row, Trial, all_tried};
 use crate::engine::steps::is_count;
 use crate::ticket::Ticket;
 use pgp_engine::Naming;
@@ -24,14 +24,13 @@ fn submit_again<J: Naming, R: Wait + Abort + AllocGlobal>(
     }
 }
 
-// Asks and reads on as often. Each front that answers has as many entries as the view counts.
+// Asks and reads on as often.
 fn ask_again<J: Naming, R: Wait + Abort>(rt: &R, desk: &Desk<J>, known: &Ticket<J>) {
     let mut newest = known.len();
     for _ in 0..AGAIN {
-        let (view, at) = desk.ask(rt, known);
-        is_count(rt, view.count, at.len());
-        assert!(rt; at.len() >= newest, "no shard goes back");
-        newest = at.len();
+        let len = desk.len_of_answer(rt, known);
+        assert!(rt; len >= newest, "no shard goes back");
+        newest = len;
         let _read = desk.read_on(rt, 0, 1);
     }
 }
@@ -58,23 +57,22 @@ pub fn submit_many_times<J: Naming + Send + Sync, R: Threads + Wait + Abort + Al
     assert!(rt; all.is_ok(), "memory");
     let told = desk.told(rt);
     is_count(rt, told.len(), 1 + 2 * AGAIN);
-    is_count(rt, desk.ask(rt, &told).0.count, 1 + 2 * AGAIN);
+    is_count(rt, desk.len_of_answer(rt, &told), 1 + 2 * AGAIN);
 }
+
+static TRIALS: [Row; 3] = [
+    Row(
+        "an info is taken a second time, and a closed log takes nothing",
+        Trial::Closes,
+    ),
+    Row("one of two threads makes an epoch", Trial::OneEpoch),
+    Row(
+        "one info is published as often as it is submitted",
+        Trial::ManySubmits,
+    ),
+];
 
 #[test]
-fn one_info_is_published_as_often_as_it_is_submitted(rt: HostRuntime) {
-    tried(&rt, Trial::ManySubmits);
-}
-
-pub fn submit_twice<J: Naming, R: Wait + Abort + AllocGlobal>(rt: &R, desk: &Desk<J>) {
-    let map = desk.put_all(rt, &[MAP]);
-    let first = desk.put(rt, EMPTY_0, &map);
-    let second = desk.put(rt, EMPTY_0, &first);
-    is_count(rt, first.len(), 2);
-    is_count(rt, second.len(), 3);
-}
-
-#[test]
-fn an_info_that_was_submitted_is_taken_once_more(rt: HostRuntime) {
-    tried(&rt, Trial::TwoSubmits);
+fn each_submit_is_taken_once_or_refused(rt: HostRuntime) {
+    all_tried(&rt, &TRIALS);
 }

@@ -8,14 +8,13 @@ use crate::engine::steps::is_count;
 use crate::ticket::Ticket;
 use pgp_engine::{Client, Naming, Open};
 use std::process::Abort;
-use std::sync::Wait;
 use std::sync::atomic::AtomicBool;
+use std::sync::{Mutex, Wait};
 use std::thread;
-use std::thread::{Threads, join};
+use std::thread::{Threads, map_indices};
 use std::time::{Clock, Duration};
 
 /// What is done beside two workers.
-#[derive(Clone, Copy)]
 pub enum Beside {
     /// The first of two shards is held meanwhile.
     HeldShard,
@@ -32,11 +31,11 @@ pub enum Beside {
 // Does it, closes the log, and says by which front.
 fn done<J: Naming + Send + Sync, R: Threads + Wait + Abort + Clock + AllocGlobal + Sync>(
     rt: &R,
-    beside: Beside,
+    beside: &Beside,
     desk: &Desk<J>,
     gate: &Held<R>,
     map: &Ticket<J>,
-    client: &mut Client<J>,
+    client: &Mutex<Client<J>>,
 ) -> Ticket<J> {
     match beside {
         Beside::HeldShard => ask_past(rt, desk, gate, map),
@@ -53,23 +52,32 @@ fn done<J: Naming + Send + Sync, R: Threads + Wait + Abort + Clock + AllocGlobal
 pub fn work_beside<
     J: Naming + Send + Sync,
     R: Threads + Wait + Abort + Clock + AllocGlobal + Sync + Copy + Drop,
->(rt: &R, beside: Beside, desk: &Desk<J>, client: &mut Client<J>) {
-    let map = desk.put_all(rt, &[MAP]);
+>(rt: &R, beside: &Beside, desk: &Desk<J>, client: &Mutex<Client<J>>) {
+    let map = &desk.put_all(rt, &[MAP]);
     let both = matches!(beside, Beside::BothAtOnce | Beside::ClientPasses);
-    let gate = Held {
+    let gate = &Held {
         rt: *rt,
         holds: [both || matches!(beside, Beside::HeldShard), both],
         reached: [AtomicBool::new(false), AtomicBool::new(false)],
         opened: AtomicBool::new(false),
     };
-    let ((one, other), closed) = join(
+    let ends = map_indices(
         rt,
-        || join(rt, || desk.work(rt, 0, &gate), || desk.work(rt, 1, &gate)),
-        || done(rt, beside, desk, &gate, &map, client),
+        rt.alloc(),
+        3,
+        &|place| {
+            if place < 2 {
+                desk.work(rt, place, gate).expect(rt, "a shard").len()
+            } else {
+                done(rt, beside, desk, gate, map, client).len()
+            }
+        },
     );
-    is_count(rt, one.expect(rt, "a shard").len(), closed.len());
-    is_count(rt, other.expect(rt, "a shard").len(), closed.len());
-    is_count(rt, desk.ask(rt, &map).1.len(), closed.len());
+    let closed = desk.told(rt).len();
+    for end in ends.ok().expect(rt, "memory") {
+        is_count(rt, end, closed);
+    }
+    is_count(rt, desk.len_of_answer(rt, map), closed);
 }
 
 /// Waits until both shards have read this many entries by themselves.

@@ -1,6 +1,5 @@
 //! Feeds with one tap, and with as many as there may be: all of them read the same front.
 use crate::feed::entries::are_first;
-use crate::feed::opened::{Trial, tried};
 use crate::feed::press::Press;
 use pgp_engine::Naming;
 use std::process::Abort;
@@ -8,16 +7,6 @@ use std::sync::Wait;
 
 /// How many entries are published.
 const COUNT: u32 = 5;
-
-#[test]
-fn one_tap_reads(rt: HostRuntime) {
-    tried(&rt, 1, Trial::AllRead);
-}
-
-#[test]
-fn all_taps_read_the_same(rt: HostRuntime) {
-    tried(&rt, 129, Trial::AllRead);
-}
 
 /// Publishes the entries, and reads them by each tap.
 pub fn all_read<J: Naming, R: Wait + Abort + AllocGlobal>(rt: &R, press: &mut Press<J>) {

@@ -1,16 +1,10 @@
 //! A tap outlives its feed: no copy is lent from then on.
 use crate::feed::entries::{number_of, numbered};
-use crate::feed::opened::{Trial, tried};
 use crate::feed::press::Press;
 use pgp_engine::Naming;
 use pgp_feed::ReadFault;
 use std::process::Abort;
 use std::sync::Wait;
-
-#[test]
-fn a_tap_outlives_its_feed(rt: HostRuntime) {
-    tried(&rt, 1, Trial::Ended);
-}
 
 /// Publishes two entries that the tap has seen, and one that it hasn't, and ends the feed. The newest front is the last one then,
 /// and a read leaves the list as it was.

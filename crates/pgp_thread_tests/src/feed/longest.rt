@@ -14,7 +14,7 @@ const STRIDE: usize = 4096;
 
 #[test]
 fn the_longest_log_is_read(rt: HostRuntime) {
-    tried(&rt, 3, Trial::Longest);
+    tried(&rt, 3, &Trial::Longest);
 }
 
 /// One tap reads beside the writer, two read at the end: a map, one info as often as the log takes it, and a Close.

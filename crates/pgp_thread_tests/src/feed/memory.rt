@@ -14,7 +14,7 @@ const COUNT: u32 = 40;
 
 #[test]
 fn one_allocation_may_be_refused(rt: HostRuntime) {
-    tried(&rt, 2, Trial::Memory);
+    tried(&rt, 2, &Trial::Memory);
 }
 
 /// Publishes the entries, and reads all that are there after each.

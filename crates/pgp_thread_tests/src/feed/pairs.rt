@@ -1,6 +1,5 @@
 //! The receipts of one run are compared in pairs, and the list of each is read: fronts of one log, told in many ways.
 use crate::feed::entries::number_of;
-use crate::feed::opened::{Trial, tried};
 use crate::feed::press::Press;
 use crate::feed::reader::Reader;
 use crate::ticket::Ticket;
@@ -11,11 +10,6 @@ use std::sync::Wait;
 
 /// The numbers of the entries of the log. The one of number 2 is published twice, and is twice in the list.
 const NUMBERS: [u32; 6] = [0, 1, 2, 2, 3, 4];
-
-#[test]
-fn receipts_meet_in_pairs(rt: HostRuntime) {
-    tried(&rt, 2, Trial::Pairs);
-}
 
 /// Each of two readers compares all receipts in pairs.
 pub fn all_meet<J: Naming, R: Wait + Abort + AllocGlobal>(rt: &R, press: &mut Press<J>) {

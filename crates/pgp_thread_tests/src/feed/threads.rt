@@ -1,14 +1,13 @@
 //! Two taps read on threads of their own while the writer publishes.
 use crate::feed::entries::are_first;
-use crate::feed::opened::{Trial, tried};
 use crate::feed::press::Press;
 use crate::feed::reader::Reader;
 use crate::ticket::Ticket;
 use pgp_engine::Naming;
 use std::cmp::Ordering;
 use std::process::Abort;
-use std::sync::Wait;
-use std::thread::{Threads, join, yield_now};
+use std::sync::{Mutex, Wait};
+use std::thread::{Threads, map_indices, yield_now};
 
 /// How many entries are published.
 const COUNT: u32 = 500;
@@ -16,32 +15,41 @@ const COUNT: u32 = 500;
 /// How often a tap looks at most.
 const LOOKS: u32 = 100_000_000;
 
-#[test]
-fn taps_read_beside_the_writer(rt: HostRuntime) {
-    tried(&rt, 2, Trial::Threads);
-}
-
 /// Both taps see all entries in the end.
 pub fn read_beside<J: Naming + Send + Sync, R: Threads + Wait + Abort + AllocGlobal + Sync>(
     rt: &R,
     press: &mut Press<J>,
 ) {
-    let mut one = press.reader(rt);
-    let mut other = press.reader(rt);
-    let ((first, second), told) = join(
+    let one = &Mutex::new(press.reader(rt));
+    let other = &Mutex::new(press.reader(rt));
+    let press = &Mutex::new(press);
+    let fronts = map_indices(
         rt,
-        || join(rt, || read_all(rt, &mut one), || read_all(rt, &mut other)),
-        || publish_all(rt, press),
+        rt.alloc(),
+        3,
+        &|place| match place {
+            0 => read_all(rt, one),
+            1 => read_all(rt, other),
+            _ => publish_all(rt, press),
+        },
     );
+    let mut fronts = fronts.ok().expect(rt, "memory");
+    let told = fronts.pop().expect(rt, "what was published");
+    let second = fronts.pop().expect(rt, "what one has seen");
+    let first = fronts.pop().expect(rt, "what the other has seen");
     assert_eq!(rt; told.len(), COUNT as usize);
+    let mut turn = one.lock(rt);
+    let one = &mut *turn;
     assert_eq!(rt; one.meet(&first, &told), Ordering::Equal);
     assert_eq!(rt; one.meet(&first, &second), Ordering::Equal);
 }
 
 fn publish_all<J: Naming, R: Wait + Abort + AllocGlobal>(
     rt: &R,
-    press: &mut Press<J>,
+    press: &Mutex<&mut Press<J>>,
 ) -> Ticket<J> {
+    let mut turn = press.lock(rt);
+    let press = &mut **turn;
     for number in 0..COUNT {
         press.put(rt, number);
         yield_now();
@@ -50,7 +58,12 @@ fn publish_all<J: Naming, R: Wait + Abort + AllocGlobal>(
 }
 
 // Reads what is new until all is there, and says what it saw last.
-fn read_all<J: Naming, R: Abort + AllocGlobal>(rt: &R, reader: &mut Reader<J>) -> Ticket<J> {
+fn read_all<J: Naming, R: Wait + Abort + AllocGlobal>(
+    rt: &R,
+    reader: &Mutex<Reader<J>>,
+) -> Ticket<J> {
+    let mut turn = reader.lock(rt);
+    let reader = &mut *turn;
     let mut entries = Vec::new(rt.alloc());
     for _ in 0..LOOKS {
         let newest = reader.newest();

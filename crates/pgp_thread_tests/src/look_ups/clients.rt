@@ -3,7 +3,7 @@ ghost use Rattle.std.specs.Prelude.{◌≡◌, ◌≤◌, length};
 ghost use Rattle.pgp_thread_tests.specs.Opened.{IsOpened};
 
 use crate::lines::given;
-use crate::look_ups::entries::{END_EPOCH, NAMES, names, step};
+use crate::look_ups::entries::{END_EPOCH, LOOKUPS, NAMES, names, step};
 use crate::ticket::Ticket;
 use pgp_engine::{Client, Engine, Naming};
 use pgp_feed::{Feed, Tap};
@@ -11,32 +11,30 @@ use pgp_fixtures::MANY_GROUPS;
 use pgp_ids::{ObjectName, PoolId};
 use std::marker::Brand;
 use std::process::Abort;
-use std::sync::Wait;
-use std::sync::atomic::{AtomicBool, Ordering};
-use std::thread;
-use std::thread::Threads;
+use std::sync::atomic::{AtomicUsize, Ordering};
+use std::sync::{Mutex, Wait};
+use std::thread::{Threads, map_indices, yield_now};
+use std::time::{Clock, Instant};
 
-/// Looks up on this many threads as many objects each. There is a client for each thread, and one shard.
-pub fn look_up_by_clients<R: Threads + Wait + Abort + AllocGlobal + Sync>(
+/// Looks up on this many threads as many objects each. There is a client for each thread, and one shard. Gives how many
+/// nanoseconds it took.
+pub fn look_up_by_clients<R: Threads + Wait + Abort + Clock + AllocGlobal + Sync>(
     rt: &R,
     threads: usize,
-    lookups: usize,
-)
-    requires { (1 ≤ threads) × (threads ≤ 64) }
-{
+) -> u128 {
+    assert!(rt; 1 <= threads && threads <= 64, "so many clients a feed may have");
     let (feed, taps) = Feed::make(rt, rt.alloc(), threads + 2)
         .ok()
         .expect(rt, "a feed");
-    over::<Brand, R>(rt, feed, taps, lookups);
+    over::<Brand, R>(rt, feed, taps)
 }
 
-// The clients look up, each on a thread of its own, while one more submits.
-fn over<J: Naming + Send + Sync, R: Threads + Wait + Abort + AllocGlobal + Sync>(
+// Each client looks up on a thread of its own, while the thread at the last place submits. No gate forces an interleaving.
+fn over<J: Naming + Send + Sync, R: Threads + Wait + Abort + Clock + AllocGlobal + Sync>(
     rt: &R,
     feed: Feed,
     taps: Vec<Tap>,
-    lookups: usize,
-)
+) -> u128
     requires opened { IsOpened feed taps.items J.feed }
     requires count { (3 ≤ length taps.items) × (length taps.items ≤ 66) }
 {
@@ -44,52 +42,65 @@ fn over<J: Naming + Send + Sync, R: Threads + Wait + Abort + AllocGlobal + Sync>
         .ok()
         .expect(rt, "an engine");
     let names = &names(rt.alloc()).expect(rt, "memory");
-    let first = engine.submit(rt, given(rt, MANY_GROUPS), &engine.told(rt));
-    let told = Ticket::over(first.ok().expect(rt, "taken"));
-    let ended = AtomicBool::new(false);
-    let (_, looked) = thread::join(
+    let map = engine.submit(rt, given(rt, MANY_GROUPS), &engine.told(rt));
+    assert!(rt; map.is_ok(), "taken");
+    let threads = clients.len();
+    let left = AtomicUsize::new(threads);
+    let clients = Mutex::new(clients);
+    let start = Instant::now(rt).ok().expect(rt, "a clock");
+    let epochs = map_indices(
         rt,
-        || submit_steps(rt, &engine, told, &ended),
-        || {
-            let looked = thread::map_vec(
-                rt,
-                clients,
-                &|client: Client<J>| { look_up(rt, client, names, lookups) },
-            );
-            ended.store(true, Ordering::SeqCst);
-            looked.is_ok()
+        rt.alloc(),
+        threads + 1,
+        &|place| {
+            if place < threads {
+                look_up(rt, &clients, names, &left)
+            } else {
+                submit_steps(rt, &engine, &left)
+            }
         },
     );
-    assert!(rt; looked, "memory");
+    let took = start.elapsed(rt).ok().expect(rt, "a clock");
+    let mut epochs = epochs.ok().expect(rt, "memory");
+    let last = epochs.pop().expect(rt, "an epoch");
+    assert!(rt; last > 1, "one thread submits");
     engine.give_up(rt);
+    took.as_nanos()
 }
 
-// Submits one incremental after another, until the look-ups have ended.
-fn submit_steps<J: Naming, R: Wait + AllocGlobal>(
+// Submits one incremental after another, each of which is taken, until the look-ups have ended. Gives the epoch of the last.
+fn submit_steps<J: Naming, R: Wait + Abort + AllocGlobal>(
     rt: &R,
     engine: &Engine<J>,
-    told: Ticket<J>,
-    ended: &AtomicBool,
-) {
-    let mut told = told;
+    left: &AtomicUsize,
+) -> u32 {
+    let mut told: Ticket<J> = Ticket::over(engine.told(rt));
+    let mut last = 1;
     for epoch in 2..END_EPOCH {
-        if ended.load(Ordering::SeqCst) {
-            return;
+        let taken = engine.submit(rt, step(rt.alloc(), epoch), &told.receipt);
+        told = Ticket::over(taken.ok().expect(rt, "taken"));
+        last = epoch;
+        if left.load(Ordering::SeqCst) == 0 {
+            break;
         }
-        match engine.submit(rt, step(rt.alloc(), epoch), &told.receipt) {
-            Ok(receipt) => told = Ticket::over(receipt),
-            Err(_) => return,
-        }
-        thread::yield_now();
+        yield_now();
     }
+    last
 }
 
-// Looks the objects up, one after another. Each is found.
-fn look_up<J: Naming, R: Abort>(rt: &R, client: Client<J>, names: &[ObjectName], lookups: usize) {
-    let mut client = client;
+// Looks the objects up by one of the clients, one after another. Each is found.
+fn look_up<J: Naming, R: Wait + Abort>(
+    rt: &R,
+    clients: &Mutex<Vec<Client<J>>>,
+    names: &[ObjectName],
+    left: &AtomicUsize,
+) -> u32 {
+    let mut client = clients.lock(rt).pop().expect(rt, "a client");
     let pool = PoolId::new(1).unwrap();
-    for turn in 0..lookups {
+    for turn in 0..LOOKUPS {
         let name = names.get(turn % NAMES).expect(rt, "a name");
         assert!(rt; client.locate(pool, name).is_ok(), "each object is found");
     }
+    left.fetch_sub(1, Ordering::SeqCst);
+    0
 }

@@ -3,6 +3,9 @@ use pgp_fixtures::changing_nothing;
 use pgp_ids::{Entry, ObjectName};
 use std::alloc::Global;
 
+/// How many objects a thread looks up.
+pub const LOOKUPS: usize = 50_000;
+
 /// How many names there are.
 pub const NAMES: usize = 1024;
 

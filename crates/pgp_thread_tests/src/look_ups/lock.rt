@@ -2,16 +2,16 @@
 ghost use Rattle.std.specs.Prelude.{◌≡◌, ◌+◌, true, false};
 
 use crate::lines::given;
-use crate::look_ups::entries::{END_EPOCH, NAMES, names, step};
+use crate::look_ups::entries::{END_EPOCH, LOOKUPS, NAMES, names, step};
 use pgp_fixtures::MANY_GROUPS;
 use pgp_ids::{Entry, ObjectName, PoolId};
 use pgp_log::{Judge, RawSets};
 use std::marker::Model;
 use std::process::Abort;
-use std::sync::atomic::{AtomicBool, Ordering};
+use std::sync::atomic::{AtomicUsize, Ordering};
 use std::sync::{Mutex, Wait};
-use std::thread;
-use std::thread::Threads;
+use std::thread::{Threads, map_indices, yield_now};
+use std::time::{Clock, Instant};
 
 /// A map, with where it puts groups. Contracts see it as how many entries it has taken.
 #[derive(Drop)]
@@ -54,51 +54,72 @@ impl Shared {
     }
 }
 
-/// Looks up on this many threads as many objects each, while one more moves the map on.
-pub fn look_up_under_a_lock<R: Threads + Wait + Abort + AllocGlobal + Sync>(
+/// Looks up on this many threads as many objects each, while the thread at the last place moves the map on. Gives how many
+/// nanoseconds it took. No gate forces an interleaving.
+pub fn look_up_under_a_lock<R: Threads + Wait + Abort + Clock + AllocGlobal + Sync>(
     rt: &R,
     threads: usize,
-    lookups: usize,
-) {
-    let mut start = Shared {
+) -> u128 {
+    assert!(rt; threads <= 64, "as by clients");
+    let mut map = Shared {
         judge: Judge::start(rt.alloc()),
         sets: RawSets::new(rt.alloc()),
     };
-    assert!(rt; start.take(&given(rt, MANY_GROUPS)), "taken");
-    let shared = &Mutex::new(start);
+    assert!(rt; map.take(&given(rt, MANY_GROUPS)), "taken");
+    let shared = &Mutex::new(map);
     let names = &names(rt.alloc()).expect(rt, "memory");
-    let ended = AtomicBool::new(false);
-    let (_, looked) = thread::join(
+    let left = AtomicUsize::new(threads);
+    let start = Instant::now(rt).ok().expect(rt, "a clock");
+    let epochs = map_indices(
         rt,
-        || take_steps(rt, shared, &ended),
-        || {
-            let looked = thread::map_indices(
-                rt,
-                rt.alloc(),
-                threads,
-                &|_| { look_up(rt, shared, names, lookups) },
-            );
-            ended.store(true, Ordering::SeqCst);
-            looked.is_ok()
+        rt.alloc(),
+        threads + 1,
+        &|place| {
+            if place < threads {
+                look_up(rt, shared, names, &left)
+            } else {
+                take_steps(rt, shared, &left)
+            }
         },
     );
-    assert!(rt; looked, "memory");
+    let took = start.elapsed(rt).ok().expect(rt, "a clock");
+    let mut epochs = epochs.ok().expect(rt, "memory");
+    let last = epochs.pop().expect(rt, "an epoch");
+    assert!(rt; last > 1, "one thread moves it");
+    took.as_nanos()
 }
 
-// Moves the map on by one incremental after another, until the look-ups have ended.
-fn take_steps<R: Wait + AllocGlobal>(rt: &R, shared: &Mutex<Shared>, ended: &AtomicBool) {
+// Moves the map on by one incremental after another, each of which is taken, until the look-ups have ended. Gives the epoch of
+// the last.
+fn take_steps<R: Wait + Abort + AllocGlobal>(
+    rt: &R,
+    shared: &Mutex<Shared>,
+    left: &AtomicUsize,
+) -> u32 {
+    let mut last = 1;
     for epoch in 2..END_EPOCH {
-        if ended.load(Ordering::SeqCst) || !shared.lock(rt).take(&step(rt.alloc(), epoch)) {
-            return;
+        let entry = step(rt.alloc(), epoch);
+        assert!(rt; shared.lock(rt).take(&entry), "taken");
+        last = epoch;
+        if left.load(Ordering::SeqCst) == 0 {
+            break;
         }
-        thread::yield_now();
+        yield_now();
     }
+    last
 }
 
 // Looks the objects up, one after another. Each is found.
-fn look_up<R: Wait + Abort>(rt: &R, shared: &Mutex<Shared>, names: &[ObjectName], lookups: usize) {
-    for turn in 0..lookups {
+fn look_up<R: Wait + Abort>(
+    rt: &R,
+    shared: &Mutex<Shared>,
+    names: &[ObjectName],
+    left: &AtomicUsize,
+) -> u32 {
+    for turn in 0..LOOKUPS {
         let name = names.get(turn % NAMES).expect(rt, "a name");
         assert!(rt; shared.lock(rt).finds(name), "each object is found");
     }
+    left.fetch_sub(1, Ordering::SeqCst);
+    0
 }
