@@ -9,6 +9,7 @@ mod desk;
 mod gates;
 mod growths;
 mod holds;
+mod idle;
 mod lines;
 mod opened;
 mod races;

@@ -1,0 +1,86 @@
+//! That a worker works out all groups of its shards before it sleeps. A gate counts its turns.
+ghost use Rattle.std.specs.Prelude.{◌≡◌, length};
+ghost use Rattle.pgp_thread_tests.specs.Opened.{IsOpened};
+ghost use Rattle.pgp_thread_tests.specs.declared.engine.opened.TheConstants.{TAPS};
+
+use crate::engine::desk::Desk;
+use crate::engine::gates::TURNS;
+use crate::engine::lines::CLOSE;
+use crate::engine::opened::{SHARDS, TAPS};
+use crate::engine::steps::is_count;
+use pgp_engine::{Engine, Gate, MakeFault, Naming};
+use pgp_feed::{Feed, Tap};
+use pgp_fixtures::MANY_GROUPS;
+use std::marker::Brand;
+use std::process::Abort;
+use std::sync::Wait;
+use std::sync::atomic::{AtomicUsize, Ordering};
+use std::thread;
+use std::thread::{Threads, join};
+use std::time::{Clock, Duration};
+
+/// How many turns one worker takes with both shards until nothing is left to do. Each shard reads the map in one turn, and works
+/// out its 128 groups in two more.
+const NEEDED: usize = 3 * SHARDS;
+
+/// Counts the turns that are over.
+#[derive(Drop)]
+struct Counted {
+    over: AtomicUsize,
+}
+
+impl Gate for Counted {
+    fn enter<R: Wait>(&self, _rt: &R, _shard: usize) {}
+
+    fn left<R: Wait>(&self, _rt: &R, _shard: usize) {
+        let _before = self.over.fetch_add(1, Ordering::SeqCst);
+    }
+}
+
+impl Counted {
+    /// Waits until as many turns are over as are needed.
+    fn wait<R: Abort + Clock>(&self, rt: &R) {
+        for _ in 0..TURNS {
+            if self.over.load(Ordering::SeqCst) >= NEEDED {
+                return;
+            }
+            thread::sleep(rt, Duration::from_micros(10));
+        }
+        panic!(rt; "a worker works out all groups before it sleeps")
+    }
+}
+
+#[test]
+fn a_worker_works_out_all_groups_before_it_sleeps(rt: HostRuntime) -> Result<(), MakeFault> {
+    let (feed, taps) = Feed::make(&rt, rt.alloc(), TAPS)?;
+    serve::<Brand, _>(&rt, feed, taps)
+}
+
+// One worker serves both shards. Once it has taken the turns that are needed, though nothing is submitted after the map, the log
+// is closed.
+fn serve<J: Naming + Send + Sync, R: Threads + Wait + Abort + Clock + AllocGlobal + Sync>(
+    rt: &R,
+    feed: Feed,
+    taps: Vec<Tap>,
+) -> Result<(), MakeFault>
+    requires opened { IsOpened feed taps.items J.feed }
+    requires count { length taps.items ≡ TAPS }
+{
+    let (engine, _clients) = Engine::<J>::make(rt, rt.alloc(), feed, taps, SHARDS, 1)?;
+    let desk = Desk { engine, workers: 1 };
+    desk.put_all(rt, &[MANY_GROUPS]);
+    let gate = Counted {
+        over: AtomicUsize::new(0),
+    };
+    let (end, closed) = join(
+        rt,
+        || desk.work(rt, 0, &gate),
+        || {
+            gate.wait(rt);
+            desk.put_all(rt, &[CLOSE])
+        },
+    );
+    is_count(rt, end.expect(rt, "a shard").len(), closed.len());
+    desk.end(rt);
+    Ok(())
+}
