@@ -63,7 +63,11 @@ impl<J: Naming> Desk<J> {
     pub fn ask<R: Wait + Abort>(&self, rt: &R, known: &Ticket<J>) -> View {
         let answer = self.engine.ask(rt, group(), &known.receipt);
         let answer = answer.ok().expect(rt, "an answer");
-        assert_eq!(rt; answer.view.count, answer.at.len(), "the view counts its front");
+        assert_eq!(rt;
+            answer.view.count,
+            answer.at.len(),
+            "the view counts its front"
+        );
         answer.view
     }
 

@@ -47,9 +47,10 @@ pub enum Trial {
 pub struct Row(pub &'static str, pub Trial);
 
 /// Tries each. What has to hold is printed first, so that a test which fails says where.
-pub fn all_tried<
-    R: Threads + Wait + Abort + Clock + Print + AllocGlobal + Sync + Copy + Drop,
->(rt: &R, rows: &[Row]) {
+pub fn all_tried<R: Threads + Wait + Abort + Clock + Print + AllocGlobal + Sync + Copy + Drop>(
+    rt: &R,
+    rows: &[Row],
+) {
     for row in rows {
         let _ = rt.println(row.0);
         tried(rt, &row.1);

@@ -28,7 +28,7 @@ pub enum Trial {
     Threads,
 }
 
-/// What has to hold, and what is tried for it with a feed of so many taps.
+/// What has to hold, and what is tried for it with a feed of that many taps.
 struct Row(&'static str, usize, Trial);
 
 static TRIALS: [Row; 11] = [
@@ -56,7 +56,7 @@ fn taps_read_the_log_that_was_published(rt: HostRuntime) {
 
 /// Tries it with a feed of this many taps. Where one allocation is refused as the feed is made, it is made once more.
 pub fn tried<R: Threads + Wait + Abort + AllocGlobal + Sync>(rt: &R, taps: usize, trial: &Trial) {
-    assert!(rt; 1 <= taps && taps <= 129, "so many taps a feed may have");
+    assert!(rt; 1 <= taps && taps <= 129, "a feed has 1 to 129 taps");
     match Feed::make(rt, rt.alloc(), taps) {
         Ok((feed, made)) => {
             assert_eq!(rt; made.len(), taps);

@@ -22,7 +22,7 @@ pub fn look_up_by_clients<R: Threads + Wait + Abort + Clock + AllocGlobal + Sync
     rt: &R,
     threads: usize,
 ) -> u128 {
-    assert!(rt; 1 <= threads && threads <= 64, "so many clients a feed may have");
+    assert!(rt; 1 <= threads && threads <= 64, "1 to 64 clients");
     let (feed, taps) = Feed::make(rt, rt.alloc(), threads + 2)
         .ok()
         .expect(rt, "a feed");
