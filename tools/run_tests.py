@@ -6,7 +6,8 @@
 In this order, each part with its count and its seconds:
 
   tests of tools/, tests of fuzz/   unit tests in Python, except those that need the built program
-  gate                              `rt ci`
+  gate                              `rt ci`, with as many checks at once as there are processors, where there are 5 GB of
+                                    memory for each of them
   tests of tools/, with the program all unit tests of tools/
   examples                          each example and each line of docs/FORMAT.md has its answer (run_examples.py)
   statuses                          the program ends in each of its statuses (check_statuses.py)
@@ -41,7 +42,7 @@ import signal
 import subprocess
 import sys
 import time
-from typing import Callable, Iterator, List, NamedTuple, Optional, Tuple
+from typing import Callable, Dict, Iterator, List, NamedTuple, Optional, Tuple
 
 ROOT = pathlib.Path(__file__).resolve().parent.parent
 PROGRAM = ROOT / "crates/pgpeer/out/pgpeer"
@@ -57,6 +58,7 @@ REFUSED_SCRIPTS = (  # in which each allocation is refused, with the words befor
     ("a compaction", ("compact", "examples/compact.jsonl")),
 )
 MOST_SECONDS = 3600  # for all parts but the gate
+CHECK_BYTES = 5_000_000_000  # more than any check of the gate takes
 SKIPPED = 3  # the status of a part that says in its own words that it was skipped
 MOST_SHOWN = 4000  # characters of what a failed part said
 
@@ -273,11 +275,38 @@ def run_parts(parts: List[Part], end: float) -> List[Counts]:
     return [run_part(part, max(1.0, min(part.seconds, end - time.monotonic()))) for part in parts]
 
 
+def processors() -> int:
+    """How many processors this process may use: those that it may run on, or fewer by the quota of its control group."""
+    count = len(os.sched_getaffinity(0))
+    with contextlib.suppress(OSError, ValueError):
+        quota, period = pathlib.Path("/sys/fs/cgroup/cpu.max").read_text().split()
+        count = min(count, max(1, int(quota) // int(period)))
+    return count
+
+
+def free_bytes() -> int:
+    """How much memory is free, also under the limit of the control group."""
+    found = re.search(r"^MemAvailable:\s+(\d+) kB$", pathlib.Path("/proc/meminfo").read_text(), re.M)
+    free = 1024 * int(found[1]) if found else 0
+    with contextlib.suppress(OSError, ValueError):
+        group = pathlib.Path("/sys/fs/cgroup")
+        free = min(free, int((group / "memory.max").read_text()) - int((group / "memory.current").read_text()))
+    return free
+
+
+def gate_environment() -> Dict[str, str]:
+    """The environment of the gate. `rt ci` reckons more memory for a check than it takes, and so leaves processors idle; RT_JOBS
+    tells it how many checks to run at once. It is set where memory lasts for a check on each processor."""
+    if "RT_JOBS" in os.environ or free_bytes() < processors() * CHECK_BYTES:
+        return dict(os.environ)
+    return {**os.environ, "RT_JOBS": str(processors())}
+
+
 def run_gate() -> Counts:
     """Runs the gate, and prints what it says as it comes."""
     start, said, status = time.monotonic(), [], None
     try:
-        how = {"stdin": subprocess.DEVNULL, "stdout": subprocess.PIPE, "stderr": subprocess.STDOUT}
+        how = {"stdin": subprocess.DEVNULL, "stdout": subprocess.PIPE, "stderr": subprocess.STDOUT, "env": gate_environment()}
         with subprocess.Popen(["rt", "ci"], cwd=ROOT, **how) as run:
             for line in run.stdout or ():
                 said.append(line.decode(errors="replace"))

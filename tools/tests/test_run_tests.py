@@ -198,6 +198,28 @@ class Runs(WithTree):
         self.assertEqual((status, lines[-1]), (0, f"{ALL - 112} passed, 0 failed"))
 
 
+class Environment(unittest.TestCase):
+    def jobs(self, processors, gigabytes, given=None):
+        """What RT_JOBS is for the gate, on a machine of that many processors and that much free memory."""
+        before = {} if given is None else {"RT_JOBS": given}
+        with mock.patch.dict(os.environ, before), mock.patch.object(run_tests, "processors", lambda: processors):
+            if given is None:
+                os.environ.pop("RT_JOBS", None)
+            with mock.patch.object(run_tests, "free_bytes", lambda: gigabytes * 10**9):
+                return run_tests.gate_environment().get("RT_JOBS")
+
+    def test_there_is_a_check_for_each_processor_where_memory_lasts(self):
+        for processors, gigabytes, wanted in [(4, 20, "4"), (4, 19, None), (2, 10, "2"), (64, 300, None), (1, 5, "1")]:
+            self.assertEqual(self.jobs(processors, gigabytes), wanted)
+
+    def test_a_number_that_is_given_stays(self):
+        self.assertEqual(self.jobs(4, 100, "3"), "3")
+
+    def test_this_machine_has_a_processor_and_memory(self):
+        self.assertGreaterEqual(run_tests.processors(), 1)
+        self.assertGreater(run_tests.free_bytes(), 0)
+
+
 class Counts(unittest.TestCase):
     def test_what_tools_say(self):
         for read, said, wanted in [

@@ -4,6 +4,8 @@
 #![tactic(auto)]
 
 #[cfg(test)]
+mod count;
+#[cfg(test)]
 mod engine;
 #[cfg(test)]
 mod feed;

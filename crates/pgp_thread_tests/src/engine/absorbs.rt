@@ -1,8 +1,9 @@
 //! Which front a shard reads, and by which one it answers.
+use crate::count::is_count;
 use crate::engine::desk::Desk;
 use crate::engine::lines::{EMPTY_0, MAP, SHARD, TO_SERVE};
 use crate::engine::opened::{Row, Trial, all_tried, tried};
-use crate::engine::steps::{is_count, is_serving};
+use crate::engine::steps::is_serving;
 use crate::ticket::Ticket;
 use pgp_engine::Naming;
 use std::process::Abort;

@@ -7,10 +7,11 @@ ghost use Rattle.pgp_feed.specs.Taps.{last_of};
 ghost use Rattle.pgp_thread_tests.specs.Opened.{IsOpened};
 ghost use Rattle.pgp_thread_tests.specs.declared.engine.opened.TheConstants.{TAPS};
 
+use crate::count::is_count;
 use crate::engine::desk::Desk;
 use crate::engine::lines::{EMPTY_0, EMPTY_1, MAP, SHARD, TO_SERVE, group};
 use crate::engine::opened::{SHARDS, TAPS, WORKERS};
-use crate::engine::steps::{is_count, is_serving};
+use crate::engine::steps::is_serving;
 use crate::lines::given;
 use crate::ticket::Ticket;
 use pgp_compact::compact;
@@ -112,17 +113,26 @@ fn newer<J: Naming, R: Wait + Abort + AllocGlobal>(
         engine,
         workers: WORKERS,
     };
-    let told = Ticket::over(told);
-    is_count(rt, told.len(), TO_SERVE.len());
-    is_serving(rt, desk.ask(rt, &told));
-    is_count(rt, desk.told(rt).len(), told.len());
-    let next = desk.put(rt, EMPTY_1, &told);
-    is_count(rt, next.len(), TO_SERVE.len() + 1);
-    is_count(rt, desk.len_of_answer(rt, &told), TO_SERVE.len() + 1);
+    let next = goes_on(rt, &desk, &Ticket::over(told));
     let mut client = clients.pop().expect(rt, "a client");
     is_count(rt, client.newest().len(), next.len());
     desk.end(rt);
     Ok(())
+}
+
+// It answers by the front that it begins with, and takes an info.
+fn goes_on<J: Naming, R: Wait + Abort + AllocGlobal>(
+    rt: &R,
+    desk: &Desk<J>,
+    told: &Ticket<J>,
+) -> Ticket<J> {
+    is_count(rt, told.len(), TO_SERVE.len());
+    is_serving(rt, desk.ask(rt, told));
+    is_count(rt, desk.told(rt).len(), told.len());
+    let next = desk.put(rt, EMPTY_1, told);
+    is_count(rt, next.len(), TO_SERVE.len() + 1);
+    is_count(rt, desk.len_of_answer(rt, told), TO_SERVE.len() + 1);
+    next
 }
 
 // A world that begins with them answers as well, once the group's shard has read them, and takes what follows.

@@ -1,8 +1,9 @@
 //! Where clients find objects.
+use crate::count::is_count;
 use crate::engine::desk::Desk;
 use crate::engine::lines::{EMPTY_0, MAP, PLACE};
 use crate::engine::opened::{Row, Trial, all_tried};
-use crate::engine::steps::{find, is_count, is_written, sought};
+use crate::engine::steps::{is_placed, sought};
 use pgp_engine::{Client, Naming};
 use std::cmp::Ordering;
 use std::process::Abort;
@@ -26,9 +27,7 @@ pub fn place_by_two<J: Naming, R: Wait + Abort + AllocGlobal>(
     let seen = other.newest();
     is_count(rt, seen.len(), 1);
     one.learn(&seen);
-    let (place, at) = find(rt, one);
-    is_count(rt, at.len(), 1);
-    is_written(rt, &place, PLACE);
+    is_count(rt, is_placed(rt, one, PLACE).len(), 1);
 }
 
 // One client has read the map when the engine ends, the other knows of it alone. An info came after it. The first places by
@@ -40,12 +39,12 @@ pub fn outlive<J: Naming, R: Wait + Abort + AllocGlobal>(
     other: &mut Client<J>,
 ) {
     let map = desk.put_all(rt, &[MAP]);
-    is_written(rt, &find(rt, one).0, PLACE);
+    is_placed(rt, one, PLACE);
     is_count(rt, other.newest().len(), map.len());
     let told = desk.put(rt, EMPTY_0, &map);
     desk.end(rt);
     is_count(rt, one.newest().len(), map.len());
-    is_written(rt, &find(rt, one).0, PLACE);
+    is_placed(rt, one, PLACE);
     finds_none(rt, other, 52);
     is_count(rt, other.newest().len(), map.len());
     one.learn(&told.receipt);

@@ -1,7 +1,8 @@
 //! What a submit is answered before and after a Close, whichever front the caller knows.
+use crate::count::is_count;
 use crate::engine::desk::Desk;
 use crate::engine::lines::{CLOSE, EMPTY_0, EMPTY_1, MAP, STEP};
-use crate::engine::steps::{is_count, was_refused};
+use crate::engine::steps::was_refused;
 use pgp_engine::Naming;
 use pgp_ids::Refusal;
 use std::process::Abort;

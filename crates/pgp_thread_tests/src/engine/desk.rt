@@ -2,6 +2,7 @@
 ghost use Rattle.std.specs.Prelude.{◌≡◌, ◌<◌};
 ghost use Rattle.pgp_thread_tests.specs.declared.engine.opened.TheConstants.{SHARDS};
 
+use crate::count::is_count;
 use crate::engine::lines::group;
 use crate::engine::opened::SHARDS;
 use crate::lines::given;
@@ -63,11 +64,7 @@ impl<J: Naming> Desk<J> {
     pub fn ask<R: Wait + Abort>(&self, rt: &R, known: &Ticket<J>) -> View {
         let answer = self.engine.ask(rt, group(), &known.receipt);
         let answer = answer.ok().expect(rt, "an answer");
-        assert_eq!(rt;
-            answer.view.count,
-            answer.at.len(),
-            "the view counts its front"
-        );
+        is_count(rt, answer.view.count, answer.at.len());
         answer.view
     }
 

@@ -3,10 +3,11 @@
 ghost use Rattle.std.specs.Prelude.{◌<◌};
 ghost use Rattle.pgp_thread_tests.specs.declared.engine.opened.TheConstants.{SHARDS};
 
+use crate::count::is_count;
 use crate::engine::desk::Desk;
 use crate::engine::lines::{SHARD, TO_SERVE, group};
 use crate::engine::opened::{SHARDS, Trial, tried};
-use crate::engine::steps::{is_count, is_serving, sought};
+use crate::engine::steps::{is_serving, sought};
 use crate::lines::given;
 use crate::ticket::Ticket;
 use pgp_engine::{AskFault, Client, LocateFault, Naming, SubmitFault};

@@ -1,11 +1,12 @@
 //! What is answered while workers are held, each under its own shard's lock. The gate forces it: whom it holds gets on once what
 //! is done beside it is done.
+use crate::count::is_count;
 use crate::engine::desk::Desk;
 use crate::engine::gates::Held;
 use crate::engine::lines::{EMPTY_0, EMPTY_1, MOVE, MOVED, PLACE};
 use crate::engine::opened::{Row, Trial, all_tried};
 use crate::engine::races::submit_each;
-use crate::engine::steps::{find, is_count, is_written};
+use crate::engine::steps::is_placed;
 use crate::engine::workers::{Beside, wait_until_read};
 use crate::ticket::Ticket;
 use pgp_engine::{Client, Naming};
@@ -68,13 +69,11 @@ pub fn place_past<J: Naming + Send + Sync, R: Threads + Wait + Abort + Clock + A
 ) {
     let mut turn = client.lock(rt);
     let client = &mut *turn;
-    is_written(rt, &find(rt, client).0, PLACE);
+    is_placed(rt, client, PLACE);
     gate.fills();
     let told = told_elsewhere(rt, desk, MOVE, map);
     client.learn(&told.receipt);
-    let (place, at) = find(rt, client);
-    assert!(rt; at.len() >= told.len());
-    is_written(rt, &place, MOVED);
+    assert!(rt; is_placed(rt, client, MOVED).len() >= told.len());
     gate.open();
 }
 

@@ -1,17 +1,11 @@
 //! That a worker works out all groups of its shards before it sleeps. A gate counts its turns.
-ghost use Rattle.std.specs.Prelude.{◌≡◌, length};
-ghost use Rattle.pgp_thread_tests.specs.Opened.{IsOpened};
-ghost use Rattle.pgp_thread_tests.specs.declared.engine.opened.TheConstants.{TAPS};
-
+use crate::count::is_count;
 use crate::engine::desk::Desk;
 use crate::engine::gates::TURNS;
 use crate::engine::lines::CLOSE;
-use crate::engine::opened::{SHARDS, TAPS};
-use crate::engine::steps::is_count;
-use pgp_engine::{Engine, Gate, MakeFault, Naming};
-use pgp_feed::{Feed, Tap};
+use crate::engine::opened::{SHARDS, Trial, tried};
+use pgp_engine::{Gate, Naming};
 use pgp_fixtures::MANY_GROUPS;
-use std::marker::Brand;
 use std::process::Abort;
 use std::sync::Wait;
 use std::sync::atomic::{AtomicUsize, Ordering};
@@ -50,24 +44,12 @@ impl Counted {
     }
 }
 
-#[test]
-fn a_worker_works_out_all_groups_before_it_sleeps(rt: HostRuntime) -> Result<(), MakeFault> {
-    let (feed, taps) = Feed::make(&rt, rt.alloc(), TAPS)?;
-    serve::<Brand, _>(&rt, feed, taps)
-}
-
-// One worker serves both shards. Once it has taken the turns that are needed, though nothing is submitted after the map, the log
-// is closed.
-fn serve<J: Naming + Send + Sync, R: Threads + Wait + Abort + Clock + AllocGlobal + Sync>(
+/// One worker serves both shards. Once it has taken the turns that are needed, though nothing is submitted after the map, the log
+/// is closed.
+pub fn work_out<J: Naming + Send + Sync, R: Threads + Wait + Abort + Clock + AllocGlobal + Sync>(
     rt: &R,
-    feed: Feed,
-    taps: Vec<Tap>,
-) -> Result<(), MakeFault>
-    requires opened { IsOpened feed taps.items J.feed }
-    requires count { length taps.items ≡ TAPS }
-{
-    let (engine, _clients) = Engine::<J>::make(rt, rt.alloc(), feed, taps, SHARDS, 1)?;
-    let desk = Desk { engine, workers: 1 };
+    desk: &Desk<J>,
+) {
     desk.put_all(rt, &[MANY_GROUPS]);
     let gate = Counted {
         over: AtomicUsize::new(0),
@@ -81,6 +63,9 @@ fn serve<J: Naming + Send + Sync, R: Threads + Wait + Abort + Clock + AllocGloba
         },
     );
     is_count(rt, end.expect(rt, "a shard").len(), closed.len());
-    desk.end(rt);
-    Ok(())
+}
+
+#[test]
+fn a_worker_works_out_all_groups_before_it_sleeps(rt: HostRuntime) {
+    tried(&rt, &Trial::WorksOut);
 }

@@ -7,6 +7,7 @@ use crate::engine::clients::{outlive, place_by_two};
 use crate::engine::closes::close_and_submit;
 use crate::engine::desk::Desk;
 use crate::engine::growths::call_again;
+use crate::engine::idle::work_out;
 use crate::engine::races::race;
 use crate::engine::submits::submit_many_times;
 use crate::engine::workers::{Beside, work_beside};
@@ -21,7 +22,7 @@ use std::time::Clock;
 /// How many shards the engines of the tests have.
 pub const SHARDS: usize = 2;
 
-/// How many workers serve them, one for each shard, or one more.
+/// How many workers serve them: one for each shard, if nothing else is said.
 pub const WORKERS: usize = SHARDS;
 
 /// How many taps their feeds have: one for each shard and for the intake, and two for clients.
@@ -40,6 +41,7 @@ pub enum Trial {
     WorkedAhead,
     ReadOnce,
     Works(Beside),
+    WorksOut,
     Outlived,
 }
 
@@ -79,7 +81,11 @@ fn over<
     requires opened { IsOpened feed taps.items J.feed }
     requires count { length taps.items ≡ TAPS }
 {
-    let workers = WORKERS + usize::from(matches!(trial, Trial::Works(Beside::Idle)));
+    let workers = match trial {
+        Trial::Works(Beside::Idle) => WORKERS + 1,
+        Trial::WorksOut => 1,
+        _ => WORKERS,
+    };
     let (engine, clients) = Engine::<J>::make(rt, rt.alloc(), feed, taps, SHARDS, workers)?;
     let (one, mut other) = both(clients);
     let mut one = Mutex::new(one);
@@ -96,6 +102,7 @@ fn over<
         Trial::WorkedAhead => ask_ahead(rt, &desk),
         Trial::ReadOnce => ask_once_more(rt, &desk),
         Trial::Works(beside) => work_beside(rt, beside, &desk, &one),
+        Trial::WorksOut => work_out(rt, &desk),
         Trial::Outlived => {
             outlive(rt, desk, one.get_mut(), &mut other);
             return Ok(());

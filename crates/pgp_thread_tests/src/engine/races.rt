@@ -1,7 +1,8 @@
 //! What threads are answered that submit at once.
+use crate::count::is_count;
 use crate::engine::desk::{Desk, Outcome};
 use crate::engine::lines::STEP;
-use crate::engine::steps::{is_count, was_refused};
+use crate::engine::steps::was_refused;
 use crate::ticket::Ticket;
 use pgp_engine::Naming;
 use pgp_ids::Refusal;

@@ -1,9 +1,10 @@
 //! What is told, and who sleeps or ends, beside workers that nobody holds.
+use crate::count::is_count;
 use crate::engine::desk::Desk;
 use crate::engine::lines::{CLOSE, EMPTY_0, EMPTY_1};
 use crate::engine::opened::{Row, Trial, all_tried};
 use crate::engine::races::submit_each;
-use crate::engine::steps::{is_count, was_refused};
+use crate::engine::steps::was_refused;
 use crate::engine::workers::{Beside, wait_until_read};
 use crate::ticket::Ticket;
 use pgp_engine::Naming;

@@ -6,11 +6,6 @@ use pgp_ids::{ObjectName, PoolId, Refusal, View};
 use pgp_text::{Reply, write_reply};
 use std::process::Abort;
 
-/// As many were found as expected.
-pub fn is_count<R: Abort>(rt: &R, found: usize, expected: usize) {
-    assert_eq!(rt; found, expected);
-}
-
 /// A submit was refused for this reason, by a front that holds one that was told.
 pub fn was_refused<J: Naming, R: Abort>(
     rt: &R,
@@ -45,11 +40,12 @@ pub fn sought<R: Abort + AllocGlobal>(rt: &R) -> (PoolId, ObjectName) {
     (group().pool, name.expect(rt, "a name"))
 }
 
-/// Where the client finds it, and by which front.
-pub fn find<J: Naming, R: Abort + AllocGlobal>(
+/// The client places the object as this text says. Gives the front by which it does.
+pub fn is_placed<J: Naming, R: Abort + AllocGlobal>(
     rt: &R,
     client: &mut Client<J>,
-) -> (Reply, Ticket<J>) {
+    text: &str,
+) -> Ticket<J> {
     let (pool, name) = sought(rt);
     let place = client.locate(pool, &name).ok().expect(rt, "a place");
     let reply = Reply::Located {
@@ -57,5 +53,6 @@ pub fn find<J: Naming, R: Abort + AllocGlobal>(
         members: place.members,
         epoch: place.epoch,
     };
-    (reply, Ticket::over(place.at))
+    is_written(rt, &reply, text);
+    Ticket::over(place.at)
 }

@@ -1,8 +1,8 @@
 //! Which entries the log has after many submits.
+use crate::count::is_count;
 use crate::engine::desk::Desk;
 use crate::engine::lines::{EMPTY_0, MAP};
 use crate::engine::opened::{Row, Trial, all_tried};
-use crate::engine::steps::is_count;
 use crate::ticket::Ticket;
 use pgp_engine::Naming;
 use std::process::Abort;

@@ -1,10 +1,10 @@
 //! What workers do, each on a thread of its own, while one more thread does something else and then closes the log.
+use crate::count::is_count;
 use crate::engine::desk::Desk;
 use crate::engine::gates::{Held, TURNS};
 use crate::engine::holds::{ask_past, open_both, place_past};
 use crate::engine::lines::{CLOSE, MAP};
 use crate::engine::sleeps::{submit_and_close, wake_each};
-use crate::engine::steps::is_count;
 use crate::ticket::Ticket;
 use pgp_engine::{Client, Naming, Open};
 use std::process::Abort;

@@ -1,5 +1,6 @@
 //! The entries that the tests publish: a map with one group, and then infos of it, which differ in their last write.
 
+use crate::count::is_count;
 use crate::lines::given;
 use pgp_fixtures::ONE_DEVICE;
 use pgp_ids::Entry;
@@ -35,10 +36,21 @@ pub fn number_of(entry: &Entry) -> u32 {
     }
 }
 
+/// It is the entry of this number.
+pub fn is_number<R: Abort>(rt: &R, entry: &Entry, number: u32) {
+    assert_eq!(rt; number_of(entry), number);
+}
+
+/// The entry of this number came back, and nobody else owns it.
+pub fn came_back<R: Abort>(rt: &R, back: &Arc<Entry>, number: u32) {
+    is_number(rt, back, number);
+    is_count(rt, Arc::strong_count(back), 1);
+}
+
 /// These are the entries of the first numbers.
 pub fn are_first<R: Abort>(rt: &R, entries: &[Arc<Entry>], count: u32) {
-    assert_eq!(rt; entries.len(), count as usize);
+    is_count(rt, entries.len(), count as usize);
     for (number, entry) in (0..count).zip(entries.iter()) {
-        assert_eq!(rt; number_of(entry), number);
+        is_number(rt, entry, number);
     }
 }

@@ -1,5 +1,6 @@
 //! A log is filled to its last place, and three taps read it.
-use crate::feed::entries::{number_of, numbered};
+use crate::count::is_count;
+use crate::feed::entries::{is_number, numbered};
 use crate::feed::opened::{Trial, tried};
 use crate::feed::press::Press;
 use crate::feed::reader::Reader;
@@ -24,11 +25,15 @@ pub fn fill_and_read<J: Naming, R: Wait + Abort + AllocGlobal>(rt: &R, press: &m
     for _ in 0..2 {
         let mut reader = press.reader(rt);
         let newest = reader.newest();
-        let entries = reader.entries(rt, &newest);
-        assert_eq!(rt; entries.len(), LONGEST_LOG + 1);
-        for (at, entry) in (0..LONGEST_LOG + 1).zip(entries.iter()) {
-            assert_eq!(rt; number_of(entry), u32::from(0 < at && at < LONGEST_LOG));
-        }
+        is_whole(rt, reader.entries(rt, &newest).as_slice());
+    }
+}
+
+// These are all that was published.
+fn is_whole<R: Abort>(rt: &R, entries: &[Arc<Entry>]) {
+    is_count(rt, entries.len(), LONGEST_LOG + 1);
+    for (at, entry) in (0..LONGEST_LOG + 1).zip(entries.iter()) {
+        is_number(rt, entry, u32::from(0 < at && at < LONGEST_LOG));
     }
 }
 
@@ -42,17 +47,12 @@ fn fill<J: Naming, R: Wait + Abort + AllocGlobal>(
     press.put(rt, 0);
     let info = numbered(rt, 1);
     for at in 1..LONGEST_LOG {
-        let again = Arc::try_clone(&info).ok().expect(rt, "an owner");
-        assert!(rt; press.publish(rt, again).is_ok(), "an info");
+        press.add(rt, Arc::try_clone(&info).ok().expect(rt, "an owner"));
         if at % STRIDE == 0 {
-            let newest = reader.newest();
-            let from = entries.len();
-            assert!(rt; reader.read(&newest, from, &mut entries).is_ok());
-            assert_eq!(rt; entries.len(), at + 1);
+            is_count(rt, reader.read_on(rt, &mut entries), at + 1);
         }
     }
     assert!(rt; press.publish(rt, info).is_err(), "the log is full");
     let close = Arc::new(rt.alloc(), Entry::Close).ok().expect(rt, "memory");
-    let whole = press.publish(rt, close).ok().expect(rt, "the end");
-    assert_eq!(rt; whole.len(), LONGEST_LOG + 1);
+    is_count(rt, press.add(rt, close).len(), LONGEST_LOG + 1);
 }

@@ -1,6 +1,7 @@
 //! How a test gets its feed, and what is tried with feeds.
 ghost use Rattle.pgp_thread_tests.specs.Opened.{IsOpened};
 
+use crate::count::is_count;
 use crate::feed::counts::all_read;
 use crate::feed::ended::outlived;
 use crate::feed::longest::fill_and_read;
@@ -59,7 +60,7 @@ pub fn tried<R: Threads + Wait + Abort + AllocGlobal + Sync>(rt: &R, taps: usize
     assert!(rt; 1 <= taps && taps <= 129, "a feed has 1 to 129 taps");
     match Feed::make(rt, rt.alloc(), taps) {
         Ok((feed, made)) => {
-            assert_eq!(rt; made.len(), taps);
+            is_count(rt, made.len(), taps);
             over::<Brand, R>(rt, trial, feed, made);
         }
         Err(fault) => {

@@ -1,12 +1,13 @@
 //! The receipts of one run are compared in pairs, and the list of each is read: fronts of one log, told in many ways.
-use crate::feed::entries::number_of;
+use crate::count::is_count;
+use crate::feed::entries::is_number;
 use crate::feed::press::Press;
 use crate::feed::reader::Reader;
 use crate::ticket::Ticket;
 use pgp_engine::Naming;
-use std::alloc::AllocError;
+use pgp_ids::Entry;
 use std::process::Abort;
-use std::sync::Wait;
+use std::sync::{Arc, Wait};
 
 /// The numbers of the entries of the log. The one of number 2 is published twice, and is twice in the list.
 const NUMBERS: [u32; 6] = [0, 1, 2, 2, 3, 4];
@@ -15,61 +16,79 @@ const NUMBERS: [u32; 6] = [0, 1, 2, 2, 3, 4];
 pub fn all_meet<J: Naming, R: Wait + Abort + AllocGlobal>(rt: &R, press: &mut Press<J>) {
     let one = &mut press.reader(rt);
     let other = &mut press.reader(rt);
-    let tickets = tickets(rt, press, one, other).ok().expect(rt, "memory");
-    assert_eq!(rt; tickets.len(), 25);
-    meet_by(rt, one, &tickets);
-    meet_by(rt, other, &tickets);
-    assert_eq!(rt;
-        one.newest().len(),
-        NUMBERS.len(),
-        "what was read before is kept"
-    );
-    assert_eq!(rt; other.newest().len(), NUMBERS.len());
+    let mut tickets = Vec::new(rt.alloc());
+    hold_newest(rt, press, one, other, &mut tickets);
+    for number in NUMBERS {
+        press.put(rt, number);
+        hold_newest(rt, press, one, other, &mut tickets);
+    }
+    hold_others(rt, press, &mut tickets);
+    is_count(rt, tickets.len(), 25);
+    all_meet_by(rt, one, tickets.as_slice());
+    all_meet_by(rt, other, tickets.as_slice());
 }
 
-// Receipts of each front, from the writer and from both taps, and some made of others.
-fn tickets<J: Naming, R: Wait + Abort + AllocGlobal>(
+// Holds a receipt.
+fn hold<J: Naming, R: Abort>(rt: &R, tickets: &mut Vec<Ticket<J>>, ticket: Ticket<J>) {
+    tickets.push(ticket).ok().expect(rt, "memory");
+}
+
+// Holds receipts of the newest front, from the writer and from both taps.
+fn hold_newest<J: Naming, R: Abort>(
     rt: &R,
-    press: &mut Press<J>,
+    press: &Press<J>,
     one: &mut Reader<J>,
     other: &mut Reader<J>,
-) -> Result<Vec<Ticket<J>>, AllocError> {
-    let mut tickets = Vec::new(rt.alloc());
-    tickets.push(press.told())?;
-    tickets.push(one.newest())?;
-    tickets.push(other.newest())?;
-    for number in NUMBERS {
-        let told = press.put(rt, number);
-        assert_eq!(rt; one.newest().len(), told.len());
-        assert_eq!(rt; other.newest().len(), told.len());
-        tickets.push(told)?;
-        tickets.push(one.newest())?;
-        tickets.push(other.newest())?;
-    }
+    tickets: &mut Vec<Ticket<J>>,
+) {
+    let count = press.told().len();
+    is_count(rt, one.newest().len(), count);
+    is_count(rt, other.newest().len(), count);
+    hold(rt, tickets, press.told());
+    hold(rt, tickets, one.newest());
+    hold(rt, tickets, other.newest());
+}
+
+// Holds some that are made of others.
+fn hold_others<J: Naming, R: Abort>(rt: &R, press: &Press<J>, tickets: &mut Vec<Ticket<J>>) {
     let whole = press.told();
     assert!(rt; 3 <= whole.len());
     let half = Ticket::over(whole.receipt.front(3));
-    tickets.push(Ticket::over(whole.receipt.front(0)))?;
-    tickets.push(Ticket::over(half.receipt.again()))?;
-    tickets.push(half)?;
-    tickets.push(whole)?;
-    Ok(tickets)
+    hold(rt, tickets, Ticket::over(whole.receipt.front(0)));
+    hold(rt, tickets, Ticket::over(half.receipt.again()));
+    hold(rt, tickets, half);
+    hold(rt, tickets, whole);
 }
 
-// The list of each ticket is as many of the first entries that were published as its receipt names.
+// The reader compares all of them, and keeps what it had read before.
+fn all_meet_by<J: Naming, R: Abort + AllocGlobal>(
+    rt: &R,
+    reader: &mut Reader<J>,
+    tickets: &[Ticket<J>],
+) {
+    for ticket in tickets {
+        meet_by(rt, reader, ticket, tickets);
+    }
+    is_count(rt, reader.newest().len(), NUMBERS.len());
+}
+
+// The list of the ticket is as many of the first entries that were published as its receipt names.
 fn meet_by<J: Naming, R: Abort + AllocGlobal>(
     rt: &R,
     reader: &mut Reader<J>,
-    tickets: &Vec<Ticket<J>>,
+    one: &Ticket<J>,
+    tickets: &[Ticket<J>],
 ) {
-    for one in tickets {
-        let entries = reader.entries(rt, one);
-        assert_eq!(rt; entries.len(), one.len());
-        for (entry, number) in entries.iter().zip(NUMBERS.iter()) {
-            assert_eq!(rt; number_of(entry), *number);
-        }
-        for other in tickets {
-            assert_eq!(rt; reader.meet(one, other), one.len().cmp(&other.len()));
-        }
+    are_numbered(rt, reader.entries(rt, one).as_slice(), one.len());
+    for other in tickets {
+        assert!(rt; reader.meet(one, other) == one.len().cmp(&other.len()));
+    }
+}
+
+// These are as many of the first entries that were published.
+fn are_numbered<R: Abort>(rt: &R, entries: &[Arc<Entry>], count: usize) {
+    is_count(rt, entries.len(), count);
+    for (entry, number) in entries.iter().zip(NUMBERS.iter()) {
+        is_number(rt, entry, *number);
     }
 }

@@ -82,11 +82,14 @@ impl<J: Naming> Press<J> {
         Ok(Ticket::over(receipt))
     }
 
+    /// Publishes an entry, which is taken.
+    pub fn add<R: Wait + Abort>(&mut self, rt: &R, entry: Arc<Entry>) -> Ticket<J> {
+        self.publish(rt, entry).ok().expect(rt, "published")
+    }
+
     /// Publishes the entry of this number, which is taken.
     pub fn put<R: Wait + Abort + AllocGlobal>(&mut self, rt: &R, number: u32) -> Ticket<J> {
-        self.publish(rt, numbered(rt, number))
-            .ok()
-            .expect(rt, "published")
+        self.add(rt, numbered(rt, number))
     }
 
     pub fn end(self, rt: &impl Wait) {

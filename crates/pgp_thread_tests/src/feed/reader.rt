@@ -3,6 +3,7 @@ ghost use Rattle.std.specs.Prelude.{◌≡◌};
 ghost use Rattle.pgp_feed.specs.Receipts.{feed_of};
 ghost use Rattle.pgp_feed.specs.Taps.{last_of};
 
+use crate::count::is_count;
 use crate::ticket::Ticket;
 use pgp_engine::Naming;
 use pgp_feed::{ReadFault, Tap};
@@ -39,6 +40,16 @@ impl<J: Naming> Reader<J> {
     ) -> Result<(), ReadFault> {
         let at = at.min(ticket.len());
         self.tap.read(&ticket.receipt, at, into)
+    }
+
+    /// Appends what is new to the entries that were read before, and says how many there are now.
+    pub fn read_on<R: Abort>(&mut self, rt: &R, into: &mut Vec<Arc<Entry>>) -> usize {
+        let newest = self.newest();
+        let at = into.len();
+        assert!(rt; at <= newest.len(), "newest never goes back");
+        self.read(&newest, at, into).ok().expect(rt, "read");
+        is_count(rt, into.len(), newest.len());
+        into.len()
     }
 
     /// All entries of the ticket.

@@ -1,5 +1,6 @@
 //! A publish is refused, and the log goes on.
-use crate::feed::entries::{are_first, number_of, numbered};
+use crate::count::is_count;
+use crate::feed::entries::{are_first, came_back, number_of, numbered};
 use crate::feed::press::Press;
 use crate::feed::reader::Reader;
 use pgp_engine::Naming;
@@ -38,8 +39,7 @@ fn is_refused<J: Naming, R: Wait + Abort>(
 ) {
     let (told, number) = (press.told().len(), number_of(&entry));
     let back = press.publish(rt, entry).err().expect(rt, "refused");
-    assert_eq!(rt; number_of(&back), number);
-    assert_eq!(rt; Arc::strong_count(&back), 1);
-    assert_eq!(rt; press.told().len(), told);
-    assert_eq!(rt; reader.newest().len(), told);
+    came_back(rt, &back, number);
+    is_count(rt, press.told().len(), told);
+    is_count(rt, reader.newest().len(), told);
 }

@@ -1,4 +1,5 @@
 //! Two taps read on threads of their own while the writer publishes.
+use crate::count::is_count;
 use crate::feed::entries::are_first;
 use crate::feed::press::Press;
 use crate::feed::reader::Reader;
@@ -33,15 +34,12 @@ pub fn read_beside<J: Naming + Send + Sync, R: Threads + Wait + Abort + AllocGlo
             _ => publish_all(rt, press),
         },
     );
-    let mut fronts = fronts.ok().expect(rt, "memory");
-    let told = fronts.pop().expect(rt, "what was published");
-    let second = fronts.pop().expect(rt, "what one has seen");
-    let first = fronts.pop().expect(rt, "what the other has seen");
-    assert_eq!(rt; told.len(), COUNT as usize);
     let mut turn = one.lock(rt);
-    let one = &mut *turn;
-    assert_eq!(rt; one.meet(&first, &told), Ordering::Equal);
-    assert_eq!(rt; one.meet(&first, &second), Ordering::Equal);
+    let newest = turn.newest();
+    for front in fronts.ok().expect(rt, "memory") {
+        is_count(rt, front.len(), COUNT as usize);
+        assert!(rt; turn.meet(&front, &newest) == Ordering::Equal);
+    }
 }
 
 fn publish_all<J: Naming, R: Wait + Abort + AllocGlobal>(
@@ -66,12 +64,7 @@ fn read_all<J: Naming, R: Wait + Abort + AllocGlobal>(
     let reader = &mut *turn;
     let mut entries = Vec::new(rt.alloc());
     for _ in 0..LOOKS {
-        let newest = reader.newest();
-        assert!(rt; entries.len() <= newest.len(), "newest never goes back");
-        let at = entries.len();
-        assert!(rt; reader.read(&newest, at, &mut entries).is_ok());
-        assert_eq!(rt; entries.len(), newest.len());
-        if newest.len() == COUNT as usize {
+        if reader.read_on(rt, &mut entries) == COUNT as usize {
             break;
         }
         yield_now();

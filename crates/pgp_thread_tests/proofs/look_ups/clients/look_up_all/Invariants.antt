@@ -1,6 +1,6 @@
 use Rattle.pgp_feed.specs.Feeds.{told_of}
 use Rattle.pgp_feed.specs.Receipts.{feed_of}
-use Rattle.pgp_thread_tests.proofs.look_ups.clients.look_up_by_clients.Given as goal
+use Rattle.pgp_thread_tests.proofs.look_ups.clients.look_up_all.Given as goal
 
 -- the feed that was just made
 abbrev pub ghosts-over : goal.ghosts-over
