@@ -1,5 +1,6 @@
 #!/usr/bin/env python3
-"""Measures how many objects are looked up in a second, by clients of an engine and in one map under a lock.
+"""Measures how many objects are looked up in a second, by clients of an engine: one for each thread, or
+one for all under a lock.
 
     bench/measure_locates.py [--program PATH] [--runs R]
 
