@@ -1,5 +1,5 @@
 pub mod ScriptLemmas
-pub mod ToldLemmas
+pub mod WrittenLemmas
 pub mod OutputLemmas
 pub mod LineLemmas
 pub mod ReplyLemmas

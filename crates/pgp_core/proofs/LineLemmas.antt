@@ -12,12 +12,12 @@ use Rattle.pgp_core.specs.Answer.{line_text}
 use Rattle.pgp_core.specs.Lines.{is_blank}
 use Rattle.pgp_core.specs.Script.{longest_line, MayMeet}
 use Rattle.pgp_core.specs.Line.{KeptBy, Holds}
-use Rattle.pgp_core.specs.Told.{PutsText, PutsLine, MayLack}
+use Rattle.pgp_core.specs.WrittenFor.{PutsText, PutsLine, MayLack}
 use Rattle.pgp_core.specs.declared.line.Fate.TheVariants.{Kept, TooLong, NoMemory}
 use Rattle.pgp_core.specs.declared.line.LineBuffer.{LineBuffer}
 use Rattle.pgp_core.specs.declared.answerer.NoReply.{NoReply}
 use Rattle.pgp_core.specs.declared.answerer.NoReply.TheVariants as why
-use Rattle.pgp_core.proofs.ToldLemmas.{by-itself}
+use Rattle.pgp_core.proofs.WrittenLemmas.{by-itself}
 
 pub puts-blank : (alone : Bool) (log : List Entry) (text line : List ℕ) → is_blank line ≡ true → PutsLine alone log log line text text []
 puts-blank alone log text line is = record {

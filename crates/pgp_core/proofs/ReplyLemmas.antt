@@ -7,7 +7,7 @@ use Rattle.pgp_ids.specs.declared.entry.Entry.{Entry}
 use Rattle.pgp_ids.specs.declared.pg_id.PgId.{PgId}
 use Rattle.pgp_ids.specs.declared.view.View.{View}
 use Rattle.pgp_ids.specs.declared.refusal.Refusal.{Refusal}
-use Rattle.pgp_group.specs.Touched.{told_at}
+use Rattle.pgp_group.specs.Touched.{view_at}
 use Rattle.pgp_group.specs.View.{scratch}
 use Rattle.pgp_lines.specs.declared.command.Command.{Command}
 use Rattle.pgp_lines.specs.declared.command.Command.TheVariants.{Submit, Ask, Locate, Trace}
@@ -19,8 +19,8 @@ use Rattle.pgp_text.specs.LineFault.{LineFault}
 use Rattle.pgp_text.specs.Reply.{reply_text}
 use Rattle.pgp_core.specs.Answer.{asked_reply, reply_of, log_after, submitted_reply, log_with, text_of, log_of}
 use Rattle.pgp_core.specs.Answerer.{MayAnswerBy, Replies, is_accepted}
-use Rattle.pgp_core.specs.Told.{PutsFault, PutsReply, PutsText}
-use Rattle.pgp_core.proofs.ToldLemmas.{by-itself}
+use Rattle.pgp_core.specs.WrittenFor.{PutsFault, PutsReply, PutsText}
+use Rattle.pgp_core.proofs.WrittenLemmas.{by-itself}
 
 -- where no entry was taken, the log stays
 stays : (log : List Entry) (command : Command) → is_accepted (reply_of log command) ≡ false → log_after log command ≡ log
@@ -59,11 +59,11 @@ puts-reply alone before after command reply old new replies is = record {
 
 -- what a shard keeps of a group, at the log's count and epoch, is what is replied
 pub told-reply : (log front : List Entry) (pg : PgId) (count epoch : ℕ) (told : Option View) → front ≡ log → count ≡ length log → epoch ≡ epoch_of log
-    → scratch front pg ≡ option_map (told_at (length front) (epoch_of front)) told → asked_reply pg (option_map (told_at count epoch) told) ≡ asked_reply pg (scratch log pg)
+    → scratch front pg ≡ option_map (view_at (length front) (epoch_of front)) told → asked_reply pg (option_map (view_at count epoch) told) ≡ asked_reply pg (scratch log pg)
 told-reply log front pg count epoch told same many at is =
     ap (asked_reply pg)
-    (ap₂ (λ n e. option_map (told_at n e) told) many at
-    ∙ sym (subst (λ (l : List Entry). scratch l pg ≡ option_map (told_at (length l) (epoch_of l)) told) same is))
+    (ap₂ (λ n e. option_map (view_at n e) told) many at
+    ∙ sym (subst (λ (l : List Entry). scratch l pg ≡ option_map (view_at (length l) (epoch_of l)) told) same is))
 
 -- ---- lines
 

@@ -12,7 +12,7 @@ use Rattle.pgp_core.specs.Line.{Holds}
 use Rattle.pgp_core.specs.Input.{HasRead}
 use Rattle.pgp_core.specs.Output.{WrittenPart, FrontWent}
 use Rattle.pgp_core.specs.Script.{IsBeyond, Within, whole_lines}
-use Rattle.pgp_core.specs.Told.{PutsLine, StartsLeft}
+use Rattle.pgp_core.specs.WrittenFor.{PutsLine, StartsLeft}
 use Rattle.pgp_core.specs.Telling.{AreAnswered, RunStart, IsAfter, IsDone, WentBy, IsStopped, StoppedAtLast, ChunkPart}
 use Rattle.pgp_core.specs.declared.input.Bounds.{Bounds}
 use Rattle.pgp_core.specs.declared.input.Input.{Input}
@@ -23,7 +23,7 @@ use Rattle.pgp_core.proofs.OutputLemmas.{WrittenPart-longer, WrittenPart-on, Wen
 use Rattle.pgp_core.proofs.CutLemmas.{lines_after, cut-goes, lines-closed, some-line}
 use Rattle.pgp_core.proofs.InputLemmas.{whole-piece, whole-line}
 use Rattle.pgp_core.proofs.LineLemmas.{is-empty}
-use Rattle.pgp_core.proofs.ToldLemmas.{told-push}
+use Rattle.pgp_core.proofs.WrittenLemmas.{written-push}
 
 -- ---- a fault
 
@@ -77,7 +77,7 @@ pub told-line : (alone : Bool) (start : RunStart) (before after : List Entry) (l
     → AreAnswered alone start (lines ++ line ∷ []) after now (put ++ rest)
 told-line alone start before after lines line pending put rest now so_far puts = record {
   out = so_far.out ++ puts.text;
-  told = told-push alone start.log before after lines line so_far.out puts.text so_far.told puts.told;
+  told = written-push alone start.log before after lines line so_far.out puts.text so_far.told puts.told;
   went = subst (WrittenPart start.written now (so_far.out ++ puts.text)) (sym puts.whole) (WrittenPart-longer start.written now so_far.out pending puts.text so_far.went);
 }
 

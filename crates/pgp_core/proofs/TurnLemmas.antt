@@ -6,7 +6,7 @@ use Rattle.pgp_ids.specs.declared.entry.Entry.{Entry}
 use Rattle.pgp_core.specs.Account.{Account, ReadFailedBy}
 use Rattle.pgp_core.specs.Lines.{cut}
 use Rattle.pgp_core.specs.Script.{whole_lines}
-use Rattle.pgp_core.specs.Told.{StartsLeft}
+use Rattle.pgp_core.specs.WrittenFor.{StartsLeft}
 use Rattle.pgp_core.specs.Telling.{RunStart, AreAnswered, IsAfter, IsStopped, WentBy, StopsIn, StoppedAtLast, Reads, Stops, WasStopped}
 use Rattle.pgp_core.specs.declared.input.Bounds.{Bounds}
 use Rattle.pgp_core.specs.declared.output.Output.{Output}

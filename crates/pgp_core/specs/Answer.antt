@@ -28,7 +28,7 @@ use Rattle.pgp_text.specs.declared.reply.line_refusal.LineRefusal.TheVariants as
 use Rattle.pgp_log.specs.Fits.{fits}
 use Rattle.pgp_log.specs.Locate.{group_in_pool}
 use Rattle.pgp_log.specs.Log.{epoch_of}
-use Rattle.pgp_core.specs.ToldHistory.{told_history}
+use Rattle.pgp_core.specs.TraceHistory.{trace_history}
 
 -- the reply to an entry, where this is why the log doesn't take it
 abbrev pub submitted_reply : List Entry → Entry → Option Refusal → Reply
@@ -52,7 +52,7 @@ located_reply log id name (Some pool) =
 abbrev pub traced_reply : PoolKind → List EpochState → Reply
 traced_reply kind [] = Traced 1 []
 traced_reply kind (opening ∷ others) =
-    let history = told_history (code_of kind) opening others in
+    let history = trace_history (code_of kind) opening others in
     Traced (current_first history) (past_intervals enough_of is_by_place [] history)
 
 abbrev pub reply_of : List Entry → Command → Reply

@@ -1,4 +1,4 @@
-pub mod ToldHistory
+pub mod TraceHistory
 pub mod Answer
 pub mod Answerer
 pub mod Lines
@@ -7,7 +7,7 @@ pub mod Line
 pub mod Input
 pub mod Output
 pub mod Wants
-pub mod Told
+pub mod WrittenFor
 pub mod Account
 pub mod Run
 pub mod Whole

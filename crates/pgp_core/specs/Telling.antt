@@ -7,7 +7,7 @@ use Rattle.pgp_core.specs.Lines.{cut, lines_of}
 use Rattle.pgp_core.specs.Script.{IsBeyond, Within, whole_lines}
 use Rattle.pgp_core.specs.Output.{WrittenPart, FrontWent}
 use Rattle.pgp_core.specs.Input.{HasRead}
-use Rattle.pgp_core.specs.Told.{AreTold, StartsLeft}
+use Rattle.pgp_core.specs.WrittenFor.{AreWrittenFor, StartsLeft}
 use Rattle.pgp_core.specs.Account.{Account, NoCallFailed, FailedBy}
 use Rattle.pgp_core.specs.declared.input.Bounds.{Bounds}
 use Rattle.pgp_core.specs.declared.script.Script.{Script}
@@ -28,7 +28,7 @@ run_start log bounds written = record { log = log; bounds = bounds; written = wr
 -- The answers to these lines are written, except for what is pending of them, and the log is this one then.
 pub record AreAnswered (alone : Bool) (start : RunStart) (lines : List (List ℕ)) (log : List Entry) (now : Option (List ℕ)) (pending : List ℕ) : Type 0 where
   pub out : List ℕ
-  pub told : AreTold alone start.log lines log out
+  pub told : AreWrittenFor alone start.log lines log out
   pub went : WrittenPart start.written now out pending
 
 -- how much of a text went out: a front of it where a write failed, and else all of it
@@ -45,7 +45,7 @@ pub record IsStopped (alone : Bool) (start : RunStart) (fault : ScriptFault) (no
   pub parts : lines ≡ done ++ others
   pub log : List Entry
   pub out : List ℕ
-  pub told : AreTold alone start.log done log out
+  pub told : AreWrittenFor alone start.log done log out
   pub went : WentBy fault start.written now out
   pub all : fault ≡ Read → others ≡ []
   pub left : fault ≡ Gone → StartsLeft alone others

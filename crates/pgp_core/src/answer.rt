@@ -2,13 +2,13 @@
 ghost use Rattle.std.specs.Prelude.{◌≡◌, ◌≢◌, ◌≤◌, ◌+◌, ◌++◌, ◌∷◌, [], length, take, option_copied, option_map, vec_len, vec_capacity, true, false, IsOk, IfErr, OnOk, OnErr};
 ghost use Rattle.pgp_text.specs.Command.{IsInRange};
 ghost use Rattle.pgp_text.specs.Reply.{reply_text};
-ghost use Rattle.pgp_group.specs.Touched.{told_at};
+ghost use Rattle.pgp_group.specs.Touched.{view_at};
 ghost use Rattle.pgp_core.specs.Answer.{asked_reply};
 ghost use Rattle.pgp_core.specs.Answerer.{MayAnswerBy, is_accepted};
 ghost use Rattle.pgp_core.specs.Lines.{is_blank};
 ghost use Rattle.pgp_core.specs.Script.{longest_line};
-ghost use Rattle.pgp_core.specs.Told.{PutsFault, PutsReply, PutsText, MayLack};
-ghost use Rattle.pgp_lines.specs.LineFault.{told};
+ghost use Rattle.pgp_core.specs.WrittenFor.{PutsFault, PutsReply, PutsText, MayLack};
+ghost use Rattle.pgp_lines.specs.LineFault.{line_fault_of};
 ghost use Rattle.pgp_core.specs.Wants.{LacksReply, want_of};
 
 use super::accepted::{LONGEST_ACCEPTED, put_accepted};
@@ -90,7 +90,7 @@ fn put_fault(
     text: &mut Vec<u8>,
 ) -> Result<(), NoReply>
     requires { fault ≢ TextFault.Memory }
-    ensures ok { OnOk result (PutsFault (told fault) text.old.items text.new.items) }
+    ensures ok { OnOk result (PutsFault (line_fault_of fault) text.old.items text.new.items) }
     ensures lacks { IfErr result (λ why. why ≡ NoReply.Memory Want.Line) }
     ensures err { OnErr result (text.new.items ≡ text.old.items) }
 {
@@ -110,7 +110,7 @@ pub fn put_view(
     text: &mut Vec<u8>,
 ) -> Result<(), AllocError>
     ensures ok { OnOk result (text.new.items ≡ text.old.items
-        ++ (reply_text (asked_reply pg (option_map (told_at count epoch) (option_copied view.entry))) ++ 10 ∷ [])) }
+        ++ (reply_text (asked_reply pg (option_map (view_at count epoch) (option_copied view.entry))) ++ 10 ∷ [])) }
     ensures err { OnErr result (text.new.items ≡ text.old.items) }
 {
     let Some(view) = view else {

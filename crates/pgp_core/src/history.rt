@@ -4,7 +4,7 @@ ghost use Rattle.std.specs.Prelude.{◌<◌, [], IfOk, length};
 ghost use Rattle.std.specs.Vec.Iter.{into_iter_items};
 ghost use Rattle.pgp_code.specs.AnyCode.{enough_of, is_by_place};
 ghost use Rattle.pgp_interval.specs.IntervalsOf.{IsIntervalsOf};
-ghost use Rattle.pgp_core.specs.ToldHistory.{told_history};
+ghost use Rattle.pgp_core.specs.TraceHistory.{trace_history};
 
 use pgp_code::AnyCode;
 use pgp_ids::{Epoch, EpochState};
@@ -23,7 +23,7 @@ pub fn history(
 ) -> Result<Intervals<AnyCode>, AllocError>
     requires { length (into_iter_items others) < MAX_EPOCHS }
     ensures { IfOk result
-        (IsIntervalsOf enough_of is_by_place (told_history code opening (into_iter_items others)) []) }
+        (IsIntervalsOf enough_of is_by_place (trace_history code opening (into_iter_items others)) []) }
 {
     let mut history = Intervals::begin(alloc, code, Epoch::new(1), opening.members);
     let mut facts = opening.facts;

@@ -5,7 +5,7 @@ ghost use Rattle.pgp_core.specs.Answer.{long_text};
 ghost use Rattle.pgp_core.specs.Line.{KeptBy, Holds};
 ghost use Rattle.pgp_core.specs.Lines.{is_blank};
 ghost use Rattle.pgp_core.specs.Script.{longest_line, want_text};
-ghost use Rattle.pgp_core.specs.Told.{IsLeft, PutsLine};
+ghost use Rattle.pgp_core.specs.WrittenFor.{IsLeft, PutsLine};
 
 use super::answer::answer_line;
 use super::answerer::{Answerer, NoReply};

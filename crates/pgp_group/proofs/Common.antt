@@ -28,7 +28,7 @@ pub use Rattle.pgp_group.specs.GroupHistory.{AreNumbered, group_history, history
 pub use Rattle.pgp_group.specs.GroupLog.{GroupLog, cleans, group_in, group_with, incs, infos, reports}
 pub use Rattle.pgp_group.specs.GroupOf.{IsGroupOf, IsSilent, Keeps}
 pub use Rattle.pgp_group.specs.Heard.{IsLastOfMember, counted_infos, has_member, heard, is_counted, last_of_each_member, les, reported}
-pub use Rattle.pgp_group.specs.KeptInfos.{IsToldBy, KeepsInfos}
+pub use Rattle.pgp_group.specs.KeptInfos.{TakesInfo, KeepsInfos}
 pub use Rattle.pgp_group.specs.KeptNames.{KeepsNames}
 pub use Rattle.pgp_group.specs.KeptPrior.{IsAbreast, IsReckoned, KeepsPrior, basis_of, basis_with}
 pub use Rattle.pgp_group.specs.KeptReports.{AreCounted, AreLogsOf, IsReportedBy, KeepsReports, counts_by, entries_of, is_of, log_of, reported_in}
@@ -36,7 +36,7 @@ pub use Rattle.pgp_group.specs.Later.{AreSentBy, IsAfter}
 pub use Rattle.pgp_group.specs.Peering.{acting_members, best, has_whole_log, if_whole, is_peer, leader, others_heard, past, peer_missing, peer_states, peers, present_members, prior, up_members, whole_best}
 pub use Rattle.pgp_group.specs.Present.{IsPresent}
 pub use Rattle.pgp_group.specs.Reckoning.{IsAccountedFor, IsReckonedWith, IsRemembered, TakesNothingAway, WentReadWrite, acting_of, heard_or_lost, is_lost}
-pub use Rattle.pgp_group.specs.Touched.{changed_devices, changes_pool, changes_temp, has_osd, has_to_do_with, is_touched, may_lie_on, may_move, moves_all, names, told_at, turned_devices, was_member}
+pub use Rattle.pgp_group.specs.Touched.{changed_devices, changes_pool, changes_temp, has_osd, has_to_do_with, is_touched, may_lie_on, may_move, moves_all, names, view_at, turned_devices, was_member}
 pub use Rattle.pgp_group.specs.Verdict.{IsFirstCause, holds, in_order, is_short, is_waiting, needs_up_thru, place_of, verdict}
 pub use Rattle.pgp_group.specs.View.{scratch, view_of}
 pub use Rattle.pgp_group.specs.declared.device_facts.DeviceFacts.{DeviceFacts}
@@ -89,7 +89,7 @@ pub use Rattle.pgp_lists.proofs.Searched.{put_new, put_there, searchable}
 pub use Rattle.pgp_lists.proofs.Taken.{taken-along, taken-front, taken-induction, taken-last, taken-more}
 pub use Rattle.pgp_lists.specs.Ordered.{IsAscending, ascending, with_item}
 pub use Rattle.pgp_map.specs.Checked.{are_checked, is_faultless}
-pub use Rattle.pgp_map.specs.Devices.{boots, destroys, device, exists, greatest_epoch, is_up, lost_at, takes_down, told_epoch, up_from, up_thru}
+pub use Rattle.pgp_map.specs.Devices.{boots, destroys, device, exists, greatest_epoch, is_up, lost_at, takes_down, last_epoch_of, up_from, up_thru}
 pub use Rattle.pgp_map.specs.Last.{last_where}
 pub use Rattle.pgp_map.specs.Map.{epoch, up_to}
 pub use Rattle.pgp_map.specs.MapFault.{has_already_up, has_epoch_gap, map_fault, then_with}

@@ -1,5 +1,5 @@
 -- What one more incremental does to what is known of a device.
-use Rattle.pgp_group.proofs.Common.{◌≡◌, ℕ, ◌≤◌, List, ◌++◌, None, Bool, true, false, nat_eq, nat_lt, ap, sym, ◌∙◌, inl, inr, arith, list_any, cases_Bool, eqb-true, nat_tests, DeviceEpoch, Incremental, last_found, last_where-append, last_where-some, flat_map-push, if_none, none_is, some_is, taken-induction, are_checked, is_faultless, boots, is_up, up_from, lost_at, told_epoch, greatest_epoch, last_where, epoch, then_with, has_already_up}
+use Rattle.pgp_group.proofs.Common.{◌≡◌, ℕ, ◌≤◌, List, ◌++◌, None, Bool, true, false, nat_eq, nat_lt, ap, sym, ◌∙◌, inl, inr, arith, list_any, cases_Bool, eqb-true, nat_tests, DeviceEpoch, Incremental, last_found, last_where-append, last_where-some, flat_map-push, if_none, none_is, some_is, taken-induction, are_checked, is_faultless, boots, is_up, up_from, lost_at, last_epoch_of, greatest_epoch, last_where, epoch, then_with, has_already_up}
 use Rattle.pgp_map.specs.MapFault.{map_fault}
 pub use Rattle.pgp_group.proofs.GrowthLemmas.{checked-front, checked-last}
 use Rattle.pgp_group.proofs.GrowthLemmas.{epoch-snoc, next_epoch}
@@ -35,16 +35,16 @@ pub last_where-later : {X : Type 0} (test : X → Bool) (xs ys : List X) → lis
 last_where-later test xs ys some = last_where-append test xs ys ∙ last_or-any test (last_where test xs) None ys some
 
 -- an epoch that is told of a device doesn't fall, where none that is told is below the one before
-told_epoch-rises : (old new : List DeviceEpoch) (osd : ℕ) → list_any (λ told. nat_lt told.epoch (told_epoch old told.osd)) new ≡ false → told_epoch old osd ≤ told_epoch (old ++ new) osd
-told_epoch-rises old new osd none =
+last_epoch_of-rises : (old new : List DeviceEpoch) (osd : ℕ) → list_any (λ told. nat_lt told.epoch (last_epoch_of old told.osd)) new ≡ false → last_epoch_of old osd ≤ last_epoch_of (old ++ new) osd
+last_epoch_of-rises old new osd none =
     let test : DeviceEpoch → Bool = λ told. nat_eq told.osd osd in
     elim (cases_Bool (list_any test new)) [
       | inl some ↦
           let last = some_is (last_where test new) (last_where-some test new ∙ some) in
-          let found = last_found (λ (told : DeviceEpoch). nat_lt told.epoch (told_epoch old told.osd)) test new last.0 none last.1 in
+          let found = last_found (λ (told : DeviceEpoch). nat_lt told.epoch (last_epoch_of old told.osd)) test new last.0 none last.1 in
           grind (arith, eqb-true last.0.osd osd found.0, last_where-later test old new some, nat_tests)
       | inr silent ↦ grind (arith, nat_tests, last_where-none)
     ]
 
 pub lost_at-rises : (incs : List Incremental) (inc : Incremental) (osd : ℕ) → list_any (λ told. nat_lt told.epoch (lost_at incs told.osd)) inc.lost ≡ false → lost_at incs osd ≤ lost_at (then_with incs inc) osd
-lost_at-rises incs inc osd none = search (flat_map-push, told_epoch-rises)
+lost_at-rises incs inc osd none = search (flat_map-push, last_epoch_of-rises)

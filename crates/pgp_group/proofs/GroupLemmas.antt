@@ -1,5 +1,5 @@
 -- What a group keeps as its log grows.
-use Rattle.pgp_group.proofs.Common.{◌≡◌, ◌≢◌, ◌≤◌, ℕ, List, [], ◌∷◌, ◌++◌, Option, Some, None, true, false, ◌||◌, nat_eq, refl, ap, sym, ◌∙◌, subst, inl, inr, append-nil, map, filter, list_any, map-append, option_map, Result, Ok, Err, OnOk, enough_of, is_by_place, code_of, AnyCode, Entry, PrimaryFacts, Incremental, Membership, Past, PgId, PoolSpec, Info, Report, History, begun, stepped, Running, IsIntervalsOf, current_ending, past_intervals, past_intervals-more, past_intervals-continues, past_intervals-ends, epoch, map_fault, then_with, pool, has_group, is_same_group, pool_membership, membership, inc_of, report_of, incs_of, infos_of, reports_of, AreNumbered, made_at, primary_facts, GroupLog, cleans, group_with, infos, reports, Keeps, IsGroupOf, IsSilent, has_osd, was_member, KeepsInfos, IsToldBy, KeepsNames, KeepsPrior, KeepsReports, IsReportedBy, les, past, Group, Infos, NamedDevices, KeptPrior, Reports, arith, nat_tests}
+use Rattle.pgp_group.proofs.Common.{◌≡◌, ◌≢◌, ◌≤◌, ℕ, List, [], ◌∷◌, ◌++◌, Option, Some, None, true, false, ◌||◌, nat_eq, refl, ap, sym, ◌∙◌, subst, inl, inr, append-nil, map, filter, list_any, map-append, option_map, Result, Ok, Err, OnOk, enough_of, is_by_place, code_of, AnyCode, Entry, PrimaryFacts, Incremental, Membership, Past, PgId, PoolSpec, Info, Report, History, begun, stepped, Running, IsIntervalsOf, current_ending, past_intervals, past_intervals-more, past_intervals-continues, past_intervals-ends, epoch, map_fault, then_with, pool, has_group, is_same_group, pool_membership, membership, inc_of, report_of, incs_of, infos_of, reports_of, AreNumbered, made_at, primary_facts, GroupLog, cleans, group_with, infos, reports, Keeps, IsGroupOf, IsSilent, has_osd, was_member, KeepsInfos, TakesInfo, KeepsNames, KeepsPrior, KeepsReports, IsReportedBy, les, past, Group, Infos, NamedDevices, KeptPrior, Reports, arith, nat_tests}
 use Rattle.pgp_ids.specs.declared.entry.Entry.TheVariants as entry
 use Rattle.pgp_ids.specs.declared.pool.PoolKind.{PoolKind}
 pub use Rattle.pgp_lists.proofs.Results.{on_err}
@@ -119,7 +119,7 @@ names-kept log new pg h named told sent is = grind (arith, past-same (group_with
 
 -- an info of the group
 pub infos-told : (log : List Entry) (info : Info) (pg : PgId) (h : History AnyCode) → is_same_group info.pg pg ≡ true
-    → IsToldBy (group_with log pg h) info (group_with (log ++ entry.Info info ∷ []) pg h)
+    → TakesInfo (group_with log pg h) info (group_with (log ++ entry.Info info ∷ []) pg h)
 infos-told log info pg h same = search (infos-new, nothing_new)
 
 -- a report of the group

@@ -1,5 +1,5 @@
 -- What is kept of the infos of a group, as its log grows and as they are looked at.
-use Rattle.pgp_group.proofs.Common.{◌≡◌, ℕ, ◌≤◌, List, [], ◌∷◌, ◌++◌, Some, Bool, true, false, ◌&&◌, ◌||◌, nat_lt, length, map, fold, max, take, drop, append-nil, append_assoc, length-append, refl, ap, ap₂, sym, ◌∙◌, subst, inl, inr, arith, Contains, filter, and_parts, or_parts, eqb-true, nat_tests, take_all, take-append-drop, take-append-le, map-append, filter-append, fold-append, AnyCode, is_same_member, PrimaryFacts, Incremental, Member, Membership, PgId, Info, HasDistinctMembers, with_infos, History, stepped, Contains-nil, append-contains, contains-append, filter-contains, epoch, AreNumbered, group_history, GroupLog, incs, infos, has_member, heard, last_of_each_member, les, KeepsInfos, IsToldBy, Infos}
+use Rattle.pgp_group.proofs.Common.{◌≡◌, ℕ, ◌≤◌, List, [], ◌∷◌, ◌++◌, Some, Bool, true, false, ◌&&◌, ◌||◌, nat_lt, length, map, fold, max, take, drop, append-nil, append_assoc, length-append, refl, ap, ap₂, sym, ◌∙◌, subst, inl, inr, arith, Contains, filter, and_parts, or_parts, eqb-true, nat_tests, take_all, take-append-drop, take-append-le, map-append, filter-append, fold-append, AnyCode, is_same_member, PrimaryFacts, Incremental, Member, Membership, PgId, Info, HasDistinctMembers, with_infos, History, stepped, Contains-nil, append-contains, contains-append, filter-contains, epoch, AreNumbered, group_history, GroupLog, incs, infos, has_member, heard, last_of_each_member, les, KeepsInfos, TakesInfo, Infos}
 use Rattle.std.proofs.lemmas.Map.Views.{any-filter_same}
 use Rattle.pgp_group.proofs.FirstLemmas.{first-within, step-moves}
 use Rattle.pgp_group.specs.KeptInfos.{counts}
@@ -90,7 +90,7 @@ KeepsInfos-on g after old kept on told is all les' seen heard' ahead =
     (λ settled. (sym ahead ∙ settled, λ info there. absurd (Contains-nil info there)))
     is (all ∙ sym (append-nil old.all.items)) les' seen heard'
 
-pub KeepsInfos-new : (g after : GroupLog) (info : Info) (at : ℕ) (old kept : Infos) → at ≡ epoch (incs g) → IsToldBy g info after → KeepsInfos g old
+pub KeepsInfos-new : (g after : GroupLog) (info : Info) (at : ℕ) (old kept : Infos) → at ≡ epoch (incs g) → TakesInfo g info after → KeepsInfos g old
     → kept.all.items ≡ old.all.items ++ info ∷ [] → kept.les ≡ max old.les info.history_les → kept.seen ≡ old.seen → kept.heard.infos ≡ old.heard.infos → kept.ahead ≡ (old.ahead || nat_lt at info.stamp)
     → KeepsInfos after kept
 KeepsInfos-new g after info at old kept here told is all les' seen heard' ahead =

@@ -1,5 +1,5 @@
 -- A group whose intervals, reports and devices are the same in two logs has the same view, except for count and epoch.
-use Rattle.pgp_group.proofs.Common.{◌≡◌, ℕ, arith, List, [], ◌++◌, Option, Some, None, is_none, Bool, true, not, ◌&&◌, nat_eq, nat_lt, length, map, fold, max, refl, ap, ap₂, ◌∙◌, if◌then◌else◌, Contains, filter, find, flat_map, list_any, range_with_len, slice_index_or, filter_map, option_and_then, option_map, option_map_or, unwrap_or, or-true, nat_tests, enough_of, is_by_place, enough_of-mono, AnyCode, is_same_member, Entry, EpochState, Member, Membership, Past, PgId, Info, Report, Verdict, History, current_first, contains-any, filter-contains, map_some, device, epoch, is_whole, held_member, members_of, prior_set, blocks-same, ascending, is_before, status, status_by, Status, incs_of, GroupLog, group_with, infos, reports, incs, has_member, is_counted, heard, last_of_each_member, les, reported, past, prior, best, whole_best, peer_states, has_osd, was_member, names, told_at, holds, in_order, needs_up_thru, is_short, view_of}
+use Rattle.pgp_group.proofs.Common.{◌≡◌, ℕ, arith, List, [], ◌++◌, Option, Some, None, is_none, Bool, true, not, ◌&&◌, nat_eq, nat_lt, length, map, fold, max, refl, ap, ap₂, ◌∙◌, if◌then◌else◌, Contains, filter, find, flat_map, list_any, range_with_len, slice_index_or, filter_map, option_and_then, option_map, option_map_or, unwrap_or, or-true, nat_tests, enough_of, is_by_place, enough_of-mono, AnyCode, is_same_member, Entry, EpochState, Member, Membership, Past, PgId, Info, Report, Verdict, History, current_first, contains-any, filter-contains, map_some, device, epoch, is_whole, held_member, members_of, prior_set, blocks-same, ascending, is_before, status, status_by, Status, incs_of, GroupLog, group_with, infos, reports, incs, has_member, is_counted, heard, last_of_each_member, les, reported, past, prior, best, whole_best, peer_states, has_osd, was_member, names, view_at, holds, in_order, needs_up_thru, is_short, view_of}
 use Rattle.pgp_ids.specs.declared.verdict.Verdict.TheVariants as the
 use Rattle.pgp_prior.specs.Blocks as block
 use Rattle.pgp_group.specs.Peering.{info_of}
@@ -48,7 +48,7 @@ module _ (g after : GroupLog) (same : AreAlike g after) where
   holds-same the.Serve = refl
 
   -- so its views differ in count and epoch alone
-  pub view-alike : view_of after ≡ told_at (length after.log) (epoch (incs after)) (view_of g)
+  pub view-alike : view_of after ≡ view_at (length after.log) (epoch (incs after)) (view_of g)
   view-alike = λ i. record {
     count = length after.log;
     epoch = epoch (incs after);
@@ -170,7 +170,7 @@ prior_set-same log after pg h lived same =
     (λ p there member stood. let dev = same.named member.osd (named_past log pg h p member there stood) in λ i. status_by (dev i).is_up (dev i).exists (dev i).lost_at p.first)
 
 pub view-same : (log after : List Entry) (pg : PgId) (h : History AnyCode) (lived : List EpochState) → IsSame log after pg h lived
-    → view_of (lives after pg h lived) ≡ told_at (length after) (epoch (incs_of after)) (view_of (group_with log pg h))
+    → view_of (lives after pg h lived) ≡ view_at (length after) (epoch (incs_of after)) (view_of (group_with log pg h))
 view-same log after pg h lived same =
     let heard' = heard-same log after pg h lived same in
     view-alike (group_with log pg h) (lives after pg h lived) (grind (arith, prior_set-same log after pg h lived same, reported-same log after pg h lived same))

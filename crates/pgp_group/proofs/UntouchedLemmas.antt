@@ -1,5 +1,5 @@
 -- An entry that doesn't touch a group leaves its view as it was, except for count and epoch.
-use Rattle.pgp_group.proofs.Common.{◌≡◌, ℕ, List, [], ◌∷◌, ◌++◌, Option, Some, None, true, false, length, map, refl, ap, sym, ◌∙◌, arith, filter, list_any, option_map, or_parts, enough_of, is_by_place, AnyCode, Entry, EpochState, PrimaryFacts, Incremental, PgId, PoolSpec, Info, Report, History, stepped, current_first, past_intervals, are_checked, device, epoch, then_with, pool, has_group, is_same_group, membership, pool_membership, inc_of, incs_of, infos_of, reports_of, primary_facts, group_history, group_with, names, has_to_do_with, changed_devices, is_touched, told_at, view_of, scratch, nat_tests}
+use Rattle.pgp_group.proofs.Common.{◌≡◌, ℕ, List, [], ◌∷◌, ◌++◌, Option, Some, None, true, false, length, map, refl, ap, sym, ◌∙◌, arith, filter, list_any, option_map, or_parts, enough_of, is_by_place, AnyCode, Entry, EpochState, PrimaryFacts, Incremental, PgId, PoolSpec, Info, Report, History, stepped, current_first, past_intervals, are_checked, device, epoch, then_with, pool, has_group, is_same_group, membership, pool_membership, inc_of, incs_of, infos_of, reports_of, primary_facts, group_history, group_with, names, has_to_do_with, changed_devices, is_touched, view_at, view_of, scratch, nat_tests}
 use Rattle.pgp_ids.specs.declared.entry.Entry.TheVariants as entry
 use Rattle.pgp_group.proofs.GroupLemmas.{infos-other, infos-same, reports-other, reports-same}
 use Rattle.pgp_group.proofs.GrowthLemmas.{Shortens, EndsWell, checked-numbered, history-grows}
@@ -11,7 +11,7 @@ use Rattle.pgp_group.proofs.ViewLemmas.{history_there}
 
 -- the view with the entry is that of the log before, except for count and epoch
 abbrev pub Stays : List Entry → Entry → PgId → Type 0
-Stays log new pg = scratch (log ++ new ∷ []) pg ≡ option_map (told_at (length (log ++ new ∷ [])) (epoch (incs_of (log ++ new ∷ [])))) (scratch log pg)
+Stays log new pg = scratch (log ++ new ∷ []) pg ≡ option_map (view_at (length (log ++ new ∷ [])) (epoch (incs_of (log ++ new ∷ [])))) (scratch log pg)
 
 -- ---- an entry that brings no map, and nothing of the group
 
@@ -24,7 +24,7 @@ quiet log new pg no_map told reported =
     incs_are : incs_of (log ++ new ∷ []) ≡ incs_of log
     incs_are = nothing_new inc_of log new no_map
 
-    by_history : (found : Option (History AnyCode)) → option_map view_of (option_map (group_with (log ++ new ∷ []) pg) found) ≡ option_map (told_at (length (log ++ new ∷ [])) (epoch (incs_of (log ++ new ∷ [])))) (option_map view_of (option_map (group_with log pg) found))
+    by_history : (found : Option (History AnyCode)) → option_map view_of (option_map (group_with (log ++ new ∷ []) pg) found) ≡ option_map (view_at (length (log ++ new ∷ [])) (epoch (incs_of (log ++ new ∷ [])))) (option_map view_of (option_map (group_with log pg) found))
     by_history None = refl
     by_history (Some h) = ap Some (view-same log (log ++ new ∷ []) pg h h.lived (record {
       first = refl;
@@ -85,7 +85,7 @@ view-stays shorten fine raws on log inc pg h checked is there =
       named = λ osd named. ap (λ (l : List Incremental). device l osd) grown ∙ named-stay log inc pg h osd is there named;
       leads = leads;
     }))
-    ∙ ap (λ (o : Option (History AnyCode)). option_map (told_at (length (log ++ entry.Inc inc ∷ [])) (epoch (incs_of (log ++ entry.Inc inc ∷ [])))) (option_map view_of (option_map (group_with log pg) o))) (sym there)
+    ∙ ap (λ (o : Option (History AnyCode)). option_map (view_at (length (log ++ entry.Inc inc ∷ [])) (epoch (incs_of (log ++ entry.Inc inc ∷ [])))) (option_map view_of (option_map (group_with log pg) o))) (sym there)
 
 -- a group that isn't there doesn't come
 none-stays : (log : List Entry) (inc : Incremental) (pg : PgId) → IsApart log inc pg → group_history (incs_of log) pg ≡ None → Stays log (entry.Inc inc) pg

@@ -24,7 +24,7 @@ pub record KeepsInfos (g : GroupLog) (kept : Infos) : Type 0 where
   pub heard_are : kept.ahead ≡ false → last_of_each_member (filter (counts g) (take kept.seen (infos g))) ≡ filter (counts g) kept.heard.infos
 
 -- the group with one info more, and no other map
-pub record IsToldBy (g : GroupLog) (info : Info) (after : GroupLog) : Type 0 where
+pub record TakesInfo (g : GroupLog) (info : Info) (after : GroupLog) : Type 0 where
   pub infos_are : infos after ≡ infos g ++ info ∷ []
   pub incs_are : incs after ≡ incs g
   pub history_is : after.history ≡ g.history

@@ -83,5 +83,5 @@ is_touched log (entry.Entries report) pg = is_same_group report.pg pg
 is_touched log entry.Close pg = false
 
 -- the view with another count and epoch
-abbrev pub told_at : ℕ → ℕ → View → View
-told_at count epoch view = record view { count = count; epoch = epoch }
+abbrev pub view_at : ℕ → ℕ → View → View
+view_at count epoch view = record view { count = count; epoch = epoch }

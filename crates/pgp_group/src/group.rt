@@ -6,7 +6,7 @@ ghost use Rattle.pgp_code.specs.declared.any.AnyCode.{AnyCode as Code};
 ghost use Rattle.pgp_interval.specs.History.{History};
 ghost use Rattle.pgp_interval.specs.IntervalsOf.{IsIntervalsOf};
 ghost use Rattle.pgp_interval.specs.Runs.{current_first};
-ghost use Rattle.pgp_ids.specs.declared.entry.Entry.{Entry as Told};
+ghost use Rattle.pgp_ids.specs.declared.entry.Entry.{Entry as AnyEntry};
 ghost use Rattle.pgp_ids.specs.declared.entry.Entry.TheVariants as entry;
 ghost use Rattle.pgp_ids.specs.declared.incremental.Incremental.{Incremental};
 ghost use Rattle.pgp_ids.specs.declared.pg_id.PgId.{PgId as Id};
@@ -84,7 +84,7 @@ impl Group {
     /// The group at the epoch that made its pool, of which nothing was reported yet. It takes no memory.
     pub fn begin(alloc: Global, map: &OsdMap, pg: PgId) -> Self
         requires { HasGroup map.now pg }
-        ensures { (log : List Told) → AreNumbered (incs_of log) → IsMapOf (incs_of log) map.now
+        ensures { (log : List AnyEntry) → AreNumbered (incs_of log) → IsMapOf (incs_of log) map.now
             → has_group (incs_of log) pg ≡ true → made_at (incs_of log) pg.pool ≡ epoch_of (incs_of log)
             → IsSilent log pg → IsGroupOf log pg result }
     {
@@ -97,11 +97,11 @@ impl Group {
     /// Takes the next map. `before` is the one that it was until now. After an error the group stands for the same log.
     pub fn absorb_map(&mut self, before: &OsdMap, after: &OsdMap) -> Result<(), AllocError>
         requires { Follows self.old after.now }
-        ensures ok { OnOk result ((log : List Told) (pg : Id) (inc : Incremental)
+        ensures ok { OnOk result ((log : List AnyEntry) (pg : Id) (inc : Incremental)
             → IsGroupOf log pg self.old → map_fault (incs_of log) inc ≡ None
             → IsMapOf (incs_of log) before.now → IsMapOf (then_with (incs_of log) inc) after.now
             → IsGroupOf (log ++ entry.Inc inc ∷ []) pg self.new) }
-        ensures err { OnErr result ((log : List Told) (pg : Id) → IsGroupOf log pg self.old → IsGroupOf log pg self.new) }
+        ensures err { OnErr result ((log : List AnyEntry) (pg : Id) → IsGroupOf log pg self.old → IsGroupOf log pg self.new) }
     {
         let members = up_acting(after, self.pg);
         let facts = primary_facts(before, self.primary());
@@ -111,9 +111,9 @@ impl Group {
     /// Takes a report, or another entry that brings no map: of those that aren't reports of this group nothing is kept.
     /// After an error the group stands for the same log.
     pub fn absorb_report(&mut self, entry: &Entry) -> Result<(), AllocError>
-        ensures ok { OnOk result ((log : List Told) (pg : Id) → inc_of entry.now ≡ None → TellsNothingAhead log pg entry.now
+        ensures ok { OnOk result ((log : List AnyEntry) (pg : Id) → inc_of entry.now ≡ None → TellsNothingAhead log pg entry.now
             → IsGroupOf log pg self.old → IsGroupOf (log ++ entry.now ∷ []) pg self.new) }
-        ensures err { OnErr result ((log : List Told) (pg : Id) → IsGroupOf log pg self.old → IsGroupOf log pg self.new) }
+        ensures err { OnErr result ((log : List AnyEntry) (pg : Id) → IsGroupOf log pg self.old → IsGroupOf log pg self.new) }
     {
         match entry {
             Entry::Info(info) => self.keep_info(info),
@@ -124,10 +124,10 @@ impl Group {
     }
 
     fn keep_info(&mut self, info: &Info) -> Result<(), AllocError>
-        ensures ok { OnOk result ((log : List Told) (pg : Id)
+        ensures ok { OnOk result ((log : List AnyEntry) (pg : Id)
             → (is_same_group info.now.pg pg ≡ true → info.now.last_epoch_clean ≤ epoch_of (incs_of log))
             → IsGroupOf log pg self.old → IsGroupOf (log ++ entry.Info info.now ∷ []) pg self.new) }
-        ensures err { OnErr result ((log : List Told) (pg : Id) → IsGroupOf log pg self.old → IsGroupOf log pg self.new) }
+        ensures err { OnErr result ((log : List AnyEntry) (pg : Id) → IsGroupOf log pg self.old → IsGroupOf log pg self.new) }
     {
         if info.pg == self.pg {
             self.named.make_room_for(info.member.osd)?;
@@ -162,9 +162,9 @@ impl Group {
     }
 
     fn keep_report(&mut self, report: &Report) -> Result<(), AllocError>
-        ensures ok { OnOk result ((log : List Told) (pg : Id)
+        ensures ok { OnOk result ((log : List AnyEntry) (pg : Id)
             → IsGroupOf log pg self.old → IsGroupOf (log ++ entry.Entries report.now ∷ []) pg self.new) }
-        ensures err { OnErr result ((log : List Told) (pg : Id) → IsGroupOf log pg self.old → IsGroupOf log pg self.new) }
+        ensures err { OnErr result ((log : List AnyEntry) (pg : Id) → IsGroupOf log pg self.old → IsGroupOf log pg self.new) }
     {
         if report.pg == self.pg {
             self.named.make_room_for(report.member.osd)?;
@@ -180,9 +180,9 @@ impl Group {
     /// count. Of the past intervals it asks the code about those alone that came since the last view, or that have a device
     /// of which the map says something else than then. After an error the group stands for the same log.
     pub fn view(&mut self, map: &OsdMap, count: usize) -> Result<View, AllocError>
-        ensures view { IfOk result (λ view. (log : List Told) (pg : Id) → IsGroupOf log pg self.old
+        ensures view { IfOk result (λ view. (log : List AnyEntry) (pg : Id) → IsGroupOf log pg self.old
             → IsMapOf (incs_of log) map.now → length log ≡ count → scratch log pg ≡ Some view) }
-        ensures same { (log : List Told) (pg : Id) → IsGroupOf log pg self.old → IsMapOf (incs_of log) map.now
+        ensures same { (log : List AnyEntry) (pg : Id) → IsGroupOf log pg self.old → IsMapOf (incs_of log) map.now
             → IsGroupOf log pg self.new }
     {
         let (first, current) = self.intervals.current();

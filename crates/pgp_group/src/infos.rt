@@ -4,7 +4,7 @@ ghost use Rattle.std.specs.Prelude.{◌≡◌, ◌≤◌, ◌||◌, [], true, fa
 ghost use Rattle.pgp_map.specs.Map.{epoch as epoch_of};
 ghost use Rattle.pgp_group.specs.GroupLog.{GroupLog, incs, infos};
 ghost use Rattle.pgp_group.specs.Heard.{heard};
-ghost use Rattle.pgp_group.specs.KeptInfos.{KeepsInfos, IsToldBy};
+ghost use Rattle.pgp_group.specs.KeptInfos.{KeepsInfos, TakesInfo};
 ghost use Rattle.pgp_group.specs.Present.{IsPresent};
 
 use super::heard::{forget_uncounted, hear, heard};
@@ -50,7 +50,7 @@ impl Infos {
 
     /// Takes an info, which came at this epoch. After an error the infos are as before.
     pub(crate) fn push(&mut self, info: &Info, at: Epoch) -> Result<(), AllocError>
-        ensures ok { OnOk result ((g after : GroupLog) → at ≡ epoch_of (incs g) → IsToldBy g info.now after
+        ensures ok { OnOk result ((g after : GroupLog) → at ≡ epoch_of (incs g) → TakesInfo g info.now after
             → KeepsInfos g self.old → KeepsInfos after self.new) }
         ensures err { OnErr result ((g : GroupLog) → KeepsInfos g self.old → KeepsInfos g self.new) }
     {

@@ -321,7 +321,7 @@ pub fn group_that_serves()
 {}
 
 /// Log entries may come in any order, and of two with one number the last counts.
-pub fn entries_told_again()
+pub fn entries_reported_again()
     ensures missing { let entries = modify 3 (codes "c") ∷ modify 1 (codes "a") ∷ modify 2 (codes "x")
         ∷ modify 2 (codes "b") ∷ [] in
         option_map (λ view. view.missing) (scratch (with_entries entries) copies_group)

@@ -6,7 +6,7 @@ ghost use Rattle.std.specs.Option.{option_copied};
 ghost use Rattle.pgp_ids.specs.Member.{is_same_member};
 ghost use Rattle.pgp_ids.specs.declared.log_entry.LogEntry.{LogEntry as Write};
 ghost use Rattle.pgp_ids.specs.declared.member.Member.{Member as Sender};
-ghost use Rattle.pgp_ids.specs.declared.report.Report.{Report as Told};
+ghost use Rattle.pgp_ids.specs.declared.report.Report.{Report as AnyReport};
 ghost use Rattle.pgp_missing.specs.Kept.{IsLogOf};
 ghost use Rattle.pgp_missing.specs.Log.{by_number};
 ghost use Rattle.pgp_group.specs.GroupLog.{GroupLog};
@@ -94,7 +94,7 @@ impl Logs {
         first: Epoch,
         told: &[Report],
     ) -> Result<(), AllocError>
-        ensures logs { OnOk result ((g : GroupLog) (before : List Told) → IsPresent g map.now first
+        ensures logs { OnOk result ((g : GroupLog) (before : List AnyReport) → IsPresent g map.now first
             → AreLogsOf g before self.old.of_members.items → AreLogsOf g (before ++ told.now) self.new.of_members.items) }
         ensures count { OnOk result ((g : GroupLog) (at : ℕ) → IsPresent g map.now first → All (λ report. report.stamp ≤ at) told.now
             → All (λ log. counts_by g at log ≡ true) self.old.of_members.items

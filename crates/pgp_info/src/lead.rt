@@ -46,7 +46,7 @@ impl Lead {
         ensures { (infos : List Info) → HasDistinctMembers (infos ++ info.now ∷ [])
             → IsLead (P.better prefer.now) infos self → IsLead (P.better prefer.now) (infos ++ info.now ∷ []) result }
     {
-        self.since(start_told_by(info)).beside(prefer, info)
+        self.since(start_named_by(info)).beside(prefer, info)
     }
 
     /// What is left of it where the group began to serve in this epoch too: a later start leaves all others behind.
@@ -132,7 +132,7 @@ fn last_start(infos: &[Info]) -> Epoch
 {
     let mut start = Epoch::new(0);
     for info in infos {
-        let told = start_told_by(info);
+        let told = start_named_by(info);
         if start < told {
             start = told;
         }
@@ -141,7 +141,7 @@ fn last_start(infos: &[Info]) -> Epoch
 }
 
 /// The last epoch in which the group began to serve, as far as this info alone tells.
-fn start_told_by(info: &Info) -> Epoch
+fn start_named_by(info: &Info) -> Epoch
     ensures { result ≡ last_start (info.now ∷ []) }
 {
     if info.complete && info.history_les < info.les {

@@ -12,13 +12,13 @@ pub data LineFault : Type 0 where
   bad_field : List ℕ → LineFault
 
 -- what a fault says of its line; one that is out of memory says nothing of it
-abbrev pub told : TextFault → Option LineFault
-told LineTooLong = Some line_too_long
-told NotJson = Some not_json
-told NoOp = Some no_op
-told (UnknownKey key) = Some (unknown_key (string_bytes key))
-told (BadField key) = Some (bad_field (string_bytes key))
-told Memory = None
+abbrev pub line_fault_of : TextFault → Option LineFault
+line_fault_of LineTooLong = Some line_too_long
+line_fault_of NotJson = Some not_json
+line_fault_of NoOp = Some no_op
+line_fault_of (UnknownKey key) = Some (unknown_key (string_bytes key))
+line_fault_of (BadField key) = Some (bad_field (string_bytes key))
+line_fault_of Memory = None
 
 infixl 10 ◌>>=◌
 -- what follows, with the value before it; the first fault stays

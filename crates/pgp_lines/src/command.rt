@@ -3,7 +3,7 @@ ghost use Rattle.std.specs.Prelude.{◌≡◌, true, is_some, Err, IfOk, IfErr, 
 ghost use Rattle.std.specs.Str.{is_utf8};
 ghost use Rattle.pgp_lines.specs.Value.{view};
 ghost use Rattle.serde_json.specs.Read.{read};
-ghost use Rattle.pgp_lines.specs.LineFault.{told, not_json};
+ghost use Rattle.pgp_lines.specs.LineFault.{line_fault_of, not_json};
 ghost use Rattle.pgp_lines.specs.Command.{trace_of, values_of, command_in, data_of, command_of, IsInRange};
 ghost use Rattle.pgp_lines.specs.Op.{op_in};
 
@@ -74,7 +74,7 @@ pub enum Command {
 /// for bytes that are no UTF-8.
 pub fn read_line(alloc: Global, line: &[u8]) -> Result<Command, TextFault>
     ensures ok { IfOk result (λ command. command_of line.now ≡ Ok command) }
-    ensures err { IfErr result (λ fault. IfSome (told fault) (λ f. command_of line.now ≡ Err f)) }
+    ensures err { IfErr result (λ fault. IfSome (line_fault_of fault) (λ f. command_of line.now ≡ Err f)) }
     // Bytes that are no text are found out without memory.
     ensures memory { result ≡ Err TextFault.Memory → is_utf8 line.now ≡ true }
     ensures in_range { IfOk result IsInRange }
@@ -107,7 +107,7 @@ impl LineReader {
     pub fn read(&mut self, alloc: Global, line: &[u8]) -> Result<Command, TextFault>
         ensures ok { IfOk result (λ command. command_of line.now ≡ Ok command) }
         ensures err { IfErr result
-            (λ fault. IfSome (told fault) (λ f. command_of line.now ≡ Err f)) }
+            (λ fault. IfSome (line_fault_of fault) (λ f. command_of line.now ≡ Err f)) }
         ensures memory { result ≡ Err TextFault.Memory → is_utf8 line.now ≡ true }
         ensures in_range { IfOk result IsInRange }
     {
@@ -126,7 +126,7 @@ fn read_within<'a>(
     room: &'a mut Scratch,
 ) -> Result<Command, TextFault>
     ensures ok { IfOk result (λ command. command_of line.now ≡ Ok command) }
-    ensures err { IfErr result (λ fault. IfSome (told fault) (λ f. command_of line.now ≡ Err f)) }
+    ensures err { IfErr result (λ fault. IfSome (line_fault_of fault) (λ f. command_of line.now ≡ Err f)) }
     ensures memory { result ≡ Err TextFault.Memory → is_utf8 line.now ≡ true }
     ensures in_range { IfOk result IsInRange }
 {
@@ -142,7 +142,7 @@ fn read_json<'a>(
 ) -> Result<Tokens<'a>, TextFault>
     ensures ok { IfOk result (λ tokens. data_of line.now ≡ Some (view tokens)) }
     ensures err { IfErr result
-        (λ fault. IfSome (told fault) (λ f. (data_of line.now ≡ None) × (f ≡ not_json))) }
+        (λ fault. IfSome (line_fault_of fault) (λ f. (data_of line.now ≡ None) × (f ≡ not_json))) }
     ensures text { IfOk result (λ _. is_utf8 line.now ≡ true) }
     ensures memory { result ≡ Err TextFault.Memory → is_utf8 line.now ≡ true }
 {
@@ -160,7 +160,7 @@ fn read_text<'a>(
 ) -> Result<Tokens<'a>, TextFault>
     ensures ok { IfOk result (λ tokens. read text.now ≡ Some (view tokens)) }
     ensures err { IfErr result
-        (λ fault. IfSome (told fault) (λ f. (read text.now ≡ None) × (f ≡ not_json))) }
+        (λ fault. IfSome (line_fault_of fault) (λ f. (read text.now ≡ None) × (f ≡ not_json))) }
 {
     match Tape::parse(text, room, Vec::new(arena)) {
         Ok(tokens) => if is_readable(tokens.nodes()) {
@@ -179,7 +179,7 @@ fn read_text<'a>(
 fn read_command(alloc: Global, value: &Value<'_, '_>) -> Result<Command, TextFault>
     ensures ok { IfOk result (λ command. command_in (view value.now) ≡ Ok command) }
     ensures err { IfErr result
-        (λ fault. IfSome (told fault) (λ f. command_in (view value.now) ≡ Err f)) }
+        (λ fault. IfSome (line_fault_of fault) (λ f. command_in (view value.now) ≡ Err f)) }
     // That no operation is named is found out without memory.
     ensures memory { result ≡ Err TextFault.Memory → is_some (op_in (view value.now)) ≡ true }
 {
@@ -201,7 +201,7 @@ fn read_values(
 ) -> Result<Command, TextFault>
     ensures ok { IfOk result (λ command. values_of op format (view value.now) ≡ Ok command) }
     ensures err { IfErr result
-        (λ fault. IfSome (told fault) (λ f. values_of op format (view value.now) ≡ Err f)) }
+        (λ fault. IfSome (line_fault_of fault) (λ f. values_of op format (view value.now) ≡ Err f)) }
 {
     match op {
         Op::Ask => {
@@ -248,7 +248,7 @@ fn read_trace(
 ) -> Result<Command, TextFault>
     ensures ok { IfOk result (λ command. trace_of format (view value.now) ≡ Ok command) }
     ensures err { IfErr result
-        (λ fault. IfSome (told fault) (λ f. trace_of format (view value.now) ≡ Err f)) }
+        (λ fault. IfSome (line_fault_of fault) (λ f. trace_of format (view value.now) ≡ Err f)) }
 {
     let Some(code) = read_code(value, read_in(format)) else {
         return Err(bad_field_fault(alloc, "code"));

@@ -1,5 +1,5 @@
 -- What a shard keeps of its groups, as the log grows.
-use Rattle.pgp_log.proofs.Common.{◌≡◌, ℕ, List, [], ◌∷◌, ◌++◌, true, false, Bor, Option, Some, None, IfSome, is_none, is_some, not, length, option_map, refl, sym, ap, ◌∙◌, subst, filter, option_copied, false_from_ne_true, true≢false, some_is, Entry, Incremental, Membership, PgId, Info, View, checked-more, front-checked, last-checked, are_checked, device, HasGroup, epoch, map_fault, then_with, IsMapOf, has_group, is_same_group, pool, temp, OsdMap, raw_set-stays, may_place_elsewhere, members_from_up, membership, raw_set_of, without_down, infos-kept, infos-other, infos-same, names-kept, past-same, reports-kept, reports-other, reports-same, IsGroupOf-other, has_group-grows, reached-now, history_there, inc_of, incs_of, infos_of, reports_of, AreNumbered, group_facts, group_history, made_at, IsGroupOf, IsSilent, Follows, group_with, reaching, is_touched, told_at, scratch, view_of, Group, MapBefore, fits, IsKeptOf, IsStep, IsViewOf, HasInc, is_legal, IsRawSet, KeptGroup}
+use Rattle.pgp_log.proofs.Common.{◌≡◌, ℕ, List, [], ◌∷◌, ◌++◌, true, false, Bor, Option, Some, None, IfSome, is_none, is_some, not, length, option_map, refl, sym, ap, ◌∙◌, subst, filter, option_copied, false_from_ne_true, true≢false, some_is, Entry, Incremental, Membership, PgId, Info, View, checked-more, front-checked, last-checked, are_checked, device, HasGroup, epoch, map_fault, then_with, IsMapOf, has_group, is_same_group, pool, temp, OsdMap, raw_set-stays, may_place_elsewhere, members_from_up, membership, raw_set_of, without_down, infos-kept, infos-other, infos-same, names-kept, past-same, reports-kept, reports-other, reports-same, IsGroupOf-other, has_group-grows, reached-now, history_there, inc_of, incs_of, infos_of, reports_of, AreNumbered, group_facts, group_history, made_at, IsGroupOf, IsSilent, Follows, group_with, reaching, is_touched, view_at, scratch, view_of, Group, MapBefore, fits, IsKeptOf, IsStep, IsViewOf, HasInc, is_legal, IsRawSet, KeptGroup}
 use Rattle.pgp_ids.specs.declared.entry.Entry.TheVariants as entry
 use Rattle.pgp_ids.specs.declared.history.PrimaryFacts.{PrimaryFacts}
 use Rattle.pgp_ids.specs.declared.report.Report.{Report}
@@ -83,7 +83,7 @@ no_view log pg view none = subst (λ (o : Option View). IfSome o (IsViewOf log p
 -- the view stays that of the log, where the entry changes it in count and epoch alone
 pub view-stays : (log : List Entry) (new : Entry) (pg : PgId) (view : Option View) → Stays log new pg → IfSome view (IsViewOf log pg) → IfSome view (IsViewOf (log ++ new ∷ []) pg)
 view-stays log new pg None stays is = tt
-view-stays log new pg (Some view) stays is = stays ∙ ap (option_map (told_at (length (log ++ new ∷ [])) (epoch (incs_of (log ++ new ∷ []))))) is
+view-stays log new pg (Some view) stays is = stays ∙ ap (option_map (view_at (length (log ++ new ∷ [])) (epoch (incs_of (log ++ new ∷ []))))) is
 
 -- an incremental that doesn't touch the group does so
 pub untouched-inc : (log : List Entry) (inc : Incremental) (before : MapBefore) (after : OsdMap) (pg : PgId) → IsStep log inc before after → is_touched log (entry.Inc inc) pg ≡ false → Stays log (entry.Inc inc) pg
@@ -98,8 +98,8 @@ mapped-same f k g g' (Some x) same = ap Some (same x)
 -- a view that was just worked out has the count and the epoch of its log
 pub view-now : (log : List Entry) (pg : PgId) (view : View) → scratch log pg ≡ Some view → IsViewOf log pg view
 view-now log pg view is =
-    mapped-same view_of (told_at (length log) (epoch (incs_of log))) (group_with log pg) (group_with log pg) (group_history (incs_of log) pg) (λ h. refl)
-    ∙ ap (option_map (told_at (length log) (epoch (incs_of log)))) is
+    mapped-same view_of (view_at (length log) (epoch (incs_of log))) (group_with log pg) (group_with log pg) (group_history (incs_of log) pg) (λ h. refl)
+    ∙ ap (option_map (view_at (length log) (epoch (incs_of log)))) is
 
 -- ---- a group comes
 
@@ -151,7 +151,7 @@ view-untold log new pg none others =
     let later : List Entry = log ++ new ∷ [] in
     let same : incs_of later ≡ incs_of log = incs-other log new none in
     ap (λ (l : List Incremental). option_map view_of (option_map (group_with later pg) (group_history l pg))) same
-    ∙ mapped-same view_of (told_at (length later) (epoch (incs_of later))) (group_with later pg) (group_with log pg) (group_history (incs_of log) pg)
+    ∙ mapped-same view_of (view_at (length later) (epoch (incs_of later))) (group_with later pg) (group_with log pg) (group_history (incs_of log) pg)
     (λ h. view-same log later pg h h.lived (record {
       first = refl;
       past = past-same (group_with log pg h) (group_with later pg h) refl others.infos;

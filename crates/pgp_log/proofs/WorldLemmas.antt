@@ -2,7 +2,7 @@
 use Rattle.pgp_log.proofs.Common.{◌≡◌, ℕ, suc, ◌<◌, drop, if◌then◌else◌, Err, List, [], ◌∷◌, ◌++◌, inl, inr, Option, Some, None, Bool, true, false, refl, sym, ap, ap₂, ◌∙◌, append-nil, append_assoc, subst, arith, slice_index, alloc_error, length-take, list_any, or_parts, true≢false, Entry, Refusal, fits, is_legal, World, Step, Reply, after, after_absorb, after_all, after_submit, replies, reply_to, submit_reply, Submit, Absorb, Ask, Submitted, Absorbed, Asked, HasReadPart, IsTaken, IsWanting, MayReply, MayRun, IsFewer, IsDone, done_at, done_of, is_want, taken_at, taken_of}
 use Rattle.pgp_ids.specs.declared.ask_refusal.AskRefusal.TheVariants as ask
 use Rattle.pgp_ids.specs.declared.refusal.Refusal.TheVariants as refusal
-use Rattle.pgp_log.specs.WorldRun.{told_at}
+use Rattle.pgp_log.specs.WorldRun.{replies_at}
 use Rattle.pgp_log.proofs.LogLemmas.{legal-snoc}
 
 submit-legal : (w : World) (new : Entry) (why : Option Refusal) → fits w.log new ≡ why → is_legal w.log ≡ true → is_legal (after_submit w new why).log ≡ true
@@ -90,7 +90,7 @@ after_all-append w (step ∷ first) later = after_all-append (after w step) firs
 record Does (w : World) (step : Step) (reply : Reply) (next : World) : Type 0 where
   pub read : ℕ
   pub fewer : IsFewer step reply read
-  pub told : told_at step reply ≡ replies w (done_at step reply read)
+  pub told : replies_at step reply ≡ replies w (done_at step reply read)
   pub next_is : next ≡ after_all w (done_at step reply read)
 
 told_if : (b : Bool) (w : World) (step : Step) → (if b then [] else reply_to w step ∷ []) ≡ replies w (if b then [] else step ∷ [])

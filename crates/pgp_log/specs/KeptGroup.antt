@@ -14,7 +14,7 @@ use Rattle.pgp_map.specs.declared.map.OsdMap.{OsdMap}
 use Rattle.pgp_group.specs.Entries.{incs_of}
 use Rattle.pgp_group.specs.GroupOf.{IsGroupOf}
 use Rattle.pgp_group.specs.Reaching.{reaching}
-use Rattle.pgp_group.specs.Touched.{changed_devices, has_to_do_with, is_touched, may_lie_on, may_move, told_at, turned_devices}
+use Rattle.pgp_group.specs.Touched.{changed_devices, has_to_do_with, is_touched, may_lie_on, may_move, view_at, turned_devices}
 use Rattle.pgp_group.specs.View.{scratch}
 use Rattle.pgp_log.specs.Fits.{fits}
 use Rattle.pgp_log.specs.Log.{is_legal}
@@ -30,7 +30,7 @@ use Rattle.pgp_log.specs.declared.row.Row.{Row}
 
 -- the view is what the log says of the group, except for count and epoch
 abbrev pub IsViewOf : List Entry → PgId → View → Type 0
-IsViewOf log pg view = scratch log pg ≡ Some (told_at (length log) (epoch (incs_of log)) view)
+IsViewOf log pg view = scratch log pg ≡ Some (view_at (length log) (epoch (incs_of log)) view)
 
 -- the group, brought to the epoch of the log, stands for its group of the log: it needn't have been told of maps by which it
 -- lies as before. Its raw set is where the map's tree puts it, its pg_temp list is that of the map, and its view, if it is

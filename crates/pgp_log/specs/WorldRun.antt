@@ -57,20 +57,20 @@ abbrev pub done_at : Step → Reply → ℕ → List Step
 done_at (Absorb shard count) (Absorbed (Err error)) read = Absorb shard read ∷ []
 done_at step reply read = if is_want reply then [] else step ∷ []
 
--- what is told of it: that the shard has read, and of another step that lacked memory nothing
-abbrev pub told_at : Step → Reply → List Reply
-told_at (Absorb shard count) (Absorbed (Err error)) = Absorbed (Ok tt) ∷ []
-told_at step reply = if is_want reply then [] else reply ∷ []
+-- the reply that counts for what was done: that the shard has read, and for another step that lacked memory none
+abbrev pub replies_at : Step → Reply → List Reply
+replies_at (Absorb shard count) (Absorbed (Err error)) = Absorbed (Ok tt) ∷ []
+replies_at step reply = if is_want reply then [] else reply ∷ []
 
 -- what was done at all steps
 abbrev pub done_of : List Step → List Reply → List ℕ → List Step
 done_of (step ∷ steps) (reply ∷ given) (read ∷ reads) = done_at step reply read ++ done_of steps given reads
 done_of steps given reads = []
 
--- what is told of them
-abbrev pub told_of : List Step → List Reply → List Reply
-told_of (step ∷ steps) (reply ∷ given) = told_at step reply ++ told_of steps given
-told_of steps given = []
+-- the replies that count for it
+abbrev pub replies_of : List Step → List Reply → List Reply
+replies_of (step ∷ steps) (reply ∷ given) = replies_at step reply ++ replies_of steps given
+replies_of steps given = []
 
 -- a shard that lacked memory read fewer entries than it was to read
 abbrev pub IsFewer : Step → Reply → ℕ → Type 0
@@ -88,7 +88,7 @@ pub record IsDone (w : World) (steps : List Step) (given : List Reply) (last : W
   pub reads : List ℕ
   pub each : length reads ≡ length steps
   pub fewer : AreFewer steps given reads
-  pub replies_are : told_of steps given ≡ replies w (done_of steps given reads)
+  pub replies_are : replies_of steps given ≡ replies w (done_of steps given reads)
   pub last_is : last ≡ after_all w (done_of steps given reads)
 
 -- the entry that the log took at this step, by what it was answered

@@ -44,7 +44,7 @@ impl MapBefore {
     {
         let mut devices = Vec::new(alloc);
         note_booted(&mut devices, map, inc.up.as_slice())?;
-        note_told(&mut devices, map, inc.up_thru.as_slice())?;
+        note_dated(&mut devices, map, inc.up_thru.as_slice())?;
         Ok(MapBefore {
             epoch: map.epoch(),
             devices,
@@ -145,7 +145,7 @@ fn note_booted(
 }
 
 /// Notes what the map says of each device of which this is told.
-fn note_told(
+fn note_dated(
     devices: &mut Vec<DeviceFacts>,
     map: &OsdMap,
     all: &[DeviceEpoch],

@@ -1,7 +1,7 @@
 //! Copies of views.
 
 ghost use Rattle.std.specs.Prelude.{◌≡◌, IfOk};
-ghost use Rattle.pgp_group.specs.Touched.{told_at};
+ghost use Rattle.pgp_group.specs.Touched.{view_at};
 
 use pgp_ids::{Epoch, MissingObject, Past, PeerMissing, PeerState, Seq, View};
 use std::alloc::{AllocError, Global};
@@ -14,7 +14,7 @@ pub(crate) fn copy_at(
     epoch: Epoch,
     count: usize,
 ) -> Result<View, AllocError>
-    ensures { IfOk result (λ copy. copy ≡ told_at count epoch view.now) }
+    ensures { IfOk result (λ copy. copy ≡ view_at count epoch view.now) }
 {
     let intervals = copy_of_intervals(alloc, view.intervals.as_slice())?;
     let probe = copy_of_list(alloc, view.probe.as_slice())?;

@@ -228,8 +228,8 @@ impl KeptGroup {
         self.knows_any(inc.up.as_slice())
             || self.knows_any(inc.down.as_slice())
             || self.knows_any(inc.gone.as_slice())
-            || self.knows_told(inc.up_thru.as_slice())
-            || self.knows_told(inc.lost.as_slice())
+            || self.knows_dated(inc.up_thru.as_slice())
+            || self.knows_dated(inc.lost.as_slice())
     }
 
     /// Whether the group has to do with one of these devices.
@@ -246,7 +246,7 @@ impl KeptGroup {
     }
 
     /// Whether the group has to do with a device of which this is told.
-    fn knows_told(&self, all: &[DeviceEpoch]) -> bool
+    fn knows_dated(&self, all: &[DeviceEpoch]) -> bool
         ensures { (log : List AnyEntry) → IsKeptOf log self.now
             → result ≡ list_any (λ told. has_to_do_with log self.now.pg told.osd) all.now }
     {

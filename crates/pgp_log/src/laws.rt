@@ -16,7 +16,7 @@ ghost use Rattle.std.specs.List.{list_any};
 ghost use Rattle.pgp_map.specs.Checked.{are_checked};
 ghost use Rattle.pgp_sets.specs.Sets.{membership};
 ghost use Rattle.pgp_group.specs.Entries.{incs_of};
-ghost use Rattle.pgp_group.specs.Touched.{is_touched, told_at};
+ghost use Rattle.pgp_group.specs.Touched.{is_touched, view_at};
 ghost use Rattle.pgp_group.specs.View.{scratch};
 ghost use Rattle.pgp_group.specs.Examples.{at, in_slot, copy, copy_up_to, shard, known_up, maps, on_three, two_shards_down, entries_of_first, modify, before_serving, until_serving};
 ghost use Rattle.pgp_log.specs.Fits.{fits, entry_fault, is_close, is_closed};
@@ -83,7 +83,7 @@ pub fn untouched_groups_stay_as_they_were()
     ensures { (log : List Entry) (new : Entry) (pg : PgId) → is_legal log ≡ true → fits log new ≡ None
         → is_touched log new pg ≡ false
         → scratch (log ++ new ∷ []) pg
-        ≡ option_map (told_at (length (log ++ new ∷ [])) (epoch_of (log ++ new ∷ []))) (scratch log pg) }
+        ≡ option_map (view_at (length (log ++ new ∷ [])) (epoch_of (log ++ new ∷ []))) (scratch log pg) }
 {
     group_laws::untouched_groups_stay_as_they_were();
     legal_logs_grow_by_entries_that_fit();

@@ -59,7 +59,7 @@ impl OsdFilter {
     }
 
     /// Adds each device of which this is told.
-    pub(crate) fn add_told(&mut self, all: &[DeviceEpoch])
+    pub(crate) fn add_dated(&mut self, all: &[DeviceEpoch])
         ensures there { (osd : ℕ) → list_any (λ told. nat_eq osd told.osd) all.now ≡ true → Covers self.new osd }
         ensures still { CoversStill self.old self.new }
     {

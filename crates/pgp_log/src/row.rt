@@ -61,8 +61,8 @@ impl Changes {
         movers.add_all(inc.gone.as_slice());
         movers.add_weighed(inc.weight.as_slice());
         let mut devices = movers;
-        devices.add_told(inc.up_thru.as_slice());
-        devices.add_told(inc.lost.as_slice());
+        devices.add_dated(inc.up_thru.as_slice());
+        devices.add_dated(inc.lost.as_slice());
         Changes {
             places: changes_placements(inc),
             moves: moves_some(before, after, inc),

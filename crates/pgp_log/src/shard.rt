@@ -6,7 +6,7 @@ ghost use Rattle.pgp_ids.specs.declared.ask_refusal.AskRefusal.TheVariants.{Unkn
 ghost use Rattle.pgp_ids.specs.declared.entry.Entry.{Entry as AnyEntry};
 ghost use Rattle.pgp_map.specs.Pools.{has_group};
 ghost use Rattle.pgp_group.specs.Entries.{incs_of};
-ghost use Rattle.pgp_group.specs.Touched.{told_at};
+ghost use Rattle.pgp_group.specs.Touched.{view_at};
 ghost use Rattle.pgp_group.specs.View.{scratch};
 ghost use Rattle.pgp_log.specs.Fits.{is_closed, fits};
 ghost use Rattle.pgp_log.specs.Groups.{AreOwnGroupsOf, CanReadOn, IsKeptBeside, marks_of, shard_with};
@@ -172,7 +172,7 @@ impl ShardState {
     pub fn view_of(&self, pg: &PgId) -> Option<&View>
         requires { is_own self.now.shard self.now.shards pg.now ≡ true }
         ensures is { is_marked self.now pg.now ≡ false → scratch self.now.front pg.now
-            ≡ option_map (told_at (length self.now.front) (epoch_of self.now.front)) (option_copied result) }
+            ≡ option_map (view_at (length self.now.front) (epoch_of self.now.front)) (option_copied result) }
         ensures marked { is_marked self.now pg.now ≡ true → result ≡ None }
     {
         match &self.groups {

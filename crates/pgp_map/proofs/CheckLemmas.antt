@@ -15,17 +15,17 @@ use Rattle.pgp_map.specs.declared.fault.MapFault.{MapFault}
 use Rattle.pgp_map.specs.declared.fault.MapFault.TheVariants.{EpochGap, Memory}
 use Rattle.pgp_map.specs.Devices.{boots, takes_down, destroys, is_up}
 use Rattle.pgp_map.specs.Findings.{first_of, AreFindings}
-use Rattle.pgp_map.specs.MapFault.{map_fault, given_fault, has_epoch_gap, told_devices, then_with}
+use Rattle.pgp_map.specs.MapFault.{map_fault, given_fault, has_epoch_gap, devices_that_must_exist, then_with}
 use Rattle.pgp_map.specs.Memory.{is_filled}
 use Rattle.pgp_map.proofs.DeviceLemmas.{is_up-push}
 
 -- a device that is named passes a test exactly if one of some list does
-pub told_any : (test : ℕ → Bool) (inc : Incremental) → list_any test (told_devices inc)
+pub must_exist-any : (test : ℕ → Bool) (inc : Incremental) → list_any test (devices_that_must_exist inc)
     ≡ (list_any test inc.down || list_any test inc.gone || list_any (λ entry. test entry.osd) inc.weight
     || list_any (λ entry. test entry.osd) inc.up_thru || list_any (λ entry. test entry.osd) inc.lost)
-told_any test inc = simp (list_any-append, any-mapped)
+must_exist-any test inc = simp (list_any-append, any-mapped)
 
-pub ruleset told_steps = (told_any)
+pub ruleset must_exist_steps = (must_exist-any)
 
 -- a device is up after an incremental that boots it, or that lets it stay up
 pub up_after : (incs : List Incremental) (inc : Incremental) (osd : ℕ)

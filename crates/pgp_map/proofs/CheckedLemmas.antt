@@ -88,14 +88,14 @@ checked-has_group incs map pg is checked has =
 -- ---- what never falls, and what stays
 
 -- an up_thru that is told isn't below the one before
-told_higher : (old : ℕ) (found : Option DeviceEpoch) → ((told : DeviceEpoch) → found ≡ Some told → nat_lt told.epoch old ≡ false) → old ≤ option_map_or (λ entry. entry.epoch) found old
-told_higher old None higher = omega arith
-told_higher old (Some told) higher = ltb-false told.epoch old (higher told refl)
+up_thru_higher : (old : ℕ) (found : Option DeviceEpoch) → ((told : DeviceEpoch) → found ≡ Some told → nat_lt told.epoch old ≡ false) → old ≤ option_map_or (λ entry. entry.epoch) found old
+up_thru_higher old None higher = omega arith
+up_thru_higher old (Some told) higher = ltb-false told.epoch old (higher told refl)
 
 pub up_thru-more : (incs : List Incremental) (inc : Incremental) (osd : ℕ) → map_fault incs inc ≡ None → up_thru incs osd ≤ up_thru (then_with incs inc) osd
 up_thru-more incs inc osd none =
     subst (λ new. up_thru incs osd ≤ new) (sym (told-push (λ entry. entry.epoch) (λ entry. nat_eq entry.osd osd) (λ inc. inc.up_thru) incs inc 0))
-    (told_higher (up_thru incs osd) (last_where (λ entry. nat_eq entry.osd osd) inc.up_thru)
+    (up_thru_higher (up_thru incs osd) (last_where (λ entry. nat_eq entry.osd osd) inc.up_thru)
     (λ told. last_passes (λ entry. entry.osd) (λ q entry. nat_lt entry.epoch (up_thru incs q)) inc.up_thru osd told (no_fault incs inc none).up_thru))
 
 pub up_thru-rises : (incs later : List Incremental) (osd : ℕ) → are_checked (incs ++ later) ≡ true → up_thru incs osd ≤ up_thru (incs ++ later) osd

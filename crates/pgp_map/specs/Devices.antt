@@ -32,16 +32,16 @@ abbrev pub down_at : List Incremental → ℕ → ℕ
 down_at incs osd = greatest_epoch (filter (takes_down osd) incs)
 
 -- the epoch that is told last of the device, 0 if none is
-abbrev pub told_epoch : List DeviceEpoch → ℕ → ℕ
-told_epoch told osd = option_map_or (λ entry. entry.epoch) (last_where (λ entry. nat_eq entry.osd osd) told) 0
+abbrev pub last_epoch_of : List DeviceEpoch → ℕ → ℕ
+last_epoch_of told osd = option_map_or (λ entry. entry.epoch) (last_where (λ entry. nat_eq entry.osd osd) told) 0
 
 -- the epoch through which the device is last said to have been up
 abbrev pub up_thru : List Incremental → ℕ → ℕ
-up_thru incs osd = told_epoch (flat_map (λ inc. inc.up_thru) incs) osd
+up_thru incs osd = last_epoch_of (flat_map (λ inc. inc.up_thru) incs) osd
 
 -- the epoch that was told when the device was last given up for lost, 0 if it never was
 abbrev pub lost_at : List Incremental → ℕ → ℕ
-lost_at incs osd = told_epoch (flat_map (λ inc. inc.lost) incs) osd
+lost_at incs osd = last_epoch_of (flat_map (λ inc. inc.lost) incs) osd
 
 -- the weight that was given to the device last, in units of 1/0x10000; it is fully in where none was
 abbrev pub weight : List Incremental → ℕ → ℕ

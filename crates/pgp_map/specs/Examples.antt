@@ -36,8 +36,8 @@ boot epoch osds = record (empty_step epoch) { up = osds }
 abbrev pub weighs : ℕ → ℕ → List DeviceWeight
 weighs osd weight = record { osd = osd; weight = weight } ∷ []
 
-abbrev pub told : ℕ → ℕ → List DeviceEpoch
-told osd epoch = record { osd = osd; epoch = epoch } ∷ []
+abbrev pub with_epoch : ℕ → ℕ → List DeviceEpoch
+with_epoch osd epoch = record { osd = osd; epoch = epoch } ∷ []
 
 -- device 0 is up since epoch 1
 abbrev pub one_up : List Incremental
@@ -45,7 +45,7 @@ one_up = boot 1 (0 ∷ []) ∷ []
 
 -- devices 0 and 1 are there, 1 is down and was up through epoch 2
 abbrev pub one_up_one_down : List Incremental
-one_up_one_down = boot 1 (0 ∷ 1 ∷ []) ∷ record (empty_step 2) { down = 1 ∷ []; up_thru = told 1 2 } ∷ []
+one_up_one_down = boot 1 (0 ∷ 1 ∷ []) ∷ record (empty_step 2) { down = 1 ∷ []; up_thru = with_epoch 1 2 } ∷ []
 
 -- a replicated pool of one group
 abbrev pub copies : ℕ → ℕ → PoolSpec
@@ -93,8 +93,8 @@ two_pools = record (boot 1 (0 ∷ 1 ∷ 2 ∷ [])) { pools = copies 1 3 ∷ shar
 abbrev pub made_again : List Incremental
 made_again =
     record (boot 1 (0 ∷ [])) { weight = weighs 0 5 }
-    ∷ record (empty_step 2) { down = 0 ∷ []; up_thru = told 0 1 }
-    ∷ record (empty_step 3) { lost = told 0 3 }
+    ∷ record (empty_step 2) { down = 0 ∷ []; up_thru = with_epoch 0 1 }
+    ∷ record (empty_step 3) { lost = with_epoch 0 3 }
     ∷ record (empty_step 4) { gone = 0 ∷ [] }
     ∷ boot 5 (0 ∷ [])
     ∷ []

@@ -41,8 +41,8 @@ has_twice inc =
     || has_repeat is_same_group (map (λ given. given.pg) inc.temp)
 
 -- the devices that down, gone, weight, up_thru and lost name
-abbrev pub told_devices : Incremental → List ℕ
-told_devices inc =
+abbrev pub devices_that_must_exist : Incremental → List ℕ
+devices_that_must_exist inc =
     inc.down ++ inc.gone
     ++ map (λ entry. entry.osd) inc.weight
     ++ map (λ entry. entry.osd) inc.up_thru
@@ -50,7 +50,7 @@ told_devices inc =
 
 -- one of them is absent in the old map and doesn't boot
 abbrev pub has_unknown_device : List Incremental → Incremental → Bool
-has_unknown_device incs inc = list_any (λ osd. not (exists incs osd || boots osd inc)) (told_devices inc)
+has_unknown_device incs inc = list_any (λ osd. not (exists incs osd || boots osd inc)) (devices_that_must_exist inc)
 
 -- up names a device that is up in the old map
 abbrev pub has_already_up : List Incremental → Incremental → Bool

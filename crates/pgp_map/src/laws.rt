@@ -21,7 +21,7 @@ ghost use Rattle.pgp_map.specs.Held.{held_exists, held_up, held_lost_at, held_po
 ghost use Rattle.pgp_map.specs.MapFault.{map_fault, then_with, is_pool};
 ghost use Rattle.pgp_map.specs.MapOf.{IsMapOf};
 ghost use Rattle.pgp_map.specs.Pools.{pool, temp, has_group};
-ghost use Rattle.pgp_map.specs.Examples.{empty_step, boot, weighs, told, one_up, one_up_one_down, copies, shards, shards_of, part_of, grouped, makes, large_pools, sized, placed, two_pools, made_again};
+ghost use Rattle.pgp_map.specs.Examples.{empty_step, boot, weighs, with_epoch, one_up, one_up_one_down, copies, shards, shards_of, part_of, grouped, makes, large_pools, sized, placed, two_pools, made_again};
 ghost use Rattle.std.specs.List.{range_with_len};
 ghost use Rattle.std.specs.Option.{option_map_or};
 
@@ -40,7 +40,7 @@ pub fn devices_are_known()
     ensures absent { map_fault [] (record (empty_step 1) { weight = weighs 0 0 }) ≡ Some UnknownDevice }
     ensures booting { map_fault [] (record (boot 1 (0 ∷ [])) { weight = weighs 0 0 }) ≡ None }
     ensures destroyed { map_fault [] (record (empty_step 1) { gone = 0 ∷ [] }) ≡ Some UnknownDevice }
-    ensures lost { map_fault [] (record (empty_step 1) { lost = told 0 0 }) ≡ Some UnknownDevice }
+    ensures lost { map_fault [] (record (empty_step 1) { lost = with_epoch 0 0 }) ≡ Some UnknownDevice }
     ensures before_up { map_fault one_up (record (boot 2 (0 ∷ [])) { down = 1 ∷ [] }) ≡ Some UnknownDevice }
 {}
 
@@ -51,8 +51,8 @@ pub fn nothing_is_named_twice()
     ensures up_and_down { map_fault one_up (record (boot 2 (0 ∷ [])) { down = 0 ∷ [] }) ≡ Some Twice }
     ensures before_unknown { map_fault [] (record (empty_step 1) { down = 7 ∷ 7 ∷ [] }) ≡ Some Twice }
     ensures weights { map_fault one_up (record (empty_step 2) { weight = weighs 0 0 ++ weighs 0 1 }) ≡ Some Twice }
-    ensures up_thrus { map_fault one_up (record (empty_step 2) { up_thru = told 0 1 ++ told 0 2 }) ≡ Some Twice }
-    ensures losses { map_fault one_up (record (empty_step 2) { down = 0 ∷ []; lost = told 0 1 ++ told 0 1 }) ≡ Some Twice }
+    ensures up_thrus { map_fault one_up (record (empty_step 2) { up_thru = with_epoch 0 1 ++ with_epoch 0 2 }) ≡ Some Twice }
+    ensures losses { map_fault one_up (record (empty_step 2) { down = 0 ∷ []; lost = with_epoch 0 1 ++ with_epoch 0 1 }) ≡ Some Twice }
     ensures lists { map_fault two_pools (record (empty_step 2) { temp = placed 1 [] ++ placed 1 (Some 0 ∷ []) }) ≡ Some Twice }
     ensures lists_of_two { map_fault two_pools (record (empty_step 2) { temp = placed 1 [] ++ placed 2 [] }) ≡ None }
     ensures made_and_sized { map_fault [] (record (empty_step 1) { pools = copies 1 3 ∷ []; sizes = sized 1 2 1 }) ≡ Some Twice }
@@ -64,9 +64,9 @@ pub fn devices_that_stand()
     ensures up { map_fault one_up (boot 2 (0 ∷ [])) ≡ Some AlreadyUp }
     ensures down { map_fault (boot 1 (0 ∷ []) ∷ record (empty_step 2) { down = 0 ∷ [] } ∷ []) (record (empty_step 3) { down = 0 ∷ [] }) ≡ Some AlreadyDown }
     ensures destroyed_up { map_fault one_up (record (empty_step 2) { gone = 0 ∷ [] }) ≡ Some StillUp }
-    ensures lost_as_it_boots { map_fault [] (record (boot 1 (0 ∷ [])) { lost = told 0 1 }) ≡ Some StillUp }
-    ensures lost_as_it_goes_down { map_fault one_up (record (empty_step 2) { down = 0 ∷ []; lost = told 0 2 }) ≡ None }
-    ensures lost_ahead { map_fault one_up (record (empty_step 2) { down = 0 ∷ []; lost = told 0 3 }) ≡ Some Ahead }
+    ensures lost_as_it_boots { map_fault [] (record (boot 1 (0 ∷ [])) { lost = with_epoch 0 1 }) ≡ Some StillUp }
+    ensures lost_as_it_goes_down { map_fault one_up (record (empty_step 2) { down = 0 ∷ []; lost = with_epoch 0 2 }) ≡ None }
+    ensures lost_ahead { map_fault one_up (record (empty_step 2) { down = 0 ∷ []; lost = with_epoch 0 3 }) ≡ Some Ahead }
 {}
 
 /// Of several faults the first in their order is told.
@@ -74,18 +74,18 @@ pub fn devices_that_stand()
 pub fn faults_come_in_order()
     ensures up_before_down { map_fault one_up_one_down (record (boot 3 (0 ∷ [])) { down = 1 ∷ [] }) ≡ Some AlreadyUp }
     ensures down_before_still_up { map_fault one_up_one_down (record (empty_step 3) { down = 1 ∷ []; gone = 0 ∷ [] }) ≡ Some AlreadyDown }
-    ensures still_up_before_back { map_fault one_up_one_down (record (empty_step 3) { gone = 0 ∷ []; up_thru = told 1 1 }) ≡ Some StillUp }
-    ensures back_before_ahead { map_fault one_up_one_down (record (empty_step 3) { up_thru = told 1 1 ++ told 0 4 }) ≡ Some UpThruBack }
-    ensures ahead_before_bad_pool { map_fault one_up_one_down (record (empty_step 3) { up_thru = told 0 4; pools = copies 1 17 ∷ [] }) ≡ Some Ahead }
+    ensures still_up_before_back { map_fault one_up_one_down (record (empty_step 3) { gone = 0 ∷ []; up_thru = with_epoch 1 1 }) ≡ Some StillUp }
+    ensures back_before_ahead { map_fault one_up_one_down (record (empty_step 3) { up_thru = with_epoch 1 1 ++ with_epoch 0 4 }) ≡ Some UpThruBack }
+    ensures ahead_before_bad_pool { map_fault one_up_one_down (record (empty_step 3) { up_thru = with_epoch 0 4; pools = copies 1 17 ∷ [] }) ≡ Some Ahead }
 {}
 
 /// up_thru never falls, and is never above the incremental's epoch.
 #[tactic(auto, unfolding(crate::specs::MapFault::map_fault))]
 pub fn up_thru_rises()
-    ensures ahead { map_fault one_up (record (empty_step 2) { up_thru = told 0 3 }) ≡ Some Ahead }
-    ensures at_its_epoch { map_fault one_up (record (empty_step 2) { up_thru = told 0 2 }) ≡ None }
-    ensures back { map_fault (boot 1 (0 ∷ []) ∷ record (empty_step 2) { up_thru = told 0 2 } ∷ []) (record (empty_step 3) { up_thru = told 0 1 }) ≡ Some UpThruBack }
-    ensures again { map_fault (boot 1 (0 ∷ []) ∷ record (empty_step 2) { up_thru = told 0 2 } ∷ []) (record (empty_step 3) { up_thru = told 0 2 }) ≡ None }
+    ensures ahead { map_fault one_up (record (empty_step 2) { up_thru = with_epoch 0 3 }) ≡ Some Ahead }
+    ensures at_its_epoch { map_fault one_up (record (empty_step 2) { up_thru = with_epoch 0 2 }) ≡ None }
+    ensures back { map_fault (boot 1 (0 ∷ []) ∷ record (empty_step 2) { up_thru = with_epoch 0 2 } ∷ []) (record (empty_step 3) { up_thru = with_epoch 0 1 }) ≡ Some UpThruBack }
+    ensures again { map_fault (boot 1 (0 ∷ []) ∷ record (empty_step 2) { up_thru = with_epoch 0 2 } ∷ []) (record (empty_step 3) { up_thru = with_epoch 0 2 }) ≡ None }
 {}
 
 /// A pool's sizes are 1 to 16 and 1 to the size, those of an erasure pool stay, and a pool is made once.

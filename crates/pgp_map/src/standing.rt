@@ -2,7 +2,7 @@
 
 ghost use Rattle.std.specs.Prelude.{◌≡◌, not, ◌||◌, ◌&&◌, nat_eq, nat_lt};
 ghost use Rattle.std.specs.List.{list_any};
-ghost use Rattle.pgp_map.specs.MapFault.{told_devices};
+ghost use Rattle.pgp_map.specs.MapFault.{devices_that_must_exist};
 ghost use Rattle.pgp_tables.specs.DeviceTable.{device_at};
 
 use super::searched_devices::SearchedDevices;
@@ -50,13 +50,13 @@ fn tells_unknown(
 }
 
 /// A device is named, of which something else is told than that it boots, that neither exists nor is one of those that boot.
-#[tactic(auto, using(crate::proofs::CheckLemmas::told_steps))]
+#[tactic(auto, using(crate::proofs::CheckLemmas::must_exist_steps))]
 pub(crate) fn has_unknown(
     table: &HashMap<OsdId, Device>,
     boots: &SearchedDevices,
     inc: &Incremental,
 ) -> bool
-    ensures { result ≡ list_any (λ osd. not ((device_at table.now osd).exists || list_any (nat_eq osd) boots.now.osds.now)) (told_devices inc.now) }
+    ensures { result ≡ list_any (λ osd. not ((device_at table.now osd).exists || list_any (nat_eq osd) boots.now.osds.now)) (devices_that_must_exist inc.now) }
 {
     let falls = any_unknown(table, boots, inc.down.as_slice());
     let goes = any_unknown(table, boots, inc.gone.as_slice());

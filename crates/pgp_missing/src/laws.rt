@@ -115,7 +115,7 @@ pub fn log_by_another_info()
 {}
 
 /// Of the entries with one number the last counts, and their order is free.
-pub fn entries_told_again()
+pub fn entries_reported_again()
     ensures last { let first = modify (codes "z") (at 1 3) in
         log_of (copy (at 1 1) (at 2 3)) (first ∷ two_writes) ≡ two_writes }
     ensures whole { let first = modify (codes "z") (at 1 3) in

@@ -13,7 +13,7 @@ use Rattle.pgp_prior.specs.Blocks.{is_up, is_down, matters, acting_where, down_o
 use Rattle.pgp_prior.specs.JudgedInterval.{IsKept, past_of, later_les, EachKept}
 use Rattle.pgp_prior.specs.KeptLists.{kept_status, kept_matters, kept_blocks, up_of, down_of}
 use Rattle.pgp_prior.specs.IndexOf.{HasEachPlace}
-use Rattle.pgp_prior.proofs.ToldLemmas.{told_or_gone-is}
+use Rattle.pgp_prior.proofs.KnownStatusLemmas.{status_or_gone-is}
 
 -- ---- a later epoch in which the group last began to serve
 
@@ -61,7 +61,7 @@ module _ (enough : List ℕ → Bool) (by_place : Bool) (status : ℕ → ℕ �
   acting-same : (test : Status → Bool) (kept : JudgedInterval) → IsKept enough by_place status les kept → acting_where test by_place (kept_status kept) kept.past ≡ acting_where test by_place status kept.past
   acting-same test kept is =
       filter-agree _ _ (members_of by_place kept.past.members.acting)
-      (λ m in'. ap test (told_or_gone-is kept.statuses.known.items m.osd _ (is.statuses_are m in')))
+      (λ m in'. ap test (status_or_gone-is kept.statuses.known.items m.osd _ (is.statuses_are m in')))
 
   pub ups-same : (past : List JudgedInterval) → EachKept enough by_place status les past → flat_map (up_of by_place) (filter (kept_matters les) past) ≡ flat_map (acting_where is_up by_place status) (filter (matters les) (map past_of past))
   ups-same past each =

@@ -14,11 +14,11 @@ use Rattle.pgp_prior.specs.declared.statuses.Statuses.{Statuses}
 use Rattle.pgp_prior.specs.Members.{members_of}
 use Rattle.pgp_prior.specs.Blocks.{blocks}
 use Rattle.pgp_prior.specs.Changes.{allows, rechecks, IsChangeIn}
-use Rattle.pgp_prior.specs.Told.{told, told_or_gone, renamed}
+use Rattle.pgp_prior.specs.KnownStatuses.{status_in, status_or_gone, renamed}
 use Rattle.pgp_prior.specs.JudgedInterval.{IsKept}
 use Rattle.pgp_prior.specs.KeptLists.{kept_status}
 use Rattle.pgp_prior.proofs.BetterLemmas.{no_worse-relieves, no_better-relieves, blocks-before, blocks-same}
-use Rattle.pgp_prior.proofs.ToldLemmas.{told-renamed, told-others, told_or_gone-is}
+use Rattle.pgp_prior.proofs.KnownStatusLemmas.{status-renamed, status-others, status_or_gone-is}
 
 -- more slots are never less
 abbrev pub Law : (List ℕ → Bool) → Type 0
@@ -36,19 +36,19 @@ module _ (by_place : Bool) (kind : Change) (osd : ℕ) (told' old new : ℕ → 
   ]
 
   -- what was known of each acting member, with the new status of the device
-  pub renamed-known : (known : List KnownStatus) → ((m : Member) → Contains (members_of by_place p.members.acting) m → told known m.osd ≡ Some (old m.osd p.first)) → (m : Member) → Contains (members_of by_place p.members.acting) m → told (map (renamed osd (told' osd p.first)) known) m.osd ≡ Some (new m.osd p.first)
+  pub renamed-known : (known : List KnownStatus) → ((m : Member) → Contains (members_of by_place p.members.acting) m → status_in known m.osd ≡ Some (old m.osd p.first)) → (m : Member) → Contains (members_of by_place p.members.acting) m → status_in (map (renamed osd (told' osd p.first)) known) m.osd ≡ Some (new m.osd p.first)
   renamed-known known were m in' = elim (cases_eq m.osd osd) [
-    | inl it ↦ rw it (told-renamed osd (told' osd p.first) (old osd p.first) known (rw it at (were m in')) ∙ ap Some (sym (is.of_it m in' it)))
-    | inr other ↦ told-others osd (told' osd p.first) known m.osd other ∙ were m in' ∙ ap Some (sym (is.of_others m in' other))
+    | inl it ↦ rw it (status-renamed osd (told' osd p.first) (old osd p.first) known (rw it at (were m in')) ∙ ap Some (sym (is.of_it m in' it)))
+    | inr other ↦ status-others osd (told' osd p.first) known m.osd other ∙ were m in' ∙ ap Some (sym (is.of_others m in' other))
   ]
 
 module _ (by_place : Bool) (enough : List ℕ → Bool) (monotone : Law enough) where
   -- an interval is kept once each status is known and it was judged by them
-  pub judged : (status : ℕ → ℕ → Status) (les : ℕ) (kept : JudgedInterval) → ((member : Member) → Contains (members_of by_place kept.past.members.acting) member → told kept.statuses.known.items member.osd ≡ Some (status member.osd kept.past.first)) → kept.blocks ≡ blocks enough by_place (kept_status kept) les kept.past → IsKept enough by_place status les kept
+  pub judged : (status : ℕ → ℕ → Status) (les : ℕ) (kept : JudgedInterval) → ((member : Member) → Contains (members_of by_place kept.past.members.acting) member → status_in kept.statuses.known.items member.osd ≡ Some (status member.osd kept.past.first)) → kept.blocks ≡ blocks enough by_place (kept_status kept) les kept.past → IsKept enough by_place status les kept
   judged status les kept known is =
       record {
         statuses_are = known;
-        blocks_is = is ∙ blocks-same by_place enough monotone les (kept_status kept) status kept.past (λ m in'. told_or_gone-is _ m.osd _ (known m in'));
+        blocks_is = is ∙ blocks-same by_place enough monotone les (kept_status kept) status kept.past (λ m in'. status_or_gone-is _ m.osd _ (known m in'));
       }
 
   -- where the change needs no new judgement, it stands
@@ -68,11 +68,11 @@ module _ (by_place : Bool) (enough : List ℕ → Bool) (monotone : Law enough) 
   pub renewed-kept : (kind : Change) (osd : ℕ) (told' old new : ℕ → ℕ → Status) (les : ℕ) (was : JudgedInterval) (statuses : Statuses) (blocked : Bool)
       → IsKept enough by_place old les was → IsChangeIn (allows kind) by_place osd told' old new was.past
       → statuses.known.items ≡ map (renamed osd (told' osd was.past.first)) was.statuses.known.items
-      → (blocked ≡ blocks enough by_place (λ osd first. told_or_gone statuses.known.items osd) les was.past) ⊎ (blocked ≡ was.blocks) × (rechecks kind was.blocks ≡ false)
+      → (blocked ≡ blocks enough by_place (λ osd first. status_or_gone statuses.known.items osd) les was.past) ⊎ (blocked ≡ was.blocks) × (rechecks kind was.blocks ≡ false)
       → IsKept enough by_place new les (record { past = was.past; statuses = statuses; blocks = blocked })
   renewed-kept kind osd told' old new les was statuses blocked before is items which =
-      let known : (m : Member) → Contains (members_of by_place was.past.members.acting) m → told statuses.known.items m.osd ≡ Some (new m.osd was.past.first) = λ m in'.
-      ap (λ known. told known m.osd) items ∙ renamed-known by_place kind osd told' old new was.past is was.statuses.known.items before.statuses_are m in' in
+      let known : (m : Member) → Contains (members_of by_place was.past.members.acting) m → status_in statuses.known.items m.osd ≡ Some (new m.osd was.past.first) = λ m in'.
+      ap (λ known. status_in known m.osd) items ∙ renamed-known by_place kind osd told' old new was.past is was.statuses.known.items before.statuses_are m in' in
       elim which [
         | inl anew ↦ judged new les (record { past = was.past; statuses = statuses; blocks = blocked }) known anew
         | inr stands ↦ record {

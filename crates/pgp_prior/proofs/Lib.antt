@@ -3,7 +3,7 @@ pub mod PriorLemmas
 pub mod SlotLemmas
 pub mod BetterLemmas
 pub mod MemberLemmas
-pub mod ToldLemmas
+pub mod KnownStatusLemmas
 pub mod KeptLemmas
 pub mod WayLemmas
 pub mod RaisedLemmas

@@ -6,11 +6,11 @@ use Rattle.pgp_sets.specs.declared.status.Status.{Status}
 use Rattle.pgp_prior.specs.declared.judged_interval.JudgedInterval.{JudgedInterval}
 use Rattle.pgp_prior.specs.Members.{members_of}
 use Rattle.pgp_prior.specs.Blocks.{matters, blocks}
-use Rattle.pgp_prior.specs.Told.{told}
+use Rattle.pgp_prior.specs.KnownStatuses.{status_in}
 
 -- the status of each acting member is known, and whether the interval blocks
 pub record IsKept (enough : List ℕ → Bool) (by_place : Bool) (status : ℕ → ℕ → Status) (les : ℕ) (kept : JudgedInterval) : Type 0 where
-  pub statuses_are : (member : Member) → Contains (members_of by_place kept.past.members.acting) member → told kept.statuses.known.items member.osd ≡ Some (status member.osd kept.past.first)
+  pub statuses_are : (member : Member) → Contains (members_of by_place kept.past.members.acting) member → status_in kept.statuses.known.items member.osd ≡ Some (status member.osd kept.past.first)
   pub blocks_is : kept.blocks ≡ blocks enough by_place status les kept.past
 
 -- both tell the same of the acting members of the interval

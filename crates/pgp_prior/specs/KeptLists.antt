@@ -4,11 +4,11 @@ use Rattle.pgp_ids.specs.declared.member.Member.{Member}
 use Rattle.pgp_prior.specs.declared.judged_interval.JudgedInterval.{JudgedInterval}
 use Rattle.pgp_sets.specs.declared.status.Status.{Status}
 use Rattle.pgp_prior.specs.Blocks.{is_up, matters, acting_where, down_osds}
-use Rattle.pgp_prior.specs.Told.{told_or_gone}
+use Rattle.pgp_prior.specs.KnownStatuses.{status_or_gone}
 
 -- the statuses that are kept with the interval
 abbrev pub kept_status : JudgedInterval → ℕ → ℕ → Status
-kept_status kept osd first = told_or_gone kept.statuses.known.items osd
+kept_status kept osd first = status_or_gone kept.statuses.known.items osd
 
 abbrev pub kept_matters : ℕ → JudgedInterval → Bool
 kept_matters les kept = matters les kept.past

@@ -4,7 +4,7 @@ pub mod Blocks
 pub mod Prior
 pub mod Better
 pub mod Changes
-pub mod Told
+pub mod KnownStatuses
 pub mod JudgedInterval
 pub mod KeptLists
 pub mod Places

@@ -1,5 +1,5 @@
 ghost use Rattle.std.specs.Prelude.{◌≡◌, Some, IfOk, map};
-ghost use Rattle.pgp_prior.specs.Told.{told, renamed, known_of};
+ghost use Rattle.pgp_prior.specs.KnownStatuses.{status_in, renamed, known_of};
 ghost use Rattle.pgp_prior.specs.Members.{members_of};
 
 use super::members::members_of;
@@ -50,7 +50,7 @@ impl Statuses {
 
     /// What is known of the device.
     fn find(&self, osd: OsdId) -> Option<Status>
-        ensures { result ≡ told self.now.known.items osd }
+        ensures { result ≡ status_in self.now.known.items osd }
     {
         for known in &self.known {
             if known.osd == osd {
@@ -74,9 +74,9 @@ fn rename(entries: &mut [KnownStatus], osd: OsdId, status: Status)
 
 /// The statuses of the devices of one interval, whichever first epoch is named. A device that doesn't stand in it is gone.
 impl StatusOf for Statuses {
-    ghost use Rattle.pgp_prior.specs.Told.{told_or_gone};
+    ghost use Rattle.pgp_prior.specs.KnownStatuses.{status_or_gone};
 
-    ghost status_of = { λ statuses osd _. told_or_gone statuses.known.items osd };
+    ghost status_of = { λ statuses osd _. status_or_gone statuses.known.items osd };
 
     fn status(&self, osd: OsdId, _first: Epoch) -> Status {
         match self.find(osd) {

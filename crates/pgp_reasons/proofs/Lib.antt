@@ -1,7 +1,7 @@
 pub mod ListLemmas
 pub mod GapLemmas
 pub mod LackingLemmas
-pub mod ToldLemmas
+pub mod ReportedLemmas
 pub mod BlockingLemmas
 pub mod ReasonsLemmas
 pub mod GapLawLemmas

@@ -39,7 +39,7 @@ use Rattle.pgp_reasons.specs.Smallest.{AreSome, smallest}
 use Rattle.pgp_reasons.specs.Ways.{is_relieved}
 use Rattle.pgp_reasons.specs.declared.ways.Way.{Way}
 use Rattle.pgp_reasons.specs.Reasons.{gaps, IsViewed, IsAskedOf}
-use Rattle.pgp_reasons.specs.Told.{infos_in}
+use Rattle.pgp_reasons.specs.Reported.{infos_in}
 
 -- ---- the group of a view
 

@@ -15,7 +15,7 @@ use Rattle.pgp_lists.proofs.Options.{if_none, none_is, some_is}
 use Rattle.pgp_lists.proofs.Taken.{taken-induction}
 use Rattle.pgp_lists.specs.Last.{last_where}
 use Rattle.pgp_map.specs.Checked.{are_checked, is_faultless}
-use Rattle.pgp_map.specs.Devices.{boots, exists, is_up, lost_at, told_epoch}
+use Rattle.pgp_map.specs.Devices.{boots, exists, is_up, lost_at, last_epoch_of}
 use Rattle.pgp_map.specs.Map.{epoch}
 use Rattle.pgp_map.specs.MapFault.{map_fault, then_with, has_ahead}
 use Rattle.pgp_prior.specs.Blocks.{blocks}
@@ -47,7 +47,7 @@ unfolding map_fault
 no_ahead incs inc fine = grind (arith, if_none)
 
 -- the epoch that was told last of a device is one that was told, or none was
-told-new : (old new : List DeviceEpoch) (osd : ℕ) → list_any (λ told. nat_eq told.osd osd) new ≡ true → (entry : DeviceEpoch) × (Contains new entry × (told_epoch (old ++ new) osd ≡ entry.epoch))
+told-new : (old new : List DeviceEpoch) (osd : ℕ) → list_any (λ told. nat_eq told.osd osd) new ≡ true → (entry : DeviceEpoch) × (Contains new entry × (last_epoch_of (old ++ new) osd ≡ entry.epoch))
 told-new old new osd some =
     let test : DeviceEpoch → Bool = λ told. nat_eq told.osd osd in
     let last = some_is (last_where test new) (last_where-some test new ∙ some) in (
@@ -58,11 +58,11 @@ told-new old new osd some =
       ),
     )
 
-told-old : (old new : List DeviceEpoch) (osd : ℕ) → list_any (λ told. nat_eq told.osd osd) new ≡ false → told_epoch (old ++ new) osd ≡ told_epoch old osd
+told-old : (old new : List DeviceEpoch) (osd : ℕ) → list_any (λ told. nat_eq told.osd osd) new ≡ false → last_epoch_of (old ++ new) osd ≡ last_epoch_of old osd
 told-old old new osd none = ap (λ (o : Option DeviceEpoch). option_map_or (λ told. told.epoch) o 0) (last_where-none (λ (told : DeviceEpoch). nat_eq told.osd osd) old new none)
 
-lost_at-snoc : (incs : List Incremental) (inc : Incremental) (osd : ℕ) → lost_at (then_with incs inc) osd ≡ told_epoch (flat_map (λ (i : Incremental). i.lost) incs ++ inc.lost) osd
-lost_at-snoc incs inc osd = ap (λ told. told_epoch told osd) (flat_map-push (λ (i : Incremental). i.lost) incs inc)
+lost_at-snoc : (incs : List Incremental) (inc : Incremental) (osd : ℕ) → lost_at (then_with incs inc) osd ≡ last_epoch_of (flat_map (λ (i : Incremental). i.lost) incs ++ inc.lost) osd
+lost_at-snoc incs inc osd = ap (λ told. last_epoch_of told osd) (flat_map-push (λ (i : Incremental). i.lost) incs inc)
 
 -- no device was given up for lost at a later epoch than the last
 lost_at-within : (osd : ℕ) (incs : List Incremental) → are_checked incs ≡ true → lost_at incs osd ≤ epoch incs
@@ -130,7 +130,7 @@ after-start osds incs inc osd first goes nothing = elim (cases_Bool (list_any (n
   | inr none ↦
       let before : List DeviceEpoch = flat_map (λ (i : Incremental). i.lost) incs in
       let lost : lost_at (then_with incs inc) osd ≡ lost_at incs osd =
-      lost_at-snoc incs inc osd ∙ ap (λ (new : List DeviceEpoch). told_epoch (before ++ new) osd) goes.lost ∙ ap (λ told. told_epoch told osd) (append-nil before) in
+      lost_at-snoc incs inc osd ∙ ap (λ (new : List DeviceEpoch). last_epoch_of (before ++ new) osd) goes.lost ∙ ap (λ told. last_epoch_of told osd) (append-nil before) in
       still incs inc osd first nothing (ap (list_any (nat_eq osd)) goes.up ∙ none) lost
       ∙ sym (ap (λ (b : Bool). cond b (becomes Start (status incs osd first)) (status incs osd first)) none)
 ]

@@ -25,8 +25,8 @@ last_within interval epochs = greatest (filter (is_in_interval interval) epochs)
 
 -- what is told of an interval, where the group was clean in these epochs: its acting devices that are down, how many slots
 -- those lack that are up or lost, and the last epoch within it in which the group was clean
-abbrev pub told_of : AnyCode → (ℕ → ℕ → Status) → List ℕ → Past → Blocking
-told_of code status cleans interval =
+abbrev pub blocking_by : AnyCode → (ℕ → ℕ → Status) → List ℕ → Past → Blocking
+blocking_by code status cleans interval =
     record {
       first = interval.first;
       last = interval.last;
@@ -39,4 +39,4 @@ told_of code status cleans interval =
 -- the intervals that block, in their order
 abbrev pub blocking_of : AnyCode → (ℕ → ℕ → Status) → List ℕ → ℕ → List Past → List Blocking
 blocking_of code status cleans les past =
-    map (told_of code status cleans) (filter (blocks (enough_of code) (is_by_place code) status les) past)
+    map (blocking_by code status cleans) (filter (blocks (enough_of code) (is_by_place code) status les) past)

@@ -1,7 +1,7 @@
 pub mod Lacking
 pub mod Blocking
 pub mod Gaps
-pub mod Told
+pub mod Reported
 pub mod Smallest
 pub mod Looks
 pub mod Short

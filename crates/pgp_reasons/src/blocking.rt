@@ -4,7 +4,7 @@ ghost use Rattle.std.specs.Prelude.{◌≡◌, nat_lt, max, map as mapped, unwra
 ghost use Rattle.pgp_lists.specs.Ordered.{IsAscending, ascending, with_items};
 ghost use Rattle.pgp_prior.specs.Blocks.{down_osds, is_down, is_settled, settled_slots};
 ghost use Rattle.pgp_sets.specs.Status.{held_status};
-ghost use Rattle.pgp_reasons.specs.Blocking.{blocking_of, is_in_interval, last_within, told_of};
+ghost use Rattle.pgp_reasons.specs.Blocking.{blocking_of, is_in_interval, last_within, blocking_by};
 
 use super::lacking::lacking;
 use pgp_code::{AnyCode, Recoverable};
@@ -42,7 +42,7 @@ impl Blocking {
         interval: &Past,
     ) -> Result<Blocking, AllocError>
         ensures { IfOk result (λ told. told
-            ≡ told_of code.now (held_status map.now) (mapped (λ info. info.last_epoch_clean) infos.now) interval.now) }
+            ≡ blocking_by code.now (held_status map.now) (mapped (λ info. info.last_epoch_clean) infos.now) interval.now) }
     {
         let by_place = code.by_place();
         let down = down_osds(alloc, by_place, map, interval)?;

@@ -11,7 +11,7 @@ ghost use Rattle.pgp_group.specs.Present.{IsPresent};
 ghost use Rattle.pgp_reasons.specs.Gaps.{runs_of, numbers_above, runs_lacked, gaps_in};
 
 use super::gap::Gap;
-use super::heard::told_entries;
+use super::heard::entries_in;
 use pgp_ids::{Entry, Epoch, Info, LogEntry, Member, PgId, Seq};
 use pgp_lists::insert_in_order;
 use pgp_map::OsdMap;
@@ -54,7 +54,7 @@ fn reported_numbers(
 {
     let mut numbers = Vec::new(alloc);
     for entry in entries {
-        add_numbers(&mut numbers, told_entries(entry, map, pg, first, member))?;
+        add_numbers(&mut numbers, entries_in(entry, map, pg, first, member))?;
     }
     Ok(Seq::from_vec(numbers))
 }

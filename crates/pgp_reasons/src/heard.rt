@@ -6,7 +6,7 @@ ghost use Rattle.pgp_info.specs.Heard.{with_info};
 ghost use Rattle.pgp_group.specs.GroupLog.{GroupLog, infos as told};
 ghost use Rattle.pgp_group.specs.Heard.{heard};
 ghost use Rattle.pgp_group.specs.Present.{IsPresent};
-ghost use Rattle.pgp_reasons.specs.Told.{infos_in, told_info, told_entries};
+ghost use Rattle.pgp_reasons.specs.Reported.{infos_in, info_in, entries_in};
 
 use pgp_group::is_counted;
 use pgp_ids::{Entry, Epoch, Info, LogEntry, Member, PgId, Seq};
@@ -24,7 +24,7 @@ pub(crate) fn infos_in(
 {
     let mut infos = Vec::new(alloc);
     for entry in entries {
-        if let Some(info) = told_info(entry, pg) {
+        if let Some(info) = info_in(entry, pg) {
             infos.push(info)?;
         }
     }
@@ -32,8 +32,8 @@ pub(crate) fn infos_in(
 }
 
 /// The entry's info, if it is an info of the group.
-fn told_info(entry: &Entry, pg: &PgId) -> Option<Info>
-    ensures { result ≡ told_info pg.now entry.now }
+fn info_in(entry: &Entry, pg: &PgId) -> Option<Info>
+    ensures { result ≡ info_in pg.now entry.now }
 {
     match entry {
         Entry::Info(info) => { if info.pg == *pg { Some(*info) } else { None } }
@@ -70,14 +70,14 @@ fn put(infos: &mut Vec<Info>, info: &Info) -> Result<(), AllocError>
 }
 
 /// The log entries that the entry reports of the group's member, if it is such a report and it counts.
-pub(crate) fn told_entries<'a>(
+pub(crate) fn entries_in<'a>(
     entry: &'a Entry,
     map: &OsdMap,
     pg: &PgId,
     first: Epoch,
     member: &Member,
 ) -> &'a [LogEntry]
-    ensures { (g : GroupLog) → IsPresent g map.now first → g.pg ≡ pg.now → result.now ≡ told_entries g member.now entry.now }
+    ensures { (g : GroupLog) → IsPresent g map.now first → g.pg ≡ pg.now → result.now ≡ entries_in g member.now entry.now }
 {
     match entry {
         Entry::Entries(report) => {

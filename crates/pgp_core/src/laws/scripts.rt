@@ -6,7 +6,7 @@ ghost use Rattle.pgp_ids.specs.declared.entry.Entry.{Entry as LogEntry};
 ghost use Rattle.pgp_core.specs.declared.want.Want.{Want};
 ghost use Rattle.pgp_core.specs.declared.want.Want.TheVariants.{Line, Entry};
 ghost use Rattle.pgp_core.specs.Script.{Answers, script_text, answer, answers, log_past, logs};
-ghost use Rattle.pgp_core.specs.Told.{AreTold};
+ghost use Rattle.pgp_core.specs.WrittenFor.{AreWrittenFor};
 ghost use Rattle.pgp_core.specs.Examples.{without_want, copies_line, copies_located, copies_asked};
 
 /// What is written for one line more depends on the log after the lines before it, and so does the log after that line.
@@ -22,11 +22,11 @@ pub fn answers_depend_on_the_lines_before()
 
 /// Where nobody else adds to the log, what is written for lines is the text of their answers, by the log before them: so what
 /// `RanToEnd` and `WasStopped` say of a run is said of this text.
-pub fn lines_are_told_their_answers()
-    ensures told { (before after : List LogEntry) (lines : List (List ℕ)) (out : List ℕ)
-        → AreTold true before lines after out → Answers before after lines out }
+pub fn answers_are_written_for_lines()
+    ensures written { (before after : List LogEntry) (lines : List (List ℕ)) (out : List ℕ)
+        → AreWrittenFor true before lines after out → Answers before after lines out }
     ensures answers { (before after : List LogEntry) (lines : List (List ℕ)) (out : List ℕ)
-        → Answers before after lines out → AreTold true before lines after out }
+        → Answers before after lines out → AreWrittenFor true before lines after out }
 {}
 
 /// An empty script has no answer, nor has a line of blanks.

@@ -1,7 +1,7 @@
 //! The first map and the next one, where it is known how the group lies by them.
 
 ghost use Rattle.std.specs.Prelude.{◌≡◌, ◌≢◌, ◌++◌, [], ◌∷◌, List, Some, None, true, option_map, OnOk, OnErr};
-ghost use Rattle.pgp_ids.specs.declared.entry.Entry.{Entry as Told};
+ghost use Rattle.pgp_ids.specs.declared.entry.Entry.{Entry as AnyEntry};
 ghost use Rattle.pgp_ids.specs.declared.entry.Entry.TheVariants as entry;
 ghost use Rattle.pgp_ids.specs.declared.incremental.Incremental.{Incremental};
 ghost use Rattle.pgp_ids.specs.declared.pg_id.PgId.{PgId as Id};
@@ -28,7 +28,7 @@ impl Group {
     /// it looks for none itself. It takes no memory.
     pub fn begin_members(alloc: Global, map: &OsdMap, pg: PgId, members: Membership) -> Self
         requires { HasGroup map.now pg }
-        ensures { (log : List Told) → AreNumbered (incs_of log) → IsMapOf (incs_of log) map.now
+        ensures { (log : List AnyEntry) → AreNumbered (incs_of log) → IsMapOf (incs_of log) map.now
             → has_group (incs_of log) pg ≡ true → made_at (incs_of log) pg.pool ≡ epoch_of (incs_of log)
             → IsSilent log pg → membership (incs_of log) pg ≡ Some members → IsGroupOf log pg result }
     {
@@ -49,7 +49,7 @@ impl Group {
 
     /// The acting primary by the last map, where the group has one.
     pub fn primary(&self) -> Option<OsdId>
-        ensures { (log : List Told) (pg : Id) → IsGroupOf log pg self.now → group_primary (incs_of log) pg ≡ Some result }
+        ensures { (log : List AnyEntry) (pg : Id) → IsGroupOf log pg self.now → group_primary (incs_of log) pg ≡ Some result }
     {
         let (_, current) = self.intervals.current();
         current.acting_primary
@@ -65,13 +65,13 @@ impl Group {
         facts: PrimaryFacts,
     ) -> Result<(), AllocError>
         requires { Follows self.old after.now }
-        ensures ok { OnOk result ((log : List Told) (pg : Id) (inc : Incremental)
+        ensures ok { OnOk result ((log : List AnyEntry) (pg : Id) (inc : Incremental)
             → IsGroupOf log pg self.old → map_fault (incs_of log) inc ≡ None
             → group_facts (incs_of log) pg ≡ Some facts → IsMapOf (then_with (incs_of log) inc) after.now
             → membership (then_with (incs_of log) inc) pg ≡ Some members
             → IsGroupOf (log ++ entry.Inc inc ∷ []) pg self.new) }
-        ensures err { OnErr result ((log : List Told) (pg : Id) → IsGroupOf log pg self.old → IsGroupOf log pg self.new) }
-        ensures wants { OnErr result ((log : List Told) (pg : Id) → IsGroupOf log pg self.old
+        ensures err { OnErr result ((log : List AnyEntry) (pg : Id) → IsGroupOf log pg self.old → IsGroupOf log pg self.new) }
+        ensures wants { OnErr result ((log : List AnyEntry) (pg : Id) → IsGroupOf log pg self.old
             → membership (incs_of log) pg ≢ Some members) }
     {
         let (_, current) = self.intervals.current();
@@ -91,7 +91,7 @@ impl Group {
     /// for no placement and takes no memory.
     pub fn stay(&mut self, epoch: Epoch)
         ensures is { self.new ≡ reaching epoch self.old }
-        ensures next { (log : List Told) (pg : Id) (inc : Incremental)
+        ensures next { (log : List AnyEntry) (pg : Id) (inc : Incremental)
             → IsGroupOf log pg self.old → map_fault (incs_of log) inc ≡ None → inc.epoch ≡ epoch
             → membership (then_with (incs_of log) inc) pg ≡ membership (incs_of log) pg
             → IsGroupOf (log ++ entry.Inc inc ∷ []) pg self.new }

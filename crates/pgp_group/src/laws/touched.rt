@@ -10,7 +10,7 @@ ghost use Rattle.pgp_map.specs.Map.{epoch};
 ghost use Rattle.pgp_sets.specs.Examples.{of_weight, copies_group, shards_group, stands_on, copies_placed, copies_on_three, take_down, resize};
 ghost use Rattle.pgp_group.specs.Entries.{incs_of};
 ghost use Rattle.pgp_group.specs.Examples.{in_slot, maps, known_up, give_up, two_shards_down, copy, infos_sent, entries_of, three_writes, until_serving};
-ghost use Rattle.pgp_group.specs.Touched.{is_touched, told_at};
+ghost use Rattle.pgp_group.specs.Touched.{is_touched, view_at};
 ghost use Rattle.pgp_group.specs.View.{scratch};
 
 use pgp_code::AnyCode;
@@ -24,7 +24,7 @@ pub fn untouched_groups_stay_as_they_were()
     ensures { (log : List Entry) (new : Entry) (pg : PgId) → are_checked (incs_of (log ++ new ∷ [])) ≡ true
         → is_touched log new pg ≡ false
         → scratch (log ++ new ∷ []) pg
-        ≡ option_map (told_at (length (log ++ new ∷ [])) (epoch (incs_of (log ++ new ∷ [])))) (scratch log pg) }
+        ≡ option_map (view_at (length (log ++ new ∷ [])) (epoch (incs_of (log ++ new ∷ [])))) (scratch log pg) }
 {
     checked_lists_grow_by_incrementals_without_fault();
     raw_sets_stay();

@@ -1,7 +1,7 @@
 //! The line of a part of a member's log.
 ghost use Rattle.std.specs.Prelude.{◌≡◌, Ok, Err, IfOk, IfErr, IfSome, codes};
 ghost use Rattle.pgp_lines.specs.Value.{view};
-ghost use Rattle.pgp_lines.specs.LineFault.{told};
+ghost use Rattle.pgp_lines.specs.LineFault.{line_fault_of};
 ghost use Rattle.pgp_lines.specs.Shapes.{required};
 ghost use Rattle.pgp_lines.specs.ReportParts.{change_in, log_entry_of, log_entry_in, log_in};
 ghost use Rattle.pgp_lines.specs.Reports.{entries_of};
@@ -39,7 +39,7 @@ pub(super) fn read_entries(
 ) -> Result<Report, TextFault>
     ensures ok { IfOk result (λ report. entries_of format (view value.now) ≡ Ok report) }
     ensures err { IfErr result
-        (λ fault. IfSome (told fault) (λ f. entries_of format (view value.now) ≡ Err f)) }
+        (λ fault. IfSome (line_fault_of fault) (λ f. entries_of format (view value.now) ≡ Err f)) }
 {
     let member = read_required(alloc, value, "from")?;
     let log = read_log(alloc, value)?;
@@ -58,7 +58,7 @@ pub(super) fn read_entries(
 fn read_log(alloc: Global, value: &Value<'_, '_>) -> Result<Seq<LogEntry>, TextFault>
     ensures ok { IfOk result (λ log. required (codes "log") log_in (view value.now) ≡ Ok log) }
     ensures err { IfErr result
-        (λ fault. IfSome (told fault) (λ f. required (codes "log") log_in (view value.now) ≡ Err f)) }
+        (λ fault. IfSome (line_fault_of fault) (λ f. required (codes "log") log_in (view value.now) ≡ Err f)) }
 {
     let found = match value.get("log") {
         Some(log) => read_list_within(alloc, &log, 1, MAX_LOG_ENTRIES)?,

@@ -1,7 +1,7 @@
 //! The values that a line must or may have.
 ghost use Rattle.std.specs.Prelude.{◌≡◌, Ok, Err, IfOk, IfErr, IfSome, OnOk};
 ghost use Rattle.pgp_lines.specs.Value.{view};
-ghost use Rattle.pgp_lines.specs.LineFault.{told};
+ghost use Rattle.pgp_lines.specs.LineFault.{line_fault_of};
 ghost use Rattle.pgp_lines.specs.Shapes.{field, required, optional};
 
 use super::faults::bad_field_fault;
@@ -32,7 +32,7 @@ pub(super) fn read_required<T: Shape + Drop>(
 ) -> Result<T, TextFault>
     ensures ok { IfOk result (λ found. required key.now T.shape (view value.now) ≡ Ok found) }
     ensures err { IfErr result
-        (λ fault. IfSome (told fault) (λ f. required key.now T.shape (view value.now) ≡ Err f)) }
+        (λ fault. IfSome (line_fault_of fault) (λ f. required key.now T.shape (view value.now) ≡ Err f)) }
 {
     match read_field(alloc, value, key)? {
         Some(found) => Ok(found),
@@ -50,7 +50,7 @@ pub(super) fn read_optional<T: Shape + Drop>(
 ) -> Result<(), TextFault>
     ensures ok { OnOk result
         (optional key.now T.shape place.old (view value.now) ≡ Ok place.new) }
-    ensures err { IfErr result (λ fault. IfSome (told fault)
+    ensures err { IfErr result (λ fault. IfSome (line_fault_of fault)
         (λ f. optional key.now T.shape place.old (view value.now) ≡ Err f)) }
 {
     let Some(field) = value.get(key) else {

@@ -1,7 +1,7 @@
 //! The versions of the format.
 ghost use Rattle.std.specs.Prelude.{◌≡◌, Ok, Err, IfOk, IfErr, IfSome};
 ghost use Rattle.pgp_lines.specs.Value.{view};
-ghost use Rattle.pgp_lines.specs.LineFault.{told};
+ghost use Rattle.pgp_lines.specs.LineFault.{line_fault_of};
 ghost use Rattle.pgp_lines.specs.Format.{format_of, read_in, judged, has_kind};
 
 use super::faults::bad_field_fault;
@@ -44,7 +44,7 @@ pub(super) fn read_in(format: Option<Format>) -> Format
 /// The version that a line names, or `BadField` of `v`.
 pub(super) fn judge_format(alloc: Global, format: Option<Format>) -> Result<Format, TextFault>
     ensures ok { IfOk result (λ known. judged format ≡ Ok known) }
-    ensures err { IfErr result (λ fault. IfSome (told fault) (λ f. judged format ≡ Err f)) }
+    ensures err { IfErr result (λ fault. IfSome (line_fault_of fault) (λ f. judged format ≡ Err f)) }
 {
     match format {
         Some(format) => Ok(format),

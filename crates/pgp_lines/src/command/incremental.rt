@@ -1,7 +1,7 @@
 //! The line of a map incremental.
 ghost use Rattle.std.specs.Prelude.{◌≡◌, Ok, Err, IfOk, IfErr, IfSome, OnOk};
 ghost use Rattle.pgp_lines.specs.Value.{view};
-ghost use Rattle.pgp_lines.specs.LineFault.{told};
+ghost use Rattle.pgp_lines.specs.LineFault.{line_fault_of};
 ghost use Rattle.pgp_lines.specs.Incremental.{no_change, with_down, with_pools, with_up, with_parts, inc_of};
 
 use super::fields::{read_optional, read_required};
@@ -19,7 +19,7 @@ pub(super) fn read_inc(
 ) -> Result<Incremental, TextFault>
     ensures ok { IfOk result (λ inc. inc_of format (view value.now) ≡ Ok inc) }
     ensures err { IfErr result
-        (λ fault. IfSome (told fault) (λ f. inc_of format (view value.now) ≡ Err f)) }
+        (λ fault. IfSome (line_fault_of fault) (λ f. inc_of format (view value.now) ≡ Err f)) }
 {
     let mut inc = no_change(alloc);
     put_parts(alloc, value, format, &mut inc)?;
@@ -55,7 +55,7 @@ fn put_parts(
 ) -> Result<(), TextFault>
     ensures ok { OnOk result (with_parts format inc.old (view value.now) ≡ Ok inc.new) }
     ensures err { IfErr result
-        (λ fault. IfSome (told fault) (λ f. with_parts format inc.old (view value.now) ≡ Err f)) }
+        (λ fault. IfSome (line_fault_of fault) (λ f. with_parts format inc.old (view value.now) ≡ Err f)) }
 {
     put_down(alloc, value, inc)?;
     put_pools(alloc, value, read_in(format), inc)?;
@@ -67,7 +67,7 @@ fn put_parts(
 fn put_down(alloc: Global, value: &Value<'_, '_>, inc: &mut Incremental) -> Result<(), TextFault>
     ensures ok { OnOk result (with_down inc.old (view value.now) ≡ Ok inc.new) }
     ensures err { IfErr result
-        (λ fault. IfSome (told fault) (λ f. with_down inc.old (view value.now) ≡ Err f)) }
+        (λ fault. IfSome (line_fault_of fault) (λ f. with_down inc.old (view value.now) ≡ Err f)) }
 {
     read_optional(alloc, value, "crush", &mut inc.crush)?;
     read_optional(alloc, value, "down", &mut inc.down)?;
@@ -86,7 +86,7 @@ fn put_pools(
 ) -> Result<(), TextFault>
     ensures ok { OnOk result (with_pools format inc.old (view value.now) ≡ Ok inc.new) }
     ensures err { IfErr result
-        (λ fault. IfSome (told fault) (λ f. with_pools format inc.old (view value.now) ≡ Err f)) }
+        (λ fault. IfSome (line_fault_of fault) (λ f. with_pools format inc.old (view value.now) ≡ Err f)) }
 {
     read_pools(alloc, value, format, &mut inc.pools)?;
     read_optional(alloc, value, "sizes", &mut inc.sizes)?;
@@ -103,7 +103,7 @@ fn put_up(
 ) -> Result<(), TextFault>
     ensures ok { OnOk result (with_up format inc.old (view value.now) ≡ Ok inc.new) }
     ensures err { IfErr result
-        (λ fault. IfSome (told fault) (λ f. with_up format inc.old (view value.now) ≡ Err f)) }
+        (λ fault. IfSome (line_fault_of fault) (λ f. with_up format inc.old (view value.now) ≡ Err f)) }
 {
     read_optional(alloc, value, "up", &mut inc.up)?;
     read_optional(alloc, value, "up_thru", &mut inc.up_thru)?;

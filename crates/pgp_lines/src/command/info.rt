@@ -1,7 +1,7 @@
 //! The line of a member's info.
 ghost use Rattle.std.specs.Prelude.{◌≡◌, Ok, Err, IfOk, IfErr, IfSome};
 ghost use Rattle.pgp_lines.specs.Value.{view};
-ghost use Rattle.pgp_lines.specs.LineFault.{told};
+ghost use Rattle.pgp_lines.specs.LineFault.{line_fault_of};
 ghost use Rattle.pgp_lines.specs.Reports.{last_epoch_clean_of, info_of};
 
 use super::fields::{read_optional, read_required};
@@ -19,7 +19,7 @@ pub(super) fn read_info(
 ) -> Result<Info, TextFault>
     ensures ok { IfOk result (λ info. info_of format (view value.now) ≡ Ok info) }
     ensures err { IfErr result
-        (λ fault. IfSome (told fault) (λ f. info_of format (view value.now) ≡ Err f)) }
+        (λ fault. IfSome (line_fault_of fault) (λ f. info_of format (view value.now) ≡ Err f)) }
 {
     let complete = read_required(alloc, value, "complete")?;
     let member = read_required(alloc, value, "from")?;
@@ -48,7 +48,7 @@ pub(super) fn read_info(
 fn read_clean(alloc: Global, value: &Value<'_, '_>) -> Result<Epoch, TextFault>
     ensures ok { IfOk result (λ clean. last_epoch_clean_of (view value.now) ≡ Ok clean) }
     ensures err { IfErr result
-        (λ fault. IfSome (told fault) (λ f. last_epoch_clean_of (view value.now) ≡ Err f)) }
+        (λ fault. IfSome (line_fault_of fault) (λ f. last_epoch_clean_of (view value.now) ≡ Err f)) }
 {
     let mut clean = Epoch::new(0);
     read_optional(alloc, value, "last_epoch_clean", &mut clean)?;

@@ -1,7 +1,7 @@
 //! The line that asks where an object lies.
 ghost use Rattle.std.specs.Prelude.{◌≡◌, Ok, Err, IfOk, IfErr, IfSome};
 ghost use Rattle.pgp_lines.specs.Value.{view};
-ghost use Rattle.pgp_lines.specs.LineFault.{told};
+ghost use Rattle.pgp_lines.specs.LineFault.{line_fault_of};
 ghost use Rattle.pgp_lines.specs.Ids.{pool_id_in};
 ghost use Rattle.pgp_lines.specs.ReportParts.{name_in};
 ghost use Rattle.pgp_lines.specs.Reports.{locate_of};
@@ -43,7 +43,7 @@ pub(super) fn read_locate(
 ) -> Result<(PoolId, ObjectName), TextFault>
     ensures ok { IfOk result (λ object. locate_of format (view value.now) ≡ Ok object) }
     ensures err { IfErr result
-        (λ fault. IfSome (told fault) (λ f. locate_of format (view value.now) ≡ Err f)) }
+        (λ fault. IfSome (line_fault_of fault) (λ f. locate_of format (view value.now) ≡ Err f)) }
 {
     let name = read_required(alloc, value, "name")?;
     let pool = read_required(alloc, value, "pool")?;

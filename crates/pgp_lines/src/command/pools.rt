@@ -2,7 +2,7 @@
 ghost use Rattle.std.specs.Prelude.{◌≡◌, map, Ok, Err, IfOk, IfErr, IfSome, OnOk, codes};
 ghost use Rattle.pgp_lines.specs.Value.{view};
 ghost use Rattle.std.specs.List.{list_all};
-ghost use Rattle.pgp_lines.specs.LineFault.{told};
+ghost use Rattle.pgp_lines.specs.LineFault.{line_fault_of};
 ghost use Rattle.pgp_lines.specs.Format.{has_kind};
 ghost use Rattle.pgp_lines.specs.Shapes.{optional};
 ghost use Rattle.pgp_lines.specs.Pools.{pool_keys, pool_kind_in, pool_in, pools_in, pool_sizes_in, temp_in};
@@ -60,7 +60,7 @@ pub(super) fn read_pools(
 ) -> Result<(), TextFault>
     ensures ok { OnOk result
         (optional (codes "pools") (pools_in format) pools.old (view value.now) ≡ Ok pools.new) }
-    ensures err { IfErr result (λ fault. IfSome (told fault)
+    ensures err { IfErr result (λ fault. IfSome (line_fault_of fault)
         (λ f. optional (codes "pools") (pools_in format) pools.old (view value.now) ≡ Err f)) }
 {
     let Some(list) = value.get("pools") else {

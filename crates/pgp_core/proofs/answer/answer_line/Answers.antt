@@ -1,6 +1,6 @@
 use Rattle.std.proofs.Common.{rules}
 use Rattle.std.proofs.lemmas.Result.{on_ok_weaker, IfErr-weaker}
-use Rattle.pgp_lines.specs.LineFault.{told}
+use Rattle.pgp_lines.specs.LineFault.{line_fault_of}
 use Rattle.pgp_core.proofs.LineLemmas.{lacks-of}
 use Rattle.pgp_core.proofs.ReplyLemmas.{puts-command, puts-fault}
 use Rattle.pgp_core.proofs.answer.answer_line.Goals as goal
@@ -14,7 +14,7 @@ returns-in-Ok-clause-lacks g c =
     IfErr-weaker c.answer_command.result _ _ (lacks-of g.A.Answerer.alone c.args.line.now c.in-Ok.command (search rules)) c.answer_command.ensures.lacks
 
 pub returns-in-Err-clause-ok : goal.returns-in-Err-clause-ok
-returns-in-Err-clause-ok g c = on_ok_weaker _ (puts-fault _ _ c.args.line.now (told c.in-Err.fault) _ _ c.in-Err.ensures.err) c.put_fault.ensures.ok
+returns-in-Err-clause-ok g c = on_ok_weaker _ (puts-fault _ _ c.args.line.now (line_fault_of c.in-Err.fault) _ _ c.in-Err.ensures.err) c.put_fault.ensures.ok
 
 pub returns-in-Err-clause-lacks : goal.returns-in-Err-clause-lacks
 returns-in-Err-clause-lacks g c = IfErr-weaker c.put_fault.result _ _ (λ why is some short. rw is (some, short)) c.put_fault.ensures.lacks

@@ -1,6 +1,6 @@
 use Rattle.std.proofs.Common.{[], ◌∷◌, ◌++◌, sym, ap, ◌∙◌, append_assoc}
 use Rattle.pgp_ids.specs.declared.history.EpochState.{EpochState}
-use Rattle.pgp_core.proofs.HistoryLemmas.{last-push, told-push}
+use Rattle.pgp_core.proofs.HistoryLemmas.{last-push, trace-push}
 use Rattle.pgp_core.proofs.history.history.Goals as goal
 
 pub loop-state-preserved : goal.loop-state-preserved
@@ -10,6 +10,6 @@ loop-state-preserved c =
       tt,
       tt,
       append_assoc c.loop-state.yielded (state ∷ []) _ ∙ ap (λ l. c.loop-state.yielded ++ l) (sym c.in-Some.ensures.steps.0) ∙ invariant.2,
-      rw (invariant.4, told-push c.args.code c.args.opening c.loop-state.yielded state) at (c.in_ok-step.ensures.ok _ [] invariant.3),
+      rw (invariant.4, trace-push c.args.code c.args.opening c.loop-state.yielded state) at (c.in_ok-step.ensures.ok _ [] invariant.3),
       ap (λ (s : EpochState). s.facts) (sym (last-push c.args.opening c.loop-state.yielded state)),
     )

@@ -1,5 +1,5 @@
 use Rattle.std.proofs.Common.{◌≡◌, ◌++◌, take, drop, map}
-use Rattle.pgp_prior.specs.Told.{renamed}
+use Rattle.pgp_prior.specs.KnownStatuses.{renamed}
 use Rattle.pgp_prior.proofs.statuses.rename.Given as goal
 
 -- the entries so far are renamed

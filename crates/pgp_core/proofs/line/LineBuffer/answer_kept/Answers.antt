@@ -1,7 +1,7 @@
 use Rattle.std.proofs.Common.{refl, sym, ◌∙◌}
 use Rattle.pgp_core.specs.declared.want.Want.TheVariants.{Line}
 use Rattle.pgp_core.proofs.LineLemmas.{puts-blank, is-long, is-short}
-use Rattle.pgp_core.proofs.ToldLemmas.{by-itself, told-long, told-want}
+use Rattle.pgp_core.proofs.WrittenLemmas.{by-itself, written-long, written-want}
 use Rattle.pgp_core.proofs.line.LineBuffer.answer_kept.Goals as goal
 
 pub returns-then-self-clause-put : goal.returns-then-self-clause-put
@@ -10,9 +10,9 @@ returns-then-self-clause-put g c line holds = puts-blank g.A.Answerer.alone _ c.
 pub returns-in-TooLong-clause-put : goal.returns-in-TooLong-clause-put
 returns-in-TooLong-clause-put g c line holds =
     rw c.long_line.ensures
-    (told-long g.A.Answerer.alone _ _ line _ _ (is-long c.args.self.now c.in-TooLong.is c.if-self.false line holds) (by-itself g.A.Answerer.alone _) refl)
+    (written-long g.A.Answerer.alone _ _ line _ _ (is-long c.args.self.now c.in-TooLong.is c.if-self.false line holds) (by-itself g.A.Answerer.alone _) refl)
 
 pub returns-in-NoMemory-clause-put : goal.returns-in-NoMemory-clause-put
 returns-in-NoMemory-clause-put g c line holds =
     rw c.want_line.ensures
-    (told-want g.A.Answerer.alone _ _ line _ _ Line (is-short c.args.self.now c.in-NoMemory.length c.in-NoMemory.is c.if-self.false line holds) (by-itself g.A.Answerer.alone _) refl)
+    (written-want g.A.Answerer.alone _ _ line _ _ Line (is-short c.args.self.now c.in-NoMemory.length c.in-NoMemory.is c.if-self.false line holds) (by-itself g.A.Answerer.alone _) refl)

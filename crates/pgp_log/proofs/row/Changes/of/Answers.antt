@@ -17,7 +17,7 @@ returns c =
       weighed = rw c.as_slice-4.ensures at c.add_weighed.ensures.there;
       devices = λ osd there.
           either-in _ _ _ _ (either-in _ _ _ _
-          (λ osd is. c.add_weighed.ensures.still osd (turned osd is)) c.add_told.ensures.still
-          (rw c.as_slice-5.ensures at c.add_told.ensures.there)) c.add_told-2.ensures.still
-          (rw c.as_slice-6.ensures at c.add_told-2.ensures.there) osd (changed-parts (nat_eq osd) inc ∙ there);
+          (λ osd is. c.add_weighed.ensures.still osd (turned osd is)) c.add_dated.ensures.still
+          (rw c.as_slice-5.ensures at c.add_dated.ensures.there)) c.add_dated-2.ensures.still
+          (rw c.as_slice-6.ensures at c.add_dated-2.ensures.there) osd (changed-parts (nat_eq osd) inc ∙ there);
     }

@@ -1,4 +1,4 @@
-use Rattle.pgp_log.proofs.Common.{◌≡◌, List, Some, length, map, arith, sym, ap, ap₂, ◌∙◌, arc_value, length-map, Entry, incs_of, told_at, AreOwnGroupsOf, epoch_of}
+use Rattle.pgp_log.proofs.Common.{◌≡◌, List, Some, length, map, arith, sym, ap, ap₂, ◌∙◌, arc_value, length-map, Entry, incs_of, view_at, AreOwnGroupsOf, epoch_of}
 use Rattle.pgp_log.proofs.KeptBesideLemmas.{groups-there}
 use Rattle.pgp_log.proofs.shard.ShardState.copy.Goals as goal
 
@@ -10,4 +10,4 @@ returns-clause-ok c =
     let epoch : c.epoch.result ≡ epoch_of front = c.epoch.ensures (incs_of front) is.map_is in
     rw (← c.self.view_is)
     (c.in-Some-view_of.ensures.view c.self.inside.owner front is
-    ∙ ap Some (ap₂ (λ n e. told_at n e c.in-Some-view_of.view.now) (sym count) (sym epoch) ∙ sym c.in_ok-copy.ensures))
+    ∙ ap Some (ap₂ (λ n e. view_at n e c.in-Some-view_of.view.now) (sym count) (sym epoch) ∙ sym c.in_ok-copy.ensures))

@@ -1,4 +1,4 @@
-use Rattle.pgp_log.proofs.Common.{◌≡◌, List, Option, false, true, length, map, option_map, sym, subst, arc_value, option_copied, some-weaker, Entry, told_at, scratch, AreOwnGroupsOf, owns, shard_with, epoch_of, Shard, is_own, Groups}
+use Rattle.pgp_log.proofs.Common.{◌≡◌, List, Option, false, true, length, map, option_map, sym, subst, arc_value, option_copied, some-weaker, Entry, view_at, scratch, AreOwnGroupsOf, owns, shard_with, epoch_of, Shard, is_own, Groups}
 use Rattle.pgp_log.specs.Shard.{is_marked}
 use Rattle.pgp_log.proofs.OwnGroupsLemmas.{view-told}
 use Rattle.pgp_log.proofs.KeptBesideLemmas.{groups-there}
@@ -11,7 +11,7 @@ returns-in-Some-clause-is c =
     let pg = c.args.pg.now in
     let is : AreOwnGroupsOf owner front c.in-Some.groups = groups-there owner front c.self.inside.groups c.in-Some.groups c.self.invariant c.in-Some.is in
     let own : owns owner pg ≡ true = subst (λ (s : Shard). is_own s.shard s.shards pg ≡ true) (sym c.self.view_is) c.requires in
-    subst (λ (s : Shard). is_marked s pg ≡ false → scratch s.front pg ≡ option_map (told_at (length s.front) (epoch_of s.front)) (option_copied c.view_of.result)) c.self.view_is
+    subst (λ (s : Shard). is_marked s pg ≡ false → scratch s.front pg ≡ option_map (view_at (length s.front) (epoch_of s.front)) (option_copied c.view_of.result)) c.self.view_is
     (λ unmarked. view-told front c.in-Some.groups pg c.view_of.result (c.view_of.ensures.there owner front is own)
     (some-weaker c.view_of.result _ _ (λ view given. given owner front is) c.view_of.ensures.view)
     (subst (λ (o : Option Groups). is_marked (shard_with owner front o) pg ≡ false) c.in-Some.is unmarked))

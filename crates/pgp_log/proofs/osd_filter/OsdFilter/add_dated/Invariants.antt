@@ -1,5 +1,5 @@
 use Rattle.pgp_log.proofs.Common.{◌≡◌, ℕ, true, nat_eq, take, list_any, Covers, CoversStill}
-use Rattle.pgp_log.proofs.osd_filter.OsdFilter.add_told.Given as goal
+use Rattle.pgp_log.proofs.osd_filter.OsdFilter.add_dated.Given as goal
 
 abbrev pub invariant-loop-told : goal.invariant-loop-told
 invariant-loop-told l = record {

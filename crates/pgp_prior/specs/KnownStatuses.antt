@@ -6,12 +6,12 @@ use Rattle.pgp_sets.specs.declared.status.Status.TheVariants.{Gone}
 use Rattle.pgp_prior.specs.declared.statuses.KnownStatus.{KnownStatus}
 
 -- what the first entry of the device says
-abbrev pub told : List KnownStatus → ℕ → Option Status
-told [] osd = None
-told (known ∷ rest) osd = if nat_eq known.osd osd then Some known.status else told rest osd
+abbrev pub status_in : List KnownStatus → ℕ → Option Status
+status_in [] osd = None
+status_in (known ∷ rest) osd = if nat_eq known.osd osd then Some known.status else status_in rest osd
 
-abbrev pub told_or_gone : List KnownStatus → ℕ → Status
-told_or_gone known osd = unwrap_or (told known osd) Gone
+abbrev pub status_or_gone : List KnownStatus → ℕ → Status
+status_or_gone known osd = unwrap_or (status_in known osd) Gone
 
 -- the entry of a member of an interval that began at this epoch
 abbrev pub known_of : (ℕ → ℕ → Status) → ℕ → Member → KnownStatus

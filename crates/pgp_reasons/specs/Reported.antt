@@ -17,16 +17,16 @@ abbrev pub infos_in : PgId → List Entry → List Info
 infos_in pg log = filter (λ info. is_same_group info.pg pg) (infos_of log)
 
 -- the group's info that the entry is
-abbrev pub told_info : PgId → Entry → Option Info
-told_info pg (entry.Inc inc) = None
-told_info pg (entry.Info info) = if is_same_group info.pg pg then Some info else None
-told_info pg (entry.Entries report) = None
-told_info pg entry.Close = None
+abbrev pub info_in : PgId → Entry → Option Info
+info_in pg (entry.Inc inc) = None
+info_in pg (entry.Info info) = if is_same_group info.pg pg then Some info else None
+info_in pg (entry.Entries report) = None
+info_in pg entry.Close = None
 
 -- the log entries of the group's member that the entry reports, where it is a report that counts
-abbrev pub told_entries : GroupLog → Member → Entry → List LogEntry
-told_entries g member (entry.Inc inc) = []
-told_entries g member (entry.Info info) = []
-told_entries g member (entry.Entries report) =
+abbrev pub entries_in : GroupLog → Member → Entry → List LogEntry
+entries_in g member (entry.Inc inc) = []
+entries_in g member (entry.Info info) = []
+entries_in g member (entry.Entries report) =
     if is_same_group report.pg g.pg && (is_same_member report.member member && is_counted g report.member report.stamp) then report.log else []
-told_entries g member entry.Close = []
+entries_in g member entry.Close = []

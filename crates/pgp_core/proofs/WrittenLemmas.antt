@@ -6,7 +6,7 @@ use Rattle.pgp_core.specs.Answer.{long_text}
 use Rattle.pgp_core.specs.Answerer.{MayAnswerBy}
 use Rattle.pgp_core.specs.Lines.{is_blank}
 use Rattle.pgp_core.specs.Script.{Answers, MayMeet, MayMeetEach, answer, answers, log_past, logs, longest_line, want_text}
-use Rattle.pgp_core.specs.Told.{IsTold, PutsLine, AreTold}
+use Rattle.pgp_core.specs.WrittenFor.{IsWrittenFor, PutsLine, AreWrittenFor}
 use Rattle.pgp_core.specs.declared.want.Want.{Want}
 use Rattle.pgp_core.proofs.ScriptLemmas.{answers-cons}
 
@@ -15,18 +15,18 @@ by-itself true log = refl
 by-itself false log = record { rest = []; whole = sym (append-nil log) }
 
 -- a line that was out of memory has its constant text
-pub told-want : (alone : Bool) (before after : List Entry) (line old new : List ℕ) (want : Want) → MayMeet (Some want) line → MayAnswerBy alone before after → new ≡ old
+pub written-want : (alone : Bool) (before after : List Entry) (line old new : List ℕ) (want : Want) → MayMeet (Some want) line → MayAnswerBy alone before after → new ≡ old
     → PutsLine alone before after line old new (want_text want ++ 10 ∷ [])
-told-want alone before after line old new want meets may same = record {
+written-want alone before after line old new want meets may same = record {
   text = want_text want ++ 10 ∷ [];
   told = record { by = after; may = may; met = Some want; meets = meets; text_is = refl; log_is = refl };
   whole = ap (λ l. l ++ (want_text want ++ 10 ∷ [])) same;
 }
 
 -- a line that is too long has its constant text
-pub told-long : (alone : Bool) (before after : List Entry) (line old new : List ℕ) → (is_blank line ≡ false) × (longest_line < length line) → MayAnswerBy alone before after → new ≡ old
+pub written-long : (alone : Bool) (before after : List Entry) (line old new : List ℕ) → (is_blank line ≡ false) × (longest_line < length line) → MayAnswerBy alone before after → new ≡ old
     → PutsLine alone before after line old new (long_text ++ 10 ∷ [])
-told-long alone before after line old new is may same =
+written-long alone before after line old new is may same =
     let long : nat_lt longest_line (length line) ≡ true = let more : longest_line < length line = is.1 in grind (arith, nat_tests) in
     record {
       text = long_text ++ 10 ∷ [];
@@ -34,16 +34,16 @@ told-long alone before after line old new is may same =
       whole = ap (λ l. l ++ (long_text ++ 10 ∷ [])) same;
     }
 
-pub told-push : (alone : Bool) (before mid after : List Entry) (lines : List (List ℕ)) (line out text : List ℕ)
-    → AreTold alone before lines mid out → IsTold alone mid after line text → AreTold alone before (lines ++ line ∷ []) after (out ++ text)
-told-push alone before mid after [] line out text told last =
-    (record { log = after; first = text; others = [] }, (subst (λ l. IsTold alone l after line text) told.0 last, (refl, refl), ap (λ l. l ++ text) told.1 ∙ sym (append-nil text)))
-told-push alone before mid after (first ∷ lines) line out text told last =
+pub written-push : (alone : Bool) (before mid after : List Entry) (lines : List (List ℕ)) (line out text : List ℕ)
+    → AreWrittenFor alone before lines mid out → IsWrittenFor alone mid after line text → AreWrittenFor alone before (lines ++ line ∷ []) after (out ++ text)
+written-push alone before mid after [] line out text told last =
+    (record { log = after; first = text; others = [] }, (subst (λ l. IsWrittenFor alone l after line text) told.0 last, (refl, refl), ap (λ l. l ++ text) told.1 ∙ sym (append-nil text)))
+written-push alone before mid after (first ∷ lines) line out text told last =
     let turn = told.0 in (
       record { log = turn.log; first = turn.first; others = turn.others ++ text },
       (
         told.1.0,
-        told-push alone turn.log mid after lines line turn.others text told.1.1 last,
+        written-push alone turn.log mid after lines line turn.others text told.1.1 last,
         ap (λ l. l ++ text) told.1.2 ∙ append_assoc turn.first turn.others text,
       ),
     )
@@ -51,12 +51,12 @@ told-push alone before mid after (first ∷ lines) line out text told last =
 -- ---- where nobody else adds to the log
 
 -- what is written for lines is their answers
-pub answers-told : (before after : List Entry) (lines : List (List ℕ)) (out : List ℕ) → AreTold true before lines after out → Answers before after lines out
-answers-told before after [] out told = record { met = []; each = refl; may = tt; text = told.1; log = told.0 }
-answers-told before after (line ∷ lines) out told =
+pub answers-written : (before after : List Entry) (lines : List (List ℕ)) (out : List ℕ) → AreWrittenFor true before lines after out → Answers before after lines out
+answers-written before after [] out told = record { met = []; each = refl; may = tt; text = told.1; log = told.0 }
+answers-written before after (line ∷ lines) out told =
     let turn = told.0 in
-    let head : IsTold true before turn.log line turn.first = told.1.0 in
-    let rest = answers-told turn.log after lines turn.others told.1.1 in
+    let head : IsWrittenFor true before turn.log line turn.first = told.1.0 in
+    let rest = answers-written turn.log after lines turn.others told.1.1 in
     let first : turn.first ≡ answer before head.met line = head.text_is ∙ ap (λ l. answer l head.met line) head.may in
     let later : turn.log ≡ log_past before head.met line = head.log_is ∙ ap (λ l. log_past l head.met line) head.may in
     record {
@@ -68,18 +68,18 @@ answers-told before after (line ∷ lines) out told =
     }
 
 -- their answers are what is written for them
-pub told-answers : (before : List Entry) (met : List (Option Want)) (lines : List (List ℕ)) → length met ≡ length lines → MayMeetEach met lines
-    → AreTold true before lines (logs before met lines) (answers before met lines)
-told-answers before [] [] each may = (refl, refl)
-told-answers before [] (line ∷ lines) each may = absurd (omega arith)
-told-answers before (m ∷ met) [] each may = absurd may
-told-answers before (m ∷ met) (line ∷ lines) each may =
+pub written-answers : (before : List Entry) (met : List (Option Want)) (lines : List (List ℕ)) → length met ≡ length lines → MayMeetEach met lines
+    → AreWrittenFor true before lines (logs before met lines) (answers before met lines)
+written-answers before [] [] each may = (refl, refl)
+written-answers before [] (line ∷ lines) each may = absurd (omega arith)
+written-answers before (m ∷ met) [] each may = absurd may
+written-answers before (m ∷ met) (line ∷ lines) each may =
     let tails : length met ≡ length lines = omega arith in
     let past = log_past before m line in (
       record { log = past; first = answer before m line; others = answers past met lines },
       (
         record { by = before; may = refl; met = m; meets = may.0; text_is = refl; log_is = refl },
-        told-answers past met lines tails may.1,
+        written-answers past met lines tails may.1,
         answers-cons before m met line lines,
       ),
     )

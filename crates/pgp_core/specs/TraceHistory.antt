@@ -9,8 +9,8 @@ abbrev pub last_state : EpochState → List EpochState → EpochState
 last_state opening others = slice_index_or (opening ∷ others) (length others) opening
 
 -- The history of these epochs, the first of which is epoch 1: the last one is current, the others are over.
-abbrev pub told_history : AnyCode → EpochState → List EpochState → History AnyCode
-told_history code opening others = record {
+abbrev pub trace_history : AnyCode → EpochState → List EpochState → History AnyCode
+trace_history code opening others = record {
   code = code;
   first = 1;
   lived = take (length others) (opening ∷ others);

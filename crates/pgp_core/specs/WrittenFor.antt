@@ -32,7 +32,7 @@ pub record PutsText (alone : Bool) (before after : List Entry) (line old new : L
   pub log : after ≡ line_log by line
 
 -- this text is written for the line, and the log goes from `before` to `after`
-pub record IsTold (alone : Bool) (before after : List Entry) (line text : List ℕ) : Type 0 where
+pub record IsWrittenFor (alone : Bool) (before after : List Entry) (line text : List ℕ) : Type 0 where
   pub by : List Entry
   pub may : MayAnswerBy alone before by
   pub met : Option Want
@@ -43,7 +43,7 @@ pub record IsTold (alone : Bool) (before after : List Entry) (line text : List �
 -- what is written for the line was put behind the text, except for `rest`, and the log goes from `before` to `after`
 pub record PutsLine (alone : Bool) (before after : List Entry) (line old new rest : List ℕ) : Type 0 where
   pub text : List ℕ
-  pub told : IsTold alone before after line text
+  pub told : IsWrittenFor alone before after line text
   pub whole : new ++ rest ≡ old ++ text
 
 -- nobody answers the line any more: it was read as a command, and others add to the log too
@@ -70,7 +70,7 @@ pub record Turn : Type 0 where
   pub others : List ℕ
 
 -- this text is written for the lines, one after the other, and the log goes from `before` to `after`
-abbrev pub AreTold : (alone : Bool) (before : List Entry) (lines : List (List ℕ)) (after : List Entry) (text : List ℕ) → Type 0
-AreTold alone before [] after text = (after ≡ before) × (text ≡ [])
-AreTold alone before (line ∷ lines) after text =
-    (turn : Turn) × (IsTold alone before turn.log line turn.first × AreTold alone turn.log lines after turn.others × (text ≡ turn.first ++ turn.others))
+abbrev pub AreWrittenFor : (alone : Bool) (before : List Entry) (lines : List (List ℕ)) (after : List Entry) (text : List ℕ) → Type 0
+AreWrittenFor alone before [] after text = (after ≡ before) × (text ≡ [])
+AreWrittenFor alone before (line ∷ lines) after text =
+    (turn : Turn) × (IsWrittenFor alone before turn.log line turn.first × AreWrittenFor alone turn.log lines after turn.others × (text ≡ turn.first ++ turn.others))

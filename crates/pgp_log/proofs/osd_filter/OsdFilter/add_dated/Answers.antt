@@ -1,6 +1,6 @@
 use Rattle.pgp_log.proofs.Common.{◌∙◌, nat_eq, sym, ap, subst, arith, eqb-true, DeviceEpoch, Covers}
 use Rattle.pgp_log.proofs.OsdFilterLemmas.{covers-all, covers-more}
-use Rattle.pgp_log.proofs.osd_filter.OsdFilter.add_told.Goals as goal
+use Rattle.pgp_log.proofs.osd_filter.OsdFilter.add_dated.Goals as goal
 
 pub loop-told-preserved : goal.loop-told-preserved
 loop-told-preserved c =

@@ -14,17 +14,17 @@ use Rattle.pgp_map.specs.Pools.{is_same_group}
 use Rattle.pgp_group.specs.Entries.{reports_of}
 use Rattle.pgp_group.specs.GroupLog.{GroupLog}
 use Rattle.pgp_group.specs.Heard.{is_counted, reported}
-use Rattle.pgp_reasons.specs.Told.{infos_in, told_info, told_entries}
+use Rattle.pgp_reasons.specs.Reported.{infos_in, info_in, entries_in}
 
-pub told-infos : (pg : PgId) (log : List Entry) → infos_in pg log ≡ filter_map (told_info pg) log
-told-infos pg [] = refl
-told-infos pg (entry.Inc inc ∷ log) = told-infos pg log
-told-infos pg (entry.Info info ∷ log) = elim (cases_Bool (is_same_group info.pg pg)) [
-  | inl same ↦ rw same (ap (λ (infos : List Info). info ∷ infos) (told-infos pg log))
-  | inr other ↦ rw other (told-infos pg log)
+pub reported-infos : (pg : PgId) (log : List Entry) → infos_in pg log ≡ filter_map (info_in pg) log
+reported-infos pg [] = refl
+reported-infos pg (entry.Inc inc ∷ log) = reported-infos pg log
+reported-infos pg (entry.Info info ∷ log) = elim (cases_Bool (is_same_group info.pg pg)) [
+  | inl same ↦ rw same (ap (λ (infos : List Info). info ∷ infos) (reported-infos pg log))
+  | inr other ↦ rw other (reported-infos pg log)
 ]
-told-infos pg (entry.Entries report ∷ log) = told-infos pg log
-told-infos pg (entry.Close ∷ log) = told-infos pg log
+reported-infos pg (entry.Entries report ∷ log) = reported-infos pg log
+reported-infos pg (entry.Close ∷ log) = reported-infos pg log
 
 -- the log entries of a member that these reports of a log tell
 abbrev reported_of : GroupLog → Member → List Report → List LogEntry
@@ -33,12 +33,12 @@ reported_of g member reports =
     (filter (λ report. is_same_member report.member member && is_counted g report.member report.stamp)
     (filter (λ report. is_same_group report.pg g.pg) reports))
 
-told-all : (g : GroupLog) (member : Member) (log : List Entry) → reported_of g member (reports_of log) ≡ flat_map (told_entries g member) log
-told-all g member [] = refl
-told-all g member (entry.Inc inc ∷ log) = told-all g member log
-told-all g member (entry.Info info ∷ log) = told-all g member log
-told-all g member (entry.Entries report ∷ log) =
-    let rest : reported_of g member (reports_of log) ≡ flat_map (told_entries g member) log = told-all g member log in
+reported-all : (g : GroupLog) (member : Member) (log : List Entry) → reported_of g member (reports_of log) ≡ flat_map (entries_in g member) log
+reported-all g member [] = refl
+reported-all g member (entry.Inc inc ∷ log) = reported-all g member log
+reported-all g member (entry.Info info ∷ log) = reported-all g member log
+reported-all g member (entry.Entries report ∷ log) =
+    let rest : reported_of g member (reports_of log) ≡ flat_map (entries_in g member) log = reported-all g member log in
     elim (cases_Bool (is_same_group report.pg g.pg)) [
       | inl ours ↦ elim (cases_Bool (is_same_member report.member member && is_counted g report.member report.stamp)) [
         | inl counts ↦ rw (ours, counts) (ap (λ (more : List LogEntry). report.log ++ more) rest)
@@ -46,7 +46,7 @@ told-all g member (entry.Entries report ∷ log) =
       ]
       | inr other ↦ rw other rest
     ]
-told-all g member (entry.Close ∷ log) = told-all g member log
+reported-all g member (entry.Close ∷ log) = reported-all g member log
 
-pub told-reported : (g : GroupLog) (member : Member) → reported g member ≡ flat_map (told_entries g member) g.log
-told-reported g member = told-all g member g.log
+pub reported-entries : (g : GroupLog) (member : Member) → reported g member ≡ flat_map (entries_in g member) g.log
+reported-entries g member = reported-all g member g.log
