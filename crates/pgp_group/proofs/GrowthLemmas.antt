@@ -1,5 +1,5 @@
 -- How a list of incrementals is numbered, and how the history of a group grows by an incremental that isn't refused.
-use Rattle.pgp_group.proofs.Common.{◌≡◌, ℕ, suc, ◌+◌, ◌-◌, ◌<◌, ◌≤◌, List, [], ◌∷◌, ◌++◌, Option, Some, None, is_some, Bool, true, false, nat_eq, nat_lt, nat_le, length, map, refl, ap, ap₂, sym, ◌∙◌, subst, arith, drop, if◌then◌else◌, Contains, flat_map, last_or, list_any, range_with_len, slice_index_or, option_map, option_map_or, eqb-true, nat_tests, length_push, map_push, filter_map-append, AnyCode, code_of, Incremental, PgId, PoolSizes, PoolSpec, History, begun, stepped, are_checked, is_faultless, last_where, epoch, up_to, map_fault, then_with, has_epoch_gap, pool, with_sizes, has_group, pool_membership, membership, flat_map-push, filter-contains, makes, made_at, AreNumbered, primary_facts, state_with, state_at_epoch, states_from, history_of, group_history, taken-induction, taken-front, taken-last, none_is}
+use Rattle.pgp_group.proofs.Common.{◌≡◌, ℕ, suc, ◌+◌, ◌<◌, ◌≤◌, List, [], ◌∷◌, ◌++◌, Option, Some, None, is_some, Bool, true, false, nat_eq, nat_lt, nat_le, length, map, refl, ap, ap₂, sym, ◌∙◌, subst, arith, drop, if◌then◌else◌, Contains, flat_map, last_or, list_any, range_with_len, slice_index_or, option_map, option_map_or, eqb-true, nat_tests, length_push, map_push, filter_map-append, AnyCode, code_of, Incremental, PgId, PoolSizes, PoolSpec, History, begun, stepped, are_checked, is_faultless, last_where, epoch, up_to, map_fault, then_with, has_epoch_gap, pool, with_sizes, has_group, pool_membership, membership, flat_map-push, filter-contains, makes, made_at, AreNumbered, primary_facts, state_with, state_at_epoch, states_from, history_of, group_history, taken-induction, taken-front, taken-last, none_is}
 use Rattle.pgp_map.proofs.FaultLemmas.{no_fault}
 pub use Rattle.pgp_map.proofs.MapLemmas.{epoch-push as epoch-snoc}
 use Rattle.pgp_lists.proofs.Ranges.{range_with_len-suc}

@@ -1,5 +1,5 @@
 -- What is so of each interval since it opened.
-use Rattle.pgp_group.proofs.Common.{◌≡◌, ◌≢◌, ℕ, zero, suc, ◌+◌, ◌<◌, ◌≤◌, List, [], ◌∷◌, Option, Some, None, true, false, length, ap, sym, ◌∙◌, subst, inl, inr, arith, if◌then◌else◌, Contains, range_with_len, slice_index_or, option_map_or, and_parts, cases_Bool, true≢false, is_by_place, AnyCode, first_osd, Incremental, Member, Membership, Past, PgId, History, current_first, Contains-nil, map_some, some_is, taken-induction, taken-more, are_checked, is_faultless, is_up, up_from, epoch, then_with, pool, has_group, held_member, members_of, are_up, membership, pool_membership, group_history, nat_tests}
+use Rattle.pgp_group.proofs.Common.{◌≡◌, ℕ, zero, suc, ◌+◌, ◌<◌, ◌≤◌, List, [], ◌∷◌, Option, Some, None, true, false, length, ap, sym, ◌∙◌, subst, inl, inr, arith, if◌then◌else◌, Contains, range_with_len, slice_index_or, option_map_or, and_parts, cases_Bool, true≢false, is_by_place, AnyCode, first_osd, Incremental, Member, Membership, Past, PgId, History, current_first, Contains-nil, map_some, some_is, taken-induction, taken-more, are_checked, is_faultless, is_up, up_from, epoch, then_with, pool, has_group, held_member, members_of, are_up, membership, pool_membership, group_history, nat_tests}
 use Rattle.pgp_sets.proofs.UpLemmas.{acting-are_up}
 use Rattle.pgp_group.proofs.DeviceLemmas.{checked-last, up_from-stays, up_from-within}
 use Rattle.pgp_group.proofs.FirstLemmas.{moves, past_of}

@@ -1,5 +1,5 @@
 -- An entry that doesn't touch a group leaves its view as it was, except for count and epoch.
-use Rattle.pgp_group.proofs.Common.{◌≡◌, ℕ, List, [], ◌∷◌, ◌++◌, Option, Some, None, true, false, length, map, refl, ap, sym, ◌∙◌, arith, filter, list_any, option_map, or_parts, enough_of, is_by_place, AnyCode, Entry, EpochState, PrimaryFacts, Incremental, PgId, PoolSpec, Info, Report, History, stepped, current_first, past_intervals, are_checked, device, epoch, then_with, pool, has_group, is_same_group, membership, pool_membership, inc_of, incs_of, infos_of, reports_of, primary_facts, group_history, group_with, names, has_to_do_with, changed_devices, is_touched, view_at, view_of, scratch, nat_tests}
+use Rattle.pgp_group.proofs.Common.{◌≡◌, ℕ, List, [], ◌∷◌, ◌++◌, Option, Some, None, true, false, length, map, refl, ap, sym, ◌∙◌, arith, filter, list_any, option_map, or_parts, enough_of, is_by_place, AnyCode, Entry, EpochState, PrimaryFacts, Incremental, PgId, PoolSpec, Info, Report, History, stepped, current_first, past_intervals, are_checked, device, epoch, then_with, pool, has_group, is_same_group, pool_membership, inc_of, incs_of, infos_of, reports_of, primary_facts, group_history, group_with, names, has_to_do_with, changed_devices, is_touched, view_at, view_of, scratch, nat_tests}
 use Rattle.pgp_ids.specs.declared.entry.Entry.TheVariants as entry
 use Rattle.pgp_group.proofs.GroupLemmas.{infos-other, infos-same, reports-other, reports-same}
 use Rattle.pgp_group.proofs.GrowthLemmas.{Shortens, EndsWell, checked-numbered, history-grows}

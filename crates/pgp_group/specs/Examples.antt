@@ -1,5 +1,5 @@
 -- Small logs of a group of three copies and of a group of three shards, of a code of data shards or of one of parts.
-use Rattle.std.specs.Prelude.{ℕ, List, [], ◌∷◌, ◌++◌, Some, None, Bool, true, map, codes}
+use Rattle.std.specs.Prelude.{ℕ, List, [], ◌∷◌, ◌++◌, Some, None, Bool, map, codes}
 use Rattle.pgp_ids.specs.declared.entry.Entry.{Entry}
 use Rattle.pgp_ids.specs.declared.entry.Entry.TheVariants as entry
 use Rattle.pgp_ids.specs.declared.member.Member.{Member}
