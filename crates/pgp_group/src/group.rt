@@ -50,17 +50,18 @@ use std::alloc::{AllocError, Global};
 
 /// A placement group: its intervals so far, and all that its members reported.
 ///
-/// It keeps no map. The last map is lent where it is needed, since devices change in it without a word to the group.
+/// It keeps no map. The last map is lent where it is needed, since devices change in it without a word to the group. What each map
+/// is compared with stands first, side by side in memory.
 pub struct Group {
     alloc: Global,
     pg: PgId,
     intervals: Intervals<AnyCode>,
+    /// The devices that stand in up or acting of a past interval, or sent a report.
+    named: NamedDevices,
     /// All infos of the group, counted or not, and whom it has heard.
     infos: Infos,
     /// All reports of log entries of the group, counted or not, and the logs of its members.
     reports: Reports,
-    /// The devices that stand in up or acting of a past interval, or sent a report.
-    named: NamedDevices,
     /// Whom it has to hear, as of the last view.
     reckoned: KeptPrior,
 }
@@ -72,9 +73,9 @@ impl Drop for Group {
             alloc: _,
             pg: _,
             intervals: _,
+            named: _,
             infos: _,
             reports: _,
-            named: _,
             reckoned: _,
         } = self;
     }

@@ -19,9 +19,6 @@ use std::mem;
 /// It keeps the past intervals and the current one, and nothing of single epochs. At any time an info can name an epoch
 /// in which the group was clean (`clean`).
 pub struct Intervals<R> {
-    code: R,
-    /// The past intervals, in ascending order.
-    past: Vec<Past>,
     /// The first epoch of the current interval.
     first: Epoch,
     /// The current epoch.
@@ -30,18 +27,21 @@ pub struct Intervals<R> {
     current: Membership,
     /// Whether the group was clean in an epoch of the current interval.
     clean: bool,
+    /// The past intervals, in ascending order.
+    past: Vec<Past>,
+    code: R,
 }
 
 // Written out, so that a crate which lets one go has nothing to prove of what lies within.
 impl<R: Drop> Drop for Intervals<R> {
     fn drop(self) {
         let Intervals {
-            code: _,
-            past: _,
             first: _,
             last: _,
             current: _,
             clean: _,
+            past: _,
+            code: _,
         } = self;
     }
 }
@@ -67,12 +67,12 @@ impl<R: Recoverable> Intervals<R> {
         ensures { IsIntervalsOf R.enough R.by_place (begun code first members) [] result }
     {
         Intervals {
-            code,
-            past: Vec::new(alloc),
             first,
             last: first,
             current: members,
             clean: false,
+            past: Vec::new(alloc),
+            code,
         }
     }
 
@@ -188,6 +188,14 @@ impl<R: Recoverable> Intervals<R> {
             → slice_get (past_intervals R.enough R.by_place cleans h) place ≡ Some result }
     {
         self.past[place].copy()
+    }
+
+    /// The membership of the current interval.
+    pub fn members(&self) -> &Membership
+        ensures { (h : History R) (cleans : List ℕ)
+            → IsIntervalsOf R.enough R.by_place h cleans self.now → result.now ≡ h.current }
+    {
+        &self.current
     }
 
     /// The interval that reaches the current epoch: its first epoch and its membership.

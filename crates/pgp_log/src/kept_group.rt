@@ -32,17 +32,17 @@ use std::alloc::{AllocError, Global};
 /// A group, as the entries so far tell of it.
 ///
 /// It sleeps through the maps by which it lies as before: `group` is told of their epochs only where something more happens to
-/// it, or where it is worked out.
+/// it, or where it is worked out. The view stands first, so that what entries look at of the rest lies side by side in memory.
 #[derive(Drop)]
 pub(crate) struct KeptGroup {
+    /// What the entries said of the group when it was last worked out, except for count and epoch. Not there before that, and
+    /// where something touched the group since.
+    pub(crate) view: Option<View>,
     pub(crate) pg: PgId,
     /// Where the tree of the last map puts the group.
     raw: Osds,
     /// The group's pg_temp list by the last map.
     temp: Osds,
-    /// What the entries said of the group when it was last worked out, except for count and epoch. Not there before that, and
-    /// where something touched the group since.
-    pub(crate) view: Option<View>,
     group: Group,
 }
 
@@ -59,10 +59,10 @@ impl KeptGroup {
         let raw = raw(after, &pg);
         let members = filter(after, &pg, &raw);
         KeptGroup {
+            view: None,
             pg,
             raw,
             temp: temp_of(after, pg),
-            view: None,
             group: Group::begin_members(alloc, after, pg, members),
         }
     }

@@ -9,7 +9,7 @@ ghost use Rattle.pgp_log.specs.OsdFilter.{Covers, CoversStill};
 use pgp_ids::{DeviceEpoch, DeviceWeight, OsdId, Place};
 
 /// A set of devices, in three words. It may say of a device that it is in the set when it isn't, and never the other way.
-#[derive(Clone, Copy)]
+#[derive(Clone, Copy, PartialEq, Eq)]
 pub(crate) struct OsdFilter {
     /// Bit `osd % 64` of each device.
     low: u64,

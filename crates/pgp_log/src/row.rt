@@ -15,7 +15,7 @@ use pgp_map::OsdMap;
 
 /// What of a group an incremental is compared with first. Rows lie side by side in memory, so that a shard passes by the groups
 /// that an incremental doesn't touch without a look at what it keeps of them.
-#[derive(Clone, Copy)]
+#[derive(Clone, Copy, PartialEq, Eq)]
 pub(crate) struct Row {
     pub(crate) pg: PgId,
     /// The group has to be worked out: nothing but a move concerns it.

@@ -69,11 +69,14 @@ impl Rows {
         Ok(())
     }
 
-    /// Puts another row at the place.
+    /// Puts this row at the place. One that stands there already needs no look at its block.
     pub(crate) fn set(&mut self, place: usize, row: Row)
         requires { place < length self.old }
         ensures { self.new ≡ set self.old place row }
     {
+        if is_same(&self.each[place], &row) {
+            return;
+        }
         self.each[place] = row;
         let number = place / BLOCK;
         self.blocks[number] = block_of(self.each.as_slice(), number);
@@ -85,17 +88,29 @@ impl Rows {
         ensures passed { (place : ℕ) (row : AnyRow) → from ≤ place → IfSome result (λ next. place < next)
             → slice_get self.now place ≡ Some row → IsPassedByRow changes.now inc.now row }
     {
-        let mut place = from;
+        let mut place = self.past_blocks(from, changes);
         while place < self.each.len() {
-            if place % BLOCK == 0 && self.blocks[place / BLOCK].is_passed_by(changes) {
-                place += BLOCK;
-            } else if self.each[place].is_passed_by(changes, inc) {
-                place += 1;
-            } else {
+            if !self.each[place].is_passed_by(changes, inc) {
                 return Some(place);
             }
+            place = self.past_blocks(place + 1, changes);
         }
         None
+    }
+
+    /// This place or, where a block begins here, the first place of the next block that isn't passed by.
+    fn past_blocks(&self, from: usize, changes: &Changes) -> usize
+        ensures past { from ≤ result }
+        ensures passed { (inc : AnyIncremental) (place : ℕ) (row : AnyRow) → from ≤ place → place < result
+            → slice_get self.now place ≡ Some row → IsPassedByRow changes.now inc row }
+    {
+        let mut place = from;
+        if place % BLOCK == 0 {
+            while place < self.each.len() && self.blocks[place / BLOCK].is_passed_by(changes) {
+                place += BLOCK;
+            }
+        }
+        place
     }
 }
 
@@ -132,6 +147,13 @@ impl Block {
     {
         !changes.may_place(marked) && !self.devices.shares(changes.devices_for(marked))
     }
+}
+
+/// Whether both rows say the same.
+fn is_same(a: &Row, b: &Row) -> bool
+    ensures { result ≡ true → a.now ≡ b.now }
+{
+    a == b
 }
 
 /// What the rows of the block have in common.

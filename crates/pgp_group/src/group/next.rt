@@ -40,9 +40,9 @@ impl Group {
             alloc,
             pg,
             intervals,
+            named: NamedDevices::new(alloc),
             infos: Infos::new(alloc),
             reports: Reports::new(alloc),
-            named: NamedDevices::new(alloc),
             reckoned,
         }
     }
@@ -51,8 +51,7 @@ impl Group {
     pub fn primary(&self) -> Option<OsdId>
         ensures { (log : List AnyEntry) (pg : Id) → IsGroupOf log pg self.now → group_primary (incs_of log) pg ≡ Some result }
     {
-        let (_, current) = self.intervals.current();
-        current.acting_primary
+        self.intervals.members().acting_primary
     }
 
     /// Takes the next map, by which the group lies at these members: it looks for none itself. `facts` are what the map that it
