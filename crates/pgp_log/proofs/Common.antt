@@ -7,7 +7,7 @@ pub use Rattle.std.proofs.lemmas.Bool.Decides.{leb_tells, nat_tests}
 pub use Rattle.std.proofs.lemmas.List.{drop-append-le, drop-map, get_or-map, get_or-set_other, get_or-set_same, get_or_default, length-map, length-set, length-take, map-append, map-set, map_more, take-append-drop, take-append-le, take-map, take-take, take_all, take_more_set}
 pub use Rattle.std.proofs.lemmas.List.Elements.{All-get_or, All-head, All-push, All-set, All-tail, filter-append, filter_map-append, filter_more}
 pub use Rattle.std.proofs.lemmas.List.Folds.{list_any-append, list_any_more}
-pub use Rattle.std.proofs.lemmas.Option.{get_or_from_slice_get, none-some, same_Some, slice_get-map, slice_get_cases, slice_get_read, slice_get_within}
+pub use Rattle.std.proofs.lemmas.Option.{get_or_from_slice_get, none-some, same_Some, slice_get-get_or, slice_get-map, slice_get_cases, slice_get_read, slice_get_within}
 pub use Rattle.std.proofs.lemmas.Result.{on_err_weaker, on_ok_weaker}
 pub use Rattle.std.specs.Arc.{arc_value}
 pub use Rattle.std.specs.List.{Contains, filter, flat_map, list_any, range_with_len}
@@ -54,9 +54,10 @@ pub use Rattle.pgp_log.specs.MapBefore.{IsMapBefore, makes_heavier, only_lighten
 pub use Rattle.pgp_log.specs.OsdFilter.{Covers, CoversStill}
 pub use Rattle.pgp_log.specs.RawSets.{AreRawSets, IsRawSet, moves_any}
 pub use Rattle.pgp_log.specs.ReportFault.{has_bad_info, has_future_stamp, has_unknown_group, has_unknown_member, info_fault, report_fault}
-pub use Rattle.pgp_log.specs.Rows.{AreInBlocks, IsInBlock}
+pub use Rattle.pgp_log.specs.Rows.{AreCovered, AreIn, IsInBlock, IsInWideBlock}
 pub use Rattle.pgp_log.specs.Shard.{AreMarked, HasReadFewer, HasReadSame, HasReadSome, IsUnmarked, MarksOnlyTouched, Shard, has_own, having_read, having_read_all, having_read_front, is_among, is_own, opening_shard, shard_of, without}
 pub use Rattle.pgp_log.specs.Touch.{changes_no_pool, changes_nothing, changes_placements, moves_none, tells_nothing, turns_none}
+pub use Rattle.pgp_log.specs.WideFilter.{Has, IsLookedFor, KeepsDevices}
 pub use Rattle.pgp_log.specs.World.{Reply, Step, World, after, after_absorb, after_all, after_submit, front_of, replies, reply_to, submit_reply, view_reply}
 pub use Rattle.pgp_log.specs.World.Reply.{Absorbed, Asked, Submitted}
 pub use Rattle.pgp_log.specs.World.Step.{Absorb, Ask, Submit}
@@ -69,6 +70,9 @@ pub use Rattle.pgp_log.specs.declared.osd_filter.OsdFilter.{OsdFilter}
 pub use Rattle.pgp_log.specs.declared.owner.Owner.{Owner}
 pub use Rattle.pgp_log.specs.declared.row.Row.{Row}
 pub use Rattle.pgp_log.specs.declared.rows.Block.{Block}
+pub use Rattle.pgp_log.specs.declared.rows.WideBlock.{WideBlock}
+pub use Rattle.pgp_log.specs.declared.wide_filter.WantedDevices.{WantedDevices}
+pub use Rattle.pgp_log.specs.declared.wide_filter.WideFilter.{WideFilter}
 pub use Rattle.pgp_map.proofs.CheckedLemmas.{checked-has_group, checked-more, front-checked, last-checked, pools-in_range}
 pub use Rattle.pgp_map.specs.Checked.{are_checked}
 pub use Rattle.pgp_map.specs.Devices.{boots, device}

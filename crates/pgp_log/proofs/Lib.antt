@@ -12,6 +12,7 @@ pub mod ComingLemmas
 pub mod MapBeforeLemmas
 pub mod KeptLemmas
 pub mod OsdFilterLemmas
+pub mod WideFilterLemmas
 pub mod TouchLemmas
 pub mod RowLemmas
 pub mod RowsLemmas

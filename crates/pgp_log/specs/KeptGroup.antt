@@ -22,6 +22,7 @@ use Rattle.pgp_log.specs.MapBefore.{IsMapBefore, moves_some}
 use Rattle.pgp_log.specs.OsdFilter.{Covers}
 use Rattle.pgp_log.specs.RawSets.{IsRawSet}
 use Rattle.pgp_log.specs.Touch.{changes_placements}
+use Rattle.pgp_log.specs.WideFilter.{IsLookedFor}
 use Rattle.pgp_log.specs.declared.before.MapBefore.{MapBefore}
 use Rattle.pgp_log.specs.declared.kept_group.KeptGroup.{KeptGroup}
 use Rattle.pgp_log.specs.declared.osd_filter.OsdFilter.{OsdFilter}
@@ -94,6 +95,7 @@ pub record IsChangesOf (inc : Incremental) (before : MapBefore) (after : OsdMap)
   pub turned : (osd : ℕ) → list_any (nat_eq osd) (turned_devices inc) ≡ true → Covers changes.movers osd
   pub weighed : (osd : ℕ) → list_any (λ given. nat_eq osd given.osd) inc.weight ≡ true → Covers changes.movers osd
   pub devices : (osd : ℕ) → list_any (nat_eq osd) (changed_devices inc) ≡ true → Covers changes.devices osd
+  pub wanted : (osd : ℕ) → Covers changes.devices osd → IsLookedFor changes.wanted osd
 
 -- the devices of the changes that concern a group: all, or where it is marked those that may move it
 abbrev pub devices_for : Bool → Changes → OsdFilter

@@ -11,6 +11,7 @@ pub mod RawSets
 pub mod Touch
 pub mod MapBefore
 pub mod OsdFilter
+pub mod WideFilter
 pub mod KeptGroup
 pub mod Rows
 pub mod Groups

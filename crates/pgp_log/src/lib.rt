@@ -19,6 +19,7 @@ mod row;
 mod rows;
 mod shard;
 mod touch;
+mod wide_filter;
 mod world;
 
 pub use entry::{inc_of, is_close};

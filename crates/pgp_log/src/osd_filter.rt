@@ -12,9 +12,9 @@ use pgp_ids::{DeviceEpoch, DeviceWeight, OsdId, Place};
 #[derive(Clone, Copy, PartialEq, Eq)]
 pub(crate) struct OsdFilter {
     /// Bit `osd % 64` of each device.
-    low: u64,
+    pub(crate) low: u64,
     /// Bit `osd / 64` of each device.
-    high: u64,
+    pub(crate) high: u64,
     /// Bit `(osd % 64 + osd / 64) % 64` of each device: seldom set where `low` and `high` are set by two others.
     sum: u64,
 }

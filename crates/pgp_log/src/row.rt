@@ -10,6 +10,7 @@ ghost use Rattle.pgp_log.specs.KeptGroup.{IsChangesOf, IsPassedByRow, devices_fo
 use super::before::MapBefore;
 use super::osd_filter::OsdFilter;
 use super::touch::{changes_no_pool, changes_placement, changes_placements};
+use super::wide_filter::WantedDevices;
 use pgp_ids::{Incremental, PgId};
 use pgp_map::OsdMap;
 
@@ -48,6 +49,8 @@ pub(crate) struct Changes {
     movers: OsdFilter,
     /// Those, and the devices of which it tells.
     devices: OsdFilter,
+    /// The same devices, as they are looked for in sets of the devices of many groups.
+    wanted: WantedDevices,
 }
 
 impl Changes {
@@ -68,6 +71,7 @@ impl Changes {
             moves: moves_some(before, after, inc),
             movers,
             devices,
+            wanted: WantedDevices::of(devices),
         }
     }
 
@@ -83,6 +87,13 @@ impl Changes {
         ensures { result ≡ devices_for marked self.now }
     {
         if marked { self.movers } else { self.devices }
+    }
+
+    /// The devices that concern some group, as they are looked for in sets of the devices of many groups.
+    pub(crate) fn wanted(&self) -> &WantedDevices
+        ensures { result.now ≡ self.now.wanted }
+    {
+        &self.wanted
     }
 }
 

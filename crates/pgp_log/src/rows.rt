@@ -1,13 +1,14 @@
 //! The rows of a shard's groups.
 
-ghost use Rattle.std.specs.Prelude.{◌≡◌, ◌<◌, ◌≤◌, ◌++◌, ◌+◌, ◌*◌, [], ◌∷◌, ℕ, List, Some, true, length, set, slice_get, IfSome, OnOk, OnErr};
+ghost use Rattle.std.specs.Prelude.{◌≡◌, ◌<◌, ◌≤◌, ◌++◌, ◌*◌, ◌/◌, ◌≢◌, ◌⊎◌, [], ◌∷◌, ℕ, List, Some, true, false, length, set, slice_get, IfSome, OnOk, OnErr};
 ghost use Rattle.pgp_ids.specs.declared.incremental.Incremental.{Incremental as AnyIncremental};
 ghost use Rattle.pgp_log.specs.KeptGroup.{IsPassedByRow};
-ghost use Rattle.pgp_log.specs.Rows.{IsInBlock};
+ghost use Rattle.pgp_log.specs.Rows.{IsInBlock, IsInWideBlock};
 ghost use Rattle.pgp_log.specs.declared.row.Row.{Row as AnyRow};
 
 use super::osd_filter::OsdFilter;
 use super::row::{Changes, Row};
+use super::wide_filter::{WantedDevices, WideFilter};
 use pgp_ids::Incremental;
 use std::alloc::{AllocError, Global};
 use std::marker::Model;
@@ -15,12 +16,17 @@ use std::marker::Model;
 /// How many rows make a block.
 const BLOCK: usize = 8;
 
+/// How many rows make a wide block.
+const WIDE: usize = 64;
+
 /// The rows of groups, each at the place of its group, which contracts see as the list of them. What a block of eight rows has in
-/// common is kept beside them, so that groups which an incremental doesn't touch can be passed by a block at a time.
+/// common is kept beside them, and so are the devices of a wide block of 64, so that groups which an incremental doesn't touch can be
+/// passed by a block at a time.
 #[derive(Drop)]
 pub(crate) struct Rows {
     each: Vec<Row>,
     blocks: Vec<Block>,
+    wide: Vec<WideBlock>,
 }
 
 /// What the rows of a block have in common.
@@ -32,16 +38,25 @@ pub(crate) struct Block {
     devices: OsdFilter,
 }
 
+/// What the rows of a wide block have in common.
+#[derive(Drop)]
+pub(crate) struct WideBlock {
+    /// The devices of all the rows, and perhaps of rows that stood there before.
+    devices: WideFilter,
+    /// How many rows took the place of others since it was made of the rows that stand there.
+    since: usize,
+}
+
 impl Model for Rows {
     ghost use Rattle.std.specs.Prelude.{List};
     ghost use Rattle.pgp_log.specs.declared.row.Row.{Row};
-    ghost use Rattle.pgp_log.specs.Rows.{AreInBlocks};
+    ghost use Rattle.pgp_log.specs.Rows.{AreCovered};
 
     ghost Value = { List Row };
 
     ghost view = { λ rows. rows.each.items };
 
-    ghost invariant = { λ rows. AreInBlocks rows.each.items rows.blocks.items };
+    ghost invariant = { λ rows. AreCovered rows.each.items rows.blocks.items rows.wide.items };
 }
 
 impl Rows {
@@ -52,6 +67,7 @@ impl Rows {
         Rows {
             each: Vec::new(alloc),
             blocks: Vec::new(alloc),
+            wide: Vec::new(alloc),
         }
     }
 
@@ -60,12 +76,12 @@ impl Rows {
         ensures ok { OnOk result (self.new ≡ self.old ++ row ∷ []) }
         ensures err { OnErr result (self.new ≡ self.old) }
     {
-        let number = self.each.len() / BLOCK;
-        if number >= self.blocks.len() {
-            self.blocks.push(Block::empty())?;
-        }
+        let place = self.each.len();
+        make_room(&mut self.blocks, place / BLOCK, Block::empty())?;
+        make_room(&mut self.wide, place / WIDE, WideBlock::empty())?;
         self.each.push(row)?;
-        self.blocks[number].add(&row);
+        self.blocks[place / BLOCK].add(&row);
+        self.wide[place / WIDE].add(&row);
         Ok(())
     }
 
@@ -78,8 +94,8 @@ impl Rows {
             return;
         }
         self.each[place] = row;
-        let number = place / BLOCK;
-        self.blocks[number] = block_of(self.each.as_slice(), number);
+        self.blocks[place / BLOCK] = block_of(self.each.as_slice(), place / BLOCK);
+        self.wide[place / WIDE].renew(self.each.as_slice(), place);
     }
 
     /// The first place, from this one on, whose group the incremental may move or touch.
@@ -106,8 +122,14 @@ impl Rows {
     {
         let mut place = from;
         if place % BLOCK == 0 {
-            while place < self.each.len() && self.blocks[place / BLOCK].is_passed_by(changes) {
-                place += BLOCK;
+            while place < self.each.len() {
+                if place % WIDE == 0 && self.wide[place / WIDE].is_passed_by(changes) {
+                    place += WIDE;
+                } else if self.blocks[place / BLOCK].is_passed_by(changes) {
+                    place += BLOCK;
+                } else {
+                    return place;
+                }
             }
         }
         place
@@ -149,9 +171,60 @@ impl Block {
     }
 }
 
+impl WideBlock {
+    /// The wide block of no rows yet.
+    fn empty() -> Self {
+        WideBlock {
+            devices: WideFilter::empty(),
+            since: 0,
+        }
+    }
+
+    /// Adds a row.
+    fn add(&mut self, row: &Row)
+        ensures there { IsInWideBlock row.now self.new }
+        ensures still { (other : AnyRow) → IsInWideBlock other self.old → IsInWideBlock other self.new }
+    {
+        self.devices.add(&WantedDevices::of(row.devices));
+    }
+
+    /// Takes the row that was put at this place. After as many rows as it has, it is made anew.
+    fn renew(&mut self, rows: &[Row], place: usize)
+        requires { place < length rows.now }
+        ensures { (other : ℕ) (row : AnyRow) → other / 64 ≡ place / 64 → slice_get rows.now other ≡ Some row
+            → (other ≢ place → IsInWideBlock row self.old) → IsInWideBlock row self.new }
+    {
+        if self.since < WIDE {
+            self.since += 1;
+            self.add(&rows[place]);
+        } else {
+            *self = wide_block_of(rows, place / WIDE);
+        }
+    }
+
+    /// Whether each of the groups may stay as it is.
+    fn is_passed_by(&self, changes: &Changes) -> bool
+        ensures { result ≡ true → (inc : AnyIncremental) (row : AnyRow) → IsInWideBlock row self.now → IsPassedByRow changes.now inc row }
+    {
+        !changes.may_place(false) && !self.devices.shares(changes.wanted())
+    }
+}
+
+/// Adds the block of this number, which has no rows yet, if there is none.
+fn make_room<T: Drop>(blocks: &mut Vec<T>, number: usize, empty: T) -> Result<(), AllocError>
+    ensures same { (blocks.new.items ≡ blocks.old.items) ⊎ (blocks.new.items ≡ blocks.old.items ++ empty ∷ []) }
+    ensures ok { OnOk result (number ≤ length blocks.old.items → number < length blocks.new.items) }
+{
+    if number >= blocks.len() {
+        blocks.push(empty)?;
+    }
+    Ok(())
+}
+
 /// Whether both rows say the same.
 fn is_same(a: &Row, b: &Row) -> bool
-    ensures { result ≡ true → a.now ≡ b.now }
+    ensures same { result ≡ true → a.now ≡ b.now }
+    ensures differ { result ≡ false → a.now ≢ b.now }
 {
     a == b
 }
@@ -159,11 +232,25 @@ fn is_same(a: &Row, b: &Row) -> bool
 /// What the rows of the block have in common.
 fn block_of(rows: &[Row], number: usize) -> Block
     requires { number * 8 < length rows.now }
-    ensures { (at : ℕ) (row : AnyRow) → at < 8 → slice_get rows.now (number * 8 + at) ≡ Some row → IsInBlock row result }
+    ensures { (place : ℕ) (row : AnyRow) → place / 8 ≡ number → slice_get rows.now place ≡ Some row → IsInBlock row result }
 {
     let first = number * BLOCK;
     let end = rows.len().min(first + BLOCK);
     let mut block = Block::empty();
+    for place in first..end {
+        block.add(&rows[place]);
+    }
+    block
+}
+
+/// What the rows of the wide block have in common.
+fn wide_block_of(rows: &[Row], number: usize) -> WideBlock
+    requires { number * 64 < length rows.now }
+    ensures { (place : ℕ) (row : AnyRow) → place / 64 ≡ number → slice_get rows.now place ≡ Some row → IsInWideBlock row result }
+{
+    let first = number * WIDE;
+    let end = rows.len().min(first + WIDE);
+    let mut block = WideBlock::empty();
     for place in first..end {
         block.add(&rows[place]);
     }
