@@ -1,7 +1,7 @@
 #!/usr/bin/env python3
 """Measures whether an incremental costs what it touches, where a shard keeps more and more groups.
 
-    bench/measure_scaling.py [--program PATH] [--runs R]
+    bench/measure_scaling.py [--program PATH] [--runs R] [--instructions]
 
 PATH is the built program (by default crates/pgpeer/out/pgpeer), or another that reads a script where it is called without an
 argument, as that of pgp_scripts. Each script makes a number of groups of two copies on a quarter as many devices, so that eight
@@ -10,14 +10,19 @@ boots one, with a single question at the end or with one after each, about a gro
 (5), and so is what comes before its incrementals, which is taken off. Prints two tables in Markdown, one with a single question
 and one with all: for each number of groups the microseconds of the processor that an incremental takes, of the least runs, with
 2,000 incrementals and with 4,000, and the ratio of the first to that in the row above. Needs GNU time (Debian: time).
+
+With --instructions it counts by valgrind (Debian: valgrind) how many instructions an incremental takes, once for each script:
+what it does, whatever the machine's caches hold.
 """
 
 import argparse
 import json
 import os
 import random
+import re
 import subprocess
 import tempfile
+from functools import partial
 
 from make_inputs import fall_or_boot
 from maps import HOST, compact, tree
@@ -78,38 +83,57 @@ def write(folder, name, lines):
     return script.name
 
 
-def spent(command, script, start, runs):
-    """Gives the seconds that the script takes beyond its start, of the least runs."""
+def spent(command, runs, script, start):
+    """Gives the microseconds of the processor that the script takes beyond its start, of the least runs."""
     whole, first = (alternate([command], it, runs)[0] for it in (script, start))
-    return min(run.cpu for run in whole) - min(run.cpu for run in first)
+    return (min(run.cpu for run in whole) - min(run.cpu for run in first)) * 1e6
 
 
-def rows(command, folder, runs, each):
+def counted(command, script):
+    """Gives how many instructions the program takes for the script."""
+    command = ["valgrind", "--tool=callgrind", "--callgrind-out-file=/dev/null", *command]
+    with open(script, "rb") as lines:
+        run = subprocess.run(command, stdin=lines, stdout=subprocess.DEVNULL, stderr=subprocess.PIPE, text=True, check=True)
+    return int(re.search(r"Collected : (\d+)", run.stderr)[1])
+
+
+def instructions(command, script, start):
+    """Gives how many instructions the script takes beyond its start."""
+    return counted(command, script) - counted(command, start)
+
+
+def rows(measure, digits, command, folder, each):
+    """Gives a row for each number of groups, with what `measure` gives for a script beyond its start."""
     before = None
     for size in SIZES:
         head = list(beginning(size))
         start = write(folder, "start", head)
         asked = some_group(command, start)
-        times = []
+        costs = []
         for count in COUNTS:
             script = write(folder, "whole", head + list(turns(size, count, asked, each)))
-            times.append(spent(command, script, start, runs) / count * 1e6)
-        yield [f"{size:,}", *(f"{time:.1f}" for time in times), f"{times[0] / before:.2f}" if before else ""]
-        before = times[0]
+            costs.append(measure(script, start) / count)
+        yield [f"{size:,}", *(f"{cost:,.{digits}f}" for cost in costs), f"{costs[0] / before:.2f}" if before else ""]
+        before = costs[0]
 
 
 def main(options):
     program = os.path.abspath(options.program)
     command = [program, "run"] if os.path.basename(program) == "pgpeer" else [program]
-    heads = ["groups", *(f"{count:,} incrementals, µs each" for count in COUNTS), "to the row above"]
+    if options.instructions:
+        unit, digits, measure = "instructions", 0, partial(instructions, command)
+    else:
+        unit, digits, measure = "µs", 1, partial(spent, command, options.runs)
+    heads = ["groups", *(f"{count:,} incrementals, {unit} each" for count in COUNTS), "to the row above"]
     with tempfile.TemporaryDirectory() as folder:
         for each in (False, True):
             print("A question after each:" if each else "A question at the end:", end="\n\n")
-            print(table(heads, list(rows(command, folder, options.runs, each))), end="\n\n", flush=True)
+            print(table(heads, list(rows(measure, digits, command, folder, each))), end="\n\n", flush=True)
 
 
 if __name__ == "__main__":
     parser = argparse.ArgumentParser(description=__doc__, formatter_class=argparse.RawDescriptionHelpFormatter)
     parser.add_argument("--program", default=f"{HERE}/../crates/pgpeer/out/pgpeer")
     parser.add_argument("--runs", type=int, default=5)
+    parser.add_argument("--instructions", action="store_true")
     main(parser.parse_args())
