@@ -1,7 +1,8 @@
 -- Rows of groups, and the incrementals by which they are passed by.
-use Rattle.pgp_log.proofs.Common.{◌≡◌, ℕ, ◌+◌, ◌<◌, List, [], ◌∷◌, ◌++◌, Bool, true, false, ◌&&◌, not, ◌||◌, Option, Some, length, map, set, nat_eq, refl, sym, ap, ◌∙◌, subst, inl, inr, ◌⊎◌, is_some, arith, eq-eqb, length-append, list_any, option_map, option_map_or, slice_get, or-true, cases_Bool, cases_eq, cases_lt, true≢false, not-false, not-true, length-set, list_any-append, same_Some, slice_get_cases, slice_get_within, and3_parts, or3_parts, PoolSizes, any-mapped, get-append, get-last, get-set_other, get-set_same, Entry, DeviceEpoch, DeviceWeight, Incremental, PgId, pool, temp, OsdMap, then_with, may_place_elsewhere, raw_places, raw_set, switches_any, weighed, lighter-elsewhere, or3_false, unplaced, incs_of, group_in, changed_devices, changes_pool, changes_temp, has_osd, has_to_do_with, may_lie_on, moves_all, names, turned_devices, MapBefore, AreRowsOf, IsChangesOf, IsKeptOf, IsPassedBy, IsPassedByRow, IsRowOf, IsStep, devices_for, is_marked, may_place, Covers, CoversStill, makes_heavier, only_lightens, changes_no_pool, changes_placements, KeptGroup, OsdFilter, Row}
+use Rattle.pgp_log.proofs.Common.{may_concern, may_meet, changes_placement, ◌≡◌, ℕ, ◌+◌, ◌<◌, List, [], ◌∷◌, ◌++◌, Bool, true, false, ◌&&◌, not, ◌||◌, Option, Some, length, map, set, nat_eq, refl, sym, ap, ◌∙◌, subst, inl, inr, ◌⊎◌, is_some, arith, eq-eqb, length-append, list_any, option_map, option_map_or, slice_get, or-true, cases_Bool, cases_eq, cases_lt, true≢false, not-false, not-true, length-set, list_any-append, same_Some, slice_get_cases, slice_get_within, and3_parts, or3_parts, PoolSizes, any-mapped, get-append, get-last, get-set_other, get-set_same, Entry, DeviceEpoch, DeviceWeight, Incremental, PgId, pool, temp, OsdMap, then_with, may_place_elsewhere, raw_places, raw_set, switches_any, weighed, lighter-elsewhere, or3_false, unplaced, incs_of, group_in, changed_devices, changes_pool, changes_temp, has_osd, has_to_do_with, may_lie_on, moves_all, names, turned_devices, MapBefore, AreRowsOf, IsChangesOf, IsKeptOf, IsPassedBy, IsPassedByRow, IsRowOf, IsStep, devices_for, is_marked, may_place, Covers, CoversStill, makes_heavier, only_lightens, changes_no_pool, changes_placements, KeptGroup, OsdFilter, Row}
 use Rattle.pgp_ids.specs.declared.entry.Entry.TheVariants as entry
 use Rattle.pgp_log.specs.declared.row.Changes.{Changes}
+use Rattle.pgp_log.proofs.OsdFilterLemmas.{shared}
 use Rattle.pgp_log.proofs.TouchLemmas.{kept-stays, kept-unseen, no-pools, nothing-placed}
 
 -- ---- rows by their places
@@ -192,6 +193,18 @@ passed-by marked inc changes row only placed apart before after says kept is log
       passed-placed marked inc changes before after row kept log only apart says is holds
       (subst (λ (pg : PgId). (moves_all inc || changes_pool inc pg.pool || changes_temp inc pg) ≡ false) is.pg own)
 ]
+
+unconcerned-parts : (a b c : Bool) → (a && b || c) ≡ false → ((a ≡ false) ⊎ (b ≡ false)) × (c ≡ false)
+unconcerned-parts true true c none = absurd (true≢false none)
+unconcerned-parts true false c none = (inr refl, none)
+unconcerned-parts false b c none = (inl refl, none)
+
+-- so it passes by a group whose row it doesn't concern
+pub unconcerned : (changes : Changes) (inc : Incremental) (row : Row) → may_concern changes inc row ≡ false → IsPassedByRow changes inc row
+unconcerned changes inc row none =
+    let parts = unconcerned-parts (may_place row.marked changes) (changes_placement inc row.pg) (may_meet row.devices (devices_for row.marked changes)) none in
+    passed-by row.marked inc changes row (λ marked. marked) parts.0
+    (λ osd one two. true≢false (sym (shared row.devices (devices_for row.marked changes) osd one two) ∙ parts.1))
 
 -- it stays as it is
 pub passed-stays : (log : List Entry) (inc : Incremental) (before : MapBefore) (after : OsdMap) (kept : KeptGroup) → IsStep log inc before after → IsKeptOf log kept → IsPassedBy log inc kept → IsKeptOf (log ++ entry.Inc inc ∷ []) kept

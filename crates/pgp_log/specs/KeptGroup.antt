@@ -1,5 +1,5 @@
 -- What a shard keeps of its groups, as far as the entries that it has read tell of them.
-use Rattle.std.specs.Prelude.{◌≡◌, ℕ, nat_eq, List, [], ◌∷◌, ◌++◌, length, map, slice_get, Bool, is_none, Some, None, IfSome, true, false, if◌then◌else◌}
+use Rattle.std.specs.Prelude.{◌≡◌, ℕ, nat_eq, List, [], ◌∷◌, ◌++◌, length, map, slice_get, Bool, ◌&&◌, ◌||◌, is_none, Some, None, IfSome, true, false, if◌then◌else◌}
 use Rattle.std.specs.List.{All, filter, list_any}
 use Rattle.pgp_ids.specs.declared.entry.Entry.{Entry}
 use Rattle.pgp_ids.specs.declared.entry.Entry.TheVariants as entry
@@ -19,10 +19,9 @@ use Rattle.pgp_group.specs.View.{scratch}
 use Rattle.pgp_log.specs.Fits.{fits}
 use Rattle.pgp_log.specs.Log.{is_legal}
 use Rattle.pgp_log.specs.MapBefore.{IsMapBefore, moves_some}
-use Rattle.pgp_log.specs.OsdFilter.{Covers}
+use Rattle.pgp_log.specs.OsdFilter.{Covers, may_meet}
 use Rattle.pgp_log.specs.RawSets.{IsRawSet}
-use Rattle.pgp_log.specs.Touch.{changes_placements}
-use Rattle.pgp_log.specs.WideFilter.{IsLookedFor}
+use Rattle.pgp_log.specs.Touch.{changes_placement, changes_placements}
 use Rattle.pgp_log.specs.declared.before.MapBefore.{MapBefore}
 use Rattle.pgp_log.specs.declared.kept_group.KeptGroup.{KeptGroup}
 use Rattle.pgp_log.specs.declared.osd_filter.OsdFilter.{OsdFilter}
@@ -95,7 +94,6 @@ pub record IsChangesOf (inc : Incremental) (before : MapBefore) (after : OsdMap)
   pub turned : (osd : ℕ) → list_any (nat_eq osd) (turned_devices inc) ≡ true → Covers changes.movers osd
   pub weighed : (osd : ℕ) → list_any (λ given. nat_eq osd given.osd) inc.weight ≡ true → Covers changes.movers osd
   pub devices : (osd : ℕ) → list_any (nat_eq osd) (changed_devices inc) ≡ true → Covers changes.devices osd
-  pub wanted : (osd : ℕ) → Covers changes.devices osd → IsLookedFor changes.wanted osd
 
 -- the devices of the changes that concern a group: all, or where it is marked those that may move it
 abbrev pub devices_for : Bool → Changes → OsdFilter
@@ -105,6 +103,11 @@ devices_for marked changes = if marked then changes.movers else changes.devices
 -- weights by which no device gets heavier
 abbrev pub may_place : Bool → Changes → Bool
 may_place marked changes = if marked then changes.moves else changes.places
+
+-- the incremental, of which these are the changes, may concern the group of the row
+abbrev pub may_concern : Changes → Incremental → Row → Bool
+may_concern changes inc row =
+    (may_place row.marked changes && changes_placement inc row.pg) || may_meet row.devices (devices_for row.marked changes)
 
 -- the incremental doesn't move the group and, where it isn't marked, doesn't touch it
 pub record IsPassedBy (log : List Entry) (inc : Incremental) (kept : KeptGroup) : Type 0 where

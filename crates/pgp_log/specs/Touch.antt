@@ -1,7 +1,8 @@
 -- What an incremental changes at all (this project's own choice).
 use Rattle.std.specs.Prelude.{length, Bool, ◌&&◌, ◌||◌, not, ◌==◌}
 use Rattle.pgp_ids.specs.declared.incremental.Incremental.{Incremental}
-use Rattle.pgp_group.specs.Touched.{moves_all}
+use Rattle.pgp_ids.specs.declared.pg_id.PgId.{PgId}
+use Rattle.pgp_group.specs.Touched.{changes_pool, changes_temp, moves_all}
 
 -- the incremental boots no device, takes none down and destroys none
 abbrev pub turns_none : Incremental → Bool
@@ -18,6 +19,10 @@ changes_no_pool inc = (length inc.pools == 0) && (length inc.sizes == 0) && (len
 -- the incremental moves no group: it changes no placement, no pool and no pg_temp list, and turns no device
 abbrev pub moves_none : Incremental → Bool
 moves_none inc = not (moves_all inc) && changes_no_pool inc && turns_none inc
+
+-- the incremental may change where the group lies, whatever becomes of devices
+abbrev pub changes_placement : Incremental → PgId → Bool
+changes_placement inc pg = moves_all inc || changes_pool inc pg.pool || changes_temp inc pg
 
 -- the incremental may change where some group lies, whatever becomes of devices
 abbrev pub changes_placements : Incremental → Bool

@@ -1,20 +1,24 @@
--- Sets of the devices of many groups, that may have more than was put in (this project's own choice).
-use Rattle.std.specs.Prelude.{◌≡◌, ℕ, ◌<◌, ◌/◌, ◌%◌, Some, true, nat_eq, slice_get}
+-- Sets of the devices of many groups (this project's own choice).
+use Rattle.std.specs.Prelude.{◌≡◌, ℕ, ◌/◌, ◌%◌, get_or}
 use Rattle.std.specs.Int.{bit_at}
-use Rattle.std.specs.List.{list_any}
+use Rattle.pgp_log.specs.OsdFilter.{Covers}
+use Rattle.pgp_log.specs.declared.osd_filter.OsdFilter.{OsdFilter}
 use Rattle.pgp_log.specs.declared.wide_filter.WideFilter.{WideFilter}
-use Rattle.pgp_log.specs.declared.wide_filter.WantedDevices.{WantedDevices}
 
--- the set has the device, or may have it
+-- the set has the device
 abbrev pub Has : WideFilter → ℕ → Type 0
-Has set osd = (word : ℕ) → slice_get set.words (osd / 64) ≡ Some word → bit_at word (osd % 64) ≡ 1
+Has set osd = bit_at (get_or set.words (osd / 64) 0) (osd % 64) ≡ 1
+
+-- it has no device
+abbrev pub HasNone : WideFilter → Type 0
+HasNone set = (osd : ℕ) → bit_at (get_or set.words (osd / 64) 0) (osd % 64) ≡ 0
 
 -- the new set has what the old one has
 abbrev pub KeepsDevices : WideFilter → WideFilter → Type 0
 KeepsDevices old new = (osd : ℕ) → Has old osd → Has new osd
 
--- the device is among those that are looked for, or may be
-pub record IsLookedFor (wanted : WantedDevices) (osd : ℕ) : Type 0 where
-  pub word : list_any (nat_eq (osd / 64)) wanted.words.items ≡ true
-  pub within : osd / 64 < 64
-  pub bit : bit_at wanted.bits (osd % 64) ≡ 1
+-- some device is in both sets, or may be in the second one
+pub record Meet (wide : WideFilter) (devices : OsdFilter) : Type 0 where
+  pub osd : ℕ
+  pub one : Has wide osd
+  pub two : Covers devices osd

@@ -3,6 +3,7 @@
 #![tactic(auto)]
 
 mod before;
+mod bits;
 mod copies;
 mod entry;
 mod groups;

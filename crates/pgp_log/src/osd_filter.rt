@@ -1,10 +1,11 @@
 //! Sets of devices of which two are compared in a few steps.
 
-ghost use Rattle.std.specs.Prelude.{◌≡◌, ℕ, Some, true, nat_eq};
+ghost use Rattle.std.specs.Prelude.{◌≡◌, ◌↔◌, ℕ, ◌<◌, ◌/◌, ◌%◌, Some, true, nat_eq};
+ghost use Rattle.std.specs.Int.{bit_at};
 ghost use Rattle.std.specs.List.{list_any};
 ghost use Rattle.std.specs.Option.{option_eq};
 ghost use Rattle.pgp_group.specs.Touched.{has_osd};
-ghost use Rattle.pgp_log.specs.OsdFilter.{Covers, CoversStill};
+ghost use Rattle.pgp_log.specs.OsdFilter.{Covers, CoversStill, may_meet};
 
 use pgp_ids::{DeviceEpoch, DeviceWeight, OsdId, Place};
 
@@ -12,7 +13,7 @@ use pgp_ids::{DeviceEpoch, DeviceWeight, OsdId, Place};
 #[derive(Clone, Copy, PartialEq, Eq)]
 pub(crate) struct OsdFilter {
     /// Bit `osd % 64` of each device.
-    pub(crate) low: u64,
+    low: u64,
     /// Bit `osd / 64` of each device.
     pub(crate) high: u64,
     /// Bit `(osd % 64 + osd / 64) % 64` of each device: seldom set where `low` and `high` are set by two others.
@@ -20,6 +21,7 @@ pub(crate) struct OsdFilter {
 }
 
 impl OsdFilter {
+    /// The set without devices.
     pub(crate) fn empty() -> Self {
         OsdFilter {
             low: 0,
@@ -98,10 +100,18 @@ impl OsdFilter {
         }
     }
 
+    /// Bit `osd % 64` of each device that the set has, or may have, among those of which `osd / 64` is the number of the word.
+    pub(crate) fn low_in(self, word: usize) -> u64
+        requires { word < 64 }
+        ensures { (osd : ℕ) → osd / 64 ≡ word → bit_at self.high word ≡ 1 → (bit_at result (osd % 64) ≡ 1 ↔ Covers self osd) }
+    {
+        self.low & self.sum.rotate_right(word as u32)
+    }
+
     /// Whether some device may be in both sets: each word has a bit that the other set's has. The least of what the words share
     /// is looked at, since a branch for each word would seldom be foreseen.
     pub(crate) fn shares(self, other: OsdFilter) -> bool
-        ensures { (osd : ℕ) → Covers self osd → Covers other osd → result ≡ true }
+        ensures { result ≡ may_meet self other }
     {
         let high = self.high & other.high;
         let sum = self.sum & other.sum;

@@ -1,16 +1,15 @@
 //! What a shard reads first of each of its groups where an incremental comes.
 
-ghost use Rattle.std.specs.Prelude.{◌≡◌, List, true};
+ghost use Rattle.std.specs.Prelude.{◌≡◌, List, not};
 ghost use Rattle.pgp_ids.specs.declared.incremental.Incremental.{Incremental as AnyIncremental};
 ghost use Rattle.pgp_map.specs.MapFault.{then_with};
 ghost use Rattle.pgp_map.specs.MapOf.{IsMapOf};
 ghost use Rattle.pgp_log.specs.MapBefore.{IsMapBefore, moves_some};
-ghost use Rattle.pgp_log.specs.KeptGroup.{IsChangesOf, IsPassedByRow, devices_for, may_place};
+ghost use Rattle.pgp_log.specs.KeptGroup.{IsChangesOf, devices_for, may_concern, may_place};
 
 use super::before::MapBefore;
 use super::osd_filter::OsdFilter;
 use super::touch::{changes_no_pool, changes_placement, changes_placements};
-use super::wide_filter::WantedDevices;
 use pgp_ids::{Incremental, PgId};
 use pgp_map::OsdMap;
 
@@ -26,14 +25,12 @@ pub(crate) struct Row {
 }
 
 impl Row {
-    /// Whether the group may stay as it is: the incremental doesn't move it and, where it isn't marked, doesn't touch it.
+    /// Whether the group stays as it is: the incremental doesn't move it and, where it isn't marked, doesn't touch it.
     pub(crate) fn is_passed_by(&self, changes: &Changes, inc: &Incremental) -> bool
-        ensures { result ≡ true → IsPassedByRow changes.now inc.now self.now }
+        ensures { result ≡ not (may_concern changes.now inc.now self.now) }
     {
-        if changes.may_place(self.marked) && changes_placement(inc, &self.pg) {
-            return false;
-        }
-        !self.devices.shares(changes.devices_for(self.marked))
+        let placed = changes.may_place(self.marked) && changes_placement(inc, &self.pg);
+        !placed && !self.devices.shares(changes.devices_for(self.marked))
     }
 }
 
@@ -49,8 +46,6 @@ pub(crate) struct Changes {
     movers: OsdFilter,
     /// Those, and the devices of which it tells.
     devices: OsdFilter,
-    /// The same devices, as they are looked for in sets of the devices of many groups.
-    wanted: WantedDevices,
 }
 
 impl Changes {
@@ -71,7 +66,6 @@ impl Changes {
             moves: moves_some(before, after, inc),
             movers,
             devices,
-            wanted: WantedDevices::of(devices),
         }
     }
 
@@ -87,13 +81,6 @@ impl Changes {
         ensures { result ≡ devices_for marked self.now }
     {
         if marked { self.movers } else { self.devices }
-    }
-
-    /// The devices that concern some group, as they are looked for in sets of the devices of many groups.
-    pub(crate) fn wanted(&self) -> &WantedDevices
-        ensures { result.now ≡ self.now.wanted }
-    {
-        &self.wanted
     }
 }
 

@@ -2,13 +2,13 @@
 
 ghost use Rattle.std.specs.Prelude.{◌≡◌, ◌<◌, ◌≤◌, ◌++◌, ◌*◌, ◌/◌, ◌≢◌, ◌⊎◌, [], ◌∷◌, ℕ, List, Some, true, false, length, set, slice_get, IfSome, OnOk, OnErr};
 ghost use Rattle.pgp_ids.specs.declared.incremental.Incremental.{Incremental as AnyIncremental};
-ghost use Rattle.pgp_log.specs.KeptGroup.{IsPassedByRow};
+ghost use Rattle.pgp_log.specs.KeptGroup.{IsPassedByRow, may_concern};
 ghost use Rattle.pgp_log.specs.Rows.{IsInBlock, IsInWideBlock};
 ghost use Rattle.pgp_log.specs.declared.row.Row.{Row as AnyRow};
 
 use super::osd_filter::OsdFilter;
 use super::row::{Changes, Row};
-use super::wide_filter::{WantedDevices, WideFilter};
+use super::wide_filter::WideFilter;
 use pgp_ids::Incremental;
 use std::alloc::{AllocError, Global};
 use std::marker::Model;
@@ -17,46 +17,46 @@ use std::marker::Model;
 const BLOCK: usize = 8;
 
 /// How many rows make a wide block.
-const WIDE: usize = 64;
+const WIDE_BLOCK: usize = 64;
 
-/// The rows of groups, each at the place of its group, which contracts see as the list of them. What a block of eight rows has in
-/// common is kept beside them, and so are the devices of a wide block of 64, so that groups which an incremental doesn't touch can be
+/// The rows of groups, each at the place of its group, which contracts see as the list of them. A summary of each block of eight rows
+/// is kept beside them, and so are the devices of each wide block of 64, so that groups which an incremental doesn't touch can be
 /// passed by a block at a time.
 #[derive(Drop)]
 pub(crate) struct Rows {
     each: Vec<Row>,
     blocks: Vec<Block>,
-    wide: Vec<WideBlock>,
+    wide_blocks: Vec<WideBlock>,
 }
 
-/// What the rows of a block have in common.
+/// What the rows of a block say together.
 #[derive(Drop)]
 pub(crate) struct Block {
     /// Each of the groups is marked.
     marked: bool,
-    /// The devices of all the rows.
+    /// The devices of any of the rows.
     devices: OsdFilter,
 }
 
-/// What the rows of a wide block have in common.
+/// What the rows of a wide block say together.
 #[derive(Drop)]
 pub(crate) struct WideBlock {
-    /// The devices of all the rows, and perhaps of rows that stood there before.
+    /// The devices of any of the rows, and perhaps of rows that stood there before.
     devices: WideFilter,
-    /// How many rows took the place of others since it was made of the rows that stand there.
-    since: usize,
+    /// How many rows were replaced since it was made of the rows that stand there.
+    replaced: usize,
 }
 
 impl Model for Rows {
     ghost use Rattle.std.specs.Prelude.{List};
     ghost use Rattle.pgp_log.specs.declared.row.Row.{Row};
-    ghost use Rattle.pgp_log.specs.Rows.{AreCovered};
+    ghost use Rattle.pgp_log.specs.Rows.{AreInBlocks};
 
     ghost Value = { List Row };
 
     ghost view = { λ rows. rows.each.items };
 
-    ghost invariant = { λ rows. AreCovered rows.each.items rows.blocks.items rows.wide.items };
+    ghost invariant = { λ rows. AreInBlocks rows.each.items rows.blocks.items rows.wide_blocks.items };
 }
 
 impl Rows {
@@ -67,7 +67,7 @@ impl Rows {
         Rows {
             each: Vec::new(alloc),
             blocks: Vec::new(alloc),
-            wide: Vec::new(alloc),
+            wide_blocks: Vec::new(alloc),
         }
     }
 
@@ -78,14 +78,18 @@ impl Rows {
     {
         let place = self.each.len();
         make_room(&mut self.blocks, place / BLOCK, Block::empty())?;
-        make_room(&mut self.wide, place / WIDE, WideBlock::empty())?;
+        make_room(
+            &mut self.wide_blocks,
+            place / WIDE_BLOCK,
+            WideBlock::empty(),
+        )?;
         self.each.push(row)?;
         self.blocks[place / BLOCK].add(&row);
-        self.wide[place / WIDE].add(&row);
+        self.wide_blocks[place / WIDE_BLOCK].add(&row);
         Ok(())
     }
 
-    /// Puts this row at the place. One that stands there already needs no look at its block.
+    /// Puts this row at the place. Where the same row stands there already, nothing changes.
     pub(crate) fn set(&mut self, place: usize, row: Row)
         requires { place < length self.old }
         ensures { self.new ≡ set self.old place row }
@@ -95,7 +99,7 @@ impl Rows {
         }
         self.each[place] = row;
         self.blocks[place / BLOCK] = block_of(self.each.as_slice(), place / BLOCK);
-        self.wide[place / WIDE].renew(self.each.as_slice(), place);
+        self.wide_blocks[place / WIDE_BLOCK].take_row(self.each.as_slice(), place);
     }
 
     /// The first place, from this one on, whose group the incremental may move or touch.
@@ -103,6 +107,7 @@ impl Rows {
         ensures within { IfSome result (λ next. (from ≤ next) × (next < length self.now)) }
         ensures passed { (place : ℕ) (row : AnyRow) → from ≤ place → IfSome result (λ next. place < next)
             → slice_get self.now place ≡ Some row → IsPassedByRow changes.now inc.now row }
+        ensures stops { IfSome result (λ next. IfSome (slice_get self.now next) (λ row. may_concern changes.now inc.now row ≡ true)) }
     {
         let mut place = self.past_blocks(from, changes);
         while place < self.each.len() {
@@ -114,7 +119,8 @@ impl Rows {
         None
     }
 
-    /// This place or, where a block begins here, the first place of the next block that isn't passed by.
+    /// This place or, where a block begins here, the first place of the first block from here on that isn't passed by. Where all are
+    /// passed by, it is past the last row.
     fn past_blocks(&self, from: usize, changes: &Changes) -> usize
         ensures past { from ≤ result }
         ensures passed { (inc : AnyIncremental) (place : ℕ) (row : AnyRow) → from ≤ place → place < result
@@ -123,8 +129,10 @@ impl Rows {
         let mut place = from;
         if place % BLOCK == 0 {
             while place < self.each.len() {
-                if place % WIDE == 0 && self.wide[place / WIDE].is_passed_by(changes) {
-                    place += WIDE;
+                if place % WIDE_BLOCK == 0
+                    && self.wide_blocks[place / WIDE_BLOCK].is_passed_by(changes)
+                {
+                    place += WIDE_BLOCK;
                 } else if self.blocks[place / BLOCK].is_passed_by(changes) {
                     place += BLOCK;
                 } else {
@@ -154,7 +162,7 @@ impl Block {
         self.devices.add_set(row.devices);
     }
 
-    /// Whether each of the groups may stay as it is.
+    /// Whether each of the groups stays as it is.
     fn is_passed_by(&self, changes: &Changes) -> bool
         ensures { result ≡ true → (inc : AnyIncremental) (row : AnyRow) → IsInBlock row self.now → IsPassedByRow changes.now inc row }
     {
@@ -162,7 +170,7 @@ impl Block {
         self.is_apart(changes, false) || self.marked && self.is_apart(changes, true)
     }
 
-    /// Whether nothing that the incremental changes concerns one of the groups: of what concerns marked groups, or of all.
+    /// Whether no change concerns one of the groups: no change that concerns marked groups, or no change at all.
     fn is_apart(&self, changes: &Changes, marked: bool) -> bool
         ensures { result ≡ true → (inc : AnyIncremental) (row : AnyRow) → IsInBlock row self.now → (marked ≡ true → row.marked ≡ true)
             → IsPassedByRow changes.now inc row }
@@ -176,7 +184,7 @@ impl WideBlock {
     fn empty() -> Self {
         WideBlock {
             devices: WideFilter::empty(),
-            since: 0,
+            replaced: 0,
         }
     }
 
@@ -185,35 +193,36 @@ impl WideBlock {
         ensures there { IsInWideBlock row.now self.new }
         ensures still { (other : AnyRow) → IsInWideBlock other self.old → IsInWideBlock other self.new }
     {
-        self.devices.add(&WantedDevices::of(row.devices));
+        self.devices.add(row.devices);
     }
 
-    /// Takes the row that was put at this place. After as many rows as it has, it is made anew.
-    fn renew(&mut self, rows: &[Row], place: usize)
+    /// Takes the row that was put at this place. After 64 rows were replaced, the block is made anew, without the devices of those.
+    fn take_row(&mut self, rows: &[Row], place: usize)
         requires { place < length rows.now }
         ensures { (other : ℕ) (row : AnyRow) → other / 64 ≡ place / 64 → slice_get rows.now other ≡ Some row
             → (other ≢ place → IsInWideBlock row self.old) → IsInWideBlock row self.new }
     {
-        if self.since < WIDE {
-            self.since += 1;
+        if self.replaced < WIDE_BLOCK {
+            self.replaced += 1;
             self.add(&rows[place]);
         } else {
-            *self = wide_block_of(rows, place / WIDE);
+            *self = wide_block_of(rows, place / WIDE_BLOCK);
         }
     }
 
-    /// Whether each of the groups may stay as it is.
+    /// Whether each of the groups stays as it is.
     fn is_passed_by(&self, changes: &Changes) -> bool
         ensures { result ≡ true → (inc : AnyIncremental) (row : AnyRow) → IsInWideBlock row self.now → IsPassedByRow changes.now inc row }
     {
-        !changes.may_place(false) && !self.devices.shares(changes.wanted())
+        !changes.may_place(false) && !self.devices.shares(changes.devices_for(false))
     }
 }
 
 /// Adds the block of this number, which has no rows yet, if there is none.
 fn make_room<T: Drop>(blocks: &mut Vec<T>, number: usize, empty: T) -> Result<(), AllocError>
-    ensures same { (blocks.new.items ≡ blocks.old.items) ⊎ (blocks.new.items ≡ blocks.old.items ++ empty ∷ []) }
-    ensures ok { OnOk result (number ≤ length blocks.old.items → number < length blocks.new.items) }
+    ensures there { number < length blocks.old.items → blocks.new.items ≡ blocks.old.items }
+    ensures more { OnOk result (length blocks.old.items ≤ number → blocks.new.items ≡ blocks.old.items ++ empty ∷ []) }
+    ensures err { OnErr result (blocks.new.items ≡ blocks.old.items) }
 {
     if number >= blocks.len() {
         blocks.push(empty)?;
@@ -229,7 +238,7 @@ fn is_same(a: &Row, b: &Row) -> bool
     a == b
 }
 
-/// What the rows of the block have in common.
+/// What the rows of the block say together.
 fn block_of(rows: &[Row], number: usize) -> Block
     requires { number * 8 < length rows.now }
     ensures { (place : ℕ) (row : AnyRow) → place / 8 ≡ number → slice_get rows.now place ≡ Some row → IsInBlock row result }
@@ -243,13 +252,13 @@ fn block_of(rows: &[Row], number: usize) -> Block
     block
 }
 
-/// What the rows of the wide block have in common.
+/// What the rows of the wide block say together.
 fn wide_block_of(rows: &[Row], number: usize) -> WideBlock
     requires { number * 64 < length rows.now }
     ensures { (place : ℕ) (row : AnyRow) → place / 64 ≡ number → slice_get rows.now place ≡ Some row → IsInWideBlock row result }
 {
-    let first = number * WIDE;
-    let end = rows.len().min(first + WIDE);
+    let first = number * WIDE_BLOCK;
+    let end = rows.len().min(first + WIDE_BLOCK);
     let mut block = WideBlock::empty();
     for place in first..end {
         block.add(&rows[place]);

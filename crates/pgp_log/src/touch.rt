@@ -1,8 +1,8 @@
 //! What an incremental changes of a group.
 
 ghost use Rattle.std.specs.List.{list_any};
-ghost use Rattle.std.specs.Prelude.{◌≡◌, ◌||◌, nat_eq};
-ghost use Rattle.pgp_log.specs.Touch.{turns_none, changes_no_pool, changes_placements, moves_none, changes_nothing};
+ghost use Rattle.std.specs.Prelude.{◌≡◌, nat_eq};
+ghost use Rattle.pgp_log.specs.Touch.{turns_none, changes_no_pool, changes_placement, changes_placements, moves_none, changes_nothing};
 ghost use Rattle.pgp_group.specs.Touched.{changes_pool, changes_temp, moves_all};
 ghost use Rattle.pgp_sets.specs.Sets.{moves};
 
@@ -10,7 +10,7 @@ use pgp_ids::{Incremental, PgId, PoolId, PoolSizes, PoolSpec};
 
 /// The incremental may change where the group lies, whatever becomes of devices.
 pub(crate) fn changes_placement(inc: &Incremental, pg: &PgId) -> bool
-    ensures { result ≡ (moves_all inc.now || changes_pool inc.now pg.now.pool || changes_temp inc.now pg.now) }
+    ensures { result ≡ changes_placement inc.now pg.now }
 {
     moves_all(inc) || changes_pool(inc, pg.pool) || changes_temp(inc, pg)
 }

@@ -20,5 +20,4 @@ returns c =
           (λ osd is. c.add_weighed.ensures.still osd (turned osd is)) c.add_dated.ensures.still
           (rw c.as_slice-5.ensures at c.add_dated.ensures.there)) c.add_dated-2.ensures.still
           (rw c.as_slice-6.ensures at c.add_dated-2.ensures.there) osd (changed-parts (nat_eq osd) inc ∙ there);
-      wanted = c.of.ensures;
     }

@@ -1,4 +1,6 @@
-use Rattle.pgp_log.proofs.Common.{◌≡◌, length, Some, List, refl, sym, ap, ◌∙◌, subst, inl, inr, arith, slice_get, cases_eq, cases_lt, same_Some, slice_get_read, slice_get_within, IsPassedByRow, Row}
+use Rattle.pgp_log.proofs.Common.{◌≡◌, length, Some, List, sym, ap, ◌∙◌, subst, inl, inr, arith, slice_get, cases_eq, cases_lt, not-true, slice_get_within, IsPassedByRow, Row}
+use Rattle.pgp_log.proofs.RowLemmas.{unconcerned}
+use Rattle.pgp_log.proofs.RowsLemmas.{read-is}
 use Rattle.pgp_log.proofs.rows.Rows.next.Goals as goal
 
 pub loop-place-init : goal.loop-place-init
@@ -15,10 +17,9 @@ loop-place-preserved c =
         | inr past ↦ elim (cases_eq place here) [
           | inl at ↦
               let found : Row = c.index.result.now in
-              let each : List Row = c.self.inside.each.items in
-              let there' : slice_get each here ≡ Some row = ap (λ (l : List Row). slice_get l here) c.self.view_is ∙ ap (slice_get c.args.self.now) (sym at) ∙ there in
-              let read : slice_get each here ≡ Some found = slice_get_read each (length each) here found refl (slice_get_within each here row there') c.index.ensures in
-              subst (IsPassedByRow c.args.changes.now c.args.inc.now) (same_Some found row (sym read ∙ there')) (c.is_passed_by.ensures c.if-not-is_passed_by.false)
+              let there' : slice_get c.self.inside.each.items here ≡ Some row = ap (λ (l : List Row). slice_get l here) c.self.view_is ∙ ap (slice_get c.args.self.now) (sym at) ∙ there in
+              subst (IsPassedByRow c.args.changes.now c.args.inc.now) (read-is c.self.inside.each.items here found row c.index.ensures there')
+              (unconcerned c.args.changes.now c.args.inc.now found (not-true _ (sym c.is_passed_by.ensures ∙ c.if-not-is_passed_by.false)))
           | inr apart ↦ skips.passed c.args.inc.now place row (omega (arith, past, apart)) below there
         ]
       ];

@@ -5,7 +5,7 @@ use Rattle.pgp_log.proofs.rows.Rows.set.Goals as goal
 pub invariant_of-self : goal.invariant_of-self
 invariant_of-self c =
     let rows : List Row = c.self.inside.each.items in
-    let wide : List WideBlock = c.self.inside.wide.items in
+    let wide : List WideBlock = c.self.inside.wide_blocks.items in
     let place = c.args.place in
     let within : place < length rows = subst (λ (l : List Row). place < length l) (sym c.self.view_is) c.requires in
     let wide_are = c.self.invariant.wide_are in
@@ -13,7 +13,7 @@ invariant_of-self c =
     record {
       blocks_are = in-set 8 IsInBlock rows c.self.inside.blocks.items place c.args.row c.block_of.result c.self.invariant.blocks_are within
           (λ other row same there. c.block_of.ensures other row same (rw c.as_slice.ensures.value there));
-      wide_are = in-set 64 IsInWideBlock rows wide place c.args.row c.renew.new.self wide_are within
-          (λ other row same there. c.renew.ensures other row same (rw c.as_slice-2.ensures.value there)
+      wide_are = in-set 64 IsInWideBlock rows wide place c.args.row c.take_row.new.self wide_are within
+          (λ other row same there. c.take_row.ensures other row same (rw c.as_slice-2.ensures.value there)
           (λ apart. wide_are.each other row c.index_mut-3.result.now (sym (get-set_other rows place other c.args.row apart) ∙ there) (ap (slice_get wide) same ∙ was)));
     }

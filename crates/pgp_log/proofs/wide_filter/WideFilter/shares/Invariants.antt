@@ -1,7 +1,13 @@
-use Rattle.pgp_log.proofs.Common.{◌≡◌, ℕ, Some, true, nat_eq, slice_get, take, bit_and, list_any}
+use Rattle.std.specs.Int.{bit_at}
+use Rattle.pgp_log.proofs.Common.{◌≡◌, ℕ, ◌/◌, Covers, Has}
 use Rattle.pgp_log.proofs.wide_filter.WideFilter.shares.Given as goal
 
--- none of the words so far has one of the bits
+-- a device of both sets is of the words that are left
 abbrev pub invariant-loop-word : goal.invariant-loop-word
-invariant-loop-word l =
-    (word has : ℕ) → list_any (nat_eq word) (take l.word-index l.wanted.words.items) ≡ true → slice_get l.self.words word ≡ Some has → bit_and has l.wanted.bits ≡ 0
+invariant-loop-word l = record {
+  part : (bit : ℕ) → bit_at l.rest bit ≡ 1 → bit_at l.devices.high bit ≡ 1;
+  left : (osd : ℕ) → Has l.self osd → Covers l.devices osd → bit_at l.rest (osd / 64) ≡ 1;
+}
+
+abbrev pub decreases-loop-word : goal.decreases-loop-word
+decreases-loop-word l = l.rest
