@@ -1,4 +1,5 @@
 use Rattle.std.proofs.Common.{◌≡◌, ℕ, ◌+◌, ◌<◌, List, length, take, ap, sym, ◌∙◌, subst, arith}
+use Rattle.std.proofs.lemmas.Grind.{common_steps}
 use Rattle.pgp_ids.specs.declared.entry.Entry.{Entry}
 use Rattle.pgp_log.specs.Log.{IsFrontOf}
 use Rattle.pgp_log.proofs.SharedLemmas.{on_err}
@@ -27,3 +28,15 @@ returns-in_err-absorb_to-clause-reads g c =
     let less : length c.args.self.now.front < length (entries_of c.after-target.result) =
     subst (λ (s : Reader). length s.front < length (entries_of c.after-target.result)) c.self.view_is c.in_err-absorb_to.ensures.reads in
     on_err c.from_residual.result _ (omega (arith, less, ap length c.after-target.ensures.entries, front_short (take n newest) newest (take_front n newest), front_short newest new.seen seen))
+
+pub after-target-requires : goal.after-target-requires
+after-target-requires g c = grind (arith, common_steps)
+
+pub invariant_of-self : goal.invariant_of-self
+invariant_of-self g c = grind (arith, common_steps)
+
+pub returns-in_err-absorb_to-clause-on : goal.returns-in_err-absorb_to-clause-on
+returns-in_err-absorb_to-clause-on g c = grind (arith, common_steps)
+
+pub returns-clause-on : goal.returns-clause-on
+returns-clause-on g c = grind (arith, common_steps)
