@@ -3,6 +3,7 @@ use Rattle.pgp_group.proofs.Common.{◌≡◌, ◌≢◌, ◌≤◌, ℕ, List, 
 use Rattle.pgp_ids.specs.declared.entry.Entry.TheVariants as entry
 use Rattle.pgp_ids.specs.declared.pool.PoolKind.{PoolKind}
 pub use Rattle.pgp_lists.proofs.Results.{on_err}
+use Rattle.std.specs.Result.{OnErr}
 use Rattle.pgp_group.specs.Entries.{info_of}
 use Rattle.pgp_group.proofs.FirstLemmas.{past_of, step-moves}
 use Rattle.pgp_group.proofs.GrowthLemmas.{history-begins, history-grows, next_epoch, numbered-more}
@@ -101,14 +102,16 @@ pub infos-kept : (log : List Entry) (new : Entry) (pg : PgId) (h : History AnyCo
     → filter (λ (info : Info). is_same_group info.pg pg) (infos_of (log ++ new ∷ [])) ≡ filter (λ (info : Info). is_same_group info.pg pg) (infos_of log)
     → KeepsInfos (group_with log pg h) kept → KeepsInfos (group_with (log ++ new ∷ []) pg h) kept
 infos-kept log new pg h kept none told is =
-    KeepsInfos-on (group_with log pg h) (group_with (log ++ new ∷ []) pg h) kept kept
-    (outlasts-same _ _ (nothing_new inc_of log new none) refl) told is refl refl refl refl refl
+    KeepsInfos-on (group_with log pg h) (group_with (log ++ new ∷ []) pg h) kept
+    (outlasts-same _ _ (nothing_new inc_of log new none) refl) told is
 
 -- the same of reports of log entries
 pub reports-kept : (log : List Entry) (new : Entry) (pg : PgId) (h : History AnyCode) (kept : Reports) → inc_of new ≡ None
     → filter (λ (report : Report). is_same_group report.pg pg) (reports_of (log ++ new ∷ [])) ≡ filter (λ (report : Report). is_same_group report.pg pg) (reports_of log)
     → KeepsReports (group_with log pg h) kept → KeepsReports (group_with (log ++ new ∷ []) pg h) kept
-reports-kept log new pg h kept none told is = grind (arith, nat_tests, KeepsReports-on, outlasts-same, nothing_new)
+reports-kept log new pg h kept none told is =
+    KeepsReports-on (group_with log pg h) (group_with (log ++ new ∷ []) pg h) kept
+    (outlasts-same _ _ (nothing_new inc_of log new none) refl) told is
 
 -- the same of the devices of which it speaks
 pub names-kept : (log : List Entry) (new : Entry) (pg : PgId) (h : History AnyCode) (named : NamedDevices)
@@ -164,11 +167,11 @@ IsGroupOf-inc log inc pg old group members is fine lies pg_is infos' reports' re
         intervals_are = intervals-same (group_with log pg is.history) (group_with (log ++ entry.Inc inc ∷ []) pg after) group.intervals told intervals;
         infos_are = subst (KeepsInfos (group_with (log ++ entry.Inc inc ∷ []) pg after)) (sym infos')
             (KeepsInfos-on (group_with log pg is.history)
-            (group_with (log ++ entry.Inc inc ∷ []) pg after) old.infos old.infos on told is.keeps.infos_are refl refl refl refl refl);
+            (group_with (log ++ entry.Inc inc ∷ []) pg after) old.infos on told is.keeps.infos_are);
         reports_are = subst (KeepsReports (group_with (log ++ entry.Inc inc ∷ []) pg after)) (sym reports')
             (KeepsReports-on (group_with log pg is.history)
-            (group_with (log ++ entry.Inc inc ∷ []) pg after) old.reports old.reports on
-            (reports-same log (entry.Inc inc) pg refl) is.keeps.reports_are refl refl refl refl);
+            (group_with (log ++ entry.Inc inc ∷ []) pg after) old.reports on
+            (reports-same log (entry.Inc inc) pg refl) is.keeps.reports_are);
         named_are = named';
         prior_is = subst (KeepsPrior (group_with (log ++ entry.Inc inc ∷ []) pg after)) (sym reckoned')
             (KeepsPrior-grown (group_with log pg is.history) (group_with (log ++ entry.Inc inc ∷ []) pg after) old.reckoned grown.0 refl
@@ -225,16 +228,17 @@ pub IsGroupOf-kept : (log : List Entry) (pg : PgId) (old group : Group) (is : Is
     → Keeps (group_with log pg is.history) group → IsGroupOf log pg group
 IsGroupOf-kept log pg old group is kept = record { history = is.history; history_is = is.history_is; numbered = is.numbered; keeps = kept }
 
--- so it is also where its parts are kept elsewhere
-pub IsGroupOf-same : (log : List Entry) (pg : PgId) (old group : Group) → IsGroupOf log pg old → group.pg ≡ old.pg → group.intervals ≡ old.intervals → ((g : GroupLog) → KeepsInfos g old.infos → KeepsInfos g group.infos) → ((g : GroupLog) → KeepsReports g old.reports → KeepsReports g group.reports) → group.named.osds.items ≡ old.named.osds.items → group.reckoned ≡ old.reckoned → IsGroupOf log pg group
-IsGroupOf-same log pg old group is pg_is intervals infos' reports' named' reckoned' = IsGroupOf-kept log pg old group is (record {
+-- so it is also where its parts are kept elsewhere, as after an error
+pub same_after_error : {T E : Type 0} (r : Result T E) (old group : Group) → group.pg ≡ old.pg → group.intervals ≡ old.intervals → ((g : GroupLog) → KeepsInfos g old.infos → KeepsInfos g group.infos) → ((g : GroupLog) → KeepsReports g old.reports → KeepsReports g group.reports) → group.named.osds.items ≡ old.named.osds.items → group.reckoned ≡ old.reckoned
+    → OnErr r ((log : List Entry) (pg : PgId) → IsGroupOf log pg old → IsGroupOf log pg group)
+same_after_error r old group pg_is intervals infos' reports' named' reckoned' = on_err r _ (λ log pg is. IsGroupOf-kept log pg old group is (record {
   pg_is = pg_is ∙ is.keeps.pg_is;
   intervals_are = subst (IsIntervalsOf enough_of is_by_place is.history (cleans (group_with log pg is.history))) (sym intervals) is.keeps.intervals_are;
   infos_are = infos' (group_with log pg is.history) is.keeps.infos_are;
   reports_are = reports' (group_with log pg is.history) is.keeps.reports_are;
   named_are = KeepsNames-same (group_with log pg is.history) (group_with log pg is.history) old.named group.named refl refl refl named' is.keeps.named_are;
   prior_is = subst (KeepsPrior (group_with log pg is.history)) (sym reckoned') is.keeps.prior_is;
-})
+}))
 
 -- the same, where a group that keeps its parts elsewhere has reckoned anew whom it has to hear
 pub IsGroupOf-reckoned : (log : List Entry) (pg : PgId) (old group : Group) (new : KeptPrior) (is : IsGroupOf log pg old) → Keeps (group_with log pg is.history) group → (KeepsPrior (group_with log pg is.history) group.reckoned → KeepsPrior (group_with log pg is.history) new) → IsGroupOf log pg (record group { reckoned = new })

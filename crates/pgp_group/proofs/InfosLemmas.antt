@@ -1,10 +1,12 @@
 -- What is kept of the infos of a group, as its log grows and as they are looked at.
-use Rattle.pgp_group.proofs.Common.{◌≡◌, ℕ, ◌≤◌, List, [], ◌∷◌, ◌++◌, Some, Bool, true, false, ◌&&◌, ◌||◌, nat_lt, length, map, fold, max, take, drop, append-nil, append_assoc, length-append, refl, ap, ap₂, sym, ◌∙◌, subst, inl, inr, arith, Contains, filter, and_parts, or_parts, eqb-true, nat_tests, take_all, take-append-drop, take-append-le, map-append, filter-append, fold-append, AnyCode, is_same_member, PrimaryFacts, Incremental, Member, Membership, PgId, Info, HasDistinctMembers, with_infos, History, stepped, Contains-nil, append-contains, contains-append, filter-contains, epoch, AreNumbered, group_history, GroupLog, incs, infos, has_member, heard, last_of_each_member, les, KeepsInfos, TakesInfo, Infos}
+use Rattle.pgp_group.proofs.Common.{◌≡◌, ℕ, ◌≤◌, List, [], ◌∷◌, ◌++◌, Some, Bool, true, false, ◌&&◌, length, map, fold, max, take, drop, append-nil, append_assoc, refl, ap, sym, ◌∙◌, subst, arith, All-contains, Contains, filter, and_parts, eqb-true, nat_tests, take-append-drop, map-append, filter-append, fold-append, AnyCode, is_same_member, PrimaryFacts, Incremental, Member, Membership, PgId, Info, HasDistinctMembers, with_infos, History, stepped, filter-contains, epoch, AreNumbered, group_history, GroupLog, incs, infos, has_member, heard, last_of_each_member, KeepsInfos, TakesInfo, Infos}
 use Rattle.std.proofs.lemmas.Map.Views.{any-filter_same}
 use Rattle.pgp_group.proofs.FirstLemmas.{first-within, step-moves}
+use Rattle.pgp_group.specs.InboxOf.{with_arrival}
 use Rattle.pgp_group.specs.KeptInfos.{counts}
 use Rattle.pgp_group.proofs.GrowthLemmas.{history-last}
 use Rattle.pgp_group.proofs.HeardLemmas.{HasDistinctMembers-last_of, last_of-contains, last_of-snoc}
+use Rattle.pgp_group.proofs.InboxLemmas.{Grows, Grows-none, Grows-one, IsInboxOf-grown, seen-all, seen-grown, seen-sent}
 use Rattle.pgp_group.proofs.LaterLemmas.{Moves, Outlasts, outlasts-same}
 use Rattle.pgp_group.proofs.Lists.{filter-agree, filter-both, filter-each}
 
@@ -36,42 +38,25 @@ last_of-lasting : (lasts : ℕ → Bool) (told : List Info) → last_of_each_mem
 last_of-lasting lasts [] = refl
 last_of-lasting lasts (info ∷ told) = grind (arith, last_of-lasting lasts told, has_member-lasting lasts info.member told)
 
-take-contains : {X : Type 0} (n : ℕ) (xs : List X) (x : X) → Contains (take n xs) x → Contains xs x
-take-contains n xs x there = subst (λ l. Contains l x) (take-append-drop n xs) (contains-append (take n xs) (drop n xs) x (inl there))
-
 -- ---- more infos, or another map
 
 abbrev begun_by : Info → ℕ
 begun_by info = info.history_les
 
-pub KeepsInfos-grown : (g after : GroupLog) (more : List Info) (old kept : Infos) → Outlasts g after → infos after ≡ infos g ++ more
-    → (kept.ahead ≡ false → (old.ahead ≡ false) × ((info : Info) → Contains more info → info.stamp ≤ epoch (incs after))) → KeepsInfos g old
-    → kept.all.items ≡ old.all.items ++ more → kept.les ≡ fold max old.les (map begun_by more) → kept.seen ≡ old.seen
-    → kept.heard.infos ≡ old.heard.infos
-    → KeepsInfos after kept
-KeepsInfos-grown g after more old kept on told sent is all les' seen heard' = record {
-  all_are = all ∙ ap (λ (l : List Info). l ++ more) is.all_are ∙ sym told;
+abbrev sent_in : Info → ℕ
+sent_in info = info.stamp
+
+KeepsInfos-grown : (g after : GroupLog) (more : List Info) (old kept : Infos) → Outlasts g after → infos after ≡ infos g ++ more
+    → Grows sent_in more (epoch (incs after)) old.inbox kept.inbox → kept.les ≡ fold max old.les (map begun_by more) → kept.heard ≡ old.heard
+    → KeepsInfos g old → KeepsInfos after kept
+KeepsInfos-grown g after more old kept on told grows les' heard' is = record {
+  inbox_is = IsInboxOf-grown is.inbox_is told on.rises grows;
   les_is = grind (arith, nat_tests, map-append, fold-append);
-  distinct = subst HasDistinctMembers (sym heard') is.distinct;
-  seen_within = omega (arith, seen, is.seen_within, ap length told, length-append (infos g) more);
-  each_sent = λ settled i there. elim (append-contains (infos g) more i (subst (λ (l : List Info). Contains l i) told there)) [
-    | inl before ↦ omega (arith, is.each_sent (sent settled).0 i before, on.rises)
-    | inr new ↦ (sent settled).1 i new
-  ];
-  heard_sent = λ settled i there. omega (
-    arith,
-    is.heard_sent (sent settled).0 i
-        (subst (λ (l : List Info). Contains l i) heard' there),
-    on.rises,
-  );
+  distinct = grind (arith, nat_tests);
+  heard_sent = λ settled i there. grind (arith, nat_tests, is.heard_sent (grows.sent settled).0 i);
   heard_are = λ settled.
-      ap₂ (λ (n : ℕ) (l : List Info). last_of_each_member (filter (counts after) (take n l))) seen told
-      ∙ ap (λ (l : List Info). last_of_each_member (filter (counts after) l)) (take-append-le old.seen (infos g) more is.seen_within)
-      ∙ ap last_of_each_member (left (take old.seen (infos g))
-      (λ info there. is.each_sent (sent settled).0 info (take-contains old.seen (infos g) info there)))
-      ∙ last_of-lasting on.lasts (filter (counts g) (take old.seen (infos g)))
-      ∙ ap (filter (of_lasting on.lasts)) (is.heard_are (sent settled).0)
-      ∙ sym (ap (filter (counts after)) heard' ∙ left old.heard.infos (λ info there. is.heard_sent (sent settled).0 info there));
+      let looked_at : List Info = take old.inbox.seen (infos g) in
+      grind (arith, seen-grown is.inbox_is told grows, left looked_at (seen-sent is.inbox_is (grows.sent settled).0), last_of-lasting on.lasts (filter (counts g) looked_at), is.heard_are (grows.sent settled).0, left old.heard.infos (is.heard_sent (grows.sent settled).0));
 }
   where
     left : (l : List Info) → ((info : Info) → Contains l info → info.stamp ≤ epoch (incs g))
@@ -81,30 +66,16 @@ KeepsInfos-grown g after more old kept on told sent is all les' seen heard' = re
         (λ info there. on.counts info.member info.stamp (early info there))
         ∙ filter-both (counts g) (of_lasting on.lasts) l
 
--- no info more, also where they are kept elsewhere
-pub KeepsInfos-on : (g after : GroupLog) (old kept : Infos) → Outlasts g after → infos after ≡ infos g → KeepsInfos g old
-    → kept.all.items ≡ old.all.items → kept.les ≡ old.les → kept.seen ≡ old.seen → kept.heard.infos ≡ old.heard.infos
-    → kept.ahead ≡ old.ahead → KeepsInfos after kept
-KeepsInfos-on g after old kept on told is all les' seen heard' ahead =
-    KeepsInfos-grown g after [] old kept on (told ∙ sym (append-nil (infos g)))
-    (λ settled. (sym ahead ∙ settled, λ info there. absurd (Contains-nil info there)))
-    is (all ∙ sym (append-nil old.all.items)) les' seen heard'
+-- no info more
+pub KeepsInfos-on : (g after : GroupLog) (kept : Infos) → Outlasts g after → infos after ≡ infos g → KeepsInfos g kept → KeepsInfos after kept
+KeepsInfos-on g after kept on told =
+    KeepsInfos-grown g after [] kept kept on (told ∙ sym (append-nil (infos g))) (Grows-none sent_in (epoch (incs after)) kept.inbox) refl refl
 
 pub KeepsInfos-new : (g after : GroupLog) (info : Info) (at : ℕ) (old kept : Infos) → at ≡ epoch (incs g) → TakesInfo g info after → KeepsInfos g old
-    → kept.all.items ≡ old.all.items ++ info ∷ [] → kept.les ≡ max old.les info.history_les → kept.seen ≡ old.seen → kept.heard.infos ≡ old.heard.infos → kept.ahead ≡ (old.ahead || nat_lt at info.stamp)
-    → KeepsInfos after kept
-KeepsInfos-new g after info at old kept here told is all les' seen heard' ahead =
-    KeepsInfos-grown g after (info ∷ []) old kept
-    (outlasts-same g after told.incs_are told.history_is) told.infos_are sent is all les' seen heard'
-  where
-    sent : kept.ahead ≡ false → (old.ahead ≡ false) × ((i : Info) → Contains (info ∷ []) i → i.stamp ≤ epoch (incs after))
-    sent settled = grind (arith, or_parts old.ahead (nat_lt at info.stamp) (sym ahead ∙ settled), nat_tests)
-
--- ---- none that was looked at
-
-pub KeepsInfos-unseen : (g : GroupLog) (kept : Infos) → kept.all.items ≡ infos g → kept.les ≡ les g → kept.seen ≡ 0 → kept.heard.infos ≡ []
-    → (kept.ahead ≡ false → (info : Info) → Contains (infos g) info → info.stamp ≤ epoch (incs g)) → KeepsInfos g kept
-KeepsInfos-unseen g kept all les' seen nobody sent = grind arith
+    → kept.inbox ≡ with_arrival info at info.stamp old.inbox → kept.les ≡ max old.les info.history_les → kept.heard ≡ old.heard → KeepsInfos after kept
+KeepsInfos-new g after info at old kept here told is inbox les' heard' =
+    KeepsInfos-grown g after (info ∷ []) old kept (outlasts-same g after told.incs_are told.history_is) told.infos_are
+    (Grows-one sent_in info at (epoch (incs after)) old.inbox kept.inbox (here ∙ sym (ap epoch told.incs_are)) inbox) les' heard' is
 
 -- ---- the next map
 
@@ -115,34 +86,28 @@ moves incs pg h members facts counts' is =
 -- ---- a look at them
 
 -- those that are kept and count, and then the ones that weren't looked at
-pub heard-on : (g : GroupLog) (kept : Infos) → KeepsInfos g kept → kept.ahead ≡ false
-    → with_infos (filter (counts g) (drop kept.seen (infos g))) (filter (counts g) kept.heard.infos) ≡ heard g
+pub heard-on : (g : GroupLog) (kept : Infos) → KeepsInfos g kept → kept.inbox.ahead ≡ false
+    → with_infos (filter (counts g) (drop kept.inbox.seen (infos g))) (filter (counts g) kept.heard.infos) ≡ heard g
 heard-on g kept is settled =
-    let front : List Info = filter (counts g) (take kept.seen (infos g)) in
-    let back : List Info = filter (counts g) (drop kept.seen (infos g)) in
-    grind (arith, with_infos-last back front, filter-append (counts g) (take kept.seen (infos g)) (drop kept.seen (infos g)), take-append-drop kept.seen (infos g))
+    let front : List Info = filter (counts g) (take kept.inbox.seen (infos g)) in
+    let back : List Info = filter (counts g) (drop kept.inbox.seen (infos g)) in
+    grind (arith, with_infos-last back front, filter-append (counts g) (take kept.inbox.seen (infos g)) (drop kept.inbox.seen (infos g)), take-append-drop kept.inbox.seen (infos g))
 
 -- the same of those that are kept, each by itself
-pub heard-more : (g : GroupLog) (kept : Infos) → KeepsInfos g kept → kept.ahead ≡ false
-    → with_infos (filter (counts g) (drop kept.seen (infos g))) (last_of_each_member (filter (counts g) kept.heard.infos)) ≡ heard g
+pub heard-more : (g : GroupLog) (kept : Infos) → KeepsInfos g kept → kept.inbox.ahead ≡ false
+    → with_infos (filter (counts g) (drop kept.inbox.seen (infos g))) (last_of_each_member (filter (counts g) kept.heard.infos)) ≡ heard g
 heard-more g kept is settled = grind (arith, nat_tests, last_of-twice, heard-on)
 
-pub KeepsInfos-heard : (g : GroupLog) (old kept : Infos) → KeepsInfos g old → kept.all.items ≡ old.all.items → kept.les ≡ old.les → kept.ahead ≡ old.ahead → kept.seen ≡ length old.all.items
+-- all were looked at
+pub KeepsInfos-heard : (g : GroupLog) (old kept : Infos) → KeepsInfos g old → kept.inbox ≡ record old.inbox { seen = length old.inbox.all } → kept.les ≡ old.les
     → kept.heard.infos ≡ heard g → KeepsInfos g kept
-KeepsInfos-heard g old kept is all les' ahead seen infos_are =
-    let long : kept.seen ≡ length (infos g) = seen ∙ ap (λ (l : List Info). length l) is.all_are in
-    let whole : take kept.seen (infos g) ≡ infos g = take_all kept.seen (infos g) (omega (arith, long)) in
+KeepsInfos-heard g old kept is inbox les' infos_are =
     let among : (info : Info) → Contains (heard g) info → Contains (infos g) info × (counts g info ≡ true) = λ info there.
     filter-contains (counts g) (infos g) info (last_of-contains (filter (counts g) (infos g)) info there) in
     record {
-      all_are = all ∙ is.all_are;
+      inbox_is = grind (arith, nat_tests);
       les_is = les' ∙ is.les_is;
       distinct = subst HasDistinctMembers (sym infos_are) (HasDistinctMembers-last_of (filter (counts g) (infos g)));
-      seen_within = omega (arith, long);
-      each_sent = λ settled. is.each_sent (sym ahead ∙ settled);
-      heard_sent = λ settled info there. is.each_sent (sym ahead ∙ settled) info (among info (subst (λ (l : List Info). Contains l info) infos_are there)).0;
-      heard_are = λ settled.
-          ap (λ (l : List Info). last_of_each_member (filter (counts g) l)) whole
-          ∙ sym (filter-each (counts g) (heard g) (λ info there. (among info there).1))
-          ∙ ap (filter (counts g)) (sym infos_are);
+      heard_sent = λ settled info there. grind (arith, nat_tests, All-contains (λ (i : Info). i.stamp ≤ epoch (incs g)) (infos g) info, among info);
+      heard_are = λ settled. grind (arith, nat_tests, seen-all is.inbox_is, filter-each (counts g) (heard g) (λ info there. (among info there).1));
     }

@@ -15,6 +15,7 @@ pub mod UntouchedLemmas
 pub mod PresentLemmas
 pub mod ReachingLemmas
 pub mod InterleavingLemmas
+pub mod InboxLemmas
 pub mod InfosLemmas
 pub mod ReportsLemmas
 pub mod NamedLemmas

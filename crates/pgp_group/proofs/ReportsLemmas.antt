@@ -1,6 +1,9 @@
 -- What is kept of the reports of a group and of the logs of its members, as its log grows and as they are looked at.
-use Rattle.pgp_group.proofs.Common.{◌≡◌, ℕ, ◌≤◌, List, [], ◌∷◌, ◌++◌, Option, None, Bool, true, false, ◌&&◌, ◌||◌, cond, nat_le, nat_lt, length, take, length-append, refl, ap, ap₂, sym, ◌∙◌, subst, inl, inr, arith, append-nil, All, filter, find, flat_map, cases_Bool, and_parts, or_parts, nat_tests, take_all, take-append-le, All-contains, All-filter, All-take, All-weaker, filter_passes, All-append, is_same_member, LogEntry, Member, Report, All-members, filter-agree, epoch, by_number, GroupLog, incs, reports, is_counted, is_of, log_of, entries_of, counts_by, reported_in, AreLogsOf, KeepsReports, AreCounted, IsReportedBy, CountedLog, Reports, zero, suc, ◌+◌, ◌<◌, Some, if◌then◌else◌, get_or, position, position_from, position_or_len, slice_get, slice_set, option_map_or, option_or, nat_cmp, filter-append, find_at, find-set, find_past, find-append, position-Some, fold-append, slice_get-get_or, Info, IsLogOf, number_of, flat_map-push}
+use Rattle.pgp_group.proofs.Common.{◌≡◌, ℕ, ◌≤◌, List, [], ◌∷◌, ◌++◌, Option, None, Bool, true, false, ◌&&◌, cond, nat_le, length, take, refl, ap, sym, ◌∙◌, inl, inr, arith, append-nil, All, filter, find, flat_map, cases_Bool, and_parts, nat_tests, All-contains, All-filter, All-weaker, filter_passes, is_same_member, LogEntry, Member, Report, filter-agree, epoch, by_number, GroupLog, incs, reports, is_counted, is_of, log_of, entries_of, counts_by, reported_in, AreLogsOf, KeepsReports, AreCounted, IsReportedBy, CountedLog, Reports, zero, suc, ◌+◌, ◌<◌, Some, if◌then◌else◌, get_or, position, position_from, position_or_len, slice_get, slice_set, option_map_or, option_or, nat_cmp, filter-append, find_at, find-set, find_past, find-append, position-Some, fold-append, slice_get-get_or, Info, IsLogOf, number_of, flat_map-push}
+use Rattle.pgp_group.specs.InboxOf.{Arrivals, with_arrival}
 use Rattle.pgp_group.specs.KeptReports.{counts}
+use Rattle.pgp_group.specs.declared.logs.Logs.{Logs}
+use Rattle.pgp_group.proofs.InboxLemmas.{Grows, Grows-none, Grows-one, IsInboxOf-grown, seen-all, seen-grown, seen-sent}
 use Rattle.pgp_group.proofs.LaterLemmas.{Outlasts, outlasts-same}
 use Rattle.pgp_group.proofs.Lists.{filter-each}
 use Rattle.pgp_group.proofs.PeerLemmas.{same_member}
@@ -113,37 +116,31 @@ found-lasting test lasts member (x ∷ xs) = grind (arith, nat_tests, found-last
 abbrev is_by : GroupLog → Member → Report → Bool
 is_by g member report = is_same_member report.member member && is_counted g report.member report.stamp
 
-pub KeepsReports-grown : (g after : GroupLog) (more : List Report) (old kept : Reports) → Outlasts g after
-    → reports after ≡ reports g ++ more
-    → (kept.ahead ≡ false → (old.ahead ≡ false) × All (λ report. report.stamp ≤ epoch (incs after)) more) → KeepsReports g old
-    → kept.all.items ≡ old.all.items ++ more → kept.seen ≡ old.seen → kept.logs.of_members.items ≡ old.logs.of_members.items
-    → KeepsReports after kept
-KeepsReports-grown g after more old kept on told sent is all seen logs = record {
-  all_are = all ∙ ap (λ (l : List Report). l ++ more) is.all_are ∙ sym told;
-  seen_within = omega (arith, seen, is.seen_within, ap length told, length-append (reports g) more);
-  each_sent = λ settled. subst (λ (l : List Report). All (λ (r : Report). r.stamp ≤ epoch (incs after)) l) (sym told)
-      (All-append (λ (r : Report). r.stamp ≤ epoch (incs after)) (reports g) more
-      (All-weaker (λ (r : Report). r.stamp ≤ epoch (incs g)) (λ (r : Report). r.stamp ≤ epoch (incs after))
-      (λ r early. omega (arith, early, on.rises)) (reports g) (is.each_sent (sent settled).0)) (sent settled).1);
+abbrev sent_in : Report → ℕ
+sent_in report = report.stamp
+
+KeepsReports-grown : (g after : GroupLog) (more : List Report) (old kept : Reports) → Outlasts g after → reports after ≡ reports g ++ more
+    → Grows sent_in more (epoch (incs after)) old.inbox kept.inbox → kept.logs ≡ old.logs → KeepsReports g old → KeepsReports after kept
+KeepsReports-grown g after more old kept on told grows logs is = record {
+  inbox_is = IsInboxOf-grown is.inbox_is told on.rises grows;
   logs_sent = grind (arith, nat_tests, All-weaker);
   logs_are = λ settled member.
-      let looked_at : List Report = take old.seen (reports g) in
+      let looked_at : List Report = take old.inbox.seen (reports g) in
       let was : Option CountedLog = log_of member (filter (counts g) old.logs.of_members.items) in
       let now : log_of member (filter (counts after) old.logs.of_members.items) ≡ cond (on.lasts member.osd) was None =
       ap (find (is_of member))
       (filter-agree (counts after) (λ (log : CountedLog). counts g log && on.lasts log.member.osd) old.logs.of_members.items
       (λ log there. on.counts log.member log.stamp
-      (All-contains (λ (l : CountedLog). l.stamp ≤ epoch (incs g)) old.logs.of_members.items log (is.logs_sent (sent settled).0) there)))
+      (All-contains (λ (l : CountedLog). l.stamp ≤ epoch (incs g)) old.logs.of_members.items log (is.logs_sent (grows.sent settled).0) there)))
       ∙ found-lasting (counts g) on.lasts member old.logs.of_members.items in
       let left : filter (is_by after member) looked_at ≡ cond (on.lasts member.osd) (filter (is_by g member) looked_at) [] =
       filter-agree (is_by after member) (λ (r : Report). is_by g member r && on.lasts member.osd) looked_at
-      (λ r there. each member r (All-contains (λ (x : Report). x.stamp ≤ epoch (incs g)) looked_at r (All-take (λ (x : Report). x.stamp ≤ epoch (incs g)) old.seen (reports g) (is.each_sent (sent settled).0)) there))
+      (λ r there. each member r (seen-sent is.inbox_is (grows.sent settled).0 r there))
       ∙ filter-and (is_by g member) (on.lasts member.osd) looked_at in
-      ap (λ (l : List CountedLog). entries_of member (filter (counts after) l)) logs ∙ ap entries_from now
-      ∙ joined (on.lasts member.osd) was (filter (is_by g member) looked_at) (is.logs_are (sent settled).0 member)
+      ap (λ (l : Logs). entries_of member (filter (counts after) l.of_members.items)) logs ∙ ap entries_from now
+      ∙ joined (on.lasts member.osd) was (filter (is_by g member) looked_at) (is.logs_are (grows.sent settled).0 member)
       ∙ ap (λ (l : List Report). by_number (flat_map (λ (r : Report). r.log) l)) (sym left)
-      ∙ ap (λ (l : List Report). by_number (reported_in after l member))
-      (sym (ap₂ (λ (n : ℕ) (l : List Report). take n l) seen told ∙ take-append-le old.seen (reports g) more is.seen_within));
+      ∙ ap (λ (l : List Report). by_number (reported_in after l member)) (sym (seen-grown is.inbox_is told grows));
 }
   where
     each : (member : Member) (r : Report) → r.stamp ≤ epoch (incs g) → is_by after member r ≡ (is_by g member r && on.lasts member.osd)
@@ -154,84 +151,54 @@ KeepsReports-grown g after more old kept on told sent is all seen logs = record 
     joined true found told' same = same
     joined false found told' same = refl
 
--- no report more, also where they are kept elsewhere
-pub KeepsReports-on : (g after : GroupLog) (old kept : Reports) → Outlasts g after → reports after ≡ reports g → KeepsReports g old
-    → kept.all.items ≡ old.all.items → kept.seen ≡ old.seen → kept.logs.of_members.items ≡ old.logs.of_members.items
-    → kept.ahead ≡ old.ahead → KeepsReports after kept
-KeepsReports-on g after old kept on told is all seen logs ahead =
-    grind (arith, nat_tests, KeepsReports-grown g after, append-nil (reports g), append-nil old.all.items)
+-- no report more
+pub KeepsReports-on : (g after : GroupLog) (kept : Reports) → Outlasts g after → reports after ≡ reports g → KeepsReports g kept → KeepsReports after kept
+KeepsReports-on g after kept on told =
+    KeepsReports-grown g after [] kept kept on (told ∙ sym (append-nil (reports g))) (Grows-none sent_in (epoch (incs after)) kept.inbox) refl
 
 pub KeepsReports-new : (g after : GroupLog) (report : Report) (at : ℕ) (old kept : Reports) → at ≡ epoch (incs g) → IsReportedBy g report after → KeepsReports g old
-    → kept.all.items ≡ old.all.items ++ report ∷ [] → kept.seen ≡ old.seen → kept.logs.of_members.items ≡ old.logs.of_members.items → kept.ahead ≡ (old.ahead || nat_lt at report.stamp)
-    → KeepsReports after kept
-KeepsReports-new g after report at old kept here told is all seen logs ahead =
-    KeepsReports-grown g after (report ∷ []) old kept
-    (outlasts-same g after told.incs_are told.history_is) told.reports_are sent is all seen logs
-  where
-    sent : kept.ahead ≡ false → (old.ahead ≡ false) × All (λ r. r.stamp ≤ epoch (incs after)) (report ∷ [])
-    sent settled = grind (arith, or_parts old.ahead (nat_lt at report.stamp) (sym ahead ∙ settled), nat_tests)
+    → kept.inbox ≡ with_arrival report at report.stamp old.inbox → kept.logs ≡ old.logs → KeepsReports after kept
+KeepsReports-new g after report at old kept here told is inbox logs =
+    KeepsReports-grown g after (report ∷ []) old kept (outlasts-same g after told.incs_are told.history_is) told.reports_are
+    (Grows-one sent_in report at (epoch (incs after)) old.inbox kept.inbox (here ∙ sym (ap epoch told.incs_are)) inbox) logs is
 
 -- ---- a look at them
 
 -- what is kept is judged again
-pub AreCounted-judged : (g : GroupLog) (old kept : Reports) → KeepsReports g old → old.ahead ≡ false → kept.all.items ≡ old.all.items → kept.seen ≡ old.seen → kept.ahead ≡ old.ahead
+pub AreCounted-judged : (g : GroupLog) (old kept : Reports) → KeepsReports g old → old.inbox.ahead ≡ false → kept.inbox ≡ old.inbox
     → kept.logs.of_members.items ≡ filter (counts g) old.logs.of_members.items → AreCounted g kept
-AreCounted-judged g old kept is settled all seen ahead logs = record {
-  all_are = all ∙ is.all_are;
-  seen_within = subst (λ (n : ℕ). n ≤ length (reports g)) (sym seen) is.seen_within;
-  each_sent = λ _. is.each_sent settled;
-  each_counts = λ _.
-      subst (All (λ (log : CountedLog). counts_by g (epoch (incs g)) log ≡ true)) (sym logs)
-      (All-members (λ (log : CountedLog). counts_by g (epoch (incs g)) log ≡ true) (filter (counts g) old.logs.of_members.items)
-      (λ log there. passes log
-      (All-contains (λ (l : CountedLog). counts g l ≡ true) (filter (counts g) old.logs.of_members.items) log (filter_passes (counts g) old.logs.of_members.items) there)
-      (All-contains (λ (l : CountedLog). l.stamp ≤ epoch (incs g)) (filter (counts g) old.logs.of_members.items) log (All-filter (counts g) (λ (l : CountedLog). l.stamp ≤ epoch (incs g)) old.logs.of_members.items (is.logs_sent settled)) there)));
-  logs_are = grind (arith, nat_tests);
-}
+AreCounted-judged g old kept is settled inbox logs =
+    grind (arith, nat_tests, each (filter (counts g) old.logs.of_members.items), filter_passes (counts g) old.logs.of_members.items, All-filter (counts g) (λ (l : CountedLog). l.stamp ≤ epoch (incs g)) old.logs.of_members.items)
   where
-    passes : (log : CountedLog) → counts g log ≡ true → log.stamp ≤ epoch (incs g) → counts_by g (epoch (incs g)) log ≡ true
-    passes log counted sent = let by : nat_le log.stamp (epoch (incs g)) ≡ true = grind (arith, nat_tests) in rw (counted, by) refl
-
--- nothing was looked at
-pub AreCounted-none : (g : GroupLog) (kept : Reports) → kept.all.items ≡ reports g → kept.seen ≡ 0 → kept.logs.of_members.items ≡ [] → (kept.ahead ≡ false → All (λ report. report.stamp ≤ epoch (incs g)) (reports g)) → AreCounted g kept
-AreCounted-none g kept all seen logs sent = grind arith
+    each : (logs' : List CountedLog) → All (λ log. counts g log ≡ true) logs' → All (λ log. log.stamp ≤ epoch (incs g)) logs' → All (λ log. counts_by g (epoch (incs g)) log ≡ true) logs'
+    each logs' counted early = grind (arith, nat_tests)
 
 -- all were looked at, and the logs count
-pub KeepsReports-heard : (g : GroupLog) (old kept : Reports) → AreCounted g old → kept.all.items ≡ old.all.items → kept.ahead ≡ old.ahead → kept.seen ≡ length old.all.items
-    → AreLogsOf g (reports g) kept.logs.of_members.items → (old.ahead ≡ false → All (λ log. counts_by g (epoch (incs g)) log ≡ true) kept.logs.of_members.items) → KeepsReports g kept
-KeepsReports-heard g old kept is all ahead seen logs counted =
-    let long : kept.seen ≡ length (reports g) = seen ∙ ap (λ (l : List Report). length l) is.all_are in
-    let whole : take kept.seen (reports g) ≡ reports g = take_all kept.seen (reports g) (omega (arith, long)) in
-    record {
-      all_are = all ∙ is.all_are;
-      seen_within = omega (arith, long);
-      each_sent = λ settled. is.each_sent (sym ahead ∙ settled);
-      logs_sent = grind (arith, nat_tests, All-weaker, and_parts);
-      logs_are = grind (arith, nat_tests, filter-each, and_parts, All-contains);
-    }
-  where
-    early : (log : CountedLog) → nat_le log.stamp (epoch (incs g)) ≡ true → log.stamp ≤ epoch (incs g)
-    early log by = grind (arith, nat_tests)
+pub KeepsReports-heard : (g : GroupLog) (old kept : Reports) → AreCounted g old → kept.inbox ≡ record old.inbox { seen = length old.inbox.all }
+    → AreLogsOf g (reports g) kept.logs.of_members.items → (old.inbox.ahead ≡ false → All (λ log. counts_by g (epoch (incs g)) log ≡ true) kept.logs.of_members.items) → KeepsReports g kept
+KeepsReports-heard g old kept is inbox logs counted =
+    grind (arith, nat_tests, seen-all is.inbox_is, All-weaker, and_parts, filter-each, All-contains)
 
 -- ---- bounds
 
 -- what a log says, except for its bounds, stays
-pub KeepsReports-renewed : (g : GroupLog) (old kept : Reports) → KeepsReports g old → kept.all.items ≡ old.all.items → kept.seen ≡ old.seen → kept.ahead ≡ old.ahead
+pub KeepsReports-renewed : (g : GroupLog) (old kept : Reports) → KeepsReports g old → kept.inbox ≡ old.inbox
     → ((test : Member → ℕ → Bool) (member : Member) (reported : List LogEntry) → entries_of member (filter (judged test) old.logs.of_members.items) ≡ by_number reported → entries_of member (filter (judged test) kept.logs.of_members.items) ≡ by_number reported)
     → ((test : Member → ℕ → Bool) → All (λ log. judged test log ≡ true) old.logs.of_members.items → All (λ log. judged test log ≡ true) kept.logs.of_members.items)
     → KeepsReports g kept
-KeepsReports-renewed g old kept is all seen ahead entries each = record {
-  all_are = all ∙ is.all_are;
-  seen_within = subst (λ (n : ℕ). n ≤ length (reports g)) (sym seen) is.seen_within;
-  each_sent = λ settled. is.each_sent (sym ahead ∙ settled);
+KeepsReports-renewed g old kept is inbox entries each = record {
+  inbox_is = grind (arith, nat_tests);
   logs_sent = λ settled.
       All-weaker (λ (log : CountedLog). judged by log ≡ true) (λ (log : CountedLog). log.stamp ≤ epoch (incs g)) early kept.logs.of_members.items
-      (each by (All-weaker (λ (log : CountedLog). log.stamp ≤ epoch (incs g)) (λ (log : CountedLog). judged by log ≡ true) passes old.logs.of_members.items (is.logs_sent (sym ahead ∙ settled))));
+      (each by (All-weaker (λ (log : CountedLog). log.stamp ≤ epoch (incs g)) (λ (log : CountedLog). judged by log ≡ true) passes old.logs.of_members.items (is.logs_sent (same_ahead settled))));
   logs_are = λ settled member.
-      entries (is_counted g) member (reported_in g (take old.seen (reports g)) member) (is.logs_are (sym ahead ∙ settled) member)
-      ∙ ap (λ (n : ℕ). by_number (reported_in g (take n (reports g)) member)) (sym seen);
+      entries (is_counted g) member (reported_in g (take old.inbox.seen (reports g)) member) (is.logs_are (same_ahead settled) member)
+      ∙ ap (λ (a : Arrivals Report). by_number (reported_in g (take a.seen (reports g)) member)) (sym inbox);
 }
   where
+    same_ahead : kept.inbox.ahead ≡ false → old.inbox.ahead ≡ false
+    same_ahead settled = sym (ap (λ (a : Arrivals Report). a.ahead) inbox) ∙ settled
+
     by : Member → ℕ → Bool
     by member stamp = nat_le stamp (epoch (incs g))
 

@@ -129,17 +129,15 @@ named_past log pg h p member there stood =
     let was : was_member member.osd p ≡ true = rw (acted, or-true) refl in
     grind (arith, contains-any (was_member member.osd) (past (group_with log pg h)) p there was)
 
+-- who sent one of these is of a device that did
+sent-by : {X : Type 0} (sender : X → Member) (sent : List X) (x : X) → Contains sent x → list_any (λ y. nat_eq (sender y).osd (sender x).osd) sent ≡ true
+sent-by sender sent x there = contains-any (λ y. nat_eq (sender y).osd (sender x).osd) sent x there (grind (arith, nat_tests))
+
 named_info : (log : List Entry) (pg : PgId) (h : History AnyCode) (info : Info) → Contains (infos (group_with log pg h)) info → names info.member.osd (group_with log pg h) ≡ true
-named_info log pg h info there =
-    let same : nat_eq info.member.osd info.member.osd ≡ true = grind (arith, nat_tests) in
-    let any : list_any (λ (i : Info). nat_eq i.member.osd info.member.osd) (infos (group_with log pg h)) ≡ true = contains-any (λ (i : Info). nat_eq i.member.osd info.member.osd) (infos (group_with log pg h)) info there same in
-    rw (any, or-true) refl
+named_info log pg h info there = rw (sent-by (λ (i : Info). i.member) (infos (group_with log pg h)) info there, or-true) refl
 
 named_report : (log : List Entry) (pg : PgId) (h : History AnyCode) (report : Report) → Contains (reports (group_with log pg h)) report → names report.member.osd (group_with log pg h) ≡ true
-named_report log pg h report there =
-    let same : nat_eq report.member.osd report.member.osd ≡ true = grind (arith, nat_tests) in
-    let any : list_any (λ (r : Report). nat_eq r.member.osd report.member.osd) (reports (group_with log pg h)) ≡ true = contains-any (λ (r : Report). nat_eq r.member.osd report.member.osd) (reports (group_with log pg h)) report there same in
-    rw (any, or-true) refl
+named_report log pg h report there = rw (sent-by (λ (r : Report). r.member) (reports (group_with log pg h)) report there, or-true) refl
 
 -- whom it has heard
 

@@ -1,10 +1,11 @@
 -- What is kept of the infos of a group while more come (this project's own choice).
-use Rattle.std.specs.Prelude.{◌≡◌, ◌≤◌, [], ◌∷◌, ◌++◌, Bool, false, length, take, filter, Contains}
+use Rattle.std.specs.Prelude.{◌≡◌, ◌≤◌, [], ◌∷◌, ◌++◌, Bool, false, take, filter, Contains}
 use Rattle.pgp_ids.specs.declared.report.Info.{Info}
 use Rattle.pgp_info.specs.Best.{HasDistinctMembers}
 use Rattle.pgp_map.specs.Map.{epoch}
 use Rattle.pgp_group.specs.GroupLog.{GroupLog, incs, infos}
 use Rattle.pgp_group.specs.Heard.{is_counted, last_of_each_member, les}
+use Rattle.pgp_group.specs.InboxOf.{IsInboxOf}
 use Rattle.pgp_group.specs.declared.infos.Infos.{Infos}
 
 -- the info counts
@@ -15,13 +16,11 @@ counts g info = is_counted g info.member info.stamp
 -- members as heard. Where each was sent in this epoch or before, those are kept as heard of which the ones that count are
 -- the last of their members, of the infos that were looked at
 pub record KeepsInfos (g : GroupLog) (kept : Infos) : Type 0 where
-  pub all_are : kept.all.items ≡ infos g
+  pub inbox_is : IsInboxOf (λ info. info.stamp) (infos g) (epoch (incs g)) kept.inbox
   pub les_is : kept.les ≡ les g
   pub distinct : HasDistinctMembers kept.heard.infos
-  pub seen_within : kept.seen ≤ length (infos g)
-  pub each_sent : kept.ahead ≡ false → (info : Info) → Contains (infos g) info → info.stamp ≤ epoch (incs g)
-  pub heard_sent : kept.ahead ≡ false → (info : Info) → Contains kept.heard.infos info → info.stamp ≤ epoch (incs g)
-  pub heard_are : kept.ahead ≡ false → last_of_each_member (filter (counts g) (take kept.seen (infos g))) ≡ filter (counts g) kept.heard.infos
+  pub heard_sent : kept.inbox.ahead ≡ false → (info : Info) → Contains kept.heard.infos info → info.stamp ≤ epoch (incs g)
+  pub heard_are : kept.inbox.ahead ≡ false → last_of_each_member (filter (counts g) (take kept.inbox.seen (infos g))) ≡ filter (counts g) kept.heard.infos
 
 -- the group with one info more, and no other map
 pub record TakesInfo (g : GroupLog) (info : Info) (after : GroupLog) : Type 0 where

@@ -1,5 +1,5 @@
 -- What is kept of the reports of log entries of a group while more come (this project's own choice).
-use Rattle.std.specs.Prelude.{◌≡◌, ℕ, ◌≤◌, List, [], ◌∷◌, ◌++◌, Bool, true, false, ◌&&◌, nat_le, Option, length, take, filter, find, flat_map, All}
+use Rattle.std.specs.Prelude.{◌≡◌, ℕ, ◌≤◌, List, [], ◌∷◌, ◌++◌, Bool, true, false, ◌&&◌, nat_le, Option, take, filter, find, flat_map, All}
 use Rattle.std.specs.Option.{option_map_or}
 use Rattle.pgp_ids.specs.Member.{is_same_member}
 use Rattle.pgp_ids.specs.declared.log_entry.LogEntry.{LogEntry}
@@ -9,6 +9,7 @@ use Rattle.pgp_map.specs.Map.{epoch}
 use Rattle.pgp_missing.specs.Log.{by_number}
 use Rattle.pgp_group.specs.GroupLog.{GroupLog, incs, reports}
 use Rattle.pgp_group.specs.Heard.{is_counted}
+use Rattle.pgp_group.specs.InboxOf.{IsInboxOf}
 use Rattle.pgp_group.specs.declared.logs.CountedLog.{CountedLog}
 use Rattle.pgp_group.specs.declared.reports.Reports.{Reports}
 
@@ -45,19 +46,15 @@ AreLogsOf g told logs = (member : Member) → entries_of member logs ≡ by_numb
 -- all reports are kept. Where each was sent in this epoch or before, those logs are kept of which the ones that count are
 -- the logs by the reports that were looked at
 pub record KeepsReports (g : GroupLog) (kept : Reports) : Type 0 where
-  pub all_are : kept.all.items ≡ reports g
-  pub seen_within : kept.seen ≤ length (reports g)
-  pub each_sent : kept.ahead ≡ false → All (λ report. report.stamp ≤ epoch (incs g)) (reports g)
-  pub logs_sent : kept.ahead ≡ false → All (λ log. log.stamp ≤ epoch (incs g)) kept.logs.of_members.items
-  pub logs_are : kept.ahead ≡ false → AreLogsOf g (take kept.seen (reports g)) (filter (counts g) kept.logs.of_members.items)
+  pub inbox_is : IsInboxOf (λ report. report.stamp) (reports g) (epoch (incs g)) kept.inbox
+  pub logs_sent : kept.inbox.ahead ≡ false → All (λ log. log.stamp ≤ epoch (incs g)) kept.logs.of_members.items
+  pub logs_are : kept.inbox.ahead ≡ false → AreLogsOf g (take kept.inbox.seen (reports g)) (filter (counts g) kept.logs.of_members.items)
 
 -- the same, where each log that is kept counts
 pub record AreCounted (g : GroupLog) (kept : Reports) : Type 0 where
-  pub all_are : kept.all.items ≡ reports g
-  pub seen_within : kept.seen ≤ length (reports g)
-  pub each_sent : kept.ahead ≡ false → All (λ report. report.stamp ≤ epoch (incs g)) (reports g)
-  pub each_counts : kept.ahead ≡ false → All (λ log. counts_by g (epoch (incs g)) log ≡ true) kept.logs.of_members.items
-  pub logs_are : AreLogsOf g (take kept.seen (reports g)) kept.logs.of_members.items
+  pub inbox_is : IsInboxOf (λ report. report.stamp) (reports g) (epoch (incs g)) kept.inbox
+  pub each_counts : kept.inbox.ahead ≡ false → All (λ log. counts_by g (epoch (incs g)) log ≡ true) kept.logs.of_members.items
+  pub logs_are : AreLogsOf g (take kept.inbox.seen (reports g)) kept.logs.of_members.items
 
 -- the group with one report more, and no other map
 pub record IsReportedBy (g : GroupLog) (report : Report) (after : GroupLog) : Type 0 where

@@ -10,6 +10,7 @@ pub mod Examples
 pub mod Worked
 pub mod Present
 pub mod Causes
+pub mod InboxOf
 pub mod KeptInfos
 pub mod KeptReports
 pub mod DeviceFacts

@@ -1,6 +1,6 @@
 //! A placement group, as the log so far tells of it.
 
-ghost use Rattle.std.specs.Prelude.{◌≡◌, ◌≤◌, ◌++◌, ℕ, [], ◌∷◌, List, Some, None, true, false, length, option_map, IfOk, OnOk, OnErr};
+ghost use Rattle.std.specs.Prelude.{◌≡◌, ◌≤◌, ◌++◌, ℕ, [], ◌∷◌, List, Some, None, true, false, length, IfOk, OnOk, OnErr};
 ghost use Rattle.pgp_code.specs.AnyCode.{enough_of, is_by_place};
 ghost use Rattle.pgp_code.specs.declared.any.AnyCode.{AnyCode as Code};
 ghost use Rattle.pgp_interval.specs.History.{History};
@@ -124,6 +124,7 @@ impl Group {
         }
     }
 
+    #[tactic(auto, using(crate::proofs::GroupLemmas::same_after_error))]
     fn keep_info(&mut self, info: &Info) -> Result<(), AllocError>
         ensures ok { OnOk result ((log : List AnyEntry) (pg : Id)
             → (is_same_group info.now.pg pg ≡ true → info.now.last_epoch_clean ≤ epoch_of (incs_of log))
@@ -162,6 +163,7 @@ impl Group {
         }
     }
 
+    #[tactic(auto, using(crate::proofs::GroupLemmas::same_after_error))]
     fn keep_report(&mut self, report: &Report) -> Result<(), AllocError>
         ensures ok { OnOk result ((log : List AnyEntry) (pg : Id)
             → IsGroupOf log pg self.old → IsGroupOf (log ++ entry.Entries report.now ∷ []) pg self.new) }

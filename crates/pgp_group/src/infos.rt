@@ -1,6 +1,6 @@
 //! The infos of a group, and whom it has heard by them.
 
-ghost use Rattle.std.specs.Prelude.{◌≡◌, ◌≤◌, ◌||◌, [], true, false, nat_lt, max, length, drop, IfOk, OnOk, OnErr};
+ghost use Rattle.std.specs.Prelude.{◌≡◌, [], true, false, max, IfOk, OnOk, OnErr};
 ghost use Rattle.pgp_map.specs.Map.{epoch as epoch_of};
 ghost use Rattle.pgp_group.specs.GroupLog.{GroupLog, incs, infos};
 ghost use Rattle.pgp_group.specs.Heard.{heard};
@@ -8,6 +8,7 @@ ghost use Rattle.pgp_group.specs.KeptInfos.{KeepsInfos, TakesInfo};
 ghost use Rattle.pgp_group.specs.Present.{IsPresent};
 
 use super::heard::{forget_uncounted, hear, heard};
+use super::inbox::Inbox;
 use pgp_ids::{Epoch, Info};
 use pgp_info::{Best, Preference};
 use pgp_map::OsdMap;
@@ -21,17 +22,12 @@ use std::alloc::{AllocError, Global};
 /// before, since another member leads, the best is found anew.
 #[derive(Drop)]
 pub(crate) struct Infos {
-    /// All infos, counted or not, in the order in which they came.
-    all: Vec<Info>,
+    /// All infos, counted or not.
+    inbox: Inbox<Info>,
     /// The last epoch in which the group is known to have begun to serve, by all infos.
     pub(crate) les: Epoch,
     /// Of the infos that were looked at, the last of each member that counted then, and the best of these.
     pub(crate) heard: Best<Preference>,
-    /// How many were looked at.
-    seen: usize,
-    /// Whether an info came before the epoch in which it says that it was sent. Such an info may begin to count later, so
-    /// from then on all are judged at each look.
-    ahead: bool,
 }
 
 impl Infos {
@@ -40,11 +36,9 @@ impl Infos {
         ensures { (g : GroupLog) → infos g ≡ [] → KeepsInfos g result }
     {
         Infos {
-            all: Vec::new(alloc),
+            inbox: Inbox::new(alloc),
             les: Epoch::new(0),
             heard: Best::new(alloc, Preference::of_pool(false, None)),
-            seen: 0,
-            ahead: false,
         }
     }
 
@@ -54,9 +48,8 @@ impl Infos {
             → KeepsInfos g self.old → KeepsInfos after self.new) }
         ensures err { OnErr result ((g : GroupLog) → KeepsInfos g self.old → KeepsInfos g self.new) }
     {
-        self.all.push(*info)?;
+        self.inbox.push(*info, at, info.stamp)?;
         self.les = later_of(self.les, info.history_les);
-        self.ahead = is_ahead(self.ahead, at, info.stamp);
         Ok(())
     }
 
@@ -79,14 +72,14 @@ impl Infos {
         // It takes no memory to hear nobody.
         let nobody = heard(alloc, map, first, &[], prefer)?;
         forget_uncounted(&mut self.heard, map, first);
-        let unseen = unseen(self.all.as_slice(), self.seen);
-        match hear(&mut self.heard, map, first, unseen) {
+        match hear(&mut self.heard, map, first, self.inbox.unseen()) {
             Ok(()) => {
-                self.seen = self.all.len();
+                self.inbox.mark_seen();
                 Ok(())
             }
             Err(fault) => {
-                self.forget(nobody);
+                self.heard = nobody;
+                self.inbox.mark_unseen();
                 Err(fault)
             }
         }
@@ -94,10 +87,10 @@ impl Infos {
 
     /// Whether the best that is kept can go on being kept, by this preference.
     fn goes_on(&self, prefer: &Preference) -> bool
-        ensures settled { result ≡ true → self.now.ahead ≡ false }
+        ensures settled { result ≡ true → self.now.inbox.ahead ≡ false }
         ensures same { result ≡ true → prefer.now ≡ self.now.heard.prefer }
     {
-        !self.ahead && prefer == self.heard.prefer()
+        !self.inbox.is_ahead() && prefer == self.heard.prefer()
     }
 
     /// Finds the best of those who are heard anew, by another preference.
@@ -114,7 +107,7 @@ impl Infos {
     {
         let heard = self.heard_by(alloc, map, first, prefer)?;
         self.heard = heard;
-        self.seen = self.all.len();
+        self.inbox.mark_seen();
         Ok(())
     }
 
@@ -129,37 +122,12 @@ impl Infos {
         ensures { IfOk result (λ best. (g : GroupLog) → IsPresent g map.now first → KeepsInfos g self.now
             → best ≡ record { prefer = prefer; infos = heard g }) }
     {
-        let all = self.all.as_slice();
-        if self.ahead {
-            return heard(alloc, map, first, all, prefer);
+        if self.inbox.is_ahead() {
+            return heard(alloc, map, first, self.inbox.all(), prefer);
         }
         let mut best = heard(alloc, map, first, self.heard.infos(), prefer)?;
-        hear(&mut best, map, first, unseen(all, self.seen))?;
+        hear(&mut best, map, first, self.inbox.unseen())?;
         Ok(best)
-    }
-
-    /// Forgets what was looked at.
-    fn forget(&mut self, nobody: Best<Preference>)
-        ensures all { self.new.all.items ≡ self.old.all.items }
-        ensures les { self.new.les ≡ self.old.les }
-        ensures heard { self.new.heard ≡ nobody }
-        ensures seen { self.new.seen ≡ 0 }
-        ensures ahead { self.new.ahead ≡ self.old.ahead }
-    {
-        self.heard = nobody;
-        self.seen = 0;
-    }
-}
-
-/// The infos or reports after those that were looked at.
-pub(crate) fn unseen<T>(all: &[T], seen: usize) -> &[T]
-    ensures { seen ≤ length all.now → result.now ≡ drop seen all.now }
-{
-    if seen <= all.len() {
-        let (_, unseen) = all.split_at(seen);
-        unseen
-    } else {
-        all
     }
 }
 
@@ -168,11 +136,4 @@ fn later_of(a: Epoch, b: Epoch) -> Epoch
     ensures { result ≡ max a b }
 {
     if a < b { b } else { a }
-}
-
-/// Whether one was ahead, or this one is, which came at this epoch and was sent in that one.
-pub(crate) fn is_ahead(before: bool, at: Epoch, stamp: Epoch) -> bool
-    ensures { result ≡ (before || nat_lt at stamp) }
-{
-    before || at < stamp
 }

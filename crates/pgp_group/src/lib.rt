@@ -11,6 +11,7 @@ mod counted;
 mod device_facts;
 mod group;
 mod heard;
+mod inbox;
 mod infos;
 mod kept_prior;
 pub mod laws;

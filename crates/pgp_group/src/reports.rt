@@ -7,7 +7,7 @@ ghost use Rattle.pgp_group.specs.KeptReports.{KeepsReports, IsReportedBy, AreCou
 ghost use Rattle.pgp_group.specs.Present.{IsPresent};
 
 use super::copies::copy_of;
-use super::infos::{is_ahead, unseen};
+use super::inbox::Inbox;
 use super::logs::Logs;
 use pgp_ids::{Epoch, Report};
 use pgp_map::OsdMap;
@@ -20,15 +20,10 @@ use std::alloc::{AllocError, Global};
 /// last report that went into it, and dropped whole.
 #[derive(Drop)]
 pub(crate) struct Reports {
-    /// All reports, counted or not, in the order in which they came.
-    all: Vec<Report>,
+    /// All reports, counted or not.
+    inbox: Inbox<Report>,
     /// By the reports that were looked at, the logs of the members.
     pub(crate) logs: Logs,
-    /// How many were looked at.
-    seen: usize,
-    /// Whether a report came before the epoch in which it says that it was sent. Such a report may begin to count later, so
-    /// from then on all are judged at each look.
-    ahead: bool,
 }
 
 impl Reports {
@@ -37,10 +32,8 @@ impl Reports {
         ensures { (g : GroupLog) → reports g ≡ [] → KeepsReports g result }
     {
         Reports {
-            all: Vec::new(alloc),
+            inbox: Inbox::new(alloc),
             logs: Logs::new(alloc),
-            seen: 0,
-            ahead: false,
         }
     }
 
@@ -56,9 +49,7 @@ impl Reports {
         ensures err { OnErr result ((g : GroupLog) → KeepsReports g self.old → KeepsReports g self.new) }
     {
         let copy = copy_of(alloc, report)?;
-        self.all.push(copy)?;
-        self.ahead = is_ahead(self.ahead, at, report.stamp);
-        Ok(())
+        self.inbox.push(copy, at, report.stamp)
     }
 
     /// Looks at the reports that came since the last look, and again at the logs that are kept, by the last map and the first
@@ -74,11 +65,19 @@ impl Reports {
             → AreLogsOf g (reports g) self.new.logs.of_members.items) }
         ensures kept { (g : GroupLog) → IsPresent g map.now first → KeepsReports g self.old → KeepsReports g self.new }
     {
-        if self.ahead {
-            self.forget(alloc);
-        }
-        self.logs.keep_counted(map, first);
+        self.keep_counted(alloc, map, first);
         self.hear_unseen(alloc, map, first)
+    }
+
+    /// Drops the logs that count no more, or all where a report came ahead of its epoch.
+    fn keep_counted(&mut self, alloc: Global, map: &OsdMap, first: Epoch)
+        ensures { (g : GroupLog) → IsPresent g map.now first → KeepsReports g self.old → AreCounted g self.new }
+    {
+        if self.inbox.is_ahead() {
+            self.forget(alloc);
+        } else {
+            self.logs.keep_counted(map, first);
+        }
     }
 
     /// Adds the entries of the reports that weren't looked at and count to the logs, all of which count.
@@ -87,10 +86,9 @@ impl Reports {
             → AreLogsOf g (reports g) self.new.logs.of_members.items) }
         ensures kept { (g : GroupLog) → IsPresent g map.now first → AreCounted g self.old → KeepsReports g self.new }
     {
-        let unseen = unseen(self.all.as_slice(), self.seen);
-        match self.logs.hear(alloc, map, first, unseen) {
+        match self.logs.hear(alloc, map, first, self.inbox.unseen()) {
             Ok(()) => {
-                self.seen = self.all.len();
+                self.inbox.mark_seen();
                 Ok(())
             }
             Err(fault) => {
@@ -102,12 +100,10 @@ impl Reports {
 
     /// Forgets what was looked at.
     fn forget(&mut self, alloc: Global)
-        ensures all { self.new.all.items ≡ self.old.all.items }
-        ensures ahead { self.new.ahead ≡ self.old.ahead }
-        ensures seen { self.new.seen ≡ 0 }
+        ensures inbox { self.new.inbox ≡ record self.old.inbox { seen = 0 } }
         ensures logs { self.new.logs.of_members.items ≡ [] }
     {
         self.logs = Logs::new(alloc);
-        self.seen = 0;
+        self.inbox.mark_unseen();
     }
 }

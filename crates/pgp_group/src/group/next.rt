@@ -57,6 +57,7 @@ impl Group {
     /// Takes the next map, by which the group lies at these members: it looks for none itself. `facts` are what the map that it
     /// was until now says of the acting primary. Where the group lies as before it takes no memory. After an error the group stands for
     /// the same log.
+    #[tactic(auto, using(crate::proofs::GroupLemmas::same_after_error))]
     pub fn absorb_members(
         &mut self,
         after: &OsdMap,

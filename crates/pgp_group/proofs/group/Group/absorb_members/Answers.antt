@@ -1,5 +1,5 @@
 use Rattle.pgp_group.proofs.Common.{◌≡◌, ◌≢◌, ◌||◌, ℕ, List, [], ◌∷◌, Option, Some, false, nat_eq, ap, refl, subst, sym, ◌∙◌, list_any, option_map, true≢false, same_Some, enough_of, is_by_place, AnyCode, Entry, PrimaryFacts, Membership, PgId, History, stepped, IsIntervalsOf, is_same, is_same-eq, eq-is_same, membership, incs_of, primary_facts, cleans, group_with, IsGroupOf, has_osd, Group, arith}
-use Rattle.pgp_group.proofs.GroupLemmas.{on_err, IsGroupOf-inc, IsGroupOf-same, names-end, names-stay}
+use Rattle.pgp_group.proofs.GroupLemmas.{on_err, IsGroupOf-inc, names-end, names-stay}
 use Rattle.pgp_group.proofs.HistoryLemmas.{history-current}
 use Rattle.pgp_group.proofs.group.Group.absorb_members.Goals as goal
 
@@ -42,17 +42,6 @@ returns-clause-ok c = λ log pg inc is fine told after lies.
     (λ osd. c.add_places.ensures.osds osd ∙ (λ i. has_osd osd (current i).up || list_any (nat_eq osd) (c.make_room.ensures.same i)))
     (λ osd. c.add_places-2.ensures.osds osd ∙ (λ i. has_osd osd (current i).acting || list_any (nat_eq osd) c.add_places.new.self.osds.items))
     is.keeps.named_are)
-
-pub returns-in_err-make_room-clause-err : goal.returns-in_err-make_room-clause-err
-returns-in_err-make_room-clause-err c =
-    on_err c.from_residual.result _
-    (λ log pg is. IsGroupOf-same log pg c.args.self.now _ is refl refl (λ g kept. kept) (λ g kept. kept) c.make_room.ensures.same refl)
-
-pub returns-in_err-step-clause-err : goal.returns-in_err-step-clause-err
-returns-in_err-step-clause-err c =
-    on_err c.from_residual-in_err-step.result _
-    (λ log pg is. IsGroupOf-same log pg c.args.self.now _ is refl c.in_err-step.ensures.err (λ g kept. kept)
-    (λ g kept. kept) c.make_room.ensures.same refl)
 
 pub returns-in_err-make_room-clause-wants : goal.returns-in_err-make_room-clause-wants
 returns-in_err-make_room-clause-wants c =

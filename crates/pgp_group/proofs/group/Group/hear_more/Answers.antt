@@ -31,7 +31,7 @@ returns-in-Some-clause-kept c = λ g keeps here. record {
   intervals_are = keeps.intervals_are;
   infos_are = c.look.ensures.kept g here keeps.infos_are;
   reports_are =
-      KeepsReports-renewed g c.look-2.new.self _ (c.look-2.ensures.kept g here keeps.reports_are) refl refl refl c.renew.ensures.entries c.renew.ensures.each;
+      KeepsReports-renewed g c.look-2.new.self _ (c.look-2.ensures.kept g here keeps.reports_are) refl c.renew.ensures.entries c.renew.ensures.each;
   named_are = keeps.named_are;
   prior_is = keeps.prior_is;
 }

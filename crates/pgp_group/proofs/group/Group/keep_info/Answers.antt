@@ -1,20 +1,9 @@
 use Rattle.pgp_group.proofs.Common.{◌≡◌, ◌≤◌, ℕ, List, ◌++◌, [], ◌∷◌, true, false, ap, arith, refl, subst, sym, ◌∙◌, enough_of, is_by_place, PgId, IsIntervalsOf, with_item, epoch, is_same_group, incs_of, GroupLog, cleans, group_with, KeepsInfos, KeepsNames, KeepsReports}
 use Rattle.pgp_ids.specs.declared.entry.Entry.TheVariants as entry
-use Rattle.pgp_group.proofs.GroupLemmas.{on_err, IsGroupOf-other, IsGroupOf-same, cleans-told, infos-kept, infos-new, infos-other, infos-told, les-grows, names-kept, reports-kept, reports-same, stood-told, IsGroupOf-report}
+use Rattle.pgp_group.proofs.GroupLemmas.{IsGroupOf-other, cleans-told, infos-kept, infos-new, infos-other, infos-told, les-grows, names-kept, reports-kept, reports-same, stood-told, IsGroupOf-report}
 use Rattle.pgp_group.proofs.GrowthLemmas.{history-last}
 use Rattle.pgp_group.proofs.NamedLemmas.{before, KeepsNames-info}
 use Rattle.pgp_group.proofs.group.Group.keep_info.Goals as goal
-
-pub returns-in_err-make_room_for-clause-err : goal.returns-in_err-make_room_for-clause-err
-returns-in_err-make_room_for-clause-err c =
-    on_err c.from_residual.result _
-    (λ log pg is. IsGroupOf-same log pg c.args.self.now _ is refl refl (λ g kept. kept) (λ g kept. kept) c.make_room_for.ensures.same refl)
-
-pub returns-in_err-push-clause-err : goal.returns-in_err-push-clause-err
-returns-in_err-push-clause-err c =
-    on_err c.from_residual-in_err-push.result _
-    (λ log pg is. IsGroupOf-same log pg c.args.self.now _ is refl refl c.in_err-push.ensures.err
-    (λ g kept. kept) c.make_room_for.ensures.same refl)
 
 pub returns-in_ok-push-clause-ok : goal.returns-in_ok-push-clause-ok
 returns-in_ok-push-clause-ok c = λ log pg come is.

@@ -1,5 +1,6 @@
-use Rattle.pgp_group.proofs.Common.{◌≡◌, ◌≤◌, List, false, length, drop, ap, ap₂, subst, sym, ◌∙◌, filter, Info, Heard, with_infos, Preference, infos, last_of_each_member}
+use Rattle.pgp_group.proofs.Common.{◌≡◌, List, false, drop, ap, ap₂, sym, ◌∙◌, filter, Info, Heard, with_infos, Preference, infos, last_of_each_member}
 use Rattle.pgp_group.specs.KeptInfos.{counts}
+use Rattle.pgp_group.proofs.InboxLemmas.{unseen-is}
 use Rattle.pgp_group.proofs.InfosLemmas.{heard-more}
 use Rattle.pgp_group.proofs.infos.Infos.heard_by.Goals as goal
 
@@ -8,11 +9,9 @@ returns c = λ g here kept.
     let old = c.args.self.now in
     let by : List Info → Heard Preference = λ l. record { prefer = c.args.prefer; infos = l } in
     let more : Heard Preference → List Info → Heard Preference = λ h l. record h { infos = with_infos (filter (counts g) l) h.infos } in
-    let settled : old.ahead ≡ false = c.if-self.false in
-    let all : c.as_slice-all.result.now ≡ infos g = c.as_slice-all.ensures.value ∙ kept.all_are in
-    let within : old.seen ≤ length c.as_slice-all.result.now = subst (λ (l : List Info). old.seen ≤ length l) (sym all) kept.seen_within in
-    let unseen : c.unseen.result.now ≡ drop old.seen (infos g) = c.unseen.ensures within ∙ ap (drop old.seen) all in
+    let settled : old.inbox.ahead ≡ false = sym c.is_ahead.ensures ∙ c.if-is_ahead.false in
+    let unseen : c.unseen.result.now ≡ drop old.inbox.seen (infos g) = unseen-is kept.inbox_is c.unseen.ensures in
     c.in_ok-hear.ensures g here
     ∙ ap₂ more (c.in_ok-best.ensures g here) unseen
-    ∙ ap (λ (l : List Info). more (by (last_of_each_member (filter (counts g) l))) (drop old.seen (infos g))) c.infos.ensures
+    ∙ ap (λ (l : List Info). more (by (last_of_each_member (filter (counts g) l))) (drop old.inbox.seen (infos g))) c.infos.ensures
     ∙ ap by (heard-more g old kept settled)
