@@ -26,7 +26,7 @@ In this order, each part with its count and its seconds:
 `rt run` left. --seed is that of the generated scripts, 1 if not said.
 
 Needs bash, Python and `rt`, and a C compiler for two of the statuses and for the last parts: what lacks one is left out, and a
-line says so. All but the gate take some twelve minutes on a quiet machine. Each part has a bound of its own, some four times
+line says so. All parts except the gate take some twelve minutes on a quiet machine. Each part has a bound of its own, some four times
 that, so that a busy machine fails none; one that takes longer has failed. The gate says its lines as they come, another part
 where it failed. Nothing is installed, and no file is left in the tree but in folders `out`. The last line is
 `N passed, M failed`, of all parts together, and the status is 1 where something failed.
@@ -57,7 +57,7 @@ REFUSED_SCRIPTS = (  # in which each allocation is refused, with the words befor
     ("an explanation", ("explain", "examples/explain_down.jsonl", "1.0")),
     ("a compaction", ("compact", "examples/compact.jsonl")),
 )
-MOST_SECONDS = 3600  # for all parts but the gate
+MOST_SECONDS = 3600  # for all parts except the gate
 CHECK_BYTES = 5_000_000_000  # more than any check of the gate takes
 SKIPPED = 3  # the status of a part that says in its own words that it was skipped
 MOST_SHOWN = 4000  # characters of what a failed part said

@@ -1,6 +1,6 @@
 //! Where an object lies, from a session.
 
-ghost use Rattle.std.specs.Prelude.{◌≡◌, ◌<◌, ◌≤◌, ◌↔◌, ◌⊎◌, length, Err, IsSome, IfSome, IfOk, IfErr};
+ghost use Rattle.std.specs.Prelude.{◌≡◌, ◌<◌, ◌↔◌, ◌⊎◌, length, Err, IsSome, IfSome, IfOk, IfErr};
 ghost use Rattle.pgp_c.specs.Locate.{IsPool, IsName, LocatesIn};
 
 use super::place::{PgpPlace, place_of};

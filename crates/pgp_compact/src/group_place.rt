@@ -4,7 +4,7 @@ ghost use Rattle.std.specs.List.{list_any};
 ghost use Rattle.std.specs.Prelude.{◌≡◌, ◌||◌, List};
 ghost use Rattle.pgp_ids.specs.declared.incremental.Incremental.{Incremental as AnyIncremental};
 ghost use Rattle.pgp_map.specs.Held.{HasGroup};
-ghost use Rattle.pgp_map.specs.MapFault.{map_fault, then_with};
+ghost use Rattle.pgp_map.specs.MapFault.{then_with};
 ghost use Rattle.pgp_map.specs.MapOf.{IsMapOf};
 ghost use Rattle.pgp_log.specs.RawSets.{IsRawSet};
 ghost use Rattle.pgp_compact.specs.Course.{LiesAt, IsNext, lies_on, may_leave};

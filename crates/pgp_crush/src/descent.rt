@@ -1,6 +1,6 @@
 //! The way down from a bucket to an item of a type.
 
-ghost use Rattle.std.specs.Prelude.{◌≡◌, ℕ, ◌<◌, ◌≤◌, ◌^◌, length, sum, Some};
+ghost use Rattle.std.specs.Prelude.{◌≡◌, ◌<◌, ◌≤◌, ◌^◌, length, sum, Some};
 ghost use Rattle.pgp_crush.specs.declared.descent.Step.{Step};
 ghost use Rattle.pgp_crush.specs.declared.descent.Descent.TheVariants.{Found};
 ghost use Rattle.pgp_crush.specs.Bucket.{bucket_of};

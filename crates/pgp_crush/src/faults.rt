@@ -1,6 +1,6 @@
 //! The tests that make a list of buckets a tree.
 
-ghost use Rattle.std.specs.Prelude.{◌≡◌, ℤ, ℕ, ◌<◌, ◌-◌, ◌^◌, None, map, length, sum, nat_lt, slice_get, true, false, IfOk, IfSome, IfNone, OnSome, OnErr, count_by, not};
+ghost use Rattle.std.specs.Prelude.{◌≡◌, ℤ, ◌<◌, ◌-◌, ◌^◌, None, map, length, sum, nat_lt, slice_get, true, false, IfOk, IfSome, IfNone, OnSome, OnErr, count_by, not};
 ghost use Rattle.std.specs.List.{list_any, position_from};
 ghost use Rattle.std.specs.Ordering.{int_eq};
 ghost use Rattle.std.specs.HashSet as bag;

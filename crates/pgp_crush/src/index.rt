@@ -1,6 +1,6 @@
 //! Sets of ids, and where each bucket of a list stands.
 
-ghost use Rattle.std.specs.Prelude.{◌≡◌, ◌<◌, ℤ, drop, length, map, IfOk, OnErr};
+ghost use Rattle.std.specs.Prelude.{◌≡◌, ◌<◌, ℤ, length, map, IfOk, OnErr};
 ghost use Rattle.std.specs.List.{list_any};
 ghost use Rattle.std.specs.Ordering.{int_eq};
 ghost use Rattle.std.specs.HashSet as bag;

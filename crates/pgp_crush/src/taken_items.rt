@@ -1,6 +1,6 @@
 //! What the placement of a replicated pool has taken so far.
 
-ghost use Rattle.std.specs.Prelude.{◌≡◌, ◌<◌, List, Option, length, Some};
+ghost use Rattle.std.specs.Prelude.{◌≡◌, ◌<◌, Option, length, Some};
 ghost use Rattle.pgp_crush.specs.Picks.{no_picks, with_pick, is_taken, has_leaf};
 
 use super::candidate::Pick;

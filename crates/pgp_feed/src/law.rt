@@ -70,7 +70,7 @@ impl Plain<(), Entry, u64> for Take {
 }
 
 /// What a thread knows of the book.
-pub type Known = Seen<Entry, u64, Law>;
+pub type Knowledge = Seen<Entry, u64, Law>;
 
 /// A word of the book.
 pub type Number = Word<Entry, u64, Law>;

@@ -2,7 +2,7 @@
 ghost use Rattle.std.specs.Prelude.{◌≡◌, ◌≤◌, length, true};
 ghost use Rattle.pgp_log.specs.Log.{is_legal};
 
-use crate::law::Known;
+use crate::law::Knowledge;
 
 mod grow;
 mod steps;
@@ -10,7 +10,7 @@ mod steps;
 /// It names a front of the feed's log, for good. It is copied without memory.
 pub struct Receipt {
     len: usize,
-    seen: Known,
+    seen: Knowledge,
     ghost within: { len ≤ length seen.log },
     ghost legal: { is_legal seen.log ≡ true },
 }

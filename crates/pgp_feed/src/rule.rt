@@ -7,6 +7,7 @@ use crossbeam_utils::rule::{Outcome, Protocol};
 /// A view is a receipt of what was seen, if anything was.
 pub type View = Option<Receipt>;
 
+/// Both copies stand for one log, and each view is a front of it.
 pub struct OneLog;
 
 impl Protocol<Store, View> for OneLog {

@@ -30,15 +30,18 @@ pub const EMPTY_1: &str =
 pub const EMPTY_2: &str =
     r#"{"op":"info","pg":[1,0],"from":[2,0],"stamp":1,"les":0,"history_les":0,"last_update":[0,0],"log_tail":[0,0],"complete":true}"#;
 
+/// The lines of two copies with writes, of which device 1 lacks the second, and of the log of device 0.
+pub const WRITTEN_0: &str =
+    r#"{"op":"info","pg":[1,0],"from":[0,0],"stamp":1,"les":0,"history_les":0,"last_update":[1,2],"log_tail":[0,0],"complete":true}"#;
+
+pub const WRITTEN_1: &str =
+    r#"{"op":"info","pg":[1,0],"from":[1,0],"stamp":1,"les":0,"history_les":0,"last_update":[1,1],"log_tail":[0,0],"complete":true}"#;
+
+pub const LOG_0: &str =
+    r#"{"op":"entries","pg":[1,0],"from":[0,0],"stamp":1,"log":[[1,1,"modify","a"],[1,2,"modify","b"]]}"#;
+
 /// The incremental by which device 0 is known to have been up in epoch 1.
 pub const KNOWN_UP: &str = r#"{"op":"inc","epoch":2,"up_thru":[[0,1]]}"#;
 
 /// The entries after which a group of three copies serves: two have writes that the third lacks.
-pub const TO_SERVE: [&str; 6] = [
-    COPIES,
-    r#"{"op":"info","pg":[1,0],"from":[0,0],"stamp":1,"les":0,"history_les":0,"last_update":[1,2],"log_tail":[0,0],"complete":true}"#,
-    r#"{"op":"info","pg":[1,0],"from":[1,0],"stamp":1,"les":0,"history_les":0,"last_update":[1,1],"log_tail":[0,0],"complete":true}"#,
-    EMPTY_2,
-    r#"{"op":"entries","pg":[1,0],"from":[0,0],"stamp":1,"log":[[1,1,"modify","a"],[1,2,"modify","b"]]}"#,
-    KNOWN_UP,
-];
+pub const TO_SERVE: [&str; 6] = [COPIES, WRITTEN_0, WRITTEN_1, EMPTY_2, LOG_0, KNOWN_UP];

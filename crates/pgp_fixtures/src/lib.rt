@@ -1,7 +1,7 @@
 //! Values that tests need, each made in one place: ids and versions, memberships, infos, incrementals, entries by their
 //! lines, lines that make a small pool, and seeded numbers and streams.
 //!
-//! A key more in one of these types is a change of one file here. Nothing but tests stands on this crate.
+//! What one transcript alone is about stands in that transcript. Only tests stand on this crate.
 #![tactic(auto)]
 
 mod dice;
@@ -17,7 +17,9 @@ mod words;
 pub use dice::Dice;
 pub use ids::{NO_OSD, group, member, osd, places, pool, version};
 pub use incrementals::changing_nothing;
-pub use infos::{EMPTY_0, EMPTY_1, EMPTY_2, KNOWN_UP, TO_SERVE, empty_copy};
+pub use infos::{
+    EMPTY_0, EMPTY_1, EMPTY_2, KNOWN_UP, LOG_0, TO_SERVE, WRITTEN_0, WRITTEN_1, empty_copy,
+};
 pub use intervals::{lying_on, two_epochs};
 pub use lines::{entry, entry_surely, incremental, text_of};
 pub use maps::{

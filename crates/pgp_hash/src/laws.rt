@@ -1,7 +1,7 @@
 //! Laws of the definitions, and worked examples that the definitions compute.
 #![tactic(auto, unfolding(crate::specs::Worked::hashes_computed))]
 
-ghost use Rattle.std.specs.Prelude.{◌≡◌, ℕ, ◌+◌, ◌^◌, ◌<◌, ◌≤◌, ◌⊎◌, [], ◌∷◌, codes};
+ghost use Rattle.std.specs.Prelude.{◌≡◌, ℕ, ◌+◌, ◌^◌, ◌<◌, ◌≤◌, ◌⊎◌, [], codes};
 ghost use Rattle.pgp_hash.specs.Mix.{mixed};
 ghost use Rattle.pgp_hash.specs.NameHash.{name_hash};
 ghost use Rattle.pgp_hash.specs.StableMod.{exponent_of, mask_of, stable_mod};

@@ -1,4 +1,4 @@
-ghost use Rattle.std.specs.Prelude.{◌≡◌, ℕ, pos, negsuc, ◌≤ℤ◌, ◌<ℤ◌, length};
+ghost use Rattle.std.specs.Prelude.{◌≡◌, pos, negsuc, ◌≤ℤ◌, ◌<ℤ◌, length};
 ghost use Rattle.pgp_ids.specs.Bucket.{weight_count};
 
 use super::seq::Seq;

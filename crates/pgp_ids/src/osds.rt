@@ -1,10 +1,9 @@
-ghost use Rattle.std.specs.Prelude.{◌≡◌, ℕ, ◌+◌, ◌<◌, ◌≤◌, ◌==◌, List, [], ◌∷◌, ◌++◌, Option, Some, None, length, is_some, count_by};
+ghost use Rattle.std.specs.Prelude.{◌≡◌, ℕ, ◌+◌, ◌<◌, ◌≤◌, ◌==◌, List, [], ◌∷◌, ◌++◌, Option, Some, None, length, is_some};
 ghost use Rattle.pgp_ids.specs.Osds.{first_osd, osd_count};
 
 use super::osd::OsdId;
 use super::place::Place;
 use arrayvec::ArrayVec;
-use std::alloc::{AllocError, Global};
 use std::marker::Model;
 
 /// How many places a list of devices has at most.

@@ -1,5 +1,5 @@
 //! What the best info is for any preference, and what the definitions say of small groups.
-ghost use Rattle.std.specs.Prelude.{◌≡◌, ◌↔◌, ◌<◌, ◌≤◌, List, [], ◌∷◌, ◌++◌, Option, Some, None, Bool, true, false, Contains};
+ghost use Rattle.std.specs.Prelude.{◌≡◌, ◌↔◌, ◌<◌, ◌≤◌, List, [], ◌∷◌, ◌++◌, Option, Some, None, Bool, false, Contains};
 ghost use Rattle.pgp_ids.specs.Member.{is_same_member};
 ghost use Rattle.pgp_ids.specs.declared.member.Member.{Member};
 ghost use Rattle.pgp_ids.specs.declared.report.Info.{Info};

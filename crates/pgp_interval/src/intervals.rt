@@ -145,6 +145,7 @@ impl<R: Recoverable> Intervals<R> {
         Some(place)
     }
 
+    /// The code that says when slots are enough to read or write.
     pub fn code(&self) -> &R
         ensures { result.now ≡ self.now.code }
     {

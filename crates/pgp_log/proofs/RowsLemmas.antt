@@ -90,9 +90,16 @@ module _ {Part : Type 0} (size : ℕ) (IsIn : Row → Part → Type 0) where
         subst (λ (r : Row). IsIn r new) (read-is rows at here row read (ap (slice_get rows) (sym last) ∙ there)) is
   ]
 
-  -- with a block all its rows are passed by
-  pub in-passed : (Passed : Row → Type 0) (rows : List Row) (parts : List Part) (first : ℕ) (part : Part) → AreIn size IsIn rows parts → part ≡ get_or parts (first / size) part
-      → ((row : Row) → IsIn row part → Passed row) → (place : ℕ) (row : Row) → place / size ≡ first / size → slice_get rows place ≡ Some row → Passed row
-  in-passed Passed rows parts first part are read all place row same there =
-      let within : first / size < length parts = subst (λ n. n < length parts) same (are.enough place (slice_get_within rows place row there)) in
-      all row (are.each place row part there (ap (slice_get parts) same ∙ slice_get_read parts (length parts) (first / size) part refl within read))
+  -- with a block all its rows are passed by, beside those that were passed by before
+  pub passed-past : (Passed : Row → Type 0) (rows seen : List Row) (parts : List Part) (from first : ℕ) (part : Part) → rows ≡ seen → AreIn size IsIn rows parts
+      → part ≡ get_or parts (first / size) part → ((row : Row) → IsIn row part → Passed row) → ((place : ℕ) → first ≤ place → place < first + size → place / size ≡ first / size)
+      → ((place : ℕ) (row : Row) → from ≤ place → place < first → slice_get seen place ≡ Some row → Passed row)
+      → (place : ℕ) (row : Row) → from ≤ place → place < first + size → slice_get seen place ≡ Some row → Passed row
+  passed-past Passed rows seen parts from first part same are read all one before place row above below is = elim (cases_lt place first) [
+    | inl earlier ↦ before place row above earlier is
+    | inr past ↦
+        let there : slice_get rows place ≡ Some row = ap (λ (l : List Row). slice_get l place) same ∙ is in
+        let block : place / size ≡ first / size = one place past below in
+        let within : first / size < length parts = subst (λ n. n < length parts) block (are.enough place (slice_get_within rows place row there)) in
+        all row (are.each place row part there (ap (slice_get parts) block ∙ slice_get_read parts (length parts) (first / size) part refl within read))
+  ]

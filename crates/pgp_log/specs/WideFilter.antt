@@ -17,7 +17,7 @@ HasNone set = (osd : ℕ) → bit_at (get_or set.words (osd / 64) 0) (osd % 64) 
 abbrev pub KeepsDevices : WideFilter → WideFilter → Type 0
 KeepsDevices old new = (osd : ℕ) → Has old osd → Has new osd
 
--- some device is in both sets, or may be in the second one
+-- some device is in the wide set, and is in the other one or seems to be
 pub record Meet (wide : WideFilter) (devices : OsdFilter) : Type 0 where
   pub osd : ℕ
   pub one : Has wide osd

@@ -34,6 +34,7 @@ impl Drop for RawSets {
 }
 
 impl RawSets {
+    /// No raw set yet. It takes no memory.
     pub fn new(alloc: Global) -> Self
         ensures { (incs : List AnyIncremental) → AreRawSets incs result }
     {

@@ -12,7 +12,7 @@ use pgp_map::OsdMap;
 /// Why the log refuses an info, if it does.
 pub fn info_fault(map: &OsdMap, info: &Info) -> Option<Refusal>
     ensures fault { (incs : List AnyIncremental) → IsMapOf incs map.now → result ≡ info_fault incs info.now }
-    ensures told { result ≢ Some Refusal.Memory }
+    ensures memory { result ≢ Some Refusal.Memory }
 {
     report_fault(map, &info.pg, &info.member, info.stamp, has_bad_info(info))
 }
@@ -20,7 +20,7 @@ pub fn info_fault(map: &OsdMap, info: &Info) -> Option<Refusal>
 /// Why the log refuses a report of log entries, if it does.
 pub fn entries_fault(map: &OsdMap, report: &Report) -> Option<Refusal>
     ensures fault { (incs : List AnyIncremental) → IsMapOf incs map.now → result ≡ entries_fault incs report.now }
-    ensures told { result ≢ Some Refusal.Memory }
+    ensures memory { result ≢ Some Refusal.Memory }
 {
     let bad = has_bad_entries(report.stamp, report.log.as_slice());
     report_fault(map, &report.pg, &report.member, report.stamp, bad)
@@ -35,7 +35,7 @@ fn report_fault(
     bad: bool,
 ) -> Option<Refusal>
     ensures fault { (incs : List AnyIncremental) → IsMapOf incs map.now → result ≡ report_fault incs pg.now member.now stamp bad }
-    ensures told { result ≢ Some Refusal.Memory }
+    ensures memory { result ≢ Some Refusal.Memory }
 {
     if !has_group(map, pg) {
         Some(Refusal::UnknownGroup)

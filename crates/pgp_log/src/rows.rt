@@ -1,6 +1,6 @@
 //! The rows of a shard's groups.
 
-ghost use Rattle.std.specs.Prelude.{◌≡◌, ◌<◌, ◌≤◌, ◌++◌, ◌*◌, ◌/◌, ◌≢◌, ◌⊎◌, [], ◌∷◌, ℕ, List, Some, true, false, length, set, slice_get, IfSome, OnOk, OnErr};
+ghost use Rattle.std.specs.Prelude.{◌≡◌, ◌<◌, ◌≤◌, ◌++◌, ◌*◌, ◌/◌, ◌≢◌, [], ◌∷◌, ℕ, List, Some, true, false, length, set, slice_get, IfSome, OnOk, OnErr};
 ghost use Rattle.pgp_ids.specs.declared.incremental.Incremental.{Incremental as AnyIncremental};
 ghost use Rattle.pgp_log.specs.KeptGroup.{IsPassedByRow, may_concern};
 ghost use Rattle.pgp_log.specs.Rows.{IsInBlock, IsInWideBlock};

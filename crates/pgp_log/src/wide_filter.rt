@@ -21,6 +21,7 @@ impl WideFilter {
     ghost use Rattle.pgp_log.specs.OsdFilter.{Covers};
     ghost use Rattle.pgp_log.specs.WideFilter.{Has, HasNone, KeepsDevices, Meet};
 
+    /// The set of no devices.
     pub(crate) fn empty() -> Self
         ensures { HasNone result }
     {
@@ -39,7 +40,7 @@ impl WideFilter {
         }
     }
 
-    /// Whether some device is in both sets.
+    /// Whether some device is in this set, and is in the other one or seems to be.
     pub(crate) fn shares(&self, devices: OsdFilter) -> bool
         ensures { IsTrue result ↔ Meet self.now devices }
     {

@@ -1,6 +1,6 @@
 //! The cluster map.
 
-ghost use Rattle.std.specs.Prelude.{◌≡◌, ◌≤◌, ℕ, List, [], true, Some, None, Err, OnOk, OnErr, IfOk, IfErr, ◌⊎◌, option_copied, option_map, map, length, false};
+ghost use Rattle.std.specs.Prelude.{◌≡◌, ◌≤◌, [], true, Some, None, Err, OnOk, OnErr, IfOk, IfErr, ◌⊎◌, option_copied, option_map, map, length, false};
 ghost use Rattle.pgp_crush.specs.Bucket.{bucket_of};
 ghost use Rattle.pgp_map.specs.Room.{HasRoom};
 ghost use Rattle.pgp_map.specs.Memory.{has_long_list, MayLackMemory, may_grow};
@@ -218,6 +218,7 @@ impl OsdMap {
         self.tree = tree.or(self.tree.take());
     }
 
+    /// The epoch of the last incremental, or 0 if there is none yet.
     pub fn epoch(&self) -> Epoch
         ensures { Says self.now (λ incs. result ≡ epoch incs) }
     {

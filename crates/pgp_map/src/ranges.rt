@@ -5,7 +5,7 @@ ghost use Rattle.std.specs.List.{list_any};
 ghost use Rattle.std.specs.Option.{option_map_or};
 ghost use Rattle.std.specs.HashMap as hash;
 ghost use Rattle.pgp_ids.specs.Pool.{is_by_place};
-ghost use Rattle.pgp_map.specs.MapFault.{is_within, are_sizes, is_kind, is_pool};
+ghost use Rattle.pgp_map.specs.MapFault.{are_sizes, is_kind, is_pool};
 
 use pgp_ids::{PoolId, PoolKind, PoolSizes, PoolSpec};
 use std::collections::HashMap;

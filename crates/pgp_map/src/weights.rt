@@ -1,6 +1,6 @@
 //! The table of weights.
 
-ghost use Rattle.std.specs.Prelude.{◌≡◌, ℕ, ◌<◌, true, false, nat_eq, slice_index_or, length, OnOk, OnErr};
+ghost use Rattle.std.specs.Prelude.{◌≡◌, ℕ, ◌<◌, true, nat_eq, slice_index_or, length, OnOk, OnErr};
 ghost use Rattle.pgp_lists.specs.Last.{last_where};
 ghost use Rattle.pgp_map.specs.Memory.{is_filled};
 ghost use Rattle.pgp_map.specs.WeightTable.{is_whole, weight_in, with_weight};

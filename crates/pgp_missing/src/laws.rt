@@ -1,5 +1,5 @@
 //! What the definitions say of small logs, and of a peer that has all writes.
-ghost use Rattle.std.specs.Prelude.{◌≡◌, ℕ, All, AllPairs, Contains, ◌≤◌, ◌↔◌, List, [], ◌∷◌, ◌++◌, Some, true, false, codes};
+ghost use Rattle.std.specs.Prelude.{◌≡◌, ℕ, All, AllPairs, Contains, ◌≤◌, ◌↔◌, List, [], ◌∷◌, ◌++◌, true, false, codes};
 ghost use Rattle.pgp_ids.specs.Version.{is_older};
 ghost use Rattle.pgp_ids.specs.declared.log_entry.Change.TheVariants.{Modify};
 ghost use Rattle.pgp_ids.specs.declared.log_entry.LogEntry.{LogEntry};

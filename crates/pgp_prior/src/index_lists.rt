@@ -1,6 +1,6 @@
 //! The two lists of a prior set, of past intervals that are kept with the statuses of their devices.
 
-ghost use Rattle.std.specs.Prelude.{◌≡◌, ℕ, IfOk, ◌++◌, filter, flat_map, nat_lt};
+ghost use Rattle.std.specs.Prelude.{◌≡◌, IfOk, ◌++◌, filter, flat_map, nat_lt};
 ghost use Rattle.pgp_ids.specs.Member.{is_before};
 ghost use Rattle.pgp_lists.specs.Ordered.{ascending};
 ghost use Rattle.pgp_prior.specs.Members.{members_of};

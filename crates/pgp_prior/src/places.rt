@@ -1,6 +1,6 @@
 //! For each device the places of the past intervals that it stands in.
 
-ghost use Rattle.std.specs.Prelude.{◌≡◌, ℕ, Contains, OnOk};
+ghost use Rattle.std.specs.Prelude.{ℕ, Contains, OnOk};
 ghost use Rattle.pgp_ids.specs.declared.member.Member.{Member};
 ghost use Rattle.pgp_prior.specs.Members.{members_of};
 ghost use Rattle.pgp_prior.specs.Places.{places_of};

@@ -1,6 +1,6 @@
 //! Past intervals, as the statuses of their devices and what is known of the intervals change.
 
-ghost use Rattle.std.specs.Prelude.{◌≡◌, ℕ, List, Contains, map};
+ghost use Rattle.std.specs.Prelude.{◌≡◌, ℕ, map};
 ghost use Rattle.pgp_sets.specs.declared.status.Status.{Status};
 ghost use Rattle.pgp_prior.specs.Changes.{allows, IsChange};
 ghost use Rattle.pgp_prior.specs.JudgedInterval.{past_of, later_les, EachKept, IsUnderWay};

@@ -1,6 +1,6 @@
 //! The numbers of writes that a member's log lacks.
 
-ghost use Rattle.std.specs.Prelude.{◌≡◌, ◌≤◌, ◌+◌, [], ◌∷◌, ◌++◌, nat_eq, nat_lt, map as mapped, IfOk, OnOk};
+ghost use Rattle.std.specs.Prelude.{◌≡◌, ◌+◌, ◌++◌, nat_eq, nat_lt, map as mapped, IfOk, OnOk};
 ghost use Rattle.std.specs.Arc.{arc_value};
 ghost use Rattle.std.specs.List.{list_any};
 ghost use Rattle.pgp_lists.specs.Ordered.{IsAscending, ascending, with_items};

@@ -1,7 +1,6 @@
 //! What a group lacks whose acting set is too small to serve.
 
-ghost use Rattle.std.specs.Prelude.{◌≡◌, nat_lt, IfOk};
-ghost use Rattle.pgp_lists.specs.Ordered.{ascending};
+ghost use Rattle.std.specs.Prelude.{◌≡◌, IfOk};
 ghost use Rattle.pgp_sets.specs.Status.{held_status};
 ghost use Rattle.pgp_reasons.specs.Short.{fallen as fallen_of, short_of as short_by};
 

@@ -5,7 +5,7 @@ ghost use Rattle.std.specs.Prelude.{◌≡◌, length, IfOk};
 
 use super::plain_history::History;
 use super::transcripts::{takes, view_of};
-use pgp_fixtures::{Dice, TWO_GROUPS_OF_EACH_KIND, any_line, entry, group, incremental};
+use pgp_fixtures::{Dice, TWO_GROUPS_OF_EACH_KIND, any_line, entry, incremental};
 use pgp_ids::{Entry, Incremental, Info, Past, Verdict, View};
 use pgp_log::World;
 use pgp_prior::Prior;

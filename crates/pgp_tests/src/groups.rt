@@ -5,7 +5,9 @@ mod grouped;
 
 use super::peering::{LOST_1, MOVED};
 use super::transcripts::{Script, go_so};
-use pgp_fixtures::{COPIES, EMPTY_0, EMPTY_1, EMPTY_2, KNOWN_UP, SHARDS};
+use pgp_fixtures::{
+    COPIES, EMPTY_0, EMPTY_1, EMPTY_2, KNOWN_UP, LOG_0, SHARDS, WRITTEN_0, WRITTEN_1,
+};
 use std::test::Fail;
 
 /// A copy with a log of three writes.
@@ -53,7 +55,7 @@ static SCRIPTS: [Script; 7] = [
         "follows the shard that was written least",
         &[
             SHARDS,
-            r#"{"op":"info","pg":[1,0],"from":[0,0],"stamp":1,"les":0,"history_les":0,"last_update":[1,2],"log_tail":[0,0],"complete":true}"#,
+            WRITTEN_0,
             r#"{"op":"info","pg":[1,0],"from":[1,1],"stamp":1,"les":0,"history_les":0,"last_update":[1,1],"log_tail":[0,0],"complete":true}"#,
             r#"{"op":"info","pg":[1,0],"from":[2,2],"stamp":1,"les":0,"history_les":0,"last_update":[1,2],"log_tail":[0,0],"complete":true}"#,
             r#"{"op":"entries","pg":[1,0],"from":[1,1],"stamp":1,"log":[[1,1,"modify","a"]]}"#,
@@ -168,10 +170,10 @@ static SERVES: [Script; 1] = [Script(
     "serves once its primary is known to be up",
     &[
         COPIES,
-        r#"{"op":"info","pg":[1,0],"from":[0,0],"stamp":1,"les":0,"history_les":0,"last_update":[1,2],"log_tail":[0,0],"complete":true}"#,
-        r#"{"op":"info","pg":[1,0],"from":[1,0],"stamp":1,"les":0,"history_les":0,"last_update":[1,1],"log_tail":[0,0],"complete":true}"#,
+        WRITTEN_0,
+        WRITTEN_1,
         EMPTY_2,
-        r#"{"op":"entries","pg":[1,0],"from":[0,0],"stamp":1,"log":[[1,1,"modify","a"],[1,2,"modify","b"]]}"#,
+        LOG_0,
         r#"{"acting":[0,1,2],"acting_primary":0,"best":[0,0],"blocked_by":[],"count":5,"epoch":1,"first":1,"intervals":[],"les":0,"missing":[{"member":[1,0],"objects":{"b":[1,2]},"state":"missing"},{"member":[2,0],"objects":{"a":[1,1],"b":[1,2]},"state":"missing"}],"ok":"ask","pg":[1,0],"probe":[[0,0],[1,0],[2,0]],"up":[0],"up_primary":0,"verdict":"NeedUpThru"}"#,
         KNOWN_UP,
         r#"{"acting":[0,1,2],"acting_primary":0,"best":[0,0],"blocked_by":[],"count":6,"epoch":2,"first":1,"intervals":[],"les":0,"missing":[{"member":[1,0],"objects":{"b":[1,2]},"state":"missing"},{"member":[2,0],"objects":{"a":[1,1],"b":[1,2]},"state":"missing"}],"ok":"ask","pg":[1,0],"probe":[[0,0],[1,0],[2,0]],"up":[0],"up_primary":0,"verdict":"Serve"}"#,

@@ -1,6 +1,6 @@
 //! A shard knows which of its groups have to be worked out anew.
 
-ghost use Rattle.std.specs.Prelude.{◌≡◌, OnOk};
+ghost use Rattle.std.specs.Prelude.{OnOk};
 ghost use Rattle.pgp_log.specs.Judge.{IsJudgeOf};
 
 use pgp_fixtures::{TO_SERVE, TWO_GROUPS, entry};

@@ -35,14 +35,14 @@ fn done(status: u32) -> Result<(), Fault> {
 
 /// One log, told and asked by one call at a time, from whichever thread.
 pub struct Session {
-    kept: raw::Kept,
+    kept: raw::Session,
     room: Vec<u8>,
 }
 
 impl Session {
     /// An empty log.
     pub fn open() -> Result<Self, Fault> {
-        let mut kept = raw::Kept::zeros();
+        let mut kept = raw::Session::zeros();
         // SAFETY: the session is filled with zeros.
         done(unsafe { raw::pgp_open(&mut kept) })?;
         Ok(Session { kept, room: vec![0; 4096] })

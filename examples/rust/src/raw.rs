@@ -5,15 +5,15 @@ use std::mem::MaybeUninit;
 /// `pgp_session`, which the library alone reads and writes. The place of its pointer is no pointer here, so that a session is `Send`,
 /// as pgpeer.h lets it go from thread to thread; `MaybeUninit` keeps what the library put there whole where a session is moved.
 #[repr(C)]
-pub struct Kept {
+pub struct Session {
     is_open: bool,
     held: MaybeUninit<usize>,
 }
 
-impl Kept {
+impl Session {
     /// A session before its first call.
     pub fn zeros() -> Self {
-        Kept { is_open: false, held: MaybeUninit::new(0) }
+        Session { is_open: false, held: MaybeUninit::new(0) }
     }
 }
 
@@ -98,14 +98,14 @@ impl Object {
 }
 
 extern "C" {
-    pub fn pgp_open(session: *mut Kept) -> u32;
-    pub fn pgp_close(session: *mut Kept) -> u32;
-    pub fn pgp_line(session: *mut Kept, line: *const u8, length: usize, room: *mut u8, room_length: usize, wanted: *mut usize) -> u32;
-    pub fn pgp_answer(session: *mut Kept, room: *mut u8, room_length: usize, wanted: *mut usize) -> u32;
-    pub fn pgp_locate(session: *mut Kept, pool: u32, name: *const u8, length: usize, place: *mut Place) -> u32;
-    pub fn pgp_ask(session: *mut Kept, pool: u32, pg: u32, view: *mut View) -> u32;
-    pub fn pgp_probe(session: *mut Kept, pool: u32, pg: u32, room: *mut Member, length: usize, count: *mut usize) -> u32;
-    pub fn pgp_missing(session: *mut Kept, pool: u32, pg: u32, room: *mut Peer, length: usize, count: *mut usize) -> u32;
-    pub fn pgp_missing_objects(session: *mut Kept, pool: u32, pg: u32, osd: u32, slot: u32, room: *mut Object, length: usize, count: *mut usize) -> u32;
-    pub fn pgp_compact_log(session: *mut Kept, left_out: *mut usize) -> u32;
+    pub fn pgp_open(session: *mut Session) -> u32;
+    pub fn pgp_close(session: *mut Session) -> u32;
+    pub fn pgp_line(session: *mut Session, line: *const u8, length: usize, room: *mut u8, room_length: usize, wanted: *mut usize) -> u32;
+    pub fn pgp_answer(session: *mut Session, room: *mut u8, room_length: usize, wanted: *mut usize) -> u32;
+    pub fn pgp_locate(session: *mut Session, pool: u32, name: *const u8, length: usize, place: *mut Place) -> u32;
+    pub fn pgp_ask(session: *mut Session, pool: u32, pg: u32, view: *mut View) -> u32;
+    pub fn pgp_probe(session: *mut Session, pool: u32, pg: u32, room: *mut Member, length: usize, count: *mut usize) -> u32;
+    pub fn pgp_missing(session: *mut Session, pool: u32, pg: u32, room: *mut Peer, length: usize, count: *mut usize) -> u32;
+    pub fn pgp_missing_objects(session: *mut Session, pool: u32, pg: u32, osd: u32, slot: u32, room: *mut Object, length: usize, count: *mut usize) -> u32;
+    pub fn pgp_compact_log(session: *mut Session, left_out: *mut usize) -> u32;
 }

@@ -1,6 +1,6 @@
 //! How a feed is made.
 ghost use Rattle.std.specs.Prelude.{◌≡◌, ◌≤◌, [], Some, drop, length, vec_capacity, All, IfOk, IfErr, IfSome, IsErr, OnErr, MatchResult};
-ghost use Rattle.pgp_feed.specs.Receipts.{entries_of, feed_of};
+ghost use Rattle.pgp_feed.specs.Receipts.{entries_of};
 ghost use Rattle.pgp_feed.specs.Feeds.{told_of};
 ghost use Rattle.pgp_feed.specs.Taps.{last_of};
 ghost use Rattle.pgp_feed.specs.Supplies.{IsSupplied};

@@ -66,7 +66,7 @@ fn is_left(fault: Option<ScriptFault>, out: &[u8]) -> bool {
 }
 
 #[test]
-fn a_front_of_the_answers_is_written(rt: HostRuntime) {
+fn the_first_answers_are_written(rt: HostRuntime) {
     let mut failed = 0u8;
     for fails_at in 0..100 {
         let (fault, out) = taken(rt.alloc(), NEVER, 10, fails_at);

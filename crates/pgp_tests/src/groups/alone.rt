@@ -1,8 +1,7 @@
 //! One group by itself, over maps of its own, as whoever keeps no shard has it. A call that may lack memory is made once more
 //! on the same value, so that a run in which one allocation is refused gives the answers of one in which none is.
 
-ghost use Rattle.std.specs.Prelude.{◌≡◌, [], ◌∷◌, List, None, IfOk, OnOk};
-ghost use Rattle.pgp_ids.specs.declared.incremental.Incremental.{Incremental as AnyIncremental};
+ghost use Rattle.std.specs.Prelude.{◌≡◌, [], ◌∷◌, None, IfOk, OnOk};
 ghost use Rattle.pgp_map.specs.MapFault.{map_fault, given_fault};
 ghost use Rattle.pgp_map.specs.MapOf.{IsMapOf, Says};
 ghost use Rattle.pgp_group.specs.Entries.{inc_of};

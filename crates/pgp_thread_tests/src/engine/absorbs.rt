@@ -16,7 +16,7 @@ const TURNS: u32 = 1_000_000;
 
 // Lets the shard read on, one entry at a time, until it has read them all.
 fn absorb_all<J: Naming, R: Wait + Abort>(rt: &R, desk: &Desk<J>) -> Ticket<J> {
-    let mut newest = desk.told(rt);
+    let mut newest = desk.ticket(rt);
     let mut last = 0;
     for _ in 0..TURNS {
         newest = desk.read_on(rt, SHARD, 1);
@@ -51,7 +51,7 @@ pub fn absorb_by_two<J: Naming + Send + Sync, R: Threads + Wait + Abort + AllocG
     for front in fronts.ok().expect(rt, "memory") {
         is_count(rt, front.len(), TO_SERVE.len());
     }
-    is_serving(rt, desk.ask(rt, &desk.told(rt)));
+    is_serving(rt, desk.ask(rt, &desk.ticket(rt)));
 }
 
 // Asks with the ticket that was told first, after each submit, and may let the shard read the entry before.
@@ -67,7 +67,7 @@ pub fn ask_by_first<J: Naming, R: Wait + Abort + AllocGlobal>(rt: &R, desk: &Des
         }
         is_count(rt, desk.len_of_answer(rt, &first), told.len());
     }
-    is_count(rt, desk.told(rt).len(), TO_SERVE.len());
+    is_count(rt, desk.ticket(rt).len(), TO_SERVE.len());
 }
 
 // Lets the shard take turns in which there is nothing to read, before anyone asks about its group.
@@ -77,7 +77,7 @@ pub fn ask_ahead<J: Naming, R: Wait + Abort + AllocGlobal>(rt: &R, desk: &Desk<J
         let read = desk.read_on(rt, SHARD, TO_SERVE.len());
         is_count(rt, read.len(), told.len());
     }
-    is_serving(rt, desk.ask(rt, &desk.told(rt)));
+    is_serving(rt, desk.ask(rt, &desk.ticket(rt)));
 }
 
 static TRIALS: [Row; 4] = [

@@ -128,7 +128,7 @@ fn goes_on<J: Naming, R: Wait + Abort + AllocGlobal>(
 ) -> Ticket<J> {
     is_count(rt, told.len(), TO_SERVE.len());
     is_serving(rt, desk.ask(rt, told));
-    is_count(rt, desk.told(rt).len(), told.len());
+    is_count(rt, desk.ticket(rt).len(), told.len());
     let next = desk.put(rt, EMPTY_1, told);
     is_count(rt, next.len(), TO_SERVE.len() + 1);
     is_count(rt, desk.len_of_answer(rt, told), TO_SERVE.len() + 1);

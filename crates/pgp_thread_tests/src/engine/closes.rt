@@ -13,7 +13,7 @@ static LATER: [&str; 3] = [STEP, EMPTY_1, CLOSE];
 
 /// An info is taken a second time. After the Close nothing is, also by the empty front.
 pub fn close_and_submit<J: Naming, R: Wait + Abort + AllocGlobal>(rt: &R, desk: &Desk<J>) {
-    let before = desk.told(rt);
+    let before = desk.ticket(rt);
     let once = desk.put_all(rt, &[MAP, EMPTY_0]);
     is_count(rt, once.len(), 2);
     is_count(rt, desk.put(rt, EMPTY_0, &once).len(), 3);
@@ -23,5 +23,5 @@ pub fn close_and_submit<J: Naming, R: Wait + Abort + AllocGlobal>(rt: &R, desk: 
         let refused = outcome.err().expect(rt, "refused");
         was_refused(rt, refused, Refusal::Closed, &closed);
     }
-    is_count(rt, desk.told(rt).len(), 4);
+    is_count(rt, desk.ticket(rt).len(), 4);
 }

@@ -23,7 +23,8 @@ pub struct Desk<J: Naming> {
 pub type Outcome<J> = Result<Ticket<J>, (Refusal, Ticket<J>)>;
 
 impl<J: Naming> Desk<J> {
-    pub fn told<R: Wait>(&self, rt: &R) -> Ticket<J> {
+    /// A ticket for the whole log.
+    pub fn ticket<R: Wait>(&self, rt: &R) -> Ticket<J> {
         Ticket::over(self.engine.told(rt))
     }
 
@@ -53,7 +54,7 @@ impl<J: Naming> Desk<J> {
 
     /// Submits all of them, each by the front with the one before it.
     pub fn put_all<R: Wait + Abort + AllocGlobal>(&self, rt: &R, lines: &[&str]) -> Ticket<J> {
-        let mut told = self.told(rt);
+        let mut told = self.ticket(rt);
         for line in lines {
             told = self.put(rt, line, &told);
         }

@@ -22,7 +22,7 @@ fn wait_for<R: Abort + Clock>(rt: &R, flag: &AtomicBool) {
 }
 
 /// Holds the workers of some shards, or of both, until it is opened.
-pub struct Held<R: Abort + Clock> {
+pub struct HoldingGate<R: Abort + Clock> {
     pub rt: R,
     pub holds: [bool; SHARDS],
     pub reached: [AtomicBool; SHARDS],
@@ -30,9 +30,9 @@ pub struct Held<R: Abort + Clock> {
 }
 
 // Written out, so that a function which lets one go has nothing to prove of what lies within.
-impl<R: Abort + Clock + Drop> Drop for Held<R> {
+impl<R: Abort + Clock + Drop> Drop for HoldingGate<R> {
     fn drop(self) {
-        let Held {
+        let HoldingGate {
             rt: _,
             holds: _,
             reached: _,
@@ -41,7 +41,7 @@ impl<R: Abort + Clock + Drop> Drop for Held<R> {
     }
 }
 
-impl<R: Abort + Clock> Held<R> {
+impl<R: Abort + Clock> HoldingGate<R> {
     /// Waits until the shards that it holds are held, all at once.
     pub fn fills(&self) {
         for (holds, reached) in self.holds.iter().zip(self.reached.iter()) {
@@ -56,7 +56,7 @@ impl<R: Abort + Clock> Held<R> {
     }
 }
 
-impl<R: Abort + Clock> Gate for Held<R> {
+impl<R: Abort + Clock> Gate for HoldingGate<R> {
     fn enter<W: Wait>(&self, _rt: &W, shard: usize) {
         if shard < SHARDS && self.holds[shard] {
             self.reached[shard].store(true, Ordering::SeqCst);

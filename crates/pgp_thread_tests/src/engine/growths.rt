@@ -23,7 +23,7 @@ pub fn call_again<J: Naming, R: Wait + Abort + AllocGlobal>(
     client: &mut Client<J>,
 ) {
     let whole = TO_SERVE.len();
-    let mut told = desk.told(rt);
+    let mut told = desk.ticket(rt);
     for taken in 0..TO_SERVE.len() {
         told = submit_surely(rt, desk, TO_SERVE[taken], &told);
         is_count(rt, told.len(), taken + 1);
@@ -52,7 +52,7 @@ fn submit_surely<J: Naming, R: Wait + Abort + AllocGlobal>(
     match desk.engine.submit(rt, given(rt, line), &known.receipt) {
         Ok(told) => Ticket::over(told),
         Err(SubmitFault::Memory) => {
-            is_count(rt, desk.told(rt).len(), known.len());
+            is_count(rt, desk.ticket(rt).len(), known.len());
             desk.put(rt, line, known)
         }
         Err(_) => panic!(rt; "only memory may lack"),
@@ -64,7 +64,7 @@ fn ask_surely<J: Naming, R: Wait + Abort>(rt: &R, desk: &Desk<J>, known: &Ticket
     let before = desk.read_on(rt, SHARD, 0).len();
     let answer = match desk.engine.ask(rt, group(), &known.receipt) {
         Err(AskFault::Memory) => {
-            is_count(rt, desk.told(rt).len(), known.len());
+            is_count(rt, desk.ticket(rt).len(), known.len());
             assert!(rt; desk.read_on(rt, SHARD, 0).len() >= before);
             desk.engine.ask(rt, group(), &known.receipt)
         }

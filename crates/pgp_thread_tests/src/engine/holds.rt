@@ -2,7 +2,7 @@
 //! is done beside it is done.
 use crate::count::is_count;
 use crate::engine::desk::Desk;
-use crate::engine::gates::Held;
+use crate::engine::gates::HoldingGate;
 use crate::engine::lines::{EMPTY_0, EMPTY_1, MOVE, MOVED, PLACE};
 use crate::engine::opened::{Row, Trial, all_tried};
 use crate::engine::races::submit_each;
@@ -33,7 +33,7 @@ fn told_elsewhere<J: Naming + Send + Sync, R: Threads + Wait + Abort + AllocGlob
 pub fn ask_past<J: Naming + Send + Sync, R: Threads + Wait + Abort + Clock + AllocGlobal + Sync>(
     rt: &R,
     desk: &Desk<J>,
-    gate: &Held<R>,
+    gate: &HoldingGate<R>,
     map: &Ticket<J>,
 ) {
     gate.fills();
@@ -41,7 +41,7 @@ pub fn ask_past<J: Naming + Send + Sync, R: Threads + Wait + Abort + Clock + All
     let len = desk.len_of_answer(rt, &told);
     assert!(rt; len >= told.len(), "a front that holds the caller's");
     is_count(rt, len, 3);
-    is_count(rt, desk.told(rt).len(), len);
+    is_count(rt, desk.ticket(rt).len(), len);
     assert!(rt; desk.len_of_answer(rt, map) >= len, "no shard goes back");
     gate.open();
 }
@@ -50,7 +50,7 @@ pub fn ask_past<J: Naming + Send + Sync, R: Threads + Wait + Abort + Clock + All
 pub fn open_both<J: Naming, R: Wait + Abort + Clock>(
     rt: &R,
     desk: &Desk<J>,
-    gate: &Held<R>,
+    gate: &HoldingGate<R>,
     map: &Ticket<J>,
 ) {
     gate.fills();
@@ -63,7 +63,7 @@ pub fn open_both<J: Naming, R: Wait + Abort + Clock>(
 pub fn place_past<J: Naming + Send + Sync, R: Threads + Wait + Abort + Clock + AllocGlobal + Sync>(
     rt: &R,
     desk: &Desk<J>,
-    gate: &Held<R>,
+    gate: &HoldingGate<R>,
     map: &Ticket<J>,
     client: &Mutex<Client<J>>,
 ) {

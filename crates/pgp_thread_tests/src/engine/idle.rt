@@ -19,11 +19,11 @@ const NEEDED: usize = 3 * SHARDS;
 
 /// Counts the turns that are over.
 #[derive(Drop)]
-struct Counted {
+struct CountingGate {
     over: AtomicUsize,
 }
 
-impl Gate for Counted {
+impl Gate for CountingGate {
     fn enter<R: Wait>(&self, _rt: &R, _shard: usize) {}
 
     fn left<R: Wait>(&self, _rt: &R, _shard: usize) {
@@ -31,7 +31,7 @@ impl Gate for Counted {
     }
 }
 
-impl Counted {
+impl CountingGate {
     /// Waits until as many turns are over as are needed.
     fn wait<R: Abort + Clock>(&self, rt: &R) {
         for _ in 0..TURNS {
@@ -51,7 +51,7 @@ pub fn work_out<J: Naming + Send + Sync, R: Threads + Wait + Abort + Clock + All
     desk: &Desk<J>,
 ) {
     desk.put_all(rt, &[MANY_GROUPS]);
-    let gate = Counted {
+    let gate = CountingGate {
         over: AtomicUsize::new(0),
     };
     let (end, closed) = join(

@@ -1,5 +1,5 @@
 //! How a test gets its engine, over a feed that was just made.
-ghost use Rattle.std.specs.Prelude.{◌≡◌, ◌≤◌, length};
+ghost use Rattle.std.specs.Prelude.{◌≡◌, length};
 ghost use Rattle.pgp_thread_tests.specs.Opened.{IsOpened};
 
 use crate::engine::absorbs::{absorb_by_two, ask_ahead, ask_by_first, ask_once_more};

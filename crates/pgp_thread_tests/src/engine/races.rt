@@ -32,11 +32,11 @@ pub fn race<J: Naming + Send + Sync, R: Threads + Wait + Abort + AllocGlobal + S
     rt: &R,
     desk: &Desk<J>,
 ) {
-    let start = desk.told(rt);
+    let start = desk.ticket(rt);
     let mut outcomes = submit_each(rt, desk, &[STEP, STEP], &start);
     let one = outcomes.pop().expect(rt, "an outcome");
     let other = outcomes.pop().expect(rt, "two outcomes");
-    is_count(rt, desk.told(rt).len(), 1);
+    is_count(rt, desk.ticket(rt).len(), 1);
     let (taken, refused) = match one {
         Ok(taken) => (taken, other.err().expect(rt, "one is refused")),
         Err(refused) => (other.ok().expect(rt, "one is taken"), refused),

@@ -55,7 +55,7 @@ pub fn submit_many_times<J: Naming + Send + Sync, R: Threads + Wait + Abort + Al
         },
     );
     assert!(rt; all.is_ok(), "memory");
-    let told = desk.told(rt);
+    let told = desk.ticket(rt);
     is_count(rt, told.len(), 1 + 2 * AGAIN);
     is_count(rt, desk.len_of_answer(rt, &told), 1 + 2 * AGAIN);
 }

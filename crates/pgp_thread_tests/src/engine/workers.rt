@@ -1,7 +1,7 @@
 //! What workers do, each on a thread of its own, while one more thread does something else and then closes the log.
 use crate::count::is_count;
 use crate::engine::desk::Desk;
-use crate::engine::gates::{Held, TURNS};
+use crate::engine::gates::{HoldingGate, TURNS};
 use crate::engine::holds::{ask_past, open_both, place_past};
 use crate::engine::lines::{CLOSE, MAP};
 use crate::engine::sleeps::{submit_and_close, wake_each};
@@ -33,7 +33,7 @@ fn done<J: Naming + Send + Sync, R: Threads + Wait + Abort + Clock + AllocGlobal
     rt: &R,
     beside: &Beside,
     desk: &Desk<J>,
-    gate: &Held<R>,
+    gate: &HoldingGate<R>,
     map: &Ticket<J>,
     client: &Mutex<Client<J>>,
 ) -> Ticket<J> {
@@ -55,7 +55,7 @@ pub fn work_beside<
 >(rt: &R, beside: &Beside, desk: &Desk<J>, client: &Mutex<Client<J>>) {
     let map = &desk.put_all(rt, &[MAP]);
     let both = matches!(beside, Beside::BothAtOnce | Beside::ClientPasses);
-    let gate = &Held {
+    let gate = &HoldingGate {
         rt: *rt,
         holds: [both || matches!(beside, Beside::HeldShard), both],
         reached: [AtomicBool::new(false), AtomicBool::new(false)],
@@ -73,7 +73,7 @@ pub fn work_beside<
             }
         },
     );
-    let closed = desk.told(rt).len();
+    let closed = desk.ticket(rt).len();
     for end in ends.ok().expect(rt, "memory") {
         is_count(rt, end, closed);
     }

@@ -26,7 +26,7 @@ pub fn use_again<J: Naming, R: Wait + Abort + AllocGlobal>(rt: &R, press: &mut P
     for number in 0..COUNT {
         publish_surely(rt, press, numbered(rt, number));
         let newest = reader.newest();
-        is_count(rt, newest.len(), press.told().len());
+        is_count(rt, newest.len(), press.ticket().len());
         read_surely(rt, &mut reader, &newest, number + 1);
     }
 }
@@ -48,12 +48,12 @@ fn read_surely<J: Naming, R: Abort + AllocGlobal>(
 }
 
 fn publish_surely<J: Naming, R: Wait + Abort>(rt: &R, press: &mut Press<J>, entry: Arc<Entry>) {
-    let told = press.told().len();
+    let told = press.ticket().len();
     let number = number_of(&entry);
     if let Err(back) = press.publish(rt, entry) {
-        is_count(rt, press.told().len(), told);
+        is_count(rt, press.ticket().len(), told);
         came_back(rt, &back, number);
         assert!(rt; press.publish(rt, back).is_ok(), "published");
     }
-    assert!(rt; told < press.told().len(), "the entry was added");
+    assert!(rt; told < press.ticket().len(), "the entry was added");
 }

@@ -41,17 +41,17 @@ fn hold_newest<J: Naming, R: Abort>(
     other: &mut Reader<J>,
     tickets: &mut Vec<Ticket<J>>,
 ) {
-    let count = press.told().len();
+    let count = press.ticket().len();
     is_count(rt, one.newest().len(), count);
     is_count(rt, other.newest().len(), count);
-    hold(rt, tickets, press.told());
+    hold(rt, tickets, press.ticket());
     hold(rt, tickets, one.newest());
     hold(rt, tickets, other.newest());
 }
 
 // Holds some that are made of others.
 fn hold_others<J: Naming, R: Abort>(rt: &R, press: &Press<J>, tickets: &mut Vec<Ticket<J>>) {
-    let whole = press.told();
+    let whole = press.ticket();
     assert!(rt; 3 <= whole.len());
     let half = Ticket::over(whole.receipt.front(3));
     hold(rt, tickets, Ticket::over(whole.receipt.front(0)));

@@ -61,7 +61,8 @@ impl<J: Naming> Press<J> {
         }
     }
 
-    pub fn told(&self) -> Ticket<J> {
+    /// A ticket for the whole log.
+    pub fn ticket(&self) -> Ticket<J> {
         Ticket::over(self.feed.told())
     }
 

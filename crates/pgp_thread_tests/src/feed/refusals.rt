@@ -37,9 +37,9 @@ fn is_refused<J: Naming, R: Wait + Abort>(
     reader: &mut Reader<J>,
     entry: Arc<Entry>,
 ) {
-    let (told, number) = (press.told().len(), number_of(&entry));
+    let (told, number) = (press.ticket().len(), number_of(&entry));
     let back = press.publish(rt, entry).err().expect(rt, "refused");
     came_back(rt, &back, number);
-    is_count(rt, press.told().len(), told);
+    is_count(rt, press.ticket().len(), told);
     is_count(rt, reader.newest().len(), told);
 }

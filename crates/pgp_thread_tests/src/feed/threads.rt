@@ -52,7 +52,7 @@ fn publish_all<J: Naming, R: Wait + Abort + AllocGlobal>(
         press.put(rt, number);
         yield_now();
     }
-    press.told()
+    press.ticket()
 }
 
 // Reads what is new until all is there, and says what it saw last.

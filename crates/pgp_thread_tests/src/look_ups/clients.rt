@@ -1,5 +1,5 @@
 //! Look-ups by the clients of an engine, by the newest front of the log, while one thread submits.
-ghost use Rattle.std.specs.Prelude.{◌≡◌, ◌≤◌, length};
+ghost use Rattle.std.specs.Prelude.{◌≤◌, length};
 ghost use Rattle.pgp_thread_tests.specs.Opened.{IsOpened};
 
 use crate::lines::given;
