@@ -18,6 +18,16 @@ op_named name =
     else (if bytes_eq name (codes "locate") then Some op.Locate
     else (if bytes_eq name (codes "trace") then Some op.Trace else None))))))
 
+-- its name in lines and in answers
+abbrev pub op_name : Op → List ℕ
+op_name op.Ask = codes "ask"
+op_name op.Close = codes "close"
+op_name op.Entries = codes "entries"
+op_name op.Inc = codes "inc"
+op_name op.Info = codes "info"
+op_name op.Locate = codes "locate"
+op_name op.Trace = codes "trace"
+
 -- the operation that a line names
 abbrev pub op_in : Data → Option Op
 op_in d = option_and_then op_named (field (codes "op") as_str d)

@@ -4,7 +4,7 @@ ghost use Rattle.std.specs.Str.{is_utf8};
 ghost use Rattle.pgp_lines.specs.Value.{view};
 ghost use Rattle.serde_json.specs.Read.{read};
 ghost use Rattle.pgp_lines.specs.LineFault.{line_fault_of, not_json};
-ghost use Rattle.pgp_lines.specs.Command.{trace_of, values_of, command_in, data_of, command_of, IsInRange};
+ghost use Rattle.pgp_lines.specs.Command.{command_in, data_of, command_of, IsInRange};
 ghost use Rattle.pgp_lines.specs.Op.{op_in};
 
 mod buckets;
@@ -28,21 +28,15 @@ mod trace;
 mod value;
 
 use bumpalo::Bump;
-use entries::read_entries;
-use faults::{bad_field_fault, unknown_key_fault};
-use fields::read_required;
-use format::{Format, judge_format, read_format, read_in};
-use incremental::read_inc;
-use info::read_info;
+use faults::unknown_key_fault;
+use format::read_format;
 use json::{Error, Scratch, Tape};
-use locate::read_locate;
 use objects::unknown_key;
 pub use op::Op;
 use pgp_ids::{Entry, EpochState, ObjectName, PgId, PoolId, PoolKind, Seq, TextFault};
 use simdutf8::compat::from_utf8;
 use std::alloc::Global;
 pub use trace::MAX_EPOCHS;
-use trace::{read_code, read_epochs};
 use value::{Tokens, Value, is_readable};
 
 /// What a line asks for.
@@ -96,6 +90,7 @@ impl Drop for LineReader {
 }
 
 impl LineReader {
+    /// A reader of lines. It takes no memory before its first line.
     pub fn new(alloc: Global) -> LineReader {
         LineReader {
             room: Scratch::new(alloc),
@@ -189,48 +184,7 @@ fn read_command(alloc: Global, value: &Value<'_, '_>) -> Result<Command, TextFau
     if let Some(key) = unknown_key(value, op.keys()) {
         return Err(unknown_key_fault(alloc, key));
     }
-    read_values(alloc, op, value, read_format(value))
-}
-
-/// The command of a line of this operation, past the judgement of its keys; the line names this version.
-fn read_values(
-    alloc: Global,
-    op: Op,
-    value: &Value<'_, '_>,
-    format: Option<Format>,
-) -> Result<Command, TextFault>
-    ensures ok { IfOk result (λ command. values_of op format (view value.now) ≡ Ok command) }
-    ensures err { IfErr result
-        (λ fault. IfSome (line_fault_of fault) (λ f. values_of op format (view value.now) ≡ Err f)) }
-{
-    match op {
-        Op::Ask => {
-            let pg = read_required(alloc, value, "pg")?;
-            judge_format(alloc, format)?;
-            Ok(Command::Ask(pg))
-        }
-        Op::Close => {
-            judge_format(alloc, format)?;
-            Ok(Command::Submit(Entry::Close))
-        }
-        Op::Entries => {
-            let report = read_entries(alloc, value, format)?;
-            Ok(Command::Submit(Entry::Entries(report)))
-        }
-        Op::Inc => {
-            let inc = read_inc(alloc, value, format)?;
-            Ok(Command::Submit(Entry::Inc(inc)))
-        }
-        Op::Info => {
-            let info = read_info(alloc, value, format)?;
-            Ok(Command::Submit(Entry::Info(info)))
-        }
-        Op::Locate => {
-            let (pool, name) = read_locate(alloc, value, format)?;
-            Ok(Command::Locate { pool, name })
-        }
-        Op::Trace => read_trace(alloc, value, format),
-    }
+    op.read(alloc, value, read_format(value))
 }
 
 /// The operation that the text at `op` names.
@@ -238,28 +192,4 @@ fn read_op(value: &Value<'_, '_>) -> Option<Op>
     ensures { result ≡ op_in (view value.now) }
 {
     Op::named(value.get("op")?.as_str()?)
-}
-
-/// The values of a trace, `code` first: whether a place may be empty depends on it.
-fn read_trace(
-    alloc: Global,
-    value: &Value<'_, '_>,
-    format: Option<Format>,
-) -> Result<Command, TextFault>
-    ensures ok { IfOk result (λ command. trace_of format (view value.now) ≡ Ok command) }
-    ensures err { IfErr result
-        (λ fault. IfSome (line_fault_of fault) (λ f. trace_of format (view value.now) ≡ Err f)) }
-{
-    let Some(code) = read_code(value, read_in(format)) else {
-        return Err(bad_field_fault(alloc, "code"));
-    };
-    let found = match value.get("epochs") {
-        Some(epochs) => read_epochs(alloc, &epochs, code.is_by_place())?,
-        None => None,
-    };
-    let Some(epochs) = found else {
-        return Err(bad_field_fault(alloc, "epochs"));
-    };
-    judge_format(alloc, format)?;
-    Ok(Command::Trace { code, epochs })
 }

@@ -7,5 +7,6 @@
 #![tactic(auto)]
 
 mod command;
+pub mod laws;
 
 pub use command::{Command, LineReader, MAX_EPOCHS, Op, read_line};

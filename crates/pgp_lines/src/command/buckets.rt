@@ -1,5 +1,5 @@
 //! The buckets of a placement tree.
-ghost use Rattle.std.specs.Prelude.{◌≡◌, map, IfOk, length, codes};
+ghost use Rattle.std.specs.Prelude.{◌≡◌, map, IfOk, codes};
 ghost use Rattle.pgp_lines.specs.Value.{view};
 ghost use Rattle.pgp_ids.specs.Bucket.{weight_count};
 ghost use Rattle.pgp_lines.specs.Ids.{word_in};

@@ -1,7 +1,22 @@
-//! The operations: the name of each, and the keys that its line may have.
+//! The operations, in one table: the name of each, the keys that its line may have, and what reads the values at them.
 
-ghost use Rattle.std.specs.Prelude.{◌≡◌, map};
-ghost use Rattle.pgp_lines.specs.Op.{op_keys, op_named};
+ghost use Rattle.std.specs.Prelude.{◌≡◌, Ok, Err, map, IfOk, IfErr, IfSome};
+ghost use Rattle.pgp_lines.specs.Value.{view};
+ghost use Rattle.pgp_lines.specs.LineFault.{line_fault_of};
+ghost use Rattle.pgp_lines.specs.Op.{op_keys, op_name, op_named};
+ghost use Rattle.pgp_lines.specs.Command.{values_of};
+
+use super::Command;
+use super::entries::read_entries;
+use super::fields::read_required;
+use super::format::{Format, judge_format};
+use super::incremental::read_inc;
+use super::info::read_info;
+use super::locate::read_locate;
+use super::trace::read_trace;
+use super::value::Value;
+use pgp_ids::{Entry, TextFault};
+use std::alloc::Global;
 
 /// What a line asks to be done. Each operation has its own keys.
 #[derive(Clone, Copy)]
@@ -32,6 +47,21 @@ impl Op {
         }
     }
 
+    /// Its name in lines and in answers.
+    pub fn name(self) -> &'static str
+        ensures { result.now ≡ op_name self }
+    {
+        match self {
+            Op::Ask => "ask",
+            Op::Close => "close",
+            Op::Entries => "entries",
+            Op::Inc => "inc",
+            Op::Info => "info",
+            Op::Locate => "locate",
+            Op::Trace => "trace",
+        }
+    }
+
     /// The keys that its line may have, in ascending byte order.
     pub fn keys(self) -> &'static [&'static str]
         ensures { map (λ k. k.now) result.now ≡ op_keys self }
@@ -59,6 +89,46 @@ impl Op {
             ],
             Op::Locate => &["name", "op", "pool", "v"],
             Op::Trace => &["code", "epochs", "op", "v"],
+        }
+    }
+    /// The command of its line, past the judgement of the line's keys; the line names this version.
+    pub(super) fn read(
+        self,
+        alloc: Global,
+        value: &Value<'_, '_>,
+        format: Option<Format>,
+    ) -> Result<Command, TextFault>
+        ensures ok { IfOk result (λ command. values_of self format (view value.now) ≡ Ok command) }
+        ensures err { IfErr result
+            (λ fault. IfSome (line_fault_of fault) (λ f. values_of self format (view value.now) ≡ Err f)) }
+    {
+        match self {
+            Op::Ask => {
+                let pg = read_required(alloc, value, "pg")?;
+                judge_format(alloc, format)?;
+                Ok(Command::Ask(pg))
+            }
+            Op::Close => {
+                judge_format(alloc, format)?;
+                Ok(Command::Submit(Entry::Close))
+            }
+            Op::Entries => {
+                let report = read_entries(alloc, value, format)?;
+                Ok(Command::Submit(Entry::Entries(report)))
+            }
+            Op::Inc => {
+                let inc = read_inc(alloc, value, format)?;
+                Ok(Command::Submit(Entry::Inc(inc)))
+            }
+            Op::Info => {
+                let info = read_info(alloc, value, format)?;
+                Ok(Command::Submit(Entry::Info(info)))
+            }
+            Op::Locate => {
+                let (pool, name) = read_locate(alloc, value, format)?;
+                Ok(Command::Locate { pool, name })
+            }
+            Op::Trace => read_trace(alloc, value, format),
         }
     }
 }

@@ -1,16 +1,20 @@
-//! The values of a trace line: a code, and the epochs of one group.
-ghost use Rattle.std.specs.Prelude.{◌≡◌, map, codes, IfOk};
+//! The line of a trace: a code, and the epochs of one group.
+ghost use Rattle.std.specs.Prelude.{◌≡◌, Ok, Err, map, codes, IfOk, IfErr, IfSome};
 ghost use Rattle.pgp_lines.specs.Value.{view};
+ghost use Rattle.pgp_lines.specs.LineFault.{line_fault_of};
+ghost use Rattle.pgp_lines.specs.Command.{trace_of};
 ghost use Rattle.pgp_lines.specs.Ids.{word_in};
 ghost use Rattle.pgp_lines.specs.Shapes.{field};
 ghost use Rattle.pgp_lines.specs.Trace.{code_keys, is_code, code_in, osds_in, sizes_in, facts_in, members_in, epoch_state_in, epochs_in};
 
-use super::format::Format;
+use super::Command;
+use super::faults::bad_field_fault;
+use super::format::{Format, judge_format, read_in};
 use super::numbers::{number_at, read_epoch, read_place};
 use super::objects::has_only;
 use super::pools::read_kind;
 use super::value::Value;
-use pgp_ids::{Epoch, EpochState, Membership, Osds, PoolKind, PrimaryFacts, Seq};
+use pgp_ids::{Epoch, EpochState, Membership, Osds, PoolKind, PrimaryFacts, Seq, TextFault};
 use std::alloc::{AllocError, Global};
 
 const EPOCH_KEYS: [&str; 6] = ["acting", "min_size", "size", "up", "up_from", "up_thru"];
@@ -21,9 +25,33 @@ pub const MAX_EPOCHS: usize = 4096;
 /// The size of the largest group, and so the most data shards that a code has.
 const MAX_SIZE: u8 = 16;
 
+/// The values of a trace, `code` first: whether a place may be empty depends on it.
+pub(super) fn read_trace(
+    alloc: Global,
+    value: &Value<'_, '_>,
+    format: Option<Format>,
+) -> Result<Command, TextFault>
+    ensures ok { IfOk result (λ command. trace_of format (view value.now) ≡ Ok command) }
+    ensures err { IfErr result
+        (λ fault. IfSome (line_fault_of fault) (λ f. trace_of format (view value.now) ≡ Err f)) }
+{
+    let Some(code) = read_code(value, read_in(format)) else {
+        return Err(bad_field_fault(alloc, "code"));
+    };
+    let found = match value.get("epochs") {
+        Some(epochs) => read_epochs(alloc, &epochs, code.is_by_place())?,
+        None => None,
+    };
+    let Some(epochs) = found else {
+        return Err(bad_field_fault(alloc, "epochs"));
+    };
+    judge_format(alloc, format)?;
+    Ok(Command::Trace { code, epochs })
+}
+
 /// The code of a trace in this version: `{"kind":"replicated"}`, `{"k":1,"kind":"erasure"}` with 1 to 16 data shards, or
 /// `{"groups":[[[0],1]],"kind":"grouped"}` with parts that a pool of size 16 can have.
-pub(super) fn read_code(value: &Value<'_, '_>, format: Format) -> Option<PoolKind>
+fn read_code(value: &Value<'_, '_>, format: Format) -> Option<PoolKind>
     ensures { result ≡ field (codes "code") (code_in format) (view value.now) }
 {
     let code = value.get("code")?;
@@ -124,7 +152,7 @@ fn epoch_at(value: &Value<'_, '_>, key: &str) -> Option<Epoch>
 
 /// The 1 to 4,096 epochs of a trace, the first of which is epoch 1. The bound is judged as the list is walked: a longer
 /// one is refused after its first 4,096 were read. An `Err` means out of memory.
-pub(super) fn read_epochs(
+fn read_epochs(
     alloc: Global,
     value: &Value<'_, '_>,
     nulls: bool,
