@@ -8,6 +8,8 @@ use Rattle.pgp_ids.specs.declared.peer.PeerState.{PeerState}
 use Rattle.pgp_ids.specs.declared.peer.PeerState.TheVariants.{Missing, Backfill, Diverged}
 use Rattle.pgp_ids.specs.declared.pg_id.PgId.{PgId}
 use Rattle.pgp_ids.specs.declared.view.View.{View}
+use Rattle.pgp_lines.specs.Op.{op_name}
+use Rattle.pgp_lines.specs.declared.command.op.Op.TheVariants as op
 use Rattle.pgp_text.specs.Json.{Field, object_with, number_data, list_data, option_data}
 use Rattle.pgp_text.specs.Answered.{group_data, member_data, version_data, place_data, osds_data, intervals_data}
 
@@ -44,7 +46,7 @@ asked_data pg v = object_with (
     ∷ (codes "intervals", intervals_data v.intervals)
     ∷ (codes "les", number_data v.les)
     ∷ (codes "missing", list_data missing_data v.missing)
-    ∷ (codes "ok", string (codes "ask"))
+    ∷ (codes "ok", string (op_name op.Ask))
     ∷ (codes "pg", group_data pg)
     ∷ (codes "probe", list_data member_data v.probe)
     ∷ (codes "up", osds_data v.up)

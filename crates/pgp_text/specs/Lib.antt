@@ -1,5 +1,7 @@
 pub use Rattle.pgp_lines.specs.Command
 pub use Rattle.pgp_lines.specs.LineFault
+pub use Rattle.pgp_lines.specs.Op
+pub mod Commands
 pub mod Json
 pub mod Answered
 pub mod LineRefusal

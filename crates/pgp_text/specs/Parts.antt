@@ -4,6 +4,8 @@ use Rattle.serde_json.specs.Data.{string, boolean}
 use Rattle.pgp_ids.specs.declared.past.Past.{Past}
 use Rattle.pgp_ids.specs.declared.pg_id.PgId.{PgId}
 use Rattle.pgp_ids.specs.declared.view.View.{View}
+use Rattle.pgp_lines.specs.Op.{op_name}
+use Rattle.pgp_lines.specs.declared.command.op.Op.TheVariants as op
 use Rattle.pgp_text.specs.Json.{Field, number_data, list_data}
 use Rattle.pgp_text.specs.Answered.{group_data, member_data, place_data, osds_data, intervals_data}
 use Rattle.pgp_text.specs.Asked.{missing_data}
@@ -39,7 +41,7 @@ history_fields v =
 abbrev pub peer_fields : PgId → View → List Field
 peer_fields pg v =
     (codes "missing", list_data missing_data v.missing)
-    ∷ (codes "ok", string (codes "ask"))
+    ∷ (codes "ok", string (op_name op.Ask))
     ∷ (codes "pg", group_data pg)
     ∷ (codes "probe", list_data member_data v.probe)
     ∷ []
@@ -48,6 +50,6 @@ peer_fields pg v =
 abbrev pub place_fields : PgId → ℕ → List Field
 place_fields pg epoch =
     (codes "epoch", number_data epoch)
-    ∷ (codes "ok", string (codes "locate"))
+    ∷ (codes "ok", string (op_name op.Locate))
     ∷ (codes "pg", group_data pg)
     ∷ []

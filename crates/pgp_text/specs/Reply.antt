@@ -7,6 +7,8 @@ use Rattle.pgp_ids.specs.declared.membership.Membership.{Membership}
 use Rattle.pgp_ids.specs.declared.past.Past.{Past}
 use Rattle.pgp_ids.specs.declared.pg_id.PgId.{PgId}
 use Rattle.pgp_lines.specs.LineFault.{LineFault, line_too_long, not_json, no_op, unknown_key, bad_field}
+use Rattle.pgp_lines.specs.Op.{op_name}
+use Rattle.pgp_lines.specs.declared.command.op.Op.TheVariants as op
 use Rattle.pgp_text.specs.Json.{object_with, number_data}
 use Rattle.pgp_text.specs.Answered.{group_data, place_data, osds_data, intervals_data}
 use Rattle.pgp_text.specs.Asked.{asked_data}
@@ -30,7 +32,7 @@ located_data pg members epoch = object_with (
     (codes "acting", osds_data members.acting)
     ∷ (codes "acting_primary", place_data members.acting_primary)
     ∷ (codes "epoch", number_data epoch)
-    ∷ (codes "ok", string (codes "locate"))
+    ∷ (codes "ok", string (op_name op.Locate))
     ∷ (codes "pg", group_data pg)
     ∷ (codes "up", osds_data members.up)
     ∷ (codes "up_primary", place_data members.up_primary)
@@ -41,7 +43,7 @@ abbrev pub traced_data : ℕ → List Past → Data
 traced_data first past = object_with (
     (codes "first", number_data first)
     ∷ (codes "intervals", intervals_data past)
-    ∷ (codes "ok", string (codes "trace"))
+    ∷ (codes "ok", string (op_name op.Trace))
     ∷ [])
 
 -- the object that a reply is written as

@@ -6,5 +6,5 @@
 pub mod laws;
 mod reply;
 
-pub use pgp_lines::{Command, LineReader, MAX_EPOCHS, read_line};
+pub use pgp_lines::{Command, LineReader, MAX_EPOCHS, Op, read_line};
 pub use reply::{EntryOp, LineRefusal, Reply, ReplyWriter, write_reply};

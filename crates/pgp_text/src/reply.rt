@@ -22,6 +22,7 @@ use json::Writer;
 pub use line_refusal::LineRefusal;
 use parts::{Json, write_field};
 use pgp_ids::{Epoch, Membership, Past, PgId, Seq, View};
+use pgp_lines::Op;
 use std::alloc::{AllocError, Global};
 use std::mem;
 
@@ -67,6 +68,7 @@ pub struct ReplyWriter {
 }
 
 impl ReplyWriter {
+    /// A writer of replies. It takes no memory before its first reply.
     pub fn new(alloc: Global) -> Self {
         ReplyWriter {
             room: Vec::new(alloc),
@@ -191,7 +193,7 @@ fn write_place(alloc: Global, out: &mut Writer, pg: PgId, epoch: Epoch) -> Resul
     ensures before { out.new.before ≡ out.old.before }
 {
     write_field(alloc, out, "epoch", &epoch)?;
-    write_field(alloc, out, "ok", &"locate")?;
+    write_field(alloc, out, "ok", &Op::Locate.name())?;
     write_field(alloc, out, "pg", &pg)
 }
 
@@ -208,6 +210,6 @@ fn write_traced(
     out.begin_object()?;
     write_field(alloc, out, "first", &first)?;
     write_field(alloc, out, "intervals", past)?;
-    write_field(alloc, out, "ok", &"trace")?;
+    write_field(alloc, out, "ok", &Op::Trace.name())?;
     out.end_object()
 }

@@ -1,7 +1,7 @@
 //! Worked lines of version 2 of the format: grouped pools, traces by grouped codes, and how the key `v` is judged.
 #![tactic(auto, unfolding(crate::specs::WorkedLines::text_computed))]
 
-ghost use Rattle.std.specs.Prelude.{◌≡◌, [], ◌∷◌, ◌++◌, replicate, codes, Ok, Err, Some, None, true};
+ghost use Rattle.std.specs.Prelude.{◌≡◌, [], ◌∷◌, replicate, codes, Ok, Err, Some, None, true};
 ghost use Rattle.pgp_ids.specs.declared.entry.Entry.TheVariants.{Inc, Info, Close};
 ghost use Rattle.pgp_lines.specs.LineFault.{unknown_key, bad_field};
 ghost use Rattle.pgp_lines.specs.Command.{command_of};

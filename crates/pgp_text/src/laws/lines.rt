@@ -1,7 +1,7 @@
 //! Worked lines: faults, and traces.
 #![tactic(auto, unfolding(crate::specs::WorkedLines::text_computed))]
 
-ghost use Rattle.std.specs.Prelude.{◌≡◌, ℕ, List, replicate, codes, Ok, Err};
+ghost use Rattle.std.specs.Prelude.{◌≡◌, replicate, codes, Ok, Err};
 ghost use Rattle.pgp_lines.specs.LineFault.{not_json, no_op, unknown_key, bad_field};
 ghost use Rattle.pgp_ids.specs.declared.entry.Entry.TheVariants.{Info, Entries};
 ghost use Rattle.pgp_lines.specs.Command.{command_of};

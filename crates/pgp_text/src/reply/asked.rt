@@ -8,6 +8,7 @@ use super::devices::{write_acting, write_up};
 use super::parts::write_field;
 use json::Writer;
 use pgp_ids::{Epoch, PgId, View};
+use pgp_lines::Op;
 use std::alloc::{AllocError, Global};
 
 /// The view, with this count and this epoch.
@@ -61,7 +62,7 @@ fn write_peers(alloc: Global, out: &mut Writer, pg: PgId, known: &View) -> Resul
     ensures before { out.new.before ≡ out.old.before }
 {
     write_field(alloc, out, "missing", &known.missing)?;
-    write_field(alloc, out, "ok", &"ask")?;
+    write_field(alloc, out, "ok", &Op::Ask.name())?;
     write_field(alloc, out, "pg", &pg)?;
     write_field(alloc, out, "probe", &known.probe)
 }

@@ -1,7 +1,8 @@
 ghost use Rattle.std.specs.Prelude.{◌≡◌};
-ghost use Rattle.pgp_text.specs.EntryOp.{entry_op, entry_op_name};
+ghost use Rattle.pgp_text.specs.EntryOp.{entry_op, entry_op_name, line_op};
 
 use pgp_ids::Entry;
+use pgp_lines::Op;
 
 /// The operation by which an entry comes.
 #[derive(Clone, Copy)]
@@ -25,15 +26,22 @@ impl EntryOp {
         }
     }
 
+    /// The operation that its line names.
+    fn op(self) -> Op
+        ensures { result ≡ line_op self }
+    {
+        match self {
+            EntryOp::Inc => Op::Inc,
+            EntryOp::Info => Op::Info,
+            EntryOp::Entries => Op::Entries,
+            EntryOp::Close => Op::Close,
+        }
+    }
+
     /// Its name in lines and answers.
     pub fn name(self) -> &'static str
         ensures { result.now ≡ entry_op_name self }
     {
-        match self {
-            EntryOp::Inc => "inc",
-            EntryOp::Info => "info",
-            EntryOp::Entries => "entries",
-            EntryOp::Close => "close",
-        }
+        self.op().name()
     }
 }
