@@ -5,8 +5,7 @@ use Rattle.pgp_ids.specs.declared.entry.Entry.{Entry}
 use Rattle.pgp_ids.specs.declared.refusal.Refusal.{Refusal}
 use Rattle.pgp_text.specs.Command.{command_of}
 use Rattle.pgp_text.specs.LineFault.{LineFault}
-use Rattle.pgp_lines.specs.declared.command.Command.{Command}
-use Rattle.pgp_lines.specs.declared.command.Command.TheVariants.{Submit, Ask, Locate, Trace}
+use Rattle.pgp_text.specs.Commands.{Command, Submit, Ask, Locate, Trace}
 use Rattle.pgp_log.specs.Fits.{fits}
 use Rattle.pgp_log.specs.Log.{is_legal}
 use Rattle.pgp_log.proofs.LogLemmas.{legal-snoc}

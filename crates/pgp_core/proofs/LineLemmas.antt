@@ -5,8 +5,7 @@ use Rattle.std.proofs.lemmas.List.{nil_from_length}
 use Rattle.pgp_ids.specs.declared.entry.Entry.{Entry}
 use Rattle.std.specs.Prelude.{Ok}
 use Rattle.pgp_text.specs.Command.{command_of}
-use Rattle.pgp_lines.specs.declared.command.Command.{Command}
-use Rattle.pgp_lines.specs.declared.command.Command.TheVariants.{Submit, Ask, Locate, Trace}
+use Rattle.pgp_text.specs.Commands.{Command, Submit, Ask, Locate, Trace}
 use Rattle.pgp_core.specs.Wants.{want_of, LacksReply}
 use Rattle.pgp_core.specs.Answer.{line_text}
 use Rattle.pgp_core.specs.Lines.{is_blank}

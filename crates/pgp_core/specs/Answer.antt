@@ -20,8 +20,7 @@ use Rattle.pgp_text.specs.Command.{command_of}
 use Rattle.pgp_text.specs.EntryOp.{entry_op}
 use Rattle.pgp_text.specs.LineFault.{LineFault, line_too_long}
 use Rattle.pgp_text.specs.Reply.{reply_text, fault_text}
-use Rattle.pgp_lines.specs.declared.command.Command.{Command}
-use Rattle.pgp_lines.specs.declared.command.Command.TheVariants.{Submit, Ask, Locate, Trace}
+use Rattle.pgp_text.specs.Commands.{Command, Submit, Ask, Locate, Trace}
 use Rattle.pgp_text.specs.declared.reply.Reply.{Reply}
 use Rattle.pgp_text.specs.declared.reply.Reply.TheVariants.{Accepted, Asked, Located, Traced, Refused}
 use Rattle.pgp_text.specs.declared.reply.line_refusal.LineRefusal.TheVariants as why

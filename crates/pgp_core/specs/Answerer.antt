@@ -1,7 +1,7 @@
 -- What whoever answers the commands of a script may reply.
 use Rattle.std.specs.Prelude.{◌≡◌, List, Bool, true, false}
 use Rattle.pgp_ids.specs.declared.entry.Entry.{Entry}
-use Rattle.pgp_lines.specs.declared.command.Command.{Command}
+use Rattle.pgp_text.specs.Commands.{Command}
 use Rattle.pgp_text.specs.declared.reply.Reply.{Reply}
 use Rattle.pgp_text.specs.declared.reply.Reply.TheVariants.{Accepted, Asked, Located, Traced, Refused}
 use Rattle.pgp_log.specs.Log.{IsFrontOf}

@@ -6,7 +6,7 @@ use Rattle.pgp_ids.specs.declared.refusal.Refusal.TheVariants as refusal
 use Rattle.pgp_ids.specs.declared.text_fault.TextFault.TheVariants as fault
 use Rattle.pgp_text.specs.Command.{command_of}
 use Rattle.pgp_text.specs.Reply.{reply_text}
-use Rattle.pgp_lines.specs.declared.command.Command.TheVariants.{Submit}
+use Rattle.pgp_text.specs.Commands.{Submit}
 use Rattle.pgp_text.specs.declared.reply.Reply.TheVariants.{Refused}
 use Rattle.pgp_text.specs.declared.reply.line_refusal.LineRefusal.TheVariants as why
 use Rattle.pgp_core.specs.Answer.{line_text, line_log, long_text}

@@ -4,7 +4,7 @@ use Rattle.pgp_ids.specs.declared.entry.Entry.{Entry}
 use Rattle.pgp_text.specs.Command.{command_of}
 use Rattle.pgp_text.specs.LineFault.{LineFault}
 use Rattle.pgp_text.specs.Reply.{reply_text, fault_text}
-use Rattle.pgp_lines.specs.declared.command.Command.{Command}
+use Rattle.pgp_text.specs.Commands.{Command}
 use Rattle.pgp_core.specs.Answer.{reply_of, log_after, line_text, line_log}
 use Rattle.pgp_core.specs.Answerer.{MayAnswerBy}
 use Rattle.pgp_core.specs.Script.{MayMeet, answer, log_past, longest_line}

@@ -2,7 +2,6 @@
 
 ghost use Rattle.std.specs.Prelude.{◌≡◌, ◌+◌, ◌≤◌, ◌∷◌, [], ◌++◌, length, vec_len, vec_capacity, decimal, IsOk, OnOk, OnErr};
 ghost use Rattle.pgp_text.specs.Reply.{reply_text};
-ghost use Rattle.pgp_text.specs.EntryOp.{entry_op_name};
 ghost use Rattle.pgp_text.specs.declared.reply.Reply.TheVariants.{Accepted};
 
 use itoa::Buffer;

@@ -8,7 +8,7 @@ ghost use Rattle.pgp_core.specs.Answerer.{MayAnswerBy, is_accepted};
 ghost use Rattle.pgp_core.specs.Lines.{is_blank};
 ghost use Rattle.pgp_core.specs.Script.{longest_line};
 ghost use Rattle.pgp_core.specs.WrittenFor.{PutsFault, PutsReply, PutsText, MayLack};
-ghost use Rattle.pgp_lines.specs.LineFault.{line_fault_of};
+ghost use Rattle.pgp_text.specs.LineFault.{line_fault_of};
 ghost use Rattle.pgp_core.specs.Wants.{LacksReply, want_of};
 
 use super::accepted::{LONGEST_ACCEPTED, put_accepted};

@@ -3,7 +3,7 @@
 ghost use Rattle.std.specs.Prelude.{◌≡◌, Bool, true, List, IfOk, IfErr, OnOk, OnErr};
 ghost use Rattle.pgp_ids.specs.declared.entry.Entry.{Entry};
 ghost use Rattle.pgp_text.specs.Command.{IsInRange};
-ghost use Rattle.pgp_lines.specs.declared.command.Command.TheVariants.{Ask};
+ghost use Rattle.pgp_text.specs.Commands.{Ask};
 ghost use Rattle.pgp_core.specs.Answerer.{MayAnswerBy, Replies};
 ghost use Rattle.pgp_core.specs.WrittenFor.{PutsReply};
 ghost use Rattle.pgp_core.specs.Wants.{LacksReply, MayFindNone};

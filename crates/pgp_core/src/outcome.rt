@@ -1,7 +1,7 @@
 //! What a line of a script is to a log that takes its entries and answers nothing.
 
 ghost use Rattle.std.specs.Prelude.{◌≡◌, ℕ, List, IfOk, OnErr};
-ghost use Rattle.pgp_lines.specs.declared.command.Command.TheVariants.{Ask, Locate, Submit};
+ghost use Rattle.pgp_text.specs.Commands.{Ask, Locate, Submit};
 ghost use Rattle.pgp_core.specs.Added.{IsOutcome, IsOutcomeOf, added_by, taken_from, with_added};
 
 use super::line::{LONGEST_LINE, all_blank};

@@ -1,6 +1,6 @@
 //! Writing answers: which of them wait, when they are written, and that each goes out whole or the write fails.
 
-ghost use Rattle.std.specs.Prelude.{◌≡◌, ℕ, List, [], ◌++◌, true, OnOk, OnErr, vec_items};
+ghost use Rattle.std.specs.Prelude.{◌≡◌, [], ◌++◌, true, OnOk, OnErr};
 ghost use Rattle.std.specs.Io.KnownBytes.{Appends};
 ghost use Rattle.pgp_core.specs.Output.{WrittenPart, FrontWent};
 

@@ -1,7 +1,7 @@
 //! The text of small scripts.
 #![tactic(auto, unfolding(crate::specs::Worked::scripts_computed))]
 
-ghost use Rattle.std.specs.Prelude.{◌≡◌, List, ℕ, [], ◌∷◌, ◌++◌, Option, Some, None, codes, replicate, length, true};
+ghost use Rattle.std.specs.Prelude.{◌≡◌, List, ℕ, [], ◌∷◌, ◌++◌, Option, Some, None, codes, length, true};
 ghost use Rattle.pgp_ids.specs.declared.entry.Entry.{Entry as LogEntry};
 ghost use Rattle.pgp_core.specs.declared.want.Want.{Want};
 ghost use Rattle.pgp_core.specs.declared.want.Want.TheVariants.{Line, Entry};
