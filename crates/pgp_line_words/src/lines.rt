@@ -3,7 +3,7 @@
 use super::numbers::{DEVICE, EPOCH, FORMAT, GROUP, PLACE, POOL, SIZE, SLOT, WEIGHT, WRITE};
 use super::objects::{CODE, CRUSH, PLACED_EPOCHS, PLAIN_EPOCHS, POOLS};
 use super::shape::{Field, Format, Shape};
-use pgp_lines::Op;
+use pgp_text::Op;
 use serde_json::Value;
 
 const DEVICES: Shape = Shape::List(&DEVICE);
