@@ -70,13 +70,10 @@ has_member-snoc : (member : Member) (infos : List Info) (info : Info) → has_me
 has_member-snoc member [] info = grind arith
 has_member-snoc member (first ∷ infos) info = grind (arith, has_member-snoc member infos info)
 
-same_back : (a b : Member) → is_same_member a b ≡ is_same_member b a
-same_back a b = grind (arith, nat_tests)
-
 -- the last infos of the members with one more info: those of the others, and then this one
 pub last_of-snoc : (infos : List Info) (info : Info) → last_of_each_member (infos ++ info ∷ []) ≡ with_info info (last_of_each_member infos)
 last_of-snoc [] info = refl
-last_of-snoc (first ∷ infos) info = grind (arith, last_of-snoc infos info, has_member-snoc first.member infos info, same_back info.member first.member)
+last_of-snoc (first ∷ infos) info = grind (arith, nat_tests, last_of-snoc infos info, has_member-snoc first.member infos info)
 
 -- what the laws say
 pub ruleset heard_laws = (HasDistinctMembers-last_of, last_of-IsLastOfMember, IsLastOfMember-last_of)
