@@ -10,7 +10,7 @@ use Rattle.pgp_feed.proofs.Fronts.{front_self}
 use Rattle.pgp_engine.specs.Fronts.{Follows}
 
 pub follows_log : (log : List Entry) (judge : Judge) → IsJudgeOf log judge → Follows log judge
-follows_log log judge is = record { taken = log; is_front = front_self log; is_judge = is }
+follows_log log judge is = record { taken = log; is_front = front_self log; is = is }
 
 -- whether it found memory for the entry or not
 pub took_or_not : {T E : Type 0} (r : Result T E) (log : List Entry) (new : Entry) (before after : Judge) → IsJudgeOf log before → fits log new ≡ None
@@ -18,7 +18,7 @@ pub took_or_not : {T E : Type 0} (r : Result T E) (log : List Entry) (new : Entr
     → Follows (log ++ new ∷ []) after
 took_or_not (Ok x) log new before after is fit ok err = follows_log (log ++ new ∷ []) after (ok log is fit)
 took_or_not (Err x) log new before after is fit ok err =
-    record { taken = log; is_front = record { rest = new ∷ []; whole = refl }; is_judge = err log is }
+    record { taken = log; is_front = record { rest = new ∷ []; whole = refl }; is = err log is }
 
 -- what the log is after a publish that succeeded
 pub published : (told old new : Receipt) (log : List Entry) (entry given : Entry) → entries_of old ≡ log → entry ≡ given

@@ -1,4 +1,4 @@
-pub mod ClientLemmas
+pub mod FollowerLemmas
 pub mod FrontLemmas
 pub mod JudgeLemmas
 pub mod ReadLemmas

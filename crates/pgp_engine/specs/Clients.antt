@@ -1,15 +1,15 @@
 -- A client, and the map by which it places objects.
-use Rattle.std.specs.Prelude.{◌≡◌, List, [], ◌++◌, true}
+use Rattle.std.specs.Prelude.{◌≡◌, List, []}
 use Rattle.logbook.specs.Pages.{Book}
 use Rattle.pgp_ids.specs.declared.entry.Entry.{Entry}
 use Rattle.pgp_group.specs.Entries.{incs_of}
 use Rattle.pgp_log.specs.Judge.{IsJudgeOf}
-use Rattle.pgp_log.specs.Log.{IsFrontOf, is_legal}
 use Rattle.pgp_log.specs.RawSets.{AreRawSets}
 use Rattle.pgp_feed.specs.Receipts.{entries_of, feed_of}
 use Rattle.pgp_feed.specs.Taps.{last_of}
 use Rattle.pgp_feed.specs.declared.receipt.Receipt.{Receipt}
 use Rattle.pgp_feed.specs.declared.tap.Tap.{Tap}
+use Rattle.pgp_engine.specs.Followers.{HasTakenFront}
 use Rattle.pgp_engine.specs.declared.client.chart.Chart.{Chart}
 
 -- the chart has taken the entries of this log
@@ -18,16 +18,8 @@ pub record IsChartOf (log : List Entry) (chart : Chart) : Type 0 where
   pub sets_are : AreRawSets (incs_of log) chart.sets
 
 -- the chart has taken the first entries of this log, perhaps all
-pub record IsChartWithin (log : List Entry) (chart : Chart) : Type 0 where
-  pub taken : List Entry
-  pub within : IsFrontOf taken log
-  pub is : IsChartOf taken chart
-
--- some log that the chart has taken goes on with these entries
-pub record GoesOn (chart : Chart) (news : List Entry) : Type 0 where
-  pub log : List Entry
-  pub is : IsChartOf log chart
-  pub legal : is_legal (log ++ news) ≡ true
+abbrev pub IsChartWithin : List Entry → Chart → Type 0
+IsChartWithin log chart = HasTakenFront IsChartOf log chart
 
 -- tap and front are of this feed, and the chart is of what the front holds
 pub record IsClientOf (feed : Book) (tap : Tap) (front : Receipt) (chart : Chart) : Type 0 where

@@ -1,6 +1,7 @@
 pub mod Clients
 pub mod LocateFaults
 pub mod Faults
+pub mod Followers
 pub mod Fronts
 pub mod Intakes
 pub mod Shards

@@ -2,7 +2,7 @@
 use crate::intake::Intake;
 use crate::naming::Naming;
 use crate::shard::Shard;
-use std::marker::{Model, PhantomData};
+use std::marker::Model;
 use std::sync::{Condvar, Mutex};
 
 mod locks;

@@ -13,6 +13,7 @@ mod client;
 mod engine;
 mod entry_buffer;
 mod fault;
+mod follower;
 mod gate;
 mod intake;
 mod naming;

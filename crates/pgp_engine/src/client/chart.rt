@@ -1,20 +1,19 @@
 //! The map by which a client places objects.
-ghost use Rattle.std.specs.Prelude.{◌≡◌, ◌≢◌, ◌<◌, List, [], ◌++◌, length, map, true, None, Some, Err, OnOk, OnErr, IfOk};
-ghost use Rattle.std.specs.Arc.{arc_value};
-ghost use Rattle.pgp_ids.specs.declared.entry.Entry.{Entry as AnyEntry};
+ghost use Rattle.std.specs.Prelude.{◌≡◌, ◌≢◌, ◌<◌, [], length, None, Some, Err, OnOk, OnErr, IfOk};
 ghost use Rattle.pgp_map.specs.Pools.{pool};
 ghost use Rattle.pgp_group.specs.Entries.{incs_of};
-ghost use Rattle.pgp_log.specs.Log.{epoch_of, is_legal};
+ghost use Rattle.pgp_log.specs.Log.{epoch_of};
 ghost use Rattle.pgp_log.specs.Locate.{place_of_object, place_with};
 ghost use Rattle.pgp_feed.specs.Receipts.{entries_of, feed_of};
 ghost use Rattle.pgp_feed.specs.Taps.{last_of};
 ghost use Rattle.pgp_feed.specs.declared.receipt.Receipt.{Receipt as AnyReceipt};
 ghost use Rattle.pgp_engine.specs.declared.client.fault.LocateFault.TheVariants.{UnknownPool, Memory, NoReader};
-ghost use Rattle.pgp_engine.specs.Clients.{IsChartOf, IsChartWithin, GoesOn};
+ghost use Rattle.pgp_engine.specs.Clients.{IsChartOf, IsChartWithin};
 
 use super::fault::LocateFault;
 use super::place::Place;
 use crate::entry_buffer::EntryBuffer;
+use crate::follower::Follower;
 use pgp_feed::{ReadFault, Receipt, Tap};
 use pgp_ids::{Entry, ObjectName, PoolId};
 use pgp_log::{Judge, RawSets};
@@ -31,6 +30,22 @@ pub struct Chart {
 impl Drop for Chart {
     fn drop(self) {
         let Chart { judge: _, sets: _ } = self;
+    }
+}
+
+impl Follower for Chart {
+    ghost has_taken = { IsChartOf };
+
+    ghost numbers = { λ _. [] };
+
+    fn taken(&self) -> usize {
+        self.judge.count()
+    }
+
+    fn take_next(&mut self, entry: &Arc<Entry>) -> Result<(), AllocError> {
+        self.judge.take(entry)?;
+        self.sets.follow(entry);
+        Ok(())
     }
 }
 
@@ -59,33 +74,7 @@ impl Chart {
         ensures within { IsChartWithin (entries_of front.now) self.new }
         ensures reads { OnErr result (0 < length (entries_of front.now)) }
     {
-        let taken = self.judge.count();
-        if taken == front.len() {
-            return Ok(());
-        }
-        let list = buffer.read(tap, front, taken)?;
-        match self.take_all(list.as_slice()) {
-            Ok(()) => {
-                buffer.keep(list);
-                Ok(())
-            }
-            Err(AllocError) => Err(ReadFault::Memory),
-        }
-    }
-
-    /// Takes the entries that come next. Without memory for one of them, it has taken those before it.
-    fn take_all(&mut self, entries: &[Arc<Entry>]) -> Result<(), AllocError>
-        requires { GoesOn self.old (map arc_value entries.now) }
-        ensures whole { OnOk result ((log : List AnyEntry) → IsChartOf log self.old → is_legal (log ++ map arc_value entries.now) ≡ true
-            → IsChartOf (log ++ map arc_value entries.now) self.new) }
-        ensures within { (log : List AnyEntry) → IsChartOf log self.old → is_legal (log ++ map arc_value entries.now) ≡ true
-            → IsChartWithin (log ++ map arc_value entries.now) self.new }
-    {
-        for entry in entries {
-            self.judge.take(entry)?;
-            self.sets.follow(entry);
-        }
-        Ok(())
+        buffer.bring(self, tap, front)
     }
 
     /// Where the object of this name lies by the map of the front.

@@ -1,5 +1,5 @@
 //! How an engine's workers have its shards read on.
-ghost use Rattle.std.specs.Prelude.{◌≡◌, ◌<◌, ◌≤◌, ◌↔◌, length, None, Ok, IfOk, IfErr, IfSome};
+ghost use Rattle.std.specs.Prelude.{◌≡◌, ◌<◌, ◌≤◌, ◌↔◌, None, Ok, IfOk, IfErr, IfSome};
 ghost use Rattle.pgp_engine.specs.Faults.{fault_at};
 ghost use Rattle.pgp_engine.specs.Works.{IsEnd, IsStand};
 

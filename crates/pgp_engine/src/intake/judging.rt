@@ -1,35 +1,37 @@
 //! How the judge of an intake keeps up with the log, and what it says of the next entry.
-ghost use Rattle.std.specs.Prelude.{◌≡◌, ◌≢◌, ◌<◌, ◌⊎◌, [], ◌∷◌, ◌++◌, length, map, true, None, Err, IfOk, IfErr, OnOk, OnErr, MatchResult};
+ghost use Rattle.std.specs.Prelude.{◌≡◌, ◌≢◌, ◌<◌, ◌⊎◌, [], ◌∷◌, ◌++◌, length, None, Err, IfOk, IfErr, OnOk, OnErr, MatchResult};
 ghost use Rattle.std.specs.Arc.{arc_value};
 ghost use Rattle.pgp_log.specs.Fits.{fits};
-ghost use Rattle.pgp_log.specs.Judge.{IsJudgeOf, OfItsLog, MapMayLack};
-ghost use Rattle.pgp_log.specs.Log.{is_legal};
+ghost use Rattle.pgp_log.specs.Judge.{IsJudgeOf, MapMayLack};
 ghost use Rattle.pgp_feed.specs.Receipts.{entries_of, feed_of};
 ghost use Rattle.pgp_feed.specs.Feeds.{told_of};
 ghost use Rattle.pgp_feed.specs.Taps.{last_of};
 ghost use Rattle.pgp_engine.specs.Faults.{refused_at};
-ghost use Rattle.pgp_engine.specs.Fronts.{Follows, CanTakeAll};
+ghost use Rattle.pgp_engine.specs.Fronts.{Follows};
 ghost use Rattle.pgp_engine.specs.Intakes.{MayRefuse};
 ghost use Rattle.pgp_engine.specs.declared.fault.SubmitFault.TheVariants as submit;
 
 use crate::entry_buffer::EntryBuffer;
 use crate::fault::SubmitFault;
+use crate::follower::Follower;
 use pgp_feed::{Feed, Receipt, Tap};
 use pgp_ids::{Entry, Refusal};
 use pgp_log::Judge;
 use std::alloc::{AllocError, Global};
 use std::sync::{Arc, Wait};
 
-/// Has the judge take these entries, which come next. Without memory for one of them, it has taken those before it.
-fn take_all(judge: &mut Judge, entries: &[Arc<Entry>]) -> Result<(), AllocError>
-    requires { CanTakeAll judge.old (map arc_value entries.now) }
-    ensures ok { OnOk result (OfItsLog judge.old (λ log. is_legal (log ++ map arc_value entries.now) ≡ true → IsJudgeOf (log ++ map arc_value entries.now) judge.new)) }
-    ensures err { OnErr result (OfItsLog judge.old (λ log. is_legal (log ++ map arc_value entries.now) ≡ true → Follows (log ++ map arc_value entries.now) judge.new)) }
-{
-    for entry in entries {
-        judge.take(entry)?;
+impl Follower for Judge {
+    ghost has_taken = { IsJudgeOf };
+
+    ghost numbers = { λ _. [] };
+
+    fn taken(&self) -> usize {
+        self.count()
     }
-    Ok(())
+
+    fn take_next(&mut self, entry: &Arc<Entry>) -> Result<(), AllocError> {
+        self.take(entry)
+    }
 }
 
 /// Has the judge take what it hasn't yet of what was told.
@@ -47,13 +49,7 @@ pub(super) fn catch_up(
     ensures err { IfErr result (λ fault. refused_at fault ≡ None) }
     ensures reads { OnErr result (0 < length (entries_of told.now)) }
 {
-    let taken = judge.count();
-    if taken == told.len() {
-        return Ok(());
-    }
-    let list = buffer.read(tap, told, taken)?;
-    take_all(judge, list.as_slice())?;
-    buffer.keep(list);
+    buffer.bring(judge, tap, told)?;
     Ok(())
 }
 

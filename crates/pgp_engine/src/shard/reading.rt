@@ -1,5 +1,5 @@
 //! How a shard reads on.
-ghost use Rattle.std.specs.Prelude.{◌≡◌, ◌+◌, ◌<◌, ◌≤◌, length, None, IfErr, OnOk, OnErr};
+ghost use Rattle.std.specs.Prelude.{◌≡◌, ◌+◌, ◌<◌, ◌≤◌, [], ◌∷◌, length, None, IfErr, OnOk, OnErr};
 ghost use Rattle.pgp_log.specs.Log.{front, IsFrontOf};
 ghost use Rattle.pgp_feed.specs.Receipts.{entries_of, feed_of, Holds};
 ghost use Rattle.pgp_feed.specs.Taps.{last_of};
@@ -8,8 +8,26 @@ ghost use Rattle.pgp_engine.specs.Shards.{ReadsOn};
 
 use crate::entry_buffer::EntryBuffer;
 use crate::fault::AskFault;
+use crate::follower::Follower;
 use pgp_feed::{Receipt, Tap};
+use pgp_ids::Entry;
 use pgp_log::ShardState;
+use std::alloc::AllocError;
+use std::sync::Arc;
+
+impl Follower for ShardState {
+    ghost has_taken = { λ log state. state.front ≡ log };
+
+    ghost numbers = { λ state. state.shard ∷ state.shards ∷ [] };
+
+    fn taken(&self) -> usize {
+        self.count()
+    }
+
+    fn take_next(&mut self, entry: &Arc<Entry>) -> Result<(), AllocError> {
+        self.absorb(entry)
+    }
+}
 
 /// The front with the next `max` entries after those that were read, or with all that there are.
 pub(super) fn after(newest: &Receipt, read: usize, max: usize) -> Receipt
@@ -42,12 +60,6 @@ pub(super) fn read_to(
     ensures err { IfErr result (λ fault. fault_at fault ≡ None) }
     ensures reads { OnErr result (length state.old.front < length (entries_of target.now)) }
 {
-    let read = state.count();
-    if read == target.len() {
-        return Ok(());
-    }
-    let list = buffer.read(tap, target, read)?;
-    state.absorb_all(list.as_slice())?;
-    buffer.keep(list);
+    buffer.bring(state, tap, target)?;
     Ok(())
 }

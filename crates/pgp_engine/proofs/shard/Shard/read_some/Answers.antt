@@ -1,4 +1,4 @@
-use Rattle.std.proofs.Common.{◌≡◌, ℕ, ◌+◌, ◌<◌, List, length, take, ap, sym, ◌∙◌, subst, arith}
+use Rattle.std.proofs.Common.{◌≡◌, ℕ, ◌+◌, List, length, take, ap, sym, ◌∙◌, subst, arith}
 use Rattle.std.proofs.lemmas.Grind.{common_steps}
 use Rattle.pgp_ids.specs.declared.entry.Entry.{Entry}
 use Rattle.pgp_log.specs.Log.{IsFrontOf}
@@ -6,8 +6,8 @@ use Rattle.pgp_log.proofs.SharedLemmas.{on_err}
 use Rattle.pgp_feed.specs.Receipts.{entries_of}
 use Rattle.pgp_feed.specs.Taps.{last_of}
 use Rattle.pgp_feed.proofs.Fronts.{front_trans}
-use Rattle.pgp_engine.specs.Shards.{Reader}
 use Rattle.pgp_engine.proofs.FrontLemmas.{front_between, front_short, take_front}
+use Rattle.pgp_engine.proofs.ReadLemmas.{seen_more}
 use Rattle.pgp_engine.proofs.shard.Shard.read_some.Goals as goal
 
 pub absorb_to-requires-clause-more : goal.absorb_to-requires-clause-more
@@ -20,14 +20,11 @@ absorb_to-requires-clause-more g c =
 
 pub returns-in_err-absorb_to-clause-reads : goal.returns-in_err-absorb_to-clause-reads
 returns-in_err-absorb_to-clause-reads g c =
-    let new : Reader = c.absorb_to.new.self in
     let newest : List Entry = entries_of c.newest-newest.result in
     let n : ℕ = c.len.result + c.args.max in
-    let same = ap entries_of (sym c.newest-newest.ensures.last) in
-    let seen : IsFrontOf newest new.seen = subst (λ l. IsFrontOf l new.seen) same c.in_err-absorb_to.ensures.on.seen_is in
-    let less : length c.args.self.now.front < length (entries_of c.after-target.result) =
-    subst (λ (s : Reader). length s.front < length (entries_of c.after-target.result)) c.self.view_is c.in_err-absorb_to.ensures.reads in
-    on_err c.from_residual.result _ (omega (arith, less, ap length c.after-target.ensures.entries, front_short (take n newest) newest (take_front n newest), front_short newest new.seen seen))
+    on_err c.from_residual.result _ (seen_more _ c.args.self.now c.absorb_to.new.self c.after-target.result c.newest-newest.result _
+    c.self.view_is c.newest-newest.ensures.last c.in_err-absorb_to.ensures.on.seen_is
+    (omega (arith, ap length c.after-target.ensures.entries, front_short (take n newest) newest (take_front n newest))) c.in_err-absorb_to.ensures.reads)
 
 pub after-target-requires : goal.after-target-requires
 after-target-requires g c = grind (arith, common_steps)
