@@ -112,7 +112,7 @@ impl ShardState {
     }
 
     /// Reads these entries, which come next. Without memory for one of them, the shard has read those before it.
-    pub fn absorb_all(&mut self, entries: &[Arc<Entry>]) -> Result<(), AllocError>
+    fn absorb_all(&mut self, entries: &[Arc<Entry>]) -> Result<(), AllocError>
         requires { is_legal (self.old.front ++ map arc_value entries.now) ≡ true }
         ensures ok { OnOk result (HasReadSame (having_read_all self.old (map arc_value entries.now)) self.new) }
         ensures there { OnOk result (is_some self.new.marks ≡ is_some self.old.marks) }
