@@ -16,9 +16,9 @@ def lines_of(folder, ending):
     return sum(len(it.read_text().splitlines()) for it in folder.rglob(f"*{ending}"))
 
 
-def counted():
+def counted(root):
     """Each crate with its lines of code, of definitions and of proofs."""
-    for crate in sorted((ROOT / "crates").iterdir()):
+    for crate in sorted((root / "crates").iterdir()):
         if (crate / "src").is_dir():
             yield crate.name, lines_of(crate / "src", ".rt"), lines_of(crate / "specs", ".antt"), lines_of(crate / "proofs", ".antt")
 
@@ -28,7 +28,7 @@ def row(name, code, specs, proofs):
 
 
 def main():
-    crates = list(counted())
+    crates = list(counted(ROOT))
     print("| Crate | Code | Definitions | Proofs | Proofs to code |")
     print("|---|---:|---:|---:|---:|")
     for crate in crates:
