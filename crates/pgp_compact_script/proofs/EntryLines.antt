@@ -3,7 +3,7 @@ use Rattle.std.proofs.Common.{◌≡◌, ℕ, List, [], ◌∷◌, ◌++◌, Boo
 use Rattle.std.proofs.lemmas.Bool.{cases_Bool}
 use Rattle.pgp_ids.specs.declared.entry.Entry.{Entry}
 use Rattle.pgp_text.specs.Command.{command_of}
-use Rattle.pgp_lines.specs.declared.command.Command.TheVariants.{Submit}
+use Rattle.pgp_text.specs.Commands.{Submit}
 use Rattle.pgp_log.specs.Fits.{fits}
 use Rattle.pgp_log.specs.Log.{is_legal}
 use Rattle.pgp_log.proofs.LogLemmas.{front-legal, legal-last}

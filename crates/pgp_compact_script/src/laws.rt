@@ -1,6 +1,6 @@
 //! What holds of the script that is written: it makes the compacted log.
 
-ghost use Rattle.std.specs.Prelude.{◌≡◌, ℕ, ◌≤◌, List, length};
+ghost use Rattle.std.specs.Prelude.{◌≡◌, ℕ, List, length};
 ghost use Rattle.pgp_compact.specs.Compacted.{compacted};
 ghost use Rattle.pgp_core.specs.Added.{log_of_lines};
 ghost use Rattle.pgp_core.specs.Lines.{lines_of};
