@@ -21,12 +21,22 @@ use std::alloc::{AllocError, Global};
 
 /// What was sent later: of each member the greatest stamp of its infos, of each group the greatest history_les, the intervals
 /// in which groups were clean, and of each number of each member the greatest stamp of a report with an entry of that number.
-#[derive(Drop)]
 pub(crate) struct Later {
     senders: Greatest<Sender>,
     starts: Greatest<PgId>,
     openings: Greatest<Opening>,
     numbers: Greatest<Number>,
+}
+
+impl Drop for Later {
+    fn drop(self) {
+        let Later {
+            senders: _,
+            starts: _,
+            openings: _,
+            numbers: _,
+        } = self;
+    }
 }
 
 impl Later {

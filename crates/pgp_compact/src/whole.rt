@@ -24,10 +24,15 @@ use std::alloc::{AllocError, Global};
 use std::sync::Arc;
 
 /// The last map of a whole log, and the groups of which it has reports.
-#[derive(Drop)]
 pub(crate) struct Whole {
     map: OsdMap,
     courses: Courses,
+}
+
+impl Drop for Whole {
+    fn drop(self) {
+        let Whole { map: _, courses: _ } = self;
+    }
 }
 
 impl Whole {
