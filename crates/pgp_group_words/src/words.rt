@@ -5,7 +5,7 @@ ghost use Rattle.pgp_group_words.specs.Names.{device_name, member_name, place_na
 ghost use Rattle.pgp_group_words.specs.Text.{Text, joint as joint_of, listed as listed_names, listed_with};
 ghost use Rattle.pgp_group_words.specs.declared.names.Naming.{Naming as TheNaming};
 
-use super::names::{Naming};
+use super::names::Naming;
 use pgp_ids::{Member, OsdId, Osds, Place};
 use std::alloc::{AllocError, Global};
 
