@@ -63,7 +63,8 @@ pub const LATER_LINES: [&str; 21] = [
 
 /// The answer to the last of them: two intervals have their flags by infos alone.
 pub const LATER_ANSWER: &str =
-    r#"{"acting":[null,null,4],"acting_primary":4,"best":null,"blocked_by":[0,3],"count":7,"epoch":4,"first":4,"intervals":[{"acting":[0,1,2],"acting_primary":0,"first":1,"last":1,"min_size":2,"rw":true,"size":3,"up":[3,1,5],"up_primary":3},{"acting":[0,3,4],"acting_primary":0,"first":2,"last":2,"min_size":2,"rw":true,"size":3,"up":[3,null,5],"up_primary":3},{"acting":[null,null,4],"acting_primary":4,"first":3,"last":3,"min_size":2,"rw":false,"size":3,"up":[null,null,5],"up_primary":5}],"les":0,"missing":[],"ok":"ask","pg":[1,0],"probe":[[1,1],[4,2],[5,2]],"up":[null,1,5],"up_primary":1,"verdict":"Down"}\n"#;
+    r#"{"acting":[null,null,4],"acting_primary":4,"best":null,"blocked_by":[0,3],"count":7,"epoch":4,"first":4,"intervals":[{"acting":[0,1,2],"acting_primary":0,"first":1,"last":1,"min_size":2,"rw":true,"size":3,"up":[3,1,5],"up_primary":3},{"acting":[0,3,4],"acting_primary":0,"first":2,"last":2,"min_size":2,"rw":true,"size":3,"up":[3,null,5],"up_primary":3},{"acting":[null,null,4],"acting_primary":4,"first":3,"last":3,"min_size":2,"rw":false,"size":3,"up":[null,null,5],"up_primary":5}],"les":0,"missing":[],"ok":"ask","pg":[1,0],"probe":[[1,1],[4,2],[5,2]],"up":[null,1,5],"up_primary":1,"verdict":"Down"}
+"#;
 
 /// The lines, each with a line feed.
 pub fn script_of(alloc: Global, lines: &[&str]) -> Result<Vec<u8>, AllocError> {
