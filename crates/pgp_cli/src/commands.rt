@@ -1,12 +1,14 @@
 //! The program's command line and its help.
-ghost use Rattle.std.specs.Prelude.{◌≡◌, false, IfOk};
-ghost use Rattle.clap.specs.Simple.{app_of};
+ghost use Rattle.std.specs.Prelude.{◌≡◌, false, map, string_bytes, IfOk};
+ghost use Rattle.clap.specs.Faults.{fault_of};
+ghost use Rattle.clap.specs.Kinds.{FailsBy};
+ghost use Rattle.clap.specs.Simple.{app_of, subcommand_of, subcommand_rows_of};
 ghost use Rattle.clap.specs.Walk.{rule_of};
 ghost use Rattle.clap.specs.Values.{kind_of};
-ghost use Rattle.pgp_cli.specs.Options.{pgpeer_app, run_app, explain_app, compact_app, group_word, json_flag, count_option};
+ghost use Rattle.pgp_cli.specs.Options.{bare_app, pgpeer_app, run_app, explain_app, compact_app, group_word, json_flag, count_option};
 
 use clap::error::ErrorKind;
-use clap::{Arg, ArgAction, Command, Error};
+use clap::{Arg, ArgAction, ArgMatches, Command, Error};
 use std::alloc::{AllocError, Global};
 
 /// What `pgpeer --help` says after its usage.
@@ -88,13 +90,33 @@ const JSON_HELP: &str = "Writes one line of JSON in place of words";
 const OFFSET_HELP: &str =
     "Adds N, 0 to 4294967295, to each epoch that is written, except to 0 [default: 0]";
 
+/// Parses a command line of the program. The first word is the program's name.
+///
+/// A request for help is an error too, and its text belongs on the standard output.
+pub fn parse<'a>(alloc: Global, words: &'a [String]) -> Result<ArgMatches<'a>, Error>
+    ensures fails { FailsBy (fault_of pgpeer_app (map string_bytes words.now)) result }
+    ensures found { IfOk result (λ matches. subcommand_rows_of matches ≡ subcommand_of pgpeer_app (map string_bytes words.now)) }
+{
+    let mut pgpeer = pgpeer(alloc)?;
+    pgpeer.try_get_matches_from_mut(words)
+}
+
 /// The program's command line.
-pub fn pgpeer<'a>(alloc: Global) -> Result<Command<'a>, AllocError>
+fn pgpeer<'a>(alloc: Global) -> Result<Command<'a>, AllocError>
     ensures { IfOk result (λ command. app_of command ≡ pgpeer_app) }
 {
     let run = run(alloc)?;
     let explain = explain(alloc)?;
-    let compact = compact(alloc);
+    bare(alloc)
+        .subcommand(run)?
+        .subcommand(explain)?
+        .subcommand(compact(alloc))
+}
+
+/// The same without its subcommands.
+fn bare<'a>(alloc: Global) -> Command<'a>
+    ensures { app_of result ≡ bare_app }
+{
     Command::new(alloc, "pgpeer")
         .version("0.1.0")
         .about(
@@ -102,9 +124,6 @@ pub fn pgpeer<'a>(alloc: Global) -> Result<Command<'a>, AllocError>
         )
         .after_help(HELP)
         .subcommand_required(true)
-        .subcommand(run)?
-        .subcommand(explain)?
-        .subcommand(compact)
 }
 
 /// `run [--shards N] [--workers N]`

@@ -3,7 +3,7 @@ ghost use Rattle.std.specs.Prelude.{◌≡◌, true, codes, is_some, map, string
 ghost use Rattle.clap.specs.Kinds.{FailsBy};
 ghost use Rattle.pgp_cli.specs.Options.{compact_faults_in, is_compact_asked, rows_named};
 
-use super::commands::{compact_error, pgpeer};
+use super::commands::{compact_error, parse};
 use super::named::named;
 use clap::error::ErrorKind;
 use clap::{ArgMatches, Error};
@@ -19,8 +19,7 @@ pub fn compaction(alloc: Global, words: &[String]) -> Result<(), Error>
     ensures fails { FailsBy (compact_faults_in (map string_bytes words.now)) result }
     ensures asked { OnOk result (is_compact_asked (map string_bytes words.now) ≡ true) }
 {
-    let mut pgpeer = pgpeer(alloc)?;
-    let matches = pgpeer.try_get_matches_from_mut(words)?;
+    let matches = parse(alloc, words)?;
     if asked(&matches) {
         Ok(())
     } else {

@@ -5,7 +5,7 @@ ghost use Rattle.clap.specs.Matches.{found_of};
 ghost use Rattle.clap.specs.Walk.{rows_of};
 ghost use Rattle.pgp_cli.specs.Options.{count_in, count_or, explanation_in, explanation_asked, explain_faults_in, group_in, group_or_all, is_set, numeral_in, rows_named};
 
-use super::commands::{explain_error, pgpeer};
+use super::commands::{explain_error, parse};
 use super::explain_options::ExplainOptions;
 use super::named::named;
 use clap::error::ErrorKind;
@@ -32,8 +32,7 @@ pub fn explanation(alloc: Global, words: &[String]) -> Result<ExplainOptions, Er
     ensures fails { FailsBy (explain_faults_in (map string_bytes words.now)) result }
     ensures asked { IfOk result (λ options. explanation_asked (map string_bytes words.now) ≡ Some options) }
 {
-    let mut pgpeer = pgpeer(alloc)?;
-    let matches = pgpeer.try_get_matches_from_mut(words)?;
+    let matches = parse(alloc, words)?;
     match asked(&matches) {
         Some(options) => Ok(options),
         None => Err(explain_error(alloc, ErrorKind::ValueValidation, why(&matches))?),

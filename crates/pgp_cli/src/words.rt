@@ -5,7 +5,7 @@ ghost use Rattle.clap.specs.Matches.{found_of};
 ghost use Rattle.clap.specs.Walk.{rows_of};
 ghost use Rattle.pgp_cli.specs.Options.{count_in, count_or, counts_in, counts_asked, counts_of, faults_in, rows_named};
 
-use super::commands::{pgpeer, run_error};
+use super::commands::{parse, run_error};
 use super::named::named;
 use super::run_options::RunOptions;
 use clap::error::ErrorKind;
@@ -26,8 +26,7 @@ pub fn options(alloc: Global, words: &[String]) -> Result<RunOptions, Error>
     ensures fails { FailsBy (faults_in (map string_bytes words.now)) result }
     ensures asked { IfOk result (λ options. counts_asked (map string_bytes words.now) ≡ Some (counts_of options)) }
 {
-    let mut pgpeer = pgpeer(alloc)?;
-    let matches = pgpeer.try_get_matches_from_mut(words)?;
+    let matches = parse(alloc, words)?;
     match asked(&matches) {
         Some(options) => Ok(options),
         None => Err(run_error(alloc, ErrorKind::ValueValidation, WRONG_COUNT)?),

@@ -1,8 +1,7 @@
-use Rattle.std.proofs.Common.{rules, ◌≡◌, ◌∙◌, ap, ap₂, Bool}
+use Rattle.std.proofs.Common.{◌∙◌, ap, ap₂, Bool}
 use Rattle.std.proofs.lemmas.Result.{IfOk-weaker}
 use Rattle.clap.proofs.SimpleLemmas.{plain_fields}
-use Rattle.clap.specs.Simple.{App, app_of, with_subcommand}
-use Rattle.pgp_cli.specs.Options.{bare_app}
+use Rattle.clap.specs.Simple.{App, with_subcommand}
 use Rattle.pgp_cli.proofs.commands.pgpeer.Goals as goal
 
 abbrev with_app : App → App → App
@@ -13,7 +12,6 @@ is_plain app = app.top.is_plain
 
 pub returns : goal.returns
 returns c =
-    let bare : app_of c.subcommand_required.result ≡ bare_app = search rules in
-    let run = c.in_ok-subcommand.ensures.shape (plain_fields _ (ap is_plain c.in_ok-run.ensures)).globals ∙ ap₂ with_app bare c.in_ok-run.ensures in
+    let run = c.in_ok-subcommand.ensures.shape (plain_fields _ (ap is_plain c.in_ok-run.ensures)).globals ∙ ap₂ with_app c.bare.ensures c.in_ok-run.ensures in
     let explain = c.in_ok-subcommand-2.ensures.shape (plain_fields _ (ap is_plain c.in_ok-explain.ensures)).globals ∙ ap₂ with_app run c.in_ok-explain.ensures in
-    IfOk-weaker c.subcommand-3.result _ _ (λ r h. h.shape (plain_fields _ (ap is_plain c.compact-compact.ensures)).globals ∙ ap₂ with_app explain c.compact-compact.ensures) c.subcommand-3.ensures
+    IfOk-weaker c.subcommand-3.result _ _ (λ r h. h.shape (plain_fields _ (ap is_plain c.compact.ensures)).globals ∙ ap₂ with_app explain c.compact.ensures) c.subcommand-3.ensures
