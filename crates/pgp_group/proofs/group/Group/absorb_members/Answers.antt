@@ -1,5 +1,5 @@
 use Rattle.pgp_group.proofs.Common.{◌≡◌, ◌≢◌, ◌||◌, ℕ, List, [], ◌∷◌, Option, Some, false, nat_eq, ap, refl, subst, sym, ◌∙◌, list_any, option_map, true≢false, same_Some, enough_of, is_by_place, AnyCode, Entry, PrimaryFacts, Membership, PgId, History, stepped, IsIntervalsOf, is_same, is_same-eq, eq-is_same, membership, incs_of, primary_facts, cleans, group_with, IsGroupOf, has_osd, Group, arith}
-use Rattle.pgp_group.proofs.GroupLemmas.{on_err, IsGroupOf-inc, names-end, names-stay}
+use Rattle.pgp_group.proofs.GroupLemmas.{on_err, same_after_error, IsGroupOf-inc, names-end, names-stay}
 use Rattle.pgp_group.proofs.HistoryLemmas.{history-current}
 use Rattle.pgp_group.proofs.group.Group.absorb_members.Goals as goal
 
@@ -52,3 +52,14 @@ pub returns-in_err-step-clause-wants : goal.returns-in_err-step-clause-wants
 returns-in_err-step-clause-wants c =
     on_err c.from_residual-in_err-step.result _
     (grind (arith, elsewhere c.args.self.now c.args.members c.current-current.result.1 (sym c.is_same.ensures ∙ c.if-is_same.false) c.current-current.ensures.members))
+
+pub step-requires : goal.step-requires
+step-requires c = c.epoch-2.ensures c.requires.incs c.requires.is ∙ c.requires.next
+
+pub returns-in_err-make_room-clause-err : goal.returns-in_err-make_room-clause-err
+returns-in_err-make_room-clause-err c =
+    same_after_error c.from_residual.result c.args.self.now _ refl refl (λ g kept. kept) (λ g kept. kept) c.in_err-make_room.ensures.same refl
+
+pub returns-in_err-step-clause-err : goal.returns-in_err-step-clause-err
+returns-in_err-step-clause-err c =
+    same_after_error c.from_residual-in_err-step.result c.args.self.now _ refl c.in_err-step.ensures.err (λ g kept. kept) (λ g kept. kept) c.in_ok-make_room.ensures.same refl

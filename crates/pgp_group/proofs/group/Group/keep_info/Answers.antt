@@ -1,6 +1,6 @@
 use Rattle.pgp_group.proofs.Common.{◌≡◌, ◌≤◌, ℕ, List, ◌++◌, [], ◌∷◌, true, false, ap, arith, refl, subst, sym, ◌∙◌, enough_of, is_by_place, PgId, IsIntervalsOf, with_item, epoch, is_same_group, incs_of, GroupLog, cleans, group_with, KeepsInfos, KeepsNames, KeepsReports}
 use Rattle.pgp_ids.specs.declared.entry.Entry.TheVariants as entry
-use Rattle.pgp_group.proofs.GroupLemmas.{IsGroupOf-other, cleans-told, infos-kept, infos-new, infos-other, infos-told, les-grows, names-kept, reports-kept, reports-same, stood-told, IsGroupOf-report}
+use Rattle.pgp_group.proofs.GroupLemmas.{IsGroupOf-other, cleans-told, infos-kept, infos-new, infos-other, infos-told, les-grows, names-kept, reports-kept, reports-same, stood-told, IsGroupOf-report, same_after_error}
 use Rattle.pgp_group.proofs.GrowthLemmas.{history-last}
 use Rattle.pgp_group.proofs.NamedLemmas.{before, KeepsNames-info}
 use Rattle.pgp_group.proofs.group.Group.keep_info.Goals as goal
@@ -40,3 +40,11 @@ returns-else-eq-clause-ok c = λ log pg come is.
     (infos-kept log (entry.Info info) pg is.history c.args.self.now.infos refl (infos-other log info pg differ) is.keeps.infos_are)
     (reports-kept log (entry.Info info) pg is.history c.args.self.now.reports refl (reports-same log (entry.Info info) pg refl) is.keeps.reports_are)
     (names-kept log (entry.Info info) pg is.history c.args.self.now.named (infos-other log info pg differ) (reports-same log (entry.Info info) pg refl) is.keeps.named_are)
+
+pub returns-in_err-make_room_for-clause-err : goal.returns-in_err-make_room_for-clause-err
+returns-in_err-make_room_for-clause-err c =
+    same_after_error c.from_residual.result c.args.self.now _ refl refl (λ g kept. kept) (λ g kept. kept) c.make_room_for.ensures.same refl
+
+pub returns-in_err-push-clause-err : goal.returns-in_err-push-clause-err
+returns-in_err-push-clause-err c =
+    same_after_error c.from_residual-in_err-push.result c.args.self.now _ refl refl c.in_err-push.ensures.err (λ g kept. kept) c.make_room_for.ensures.same refl

@@ -1,6 +1,6 @@
 use Rattle.pgp_group.proofs.Common.{◌≡◌, ◌++◌, [], ◌∷◌, true, false, ap, arith, refl, subst, sym, ◌∙◌, PgId, with_item, is_same_group, incs_of, group_with}
 use Rattle.pgp_ids.specs.declared.entry.Entry.TheVariants as entry
-use Rattle.pgp_group.proofs.GroupLemmas.{IsGroupOf-other, infos-kept, infos-same, names-kept, past-same, reports-kept, reports-new, reports-other, reports-told}
+use Rattle.pgp_group.proofs.GroupLemmas.{IsGroupOf-other, infos-kept, infos-same, names-kept, past-same, reports-kept, reports-new, reports-other, reports-told, same_after_error}
 use Rattle.pgp_group.proofs.GrowthLemmas.{history-last}
 use Rattle.pgp_group.proofs.NamedLemmas.{before, KeepsNames-report}
 use Rattle.pgp_group.proofs.group.Group.keep_report.Goals as goal
@@ -26,3 +26,11 @@ returns-else-eq-clause-ok c = λ log pg is.
     (infos-kept log (entry.Entries report) pg is.history c.args.self.now.infos refl (infos-same log (entry.Entries report) pg refl) is.keeps.infos_are)
     (reports-kept log (entry.Entries report) pg is.history c.args.self.now.reports refl (reports-other log report pg differ) is.keeps.reports_are)
     (names-kept log (entry.Entries report) pg is.history c.args.self.now.named (infos-same log (entry.Entries report) pg refl) (reports-other log report pg differ) is.keeps.named_are)
+
+pub returns-in_err-make_room_for-clause-err : goal.returns-in_err-make_room_for-clause-err
+returns-in_err-make_room_for-clause-err c =
+    same_after_error c.from_residual.result c.args.self.now _ refl refl (λ g kept. kept) (λ g kept. kept) c.make_room_for.ensures.same refl
+
+pub returns-in_err-push-clause-err : goal.returns-in_err-push-clause-err
+returns-in_err-push-clause-err c =
+    same_after_error c.from_residual-in_err-push.result c.args.self.now _ refl refl (λ g kept. kept) c.in_err-push.ensures.err c.make_room_for.ensures.same refl
