@@ -42,3 +42,6 @@ returns-clause-raised g c =
     let within = rw c.as_slice.ensures.value at c.in_ok-place.ensures.within in
     set-raised_at c.self.inside.past.items c.in_ok-place.place c.index_mut.result.now within c.index_mut.ensures.value
     ∙ ap (λ (r : Running g.row.R.Denot). raised_at c.in_ok-place.place r.past) c.self.view_is
+
+pub returns-clause-was : goal.returns-clause-was
+returns-clause-was g c = rw (c.as_slice.ensures.value ∙ ap (λ (r : Running g.row.R.Denot). r.past) c.self.view_is) at c.in_ok-place.ensures.was
