@@ -44,6 +44,6 @@ returns c =
     let now = c.loop-item.invariant in
     let all = taken now.0 now.1 c.loop-item.slots c.loop-item.count now.2 now.4 in
     let within : length now.0 ≤ 16 = omega (arith, now.2, now.3) in
-    let walk = now.6 ∙ ap (list_after 0 16 slot_in now.0) c.in_default.ensures.end ∙ list_after-end slot_in 16 now.0 within in
+    let walk = now.6 ∙ list_after-end slot_in 0 16 now.0 _ c.in_default.ensures.end (omega arith) within in
     let part = made c.new.result c.args.least now.0 (c.new.ensures.slots ∙ ap set_of all) c.new.ensures.least (c.new.ensures.twice ∙ ap has_twice all) in
     ap Some part ∙ sym (ap (option_map (part_of c.args.least)) walk)

@@ -50,5 +50,5 @@ pub returns : goal.returns
 returns c =
     let now = c.loop-item.invariant in
     let within : length now.0 ≤ 16 = omega (arith, now.1, now.2) in
-    let walk = now.4 ∙ ap (λ left. option_map places_of (list_after 0 16 part_in now.0 left)) c.in_default.ensures.end ∙ ap (option_map places_of) (list_after-end part_in 16 now.0 within) in
+    let walk = now.4 ∙ ap (option_map places_of) (list_after-end part_in 0 16 now.0 _ c.in_default.ensures.end (omega arith) within) in
     ap Some (c.new.ensures ∙ now.3) ∙ sym walk
