@@ -29,8 +29,8 @@ facts-else incs inc before osd is none =
     facts-stay incs inc osd booted (sym (any-mapped told (λ (o : ℕ). nat_eq o osd) inc.up_thru) ∙ parts.1)
 
 -- one device more is noted
-pub noted-more : {X : Type 0} (f : X → DeviceFacts) (first now : List DeviceFacts) (xs : List X) (i : ℕ) (x : X) (new : DeviceFacts) → i < length xs → x ≡ get_or xs i x → new ≡ f x
+pub noted-more : {X Y : Type 0} (f : X → Y) (first now : List Y) (xs : List X) (i : ℕ) (x : X) (new : Y) → i < length xs → x ≡ get_or xs i x → new ≡ f x
     → now ≡ first ++ map f (take i xs) → now ++ new ∷ [] ≡ first ++ map f (take (i + 1) xs)
-noted-more f first now xs i x new within item is so_far =
-    ap (λ (l : List DeviceFacts). l ++ new ∷ []) so_far ∙ append_assoc first (map f (take i xs)) (new ∷ [])
-    ∙ ap (λ (d : DeviceFacts). first ++ (map f (take i xs) ++ d ∷ [])) (is ∙ ap f item) ∙ ap (λ (l : List DeviceFacts). first ++ l) (sym (map_more f xs i x within))
+noted-more {X = X} {Y = Y} f first now xs i x new within item is so_far =
+    ap (λ (l : List Y). l ++ new ∷ []) so_far ∙ append_assoc first (map f (take i xs)) (new ∷ [])
+    ∙ ap (λ (d : Y). first ++ (map f (take i xs) ++ d ∷ [])) (is ∙ ap f item) ∙ ap (λ (l : List Y). first ++ l) (sym (map_more f xs i x within))

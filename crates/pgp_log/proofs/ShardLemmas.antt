@@ -34,3 +34,9 @@ none-left p (x ∷ xs) = grind (arith, nat_tests, none-left p xs, cases_Bool (p 
 pub unmarked-now : (pg : PgId) (before after : Shard) → IsUnmarked pg before after → is_marked after pg ≡ false
 unmarked-now pg before after is =
     ap (λ (marks : Option (List PgId)). option_map_or (is_among pg) marks (has_own after pg)) is.left ∙ none-left (is_same_group pg) is.marked
+
+-- a shard that has read the same, whatever its marks
+pub still-read : (before : Shard) (front : List Entry) (shard shards : ℕ) (old new : Option (List PgId)) → ◌≡◌ {A = Shard} (record { front = front; shard = shard; shards = shards; marks = old }) before
+    → HasReadSame before (record { front = front; shard = shard; shards = shards; marks = new })
+still-read before front shard shards old new is =
+    record { front_is = ap (λ (s : Shard). s.front) is; shard_is = ap (λ (s : Shard). s.shard) is; shards_are = ap (λ (s : Shard). s.shards) is }

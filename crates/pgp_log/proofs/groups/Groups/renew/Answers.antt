@@ -1,10 +1,13 @@
 use Rattle.pgp_log.proofs.Common.{◌≡◌, ◌<◌, List, Some, length, rules, take, refl, sym, ap, ◌∙◌, arith, slice_get, length-set, take_more_set, slice_get_read, get-set_other, is_marked, marks_in, KeptGroup}
 use Rattle.pgp_log.proofs.KeptLemmas.{kept-inc}
-use Rattle.pgp_log.proofs.MarksLemmas.{pg_of, renewing-leaves, renewing-passes, renewing-renews, some-marked, unmarked_by}
+use Rattle.pgp_log.proofs.MarksLemmas.{pg_of, renewing-leaves, renewing-passes, renewing-renews, renewing-starts, some-marked, unmarked_by}
 use Rattle.pgp_log.proofs.PassingLemmas.{front-fails, front-passes, passing-fails}
 use Rattle.pgp_log.proofs.SharedLemmas.{on_err}
 use Rattle.pgp_log.proofs.groups.Groups.renew.Goals as goal
 use Rattle.pgp_log.proofs.groups.Groups.renew.Goals.{then-is_marked+then-more-gt0+in_ok-renew_at, then-is_marked+else-more-gt0, else-is_marked}
+
+pub loop-place-init : goal.loop-place-init
+loop-place-init c = record { places = c.requires; long = refl; is = λ owner log are long. are; rest = λ at from. refl; renewing = renewing-starts c.args.max }
 
 pub loop-place-preserved : goal.loop-place-preserved
 loop-place-preserved c =
