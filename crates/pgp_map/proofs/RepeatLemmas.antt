@@ -1,8 +1,10 @@
 -- Lists in which something is named twice.
-use Rattle.std.proofs.Common.{◌≡◌, ℕ, List, [], ◌∷◌, ◌++◌, Option, Some, None, Bool, ◌||◌, nat_eq, map, refl, ap, append_assoc, ◌∙◌, arith}
+use Rattle.std.proofs.Common.{◌≡◌, ◌≤◌, ℕ, List, [], ◌∷◌, ◌++◌, Option, Some, None, Bool, ◌||◌, nat_eq, length, map, take, refl, ap, append_assoc, ◌∙◌, arith, Result, IfOk}
 use Rattle.std.specs.List.{filter_map, list_any}
 use Rattle.std.specs.Option.{option_eq}
+use Rattle.std.proofs.lemmas.List.{take_all}
 use Rattle.std.proofs.lemmas.List.Folds.{list_any-append}
+use Rattle.std.proofs.lemmas.Result.{IfOk-weaker}
 use Rattle.pgp_lists.proofs.Lists.{any-mapped}
 use Rattle.pgp_lists.specs.Repeats.{has_repeat}
 
@@ -56,6 +58,12 @@ repeat-joined f g same xs ys =
     ∙ (λ i. has_repeat (λ a b. same (f a) (f b)) xs || has_repeat (λ a b. same (g a) (g b)) ys || list_any (λ x. any-mapped g (same (f x)) ys i) xs)
 
 pub ruleset repeat_steps = (repeat-mapped, repeat-three, repeat-joined)
+
+-- what is said of a list that was made by each item is said of that by all of them
+pub repeat-of_all : {X Y E : Type 0} (r : Result Bool E) (same : Y → Y → Bool) (by : List X → List Y) (xs : List X) (made : List Y) (n : ℕ)
+    → made ≡ by (take n xs) → length xs ≤ n → IfOk r (λ b. b ≡ has_repeat same made) → IfOk r (λ b. b ≡ has_repeat same (by xs))
+repeat-of_all r same by xs made n is all said =
+    IfOk-weaker r _ _ (λ b told. told ∙ ap (has_repeat same) (is ∙ ap by (take_all n xs all))) said
 
 -- a place that holds a device is one of the list without the empty places
 pub any-held : (osd : ℕ) (sought : Option ℕ) (places : List (Option ℕ)) → sought ≡ Some osd
