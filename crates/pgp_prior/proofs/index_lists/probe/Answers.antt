@@ -1,4 +1,5 @@
-use Rattle.std.proofs.Common.{refl, ap, inl, inr, vec_items}
+use Rattle.std.proofs.Common.{refl, ap, ◌∙◌, inl, inr, vec_items}
+use Rattle.std.proofs.lemmas.List.{drop_all}
 use Rattle.pgp_ids.specs.Member.{is_before}
 use Rattle.pgp_prior.specs.MemberOrder.{member_order}
 use Rattle.pgp_prior.specs.Members.{members_of}
@@ -21,3 +22,9 @@ loop-kept-preserved c =
       | then-matters+in_ok-add_up w ↦ inl (rw c.matters.ensures at w.if-matters.true, rw w.list-is w.in_ok-add_up.ensures)
       | else-matters w ↦ inr (rw c.matters.ensures at w.if-matters.false, ap vec_items w.list-is)
     ])
+
+pub add_up-requires : goal.add_up-requires
+add_up-requires c = c.loop-kept.invariant.ascends
+
+pub returns : goal.returns
+returns c = c.from_vec.ensures ∙ (rw (drop_all c.loop-kept.kept-index c.args.past.now c.loop-kept-test.false) at c.loop-kept.invariant.gives)

@@ -22,3 +22,6 @@ returns-clause-ok g c = λ b is agree.
 pub returns-in_err-add_interval-clause-err : goal.returns-in_err-add_interval-clause-err
 returns-in_err-add_interval-clause-err g c = on_err c.from_residual-in_err-add_interval.result _ (λ b is.
     kept g.R.Recoverable.enough g.R.Recoverable.by_place b c.args.self.now is c.reserve.new.self c.add_interval.new.table c.in_err-add_interval.ensures.kept c.in_ok-reserve.ensures.items)
+
+pub returns-in_err-kept-clause-err : goal.returns-in_err-kept-clause-err
+returns-in_err-kept-clause-err g c = on_err c.from_residual.result _ (λ b is. is)
