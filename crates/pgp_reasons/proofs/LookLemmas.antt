@@ -55,7 +55,7 @@ next-size count size chosen before now none first then' =
 
 -- a walk through the sets with the first of the rest, and then those without it
 module _ (chosen pushed popped : List ℕ) (left osd : ℕ) (rest others : List ℕ) (some : 0 < left) (cut : rest ≡ osd ∷ others) (push : pushed ≡ chosen ++ osd ∷ []) (pop : popped ≡ chosen) where
-  with-first : looks_of (length chosen + left) left (length rest) ≡ looks_of (length pushed + (left - 1)) (left - 1) (length others) + looks_of (length popped + left) left (length others) + 1
+  pub with-first : looks_of (length chosen + left) left (length rest) ≡ looks_of (length pushed + (left - 1)) (left - 1) (length others) + looks_of (length popped + left) left (length others) + 1
   with-first =
       let size : length pushed + (left - 1) ≡ length chosen + left = omega (arith, some, ap length push, length-append chosen (osd ∷ [])) in
       let same : length popped + left ≡ length chosen + left = ap (λ (l : List ℕ). length l + left) pop in

@@ -1,8 +1,8 @@
-use Rattle.std.proofs.Common.{◌≡◌, [], ◌++◌, true, false, ap, ◌∙◌, refl, arith, append-nil}
+use Rattle.std.proofs.Common.{◌≡◌, [], ◌++◌, length, true, false, ap, ◌∙◌, refl, arith, append-nil}
 use Rattle.std.proofs.lemmas.Grind.{common_steps}
-use Rattle.std.proofs.lemmas.Result.{IfOk-weaker}
+use Rattle.std.proofs.lemmas.Result.{IfOk-weaker, on_ok_weaker}
 use Rattle.pgp_reasons.specs.Smallest.{smallest_with}
-use Rattle.pgp_reasons.proofs.LookLemmas.{counted-look}
+use Rattle.pgp_reasons.proofs.LookLemmas.{with-first, counted-look}
 use Rattle.pgp_reasons.proofs.WalkLemmas.{said-is, first-none, none-past, none-too_few, on-stopped, on-then, on-short, stop-first, stop-then}
 use Rattle.pgp_reasons.proofs.set_walk.SetWalk.+walk.Goals as goal
 
@@ -52,6 +52,30 @@ walk_on-returns-in-Some-false-clause-found g t c =
     (g.met.E.Enough.monotone c.args.judge.now) c.if-not-whole.false short
 
 -- ---- how many sets were judged
+
+pub walk-returns-then-left-eq0-clause-counted : goal.walk-returns-then-left-eq0-clause-counted
+walk-returns-then-left-eq0-clause-counted g t c =
+    on_ok_weaker c.list_if_smallest.result (λ e. rw c.if-left-eq0.true (omega (arith, e, ap length c.as_slice.ensures.value))) c.list_if_smallest.ensures.counted
+
+pub walk-returns-in-Some-false-clause-counted : goal.walk-returns-in-Some-false-clause-counted
+walk-returns-in-Some-false-clause-counted g t c = on_ok_weaker c.walk_on.result (λ e. omega (arith, e, c.look.ensures.counted)) c.walk_on.ensures.counted
+
+pub walk_on-returns-then-not-whole-clause-counted : goal.walk_on-returns-then-not-whole-clause-counted
+walk_on-returns-then-not-whole-clause-counted g t c =
+    counted-look c.args.chosen.now.items c.push.new.self.items c.pop.new.self.items c.args.left c.in-Some.first.now c.args.rest.now c.in-Some.others.now
+    c.requires c.in-Some.ensures.cases.0 c.in_ok-push.ensures.items (grind (arith, common_steps))
+    c.args.self.now.looks c.walk.new.self.looks c.walk.new.self.looks c.in_ok-whole.ensures.counted (omega arith)
+
+pub walk_on-returns-in-Some-true-clause-counted : goal.walk_on-returns-in-Some-true-clause-counted
+walk_on-returns-in-Some-true-clause-counted g t c =
+    on_ok_weaker c.walk_on.result (λ e. omega (
+      arith,
+      e,
+      c.in_ok-whole.ensures.counted,
+      c.look.ensures.counted,
+      with-first c.args.chosen.now.items c.push.new.self.items c.pop.new.self.items c.args.left c.in-Some.first.now c.args.rest.now c.in-Some.others.now
+          c.requires c.in-Some.ensures.cases.0 c.in_ok-push.ensures.items (grind (arith, common_steps)),
+    )) c.walk_on.ensures.counted
 
 pub walk_on-returns-in-None-clause-counted : goal.walk_on-returns-in-None-clause-counted
 walk_on-returns-in-None-clause-counted g t c =
