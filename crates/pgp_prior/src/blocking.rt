@@ -28,7 +28,7 @@ pub fn blocks<R: Recoverable, S: StatusOf>(code: &R, statuses: &S, les: Epoch, p
 }
 
 /// The slots of the acting members that are up or lost.
-fn settled_slots<S: StatusOf>(by_place: bool, statuses: &S, past: &Past) -> SlotSet
+pub fn settled_slots<S: StatusOf>(by_place: bool, statuses: &S, past: &Past) -> SlotSet
     ensures { result ≡ settled_slots by_place (S.status_of statuses.now) past.now }
 {
     let mut slots = SlotSet::empty();

@@ -24,7 +24,7 @@ mod renewal;
 mod statuses;
 mod walk;
 
-pub use blocking::blocks;
+pub use blocking::{blocks, is_down, settled_slots};
 pub use index::PriorIndex;
 pub use members::{Members, members_of};
 pub use prior_set::Prior;

@@ -14,7 +14,7 @@ returns-clause-ok g c = λ b is agree.
     let last = c.in_ok-kept.kept in
     let count : c.len-place.result ≡ length index.past.items = omega (arith, c.len-place.ensures, c.in_ok-reserve.ensures.len, index.past.ok.0) in
     more enough by_place b index is c.push_reserved.new.self c.add_interval.new.table c.in_ok-add_interval.ensures.kept last c.args.past c.in_ok-kept.ensures.past
-    (c.push_reserved.ensures.items ∙ ap (λ (items : List JudgedInterval). items ++ last ∷ []) c.in_ok-reserve.ensures.items)
+    (◌∙◌ {A = List JudgedInterval} c.push_reserved.ensures.items (ap (λ (items : List JudgedInterval). items ++ last ∷ []) c.in_ok-reserve.ensures.items))
     (c.in_ok-kept.ensures.kept b.status (rw is.code_is agree))
     (λ member in'. subst (Contains (places_of c.add_interval.new.table member.osd)) count
     (c.in_ok-add_interval.ensures.added member (rw (c.by_place-by_place.ensures, c.in_ok-kept.ensures.past) in')))
