@@ -93,6 +93,7 @@ pub use Rattle.pgp_map.specs.Devices.{boots, destroys, device, exists, greatest_
 pub use Rattle.pgp_map.specs.Last.{last_where}
 pub use Rattle.pgp_map.specs.Map.{epoch, up_to}
 pub use Rattle.pgp_map.specs.MapFault.{has_already_up, has_epoch_gap, map_fault, then_with}
+pub use Rattle.pgp_map.proofs.CheckedLemmas.{front-checked, last-checked}
 pub use Rattle.pgp_map.specs.Pools.{has_group, is_same_group, pool, temp, with_sizes}
 pub use Rattle.pgp_map.specs.declared.map.OsdMap.{OsdMap}
 pub use Rattle.pgp_missing.specs.Kept.{IsLogOf, KeptLog}

@@ -1,7 +1,6 @@
 -- What one more incremental does to what is known of a device.
 use Rattle.pgp_group.proofs.Common.{◌≡◌, ℕ, ◌≤◌, List, ◌++◌, None, Bool, true, false, nat_eq, nat_lt, ap, sym, ◌∙◌, inl, inr, arith, list_any, cases_Bool, eqb-true, nat_tests, DeviceEpoch, Incremental, last_found, last_where-append, last_where-some, flat_map-push, if_none, none_is, some_is, taken-induction, are_checked, is_faultless, boots, is_up, up_from, lost_at, last_epoch_of, greatest_epoch, last_where, epoch, then_with, has_already_up}
 use Rattle.pgp_map.specs.MapFault.{map_fault}
-pub use Rattle.pgp_group.proofs.GrowthLemmas.{checked-front, checked-last}
 use Rattle.pgp_group.proofs.GrowthLemmas.{epoch-snoc, next_epoch}
 use Rattle.pgp_group.proofs.LaterLemmas.{up_from-snoc}
 use Rattle.pgp_group.proofs.Lists.{last_where-none, left_new, none-narrower, last_or-any}

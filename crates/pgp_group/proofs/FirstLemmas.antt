@@ -1,7 +1,7 @@
 -- How the current interval moves with each incremental: it goes on, or it ends and the next one opens.
-use Rattle.pgp_group.proofs.Common.{◌≡◌, ◌≢◌, ◌⊎◌, ℕ, ◌+◌, ◌≤◌, List, [], ◌∷◌, ◌++◌, Some, true, refl, sym, ◌∙◌, subst, inl, inr, arith, cases_Bool, true≢false, same_Some, enough_of, is_by_place, AnyCode, PrimaryFacts, Incremental, Membership, Past, PgId, History, last_place, stepped, current_first, current_ending, past_intervals, is_same, is_same-eq, eq-is_same, some_is, are_checked, is_faultless, epoch, then_with, AreNumbered, primary_facts, group_history, taken-along, taken-more, current_first-continues, current_first-ends, past_intervals-continues, past_intervals-ends}
+use Rattle.pgp_group.proofs.Common.{◌≡◌, ◌≢◌, ◌⊎◌, ℕ, ◌+◌, ◌≤◌, List, [], ◌∷◌, ◌++◌, Some, true, refl, sym, ◌∙◌, subst, inl, inr, arith, cases_Bool, true≢false, same_Some, enough_of, is_by_place, AnyCode, PrimaryFacts, Incremental, Membership, Past, PgId, History, last_place, stepped, current_first, current_ending, past_intervals, is_same, is_same-eq, eq-is_same, some_is, are_checked, is_faultless, epoch, then_with, AreNumbered, primary_facts, group_history, taken-along, taken-more, current_first-continues, current_first-ends, past_intervals-continues, past_intervals-ends, front-checked, last-checked}
 use Rattle.pgp_interval.proofs.Openings.{opening_of-le}
-use Rattle.pgp_group.proofs.GrowthLemmas.{Shortens, EndsWell, checked-front, checked-last, numbered, has_group-grows, history-grows, history-last, next_epoch}
+use Rattle.pgp_group.proofs.GrowthLemmas.{numbered, has_group-grows, history-grows, history-last, next_epoch}
 use Rattle.pgp_group.proofs.ViewLemmas.{history_there}
 
 -- the past intervals by the code of the pool, where the group was clean in these epochs
@@ -40,7 +40,7 @@ pub record Grown (incs : List Incremental) (h after : History AnyCode) : Type 0 
 grown : (incs : List Incremental) (inc : Incremental) (pg : PgId) (h after : History AnyCode) → are_checked (then_with incs inc) ≡ true
     → group_history incs pg ≡ Some h → group_history (then_with incs inc) pg ≡ Some after → Grown incs h after
 grown incs inc pg h after checked is then' =
-    grind (arith, history-grows incs inc pg h (numbered incs (checked-front incs (inc ∷ []) checked)) (checked-last incs inc checked) is)
+    grind (arith, history-grows incs inc pg h (numbered incs (front-checked incs (inc ∷ []) checked)) (last-checked incs inc checked) is)
 
 pub data Moves (incs : List Incremental) (inc : Incremental) (h after : History AnyCode) : Type 0 where
   on : after.code ≡ h.code → GoesOn h after → Moves incs inc h after
@@ -52,7 +52,7 @@ moves incs inc pg h after checked is then' =
     let g = grown incs inc pg h after checked is then' in
     let facts : PrimaryFacts = primary_facts incs h.current.acting_primary in
     let opens : h.first + last_place h + 1 ≡ inc.epoch =
-    omega (arith, history-last incs pg h (numbered incs (checked-front incs (inc ∷ []) checked)) is, next_epoch incs inc (checked-last incs inc checked)) in
+    omega (arith, history-last incs pg h (numbered incs (front-checked incs (inc ∷ []) checked)) is, next_epoch incs inc (last-checked incs inc checked)) in
     subst (Moves incs inc h) g.is (elim (step-moves h g.members facts) [
       | inl goes ↦ on refl goes
       | inr over ↦ ends refl (subst (λ (e : ℕ). Ends e facts h (stepped h g.members facts)) opens over)
@@ -77,21 +77,21 @@ first-within incs pg h counts is = omega (arith, opening_of-le h (last_place h),
 pub first-step : (incs : List Incremental) (inc : Incremental) (pg : PgId) (h after : History AnyCode) → are_checked (then_with incs inc) ≡ true
     → group_history incs pg ≡ Some h → group_history (then_with incs inc) pg ≡ Some after → current_first h ≤ current_first after
 first-step incs inc pg h after checked is then' =
-    let within = first-within incs pg h (numbered incs (checked-front incs (inc ∷ []) checked)) is in
-    let next = next_epoch incs inc (checked-last incs inc checked) in
+    let within = first-within incs pg h (numbered incs (front-checked incs (inc ∷ []) checked)) is in
+    let next = next_epoch incs inc (last-checked incs inc checked) in
     elim (moves incs inc pg h after checked is then') [ on code goes ↦ omega (arith, goes.first) | ends code over ↦ omega (arith, over.first) ]
 
 -- a group that is there stays
-history-goes_on : Shortens → EndsWell → (incs : List Incremental) (inc : Incremental) (pg : PgId) (h : History AnyCode) → are_checked (then_with incs inc) ≡ true → group_history incs pg ≡ Some h
+history-goes_on : (incs : List Incremental) (inc : Incremental) (pg : PgId) (h : History AnyCode) → are_checked (then_with incs inc) ≡ true → group_history incs pg ≡ Some h
     → (after : History AnyCode) × (group_history (then_with incs inc) pg ≡ Some after)
-history-goes_on shorten fine incs inc pg h checked is =
-    some_is (group_history (then_with incs inc) pg) (history_there (then_with incs inc) pg ∙ has_group-grows incs inc pg h (fine incs inc checked) is)
+history-goes_on incs inc pg h checked is =
+    some_is (group_history (then_with incs inc) pg) (history_there (then_with incs inc) pg ∙ has_group-grows incs inc pg h (last-checked incs inc checked) is)
 
 -- a relation of the histories at two fronts of a checked list, if each incremental keeps it
-pub along : Shortens → EndsWell → (pg : PgId) (Kept : List Incremental → History AnyCode → Type 0)
+pub along : (pg : PgId) (Kept : List Incremental → History AnyCode → Type 0)
     → ((incs : List Incremental) (inc : Incremental) (h after : History AnyCode) → are_checked (then_with incs inc) ≡ true → group_history incs pg ≡ Some h → group_history (then_with incs inc) pg ≡ Some after → Kept incs h → Kept (then_with incs inc) after)
     → (later incs : List Incremental) (h after : History AnyCode) → are_checked (incs ++ later) ≡ true → group_history incs pg ≡ Some h → group_history (incs ++ later) pg ≡ Some after → Kept incs h → Kept (incs ++ later) after
-along shorten fine pg Kept step later incs h after checked is then' kept =
+along pg Kept step later incs h after checked is then' kept =
     let last = taken-along is_faultless
     (λ (l : List Incremental). (now : History AnyCode) × (group_history l pg ≡ Some now) × Kept l now) next incs later checked (h, is, kept) in
     subst (Kept (incs ++ later)) (same_Some last.0 after (sym last.1 ∙ then')) last.2
@@ -101,13 +101,13 @@ along shorten fine pg Kept step later incs h after checked is then' kept =
         → (now : History AnyCode) × (group_history (then_with l inc) pg ≡ Some now) × Kept (then_with l inc) now
     next l inc checked' faultless so_far =
         let one = taken-more is_faultless l inc checked' faultless in
-        let goes = history-goes_on shorten fine l inc pg so_far.0 one so_far.1 in
+        let goes = history-goes_on l inc pg so_far.0 one so_far.1 in
         (goes.0, goes.1, step l inc so_far.0 goes.0 one so_far.1 goes.1 so_far.2)
 
 pub first-never_falls : (incs later : List Incremental) (pg : PgId) (h after : History AnyCode) → are_checked (incs ++ later) ≡ true
     → group_history incs pg ≡ Some h → group_history (incs ++ later) pg ≡ Some after → current_first h ≤ current_first after
 first-never_falls incs later pg h after checked is then' =
-    along checked-front checked-last pg (λ _ now. current_first h ≤ current_first now)
+    along pg (λ _ now. current_first h ≤ current_first now)
     (λ incs inc h₁ h₂ checked is then' kept. let step : current_first h₁ ≤ current_first h₂ = first-step incs inc pg h₁ h₂ checked is then' in omega arith)
     later incs h after checked is then' (omega arith)
 

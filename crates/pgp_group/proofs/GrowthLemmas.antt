@@ -1,5 +1,5 @@
 -- How a list of incrementals is numbered, and how the history of a group grows by an incremental that isn't refused.
-use Rattle.pgp_group.proofs.Common.{◌≡◌, ℕ, suc, ◌+◌, ◌<◌, ◌≤◌, List, [], ◌∷◌, ◌++◌, Option, Some, None, is_some, Bool, true, false, nat_eq, nat_lt, nat_le, length, map, refl, ap, ap₂, sym, ◌∙◌, subst, arith, drop, if◌then◌else◌, Contains, flat_map, last_or, list_any, range_with_len, slice_index_or, option_map, option_map_or, eqb-true, nat_tests, length_push, map_push, filter_map-append, AnyCode, code_of, Incremental, PgId, PoolSizes, PoolSpec, History, begun, stepped, are_checked, is_faultless, last_where, epoch, up_to, map_fault, then_with, has_epoch_gap, pool, with_sizes, has_group, pool_membership, membership, flat_map-push, filter-contains, makes, made_at, AreNumbered, primary_facts, state_with, state_at_epoch, states_from, history_of, group_history, taken-induction, taken-front, taken-last, none_is}
+use Rattle.pgp_group.proofs.Common.{◌≡◌, ℕ, suc, ◌+◌, ◌<◌, ◌≤◌, List, [], ◌∷◌, ◌++◌, Option, Some, None, is_some, Bool, true, false, nat_eq, nat_lt, nat_le, length, map, refl, ap, ap₂, sym, ◌∙◌, subst, arith, drop, if◌then◌else◌, Contains, flat_map, last_or, list_any, range_with_len, slice_index_or, option_map, option_map_or, eqb-true, nat_tests, length_push, map_push, filter_map-append, AnyCode, code_of, Incremental, PgId, PoolSizes, PoolSpec, History, begun, stepped, are_checked, last_where, epoch, up_to, map_fault, then_with, has_epoch_gap, pool, with_sizes, has_group, pool_membership, membership, flat_map-push, filter-contains, makes, made_at, AreNumbered, primary_facts, state_with, state_at_epoch, states_from, history_of, group_history, taken-induction, none_is, front-checked, last-checked}
 use Rattle.pgp_map.proofs.FaultLemmas.{no_fault}
 pub use Rattle.pgp_map.proofs.MapLemmas.{epoch-push as epoch-snoc}
 use Rattle.pgp_lists.proofs.Ranges.{range_with_len-suc}
@@ -30,24 +30,8 @@ numbered-more incs inc counts fine =
     map_push (λ (i : Incremental). i.epoch) incs inc
     ∙ ap₂ (λ l k. l ++ k ∷ []) counts last ∙ sym (range_with_len-suc 1 (length incs)) ∙ ap (range_with_len 1) (sym long)
 
--- fronts of checked lists are checked, and the last incremental of one has no fault
-abbrev pub Shortens : Type 0
-Shortens = (incs later : List Incremental) → are_checked (incs ++ later) ≡ true → are_checked incs ≡ true
-
-abbrev pub EndsWell : Type 0
-EndsWell = (incs : List Incremental) (inc : Incremental) → are_checked (then_with incs inc) ≡ true → map_fault incs inc ≡ None
-
-pub checked-front : Shortens
-checked-front = λ incs later checked. taken-front is_faultless incs later checked
-
-pub checked-last : EndsWell
-checked-last = λ incs inc checked. none_is (map_fault incs inc) (taken-last is_faultless incs inc checked)
-
-pub checked-numbered : Shortens → EndsWell → (incs : List Incremental) → are_checked incs ≡ true → AreNumbered incs
-checked-numbered shorten fine = search (taken-induction, numbered-more, none_is)
-
 pub numbered : (incs : List Incremental) → are_checked incs ≡ true → AreNumbered incs
-numbered = checked-numbered checked-front checked-last
+numbered = search (taken-induction, numbered-more, none_is)
 
 -- ---- the map of an epoch
 
@@ -212,4 +196,4 @@ pub ruleset numbered_laws = (numbered, numbered-epoch)
 
 pub ruleset begin_laws = (made_at-made, history-begins-made)
 
-pub ruleset growth_laws = (history-grows, has_group-grows, numbered, checked-front, checked-last)
+pub ruleset growth_laws = (history-grows, has_group-grows, numbered, front-checked, last-checked)

@@ -1,8 +1,8 @@
 -- Which reports count as more of the log comes, and what never falls then.
-use Rattle.pgp_group.proofs.Common.{◌≡◌, ◌≢◌, ℕ, ◌+◌, ◌<◌, ◌≤◌, List, [], ◌∷◌, ◌++◌, Some, Bool, true, false, not, ◌&&◌, ◌||◌, nat_le, map, fold, max, refl, append-nil, ap, sym, ◌∙◌, inl, inr, ◌⊎◌, arith, All, filter, cases_Bool, true≢false, and_right, nat_tests, map-append, filter-append, filter_map-append, All-weaker, fold-append, and-true, AnyCode, Entry, Incremental, Member, PgId, Info, Report, is_same_member, History, current_first, map_some, are_checked, boots, takes_down, destroys, is_up, up_from, epoch, then_with, is_same_group, inc_of, report_of, incs_of, infos_of, reports_of, group_history, GroupLog, group_in, group_with, incs, infos, reports, is_counted, heard, last_of_each_member, reported, IsAfter, AreSentBy, les}
+use Rattle.pgp_group.proofs.Common.{◌≡◌, ◌≢◌, ℕ, ◌+◌, ◌<◌, ◌≤◌, List, [], ◌∷◌, ◌++◌, Some, Bool, true, false, not, ◌&&◌, ◌||◌, nat_le, map, fold, max, refl, append-nil, ap, sym, ◌∙◌, inl, inr, ◌⊎◌, arith, All, filter, cases_Bool, true≢false, and_right, nat_tests, map-append, filter-append, filter_map-append, All-weaker, fold-append, and-true, AnyCode, Entry, Incremental, Member, PgId, Info, Report, is_same_member, History, current_first, map_some, are_checked, boots, takes_down, destroys, is_up, up_from, epoch, then_with, is_same_group, inc_of, report_of, incs_of, infos_of, reports_of, group_history, GroupLog, group_in, group_with, incs, infos, reports, is_counted, heard, last_of_each_member, reported, IsAfter, AreSentBy, les, last-checked}
 use Rattle.pgp_group.specs.Entries.{info_of}
 use Rattle.pgp_group.proofs.FirstLemmas.{first-opens, first-step, along}
-use Rattle.pgp_group.proofs.GrowthLemmas.{checked-front, checked-last, epoch-snoc, next_epoch}
+use Rattle.pgp_group.proofs.GrowthLemmas.{epoch-snoc, next_epoch}
 use Rattle.pgp_group.proofs.Lists.{last_where-passes, last_where-none, left_new, filter-fail}
 use Rattle.pgp_ids.specs.declared.entry.Entry.TheVariants as entry
 
@@ -46,7 +46,7 @@ pub new-counts : (g after : GroupLog) (inc : Incremental) (member : Member) (sta
 new-counts g after inc member stamp is differ sent =
     let hs = histories g (entry.Inc inc ∷ []) after is in
     let opens : current_first after.history ≡ inc.epoch = first-opens (incs g) inc g.pg g.history after.history hs.checked hs.before hs.then_is differ in
-    below-first after member stamp (omega (arith, opens, sent, next_epoch (incs g) inc (checked-last (incs g) inc hs.checked)))
+    below-first after member stamp (omega (arith, opens, sent, next_epoch (incs g) inc (last-checked (incs g) inc hs.checked)))
 
 -- an incremental brings no reports
 pub same-infos : (g after : GroupLog) (inc : Incremental) → IsAfter g (entry.Inc inc ∷ []) after → infos after ≡ infos g
@@ -161,7 +161,7 @@ Silent member stamp incs h = (stamp ≤ epoch incs) × (counts_by incs h member 
 silent-step : (pg : PgId) (member : Member) (stamp : ℕ) (incs : List Incremental) (inc : Incremental) (h after : History AnyCode) → are_checked (then_with incs inc) ≡ true
     → group_history incs pg ≡ Some h → group_history (then_with incs inc) pg ≡ Some after → Silent member stamp incs h → Silent member stamp (then_with incs inc) after
 silent-step pg member stamp incs inc h after checked is then' silent =
-    let next : inc.epoch ≡ epoch incs + 1 = next_epoch incs inc (checked-last incs inc checked) in
+    let next : inc.epoch ≡ epoch incs + 1 = next_epoch incs inc (last-checked incs inc checked) in
     let sent : stamp ≤ epoch incs = silent.0 in
     let later : stamp ≤ epoch (then_with incs inc) = omega (arith, epoch-snoc incs inc, next, sent) in
     let rises : current_first h ≤ current_first after = first-step incs inc pg h after checked is then' in (
@@ -177,7 +177,7 @@ pub never-counts : (g after : GroupLog) (later : List Entry) (member : Member) (
 never-counts g after later member stamp is sent silent =
     let hs = histories g later after is in
     let last : Silent member stamp (incs g ++ incs_of later) after.history =
-    along checked-front checked-last g.pg (Silent member stamp) (silent-step g.pg member stamp)
+    along g.pg (Silent member stamp) (silent-step g.pg member stamp)
     (incs_of later) (incs g) g.history after.history hs.checked hs.before hs.then_is (sent, silent) in
     ap (λ l. counts_by l after.history member stamp) hs.incs_are ∙ last.1
 

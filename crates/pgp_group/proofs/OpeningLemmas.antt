@@ -1,7 +1,7 @@
 -- What is so of each interval since it opened.
-use Rattle.pgp_group.proofs.Common.{◌≡◌, ℕ, zero, suc, ◌+◌, ◌<◌, ◌≤◌, List, [], ◌∷◌, Option, Some, None, true, false, length, ap, sym, ◌∙◌, subst, inl, inr, arith, if◌then◌else◌, Contains, range_with_len, slice_index_or, option_map_or, and_parts, cases_Bool, true≢false, is_by_place, AnyCode, first_osd, Incremental, Member, Membership, Past, PgId, History, current_first, Contains-nil, map_some, some_is, taken-induction, taken-more, are_checked, is_faultless, is_up, up_from, epoch, then_with, pool, has_group, held_member, members_of, are_up, membership, pool_membership, group_history, nat_tests}
+use Rattle.pgp_group.proofs.Common.{◌≡◌, ℕ, zero, suc, ◌+◌, ◌<◌, ◌≤◌, List, [], ◌∷◌, Option, Some, None, true, false, length, ap, sym, ◌∙◌, subst, inl, inr, arith, if◌then◌else◌, Contains, range_with_len, slice_index_or, option_map_or, and_parts, cases_Bool, true≢false, is_by_place, AnyCode, first_osd, Incremental, Member, Membership, Past, PgId, History, current_first, Contains-nil, map_some, some_is, taken-induction, taken-more, are_checked, is_faultless, is_up, up_from, epoch, then_with, pool, has_group, held_member, members_of, are_up, membership, pool_membership, group_history, nat_tests, last-checked}
 use Rattle.pgp_sets.proofs.UpLemmas.{acting-are_up}
-use Rattle.pgp_group.proofs.DeviceLemmas.{checked-last, up_from-stays, up_from-within}
+use Rattle.pgp_group.proofs.DeviceLemmas.{up_from-stays, up_from-within}
 use Rattle.pgp_group.proofs.FirstLemmas.{moves, past_of}
 use Rattle.pgp_group.proofs.FirstLemmas.Moves.{on, ends}
 use Rattle.pgp_group.proofs.GrowthLemmas.{epoch-snoc, has_group-unmade, history-begins-made, next_epoch}
@@ -52,12 +52,12 @@ acting-up incs pg h member is acts =
 opened-begun : (incs : List Incremental) (inc : Incremental) (pg : PgId) (after : History AnyCode) → are_checked (then_with incs inc) ≡ true → has_group incs pg ≡ false
     → group_history (then_with incs inc) pg ≡ Some after → IsOpened (then_with incs inc) after
 opened-begun incs inc pg after checked absent is =
-    grind (arith, nat_tests, checked-last, history_there, true≢false, has_group-unmade, history-begins-made, map_some, up_from-within, epoch-snoc, Contains-nil)
+    grind (arith, nat_tests, last-checked, history_there, true≢false, has_group-unmade, history-begins-made, map_some, up_from-within, epoch-snoc, Contains-nil)
 
 opened-next : (incs : List Incremental) (inc : Incremental) (pg : PgId) (h after : History AnyCode) → are_checked (then_with incs inc) ≡ true
     → group_history incs pg ≡ Some h → group_history (then_with incs inc) pg ≡ Some after → IsOpened incs h → IsOpened (then_with incs inc) after
 opened-next incs inc pg h after checked is then' opened =
-    let fine = checked-last incs inc checked in
+    let fine = last-checked incs inc checked in
     let within : current_first h ≤ epoch incs = opened.within in
     let next : epoch (then_with incs inc) ≡ epoch incs + 1 = epoch-snoc incs inc ∙ next_epoch incs inc fine in
     elim (moves incs inc pg h after checked is then') [

@@ -7,7 +7,7 @@ use Rattle.pgp_group.proofs.GroupLemmas.{IsGroupOf-inc, names-stay}
 use Rattle.pgp_group.proofs.GrowthLemmas.{epoch-snoc, history-last, next_epoch}
 use Rattle.pgp_group.proofs.HistoryLemmas.{history-current}
 use Rattle.pgp_group.proofs.Lists.{none-append, none-narrower, one_new}
-use Rattle.pgp_group.proofs.UntoldLemmas.{IsLeft, RawSetsStay, UpsStay, members-same, pool-same, same_up}
+use Rattle.pgp_group.proofs.UntoldLemmas.{IsLeft, UpsStay, members-same, pool-same, same_up}
 use Rattle.pgp_group.proofs.UntouchedLemmas.{IsApart, apart}
 
 -- ---- the epoch that a group has reached
@@ -52,15 +52,15 @@ ups incs inc pg made is there = record {
   given = λ osd stands. grind (arith, same_up (may_lie_on incs pg) incs inc osd is.devices (grind arith));
 }
 
-pub lies-as-before : RawSetsStay → (incs : List Incremental) (inc : Incremental) (pg : PgId) → map_fault incs inc ≡ None → may_move incs inc pg ≡ false → membership (then_with incs inc) pg ≡ membership incs pg
-lies-as-before raws incs inc pg fine still = at (pool incs pg.pool) refl where
+pub lies-as-before : (incs : List Incremental) (inc : Incremental) (pg : PgId) → map_fault incs inc ≡ None → may_move incs inc pg ≡ false → membership (then_with incs inc) pg ≡ membership incs pg
+lies-as-before incs inc pg fine still = at (pool incs pg.pool) refl where
   is : IsUnmoved incs inc pg
   is = unmoved incs inc pg still
 
   at : (found : Option PoolSpec) → pool incs pg.pool ≡ found → membership (then_with incs inc) pg ≡ membership incs pg
   at None none = grind (arith, pool-same incs inc pg.pool is.left.pool)
   at (Some made) found =
-      grind (arith, pool-same incs inc pg.pool is.left.pool, members-same raws incs inc pg made fine is.left found (ups incs inc pg made is found))
+      grind (arith, pool-same incs inc pg.pool is.left.pool, members-same incs inc pg made fine is.left found (ups incs inc pg made is found))
 
 -- an incremental that doesn't touch the group leaves it where it is
 pub untouched-unmoved : (log : List Entry) (inc : Incremental) (pg : PgId) → is_touched log (entry.Inc inc) pg ≡ false → may_move (incs_of log) inc pg ≡ false

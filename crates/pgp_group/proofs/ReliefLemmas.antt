@@ -1,7 +1,7 @@
 -- What makes no group down: boots and losses, and reports that raise no flag.
-use Rattle.pgp_group.proofs.Common.{◌≡◌, ℕ, ◌≤◌, List, [], ◌∷◌, Some, None, Bool, true, false, not, ◌&&◌, ◌||◌, nat_eq, nat_le, fold, map, max, refl, ap, sym, ◌∙◌, inl, inr, arith, list_any, cases_Bool, false_from_ne_true, true≢false, nat_tests, same_Some, list_any-append, enough_of, enough_of-mono, is_by_place, AnyCode, Entry, Incremental, Past, Info, any-contains, contains-any, boots, destroys, exists, is_up, takes_down, map_fault, then_with, is_no_worse, blocks, has_down, is_group_down, no_worse-relieves, not_down-relieved, status, status_by, inc_of, incs_of, group_history, GroupLog, cleans, incs, les, IsAfter, past, prior, TakesNothingAway}
+use Rattle.pgp_group.proofs.Common.{◌≡◌, ℕ, ◌≤◌, List, [], ◌∷◌, Some, None, Bool, true, false, not, ◌&&◌, ◌||◌, nat_eq, nat_le, fold, map, max, refl, ap, sym, ◌∙◌, inl, inr, arith, list_any, cases_Bool, false_from_ne_true, true≢false, nat_tests, same_Some, list_any-append, enough_of, enough_of-mono, is_by_place, AnyCode, Entry, Incremental, Past, Info, any-contains, contains-any, boots, destroys, exists, is_up, takes_down, map_fault, then_with, is_no_worse, blocks, has_down, is_group_down, no_worse-relieves, not_down-relieved, status, status_by, inc_of, incs_of, group_history, GroupLog, cleans, incs, les, IsAfter, past, prior, TakesNothingAway, last-checked}
 use Rattle.pgp_ids.specs.declared.entry.Entry.TheVariants as entry
-use Rattle.pgp_group.proofs.DeviceLemmas.{checked-last, lost_at-rises, not_booted}
+use Rattle.pgp_group.proofs.DeviceLemmas.{lost_at-rises, not_booted}
 use Rattle.pgp_group.proofs.LaterLemmas.{histories, same-infos, les-rises}
 use Rattle.pgp_group.proofs.Lists.{last_where-none, last_where-passes, nothing_new}
 use Rattle.pgp_group.proofs.NotedLemmas.{to_up}
@@ -62,7 +62,7 @@ none-more some last none = grind arith
 pub down-after : (g after : GroupLog) (inc : Incremental) → IsAfter g (entry.Inc inc ∷ []) after → TakesNothingAway (incs g) inc → (prior after).down ≡ down_by g.history.code (incs after) (les g) (past g)
 down-after g after inc is nothing =
     let hs = histories g (entry.Inc inc ∷ []) after is in
-    let fine = checked-last (incs g) inc hs.checked in
+    let fine = last-checked (incs g) inc hs.checked in
     let since : les after ≡ les g = ap (λ (told : List Info). fold max 0 (map (λ info. info.history_les) told)) (same-infos g after inc is) in
     let clean : past after ≡ past_of (cleans g) after.history = grind (arith, nat_tests, same-infos g after inc is) in
     let all : (code : AnyCode) → code ≡ g.history.code → (intervals : List Past) → down_by code (incs after) (les after) intervals ≡ down_by g.history.code (incs after) (les g) intervals = grind (arith, nat_tests) in

@@ -1,9 +1,9 @@
 -- That a group which served may have gone read-write in its interval, once that is past, and that whoever serves later has
 -- reckoned with it.
-use Rattle.pgp_group.proofs.Common.{◌≡◌, ℕ, ◌+◌, ◌<◌, ◌≤◌, List, [], ◌∷◌, ◌++◌, Some, None, is_some, Bool, true, false, not, nat_le, nat_lt, refl, ap, sym, ◌∙◌, subst, inl, inr, ◌⊎◌, arith, Contains, or_parts, nat_tests, filter_map-append, enough_of, is_by_place, AnyCode, osd_count, Entry, Incremental, Membership, Past, PgId, Verdict, Short, Serve, History, current_first, current_ending, contains-append, Contains-here, none_is, some_is, some_mapped, taken-along, are_checked, is_faultless, up_from, up_thru, epoch, map_fault, then_with, inc_of, incs_of, group_history, primary_facts, GroupLog, cleans, group_in, incs, IsAfter, past, WentReadWrite, IsRemembered, holds, place_of, verdict, ◌&&◌, ◌||◌, map, or-true, enough_of-mono, Member, Down, Waiting, filter-contains, contains-filter, map-contains, contains-map, none-contains, nat_order, ascending-contains, contains-ascending, acting_where, blocks, has_down, is_settled, matters, settled_slots, slots_of, status, Status, les, heard, has_member, prior, is_lost, acting_of, heard_or_lost, IsAccountedFor, IsReckonedWith}
+use Rattle.pgp_group.proofs.Common.{◌≡◌, ℕ, ◌+◌, ◌<◌, ◌≤◌, List, [], ◌∷◌, ◌++◌, Some, None, is_some, Bool, true, false, not, nat_le, nat_lt, refl, ap, sym, ◌∙◌, subst, inl, inr, ◌⊎◌, arith, Contains, or_parts, nat_tests, filter_map-append, enough_of, is_by_place, AnyCode, osd_count, Entry, Incremental, Membership, Past, PgId, Verdict, Short, Serve, History, current_first, current_ending, contains-append, Contains-here, none_is, some_is, some_mapped, taken-along, are_checked, is_faultless, up_from, up_thru, epoch, map_fault, then_with, inc_of, incs_of, group_history, primary_facts, GroupLog, cleans, group_in, incs, IsAfter, past, WentReadWrite, IsRemembered, holds, place_of, verdict, ◌&&◌, ◌||◌, map, or-true, enough_of-mono, Member, Down, Waiting, filter-contains, contains-filter, map-contains, contains-map, none-contains, nat_order, ascending-contains, contains-ascending, acting_where, blocks, has_down, is_settled, matters, settled_slots, slots_of, status, Status, les, heard, has_member, prior, is_lost, acting_of, heard_or_lost, IsAccountedFor, IsReckonedWith, front-checked, last-checked}
 use Rattle.pgp_interval.specs.ReadWrite.{acting_slots, may_have_gone_rw}
 use Rattle.pgp_map.proofs.CheckedLemmas.{up_thru-more}
-use Rattle.pgp_group.proofs.DeviceLemmas.{checked-front, checked-last, up_from-stays}
+use Rattle.pgp_group.proofs.DeviceLemmas.{up_from-stays}
 use Rattle.pgp_group.proofs.FirstLemmas.{Ends, Moves, along, moves, past_of}
 use Rattle.pgp_group.proofs.GrowthLemmas.{has_group-grows, next_epoch}
 use Rattle.pgp_group.proofs.LaterLemmas.{histories}
@@ -94,9 +94,9 @@ over-ended cleans first incs inc h after next opened ended over =
 stands-step : (cleans : List ℕ) (first osd : ℕ) (pg : PgId) (incs : List Incremental) (inc : Incremental) (h after : History AnyCode) → are_checked (then_with incs inc) ≡ true
     → group_history incs pg ≡ Some h → group_history (then_with incs inc) pg ≡ Some after → Stands cleans first osd incs h → Stands cleans first osd (then_with incs inc) after
 stands-step cleans first osd pg incs inc h after checked is then' stands =
-    let fine = checked-last incs inc checked in
+    let fine = last-checked incs inc checked in
     let next : inc.epoch ≡ epoch incs + 1 = next_epoch incs inc fine in
-    let open' : IsOpened incs h = opened pg incs (checked-front incs (inc ∷ []) checked) h is in
+    let open' : IsOpened incs h = opened pg incs (front-checked incs (inc ∷ []) checked) h is in
     by (moves incs inc pg h after checked is then') fine next open' stands
   where
     by : Moves incs inc h after → map_fault incs inc ≡ None → inc.epoch ≡ epoch incs + 1 → IsOpened incs h → Stands cleans first osd incs h → Stands cleans first osd (then_with incs inc) after
@@ -126,12 +126,12 @@ standing g after later is serves =
     let osd : ℕ = s.0 in
     let first : ℕ = current_first g.history in
     let hs = histories g later after is in
-    let open' : IsOpened (incs g) g.history = opened g.pg (incs g) (checked-front (incs g) (incs_of later) hs.checked) g.history hs.before in
+    let open' : IsOpened (incs g) g.history = opened g.pg (incs g) (front-checked (incs g) (incs_of later) hs.checked) g.history hs.before in
     let runs : Stands (cleans after) first osd (incs g) g.history = grind (arith, nat_tests) in
     record {
       osd = osd;
       stands = subst (λ (l : List Incremental). Stands (cleans after) first osd l after.history) (sym hs.incs_are)
-          (along checked-front checked-last g.pg (Stands (cleans after) first osd)
+          (along g.pg (Stands (cleans after) first osd)
           (λ is' inc h next checked before then' kept. stands-step (cleans after) first osd g.pg is' inc h next checked before then' kept)
           (incs_of later) (incs g) g.history after.history hs.checked hs.before hs.then_is runs);
     }

@@ -1,8 +1,8 @@
 -- What an incremental leaves as it was: devices that it doesn't name, and a group that it doesn't touch.
-use Rattle.pgp_group.proofs.Common.{◌≡◌, ℕ, arith, List, [], ◌∷◌, Option, Some, None, is_some, Bool, true, false, nat_eq, nat_lt, map, length, refl, ap, ap₂, sym, ◌∙◌, subst, inl, inr, ◌⊎◌, if◌then◌else◌, Contains, filter, list_any, option_eq, option_map_or, or_parts, eqb-true, nat_tests, same_Some, first_osd, Incremental, Membership, PgId, PoolSpec, Contains-first, Contains-later, contains-any, filter-contains, map-contains, if_some, boots, takes_down, destroys, device, is_up, map_fault, then_with, pool, temp, is_same_group, may_place_elsewhere, moves, raw_set, raw_set_of, members_with, pool_membership, primary_facts, has_osd, changed_devices, turned_devices, moves_all, changes_pool, changes_temp}
+use Rattle.pgp_group.proofs.Common.{◌≡◌, ℕ, arith, List, [], ◌∷◌, Option, Some, None, is_some, Bool, true, false, nat_eq, nat_lt, map, length, refl, ap, ap₂, sym, ◌∙◌, subst, inl, inr, ◌⊎◌, if◌then◌else◌, Contains, filter, list_any, option_eq, option_map_or, or_parts, eqb-true, nat_tests, same_Some, first_osd, Incremental, Membership, PgId, PoolSpec, Contains-first, Contains-later, contains-any, filter-contains, map-contains, if_some, boots, takes_down, destroys, device, is_up, map_fault, then_with, pool, temp, is_same_group, may_place_elsewhere, moves, raw_set, members_with, pool_membership, primary_facts, has_osd, changed_devices, turned_devices, moves_all, changes_pool, changes_temp}
 use Rattle.pgp_ids.specs.Pool.{is_by_place}
 use Rattle.pgp_ids.specs.declared.incremental.TempList.{TempList}
-use Rattle.pgp_sets.proofs.RawSetLemmas.{unmoved-unplaced}
+use Rattle.pgp_sets.proofs.RawSetLemmas.{raw_set-stays, unmoved-unplaced}
 use Rattle.pgp_group.proofs.GrowthLemmas.{told-stays}
 use Rattle.pgp_group.proofs.Lists.{none-narrower, none-append, any-mapped, last_where-none, left_new, map-agree, filter-agree}
 
@@ -111,10 +111,6 @@ lies-there up made raw given osd is = by_rest (nat_eq (length (without up (is_by
 
 -- ---- a group of which the incremental tells nothing
 
--- what is known of raw sets
-abbrev pub RawSetsStay : Type 0
-RawSetsStay = (incs : List Incremental) (inc : Incremental) (pg : PgId) (places : List (Option ℕ)) → map_fault incs inc ≡ None → may_place_elsewhere incs inc pg ≡ false → raw_set_of incs pg ≡ Some places → raw_set_of (then_with incs inc) pg ≡ Some places
-
 -- an incremental that moves no group at large and leaves the pool alone moves none of the pool
 pub unmoved-pool : (inc : Incremental) (id : ℕ) → moves_all inc ≡ false → changes_pool inc id ≡ false → moves inc id ≡ false
 unmoved-pool inc id still own = grind (arith, or_parts (nat_lt 0 (length inc.weight)) (is_some inc.crush) still)
@@ -128,8 +124,8 @@ pub record IsLeft (incs : List Incremental) (inc : Incremental) (pg : PgId) : Ty
   pub pool : changes_pool inc pg.pool ≡ false
   pub temp : changes_temp inc pg ≡ false
 
-raw-same : RawSetsStay → (incs : List Incremental) (inc : Incremental) (pg : PgId) (made : PoolSpec) → map_fault incs inc ≡ None → IsLeft incs inc pg → pool incs pg.pool ≡ Some made → raw_set (then_with incs inc) made pg ≡ raw_set incs made pg
-raw-same raws incs inc pg made fine left is = grind (arith, nat_tests, pool-same, same_Some)
+raw-same : (incs : List Incremental) (inc : Incremental) (pg : PgId) (made : PoolSpec) → map_fault incs inc ≡ None → IsLeft incs inc pg → pool incs pg.pool ≡ Some made → raw_set (then_with incs inc) made pg ≡ raw_set incs made pg
+raw-same incs inc pg made fine left is = grind (arith, nat_tests, pool-same, same_Some, raw_set-stays)
 
 -- the devices on which the group lies, or may lie by pg_temp, stay as they were
 pub record DevicesStay (incs : List Incremental) (inc : Incremental) (pg : PgId) (made : PoolSpec) : Type 0 where
@@ -148,11 +144,11 @@ ups-stay incs inc pg made stay = grind arith
 pub same_up : (test : ℕ → Bool) (incs : List Incremental) (inc : Incremental) (osd : ℕ) → list_any test (turned_devices inc) ≡ false → test osd ≡ true → is_up (then_with incs inc) osd ≡ is_up incs osd
 same_up test incs inc osd none passes = grind (arith, nat_tests, unturned, last_where-none)
 
-pub members-same : RawSetsStay → (incs : List Incremental) (inc : Incremental) (pg : PgId) (made : PoolSpec) → map_fault incs inc ≡ None → IsLeft incs inc pg → pool incs pg.pool ≡ Some made → UpsStay incs inc pg made
+pub members-same : (incs : List Incremental) (inc : Incremental) (pg : PgId) (made : PoolSpec) → map_fault incs inc ≡ None → IsLeft incs inc pg → pool incs pg.pool ≡ Some made → UpsStay incs inc pg made
     → pool_membership (then_with incs inc) pg made ≡ pool_membership incs pg made
-members-same raws incs inc pg made fine left is stay =
+members-same incs inc pg made fine left is stay =
     membership-lies (then_with incs inc) made pg
-    ∙ ap₂ (lies (is_up (then_with incs inc)) made) (raw-same raws incs inc pg made fine left is) (temp-same incs inc pg left.temp)
+    ∙ ap₂ (lies (is_up (then_with incs inc)) made) (raw-same incs inc pg made fine left is) (temp-same incs inc pg left.temp)
     ∙ lies-same (is_up incs) (is_up (then_with incs inc)) made (raw_set incs made pg) (temp incs pg)
     (λ osd there. stay.placed osd (osd-there (raw_set incs made pg) osd there))
     (λ osd there. stay.given osd (osd-there (temp incs pg) osd there))

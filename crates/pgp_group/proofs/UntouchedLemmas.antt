@@ -1,12 +1,12 @@
 -- An entry that doesn't touch a group leaves its view as it was, except for count and epoch.
-use Rattle.pgp_group.proofs.Common.{◌≡◌, ℕ, List, [], ◌∷◌, ◌++◌, Option, Some, None, true, false, length, map, refl, ap, sym, ◌∙◌, arith, filter, list_any, option_map, or_parts, enough_of, is_by_place, AnyCode, Entry, EpochState, PrimaryFacts, Incremental, PgId, PoolSpec, Info, Report, History, stepped, current_first, past_intervals, are_checked, device, epoch, then_with, pool, has_group, is_same_group, pool_membership, inc_of, incs_of, infos_of, reports_of, primary_facts, group_history, group_with, names, has_to_do_with, changed_devices, is_touched, view_at, view_of, scratch, nat_tests}
+use Rattle.pgp_group.proofs.Common.{◌≡◌, ℕ, List, [], ◌∷◌, ◌++◌, Option, Some, None, true, false, length, map, refl, ap, sym, ◌∙◌, arith, filter, list_any, option_map, or_parts, enough_of, is_by_place, AnyCode, Entry, EpochState, PrimaryFacts, Incremental, PgId, PoolSpec, Info, Report, History, stepped, past_intervals, are_checked, device, epoch, then_with, pool, has_group, is_same_group, pool_membership, inc_of, incs_of, infos_of, reports_of, primary_facts, group_history, group_with, names, has_to_do_with, changed_devices, is_touched, view_at, view_of, scratch, nat_tests, front-checked, last-checked, current_first-continues, past_intervals-continues}
 use Rattle.pgp_ids.specs.declared.entry.Entry.TheVariants as entry
 use Rattle.pgp_group.proofs.GroupLemmas.{infos-other, infos-same, reports-other, reports-same}
-use Rattle.pgp_group.proofs.GrowthLemmas.{Shortens, EndsWell, checked-numbered, history-grows}
+use Rattle.pgp_group.proofs.GrowthLemmas.{history-grows, numbered}
 use Rattle.pgp_group.proofs.HistoryLemmas.{history_if, history-current}
 use Rattle.pgp_group.proofs.Lists.{nothing_new, one_new}
 use Rattle.pgp_group.proofs.SameViewLemmas.{view-same}
-use Rattle.pgp_group.proofs.UntoldLemmas.{DevicesStay, IsLeft, RawSetsStay, leader-same, members-same, pool-same, same_device, unplaced, ups-stay}
+use Rattle.pgp_group.proofs.UntoldLemmas.{DevicesStay, IsLeft, leader-same, members-same, pool-same, same_device, unplaced, ups-stay}
 use Rattle.pgp_group.proofs.ViewLemmas.{history_there}
 
 -- the view with the entry is that of the log before, except for count and epoch
@@ -37,11 +37,6 @@ quiet log new pg no_map told reported =
 
 -- ---- an incremental that doesn't touch the group
 
--- what a step to the same membership does to the intervals
-pub record GoesOn : Type 0 where
-  pub past : (cleans : List ℕ) (h : History AnyCode) (facts : PrimaryFacts) → past_intervals enough_of is_by_place cleans (stepped h h.current facts) ≡ past_intervals enough_of is_by_place cleans h
-  pub first : (h : History AnyCode) (facts : PrimaryFacts) → current_first (stepped h h.current facts) ≡ current_first h
-
 -- no device that the incremental changes has to do with the group
 pub record IsApart (log : List Entry) (inc : Incremental) (pg : PgId) : Type 0 where
   pub left : IsLeft (incs_of log) inc pg
@@ -59,15 +54,15 @@ named-stay : (log : List Entry) (inc : Incremental) (pg : PgId) (h : History Any
 named-stay log inc pg h osd is there named = grind (arith, nat_tests, same_device)
 
 -- the current interval goes on
-history-goes_on : Shortens → EndsWell → RawSetsStay → (log : List Entry) (inc : Incremental) (pg : PgId) (h : History AnyCode) (made : PoolSpec) → are_checked (then_with (incs_of log) inc) ≡ true → IsApart log inc pg
+history-goes_on : (log : List Entry) (inc : Incremental) (pg : PgId) (h : History AnyCode) (made : PoolSpec) → are_checked (then_with (incs_of log) inc) ≡ true → IsApart log inc pg
     → group_history (incs_of log) pg ≡ Some h → pool (incs_of log) pg.pool ≡ Some made
     → group_history (then_with (incs_of log) inc) pg ≡ Some (stepped h h.current (primary_facts (incs_of log) h.current.acting_primary))
-history-goes_on shorten fine raws log inc pg h made checked is there found =
-    grind (arith, nat_tests, pool-same, members-same, ups-stay, devices-stay, history-grows, checked-numbered, history-current)
+history-goes_on log inc pg h made checked is there found =
+    grind (arith, nat_tests, pool-same, members-same, ups-stay, devices-stay, history-grows, numbered, front-checked, last-checked, history-current)
 
-view-stays : Shortens → EndsWell → RawSetsStay → GoesOn → (log : List Entry) (inc : Incremental) (pg : PgId) (h : History AnyCode) → are_checked (then_with (incs_of log) inc) ≡ true → IsApart log inc pg
+view-stays : (log : List Entry) (inc : Incremental) (pg : PgId) (h : History AnyCode) → are_checked (then_with (incs_of log) inc) ≡ true → IsApart log inc pg
     → group_history (incs_of log) pg ≡ Some h → Stays log (entry.Inc inc) pg
-view-stays shorten fine raws on log inc pg h checked is there =
+view-stays log inc pg h checked is there =
     let made = history_if (incs_of log) pg (pool (incs_of log) pg.pool) h (has_group (incs_of log) pg) there in
     let facts : PrimaryFacts = primary_facts (incs_of log) h.current.acting_primary in
     let lived : List EpochState = (stepped h h.current facts).lived in
@@ -78,8 +73,8 @@ view-stays shorten fine raws on log inc pg h checked is there =
     ap (λ (l : List Incremental). device l osd) grown ∙ leader-same (incs_of log) inc pg made.0 osd (devices-stay log inc pg made.0 is made.1.0) first' in
     ap (λ (o : Option (History AnyCode)). option_map view_of (option_map (group_with (log ++ entry.Inc inc ∷ []) pg) o)) after
     ∙ ap Some (view-same log (log ++ entry.Inc inc ∷ []) pg h lived (record {
-      first = on.first h facts;
-      past = grind (arith, infos-same log (entry.Inc inc) pg refl);
+      first = current_first-continues h facts;
+      past = grind (arith, infos-same log (entry.Inc inc) pg refl, past_intervals-continues);
       infos = infos-same log (entry.Inc inc) pg refl;
       reports = reports-same log (entry.Inc inc) pg refl;
       named = λ osd named. ap (λ (l : List Incremental). device l osd) grown ∙ named-stay log inc pg h osd is there named;
@@ -91,14 +86,14 @@ view-stays shorten fine raws on log inc pg h checked is there =
 none-stays : (log : List Entry) (inc : Incremental) (pg : PgId) → IsApart log inc pg → group_history (incs_of log) pg ≡ None → Stays log (entry.Inc inc) pg
 none-stays log inc pg is none = grind (arith, nat_tests, one_new, pool-same, history_there)
 
-inc-stays : Shortens → EndsWell → RawSetsStay → GoesOn → (log : List Entry) (inc : Incremental) (pg : PgId) → are_checked (then_with (incs_of log) inc) ≡ true → is_touched log (entry.Inc inc) pg ≡ false → Stays log (entry.Inc inc) pg
-inc-stays shorten fine raws on log inc pg checked untouched = grind (arith, nat_tests, none-stays, apart, view-stays)
+inc-stays : (log : List Entry) (inc : Incremental) (pg : PgId) → are_checked (then_with (incs_of log) inc) ≡ true → is_touched log (entry.Inc inc) pg ≡ false → Stays log (entry.Inc inc) pg
+inc-stays log inc pg checked untouched = grind (arith, nat_tests, none-stays, apart, view-stays)
 
 -- ---- any entry
 
-pub untouched-stays : Shortens → EndsWell → RawSetsStay → GoesOn → (log : List Entry) (new : Entry) (pg : PgId) → are_checked (incs_of (log ++ new ∷ [])) ≡ true → is_touched log new pg ≡ false → Stays log new pg
-untouched-stays shorten fine raws on log (entry.Inc inc) pg checked untouched =
-    inc-stays shorten fine raws on log inc pg (sym (ap are_checked (one_new inc_of log (entry.Inc inc) inc refl)) ∙ checked) untouched
-untouched-stays shorten fine raws on log (entry.Info info) pg checked untouched = search (quiet, infos-other, reports-same)
-untouched-stays shorten fine raws on log (entry.Entries report) pg checked untouched = search (quiet, infos-same, reports-other)
-untouched-stays shorten fine raws on log entry.Close pg checked untouched = search (quiet, infos-same, reports-same)
+pub untouched-stays : (log : List Entry) (new : Entry) (pg : PgId) → are_checked (incs_of (log ++ new ∷ [])) ≡ true → is_touched log new pg ≡ false → Stays log new pg
+untouched-stays log (entry.Inc inc) pg checked untouched =
+    inc-stays log inc pg (sym (ap are_checked (one_new inc_of log (entry.Inc inc) inc refl)) ∙ checked) untouched
+untouched-stays log (entry.Info info) pg checked untouched = search (quiet, infos-other, reports-same)
+untouched-stays log (entry.Entries report) pg checked untouched = search (quiet, infos-same, reports-other)
+untouched-stays log entry.Close pg checked untouched = search (quiet, infos-same, reports-same)
