@@ -18,6 +18,7 @@ use Rattle.pgp_map.specs.Checked.{are_checked, is_faultless}
 use Rattle.pgp_map.specs.Devices.{boots, exists, is_up, lost_at, last_epoch_of}
 use Rattle.pgp_map.specs.Map.{epoch}
 use Rattle.pgp_map.specs.MapFault.{map_fault, then_with, has_ahead}
+use Rattle.pgp_map.proofs.CheckedLemmas.{front-checked, last-checked}
 use Rattle.pgp_prior.specs.Blocks.{blocks}
 use Rattle.pgp_prior.proofs.BetterLemmas.{blocks-same}
 use Rattle.pgp_sets.specs.Status.{status, status_by}
@@ -26,7 +27,7 @@ use Rattle.pgp_group.specs.Heard.{les}
 use Rattle.pgp_group.specs.Later.{IsAfter}
 use Rattle.pgp_group.specs.Peering.{past, prior}
 use Rattle.pgp_group.specs.Reckoning.{TakesNothingAway}
-use Rattle.pgp_group.proofs.DeviceLemmas.{checked-front, checked-last, last_where-later}
+use Rattle.pgp_group.proofs.DeviceLemmas.{last_where-later}
 use Rattle.pgp_group.proofs.GrowthLemmas.{epoch-snoc, next_epoch}
 use Rattle.pgp_group.proofs.LaterLemmas.{histories}
 use Rattle.pgp_group.proofs.Lists.{any-agree, last_where-none}
@@ -164,8 +165,8 @@ after-way GiveUp osds incs inc osd first goes nothing later = after-loss osds in
 pub brought_back : (way : Way) (osds : List ℕ) (g after : GroupLog) (inc : Incremental) → IsAfter g (entry.Inc inc ∷ []) after → GoesWay way osds inc → (prior after).down ≡ is_down_with way osds g
 brought_back way osds g after inc is goes =
     let hs = histories g (entry.Inc inc ∷ []) after is in
-    let fine = checked-last (incs g) inc hs.checked in
-    let checked = checked-front (incs g) (inc ∷ []) hs.checked in
+    let fine = last-checked (incs g) inc hs.checked in
+    let checked = front-checked (incs g) (inc ∷ []) hs.checked in
     let nothing : TakesNothingAway (incs g) inc = nothing-away way osds (incs g) inc goes fine checked in
     let open' = opened g.pg (incs g) checked g.history hs.before in
     let next : inc.epoch ≡ epoch (incs g) + 1 = next_epoch (incs g) inc fine in

@@ -2,17 +2,17 @@
 
 ghost use Rattle.std.specs.Prelude.{◌≡◌, nat_lt, max, map as mapped, unwrap_or, IfOk, OnOk};
 ghost use Rattle.pgp_lists.specs.Ordered.{IsAscending, ascending, with_items};
-ghost use Rattle.pgp_prior.specs.Blocks.{down_osds, is_down, is_settled, settled_slots};
+ghost use Rattle.pgp_prior.specs.Blocks.{down_osds};
 ghost use Rattle.pgp_sets.specs.Status.{held_status};
 ghost use Rattle.pgp_reasons.specs.Blocking.{blocking_of, is_in_interval, last_within, blocking_by};
 
 use super::lacking::lacking;
 use pgp_code::{AnyCode, Recoverable};
-use pgp_ids::{Epoch, Info, OsdId, Osds, Past, Seq, SlotSet};
+use pgp_ids::{Epoch, Info, OsdId, Osds, Past, Seq};
 use pgp_lists::insert_in_order;
 use pgp_map::OsdMap;
-use pgp_prior::{blocks, members_of};
-use pgp_sets::{Status, StatusOf};
+use pgp_prior::{blocks, is_down, members_of, settled_slots};
+use pgp_sets::StatusOf;
 use std::alloc::{AllocError, Global};
 
 /// A past interval for which a group has to wait.
@@ -110,19 +110,6 @@ pub(crate) fn add_down(
     Ok(())
 }
 
-/// The slots of the interval's acting members that are up or lost.
-fn settled_slots(by_place: bool, map: &OsdMap, interval: &Past) -> SlotSet
-    ensures { result ≡ settled_slots by_place (held_status map.now) interval.now }
-{
-    let mut slots = SlotSet::empty();
-    for member in members_of(by_place, &interval.members.acting) {
-        if is_settled(map.status(member.osd, interval.first)) {
-            slots = slots.with(member.slot);
-        }
-    }
-    slots
-}
-
 /// The last epoch within the interval in which the group was clean, by these infos.
 fn last_clean(infos: &[Info], interval: &Past) -> Option<Epoch>
     ensures { result ≡ last_within interval.now (mapped (λ info. info.last_epoch_clean) infos.now) }
@@ -152,18 +139,4 @@ fn later_of(a: Option<Epoch>, b: Epoch) -> Epoch
         Some(a) => if a < b { b } else { a },
         None => b,
     }
-}
-
-/// Whether a device of this status is down, and may come back.
-fn is_down(status: Status) -> bool
-    ensures { result ≡ is_down status }
-{
-    status == Status::Down
-}
-
-/// Whether what a device of this status held is at hand, or was given up.
-fn is_settled(status: Status) -> bool
-    ensures { result ≡ is_settled status }
-{
-    matches!(status, Status::Up | Status::Lost)
 }

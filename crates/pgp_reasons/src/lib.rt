@@ -1,9 +1,9 @@
 //! Why a placement group doesn't serve, and what would bring it back.
 //!
 //! The layers below say that a group is down, waits, or lacks log entries. This one says which past intervals block it and
-//! what each lacks, which devices have to boot or be given up for lost so that it is down no more, whom it has heard, and
-//! which writes the log of its best copy lacks (Ceph's developer documentation on peering: what `ceph pg query` shows of a
-//! group that is down; the smallest sets of devices are this project's own).
+//! what each lacks. It says which devices have to boot or be given up for lost so that it is down no more, whom it has heard,
+//! and which writes the log of its best copy lacks. What is said follows what `ceph pg query` shows of a group that is down
+//! (Ceph's developer documentation on peering); the smallest sets of devices are this project's own.
 #![tactic(auto)]
 
 mod blocking;
