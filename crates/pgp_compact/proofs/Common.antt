@@ -31,7 +31,7 @@ pub use Rattle.pgp_compact.specs.declared.standing.Standing.{Standing}
 pub use Rattle.pgp_compact.specs.declared.whole.Whole.{Whole}
 pub use Rattle.pgp_group.proofs.FirstLemmas.{along}
 pub use Rattle.pgp_group.proofs.GroupLemmas.{infos-new, infos-other, infos-same, on_ok, reports-other, reports-same}
-pub use Rattle.pgp_group.proofs.GrowthLemmas.{checked-numbered, epoch-snoc, has_group-grows, history-begins-made, history-grows, history-last, next_epoch, unmade}
+pub use Rattle.pgp_group.proofs.GrowthLemmas.{epoch-snoc, has_group-grows, history-begins-made, history-grows, history-last, next_epoch, unmade, numbered}
 pub use Rattle.pgp_group.proofs.HeardLemmas.{HasDistinctMembers-last_of}
 pub use Rattle.pgp_group.proofs.HistoryLemmas.{history-current}
 pub use Rattle.pgp_group.proofs.InterleavingLemmas.{any-found, find-last_of, is_of, last_of-found}

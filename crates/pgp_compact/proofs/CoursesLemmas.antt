@@ -1,5 +1,5 @@
 -- What is kept of the groups that have reports, as entries are noted and maps follow.
-use Rattle.pgp_compact.proofs.Common.{AnyCode, AreCourses, AreNumbered, Bor, Course, Courses, EachIsCourse, Entry, History, IfNone, IfSome, Incremental, Info, IsCourse, IsCourseIn, IsNext, IsReportOf, IsSameButCourse, IsSilent, IsUnderWay, LiesAt, List, GroupPlace, None, Option, OsdMap, PgId, PrimaryFacts, Report, Some, [], any-same, arith, begun, cases_Bool, cases_eq, checked-numbered, code_of, comes-with_pool, cond, current_first-continues, current_first-ends, enough_of, epoch, epoch-snoc, eq-is_same, false, fold-append, front-checked, get-last, get-set_other, get-set_same, get_or, get_or_from_slice_get, has_group, has_group-same, history-begins-made, history-current, history-grows, history-last, incs, info_of, infos-new, infos-other, infos-same, inl, inr, is_by_place, is_same, is_same-eq, is_same_group, is_some, last-checked, left-unmoved, length, lies-as-before, lies_on, map-append, map_fault, map_some, max, may_leave, may_lie_on, may_move, moves_none, nat_lt, nat_tests, next_epoch, none-moved, past_intervals-continues, past_intervals-ends, pool, pool_membership, primary_facts, raw_set-stays, refl, report_of, reports-other, reports-same, same-self, same_group, set, slice_get, slice_get_within, started_by, stepped, subst, suc, temp-same, then_with, true, turned-parts, unmade, unmoved-unplaced, ℕ, ◌++◌, ◌∙◌, ◌∷◌, ◌≡◌, ◌≢◌}
+use Rattle.pgp_compact.proofs.Common.{AnyCode, AreCourses, AreNumbered, Bor, Course, Courses, EachIsCourse, Entry, History, IfNone, IfSome, Incremental, Info, IsCourse, IsCourseIn, IsNext, IsReportOf, IsSameButCourse, IsSilent, IsUnderWay, LiesAt, List, GroupPlace, None, Option, OsdMap, PgId, PrimaryFacts, Report, Some, [], any-same, arith, begun, cases_Bool, cases_eq, code_of, comes-with_pool, cond, current_first-continues, current_first-ends, enough_of, epoch, epoch-snoc, eq-is_same, false, fold-append, front-checked, get-last, get-set_other, get-set_same, get_or, get_or_from_slice_get, has_group, has_group-same, history-begins-made, history-current, history-grows, history-last, incs, info_of, infos-new, infos-other, infos-same, inl, inr, is_by_place, is_same, is_same-eq, is_same_group, is_some, last-checked, left-unmoved, length, lies-as-before, lies_on, map-append, map_fault, map_some, max, may_leave, may_lie_on, may_move, moves_none, nat_lt, nat_tests, next_epoch, none-moved, past_intervals-continues, past_intervals-ends, pool, pool_membership, primary_facts, raw_set-stays, refl, report_of, reports-other, reports-same, same-self, same_group, set, slice_get, slice_get_within, started_by, stepped, subst, suc, temp-same, then_with, true, turned-parts, unmade, unmoved-unplaced, ℕ, ◌++◌, ◌∙◌, ◌∷◌, ◌≡◌, ◌≢◌, numbered}
 use Rattle.std.specs.HashMap as hash
 use Rattle.pgp_ids.specs.declared.entry.Entry.TheVariants as entry
 
@@ -15,7 +15,7 @@ unmoved incs inc pg place fine lies stays =
 lies-still : (incs : List Incremental) (inc : Incremental) (pg : PgId) (place : GroupPlace) → map_fault incs inc ≡ None → may_move incs inc pg ≡ false → LiesAt incs pg place → LiesAt (then_with incs inc) pg place
 lies-still incs inc pg place fine still lies =
     let left = left-unmoved incs inc pg still in
-    grind (arith, raw_set-stays, temp-same, lies-as-before raw_set-stays incs inc pg fine still)
+    grind (arith, raw_set-stays, temp-same, lies-as-before incs inc pg fine still)
 
 -- what is kept of a group that is under way
 pub under-way : (incs : List Incremental) (course : Course) (place : GroupPlace) → course.place ≡ Some place → IsUnderWay incs course.pg course.firsts.items place → IsCourse incs course
@@ -29,7 +29,7 @@ module _ (incs : List Incremental) (inc : Incremental) (after : OsdMap) (next : 
   fine = last-checked incs inc next.checked
 
   counts : AreNumbered incs
-  counts = checked-numbered front-checked last-checked incs (front-checked incs (inc ∷ []) next.checked)
+  counts = numbered incs (front-checked incs (inc ∷ []) next.checked)
 
   -- the group lies there by the map
   pub moved : (pg : PgId) (firsts firsts' : List ℕ) (place to : GroupPlace) → IsUnderWay incs pg firsts place → LiesAt later pg to

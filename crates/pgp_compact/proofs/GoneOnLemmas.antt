@@ -1,5 +1,5 @@
 -- Whatever entries follow, a log and the same log compacted give the same views.
-use Rattle.pgp_compact.proofs.Common.{AnyCode, Bool, Contains, Entry, GroupLog, HasDistinctMembers-last_of, History, Incremental, Info, IsAfter, List, Member, None, PgId, Report, Some, Verdict, [], any-found, any-mapped, ap, ap₂, are_checked, are_whole, arith, best, by_number, checked-numbered, compacted, counted_infos, counts_by, ends_at, enough_of, epoch, false, filter, filter-append, filter-both, filter-contains, filter_map, filter_map-append, filter_map-from, find-last_of, find-some, front-checked, group_history, group_in, group_with, has_member, heard, histories, history-last, holds, if◌then◌else◌, incs, incs_of, info_by, info_of, infos_in, infos_of, is_after, is_by_place, is_counted, is_of, is_same_group, is_same_member, last-checked, last_of-found, last_of_each_member, last_or, leader, length, les, list_any, log-in, map, map-agree, nat_le, nat_tests, not, opening_of, option_and_then, option_map, option_map_or, past, past_ending, past_ends, past_intervals, peer_state_by, peer_states, prefers, prefers_is_preference, present_members, prior, report_of, reported, reports_in, reports_of, same_best, scratch, sym, true, view_of, whole_best, with_count, within, ℕ, ◌&&◌, ◌++◌, ◌+◌, ◌∙◌, ◌≡◌, ◌≤◌}
+use Rattle.pgp_compact.proofs.Common.{AnyCode, Bool, Contains, Entry, GroupLog, HasDistinctMembers-last_of, History, Incremental, Info, IsAfter, List, Member, None, PgId, Report, Some, Verdict, [], any-found, any-mapped, ap, ap₂, are_checked, are_whole, arith, best, by_number, compacted, counted_infos, counts_by, ends_at, enough_of, epoch, false, filter, filter-append, filter-both, filter-contains, filter_map, filter_map-append, filter_map-from, find-last_of, find-some, front-checked, group_history, group_in, group_with, has_member, heard, histories, history-last, holds, if◌then◌else◌, incs, incs_of, info_by, info_of, infos_in, infos_of, is_after, is_by_place, is_counted, is_of, is_same_group, is_same_member, last_of-found, last_of_each_member, last_or, leader, length, les, list_any, log-in, map, map-agree, nat_le, nat_tests, not, opening_of, option_and_then, option_map, option_map_or, past, past_ending, past_ends, past_intervals, peer_state_by, peer_states, prefers, prefers_is_preference, present_members, prior, report_of, reported, reports_in, reports_of, same_best, scratch, sym, true, view_of, whole_best, with_count, within, ℕ, ◌&&◌, ◌++◌, ◌+◌, ◌∙◌, ◌≡◌, ◌≤◌, numbered}
 use Rattle.pgp_compact.proofs.IntervalLemmas.{history-goes_on}
 use Rattle.pgp_compact.proofs.NeededLemmas.{needed-any, needed-last}
 use Rattle.pgp_compact.proofs.NumberLemmas.{entries_in}
@@ -76,12 +76,12 @@ module _ (never : NeverCountsAgain) (log more : List Entry) (pg : PgId) (after :
   before g there =
       let is = is_after log more pg g whole checked there (grind (arith, then')) in
       let hs = histories g more whole is in
-      let numbered = checked-numbered front-checked last-checked (incs g) (front-checked (incs g) (incs_of more) hs.checked) in
+      let are_numbered = numbered (incs g) (front-checked (incs g) (incs_of more) hs.checked) in
       let same : epoch (incs g) ≡ epoch (incs_of log) = ap (λ (l : List Entry). epoch (incs_of l)) (log-in log pg g there) in
       record {
         counted = λ member stamp within counts. grind (arith, nat_tests, never g whole more member stamp is);
         on = history-goes_on g.pg (incs g) (incs_of more) g.history after hs.checked hs.before hs.then_is;
-        known = omega (arith, same, history-last (incs g) g.pg g.history numbered hs.before);
+        known = omega (arith, same, history-last (incs g) g.pg g.history are_numbered hs.before);
       }
 
   incs-alike : incs less ≡ incs whole

@@ -1,5 +1,5 @@
 -- Epochs of one interval stay in one interval, as the history goes on, and are found by when the intervals opened.
-use Rattle.pgp_compact.proofs.Common.{AnyCode, Contains, Contains-here, Contains-later, GroupLog, HasReached, History, Incremental, IsNonDecreasingBy, LieEndToEnd, List, Membership, None, Past, PgId, PrimaryFacts, Some, [], along, ap, are_checked, are_of_one_interval, arith, cases_Bool, checked-numbered, current_first, ends_at, enough_of, epoch, firsts_of, front-checked, get_or, get_or_append_left, get_or_default, get_or_from_slice_get, get_or_push, group_history, history-grows, incs, is_by_place, last-checked, last_place, length, length_push, lie_end_to_end, map, map-contains, map_some, members_at-last_place, membership, nat_tests, opening_in, opening_of, opening_of-le, opening_of-opens, opening_of-stays, opens_at, past_ending, past_ends, past_intervals, primary_facts, refl, slice_get, stepped, subst, suc, sym, then_with, true, within, zero, ℕ, ◌++◌, ◌+◌, ◌-◌, ◌<◌, ◌∙◌, ◌∷◌, ◌≡◌, ◌≤◌}
+use Rattle.pgp_compact.proofs.Common.{AnyCode, Contains, Contains-here, Contains-later, GroupLog, HasReached, History, Incremental, IsNonDecreasingBy, LieEndToEnd, List, Membership, None, Past, PgId, PrimaryFacts, Some, [], along, ap, are_checked, are_of_one_interval, arith, cases_Bool, current_first, ends_at, enough_of, epoch, firsts_of, front-checked, get_or, get_or_append_left, get_or_default, get_or_from_slice_get, get_or_push, group_history, history-grows, incs, is_by_place, last-checked, last_place, length, length_push, lie_end_to_end, map, map-contains, map_some, members_at-last_place, membership, nat_tests, opening_in, opening_of, opening_of-le, opening_of-opens, opening_of-stays, opens_at, past_ending, past_ends, past_intervals, primary_facts, refl, slice_get, stepped, subst, suc, sym, then_with, true, within, zero, ℕ, ◌++◌, ◌+◌, ◌-◌, ◌<◌, ◌∙◌, ◌∷◌, ◌≡◌, ◌≤◌, numbered}
 
 -- the second history goes on from the first: intervals open where they opened
 pub record GoesOn (h after : History AnyCode) : Type 0 where
@@ -13,10 +13,10 @@ opens-stay h members facts place within = grind (arith, get_or_append_left, get_
 pub history-goes_on : (pg : PgId) (incs later : List Incremental) (h after : History AnyCode) → are_checked (incs ++ later) ≡ true
     → group_history incs pg ≡ Some h → group_history (incs ++ later) pg ≡ Some after → GoesOn h after
 history-goes_on pg incs later h after checked is then' =
-    along front-checked last-checked pg (λ _ now. GoesOn h now)
+    along pg (λ _ now. GoesOn h now)
     (λ incs inc now next checked is then' on.
     let facts : PrimaryFacts = primary_facts incs now.current.acting_primary in
-    let before = checked-numbered front-checked last-checked incs (front-checked incs (inc ∷ []) checked) in
+    let before = numbered incs (front-checked incs (inc ∷ []) checked) in
     let grows = history-grows incs inc pg now before (last-checked incs inc checked) is in
     let m = map_some (λ members. stepped now members facts) (membership (then_with incs inc) pg) next (sym grows ∙ then') in
     subst (GoesOn h) m.2 (grind (arith, length_push, opens-stay now m.0 facts)))

@@ -15,7 +15,7 @@ pub use Rattle.std.specs.Option.{option_copied, option_eq, option_map_or, option
 pub use Rattle.std.specs.Prelude.{alloc_error, slice_index, ◌==◌}
 pub use Rattle.std.specs.Vec.{with_item}
 pub use Rattle.pgp_group.proofs.GroupLemmas.{IsGroupOf-other, infos-kept, infos-other, infos-same, names-kept, past-same, reports-kept, reports-other, reports-same}
-pub use Rattle.pgp_group.proofs.GrowthLemmas.{checked-numbered, epoch-snoc, has_group-grows, history-last, made_at-made, next_epoch, told-stays, unmade}
+pub use Rattle.pgp_group.proofs.GrowthLemmas.{epoch-snoc, has_group-grows, history-last, made_at-made, next_epoch, told-stays, unmade, numbered}
 pub use Rattle.pgp_group.proofs.LaterLemmas.{is_after, log-in}
 pub use Rattle.pgp_group.proofs.Lists.{none-append, none-narrower}
 pub use Rattle.pgp_group.proofs.ReachingLemmas.{left-unmoved, lies-as-before, reached-now, reaches-next, untouched-unmoved}
@@ -73,7 +73,8 @@ pub use Rattle.pgp_log.specs.declared.row.Row.{Row}
 pub use Rattle.pgp_log.specs.declared.rows.Block.{Block}
 pub use Rattle.pgp_log.specs.declared.rows.WideBlock.{WideBlock}
 pub use Rattle.pgp_log.specs.declared.wide_filter.WideFilter.{WideFilter}
-pub use Rattle.pgp_map.proofs.CheckedLemmas.{checked-has_group, checked-more, front-checked, last-checked, pools-in_range}
+pub use Rattle.pgp_tables.proofs.Common.{same_group}
+pub use Rattle.pgp_map.proofs.CheckedLemmas.{checked-has_group, checked-more, pools-in_range}
 pub use Rattle.pgp_map.specs.Checked.{are_checked}
 pub use Rattle.pgp_map.specs.Devices.{boots, device}
 pub use Rattle.pgp_map.specs.FaultNumber.{refusal_of, tree_refusal}

@@ -1,12 +1,11 @@
 -- What a shard keeps of its groups, as the log grows.
-use Rattle.pgp_log.proofs.Common.{◌≡◌, ℕ, List, [], ◌∷◌, ◌++◌, true, false, Bor, Option, Some, None, IfSome, is_none, is_some, not, length, option_map, refl, sym, ap, ◌∙◌, subst, filter, option_copied, false_from_ne_true, true≢false, some_is, Entry, Incremental, Membership, PgId, Info, View, checked-more, front-checked, last-checked, are_checked, device, HasGroup, epoch, map_fault, then_with, IsMapOf, has_group, is_same_group, pool, temp, OsdMap, raw_set-stays, may_place_elsewhere, members_from_up, membership, raw_set_of, without_down, infos-kept, infos-other, infos-same, names-kept, past-same, reports-kept, reports-other, reports-same, IsGroupOf-other, has_group-grows, reached-now, history_there, inc_of, incs_of, infos_of, reports_of, AreNumbered, group_facts, group_history, made_at, IsGroupOf, IsSilent, Follows, group_with, reaching, is_touched, view_at, scratch, view_of, Group, MapBefore, fits, IsKeptOf, IsStep, IsViewOf, HasInc, is_legal, IsRawSet, KeptGroup}
+use Rattle.pgp_log.proofs.Common.{◌≡◌, ℕ, List, [], ◌∷◌, ◌++◌, true, false, Bor, Option, Some, None, IfSome, is_none, is_some, not, length, option_map, refl, sym, ap, ◌∙◌, subst, filter, option_copied, false_from_ne_true, true≢false, some_is, Entry, Incremental, Membership, PgId, Info, View, checked-more, are_checked, device, HasGroup, epoch, map_fault, then_with, IsMapOf, has_group, is_same_group, pool, temp, OsdMap, raw_set-stays, may_place_elsewhere, members_from_up, membership, raw_set_of, without_down, infos-kept, infos-other, infos-same, names-kept, past-same, reports-kept, reports-other, reports-same, IsGroupOf-other, has_group-grows, reached-now, history_there, inc_of, incs_of, infos_of, reports_of, AreNumbered, group_facts, group_history, made_at, IsGroupOf, IsSilent, Follows, group_with, reaching, is_touched, view_at, scratch, view_of, Group, MapBefore, fits, IsKeptOf, IsStep, IsViewOf, HasInc, is_legal, IsRawSet, KeptGroup, numbered}
 use Rattle.pgp_ids.specs.declared.entry.Entry.TheVariants as entry
 use Rattle.pgp_ids.specs.declared.history.PrimaryFacts.{PrimaryFacts}
 use Rattle.pgp_ids.specs.declared.report.Report.{Report}
-use Rattle.pgp_interval.proofs.StepLemmas.{current_first-continues, past_intervals-continues}
 use Rattle.pgp_group.proofs.SameViewLemmas.{view-same}
 use Rattle.pgp_group.proofs.UntouchedLemmas.{Stays, untouched-stays}
-use Rattle.pgp_log.proofs.LogLemmas.{legal-checked, legal-induction, numbered}
+use Rattle.pgp_log.proofs.LogLemmas.{legal-checked, legal-induction}
 use Rattle.pgp_log.proofs.RawSetLemmas.{filtered}
 use Rattle.pgp_log.proofs.ComingLemmas.{IsAbsent, absent-other, inc-of-group, made-now, next-follows, silent-inc}
 use Rattle.pgp_log.proofs.TakeLemmas.{faultless-inc, fits-faultless, incs-inc, incs-other}
@@ -88,8 +87,7 @@ view-stays log new pg (Some view) stays is = stays ∙ ap (option_map (view_at (
 -- an incremental that doesn't touch the group does so
 pub untouched-inc : (log : List Entry) (inc : Incremental) (before : MapBefore) (after : OsdMap) (pg : PgId) → IsStep log inc before after → is_touched log (entry.Inc inc) pg ≡ false → Stays log (entry.Inc inc) pg
 untouched-inc log inc before after pg step untouched =
-    untouched-stays front-checked last-checked raw_set-stays (record { past = λ cleans h facts. search past_intervals-continues; first = current_first-continues })
-    log (entry.Inc inc) pg (ap are_checked (grown log inc) ∙ step-checked log inc before after step) untouched
+    untouched-stays log (entry.Inc inc) pg (ap are_checked (grown log inc) ∙ step-checked log inc before after step) untouched
 
 mapped-same : {X Y Z : Type 0} (f : Y → Z) (k : Z → Z) (g g' : X → Y) (found : Option X) → ((x : X) → f (g x) ≡ k (f (g' x))) → option_map f (option_map g found) ≡ option_map k (option_map f (option_map g' found))
 mapped-same f k g g' None same = refl

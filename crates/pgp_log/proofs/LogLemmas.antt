@@ -1,5 +1,5 @@
 -- What holds of legal logs.
-use Rattle.pgp_log.proofs.Common.{◌≡◌, ℕ, ◌<◌, ◌≤◌, List, [], ◌∷◌, ◌++◌, Option, None, is_none, true, false, length, take, refl, ap, ap₂, sym, ◌∙◌, arith, length-append, option_map_or, take-append-le, get-append, none_is, Entry, Incremental, front-checked, last-checked, are_checked, checked-numbered, incs_of, AreNumbered, fits, is_close, is_closed, is_accepted, is_taken_at, is_legal, EndsWithClose, EpochsCount}
+use Rattle.pgp_log.proofs.Common.{◌≡◌, ℕ, ◌<◌, ◌≤◌, List, [], ◌∷◌, ◌++◌, Option, None, is_none, true, false, length, take, refl, ap, ap₂, sym, ◌∙◌, arith, length-append, option_map_or, take-append-le, get-append, none_is, Entry, are_checked, incs_of, fits, is_close, is_closed, is_accepted, is_taken_at, is_legal, EndsWithClose, EpochsCount, numbered}
 use Rattle.pgp_lists.proofs.Taken.{taken-front, taken-induction, taken-last, taken-more, taken-take}
 use Rattle.pgp_ids.specs.declared.entry.Entry.TheVariants as entry
 use Rattle.pgp_log.proofs.TakeLemmas.{checked-push, closed-push, fits-faultless, fits-open_log, room-push}
@@ -35,9 +35,6 @@ legal-induction P none step =
 pub legal-checked : (log : List Entry) → is_legal log ≡ true → are_checked (incs_of log) ≡ true
 legal-checked = legal-induction (λ log. are_checked (incs_of log) ≡ true) refl
     (λ log new fit before. checked-push log new before (fits-faultless log new fit))
-
-pub numbered : (incs : List Incremental) → are_checked incs ≡ true → AreNumbered incs
-numbered = checked-numbered front-checked last-checked
 
 pub legal-counts : (log : List Entry) → is_legal log ≡ true → EpochsCount log
 legal-counts log legal = numbered (incs_of log) (legal-checked log legal)

@@ -1,11 +1,10 @@
 -- Which groups have to be worked out anew, as the groups change.
-use Rattle.pgp_log.proofs.Common.{◌≡◌, ℕ, zero, suc, ◌+◌, ◌-◌, ◌<◌, ◌≤◌, List, [], ◌∷◌, ◌++◌, Bool, true, false, ◌&&◌, ◌||◌, Option, Some, None, is_some, is_none, Result, Ok, Err, OnOk, length, drop, set, slice_get, refl, sym, ap, ◌∙◌, arith, eq-eqb, length-append, list_any, nat_eq, cases_Bool, false_from_ne_true, or_parts, true≢false, nat_tests, All-head, All-tail, list_any-append, same_Some, and-false, and-true, and_from, and_parts, inl, inr, or-false, or-true, Entry, Incremental, View, PgId, or3_parts, none-each, has_repeat, is_same_group, changes_pool, changes_temp, is_touched, moves_all, AreAtPlaces, marks_of, AreAllMarked, ids_of, is_marked, marks_in, is_among, without, Groups, KeptGroup}
+use Rattle.pgp_log.proofs.Common.{◌≡◌, ℕ, zero, suc, ◌+◌, ◌-◌, ◌<◌, ◌≤◌, List, [], ◌∷◌, ◌++◌, Bool, true, false, ◌&&◌, ◌||◌, Option, Some, None, is_some, is_none, Result, Ok, Err, OnOk, length, drop, set, slice_get, refl, sym, ap, ◌∙◌, arith, eq-eqb, length-append, list_any, nat_eq, cases_Bool, false_from_ne_true, or_parts, true≢false, nat_tests, All-head, All-tail, list_any-append, same_Some, and-false, and-true, and_from, and_parts, inl, inr, or-false, or-true, Entry, Incremental, View, PgId, or3_parts, none-each, has_repeat, is_same_group, changes_pool, changes_temp, is_touched, moves_all, AreAtPlaces, marks_of, AreAllMarked, ids_of, is_marked, marks_in, is_among, without, Groups, KeptGroup, same_group}
 use Rattle.std.proofs.Math.ListN.{drop_of_length-le}
 use Rattle.std.specs.HashMap as hash
 use Rattle.pgp_ids.specs.declared.entry.Entry.TheVariants as entry
 use Rattle.pgp_log.proofs.GroupsLemmas.{missing-group, other-group, place-holds, same-self}
 use Rattle.pgp_log.proofs.PassingLemmas.{all-other, any-passing, drop-few, drop-more, passing-once, unmarked}
-use Rattle.pgp_log.proofs.RawSetLemmas.{same_group}
 
 abbrev pub pg_of : KeptGroup → PgId
 pg_of kept = kept.pg

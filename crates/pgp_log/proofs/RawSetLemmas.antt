@@ -1,5 +1,5 @@
 -- The membership of a group from its raw set, and a table of raw sets with one more.
-use Rattle.pgp_log.proofs.Common.{list_any, option_map_or, Result, Ok, Err, OnOk, OnErr, is_some, length, nat_eq, nat_lt, ◌≡◌, ℕ, List, [], ◌∷◌, ◌++◌, Bool, true, false, ◌||◌, cond, Option, Some, None, IfSome, option_map, refl, sym, ap, ◌∙◌, subst, arith, and_parts, or_parts, eqb-true, nat_tests, same_Some, some-weaker, Entry, Incremental, Membership, PgId, PoolSizes, PoolSpec, inc_of, incs_of, then_with, pool, is_same_group, raw_set-stays, unmoved-unplaced, membership, moves, pool_membership, raw_set, without_down, members_from_up, fits, AreRawSets, IsRawSet, moves_any}
+use Rattle.pgp_log.proofs.Common.{list_any, option_map_or, Result, Ok, Err, OnOk, OnErr, is_some, length, nat_eq, nat_lt, ◌≡◌, ℕ, List, [], ◌∷◌, ◌++◌, Bool, true, false, ◌||◌, cond, Option, Some, None, IfSome, option_map, refl, sym, ap, ◌∙◌, subst, arith, or_parts, nat_tests, same_Some, some-weaker, Entry, Incremental, Membership, PgId, PoolSizes, PoolSpec, inc_of, incs_of, then_with, pool, is_same_group, raw_set-stays, unmoved-unplaced, membership, moves, pool_membership, raw_set, without_down, members_from_up, fits, AreRawSets, IsRawSet, moves_any, same_group}
 use Rattle.std.specs.HashMap as hash
 use Rattle.pgp_ids.specs.declared.entry.Entry.TheVariants as entry
 use Rattle.pgp_log.specs.declared.raw_sets.RawSets.{RawSets}
@@ -21,12 +21,6 @@ filtered incs pg raw members is lies = at (pool incs pg.pool) is lies where
 pub known-is : (incs : List Incremental) (pg : PgId) (found : Option (List (Option ℕ))) (raw : List (Option ℕ)) → found ≡ Some raw
     → IfSome found (IsRawSet incs pg) → IsRawSet incs pg raw
 known-is incs pg found raw same each = subst (λ (o : Option (List (Option ℕ))). IfSome o (IsRawSet incs pg)) same each
-
--- groups with the same numbers are one
-pub same_group : (a b : PgId) → is_same_group a b ≡ true → a ≡ b
-same_group a b same =
-    let parts = and_parts (nat_eq a.pool b.pool) (nat_eq a.pg b.pg) same in
-    λ i. record { pool = eqb-true a.pool b.pool parts.0 i; pg = eqb-true a.pg b.pg parts.1 i }
 
 -- a table with one more raw set
 pub with-raw_set : (incs : List Incremental) (old new : PgId → Option (List (Option ℕ))) (pg : PgId) (raw : List (Option ℕ))

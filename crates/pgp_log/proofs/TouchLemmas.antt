@@ -1,5 +1,5 @@
 -- A group that an incremental doesn't touch, and the devices with which a group has to do.
-use Rattle.pgp_log.proofs.Common.{◌≡◌, ℕ, List, [], ◌∷◌, ◌++◌, Bool, true, false, not, ◌||◌, Option, Some, None, IfSome, map, length, refl, sym, ap, ◌∙◌, arith, list_any, is_none, ◌==◌, not-false, not-true, or_parts, true_from_ne_false, true≢false, nat_tests, list_any-append, and3_parts, Entry, DeviceEpoch, Incremental, PgId, View, map_fault, temp, OsdMap, raw_set-stays, may_place_elsewhere, left-unmoved, lies-as-before, reaches-next, untouched-unmoved, IsLeft, temp-same, unplaced, incs_of, changed_devices, changes_pool, changes_temp, is_touched, may_lie_on, may_move, moves_all, turned_devices, MapBefore, IsKeptOf, IsStep, IsViewOf, is_marked, changes_no_pool, changes_nothing, changes_placements, moves_none, tells_nothing, turns_none, KeptGroup}
+use Rattle.pgp_log.proofs.Common.{◌≡◌, ℕ, List, [], ◌∷◌, ◌++◌, Bool, true, false, not, ◌||◌, Option, Some, None, IfSome, map, length, refl, sym, ap, ◌∙◌, arith, list_any, is_none, ◌==◌, not-false, not-true, or_parts, true_from_ne_false, true≢false, nat_tests, list_any-append, and3_parts, Entry, DeviceEpoch, Incremental, PgId, View, map_fault, temp, OsdMap, may_place_elsewhere, left-unmoved, lies-as-before, reaches-next, untouched-unmoved, IsLeft, temp-same, unplaced, incs_of, changed_devices, changes_pool, changes_temp, is_touched, may_lie_on, may_move, moves_all, turned_devices, MapBefore, IsKeptOf, IsStep, IsViewOf, is_marked, changes_no_pool, changes_nothing, changes_placements, moves_none, tells_nothing, turns_none, KeptGroup}
 use Rattle.pgp_ids.specs.declared.entry.Entry.TheVariants as entry
 use Rattle.pgp_group.proofs.Lists.{any-mapped}
 use Rattle.pgp_log.proofs.KeptLemmas.{grown, kept_raw-stays, step-fine, untouched-inc, view-stays}
@@ -13,7 +13,7 @@ kept-lies log inc before after old view step is still told =
     let fine : map_fault (incs_of log) inc ≡ None = step-fine log inc before after step in
     let left : IsLeft (incs_of log) inc old.pg = left-unmoved (incs_of log) inc old.pg still in
     record {
-      group_is = reaches-next log inc old.pg old.group fine (lies-as-before raw_set-stays (incs_of log) inc old.pg fine still) is.group_is;
+      group_is = reaches-next log inc old.pg old.group fine (lies-as-before (incs_of log) inc old.pg fine still) is.group_is;
       raw_is = kept_raw-stays log inc before after old is step left.still;
       temp_is = is.temp_is ∙ sym (ap (λ (l : List Incremental). temp l old.pg) (grown log inc) ∙ temp-same (incs_of log) inc old.pg left.temp);
       view_is = told;

@@ -13,7 +13,7 @@ pub step-legal : (w : World) (step : Step) → is_legal w.log ≡ true → is_le
 step-legal w (Submit new) legal = submit-legal w new (fits w.log new) refl legal
 step-legal w step legal = legal
 
--- ---- a step that may want memory
+-- ---- a step that may be out of memory
 
 wanting-legal : (w next : World) (step : Step) (reply : Reply) → IsWanting w step reply next → is_legal w.log ≡ true → is_legal next.log ≡ true
 wanting-legal w next (Absorb shard count) reply is legal = ap (λ (v : World). is_legal v.log) is.1.next_is ∙ legal

@@ -95,7 +95,7 @@ pub fn world_stays_legal()
     ensures { (w : World) (step : Step) → is_legal w.log ≡ true → is_legal (after w step).log ≡ true }
 {}
 
-/// A run in which no step wants memory is answered as the definition says; and each run is the definition's run of the steps
+/// A run in which no step is out of memory is answered as the definition says; and each run is the definition's run of the steps
 /// that there was memory for, of which a shard's reading may have been cut short. In each run the log grows by the entries
 /// whose submit was answered with a length, in their order, and by nothing else; and it stays legal.
 pub fn runs_of_a_world()

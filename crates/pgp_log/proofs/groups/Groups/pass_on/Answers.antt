@@ -2,7 +2,7 @@ use Rattle.pgp_log.proofs.Common.{◌≡◌, ◌+◌, ◌<◌, List, [], ◌∷�
 use Rattle.pgp_ids.specs.declared.entry.Entry.TheVariants as entry
 use Rattle.pgp_log.proofs.GroupsLemmas.{ids-set, marked-there}
 use Rattle.pgp_log.proofs.MarksLemmas.{marks-set, marks-set-still}
-use Rattle.pgp_log.proofs.RawSetLemmas.{same_group}
+use Rattle.pgp_tables.proofs.Common.{same_group}
 use Rattle.pgp_log.proofs.RowLemmas.{each-set, passed-at, rows-set}
 use Rattle.pgp_log.proofs.groups.Groups.pass_on.Goals as goal
 
