@@ -1,6 +1,7 @@
 //! The numbers that lines have.
 
 use super::shape::{Range, Shape};
+use pgp_ids::OsdId;
 
 /// The greatest number of four bytes.
 const WORD_MAX: i64 = 4294967295;
@@ -9,14 +10,14 @@ const WORD_MAX: i64 = 4294967295;
 pub(crate) const DEVICE: Shape = Shape::Number(Range {
     noun: "a device",
     low: 0,
-    high: 4095,
+    high: OsdId::MAX as i64,
 });
 
 /// A place of a group: a device, or null where it is empty.
 pub(crate) const PLACE: Shape = Shape::NumberOrNull(Range {
     noun: "a device",
     low: 0,
-    high: 4095,
+    high: OsdId::MAX as i64,
 });
 
 pub(crate) const POOL: Shape = Shape::Number(Range {

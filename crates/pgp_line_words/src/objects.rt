@@ -5,11 +5,13 @@ use super::numbers::{
     LEAST_SIZE, PLACE, POOL, SHARDS, SIZE, SLOT, WEIGHT,
 };
 use super::shape::{Field, Fields, Format, Kind, Rule, Shape};
+use pgp_ids::{MAX_OSDS, MAX_PARTS};
+use pgp_text::MAX_EPOCHS;
 
 const SLOTS: Shape = Shape::ListWithin {
     item: &SLOT,
     low: 0,
-    high: 16,
+    high: MAX_OSDS,
 };
 
 const PART: Shape = Shape::Fixed(&[SLOTS, LEAST]);
@@ -17,7 +19,7 @@ const PART: Shape = Shape::Fixed(&[SLOTS, LEAST]);
 const PARTS: Shape = Shape::ListWithin {
     item: &PART,
     low: 0,
-    high: 16,
+    high: MAX_PARTS,
 };
 
 const KIND_WORDS: &[&str] = &["replicated", "erasure", "grouped"];
@@ -171,13 +173,13 @@ pub(crate) const CODE: Shape = Shape::Kinds {
 const GROUP_DEVICES: Shape = Shape::ListWithin {
     item: &DEVICE,
     low: 0,
-    high: 16,
+    high: MAX_OSDS,
 };
 
 const GROUP_PLACES: Shape = Shape::ListWithin {
     item: &PLACE,
     low: 0,
-    high: 16,
+    high: MAX_OSDS,
 };
 
 /// An epoch of a trace in a code whose members may stand in any order: no place is empty.
@@ -197,7 +199,7 @@ const PLAIN_EPOCH: Shape = Shape::Object(Fields {
 pub(crate) const PLAIN_EPOCHS: Shape = Shape::ListWithin {
     item: &PLAIN_EPOCH,
     low: 1,
-    high: 4096,
+    high: MAX_EPOCHS,
 };
 
 /// An epoch of a trace in a code by place, in which a place may be empty.
@@ -217,5 +219,5 @@ const PLACED_EPOCH: Shape = Shape::Object(Fields {
 pub(crate) const PLACED_EPOCHS: Shape = Shape::ListWithin {
     item: &PLACED_EPOCH,
     low: 1,
-    high: 4096,
+    high: MAX_EPOCHS,
 };

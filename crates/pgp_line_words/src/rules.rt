@@ -2,11 +2,9 @@
 
 use super::shape::Rule;
 use super::wrong::{Finding, Wrong, at_item, at_key, count_words};
+use pgp_ids::MAX_OSDS;
 use serde_json::Value;
 use std::alloc::Global;
-
-/// How many slots there are.
-const SLOT_LIMIT: usize = 16;
 
 /// What is wrong with an object by this rule. Its values are each of its shape.
 pub(crate) fn rule_fault(alloc: Global, rule: Rule, value: &Value) -> Finding {
@@ -74,7 +72,7 @@ fn parts_fault(alloc: Global, parts: &[Value]) -> Finding {
         let what = String::from_str(alloc, "there is no part")?;
         return Wrong::here(alloc, what);
     }
-    let mut seen = [false; SLOT_LIMIT];
+    let mut seen = [false; MAX_OSDS];
     for (index, part) in parts.iter().enumerate() {
         let found = part_fault(alloc, items_of(part), &mut seen)?;
         if let Some(wrong) = found {
@@ -85,7 +83,7 @@ fn parts_fault(alloc: Global, parts: &[Value]) -> Finding {
 }
 
 /// `[list of slots, least]`.
-fn part_fault(alloc: Global, part: &[Value], seen: &mut [bool; SLOT_LIMIT]) -> Finding {
+fn part_fault(alloc: Global, part: &[Value], seen: &mut [bool; MAX_OSDS]) -> Finding {
     let [slots, least] = part else {
         return Ok(None);
     };
@@ -97,7 +95,7 @@ fn part_fault(alloc: Global, part: &[Value], seen: &mut [bool; SLOT_LIMIT]) -> F
 }
 
 /// At least one slot, none of which was seen before.
-fn slots_fault(alloc: Global, slots: &[Value], seen: &mut [bool; SLOT_LIMIT]) -> Finding {
+fn slots_fault(alloc: Global, slots: &[Value], seen: &mut [bool; MAX_OSDS]) -> Finding {
     if slots.is_empty() {
         let what = String::from_str(alloc, "the part has no slot")?;
         return Wrong::here(alloc, what);
@@ -113,8 +111,8 @@ fn slots_fault(alloc: Global, slots: &[Value], seen: &mut [bool; SLOT_LIMIT]) ->
 }
 
 /// Whether a slot was seen before. It is seen from now on.
-fn is_seen(seen: &mut [bool; SLOT_LIMIT], slot: u64) -> bool {
-    if slot >= SLOT_LIMIT as u64 {
+fn is_seen(seen: &mut [bool; MAX_OSDS], slot: u64) -> bool {
+    if slot >= MAX_OSDS as u64 {
         return false;
     }
     let slot = slot as usize;

@@ -2,11 +2,9 @@
 
 use super::shape::Range;
 use super::wrong::{Finding, Wrong, words_of};
+use pgp_ids::ObjectName;
 use serde_json::Value;
 use std::alloc::{AllocError, Global};
-
-/// How many bytes the name of an object has at most.
-const MAX_NAME: usize = 255;
 
 /// A whole number of this range.
 pub(crate) fn number_fault(alloc: Global, range: Range, value: &Value) -> Finding {
@@ -57,8 +55,9 @@ pub(crate) fn name_fault(alloc: Global, value: &Value) -> Finding {
         let what = String::from_str(alloc, "the name is empty")?;
         return Wrong::here(alloc, what);
     }
-    if len > MAX_NAME {
-        let what = format!(in alloc; "the name has {len} bytes, and may have {MAX_NAME} at most")?;
+    let most = ObjectName::MAX_LEN;
+    if len > most {
+        let what = format!(in alloc; "the name has {len} bytes, and may have {most} at most")?;
         return Wrong::here(alloc, what);
     }
     Ok(None)
