@@ -62,7 +62,7 @@ pub record StopsIn (alone : Bool) (start : RunStart) (fault : ScriptFault) (now 
   pub stopped : IsStopped alone start fault now (whole_lines start.bounds bytes)
   pub beyond : fault ≡ Read → IsBeyond start.bounds bytes
 
--- the front of the chunk before `rest` was taken
+-- the part of the chunk before `rest` was taken
 pub record ChunkPart (alone : Bool) (old new : Script) (before after : List Entry) (was now : Option (List ℕ)) (chunk rest : List ℕ) : Type 0 where
   pub done : List ℕ
   pub whole : done ++ rest ≡ chunk

@@ -60,15 +60,15 @@ fn obey(log: &mut Log, command: Command) -> Result<LineOutcome, AllocError>
     ensures kept { OnErr result (log.new ≡ log.old) }
 {
     match command {
-        Command::Submit(entry) => offered(log, entry),
-        Command::Ask(pg) => Ok(asked(log, pg)),
-        Command::Locate { pool, .. } => Ok(located(log, pool)),
+        Command::Submit(entry) => entry_outcome(log, entry),
+        Command::Ask(pg) => Ok(question_outcome(log, pg)),
+        Command::Locate { pool, .. } => Ok(locate_outcome(log, pool)),
         Command::Trace { .. } => Ok(LineOutcome::Asked),
     }
 }
 
 /// Takes the entry if it fits, and says what it is to the log.
-fn offered(log: &mut Log, entry: Entry) -> Result<LineOutcome, AllocError>
+fn entry_outcome(log: &mut Log, entry: Entry) -> Result<LineOutcome, AllocError>
     ensures outcome { IfOk result (IsOutcomeOf log.old (Submit entry)) }
     ensures log { IfOk result (λ _. log.new ≡ with_added log.old (taken_from log.old (Submit entry))) }
     ensures kept { OnErr result (log.new ≡ log.old) }
@@ -80,7 +80,7 @@ fn offered(log: &mut Log, entry: Entry) -> Result<LineOutcome, AllocError>
 }
 
 /// What a question about the group is to the log.
-fn asked(log: &Log, pg: PgId) -> LineOutcome
+fn question_outcome(log: &Log, pg: PgId) -> LineOutcome
     ensures { IsOutcomeOf log.now (Ask pg) result }
 {
     if has_group(log.map(), &pg) {
@@ -92,7 +92,7 @@ fn asked(log: &Log, pg: PgId) -> LineOutcome
 
 /// What a question where an object of the pool lies is to the log, whatever its name is. It has an answer where the map has the
 /// pool.
-fn located(log: &Log, id: PoolId) -> LineOutcome
+fn locate_outcome(log: &Log, id: PoolId) -> LineOutcome
     ensures { (name : List ℕ) → IsOutcomeOf log.now (Locate id name) result }
 {
     match log.map().pool(id) {

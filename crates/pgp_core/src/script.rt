@@ -262,7 +262,7 @@ pub fn run_script<R: Source, W: Sink>(
 /// Answers the script that the reader gives, of at most this many lines and this many bytes.
 ///
 /// What was read is answered to its end, and a fault says what it leaves: after [`ScriptFault::Read`] the lines that
-/// were read whole within the bounds are answered, and after [`ScriptFault::Write`] a front of the answers went out. A
+/// were read whole within the bounds are answered, and after [`ScriptFault::Write`] a first part of the answers went out. A
 /// fault is told only where a read or a write failed, or the script is larger than its bounds: it is never
 /// [`ScriptFault::Gone`].
 pub fn run_script_within<R: Source, W: Sink>(

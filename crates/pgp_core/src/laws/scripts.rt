@@ -52,7 +52,7 @@ pub fn scripts_with_faults()
 {}
 
 /// A line that was out of memory has one of the two constant texts, and no effect.
-pub fn scripts_that_want_memory()
+pub fn scripts_out_of_memory()
     ensures entry { script_text (Some Entry ∷ None ∷ []) (codes "{\"op\":\"close\"}\n{\"op\":\"close\"}\n")
         ≡ codes "{\"code\":51,\"refused\":\"Memory\"}\n{\"count\":1,\"epoch\":0,\"ok\":\"close\"}\n" }
     ensures line { script_text (Some Line ∷ None ∷ []) (codes "{\"op\":\"close\"}\n{\"op\":\"close\"}\n")

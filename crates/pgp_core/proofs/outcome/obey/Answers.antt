@@ -11,4 +11,4 @@ of_name : (log : List Entry) (command : Command) (pool : ℕ) (name : List ℕ) 
 of_name log command pool name outcome is each = subst (λ it. IsOutcomeOf log it outcome) (sym is) (each name)
 
 pub returns-in-Locate-clause-outcome : goal.returns-in-Locate-clause-outcome
-returns-in-Locate-clause-outcome c = of_name c.args.log.now c.args.command _ _ c.located.result c.in-Locate.is c.located.ensures
+returns-in-Locate-clause-outcome c = of_name c.args.log.now c.args.command _ _ c.locate_outcome.result c.in-Locate.is c.locate_outcome.ensures
