@@ -33,7 +33,7 @@ use Rattle.pgp_explain.specs.Summary.{counted, has_verdict, unheard}
 use Rattle.pgp_explain.specs.Sums.{AreAwaited, AreSums, waits_as}
 use Rattle.pgp_explain.specs.declared.group_sums.GroupSums.{GroupSums}
 use Rattle.pgp_explain.specs.declared.heard_of.Hearing.{Hearing}
-use Rattle.pgp_explain.proofs.SummaryHearing.{same-group}
+use Rattle.pgp_tables.proofs.Common.{same_group}
 use Rattle.pgp_explain.proofs.SummaryLemmas.{count-snoc}
 
 -- ---- a group of a log
@@ -120,7 +120,7 @@ module _ (log : List Entry) (pgs : List PgId) (sums : GroupSums) (are : AreSums 
       let test : waits_as g.pg g ≡ true = rw (same-self g.pg, waits) refl in
       let last = some_is (last_where (waits_as g.pg) gs) (last_where-some (waits_as g.pg) gs ∙ contains-any (waits_as g.pg) gs g in' test) in
       let found = last_where-found (waits_as g.pg) gs last.0 last.1 in
-      let same : last.0.pg ≡ g.pg = same-group last.0.pg g.pg (and_parts (is_same_group last.0.pg g.pg) (has_verdict Waiting last.0) found.1).0 in
+      let same : last.0.pg ≡ g.pg = same_group last.0.pg g.pg (and_parts (is_same_group last.0.pg g.pg) (has_verdict Waiting last.0) found.1).0 in
       let both : Some last.0 ≡ Some g = sym (named last.0 found.0) ∙ ap (group_in log) same ∙ named g in' in
       let one : last.0 ≡ g = cc in
       are.waiting_are g.pg ∙ ap (option_map (λ (h : GroupLog). (view_of h).first)) (last.1 ∙ ap Some one)

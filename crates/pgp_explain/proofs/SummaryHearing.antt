@@ -1,12 +1,11 @@
 -- Whom a group has heard, entry by entry of a log.
 use Rattle.std.proofs.Common.{◌≡◌, List, [], ◌∷◌, Bool, true, false, cond, ◌&&◌, ◌||◌, refl, ap, sym, ◌∙◌, inl, inr, arith}
 use Rattle.std.specs.List.{filter, list_any}
-use Rattle.std.proofs.lemmas.Bool.{cases_Bool, and_parts, eqb-true}
+use Rattle.std.proofs.lemmas.Bool.{cases_Bool}
 use Rattle.pgp_ids.specs.Member.{is_same_member}
 use Rattle.pgp_ids.specs.declared.entry.Entry.{Entry}
 use Rattle.pgp_ids.specs.declared.entry.Entry.TheVariants as entry
 use Rattle.pgp_ids.specs.declared.member.Member.{Member}
-use Rattle.pgp_ids.specs.declared.pg_id.PgId.{PgId}
 use Rattle.pgp_ids.specs.declared.report.Info.{Info}
 use Rattle.pgp_map.specs.Pools.{is_same_group}
 use Rattle.pgp_group.specs.Entries.{infos_of}
@@ -14,9 +13,6 @@ use Rattle.pgp_group.specs.GroupLog.{GroupLog}
 use Rattle.pgp_group.specs.Heard.{has_member, heard, counted_infos, is_counted, last_of_each_member}
 use Rattle.pgp_group.proofs.PeerLemmas.{same_member}
 use Rattle.pgp_explain.specs.Hearing.{hears, hears_by}
-
-pub same-group : (a b : PgId) → is_same_group a b ≡ true → a ≡ b
-same-group a b is = let parts = and_parts _ _ is in λ i. record { pool = eqb-true a.pool b.pool parts.0 i; pg = eqb-true a.pg b.pg parts.1 i }
 
 -- what one more is heard by
 pub heard-more : (old same counted osd slot : Bool) → (same ≡ true → counted ≡ true) → cond (same && (osd && slot)) true old ≡ old || (same && (counted && (osd && slot)))

@@ -6,8 +6,8 @@ use Rattle.std.proofs.lemmas.List.Sums.{sum_by-append}
 use Rattle.pgp_ids.specs.declared.verdict.Verdict.{Verdict}
 use Rattle.pgp_ids.specs.declared.verdict.Verdict.TheVariants.{NoPrimary, Down, Waiting, Incomplete, Short, NeedLog, NeedUpThru, Serve}
 use Rattle.pgp_group.specs.GroupLog.{GroupLog}
-use Rattle.pgp_group.specs.Verdict.{in_order, verdict}
-use Rattle.pgp_explain.specs.Summary.{counted, place_of, has_verdict, with_verdict, tally_of, verdict_count}
+use Rattle.pgp_group.specs.Verdict.{in_order, place_of, verdict}
+use Rattle.pgp_explain.specs.Summary.{counted, has_verdict, with_verdict, tally_of, verdict_count}
 use Rattle.pgp_explain.specs.declared.tally.Tally.{Tally}
 
 -- ---- counts

@@ -70,7 +70,7 @@ pub record IsExplained (asked : Question) (from to start now : Option (List ℕ)
   pub says : SaysAsked log asked.pg asked.json asked.offset text
   pub went : Appends start now text
 
--- The same, where a write failed: a front of the text went out.
+-- The same, where a write failed: a first part of the text went out.
 pub record IsCutShort (asked : Question) (from to start now : Option (List ℕ)) : Type 0 where
   pub log : List Entry
   pub log_is : IsLogOfScript log from to

@@ -6,14 +6,14 @@ use Rattle.pgp_ids.specs.declared.entry.Entry.{Entry}
 use Rattle.pgp_ids.specs.declared.incremental.Incremental.{Incremental}
 use Rattle.pgp_ids.specs.declared.pg_id.PgId.{PgId}
 use Rattle.pgp_ids.specs.declared.verdict.Verdict.{Verdict}
-use Rattle.pgp_ids.specs.declared.verdict.Verdict.TheVariants.{NoPrimary, Down, Waiting, Incomplete, Short, NeedLog, NeedUpThru, Serve}
+use Rattle.pgp_ids.specs.declared.verdict.Verdict.TheVariants.{Down, Waiting}
 use Rattle.pgp_lists.specs.Ordered.{ascending}
 use Rattle.pgp_map.specs.Map.{epoch}
 use Rattle.pgp_group.specs.Entries.{incs_of}
 use Rattle.pgp_group.specs.GroupLog.{GroupLog, group_in}
 use Rattle.pgp_group.specs.Heard.{has_member, heard}
 use Rattle.pgp_group.specs.Peering.{prior}
-use Rattle.pgp_group.specs.Verdict.{in_order, verdict}
+use Rattle.pgp_group.specs.Verdict.{in_order, place_of, verdict}
 use Rattle.pgp_reasons.specs.Smallest.{holds}
 use Rattle.pgp_explain.specs.Pools.{pool_facts}
 use Rattle.pgp_explain.specs.declared.summary.Summary.{Summary}
@@ -47,17 +47,6 @@ abbrev pub groups_in : List Entry → List GroupLog
 groups_in log = filter_map (group_in log) (all_groups (incs_of log))
 
 -- ---- their verdicts
-
--- the place of a verdict among all
-abbrev pub place_of : Verdict → ℕ
-place_of NoPrimary = 0
-place_of Down = 1
-place_of Waiting = 2
-place_of Incomplete = 3
-place_of Short = 4
-place_of NeedLog = 5
-place_of NeedUpThru = 6
-place_of Serve = 7
 
 -- this is the group's verdict
 abbrev pub has_verdict : Verdict → GroupLog → Bool

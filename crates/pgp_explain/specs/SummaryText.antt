@@ -5,6 +5,7 @@ use Rattle.serde_json.specs.Written.{compact_text}
 use Rattle.pgp_ids.specs.Names.{verdict_name}
 use Rattle.pgp_ids.specs.declared.verdict.Verdict.{Verdict}
 use Rattle.pgp_ids.specs.declared.verdict.Verdict.TheVariants.{NoPrimary, Down, Waiting, Incomplete, Short, NeedLog, NeedUpThru, Serve}
+use Rattle.pgp_group.specs.Verdict.{in_order}
 use Rattle.pgp_text.specs.Json.{Field, object_with, number_data, list_data}
 use Rattle.pgp_group_words.specs.Text.{Text, joined, line}
 use Rattle.pgp_group_words.specs.Names.{epoch_name, device_name, plural}
@@ -33,12 +34,9 @@ verdict_line tally verdict =
     if verdict_count tally verdict == 0 then []
     else line (codes "  " ∷ verdict_name verdict ∷ codes " " ∷ decimal (verdict_count tally verdict) ∷ [])
 
--- the verdicts, in the order in which they are told
-abbrev pub verdicts : List Verdict
-verdicts = NoPrimary ∷ Down ∷ Waiting ∷ Incomplete ∷ Short ∷ NeedLog ∷ NeedUpThru ∷ Serve ∷ []
-
+-- a line for each verdict, in the order in which their causes are looked at
 unfoldable pub tally_lines : Tally → Text
-tally_lines tally = flat_map (verdict_line tally) verdicts
+tally_lines tally = flat_map (verdict_line tally) in_order
 
 -- what a device does to this many groups
 abbrev pub count_part : Text → ℕ → Text

@@ -14,33 +14,23 @@ use std::alloc::{AllocError, Global};
 pub fn explanation_of(
     alloc: Global,
     log: &mut Log,
-    pg: PgId,
+    pg: &PgId,
 ) -> Result<Option<Explanation>, AllocError>
-    ensures some { IfOk result (λ found. IfSome found (IsExplainedBy log.old pg)) }
-    ensures none { IfOk result (λ found. IfNone found (scratch log.old pg ≡ None)) }
+    ensures some { IfOk result (λ found. IfSome found (IsExplainedBy log.old pg.now)) }
+    ensures none { IfOk result (λ found. IfNone found (scratch log.old pg.now ≡ None)) }
     ensures same { log.new ≡ log.old }
 {
-    let Some(view) = log.ask(copy_of(&pg))? else {
+    let Some(view) = log.ask(*pg)? else {
         return Ok(None);
     };
-    let reasons = reasons_of(alloc, log.map(), log.entries(), copy_of(&pg), &view)?;
+    let reasons = reasons_of(alloc, log.map(), log.entries(), *pg, &view)?;
     let pool = PoolFacts::of(log.map(), pg.pool);
     Ok(Some(Explanation {
-        pg,
+        pg: *pg,
         by_place: pool.by_place,
         size: pool.size,
         min_size: pool.min_size,
         view,
         reasons,
     }))
-}
-
-/// The same group.
-fn copy_of(pg: &PgId) -> PgId
-    ensures { result ≡ pg.now }
-{
-    PgId {
-        pool: pg.pool,
-        pg: pg.pg,
-    }
 }

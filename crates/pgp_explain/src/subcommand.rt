@@ -42,7 +42,7 @@ pub fn explain<R: Source, W: Sink, E: Write>(
     ensures read { result ≡ Err (ExplainFault.Script WholeFault.Read) → R.failed reader.new ≡ true }
     ensures large { result ≡ Err (ExplainFault.Script WholeFault.TooLarge) → GivesTooMuch script_bounds (R.remaining reader.old) (R.remaining reader.new) }
     ensures reads { result ≢ Err (ExplainFault.Script WholeFault.Read) → R.failed reader.new ≡ R.failed reader.old }
-    // A write failed, and what went out is a front of that text.
+    // A write failed, and what went out is a first part of that text.
     ensures write { result ≡ Err ExplainFault.Write → (W.failed writer.new ≡ true) × IsCutShort (question pg json epoch_offset)
         (R.remaining reader.old) (R.remaining reader.new) (W.contents writer.old) (W.contents writer.new) }
     // The map of that log doesn't have this group, which is the one that is asked about.
@@ -65,10 +65,7 @@ fn write_text<W: Sink>(writer: &mut W, text: &str) -> Result<(), ExplainFault>
     ensures err { IfErr result (λ fault. (fault ≡ ExplainFault.Write) × (W.failed writer.new ≡ true)
         × FrontWent (W.contents writer.old) (W.contents writer.new) text.now) }
 {
-    match pass_on(writer, text.as_bytes()) {
-        Ok(()) => Ok(()),
-        Err(_) => Err(ExplainFault::Write),
-    }
+    Ok(pass_on(writer, text.as_bytes())?)
 }
 
 /// What the log says of the group, or of all groups where none is asked for.
@@ -99,7 +96,7 @@ fn group_text(
     ensures ok { IfOk result (λ text. IsGroupText log.old pg json offset (string_bytes text)) }
     ensures err { IfErr result (λ fault. StopsText fault log.old (Some pg)) }
 {
-    let Some(explanation) = explanation_of(alloc, log, pg)? else {
+    let Some(explanation) = explanation_of(alloc, log, &pg)? else {
         return Err(ExplainFault::UnknownGroup(pg));
     };
     Ok(text_of_group(alloc, &explanation, json, offset)?)

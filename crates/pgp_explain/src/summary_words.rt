@@ -1,7 +1,7 @@
 //! A summary in words.
 
 ghost use Rattle.std.specs.Prelude.{◌≡◌, ◌++◌, flat_map, IfOk, OnOk, string_bytes};
-ghost use Rattle.pgp_explain.specs.SummaryText.{awaited_part, blocks_part, both_part, count_part, device_line, device_lines, summary_words, tally_lines, total_line, verdict_line, verdicts};
+ghost use Rattle.pgp_explain.specs.SummaryText.{awaited_part, blocks_part, both_part, count_part, device_line, device_lines, summary_words, tally_lines, total_line, verdict_line};
 
 use super::summary::Summary;
 use super::tally::Tally;

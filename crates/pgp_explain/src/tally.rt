@@ -2,8 +2,8 @@
 
 ghost use Rattle.std.specs.Prelude.{◌≡◌, ◌+◌, ◌<◌, [], ◌∷◌, ◌++◌, List};
 ghost use Rattle.pgp_group.specs.GroupLog.{GroupLog};
-ghost use Rattle.pgp_group.specs.Verdict.{verdict as verdict_of};
-ghost use Rattle.pgp_explain.specs.Summary.{group_total, place_of as place_among_all, tally_of, verdict_count};
+ghost use Rattle.pgp_group.specs.Verdict.{place_of as place_among_all, verdict as verdict_of};
+ghost use Rattle.pgp_explain.specs.Summary.{group_total, tally_of, verdict_count};
 
 use pgp_ids::Verdict;
 

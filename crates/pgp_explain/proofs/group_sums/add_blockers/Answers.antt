@@ -5,9 +5,9 @@ use Rattle.pgp_ids.specs.contracts.verdict.Verdict.{the_type}
 use Rattle.pgp_ids.specs.declared.verdict.Verdict.TheVariants.{Down}
 use Rattle.pgp_ids.specs.declared.view.View.{View}
 use Rattle.pgp_group.specs.Peering.{prior}
-use Rattle.pgp_group.specs.Verdict.{verdict}
+use Rattle.pgp_group.specs.Verdict.{place_of, verdict}
 use Rattle.pgp_reasons.proofs.AwaitedLemmas.{blocked_by-ascends}
-use Rattle.pgp_explain.specs.Summary.{blockers, counted, place_of}
+use Rattle.pgp_explain.specs.Summary.{blockers, counted}
 use Rattle.pgp_explain.proofs.SummaryCounts.{count-once}
 use Rattle.pgp_explain.proofs.group_sums.add_blockers.Goals as goal
 

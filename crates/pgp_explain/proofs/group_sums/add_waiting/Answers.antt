@@ -5,8 +5,7 @@ use Rattle.pgp_ids.specs.declared.verdict.Verdict.TheVariants.{Waiting}
 use Rattle.pgp_ids.specs.declared.pg_id.PgId.{PgId}
 use Rattle.pgp_ids.specs.declared.view.View.{View}
 use Rattle.pgp_map.specs.Pools.{is_same_group}
-use Rattle.pgp_group.specs.Verdict.{verdict}
-use Rattle.pgp_explain.specs.Summary.{place_of}
+use Rattle.pgp_group.specs.Verdict.{place_of, verdict}
 use Rattle.pgp_explain.specs.Sums.{waits_as}
 use Rattle.pgp_explain.proofs.SummaryCounts.{put-waiting}
 use Rattle.pgp_explain.proofs.group_sums.add_waiting.Goals as goal

@@ -15,9 +15,9 @@ some_of_map f (Some x) y is = (x, refl)
 pub returns-clause-some : goal.returns-clause-some
 returns-clause-some c =
     let told : map arc_value c.entries.result.now ≡ c.args.log.now = c.entries.ensures.entries ∙ c.ask.ensures.same in
-    let view : scratch c.args.log.now c.args.pg ≡ Some c.in-Some.view =
-    sym (sym c.in-Some.is ∙ c.in_ok-view.ensures.view ∙ ap (scratch c.args.log.now) c.copy_of.ensures) in
-    let found = some_of_map view_of (group_in c.args.log.now c.args.pg) c.in-Some.view view in
+    let view : scratch c.args.log.now c.args.pg.now ≡ Some c.in-Some.view =
+    sym (sym c.in-Some.is ∙ c.in_ok-view.ensures.view) in
+    let found = some_of_map view_of (group_in c.args.log.now c.args.pg.now) c.in-Some.view view in
     let facts = c.of-pool.ensures (incs_of c.args.log.now)
     (subst (λ (l : List Entry). IsMapOf (incs_of l) c.map-2.result.now) c.ask.ensures.same c.map-2.ensures) in
     record {
@@ -27,8 +27,8 @@ returns-clause-some c =
       there = found.1;
       reasons_are = c.in_ok-reasons.ensures found.0 (record {
         map_is = subst (λ (l : List Entry). IsMapOf (incs_of l) c.map.result.now) (c.ask.ensures.same ∙ sym told) c.map.ensures;
-        group_is = rw (told, c.copy_of-2.ensures) found.1;
-        view_is = rw (told, c.copy_of-2.ensures) view;
+        group_is = rw told found.1;
+        view_is = rw told view;
       });
       pool_is = record {
         places_are = ap (λ f. f.by_place) facts;

@@ -7,9 +7,10 @@ use Rattle.pgp_ids.specs.declared.member.Member.{Member}
 use Rattle.pgp_ids.specs.declared.verdict.Verdict.TheVariants.{Waiting}
 use Rattle.pgp_ids.specs.declared.view.View.{View}
 use Rattle.pgp_group.specs.Peering.{prior}
+use Rattle.pgp_group.specs.Verdict.{place_of}
 use Rattle.pgp_reasons.specs.Smallest.{holds}
 use Rattle.pgp_explain.specs.Hearing.{hearing_of, is_same_hearing}
-use Rattle.pgp_explain.specs.Summary.{counted, has_verdict, place_of, unheard}
+use Rattle.pgp_explain.specs.Summary.{counted, has_verdict, unheard}
 use Rattle.pgp_explain.proofs.SummaryCounts.{count-once}
 use Rattle.pgp_explain.proofs.SummaryUnheard.{unheard-holds}
 use Rattle.pgp_explain.proofs.unheard.add_unheard.Goals as goal

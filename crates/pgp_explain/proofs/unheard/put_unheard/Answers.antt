@@ -4,7 +4,8 @@ use Rattle.std.specs.List.{list_any}
 use Rattle.std.proofs.lemmas.Result.{on_ok_weaker}
 use Rattle.pgp_lists.specs.Ordered.{IsAscending}
 use Rattle.pgp_explain.specs.Hearing.{hearing_of, is_same_hearing}
-use Rattle.pgp_explain.proofs.SummaryUnheard.{ascends-more, below, holds-more, or-flip}
+use Rattle.pgp_group.proofs.NamedLemmas.{before, with_item-ascends, with_item-has}
+use Rattle.pgp_explain.proofs.SummaryUnheard.{or-flip}
 use Rattle.pgp_explain.proofs.unheard.put_unheard.Goals as goal
 
 pub returns : goal.returns
@@ -14,8 +15,8 @@ returns c =
     let none : bag.contains is_same_hearing c.args.heard.now (hearing_of c.args.pg.now c.args.member.now) ≡ false =
     ap (bag.contains is_same_hearing c.args.heard.now) (sym c.new.ensures) ∙ sym c.contains.ensures ∙ c.if-contains.false in
     record {
-      ascends = on_ok_weaker c.insert_in_order.result (λ is. subst (IsAscending below) (sym is) (ascends-more new osds c.requires)) c.insert_in_order.ensures.ok;
+      ascends = on_ok_weaker c.insert_in_order.result (λ is. subst (IsAscending before) (sym is) (with_item-ascends new osds c.requires)) c.insert_in_order.ensures.ok;
       holds = on_ok_weaker c.insert_in_order.result
-          (λ is osd. ap (list_any (nat_eq osd)) is ∙ holds-more osd new osds ∙ or-flip (nat_eq osd new) (list_any (nat_eq osd) osds) _ none)
+          (λ is osd. ap (list_any (nat_eq osd)) is ∙ with_item-has osd new osds ∙ or-flip (nat_eq osd new) (list_any (nat_eq osd) osds) _ none)
           c.insert_in_order.ensures.ok;
     }
