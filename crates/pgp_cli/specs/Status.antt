@@ -44,7 +44,7 @@ pub record ExplainIsDone (options : ExplainOptions) (before after : Account) : T
   pub explained : IsExplained (question_of options) before.remaining after.remaining before.contents after.contents
   pub quiet : NoCallFailed before after
 
--- The same, where a write failed: a front of that went out.
+-- The same, where a write failed: a first part of that went out.
 abbrev pub ExplainIsCutShort : ExplainOptions → (from to start now : Option (List ℕ)) → Type 0
 ExplainIsCutShort options from to start now = IsCutShort (question_of options) from to start now
 

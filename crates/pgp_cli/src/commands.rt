@@ -66,7 +66,8 @@ before it. The lines whose entries an answer can still need, now or after
 whatever lines follow, are written as they are: all incrementals, and the reports
 that nothing later makes needless. Questions, blank lines and refused lines are
 left out. Standard error says how many entries were left out. A run of what is
-written, and of any lines behind it, gives the same answers except for count.
+written, and of any lines behind it, gives the same answers, with two exceptions:
+each count is less, and a log that was full may have room.
 
 Example:
   pgpeer compact < script.jsonl > shorter.jsonl
@@ -119,9 +120,7 @@ fn bare<'a>(alloc: Global) -> Command<'a>
 {
     Command::new(alloc, "pgpeer")
         .version("0.1.0")
-        .about(
-            "Placement-group peering: JSON lines in, one answer line for each, or why a group doesn't serve",
-        )
+        .about("Says where objects lie and whether placement groups may serve, from lines of JSON")
         .after_help(HELP)
         .subcommand_required(true)
 }

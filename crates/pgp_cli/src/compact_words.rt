@@ -20,7 +20,7 @@ pub fn compaction(alloc: Global, words: &[String]) -> Result<(), Error>
     ensures asked { OnOk result (is_compact_asked (map string_bytes words.now) ≡ true) }
 {
     let matches = parse(alloc, words)?;
-    if asked(&matches) {
+    if is_compaction(&matches) {
         Ok(())
     } else {
         Err(compact_error(alloc, ErrorKind::ValueValidation, NO_COMPACTION)?)
@@ -28,7 +28,7 @@ pub fn compaction(alloc: Global, words: &[String]) -> Result<(), Error>
 }
 
 /// Whether the words ask for that.
-fn asked(matches: &ArgMatches) -> bool
+fn is_compaction(matches: &ArgMatches) -> bool
     ensures { result ≡ is_some (rows_named (codes "compact") matches.now) }
 {
     named(matches, "compact").is_some()

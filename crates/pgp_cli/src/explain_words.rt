@@ -33,14 +33,14 @@ pub fn explanation(alloc: Global, words: &[String]) -> Result<ExplainOptions, Er
     ensures asked { IfOk result (λ options. explanation_asked (map string_bytes words.now) ≡ Some options) }
 {
     let matches = parse(alloc, words)?;
-    match asked(&matches) {
+    match explain_options_in(&matches) {
         Some(options) => Ok(options),
         None => Err(explain_error(alloc, ErrorKind::ValueValidation, why(&matches))?),
     }
 }
 
 /// What the words ask to be explained, if `explain` is asked for and the words after it are right.
-fn asked(matches: &ArgMatches) -> Option<ExplainOptions>
+fn explain_options_in(matches: &ArgMatches) -> Option<ExplainOptions>
     ensures { result ≡ option_and_then explanation_in (rows_named (codes "explain") matches.now) }
 {
     let explain = named(matches, "explain")?;

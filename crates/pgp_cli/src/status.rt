@@ -66,7 +66,7 @@ pub fn status_of<R: Source, W: Sink, E: Write, T: Threads + Wait + Sync>(
     ensures memory { result ≡ Ending.NoMemory → (reader.new ≡ reader.old) × (writer.new ≡ writer.old) }
     // The script was answered as far as it was read whole, or as far as it could be written or had an engine to answer it; or
     // there was no engine, and nothing was read; or help could not be shown; or an explanation or a compaction was asked for, and
-    // none of it was written, or a front of it, where a write failed.
+    // none of it was written, or a first part of it, where a write failed.
     ensures fault { result ≡ Ending.Fault
         → ((counts : Counts) × (AsksForRun (map string_bytes words.now) counts × RunIsStopped counts
         (account (R.remaining reader.old) (W.contents writer.old) (R.failed reader.old) (W.failed writer.old))

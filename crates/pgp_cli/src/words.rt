@@ -27,14 +27,14 @@ pub fn options(alloc: Global, words: &[String]) -> Result<RunOptions, Error>
     ensures asked { IfOk result (λ options. counts_asked (map string_bytes words.now) ≡ Some (counts_of options)) }
 {
     let matches = parse(alloc, words)?;
-    match asked(&matches) {
+    match run_options_in(&matches) {
         Some(options) => Ok(options),
         None => Err(run_error(alloc, ErrorKind::ValueValidation, WRONG_COUNT)?),
     }
 }
 
 /// What the words ask to be run, if `run` is asked for and its options are right.
-fn asked(matches: &ArgMatches) -> Option<RunOptions>
+fn run_options_in(matches: &ArgMatches) -> Option<RunOptions>
     ensures { option_map counts_of result ≡ option_and_then counts_in (rows_named (codes "run") matches.now) }
 {
     let run = named(matches, "run")?;

@@ -21,7 +21,7 @@ pub record IsCompacted (counts : Compaction) (from to start now : Option (List �
   pub went : Appends start now (compacted_text script)
   pub counted : HasCounts script counts
 
--- A write failed, after the script was read whole: a front of the lines that remain went out.
+-- A write failed, after the script was read whole: a first part of the lines that remain went out.
 pub record IsCutShort (from to start now : Option (List ℕ)) (write_failed : Bool) : Type 0 where
   pub script : List ℕ
   pub whole : IsWholeScript script_bounds script from to

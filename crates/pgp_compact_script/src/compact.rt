@@ -28,7 +28,7 @@ pub struct Compaction {
 /// their order, each with a line feed.
 ///
 /// Nothing is written before the script is read to its end. At a fault nothing is written either, except at
-/// [`CompactFault::Write`]: then a front of the lines went out. Questions, blank lines and lines that are refused don't remain.
+/// [`CompactFault::Write`]: then a first part of the lines went out. Questions, blank lines and lines that are refused don't remain.
 /// Where there is no memory for a line, no line is written, since its entry would be lost.
 pub fn compact_script<R: Source, W: Sink>(
     alloc: Global,

@@ -6,9 +6,10 @@ ghost use Rattle.pgp_core.specs.Added.{log_of_lines};
 ghost use Rattle.pgp_core.specs.Lines.{lines_of};
 ghost use Rattle.pgp_compact_script.specs.Remaining.{compacted_text, remaining_lines};
 
-/// Each line that remains adds its entry, and together they make the compacted log of the script: so a run of what is written
-/// gives every answer that a run of the script gives, except for count, whatever lines follow
-/// (`pgp_compact::laws::every_answer_is_the_same`).
+/// Each line that remains adds its entry, and together they make the compacted log of the script. So a run of what is written
+/// says of each group what a run of the script says, except for count, whatever lines follow
+/// (`pgp_compact::laws::every_answer_is_the_same`). It takes the same entries, except that it may have room where the log of the
+/// script is full (`what_follows_is_taken_alike`).
 pub fn what_remains_makes_the_compacted_log()
     ensures lines { (script : List ℕ) → lines_of (compacted_text script) ≡ remaining_lines script }
     ensures log { (script : List ℕ) → log_of_lines (lines_of (compacted_text script)) ≡ compacted (log_of_lines (lines_of script)) }

@@ -7,8 +7,8 @@ pub returns-in_err-matches-clause-fails : goal.returns-in_err-matches-clause-fai
 returns-in_err-matches-clause-fails c =
     compact_fault _ c.in_err-matches.field-0.0 (map string_bytes c.args.words.now) (search rules) c.in_err-matches.ensures.fails
 
-pub returns-then-asked-clause-fails : goal.returns-then-asked-clause-fails
-returns-then-asked-clause-fails c =
+pub returns-then-is_compaction-clause-fails : goal.returns-then-is_compaction-clause-fails
+returns-then-is_compaction-clause-fails c =
     let words = map string_bytes c.args.words.now in
     let asked : is_compact_asked words ≡ true = search rules in
     all_compacted words c.in_ok-matches.ensures.fails asked
