@@ -15,7 +15,7 @@ pub trait AsC<C> {
         ensures { result ≡ as_c self.now };
 }
 
-/// Puts the values, as C reads them, at the front of `room` if they fit, and their number into `count`.
+/// Puts the values, as C reads them, at the start of `room` if they fit, and their number into `count`.
 pub fn put_each<T: AsC<C>, C: Copy>(values: &[T], room: &mut [C], count: &mut usize) -> Status
     ensures room { room.new ≡ put_in (map T.as_c values.now) room.old }
     ensures count { count.new ≡ length values.now }

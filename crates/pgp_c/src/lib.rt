@@ -73,7 +73,7 @@ pub extern "C" fn pgp_close(alloc: Global, session: &mut PgpSession) -> u32
     }
 }
 
-/// Answers a line, which is given without its line feed. The answer is put at the front of `room` if it fits, and its length into
+/// Answers a line, which is given without its line feed. The answer is put at the start of `room` if it fits, and its length into
 /// `length`. The answer to a blank line has no bytes.
 #[unsafe(no_mangle)]
 pub extern "C" fn pgp_line(

@@ -5,7 +5,7 @@ ghost use Rattle.pgp_c.specs.Exports.{put_in, put_status};
 
 use super::status::Status;
 
-/// Puts a text at the front of `room` if it fits, and its length into `len`.
+/// Puts a text at the start of `room` if it fits, and its length into `len`.
 pub fn put_out(text: &[u8], room: &mut [u8], len: &mut usize) -> Status
     ensures room { room.new ≡ put_in text.now room.old }
     ensures len { len.new ≡ length text.now }
