@@ -1,57 +1,63 @@
-//! Readers and writers that give and take little at a time, and that fail when asked to.
+//! Streams that pass on little at a time, and that fail when asked to.
 
-use pgp_core::{Sink, Source};
+use pgp_cli::WatchedStream;
 use std::alloc::Global;
 use std::io;
-use std::io::ErrorKind;
+use std::io::{ErrorKind, Read, Write};
 
 /// No call fails.
 pub const NEVER: usize = usize::MAX;
 
-/// Gives some bytes at a time, and fails at one call.
+/// A stream that passes on some bytes at a time, and fails at one call and each later one.
 #[derive(Drop)]
-pub struct Giver<'a> {
-    left: &'a [u8],
+pub struct FailingStream<S: Drop> {
+    stream: S,
     step: usize,
     calls_left: usize,
-    failed: bool,
 }
 
-impl<'a> Giver<'a> {
-    /// A reader of these bytes that gives `step` of them at a time, at least one, and fails at its call `fails_at`, counted
-    /// from 0.
-    pub fn new(bytes: &'a [u8], step: usize, fails_at: usize) -> Self {
-        Giver {
-            left: bytes,
+impl<S: Drop> FailingStream<S> {
+    /// A stream that passes on `step` bytes at a time, and fails at its call `fails_at`, counted from 0.
+    pub fn new(stream: S, step: usize, fails_at: usize) -> Self {
+        FailingStream {
+            stream,
             step,
             calls_left: fails_at,
-            failed: false,
         }
     }
-}
 
-impl Source for Giver<'_> {
-    ghost use Rattle.std.specs.Prelude.{Some};
+    pub fn into_inner(self) -> S {
+        self.stream
+    }
 
-    ghost remaining = { λ giver. Some giver.left.now };
-
-    ghost failed = { λ giver. giver.failed };
-
-    fn read(&mut self, buf: &mut [u8]) -> io::Result<usize> {
+    /// Counts a call, which fails where it is its turn.
+    fn call(&mut self) -> io::Result<()> {
         if self.calls_left == 0 {
-            self.failed = true;
             return Err(io::Error::from(ErrorKind::Other));
         }
         self.calls_left -= 1;
-        let count = self.step.max(1).min(buf.len()).min(self.left.len());
-        let (given, left) = self.left.split_at(count);
-        buf[..count].copy_from_slice(given);
-        self.left = left;
-        Ok(count)
+        Ok(())
+    }
+}
+
+impl<R: Read + Drop> Read for FailingStream<R> {
+    fn read(&mut self, buf: &mut [u8]) -> io::Result<usize> {
+        self.call()?;
+        let count = buf.len().min(self.step);
+        self.stream.read(&mut buf[..count])
+    }
+}
+
+impl<W: Write + Drop> Write for FailingStream<W> {
+    fn write(&mut self, buf: &[u8]) -> io::Result<usize> {
+        self.call()?;
+        let count = buf.len().min(self.step);
+        self.stream.write(&buf[..count])
     }
 
-    fn has_failed(&self) -> bool {
-        self.failed
+    fn flush(&mut self) -> io::Result<()> {
+        self.call()?;
+        self.stream.flush()
     }
 }
 
@@ -59,76 +65,24 @@ impl Source for Giver<'_> {
 #[derive(Drop)]
 pub struct Endless(pub u8);
 
-impl Source for Endless {
-    ghost use Rattle.std.specs.Prelude.{None, false};
-
-    ghost remaining = { λ _. None };
-
-    ghost failed = { λ _. false };
-
+impl Read for Endless {
     fn read(&mut self, buf: &mut [u8]) -> io::Result<usize> {
         buf.fill(self.0);
         Ok(buf.len())
     }
-
-    fn has_failed(&self) -> bool {
-        false
-    }
 }
 
-/// Takes some bytes at a time, and fails at one call.
-#[derive(Drop)]
-pub struct Taker {
-    pub taken: Vec<u8>,
-    step: usize,
-    calls_left: usize,
-    failed: bool,
+/// A reader of these bytes that gives `step` of them at a time, and fails at its call `fails_at`, counted from 0.
+pub fn giver(bytes: &[u8], step: usize, fails_at: usize) -> WatchedStream<FailingStream<&[u8]>> {
+    WatchedStream::new(FailingStream::new(bytes, step, fails_at))
 }
 
-impl Taker {
-    /// A writer that takes `step` bytes at a time and fails at its call `fails_at`, counted from 0.
-    pub fn new(alloc: Global, step: usize, fails_at: usize) -> Self {
-        Taker {
-            taken: Vec::new(alloc),
-            step,
-            calls_left: fails_at,
-            failed: false,
-        }
-    }
+/// A writer that takes `step` bytes at a time, and fails at its call `fails_at`, counted from 0.
+pub fn taker(alloc: Global, step: usize, fails_at: usize) -> WatchedStream<FailingStream<Vec<u8>>> {
+    WatchedStream::new(FailingStream::new(Vec::new(alloc), step, fails_at))
 }
 
-impl Sink for Taker {
-    ghost use Rattle.std.specs.Prelude.{Some};
-
-    ghost contents = { λ taker. Some taker.taken.items };
-
-    ghost failed = { λ taker. taker.failed };
-
-    fn write(&mut self, buf: &[u8]) -> io::Result<usize> {
-        if self.calls_left == 0 {
-            self.failed = true;
-            return Err(io::Error::from(ErrorKind::Other));
-        }
-        self.calls_left -= 1;
-        let count = self.step.min(buf.len());
-        match self.taken.extend_from_slice(&buf[..count]) {
-            Ok(()) => {
-                self.failed = self.failed || count == 0;
-                Ok(count)
-            }
-            Err(_) => {
-                self.failed = true;
-                Err(io::Error::from(ErrorKind::OutOfMemory))
-            }
-        }
-    }
-
-    fn flush(&mut self) -> io::Result<()> {
-        if self.calls_left == 0 {
-            self.failed = true;
-            return Err(io::Error::from(ErrorKind::Other));
-        }
-        self.calls_left -= 1;
-        Ok(())
-    }
+/// What the writer took.
+pub fn taken_by(writer: WatchedStream<FailingStream<Vec<u8>>>) -> Vec<u8> {
+    writer.into_inner().into_inner()
 }

@@ -1,9 +1,9 @@
 //! What the program does beyond answering a script: its status, and what it says of faults.
 
+use crate::fakes::FailingStream;
 use pgp_cli::{DONE, FAULT, WatchedStream, status_of};
 use std::alloc::Global;
-use std::io;
-use std::io::{ErrorKind, Read, Write};
+use std::io::{Read, Write};
 use std::process::Abort;
 use std::sync::Wait;
 use std::test::Fail;
@@ -76,44 +76,6 @@ pub fn end_so<T: Threads + Wait + Sync + Abort + AllocGlobal>(
     Ok(())
 }
 
-/// A stream that passes on some bytes at a time, and fails at one call and each later one.
-#[derive(Drop)]
-struct FailingStream<S: Drop> {
-    stream: S,
-    calls_left: usize,
-}
-
-impl<S: Drop> FailingStream<S> {
-    /// Counts a call, which fails where it is its turn.
-    fn call(&mut self) -> io::Result<()> {
-        if self.calls_left == 0 {
-            return Err(io::Error::from(ErrorKind::Other));
-        }
-        self.calls_left -= 1;
-        Ok(())
-    }
-}
-
-impl<R: Read + Drop> Read for FailingStream<R> {
-    fn read(&mut self, buf: &mut [u8]) -> io::Result<usize> {
-        self.call()?;
-        let count = buf.len().min(10);
-        self.stream.read(&mut buf[..count])
-    }
-}
-
-impl<W: Write + Drop> Write for FailingStream<W> {
-    fn write(&mut self, buf: &[u8]) -> io::Result<usize> {
-        self.call()?;
-        self.stream.write(&buf[..buf.len().min(10)])
-    }
-
-    fn flush(&mut self) -> io::Result<()> {
-        self.call()?;
-        self.stream.flush()
-    }
-}
-
 /// What a run with these words, reader and writer ends with: its status, the writer and its errors.
 fn run_with<R: Read + Drop, W: Write + Drop, T: Threads + Wait + Sync>(
     rt: &T,
@@ -140,37 +102,14 @@ fn run_with<R: Read + Drop, W: Write + Drop, T: Threads + Wait + Sync>(
     Ok((ending.status(), out.into_inner(), errors))
 }
 
+/// How many bytes a call passes on at most.
+const PIECE: usize = 10;
+
 /// Two lines and a rest, and their answers.
 const LINES: &[u8] = b"{\"op\":\"act\"}\n[]\n{\"op\":\"close\"}";
 
 const ANSWERS: &[u8] =
     b"{\"code\":32,\"refused\":\"NoOp\"}\n{\"code\":32,\"refused\":\"NoOp\"}\n{\"count\":1,\"epoch\":0,\"ok\":\"close\"}\n";
-
-static WORKERS: [Row; 3] = [
-    Row(
-        &["pgpeer", "run", "--shards", "1", "--workers", "1"],
-        DONE,
-        Text::Is(ANSWERS),
-        Text::Is(b""),
-    ),
-    Row(
-        &["pgpeer", "run", "--shards", "3", "--workers", "2"],
-        DONE,
-        Text::Is(ANSWERS),
-        Text::Is(b""),
-    ),
-    Row(
-        &["pgpeer", "run", "--shards", "64", "--workers", "64"],
-        DONE,
-        Text::Is(ANSWERS),
-        Text::Is(b""),
-    ),
-];
-
-#[test]
-fn workers_change_no_answer(rt: HostRuntime) -> Result<(), Fail> {
-    end_so(&rt, LINES, &WORKERS)
-}
 
 /// The status that a failed call leaves, with what is told of it, and the status where none failed.
 fn is_told(status: u8, errors: &[u8], fault: &[u8]) -> bool {
@@ -188,10 +127,7 @@ fn reads_so<T: Threads + Wait + Sync>(
     words: &[&str],
     calls_left: usize,
 ) -> Result<bool, Fail> {
-    let reader = FailingStream {
-        stream: LINES,
-        calls_left,
-    };
+    let reader = FailingStream::new(LINES, PIECE, calls_left);
     let (status, out, errors) = run_with(rt, alloc, words, reader, Vec::new(alloc))?;
     let out = out.as_slice();
     Ok(
@@ -209,12 +145,10 @@ fn writes_so<T: Threads + Wait + Sync>(
     words: &[&str],
     calls_left: usize,
 ) -> Result<Option<bool>, Fail> {
-    let writer = FailingStream {
-        stream: Vec::new(alloc),
-        calls_left,
-    };
+    let writer = FailingStream::new(Vec::new(alloc), PIECE, calls_left);
     let (status, writer, errors) = run_with(rt, alloc, words, LINES, writer)?;
-    let out = writer.stream.as_slice();
+    let out = writer.into_inner();
+    let out = out.as_slice();
     let is_right = is_told(status, errors.as_slice(), b"pgpeer: write fault\n")
         && ANSWERS.starts_with(out)
         && (status == FAULT || out == ANSWERS);

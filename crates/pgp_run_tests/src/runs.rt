@@ -1,15 +1,12 @@
 //! Runs of one script, on one thread and over an engine.
 ghost use Rattle.std.specs.Prelude.{◌≤◌};
 
-use crate::fakes::{Giver, Taker};
+use crate::fakes::{NEVER, giver, taken_by, taker};
 use pgp_cli::run_engine;
 use pgp_core::{ScriptFault, run_script};
 use std::alloc::Global;
 use std::sync::Wait;
 use std::thread::Threads;
-
-/// More calls than a run makes.
-const ALL: usize = 1_000_000;
 
 /// How many bytes a call passes on at most.
 const PIECE: usize = 100;
@@ -27,8 +24,8 @@ impl<'a> Trial<'a> {
     pub fn whole(script: &'a [u8]) -> Self {
         Trial {
             script,
-            good_reads: ALL,
-            good_writes: ALL,
+            good_reads: NEVER,
+            good_writes: NEVER,
         }
     }
 }
@@ -65,12 +62,12 @@ pub struct RunEnd {
 
 /// Answers the script on this thread alone.
 pub fn alone(alloc: Global, trial: &Trial) -> RunEnd {
-    let mut reader = Giver::new(trial.script, PIECE, trial.good_reads);
-    let mut writer = Taker::new(alloc, PIECE, trial.good_writes);
+    let mut reader = giver(trial.script, PIECE, trial.good_reads);
+    let mut writer = taker(alloc, PIECE, trial.good_writes);
     let ended = run_script(alloc, &mut reader, &mut writer);
     RunEnd {
         fault: ended.err(),
-        bytes: writer.taken,
+        bytes: taken_by(writer),
     }
 }
 
@@ -84,8 +81,8 @@ pub fn over_engine<R: Threads + Wait + Sync>(
     requires shards { (1 ≤ size.now.shards) × (size.now.shards ≤ 64) }
     requires workers { (1 ≤ size.now.workers) × (size.now.workers ≤ 64) }
 {
-    let mut reader = Giver::new(trial.script, PIECE, trial.good_reads);
-    let mut writer = Taker::new(alloc, PIECE, trial.good_writes);
+    let mut reader = giver(trial.script, PIECE, trial.good_reads);
+    let mut writer = taker(alloc, PIECE, trial.good_writes);
     let ended = run_engine(
         rt,
         alloc,
@@ -96,6 +93,6 @@ pub fn over_engine<R: Threads + Wait + Sync>(
     );
     RunEnd {
         fault: ended.err(),
-        bytes: writer.taken,
+        bytes: taken_by(writer),
     }
 }

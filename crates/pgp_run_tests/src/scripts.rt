@@ -5,18 +5,17 @@ mod gone;
 mod limits;
 mod streams;
 
-use crate::fakes::{NEVER, Taker};
-use pgp_core::{ScriptFault, Source, run_script_within};
+use crate::fakes::{NEVER, taken_by, taker};
+use crate::runs::RunEnd;
+use pgp_core::{Source, run_script_within};
 use std::alloc::Global;
 
-/// The fault that ended a run within these bounds, and what was written of it to a writer that takes everything.
-fn run<R: Source + Drop>(
-    alloc: Global,
-    mut reader: R,
-    max_lines: u64,
-    max_bytes: u64,
-) -> (Option<ScriptFault>, Vec<u8>) {
-    let mut writer = Taker::new(alloc, usize::MAX, NEVER);
+/// How a run within these bounds ended, and what it wrote to a writer that takes everything.
+fn run<R: Source + Drop>(alloc: Global, mut reader: R, max_lines: u64, max_bytes: u64) -> RunEnd {
+    let mut writer = taker(alloc, usize::MAX, NEVER);
     let ended = run_script_within(alloc, &mut reader, &mut writer, max_lines, max_bytes);
-    (ended.err(), writer.taken)
+    RunEnd {
+        fault: ended.err(),
+        bytes: taken_by(writer),
+    }
 }

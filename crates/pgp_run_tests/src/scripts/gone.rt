@@ -1,6 +1,7 @@
 //! A script whose answerer goes away.
 
-use crate::fakes::{Giver, NEVER, Taker};
+use crate::fakes::{NEVER, giver, taken_by, taker};
+use crate::runs::RunEnd;
 use pgp_core::{Answerer, Bounds, NoReply, ScriptFault, answer_script};
 use pgp_ids::LocateRefusal;
 use pgp_text::{Command, LineRefusal, Reply};
@@ -36,27 +37,30 @@ static SCRIPTS: [&[u8]; 2] = [
 const ANSWERS: &[u8] =
     b"{\"code\":42,\"refused\":\"UnknownPool\"}\n{\"code\":31,\"refused\":\"NotJson\"}\n";
 
-/// The fault that ended the script, and its answers, where the call `fails_at` of the writer fails.
-fn given(alloc: Global, script: &[u8], fails_at: usize) -> (Option<ScriptFault>, Vec<u8>) {
+/// How the script ended, and its answers, where the call `fails_at` of the writer fails.
+fn given(alloc: Global, script: &[u8], fails_at: usize) -> RunEnd {
     let bounds = Bounds {
         lines: 100,
         bytes: 1000,
     };
-    let mut writer = Taker::new(alloc, 10, fails_at);
-    let mut reader = Giver::new(script, 1000, NEVER);
+    let mut writer = taker(alloc, 10, fails_at);
+    let mut reader = giver(script, 1000, NEVER);
     let ended = answer_script(alloc, &mut Leaver, &mut reader, &mut writer, bounds);
-    (ended.err(), writer.taken)
+    RunEnd {
+        fault: ended.err(),
+        bytes: taken_by(writer),
+    }
 }
 
 #[test]
 fn lines_before_the_answerer_leaves_are_answered(rt: HostRuntime) {
     for script in &SCRIPTS {
-        let (fault, out) = given(rt.alloc(), script, NEVER);
-        assert!(rt; fault == Some(ScriptFault::Gone) && out.as_slice() == ANSWERS);
+        let end = given(rt.alloc(), script, NEVER);
+        assert!(rt; end.fault == Some(ScriptFault::Gone) && end.bytes.as_slice() == ANSWERS);
         for fails_at in 0..7 {
-            let (fault, out) = given(rt.alloc(), script, fails_at);
-            assert!(rt; fault == Some(ScriptFault::Write), "call {fails_at}");
-            assert!(rt; ANSWERS.starts_with(out.as_slice()));
+            let end = given(rt.alloc(), script, fails_at);
+            assert!(rt; end.fault == Some(ScriptFault::Write), "call {fails_at}");
+            assert!(rt; ANSWERS.starts_with(end.bytes.as_slice()));
         }
     }
 }

@@ -1,7 +1,8 @@
 //! Scripts and lines as long as they may be, and longer.
 
 use super::run;
-use crate::fakes::{Endless, Giver, NEVER};
+use crate::fakes::{Endless, NEVER, giver};
+use pgp_cli::WatchedStream;
 use pgp_core::ScriptFault;
 use std::alloc::{AllocError, Global};
 use std::test::Fail;
@@ -23,12 +24,16 @@ static BOUNDS: [(&[u8], u64, u64, Option<ScriptFault>, &[u8]); 7] = [
 #[test]
 fn a_script_is_read_within_its_bounds(rt: HostRuntime) {
     for (row, (script, lines, bytes, fault, expected)) in BOUNDS.iter().enumerate() {
-        let (found, out) = run(rt.alloc(), Giver::new(script, 1, NEVER), *lines, *bytes);
-        assert!(rt; found == *fault && out.as_slice() == *expected, "row {row}");
+        let end = run(rt.alloc(), giver(script, 1, NEVER), *lines, *bytes);
+        assert!(rt;
+            end.fault == *fault && end.bytes.as_slice() == *expected,
+            "row {row}"
+        );
     }
     for byte in [b'x', b'\n'] {
-        let (fault, out) = run(rt.alloc(), Endless(byte), 100, 1000);
-        assert!(rt; fault == Some(ScriptFault::Read) && out.is_empty());
+        let reader = WatchedStream::new(Endless(byte));
+        let end = run(rt.alloc(), reader, 100, 1000);
+        assert!(rt; end.fault == Some(ScriptFault::Read) && end.bytes.is_empty());
     }
 }
 
@@ -58,10 +63,10 @@ static LONG_LINES: [(u8, usize, &[u8]); 3] = [
 fn long_lines_are_passed_over(rt: HostRuntime) -> Result<(), Fail> {
     for (byte, count, expected) in &LONG_LINES {
         let script = long_line(rt.alloc(), *byte, *count)?;
-        let reader = Giver::new(script.as_slice(), usize::MAX, NEVER);
-        let (fault, out) = run(rt.alloc(), reader, 100, 10_000_000);
+        let reader = giver(script.as_slice(), usize::MAX, NEVER);
+        let end = run(rt.alloc(), reader, 100, 10_000_000);
         assert!(rt;
-            fault.is_none() && out.as_slice() == *expected,
+            end.fault.is_none() && end.bytes.as_slice() == *expected,
             "{count} bytes"
         );
     }
