@@ -14,7 +14,7 @@ from ceph_map import IN, MOST_DEVICES, Device, Group, Places, Pool
 MOST_EPOCHS = 60_000  # of a script, whose log has room for 65,535 entries
 
 Line = Dict[str, Any]
-GAP = "epochs without a map, made to measure from the next one (ceph osd dump EPOCH --format json)"
+GAP = "epochs without a map, filled in from the next one (ceph osd dump EPOCH --format json)"
 
 
 class Snapshot(NamedTuple):
@@ -165,7 +165,7 @@ def state_before(device: Device, epoch: int) -> Device:
 
 
 def earlier(snapshot: Snapshot, epoch: int) -> Snapshot:
-    """The map of an earlier epoch, made to measure: pools, weights and tree as they are later."""
+    """The map of an earlier epoch, filled in: pools, weights and tree as they are later."""
     devices = {osd: state_before(device, epoch) for osd, device in snapshot.devices.items()}
     return snapshot._replace(epoch=epoch, devices=devices)
 

@@ -118,7 +118,7 @@ def functions_of(lines):
 
 
 def by_turns(parts):
-    """What the first edit of a crate took, with the check from nothing, and what the others did, the cheapest and the dearest.
+    """What the check from nothing took with which a crate's edits begin, and what the edits did, the cheapest and the dearest.
 
     After the edits the crate is checked without any, which is no edit's.
     """

@@ -83,7 +83,7 @@ class Outage(Case):
         lines, err = self.history("--ask", OUTAGE)
         kept = (ROOT / "examples/ceph_outage.jsonl").read_text().splitlines()
         self.assertEqual(lines, [json.loads(line) for line in kept])
-        self.assertIn("epochs without a map, made to measure from the next one (ceph osd dump EPOCH --format json): 18, 20, 22-25", err)
+        self.assertIn("epochs without a map, filled in from the next one (ceph osd dump EPOCH --format json): 18, 20, 22-25", err)
         self.assertIn("Ceph's are those of the script and 15 more", err)
 
     def test_devices_boot_and_go_down_in_the_epochs_that_the_next_map_tells(self):
