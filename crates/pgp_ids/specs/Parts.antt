@@ -32,7 +32,8 @@ abbrev pub are_apart : List Part → Bool
 are_apart [] = true
 are_apart (part ∷ parts) = list_all (is_apart part) parts && are_apart parts
 
--- a pool of this size can have these parts: there is one, it can have each, and no slot is in two
+-- a pool of this size can have these parts: there is one, it can have each, and no slot is in two. A slot may be in none: its
+-- member counts towards min_size and holds its place, and is never needed.
 abbrev pub are_parts : ℕ → List (Option Part) → Bool
 are_parts size groups =
     list_any is_some groups && list_all (is_part size) (parts_of groups) && are_apart (parts_of groups)

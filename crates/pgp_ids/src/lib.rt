@@ -3,8 +3,8 @@
 //! Beside them stands why a line, a question or an entry is refused.
 //!
 //! This crate decides only which parts a grouped pool can have. It fixes the names and ranges, and what a contract sees of
-//! each type: an id is its number, a list is a list, a set of slots is the ascending list of its slots. A refusal has its
-//! number and its name in answers.
+//! each type: an id is its number, a list is a list, a set of slots is the ascending list of its slots, a place of a list of
+//! devices is an `Option` of its device. A refusal has its number and its name in answers.
 #![tactic(auto)]
 
 mod ask_refusal;

@@ -11,7 +11,7 @@ pub struct Part {
     pub slots: SlotSet,
     /// In a part that a map takes it is 1 to the number of the slots.
     pub least: u8,
-    /// Whether a slot came twice in the list that the part was made from.
+    /// Whether a slot came twice in the list that the part was made from: a map refuses that, and a set can't say it.
     pub twice: bool,
 }
 

@@ -8,8 +8,8 @@ use std::marker::Model;
 /// How many parts a grouped code has at most.
 pub const MAX_PARTS: usize = 16;
 
-/// The parts of a grouped code, each in one of 16 places. A place that holds no part is `None`. Contracts see the list of
-/// the places.
+/// The parts of a grouped code, each in one of 16 places, so that the kind of a pool is copied without memory. A place that
+/// holds no part is `None`. Contracts see the list of the places.
 #[derive(Clone, Copy, Debug)]
 pub struct Parts {
     places: [Option<Part>; MAX_PARTS],

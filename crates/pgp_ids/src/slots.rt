@@ -6,7 +6,8 @@ use std::marker::Model;
 /// Slots are numbered from 0 to one below this.
 pub const SLOT_LIMIT: u8 = 32;
 
-/// A set of slots, each below [`SLOT_LIMIT`]. Contracts see it as the list of its slots in ascending order.
+/// A set of slots, each below [`SLOT_LIMIT`]. Contracts see it as the list of its slots in ascending order. It has no `==`:
+/// code asks `within` in both directions.
 #[derive(Clone, Copy, Debug)]
 pub struct SlotSet {
     bits: u32,
