@@ -13,7 +13,7 @@ use Rattle.pgp_crush.specs.Descent.{level_limit}
 abbrev pub items_of : List Bucket → List ℤ
 items_of tree = flat_map (λ b. b.items) tree
 
--- not exactly one bucket of the list is an item of none
+-- not exactly one bucket of the list is an item of none; one that none holds and is twice in the list makes two
 abbrev pub has_no_root : List Bucket → Bool
 has_no_root tree = not (nat_eq (count_by (λ b. not (is_held tree b.id)) tree) 1)
 

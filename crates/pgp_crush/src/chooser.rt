@@ -2,7 +2,8 @@
 
 ghost use Rattle.std.specs.Prelude.{◌≡◌, ℕ, ℤ, ◌<◌, List, length, Contains};
 
-/// A bucket that chooses one of its items.
+/// A bucket that chooses one of its items. A tree mixes kinds of buckets. What a level of a way down does with a choice uses
+/// the law of this trait alone: that the choice is an item.
 pub trait Chooser {
     ghost items: { Self → List ℤ };
 

@@ -4,7 +4,8 @@
 //! checked. [`place`] goes down from its root for each replica or position: each bucket chooses one of its items by a hash
 //! of the input, as a [`Uniform`] or a [`List`] bucket. A try that comes to an item or a device that is taken, or to a device
 //! that is out, is followed by another, up to 51. A replicated pool lists what is found; in an erasure pool each position
-//! keeps its place. No placement takes memory, and all end. [`laws`] has worked examples.
+//! keeps its place. No placement takes memory, and all end. One level of a way down is generic over the kind of bucket.
+//! [`laws`] has worked examples.
 #![tactic(auto)]
 
 mod candidate;

@@ -1,6 +1,7 @@
 -- The group of a hash among the b groups of a pool: `ceph_stable_mod` of Ceph's
 -- src/include/rados.h, with the mask that `pg_pool_t::calc_pg_masks` makes of b. A pool may have
--- any number of groups. As it grows by one, an object stays or goes to the new group.
+-- any number of groups. As it grows by one, an object stays or goes to the new group. At no groups, which no pool has, group
+-- and mask are 0.
 use Rattle.std.specs.Prelude.{ℕ, zero, suc, ◌-◌, ◌%◌, ◌^◌, nat_le, nat_lt, if◌then◌else◌}
 
 -- the least k up to n with b ≤ 2 ^ k, for a b of at most 2 ^ n

@@ -30,7 +30,7 @@ abbrev pub has_epoch_gap : List Incremental → Incremental → Bool
 has_epoch_gap incs inc = not (nat_eq inc.epoch (epoch incs + 1))
 
 -- a device is twice in up, down and gone together, or in one of weight, up_thru and lost; or a pool in pools and sizes
--- together; or a group in temp
+-- together; or a group in temp. It is so also where both say the same.
 abbrev pub has_twice : Incremental → Bool
 has_twice inc =
     has_repeat nat_eq (inc.up ++ inc.down ++ inc.gone)
@@ -102,7 +102,7 @@ are_bad_sizes incs sizes =
     || option_map_or (λ made. is_by_place made.kind && not (nat_eq made.size sizes.size)) (pool incs sizes.pool) true
 
 -- a pool is made of numbers out of range, or has sizes that it can't change to; or the old pools and the ones made have
--- more than 16384 groups
+-- more than 16384 groups, where a pool that is made again counts in both
 abbrev pub has_bad_pool : List Incremental → Incremental → Bool
 has_bad_pool incs inc =
     list_any (λ made. not (is_pool made)) inc.pools

@@ -9,7 +9,8 @@ use std::alloc::AllocError;
 use std::error::Error;
 use std::fmt;
 
-/// Why a map incremental isn't taken. One with several faults has the first in this order.
+/// Why a map incremental isn't taken. One with several faults has the first in this order. An enum beside `Refusal`, so that
+/// [`check`](crate::OsdMap::check) can name no other refusal.
 #[derive(Clone, Copy, Debug, PartialEq, Eq)]
 pub enum MapFault {
     /// Its epoch isn't the one after the map's.

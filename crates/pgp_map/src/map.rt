@@ -176,7 +176,8 @@ impl OsdMap {
     }
 
     /// Makes this the map after the incremental, which [`OsdMap::check`] doesn't refuse. It takes memory only for a device that
-    /// isn't there, or for weights, pools, pg_temp lists or a tree. After an error the map says what it said before.
+    /// isn't there, or for weights, pools, pg_temp lists or a tree. After an error the map says what it said before. What an
+    /// incremental with a fault other than its tree's makes of the map is left open.
     pub fn apply(&mut self, inc: &Incremental) -> Result<(), AllocError>
         requires { given_fault inc.now.crush ≡ None }
         ensures ok { OnOk result (Says self.old (λ incs. map_fault incs inc.now ≡ None → IsMapOf (then_with incs inc.now) self.new)) }

@@ -7,7 +7,8 @@ use pgp_map::OsdMap;
 
 /// Who tells what has become of a device.
 pub trait StatusOf {
-    /// The status of a device for an interval that began at this epoch.
+    /// The status of a device for an interval that began at this epoch. It is a function of the value itself: for a map, of
+    /// what it holds, which by a law is what its incrementals say.
     ghost status_of: { Self → ℕ → ℕ → Status };
 
     /// What has become of the device, for an interval whose first epoch is `first`. It takes no memory.
