@@ -26,7 +26,7 @@ AreNumbered incs = map (λ inc. inc.epoch) incs ≡ range_with_len 1 (length inc
 abbrev pub makes : ℕ → Incremental → Bool
 makes id inc = list_any (λ made. nat_eq made.id id) inc.pools
 
--- the epoch that made the pool
+-- the epoch that made the pool: the last one that did; in a legal log only one does
 abbrev pub made_at : List Incremental → ℕ → ℕ
 made_at incs id = option_map_or (λ inc. inc.epoch) (last_where (makes id) incs) 0
 

@@ -20,7 +20,8 @@ is_short g =
     nat_lt (osd_count g.history.current.acting) g.history.current.min_size
     || not (enough_of g.history.code (acting_slots (is_by_place g.history.code) g.history.current.acting))
 
--- the map has yet to say that the primary was up in the current interval
+-- the map has yet to say that the primary was up in the current interval. Where nobody leads this holds too; NoPrimary comes
+-- before it.
 abbrev pub needs_up_thru : GroupLog → Bool
 needs_up_thru g =
     option_map_or (λ osd. nat_lt (up_thru (incs g) osd) (current_first g.history)) g.history.current.acting_primary true

@@ -95,7 +95,8 @@ impl Group {
         Group::begin_members(alloc, map, pg, members)
     }
 
-    /// Takes the next map. `before` is the one that it was until now. After an error the group stands for the same log.
+    /// Takes the next map. `before` is the one that it was until now. After an error the group stands for the same log. It is
+    /// for a caller that keeps no raw sets; a shard calls `absorb_members`.
     pub fn absorb_map(&mut self, before: &OsdMap, after: &OsdMap) -> Result<(), AllocError>
         requires { Follows self.old after.now }
         ensures ok { OnOk result ((log : List AnyEntry) (pg : Id) (inc : Incremental)

@@ -20,7 +20,8 @@ use std::alloc::{AllocError, Global};
 /// Whom a group has to hear and for whom it waits, as of the last look.
 ///
 /// A look compares what the map says of each device of past intervals with what it said at the last look. It asks the code
-/// about the past intervals that came since, and about those that have a device of which the map says something else.
+/// about the past intervals that came since, and about those that have a device of which the map says something else. Of all
+/// that a device did between two looks only how it ended counts, and a group that nobody asks about pays nothing.
 #[derive(Drop)]
 pub(crate) struct KeptPrior {
     /// The prior set of the last look, with what it takes to follow the statuses of devices.

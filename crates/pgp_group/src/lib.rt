@@ -3,6 +3,11 @@
 //!
 //! The layers below each say one thing of a group: where it lies, in which intervals, whom it has to hear, which info is
 //! the best, what the others lack. This crate joins them into one view (Ceph's developer documentation on peering).
+//!
+//! A [`Group`] takes each report, and each map by which it may lie elsewhere; through other maps it sleeps (`stay`). A caller
+//! that keeps where the tree puts the group gives the membership itself (`absorb_members`). `names` says of which devices the
+//! group speaks. Which entries may change a view is defined in `Touched`, and a law says that others change count and epoch
+//! alone.
 #![tactic(auto)]
 
 mod causes;

@@ -10,7 +10,7 @@ abbrev pub held_member : Bool → List (Option ℕ) → ℕ → Option Member
 held_member by_place places place =
     option_map (λ osd. record { osd = osd; slot = if by_place then place else 0 }) (slice_index_or places place None)
 
--- the members of the list, in the order of their places
+-- the members of the list, in the order of their places: its places that hold a device, also where a device has two
 abbrev pub members_of : Bool → List (Option ℕ) → List Member
 members_of by_place places = filter_map (held_member by_place places) (range_with_len 0 (length places))
 

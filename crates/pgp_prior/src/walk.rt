@@ -13,7 +13,7 @@ use std::alloc::{AllocError, Global};
 /// its current membership, the epoch `les` in which it last began to serve, and what has become of its devices.
 ///
 /// It walks all past intervals at each call, and takes memory for the two lists of the answer alone. The error is that
-/// there was none for them.
+/// there was none for them. Groups use [`PriorIndex`](crate::PriorIndex) in its place; tests compare the two.
 pub fn prior<R: Recoverable, S: StatusOf>(
     alloc: Global,
     code: &R,

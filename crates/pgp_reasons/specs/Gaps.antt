@@ -29,7 +29,7 @@ abbrev pub runs_lacked : (ℕ → Bool) → ℕ → ℕ → List Gap
 runs_lacked is_present tail last = runs_of (filter (λ v. not (is_present v)) (numbers_above tail last))
 
 -- the numbers of the member's log by its info, above that of log_tail up to that of last_update, that no entry has which it
--- reported, as runs
+-- reported, as runs. A log without a gap may still not be whole: its last entry may be another version, or epochs may fall.
 abbrev pub gaps_in : Info → List LogEntry → List Gap
 gaps_in info reported = runs_lacked (λ v. has_number v reported) info.log_tail.v info.last_update.v
 

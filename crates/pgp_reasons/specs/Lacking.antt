@@ -12,7 +12,8 @@ abbrev pub lacking_of_part : List ℕ → Part → ℕ
 lacking_of_part slots part = part.least - length (common part.slots slots)
 
 -- how many more slots would be enough, 0 where these are: one where a copy is wanted and none is there, those that k shards
--- have more, and what each part lacks (as far as a number of the machine goes, which no pool's parts come near)
+-- have more, and what each part lacks, since parts share no slot (as far as a number of the machine goes, which no pool's parts
+-- come near)
 abbrev pub lacking : AnyCode → List ℕ → ℕ
 lacking (Replicated code) slots = 1 - length slots
 lacking (Erasure code) slots = code.k - length slots

@@ -4,6 +4,9 @@
 //! what each lacks. It says which devices have to boot or be given up for lost so that it is down no more, whom it has heard,
 //! and which writes the log of its best copy lacks. What is said follows what `ceph pg query` shows of a group that is down
 //! (Ceph's developer documentation on peering); the smallest sets of devices are this project's own.
+//!
+//! Each reason is worked out from nothing, for one group at the end of a script. Sets of devices are walked by size, up to a
+//! bound, and the answer says whether there may be more. [`unblocks`] answers for one set.
 #![tactic(auto)]
 
 mod blocking;

@@ -41,7 +41,8 @@ pub(crate) fn short_of(
     })
 }
 
-/// The devices that are down now, and were acting in a past interval that didn't end before the epoch `les`.
+/// The devices that are down now, and were acting in a past interval that didn't end before the epoch `les`. Whether one of them
+/// comes back into acting is for placement to say, so none is called enough.
 fn fallen(
     alloc: Global,
     by_place: bool,

@@ -50,7 +50,8 @@ pub(crate) fn waits_of(
     })
 }
 
-/// The smallest sets of devices that leave the group of the view not down in this way; none if it isn't down.
+/// The smallest sets of devices that leave the group of the view not down in this way; none if it isn't down. Only devices that
+/// block it are tried: no other device that is down is a member of an interval that blocks.
 fn ways(
     alloc: Global,
     code: &AnyCode,

@@ -22,7 +22,8 @@ pub fn a_new_interval_has_heard_nobody()
         → after.history.current ≢ g.history.current → AreSentBy (epoch (incs g)) g → reported after member ≡ [] }
 {}
 
-/// A report whose epoch has come and that doesn't count never counts again, whatever comes later.
+/// A report whose epoch has come and that doesn't count never counts again, whatever comes later: the first epoch of the current
+/// interval never falls, and a device that boots does so in an epoch above every stamp so far.
 #[tactic(auto, using(crate::proofs::LaterLemmas::never_laws))]
 pub fn what_does_not_count_never_counts_again()
     ensures { (g after : GroupLog) (later : List Entry) (member : Member) (stamp : ℕ) → IsAfter g later after
