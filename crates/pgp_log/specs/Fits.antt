@@ -32,7 +32,7 @@ entry_fault log (entry.Info info) = info_fault (incs_of log) info
 entry_fault log (entry.Entries report) = entries_fault (incs_of log) report
 entry_fault log entry.Close = None
 
--- the log has no room for the entry
+-- the log has no room for the entry: it has as many as it takes, or, which no legal log has, more
 abbrev pub full_fault : List Entry → Entry → Option Refusal
 full_fault log new =
     if is_close new then None else (if nat_le longest_log (length log) then Some refusal.LogFull else None)

@@ -39,7 +39,7 @@ abbrev pub after_submit : World → Entry → Option Refusal → World
 after_submit w entry None = with_entry w entry
 after_submit w entry (Some refusal) = w
 
--- the world after a shard has read at most this many further entries
+-- the world after a shard has read at most this many further entries; the same one where there is no such shard
 abbrev pub after_absorb : World → ℕ → ℕ → World
 after_absorb w shard count =
     record w { read = slice_set w.read shard (min (slice_index w.read shard + count) (length w.log)) }

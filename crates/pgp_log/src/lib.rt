@@ -1,5 +1,13 @@
 //! The log of all that monitor and devices told: which entry may follow it, which groups an entry touches, and what a
 //! world of one log and several readers answers (the log and its order of refusals are this project's own choice).
+//!
+//! [`Judge`] judges the next entry and keeps none; [`JudgedLog`] is a legal list of entries with its judge. [`ShardState`]
+//! holds the front that one shard has read, and from the first question or `renew` on the groups that follow from it.
+//! [`RawSets`] keeps where the tree puts groups, for objects that are looked up. [`World`] is a log and its shards in one
+//! thread. A feed and an engine stand on this crate, and on no script.
+//!
+//! A group that no entry touches keeps its view. One that is touched is marked, and the next question for it, or `renew`,
+//! works it out. An incremental passes by each group whose row shows that it can't concern the group.
 #![tactic(auto)]
 
 mod before;

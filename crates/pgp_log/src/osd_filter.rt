@@ -16,7 +16,8 @@ pub(crate) struct OsdFilter {
     low: u64,
     /// Bit `osd / 64` of each device.
     pub(crate) high: u64,
-    /// Bit `(osd % 64 + osd / 64) % 64` of each device: seldom set where `low` and `high` are set by two others.
+    /// Bit `(osd % 64 + osd / 64) % 64` of each device. Where one device has set the bit in `low` and another that in `high`,
+    /// this one is mostly not set.
     sum: u64,
 }
 
@@ -109,7 +110,7 @@ impl OsdFilter {
     }
 
     /// Whether some device may be in both sets: each word has a bit that the other set's has. The least of what the words share
-    /// is looked at, since a branch for each word would seldom be foreseen.
+    /// is looked at, since a processor foresees a branch for each word badly.
     pub(crate) fn shares(self, other: OsdFilter) -> bool
         ensures { result ≡ may_meet self other }
     {

@@ -21,7 +21,8 @@ const WIDE_BLOCK: usize = 64;
 
 /// The rows of groups, each at the place of its group, which contracts see as the list of them. A summary of each block of eight rows
 /// is kept beside them, and so are the devices of each wide block of 64, so that groups which an incremental doesn't touch can be
-/// passed by a block at a time.
+/// passed by a block at a time. That is speed alone: of a block it is proved that a row which isn't passed by is never missed, and
+/// not that a block is passed by.
 #[derive(Drop)]
 pub(crate) struct Rows {
     each: Vec<Row>,

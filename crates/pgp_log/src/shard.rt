@@ -29,7 +29,8 @@ pub struct ShardState {
     owner: Owner,
     front: Vec<Arc<Entry>>,
     /// What follows from the front, for the owner's groups. It isn't there until the first question or the first `renew` makes it,
-    /// and again from an entry for which it was out of memory until the next of these.
+    /// and again from an entry for which it was out of memory until the next of these. While it isn't there, to read an entry is
+    /// to become one more owner of it: a script without questions pays nothing for groups.
     groups: Option<Groups>,
 }
 
