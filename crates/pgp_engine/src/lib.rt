@@ -5,6 +5,11 @@
 //! answers for its own groups by the front that it has read. An [`Engine`] has them under locks: a submit is a turn of the
 //! intake's lock, and an ask or an absorb is a turn of one shard's. A [`Client`] reads the log by itself and waits for
 //! nobody: it has a front of the log, which never goes back, and a map of its own, by which it places objects.
+//!
+//! The intake's judge, a shard's state and a client's chart each follow the log (`Follower`).
+//! `Engine::work` is what a worker does, and a [`Gate`] is where whoever runs the engine may hold it. Why a call was out of
+//! memory, or was lent no copy, [`Intake`] and [`Shard`] say of themselves, and an engine doesn't: it would have to name what
+//! stood under the lock.
 #![tactic(auto)]
 
 mod answer;

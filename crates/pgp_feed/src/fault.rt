@@ -33,7 +33,8 @@ pub enum ReadFault {
     /// There was no memory.
     #[error("out of memory")]
     Memory,
-    /// No copy was lent that reaches the front.
+    /// No copy was lent that reaches the front. A copy that is lent reaches the front of each receipt of its feed, since no receipt
+    /// is given before its copy is shown; no contract of the copies can say so.
     #[error("no copy to read")]
     NoReader,
 }

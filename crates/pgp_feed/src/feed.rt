@@ -19,7 +19,8 @@ mod warm;
 
 pub(crate) type LogWriter = Writer<Store, Operation, View, OneLog>;
 
-/// The one log that is published. It is not `Drop`: end it by `give_up`.
+/// The one log that is published. It is not `Drop`, since the writer of two copies waits for its readers as it is let go: end it
+/// by `give_up`.
 pub struct Feed {
     /// The length of the log.
     word: Number,

@@ -1,5 +1,9 @@
 //! The book that all receipts of a feed are of: its log is the published one. Of its two words one is the length of that log, and the
 //! other the number of turns that were taken. With each turn a word comes that only its pen brings home.
+//!
+//! A receipt says only how the log begins. So a rule over the length alone would allow a publish that adds an entry and hands it
+//! back: every later exchange would find another length than it expects. To add an entry uses up its turn, and a feed holds the
+//! turn after what it published. So nobody else can have added to its log, and such a publish has no turn left to hold.
 
 use logbook::{Gain, Plain, Play, Rule, Seen, Word};
 use pgp_ids::Entry;

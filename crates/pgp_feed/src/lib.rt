@@ -5,7 +5,8 @@
 //! feed, the shorter names a front of what the longer names.
 //!
 //! The log stands in two copies, of which readers read one while the writer changes the other; an entry itself is kept
-//! once and shared.
+//! once and shared. Of entries this layer decides nothing: what it is given fits the log, and what it publishes is the log
+//! with it.
 #![tactic(auto)]
 
 mod fault;

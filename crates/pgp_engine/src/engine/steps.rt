@@ -67,7 +67,7 @@ impl<J: Naming> Engine<J> {
 
     /// Lets a shard read at most this many further entries of the log, and answers the receipt of what it has read then.
     /// Without memory it may have read some of them. Where there is nothing to read, the shard works out anew as many of its
-    /// groups.
+    /// groups. Which those were doesn't show from outside; [`Shard::absorb_some`](crate::Shard::absorb_some) says it.
     pub fn absorb_some<R: Wait>(
         &self,
         rt: &R,

@@ -77,7 +77,10 @@ impl Feed {
     }
 
     /// Adds an entry that the log takes next. It waits for the readers that still read the copy to be changed.
-    /// Where the entry can have no more owners, it comes back.
+    /// Where the entry can have no more owners, which is at 2^63 of them, it comes back.
+    ///
+    /// The exchange that adds it can't be undone. So the second owner is there before, and what follows takes no memory and is
+    /// tried until it succeeds.
     pub fn publish<R: Wait>(&mut self, rt: &R, entry: Arc<Entry>) -> Result<Receipt, Arc<Entry>>
         requires { fits (entries_of (told_of self.old)) (arc_value entry) ≡ None }
         ensures feed { feed_of (told_of self.new) ≡ feed_of (told_of self.old) }
