@@ -2,7 +2,9 @@
 //! one thread.
 //!
 //! Each exported function calls [`pgp_core::Session`], and its contract says what C sees. None starts a thread or takes a
-//! lock.
+//! lock. None tests for a null pointer: what a reference points to is memory by its type. Except for the session, no struct of C
+//! has a `bool`, so each may hold any bytes before a call. Raw pointers stand in `held_session` alone: five small functions with
+//! proofs by hand.
 #![tactic(auto)]
 
 ghost use Rattle.std.specs.Prelude.{◌≡◌, map};
@@ -74,7 +76,8 @@ pub extern "C" fn pgp_close(alloc: Global, session: &mut PgpSession) -> u32
 }
 
 /// Answers a line, which is given without its line feed. The answer is put at the start of `room` if it fits, and its length into
-/// `length`. The answer to a blank line has no bytes.
+/// `length`. The answer to a blank line has no bytes. A line feed within the line is a blank of JSON. Where the room is too small,
+/// the line has been answered all the same: else each entry would be judged twice.
 #[unsafe(no_mangle)]
 pub extern "C" fn pgp_line(
     alloc: Global,

@@ -11,7 +11,7 @@ use pgp_ids::View;
 use std::alloc::Global;
 
 /// What a C program keeps of a session: 16 bytes of its own, filled with zeros before the first call. It reads and writes none
-/// of them.
+/// of them. So a session that was never opened, or was closed, has a status, and no call requires an open one.
 #[repr(C)]
 #[derive(Drop)]
 pub struct PgpSession {
@@ -23,7 +23,7 @@ pub struct PgpSession {
 }
 
 impl PgpSession {
-    /// Takes the session out, if there is one.
+    /// Takes the session out, if there is one. Each call does so and puts it back, so that few functions know of pointers.
     pub fn take(&mut self, alloc: Global) -> Option<Box<Session>>
         ensures value { option_map (λ box. box.value) result ≡ self.old.held.session }
         ensures closed { self.new.held.session ≡ None }

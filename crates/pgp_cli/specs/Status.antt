@@ -19,7 +19,7 @@ ending_status Usage = 2
 ending_status NoMemory = 2
 ending_status Fault = 3
 
--- some text was written after what was there
+-- some text was written after what was there: perhaps none, since no clause of clap says a byte of its texts
 pub record Grows (old new : Option (List ℕ)) : Type 0 where
   pub text : List ℕ
   pub went : Appends old new text

@@ -114,7 +114,7 @@ fn group_or_all(text: Option<&str>) -> Option<Option<PgId>>
     }
 }
 
-/// The group that the text names as POOL.SEED.
+/// The group that the text names as POOL.SEED, each number without a sign; leading zeros are taken.
 fn group_in(text: &str) -> Option<PgId>
     ensures { result ≡ group_in text.now }
 {

@@ -21,7 +21,7 @@ pub enum Fault {
 }
 
 impl Fault {
-    /// Why the reader gave no more, if it did not come to its end.
+    /// Why the reader gave no more, if it did not come to its end. Where a read had failed before the run, it is told as that.
     pub fn of_reader<R: Source>(reader: &R) -> Fault
         ensures { result ≡ Script (if R.failed reader.now then ReadFailed else TooLarge) }
     {

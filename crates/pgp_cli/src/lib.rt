@@ -2,7 +2,8 @@
 //!
 //! [`status_of`] does what the words ask for, over any reader and writers: `pgp_core` answers a script on one thread, and
 //! [`run_engine`] one with workers; `pgp_explain` explains one, and `pgp_compact_script` compacts one. [`WatchedStream`] is a
-//! stream that notes whether one of its calls failed, on which the contract of a run depends.
+//! stream that notes whether one of its calls failed, on which the contract of a run depends. [`run_engine`] stands here, so that
+//! the engine stands on no script.
 #![tactic(auto)]
 
 mod commands;

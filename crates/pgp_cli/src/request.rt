@@ -22,7 +22,8 @@ pub enum Request {
     Compact,
 }
 
-/// Reads the words of the command line. The first word is the program's name.
+/// Reads the words of the command line. The first word is the program's name, and the second the subcommand. One command line of
+/// clap judges all subcommands, so help names each.
 ///
 /// A request for help is an error too, and its text belongs on the standard output.
 pub fn read_request(alloc: Global, words: &[String]) -> Result<Request, Error>

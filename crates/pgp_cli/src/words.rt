@@ -21,7 +21,8 @@ const WRONG_COUNT: &str = "--shards takes a number from 1 to 64, and --workers o
 /// Reads the words of a command line that asks for a run. The first word is the program's name.
 ///
 /// A request for help is an error too, and its text belongs on the standard output. A number out of its bounds, or a text
-/// that is no number, is [`ErrorKind::ValueValidation`].
+/// that is no number, is [`ErrorKind::ValueValidation`], also a number of shards where there are no workers. It is judged here,
+/// since clap's account of the words it refuses leaves out the ranges of a subcommand's options.
 pub fn options(alloc: Global, words: &[String]) -> Result<RunOptions, Error>
     ensures fails { FailsBy (faults_in (map string_bytes words.now)) result }
     ensures asked { IfOk result (λ options. counts_asked (map string_bytes words.now) ≡ Some (counts_of options)) }

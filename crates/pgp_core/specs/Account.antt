@@ -16,7 +16,8 @@ abbrev pub account : (remaining contents : Option (List ℕ)) (read_failed write
 account remaining contents read_failed write_failed =
     record { remaining = remaining; contents = contents; read_failed = read_failed; write_failed = write_failed }
 
--- no call failed: what was known of failures is what there is to know
+-- No call failed: what was known of failures is what there is to know. Where a call had failed before, that is still known, and
+-- no account says whether one failed again.
 abbrev pub NoCallFailed : (before after : Account) → Type 0
 NoCallFailed before after = (after.read_failed ≡ before.read_failed) × (after.write_failed ≡ before.write_failed)
 

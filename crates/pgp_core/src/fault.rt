@@ -12,7 +12,8 @@ pub enum ScriptFault {
     /// A write failed, or took no byte.
     #[error("write fault")]
     Write,
-    /// Nobody answers its commands, or nobody does any more.
+    /// Nobody answers its commands, or nobody does any more. The answers to the lines before are written; where that write
+    /// fails, the fault is `Write`.
     #[error("no answerer")]
     Gone,
 }

@@ -28,7 +28,7 @@ use std::marker::Model;
 use std::sync::Arc;
 
 /// The log that the lines of a script make, which contracts see as the list of the entries that were taken, with a shard that
-/// reads them when a group is asked for.
+/// reads them when a group is asked for. It isn't a `World` of one shard, whose list of shards takes memory.
 #[derive(Drop)]
 pub struct Log {
     log: JudgedLog,

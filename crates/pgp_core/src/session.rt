@@ -31,7 +31,9 @@ pub enum LastAnswer {
     NoMemory(Want),
 }
 
-/// A log that one thread tells and asks, with the answer to its last line. It starts no thread and takes no lock.
+/// A log that one thread tells and asks, with the answer to its last line. It starts no thread and takes no lock. A run of a
+/// script doesn't stand on it: a stream gives a line in pieces, and an engine may answer in the log's place. Both end in
+/// `answer_line`.
 ///
 /// Contracts see it as its log and that answer.
 #[derive(Drop)]

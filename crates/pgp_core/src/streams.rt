@@ -1,4 +1,6 @@
-//! What a script is read from and its answers are written to: readers and writers that tell whether a call failed.
+//! What a script is read from and its answers are written to: readers and writers that tell whether a call failed. The contracts
+//! of `std::io` say nothing of that. Any error is a fault, an interrupted call too: who wants such a call repeated wraps the
+//! stream.
 ghost use Rattle.std.specs.Prelude.{◌≡◌, ℕ, ◌<◌, List, Option, Bool, true, IfOk, OnOk, OnErr, length};
 ghost use Rattle.std.specs.Io.{ReadsAtMost, WritesAtMost};
 ghost use Rattle.std.specs.Io.KnownBytes.{Keeps, ReadConsumes, WriteAppends};

@@ -15,7 +15,7 @@ use std::alloc::{AllocError, Global};
 use std::io::Write;
 
 /// Reads a script whole, and gives the log that its lines make. What is wrong with them goes to `errors`; what can't be written
-/// there is lost.
+/// there is lost. It is read whole since what is wrong with a line is looked up in the line.
 pub fn read_log<R: Source, E: Write>(
     alloc: Global,
     reader: &mut R,

@@ -1,7 +1,8 @@
 //! Values that tests need, each made in one place: ids and versions, memberships, infos, incrementals, entries by their
 //! lines, lines that make a small pool, and seeded numbers and streams.
 //!
-//! What one transcript alone is about stands in that transcript. Only tests stand on this crate.
+//! What one transcript alone is about stands in that transcript. Only tests stand on this crate. A library may not abort, so a
+//! function answers `None` where a line is no entry or there was no memory, and the test says what it expected.
 #![tactic(auto)]
 
 mod dice;

@@ -76,7 +76,7 @@ pub fn read_line(alloc: Global, line: &[u8]) -> Result<Command, TextFault>
     LineReader::new(alloc).read(alloc, line)
 }
 
-/// Reads lines one after the other, with room that it keeps from line to line.
+/// Reads lines one after the other, with room that it keeps from line to line. What is kept follows the longest line so far.
 pub struct LineReader {
     room: Scratch,
     /// Where the tokens of one line lie; empty between lines.

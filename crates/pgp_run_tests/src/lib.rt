@@ -2,7 +2,8 @@
 //! that the answers over an engine are those of one thread, whatever its size, also where a read or a write fails, and where one
 //! allocation is refused; and what the program tells of faults.
 //!
-//! Most of them start threads and wait, so they have a crate of their own. Nothing stands on it.
+//! Most of them start threads and wait, so they have a crate of their own. Nothing stands on it. The tests of the feed and the
+//! engine have another one, which needn't wait for the proof of `pgp_cli`.
 #![tactic(auto)]
 
 #[cfg(test)]

@@ -61,7 +61,8 @@ pub fn write_reply(alloc: Global, reply: &Reply) -> Result<Vec<u8>, AllocError>
     Ok(text)
 }
 
-/// Writes replies one after the other, with room that it keeps from reply to reply.
+/// Writes replies one after the other, with room that it keeps from reply to reply. The room isn't the text behind which replies
+/// are put: the writer of `json` zeroes ahead as much as its buffer holds already, up to 16 KiB, for each reply.
 #[derive(Drop)]
 pub struct ReplyWriter {
     room: Vec<u8>,

@@ -1,5 +1,8 @@
 //! The JSON value of a line, in a flat tape. Its texts lie in the line, and it is looked into as `serde_json` looks into
 //! its own.
+//!
+//! The tape is that of `json`, which is lent its room. It takes deeper nesting and any number, so one walk over it judges both as
+//! `serde_json` does. That it stands for what `serde_json` reads of the line is proved.
 ghost use Rattle.std.specs.Prelude.{◌≡◌, ◌<◌, [], ◌∷◌, length, map, None, option_map, option_and_then, is_some, MatchOption, IfNone, IfSome, OnSome};
 ghost use Rattle.json.specs.Json as spec;
 ghost use Rattle.json.specs.Find.{as_number as number_text, as_object, InMembers};
