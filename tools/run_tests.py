@@ -5,6 +5,7 @@
 
 In this order, each part with its count and its seconds:
 
+  links of documents                what documents name is there: links, sections and files (check_links.py)
   tests of tools/, tests of fuzz/   unit tests in Python, except those that need the built program
   gate                              `rt ci`, with as many checks at once as there are processors, where there are 5 GB of
                                     memory for each of them
@@ -95,8 +96,8 @@ def gate(said: str) -> Optional[Counts]:
 
 
 def tried_and_wrong(said: str) -> Optional[Counts]:
-    """The last line of run_examples.py, check_statuses.py and check_c_library.py."""
-    found = re.search(r"^(\d+) (?:examples|runs|checks), (\d+) wrong\s*\Z", said, re.M)
+    """The last line of check_links.py, run_examples.py, check_statuses.py and check_c_library.py."""
+    found = re.search(r"^(\d+) (?:names|examples|runs|checks), (\d+) wrong\s*\Z", said, re.M)
     return (int(found[1]) - int(found[2]), int(found[2])) if found else None
 
 
@@ -153,6 +154,7 @@ def tests_in(folder: str) -> List[str]:
 
 def before_gate() -> List[Part]:
     return [
+        Part("links of documents", python("tools/check_links.py"), 60, tried_and_wrong),
         Part("tests of tools/", tests_in("tools"), 900, unit_tests),
         Part("tests of fuzz/", tests_in("fuzz"), 900, unit_tests),
     ]
@@ -329,7 +331,7 @@ def run_on_program(seed: str, end: float) -> List[Counts]:
 def main(words: Optional[List[str]] = None) -> int:
     parser = argparse.ArgumentParser(description=__doc__, formatter_class=argparse.RawDescriptionHelpFormatter)
     some = parser.add_mutually_exclusive_group()
-    some.add_argument("--quick", action="store_true", help="the unit tests alone")
+    some.add_argument("--quick", action="store_true", help="what stands before the gate alone")
     some.add_argument("--after-gate", action="store_true", help="what stands after the gate alone")
     parser.add_argument("--seed", default="1", help="of the generated scripts")
     options = parser.parse_args(words)

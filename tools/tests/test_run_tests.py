@@ -17,6 +17,7 @@ import run_tests  # noqa: E402
 
 # Each stub says what the tool says whose name it has; `told` in the place of it is said instead, and ends with status 1.
 SAYS = {
+    "tools/check_links.py": "412 names, 0 wrong",
     "tools/run_examples.py": "47 examples, 0 wrong",
     "tools/check_statuses.py": "14 runs, 0 wrong",
     "tools/compare_workers.py": "8 scripts, 3 runs of each with workers, 0 wrong",
@@ -52,7 +53,7 @@ exit {status}
 """
 BUILT_C = 'mkdir -p "$2" && touch "$2/libpgpeer.so"'
 ON_C = 1 + 9  # the build of the library for C, and its checks
-ALL = ON_C + 2 + 110 + 2 + 47 + 14 + 24 + 1060 + 1352 + 1022 + 2 * 153 + 2 * 261
+ALL = 412 + ON_C + 2 + 110 + 2 + 47 + 14 + 24 + 1060 + 1352 + 1022 + 2 * 153 + 2 * 261
 
 
 class WithTree(unittest.TestCase):
@@ -107,7 +108,8 @@ class Runs(WithTree):
     def test_all_parts_are_run_and_counted(self):
         status, lines = self.run_all("--seed", "7")
         self.assertEqual((status, lines[-1]), (0, f"{ALL} passed, 0 failed"))
-        self.assertRegex(lines[0], r"^tests of tools/: 1 passed, 0 failed, 1 skipped without the program \(\d+ s\)$")
+        self.assertRegex(lines[0], r"^links of documents: 412 passed, 0 failed \(\d+ s\)$")
+        self.assertRegex(lines[1], r"^tests of tools/: 1 passed, 0 failed, 1 skipped without the program \(\d+ s\)$")
         self.assertIn("rt: proved", lines)
         self.assertRegex("\n".join(lines), r"\nfuzz, seed 7: 1060 passed, 0 failed \(\d+ s\)\n")
         self.assertRegex("\n".join(lines), r"\nexplanations, seed 7: 1352 passed, 0 failed \(\d+ s\)\n")
@@ -129,6 +131,12 @@ class Runs(WithTree):
         self.assertEqual((status, lines[-1]), (1, f"{ALL - 1} passed, 1 failed"))
         self.assertIn("map.jsonl: answer 3 is {} and not []", lines)
 
+    def test_a_name_that_is_not_there_fails(self):
+        self.stub("tools/check_links.py", "README.md:3: no file docs/GONE.md\n412 names, 1 wrong", 1)
+        status, lines = self.run_all("--quick")
+        self.assertEqual((status, lines[-1]), (1, "413 passed, 1 failed"))
+        self.assertIn("README.md:3: no file docs/GONE.md", lines)
+
     def test_a_failing_unit_test_fails_and_all_else_is_run(self):
         self.unit_test("fuzz/tests", 3)
         status, lines = self.run_all()
@@ -138,7 +146,7 @@ class Runs(WithTree):
     def test_a_gate_that_fails_and_builds_no_program_fails(self):
         self.rt("echo 'rt: FAILED: pgp_map'", "108 passed, 2 failed", 1)
         status, lines = self.run_all()
-        self.assertEqual((status, lines[-1]), (1, "110 passed, 3 failed"))
+        self.assertEqual((status, lines[-1]), (1, "522 passed, 3 failed"))
         self.assertIn("tests on the program: 0 passed, 1 failed, since there is no crates/pgpeer/out/pgpeer", lines)
 
     def test_a_gate_that_ends_early_fails(self):
@@ -157,7 +165,7 @@ class Runs(WithTree):
         for name in SAYS:
             self.stub(name, "Traceback", 1)
         status, lines = self.run_all()
-        self.assertEqual((status, lines[-1]), (1, "115 passed, 11 failed"))
+        self.assertEqual((status, lines[-1]), (1, "115 passed, 12 failed"))
 
     def test_a_part_without_end_is_stopped(self):
         self.stub("tools/check_statuses.py", "", before="time.sleep(600)")
@@ -190,12 +198,12 @@ class Runs(WithTree):
 
     def test_the_parts_that_are_asked_for(self):
         status, lines = self.run_all("--quick")
-        self.assertEqual((status, len(lines), lines[-1]), (0, 3, "2 passed, 0 failed"))
+        self.assertEqual((status, len(lines), lines[-1]), (0, 4, "414 passed, 0 failed"))
         status, lines = self.run_all("--after-gate")
         self.assertEqual((status, lines[-1]), (1, "0 passed, 1 failed"))
         self.run_all()
         status, lines = self.run_all("--after-gate")
-        self.assertEqual((status, lines[-1]), (0, f"{ALL - 112} passed, 0 failed"))
+        self.assertEqual((status, lines[-1]), (0, f"{ALL - 112 - 412} passed, 0 failed"))
 
 
 class Environment(unittest.TestCase):
@@ -227,6 +235,7 @@ class Counts(unittest.TestCase):
             (run_tests.unit_tests, "Ran 1 test in 1s\n\nOK\n", (1, 0)),
             (run_tests.gate, "3 passed, 0 failed\nrt: ok\n110 passed, 2 failed\n", (110, 2)),
             (run_tests.tried_and_wrong, "a: wrong\n14 runs, 3 wrong\n", (11, 3)),
+            (run_tests.tried_and_wrong, "412 names, 0 wrong\n", (412, 0)),
             (run_tests.compared_runs, "8 scripts, 3 runs of each with workers, 5 wrong\n", (19, 5)),
             (run_tests.scripts, "1,060 scripts, 5 lines, 2 wrong answers, 1 other statuses, 3 hangs.\nScripts: 1 full.\n", (1054, 6)),
             (run_tests.explanations, "1,352 groups, 8,001 subsets, 3 wrong\n", (1349, 3)),
