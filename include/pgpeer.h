@@ -256,11 +256,11 @@ typedef struct pgp_info {
  * only for an info that the log takes, or PGP_NOT_OPEN. The answer to the last line is kept. */
 uint32_t pgp_submit_info(pgp_session *session, const pgp_info *info);
 
-/* Leaves out of the session's log reports that no answer needs any more, and no incremental: PGP_DONE, and *left_out is how many. From
- * then on each answer about a group is the one that the whole log would give, except for its count of entries, and what is told is
- * taken or refused as by the whole log, except that there may be room again. At PGP_NO_MEMORY the log is as before; there and at
- * PGP_NOT_OPEN *left_out is 0. The answer to the last line is kept. The new log is made beside the old one: until it is there, both
- * take memory. */
+/* Leaves out of the session's log reports that no answer needs any more, and no incremental: PGP_DONE, and *left_out is how many it
+ * left out. From then on each answer about a group is the one that the whole log would give, except for its count of entries, and
+ * what is told is taken or refused as by the whole log, except that there may be room again. At PGP_NO_MEMORY the log is as before;
+ * there and at PGP_NOT_OPEN *left_out is 0. The answer to the last line is kept. The new log is made beside the old one: until it is
+ * there, both take memory. */
 uint32_t pgp_compact_log(pgp_session *session, size_t *left_out);
 
 /* The version of the library: ten thousand times the first part, a hundred times the second, and the third. */
