@@ -14,8 +14,8 @@ $CC. What is checked, each with a line:
              texts for it, and then told again
   typed      what the calls that give and take values do is what the answers to lines say, also with each call of malloc and
              realloc refused in turn
-  example    examples/c and examples/python print the stored answers to each script of examples/, and examples/c/ask.c what it
-             is to print of an outage
+  example    examples/c and examples/python print the stored answers to each script of examples/, and those of `pgpeer run` to
+             lines that are long or have a NUL, and examples/c/ask.c what it is to print of an outage
   pkg-config examples/c/outage.c is built with the words that pkg-config gives of pgpeer.pc, and prints the stored answers
   Rust       the tests of examples/rust pass, by cargo
   memory     valgrind finds no fault, no leak and no race in a short script
@@ -45,6 +45,15 @@ osd.2 has to be heard
 osd.2 lacks b, written as 1'2
 osd.1 serves 1000 of 1000 objects
 """  # what examples/c/ask.c prints of examples/outage.jsonl
+LONGEST_LINE = 1_048_576
+CLOSE = b'{"op":"close"}'
+ODD_LINES = {  # of the longest line, of longer ones, of one with a NUL, and of a last one without a line feed, with their answers
+    CLOSE.ljust(LONGEST_LINE) + b"\n": b'{"count":1,"epoch":0,"ok":"close"}\n',
+    CLOSE.ljust(LONGEST_LINE + 1) + b"\n": b'{"code":30,"refused":"LineTooLong"}\n',
+    CLOSE + b"\0\n": b'{"code":31,"refused":"NotJson"}\n',
+    b"x" * 3 * LONGEST_LINE + b"\n\n": b'{"code":30,"refused":"LineTooLong"}\n',
+    CLOSE: b'{"code":64,"refused":"Closed"}\n',
+}
 
 
 def run(*words, **more):
@@ -145,11 +154,12 @@ def wrong_refusals(play):
 def wrong_examples(folder, outage, ask):
     python = [sys.executable, "-B", ROOT / "examples/python/pgpeer.py"]
     env = {**os.environ, "PGPEER_SO": str(folder / "libpgpeer.so")}
-    for script, answers in examples():
+    rows = [(script.name, script.read_bytes(), answers.read_bytes()) for script, answers in examples()]
+    for name, script, answers in [*rows, ("odd lines", b"".join(ODD_LINES), b"".join(ODD_LINES.values()))]:
         for words in ([outage], python):
-            ended = run(*words, input=script.read_bytes(), env=env)
-            if ended.stdout != answers.read_bytes() or ended.returncode:
-                yield f"{script.name}, {words[-1]}: {ended.stderr.decode()[-300:]}"
+            ended = run(*words, input=script, env=env)
+            if ended.stdout != answers or ended.returncode:
+                yield f"{name}, {words[-1]}: {ended.stderr.decode()[-300:]}"
     asked = run(ask, input=(ROOT / "examples/outage.jsonl").read_bytes())
     if asked.stdout != OUTAGE or asked.returncode:
         yield f"ask: {asked.stdout.decode()}{asked.stderr.decode()}"

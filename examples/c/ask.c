@@ -26,15 +26,24 @@ static void *room_for(size_t count, size_t size) {
     return room;
 }
 
+/* Reads a line, without its line feed, whatever bytes it has. Of one that is longer than a line may be, it keeps one byte more than
+ * that: the session refuses it then. */
+static int read_line(uint8_t *line, size_t *length) {
+    int byte = getchar();
+    if (byte == EOF) return 0;
+    for (*length = 0; byte != EOF && byte != '\n'; byte = getchar()) {
+        if (*length <= PGP_LONGEST_LINE) line[(*length)++] = (uint8_t)byte;
+    }
+    return 1;
+}
+
 /* Tells the lines of standard input. The answers are not looked at here. */
 static void tell(pgp_session *session) {
-    static char line[PGP_LONGEST_LINE + 2];
+    static uint8_t line[PGP_LONGEST_LINE + 1];
     uint8_t none[1];
-    size_t wanted;
-    while (fgets(line, sizeof line, stdin)) {
-        size_t length = 0;
-        while (line[length] && line[length] != '\n') length++;
-        uint32_t status = pgp_line(session, (const uint8_t *)line, length, none, 0, &wanted);
+    size_t length, wanted;
+    while (read_line(line, &length)) {
+        uint32_t status = pgp_line(session, line, length, none, 0, &wanted);
         if (status != PGP_ROOM_TOO_SMALL) done(status);
     }
 }

@@ -28,15 +28,23 @@ static uint32_t answer(pgp_session *session, const uint8_t *line, size_t length)
     return status;
 }
 
+/* Reads a line, without its line feed, whatever bytes it has. Of one that is longer than a line may be, it keeps one byte more than
+ * that: the session refuses it then. */
+static int read_line(uint8_t *line, size_t *length) {
+    int byte = getchar();
+    if (byte == EOF) return 0;
+    for (*length = 0; byte != EOF && byte != '\n'; byte = getchar()) {
+        if (*length <= PGP_LONGEST_LINE) line[(*length)++] = (uint8_t)byte;
+    }
+    return 1;
+}
+
 int main(void) {
-    static char line[PGP_LONGEST_LINE + 2];
+    static uint8_t line[PGP_LONGEST_LINE + 1];
+    size_t length;
     pgp_session session = PGP_SESSION;
     uint32_t status = pgp_open(&session);
-    while (status == PGP_DONE && fgets(line, sizeof line, stdin)) {
-        size_t length = 0;
-        while (line[length] && line[length] != '\n') length++;
-        status = answer(&session, (const uint8_t *)line, length);
-    }
+    while (status == PGP_DONE && read_line(line, &length)) status = answer(&session, line, length);
     if (status != PGP_DONE) fprintf(stderr, "outage: %s\n", pgp_status_name(status));
     pgp_close(&session);
     return status != PGP_DONE;
