@@ -19,7 +19,8 @@ In this order, each part with its count and its seconds:
   compactions                       a script that `compact` wrote has the answers of the whole one, for half a minute at most
                                     (fuzz/compact.py)
   allocations refused               each allocation of a short script refused in turn, with and without workers
-                                    (refuse_allocations.py), of an explanation and of a compaction (refuse_in_subcommands.py)
+                                    (refuse_allocations.py), of an explanation and of a compaction (refuse_in_subcommands.py), and
+                                    of tests of the feed, the engine and runs (refuse_in_tests.py)
   library for C, built              the static library, over what the gate proved (build_c_library.sh)
   library for C                     its scripts, calls, examples and names (check_c_library.py)
 
@@ -57,6 +58,10 @@ COMPACTED_KINDS = ("story", "crowd", "noise", "long", "wide")  # without full lo
 REFUSED_SCRIPTS = (  # in which each allocation is refused, with the words before and behind them
     ("an explanation", ("explain", "examples/explain_down.jsonl", "1.0")),
     ("a compaction", ("compact", "examples/compact.jsonl")),
+)
+REFUSED_TESTS = (  # in which each allocation is refused: a crate of tests, and its tests that make a call once more then
+    ("pgp_thread_tests", ("engine::growths::each_call_can_be_made_again", "feed::memory::one_allocation_may_be_refused")),
+    ("pgp_run_tests", ("memory::a_run_goes_on_after_a_refused_allocation",)),
 )
 MOST_SECONDS = 3600  # for all parts except the gate
 CHECK_BYTES = 5_000_000_000  # more than any check of the gate takes
@@ -141,6 +146,12 @@ def allocations(said: str) -> Optional[Counts]:
     return (int(found[1]) - len(wrong), len(wrong)) if found else None
 
 
+def allocations_in_tests(said: str) -> Optional[Counts]:
+    found = re.findall(r"^\S+: (\d+) allocations refused, (\d+) runs failed", said, re.M)
+    failed = sum(int(wrong) for _, wrong in found)
+    return (sum(int(refused) for refused, _ in found) - failed, failed) if found else None
+
+
 # The parts
 
 
@@ -195,6 +206,16 @@ def after_gate(seed: str) -> List[Part]:
     ] + [
         Part(f"allocations refused, {what}", python("tools/refuse_in_subcommands.py", PROGRAM, *words), 400, allocations, ("cc",))
         for what, words in REFUSED_SCRIPTS
+    ] + [
+        Part(
+            f"allocations refused in {crate}",
+            python("tools/refuse_in_tests.py", crate, *tests),
+            400,
+            allocations_in_tests,
+            ("cc",),
+            ROOT / f"crates/{crate}/out/{crate}_tests",
+        )
+        for crate, tests in REFUSED_TESTS
     ] + on_c_library()
 
 

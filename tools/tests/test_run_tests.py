@@ -23,6 +23,7 @@ SAYS = {
     "tools/compare_workers.py": "8 scripts, 3 runs of each with workers, 0 wrong",
     "tools/refuse_allocations.py": "153 allocations, 8 answers",
     "tools/refuse_in_subcommands.py": "261 allocations\n   170 out of memory",
+    "tools/refuse_in_tests.py": "a::b: 40 allocations refused, 0 runs failed\nc: 60 allocations refused, 0 runs failed",
     "tools/check_c_library.py": "names right\nRust skipped, since cargo isn't there\n9 checks, 0 wrong",
     "fuzz/fuzz.py": "1,060 scripts, 55,530 lines, 9 bytes, 0 wrong answers, 0 other statuses, 0 hangs.",
     "fuzz/explain.py": "60 logs, 125 ends\n1,352 groups, 800 subsets, 0 wrong",
@@ -44,7 +45,8 @@ echo "rt: proved"
 echo "{last}"
 exit {status}
 """
-BUILD = "mkdir -p crates/pgpeer/out && cp /bin/true crates/pgpeer/out/pgpeer"
+BUILD = """mkdir -p crates/pgpeer/out && cp /bin/true crates/pgpeer/out/pgpeer
+for it in pgp_thread_tests pgp_run_tests; do mkdir -p crates/$it/out && touch crates/$it/out/${it}_tests; done"""
 BUILD_C = """#!/bin/sh
 test "$1" = --after-gate || exit 9
 {build}
@@ -53,7 +55,7 @@ exit {status}
 """
 BUILT_C = 'mkdir -p "$2" && touch "$2/libpgpeer.so"'
 ON_C = 1 + 9  # the build of the library for C, and its checks
-ALL = 412 + ON_C + 2 + 110 + 2 + 47 + 14 + 24 + 1060 + 1352 + 1022 + 2 * 153 + 2 * 261
+ALL = 412 + ON_C + 2 + 110 + 2 + 47 + 14 + 24 + 1060 + 1352 + 1022 + 2 * 153 + 2 * 261 + 2 * 100
 
 
 class WithTree(unittest.TestCase):
@@ -122,6 +124,7 @@ class Runs(WithTree):
         self.run_all()
         left = {str(it.relative_to(self.root)) for it in set(self.root.rglob("*")) - before}
         made = ("crates/pgpeer/out/pgpeer", "crates/pgp_c/out/c/libpgpeer.so")
+        made += tuple(f"crates/{it}/out/{it}_tests" for it in ("pgp_thread_tests", "pgp_run_tests"))
         within = {str(it) for file in made for it in pathlib.PurePath(file).parents if it.name}
         self.assertEqual(left, {*made, *within})
 
@@ -165,7 +168,7 @@ class Runs(WithTree):
         for name in SAYS:
             self.stub(name, "Traceback", 1)
         status, lines = self.run_all()
-        self.assertEqual((status, lines[-1]), (1, "115 passed, 12 failed"))
+        self.assertEqual((status, lines[-1]), (1, "115 passed, 14 failed"))
 
     def test_a_part_without_end_is_stopped(self):
         self.stub("tools/check_statuses.py", "", before="time.sleep(600)")
@@ -178,7 +181,7 @@ class Runs(WithTree):
     def test_without_a_compiler_the_sweep_is_skipped(self):
         with mock.patch.object(run_tests.shutil, "which", lambda name: None):
             status, lines = self.run_all()
-        self.assertEqual((status, lines[-1]), (0, f"{ALL - ON_C - 2 * 153 - 2 * 261} passed, 0 failed"))
+        self.assertEqual((status, lines[-1]), (0, f"{ALL - ON_C - 2 * 153 - 2 * 261 - 2 * 100} passed, 0 failed"))
         self.assertIn("allocations refused, first.jsonl, 1 shards, 0 workers: skipped, since cc isn't there", lines)
         self.assertIn("library for C, built: skipped, since cc isn't there", lines)
         self.assertIn("library for C: skipped, since cc isn't there", lines)
