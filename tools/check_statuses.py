@@ -34,7 +34,7 @@ READ_FAULT, WRITE_FAULT = b"pgpeer: read fault\n", b"pgpeer: write fault\n"
 READS_INPUT = b"pgpeer compact reads standard input: pgpeer compact < FILE"
 NO_ENGINE = b"pgpeer: no engine\n"
 NOBODY = "a pipe that nobody reads"
-TOO_LARGE = b"pgpeer: the script has more than 1000000 lines or 4294967296 bytes\n"
+TOO_LARGE = READ_FAULT + b"pgpeer: the script has more than 1000000 lines or 4294967296 bytes\n"
 
 
 @dataclass

@@ -35,7 +35,7 @@ pub use Rattle.pgp_group.specs.KeptReports.{AreCounted, AreLogsOf, IsReportedBy,
 pub use Rattle.pgp_group.specs.Later.{AreSentBy, IsAfter}
 pub use Rattle.pgp_group.specs.Peering.{acting_members, best, has_whole_log, if_whole, is_peer, leader, others_heard, past, peer_missing, peer_states, peers, present_members, prior, up_members, whole_best}
 pub use Rattle.pgp_group.specs.Present.{IsPresent}
-pub use Rattle.pgp_group.specs.Reckoning.{IsAccountedFor, IsReckonedWith, IsRemembered, TakesNothingAway, WentReadWrite, acting_of, heard_or_lost, is_lost}
+pub use Rattle.pgp_group.specs.Reckoning.{IsAccountedFor, IsReckonedWith, IsRemembered, IsStillCurrent, Remembers, TakesNothingAway, acting_of, heard_or_lost, is_lost}
 pub use Rattle.pgp_group.specs.Touched.{changed_devices, changes_pool, changes_temp, has_osd, has_to_do_with, is_touched, may_lie_on, may_move, moves_all, names, view_at, turned_devices, was_member}
 pub use Rattle.pgp_group.specs.Verdict.{IsFirstCause, holds, in_order, is_short, is_waiting, needs_up_thru, place_of, verdict}
 pub use Rattle.pgp_group.specs.View.{scratch, view_of}

@@ -1,11 +1,11 @@
 -- That a group which served may have gone read-write in its interval, once that is past, and that whoever serves later has
 -- reckoned with it.
-use Rattle.pgp_group.proofs.Common.{◌≡◌, ℕ, ◌+◌, ◌<◌, ◌≤◌, List, [], ◌∷◌, ◌++◌, Some, None, is_some, Bool, true, false, not, nat_le, nat_lt, refl, ap, sym, ◌∙◌, subst, inl, inr, ◌⊎◌, arith, Contains, or_parts, nat_tests, filter_map-append, enough_of, is_by_place, AnyCode, osd_count, Entry, Incremental, Membership, Past, PgId, Verdict, Short, Serve, History, current_first, current_ending, contains-append, Contains-here, none_is, some_is, some_mapped, taken-along, are_checked, is_faultless, up_from, up_thru, epoch, map_fault, then_with, inc_of, incs_of, group_history, primary_facts, GroupLog, cleans, group_in, incs, IsAfter, past, WentReadWrite, IsRemembered, holds, place_of, verdict, ◌&&◌, ◌||◌, map, or-true, enough_of-mono, Member, Down, Waiting, filter-contains, contains-filter, map-contains, contains-map, none-contains, nat_order, ascending-contains, contains-ascending, acting_where, blocks, has_down, is_settled, matters, settled_slots, slots_of, status, Status, les, heard, has_member, prior, is_lost, acting_of, heard_or_lost, IsAccountedFor, IsReckonedWith, front-checked, last-checked}
+use Rattle.pgp_group.proofs.Common.{◌≡◌, ℕ, ◌+◌, ◌<◌, ◌≤◌, List, [], ◌∷◌, ◌++◌, Some, None, is_some, Bool, true, false, not, nat_le, nat_lt, refl, ap, sym, ◌∙◌, subst, inl, inr, ◌⊎◌, arith, Contains, or_parts, nat_tests, filter_map-append, enough_of, is_by_place, AnyCode, osd_count, Entry, Incremental, Membership, Past, PgId, Verdict, Short, Serve, History, last_place, current_first, current_ending, contains-append, Contains-here, none_is, some_is, some_mapped, taken-along, are_checked, is_faultless, up_from, up_thru, epoch, map_fault, then_with, inc_of, incs_of, group_history, primary_facts, GroupLog, cleans, group_in, incs, IsAfter, past, Remembers, IsStillCurrent, IsRemembered, holds, place_of, verdict, ◌&&◌, ◌||◌, map, or-true, enough_of-mono, Member, Down, Waiting, filter-contains, contains-filter, map-contains, contains-map, none-contains, nat_order, ascending-contains, contains-ascending, acting_where, blocks, has_down, is_settled, matters, settled_slots, slots_of, status, Status, les, heard, has_member, prior, is_lost, acting_of, heard_or_lost, IsAccountedFor, IsReckonedWith, front-checked, last-checked}
 use Rattle.pgp_interval.specs.ReadWrite.{acting_slots, may_have_gone_rw}
 use Rattle.pgp_map.proofs.CheckedLemmas.{up_thru-more}
 use Rattle.pgp_group.proofs.DeviceLemmas.{up_from-stays}
 use Rattle.pgp_group.proofs.FirstLemmas.{Ends, Moves, along, moves, past_of}
-use Rattle.pgp_group.proofs.GrowthLemmas.{has_group-grows, next_epoch}
+use Rattle.pgp_group.proofs.GrowthLemmas.{epoch-snoc, has_group-grows, history-last, next_epoch, numbered}
 use Rattle.pgp_group.proofs.LaterLemmas.{histories}
 use Rattle.pgp_group.proofs.Lists.{contains-push}
 use Rattle.pgp_group.proofs.OpeningLemmas.{IsOpened, opened, primary-up}
@@ -41,103 +41,139 @@ serving g serves =
 
 -- ---- how its interval stands later
 
--- the interval that opened at this epoch is current, and all that it takes to serve is there
-record Runs (first osd : ℕ) (incs : List Incremental) (h : History AnyCode) : Type 0 where
+-- the interval in which the group served is current, and all that it takes to serve is there
+record Runs (g : GroupLog) (osd : ℕ) (incs : List Incremental) (h : History AnyCode) : Type 0 where
   fit : IsFit h.code h.current osd
-  first_is : current_first h ≡ first
-  thru : first ≤ up_thru incs osd
-  since : up_from incs osd ≤ first
+  first_is : current_first h ≡ current_first g.history
+  current_is : h.current ≡ g.history.current
+  thru : current_first g.history ≤ up_thru incs osd
+  since : up_from incs osd ≤ current_first g.history
+  lasts : epoch (incs_of g.log) ≤ epoch incs
 
--- it is past, and may have gone read-write, whatever the epochs are in which the group was clean
-record IsOver (cleans : List ℕ) (first : ℕ) (h : History AnyCode) : Type 0 where
-  went : WentReadWrite first (past_of cleans h)
-  each : (interval : Past) → Contains (past_of cleans h) interval → interval.first ≡ first → interval.rw ≡ true
-  later : first < current_first h
+-- it is among these past ones, and may have gone read-write
+abbrev IsAmong : GroupLog → List Past → Type 0
+IsAmong g past = (interval : Past) × Contains past interval × Remembers g interval
 
-abbrev Stands : List ℕ → ℕ → ℕ → List Incremental → History AnyCode → Type 0
-Stands cleans first osd incs h = Runs first osd incs h ⊎ IsOver cleans first h
+abbrev EachRemembers : GroupLog → List Past → Type 0
+EachRemembers g past = (interval : Past) → Contains past interval → interval.first ≡ current_first g.history → Remembers g interval
+
+-- it is past, whatever the epochs are in which the group was clean
+record IsOver (cleans : List ℕ) (g : GroupLog) (h : History AnyCode) : Type 0 where
+  among : IsAmong g (past_of cleans h)
+  each : EachRemembers g (past_of cleans h)
+  later : current_first g.history < current_first h
+
+abbrev Stands : List ℕ → GroupLog → ℕ → List Incremental → History AnyCode → Type 0
+Stands cleans g osd incs h = Runs g osd incs h ⊎ IsOver cleans g h
 
 went_rw : (code : AnyCode) (cleans : List ℕ) (members : Membership) (osd first last : ℕ) (incs : List Incremental) → IsFit code members osd → first ≤ up_thru incs osd → up_from incs osd ≤ first
     → may_have_gone_rw (enough_of code) (is_by_place code) cleans (record { members = members; facts = primary_facts incs members.acting_primary }) first last ≡ true
 went_rw code cleans members osd first last incs fit thru since = grind (arith, nat_tests)
 
-stands-ended : (cleans : List ℕ) (first osd : ℕ) (incs : List Incremental) (inc : Incremental) (h after : History AnyCode) → inc.epoch ≡ epoch incs + 1 → IsOpened incs h
-    → Ends inc.epoch (primary_facts incs h.current.acting_primary) h after → Runs first osd incs h → IsOver cleans first after
-stands-ended cleans first osd incs inc h after next opened over runs =
+stands-ended : (cleans : List ℕ) (g : GroupLog) (osd : ℕ) (incs : List Incremental) (inc : Incremental) (h after : History AnyCode) → inc.epoch ≡ epoch incs + 1 → h.first + last_place h ≡ epoch incs → IsOpened incs h
+    → Ends inc.epoch (primary_facts incs h.current.acting_primary) h after → Runs g osd incs h → IsOver cleans g after
+stands-ended cleans g osd incs inc h after next last opened over runs =
     let ending : Past = current_ending enough_of is_by_place cleans h (primary_facts incs h.current.acting_primary) in
-    let is : current_first h ≡ first = runs.first_is in
-    let rw' : ending.rw ≡ true = grind (arith, nat_tests, went_rw) in
+    let is : current_first h ≡ current_first g.history = runs.first_is in
+    let rw' : ending.rw ≡ true =
+    went_rw h.code cleans h.current osd (current_first h) (h.first + last_place h) incs runs.fit (omega (arith, runs.thru, is)) (omega (arith, runs.since, is)) in
+    let remembers : Remembers g ending = record {
+      opened = is;
+      of_members = runs.current_is;
+      lasted = omega (arith, runs.lasts, last);
+      rw = rw';
+    } in
     record {
-      went = grind (arith, contains-append (past_of cleans h) (ending ∷ []) ending (inr (Contains-here ending [])), opened);
+      among = (
+        ending,
+        subst (λ (l : List Past). Contains l ending) (sym (over.past cleans)) (contains-append (past_of cleans h) (ending ∷ []) ending (inr (Contains-here ending []))),
+        remembers,
+      );
       each = λ interval in' same. elim
           (contains-push (past_of cleans h) ending interval (subst (λ (l : List Past). Contains l interval) (over.past cleans) in')) [
             | inl before ↦ absurd (omega (arith, opened.later cleans interval before, is, same))
-            | inr here ↦ ap (λ (p : Past). p.rw) (sym here) ∙ rw'
+            | inr here ↦ subst (Remembers g) here remembers
           ];
       later = omega (arith, opened.within, is, over.first, next);
     }
 
-over-ended : (cleans : List ℕ) (first : ℕ) (incs : List Incremental) (inc : Incremental) (h after : History AnyCode) → inc.epoch ≡ epoch incs + 1 → IsOpened incs h
-    → Ends inc.epoch (primary_facts incs h.current.acting_primary) h after → IsOver cleans first h → IsOver cleans first after
-over-ended cleans first incs inc h after next opened ended over =
+over-ended : (cleans : List ℕ) (g : GroupLog) (incs : List Incremental) (inc : Incremental) (h after : History AnyCode) → inc.epoch ≡ epoch incs + 1 → IsOpened incs h
+    → Ends inc.epoch (primary_facts incs h.current.acting_primary) h after → IsOver cleans g h → IsOver cleans g after
+over-ended cleans g incs inc h after next opened ended over =
     let ending : Past = current_ending enough_of is_by_place cleans h (primary_facts incs h.current.acting_primary) in
     record {
-      went = grind (arith, nat_tests, contains-append (past_of cleans h) (ending ∷ []) over.went.interval (inl over.went.there), past_of cleans h, opened);
+      among = (
+        over.among.0,
+        subst (λ (l : List Past). Contains l over.among.0) (sym (ended.past cleans)) (contains-append (past_of cleans h) (ending ∷ []) over.among.0 (inl over.among.1)),
+        over.among.2,
+      );
       each = λ interval in' same. elim
           (contains-push (past_of cleans h) ending interval (subst (λ (l : List Past). Contains l interval) (ended.past cleans) in')) [
             | inl before ↦ over.each interval before same
-            | inr here ↦ grind arith
+            | inr here ↦ absurd (omega (arith, over.later, ap (λ (p : Past). p.first) here, same))
           ];
       later = omega (arith, over.later, opened.within, ended.first, next);
     }
 
-stands-step : (cleans : List ℕ) (first osd : ℕ) (pg : PgId) (incs : List Incremental) (inc : Incremental) (h after : History AnyCode) → are_checked (then_with incs inc) ≡ true
-    → group_history incs pg ≡ Some h → group_history (then_with incs inc) pg ≡ Some after → Stands cleans first osd incs h → Stands cleans first osd (then_with incs inc) after
-stands-step cleans first osd pg incs inc h after checked is then' stands =
+stands-step : (cleans : List ℕ) (g : GroupLog) (osd : ℕ) (pg : PgId) (incs : List Incremental) (inc : Incremental) (h after : History AnyCode) → are_checked (then_with incs inc) ≡ true
+    → group_history incs pg ≡ Some h → group_history (then_with incs inc) pg ≡ Some after → Stands cleans g osd incs h → Stands cleans g osd (then_with incs inc) after
+stands-step cleans g osd pg incs inc h after checked is then' stands =
     let fine = last-checked incs inc checked in
+    let before = front-checked incs (inc ∷ []) checked in
     let next : inc.epoch ≡ epoch incs + 1 = next_epoch incs inc fine in
-    let open' : IsOpened incs h = opened pg incs (front-checked incs (inc ∷ []) checked) h is in
-    by (moves incs inc pg h after checked is then') fine next open' stands
+    let last : h.first + last_place h ≡ epoch incs = history-last incs pg h (numbered incs before) is in
+    by (moves incs inc pg h after checked is then') fine next last (opened pg incs before h is) stands
   where
-    by : Moves incs inc h after → map_fault incs inc ≡ None → inc.epoch ≡ epoch incs + 1 → IsOpened incs h → Stands cleans first osd incs h → Stands cleans first osd (then_with incs inc) after
-    by (on code goes) fine next open' (inl runs) = inl (record {
+    by : Moves incs inc h after → map_fault incs inc ≡ None → inc.epoch ≡ epoch incs + 1 → h.first + last_place h ≡ epoch incs → IsOpened incs h → Stands cleans g osd incs h → Stands cleans g osd (then_with incs inc) after
+    by (on code goes) fine next last open' (inl runs) = inl (record {
       fit = subst (λ (m : Membership). IsFit after.code m osd) (sym goes.current) (subst (λ (c : AnyCode). IsFit c h.current osd) (sym code) runs.fit);
       first_is = goes.first ∙ runs.first_is;
+      current_is = goes.current ∙ runs.current_is;
       thru = omega (arith, up_thru-more incs inc osd fine, runs.thru);
       since = omega (arith, up_from-stays incs inc osd fine (primary-up incs pg h osd is runs.fit.leads), runs.since);
+      lasts = omega (arith, epoch-snoc incs inc, next, runs.lasts);
     })
-    by (on code goes) fine next open' (inr over) = inr (record {
-      went = subst (WentReadWrite first) (sym (goes.past cleans)) over.went;
-      each = subst (λ (l : List Past). (interval : Past) → Contains l interval → interval.first ≡ first → interval.rw ≡ true) (sym (goes.past cleans)) over.each;
+    by (on code goes) fine next last open' (inr over) = inr (record {
+      among = subst (IsAmong g) (sym (goes.past cleans)) over.among;
+      each = subst (EachRemembers g) (sym (goes.past cleans)) over.each;
       later = omega (arith, over.later, goes.first);
     })
-    by (ends code ended) fine next open' (inl runs) = inr (stands-ended cleans first osd incs inc h after next open' ended runs)
-    by (ends code ended) fine next open' (inr over) = inr (over-ended cleans first incs inc h after next open' ended over)
+    by (ends code ended) fine next last open' (inl runs) = inr (stands-ended cleans g osd incs inc h after next last open' ended runs)
+    by (ends code ended) fine next last open' (inr over) = inr (over-ended cleans g incs inc h after next open' ended over)
 
 -- ---- the laws
 
 record IsStanding (g after : GroupLog) : Type 0 where
   osd : ℕ
-  stands : Stands (cleans after) (current_first g.history) osd (incs after) after.history
+  stands : Stands (cleans after) g osd (incs after) after.history
 
 standing : (g after : GroupLog) (later : List Entry) → IsAfter g later after → verdict g ≡ Serve → IsStanding g after
 standing g after later is serves =
     let s = serving g serves in
     let osd : ℕ = s.0 in
-    let first : ℕ = current_first g.history in
     let hs = histories g later after is in
     let open' : IsOpened (incs g) g.history = opened g.pg (incs g) (front-checked (incs g) (incs_of later) hs.checked) g.history hs.before in
-    let runs : Stands (cleans after) first osd (incs g) g.history = grind (arith, nat_tests) in
+    let runs : Stands (cleans after) g osd (incs g) g.history = inl (record {
+      fit = s.1.fit;
+      first_is = refl;
+      current_is = refl;
+      thru = s.1.thru;
+      since = open'.since osd s.1.fit.leads;
+      lasts = omega arith;
+    }) in
     record {
       osd = osd;
-      stands = subst (λ (l : List Incremental). Stands (cleans after) first osd l after.history) (sym hs.incs_are)
-          (along g.pg (Stands (cleans after) first osd)
-          (λ is' inc h next checked before then' kept. stands-step (cleans after) first osd g.pg is' inc h next checked before then' kept)
+      stands = subst (λ (l : List Incremental). Stands (cleans after) g osd l after.history) (sym hs.incs_are)
+          (along g.pg (Stands (cleans after) g osd)
+          (λ is' inc h next checked before then' kept. stands-step (cleans after) g osd g.pg is' inc h next checked before then' kept)
           (incs_of later) (incs g) g.history after.history hs.checked hs.before hs.then_is runs);
     }
 
 pub remembered : (g after : GroupLog) (later : List Entry) → IsAfter g later after → verdict g ≡ Serve → IsRemembered g after
-remembered g after later is serves = grind (arith, standing g after later is serves)
+remembered g after later is serves = elim ((standing g after later is serves).stands) [
+  | inl runs ↦ inl (record { first = runs.first_is; members = runs.current_is })
+  | inr over ↦ inr over.among
+]
 
 -- the intervals of a group later
 opened-after : (g after : GroupLog) (later : List Entry) → IsAfter g later after → IsOpened (incs after) after.history
@@ -145,7 +181,7 @@ opened-after g after later is =
     let hs = histories g later after is in
     subst (λ (l : List Incremental). IsOpened l after.history) (sym hs.incs_are) (opened g.pg (incs g ++ incs_of later) hs.checked after.history hs.then_is)
 
-pub remembered-each : (g after : GroupLog) (later : List Entry) (interval : Past) → IsAfter g later after → verdict g ≡ Serve → Contains (past after) interval → interval.first ≡ current_first g.history → interval.rw ≡ true
+pub remembered-each : (g after : GroupLog) (later : List Entry) (interval : Past) → IsAfter g later after → verdict g ≡ Serve → Contains (past after) interval → interval.first ≡ current_first g.history → Remembers g interval
 remembered-each g after later interval is serves in' same = elim ((standing g after later is serves).stands) [
   | inl runs ↦ absurd (omega (arith, (opened-after g after later is).later (cleans after) interval in', runs.first_is, same))
   | inr over ↦ over.each interval in' same
@@ -213,15 +249,22 @@ reckoned-with g interval serves there matters' =
     ]
 
 pub reckoned : (g after : GroupLog) (later : List Entry) (interval : Past) → IsAfter g later after → verdict g ≡ Serve → Contains (past after) interval → interval.first ≡ current_first g.history
-    → verdict after ≡ Serve → les after ≤ interval.last → IsReckonedWith after interval
+    → verdict after ≡ Serve → les after ≤ interval.last → Remembers g interval × IsReckonedWith after interval
 reckoned g after later interval is served there same serves since =
+    let remembers : Remembers g interval = remembered-each g after later interval is served there same in
     let late : nat_le (les after) interval.last ≡ true = grind (arith, nat_tests) in
-    reckoned-with after interval serves there (rw (remembered-each g after later interval is served there same, late) refl)
+    (remembers, reckoned-with after interval serves there (rw (remembers.rw, late) refl))
+
+-- a past interval that may have gone read-write is reckoned with, or it ended before the group is known to have begun to serve
+accounted : (g : GroupLog) (interval : Past) → verdict g ≡ Serve → Contains (past g) interval → interval.rw ≡ true → IsReckonedWith g interval ⊎ (interval.last < les g)
+accounted g interval serves there rw' = grind (arith, nat_tests, reckoned-with)
 
 -- whoever serves again has accounted for the interval, where it isn't current still
-pub served_again : (g after : GroupLog) (later : List Entry) → IsAfter g later after → verdict g ≡ Serve → verdict after ≡ Serve
-    → (current_first after.history ≡ current_first g.history) ⊎ IsAccountedFor (current_first g.history) after
-served_again g after later is served serves = grind (arith, nat_tests, remembered, reckoned-with)
+pub served_again : (g after : GroupLog) (later : List Entry) → IsAfter g later after → verdict g ≡ Serve → verdict after ≡ Serve → IsStillCurrent g after ⊎ IsAccountedFor g after
+served_again g after later is served serves = elim (remembered g after later is served) [
+  | inl still ↦ inl still
+  | inr one ↦ inr (record { interval = one.0; there = one.1; remembers = one.2; how = accounted after one.0 serves one.1 one.2.rw })
+]
 
 -- what the laws say
 pub ruleset served_laws = (remembered, stays_there)

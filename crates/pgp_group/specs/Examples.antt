@@ -17,7 +17,7 @@ use Rattle.pgp_ids.specs.declared.version.Version.{Version}
 use Rattle.pgp_ids.specs.Examples.{empty_copy}
 pub use Rattle.pgp_ids.specs.Examples.{at, in_slot}
 use Rattle.pgp_map.specs.Examples.{empty_step, grouped, part_of}
-use Rattle.pgp_sets.specs.Examples.{of_device, copies_group, shards_group, stands_on, copies_on_three, shards_on_three, take_down, lies_on}
+use Rattle.pgp_sets.specs.Examples.{of_device, copies_group, shards_group, stands_on, copies_on_three, shards_on_three, take_down, resize, lies_on}
 
 -- ---- maps
 
@@ -51,6 +51,14 @@ abbrev pub two_shards_down : List Incremental
 two_shards_down =
     shards_on_three
     ∷ known_up 2 0 1
+    ∷ record (take_down 3 (1 ∷ 2 ∷ [])) { temp = stands_on shards_group (Some 0 ∷ Some 3 ∷ Some 4 ∷ []) }
+    ∷ []
+
+-- the same, where no map told that its primary was known to be up
+abbrev pub two_shards_unrecorded : List Incremental
+two_shards_unrecorded =
+    shards_on_three
+    ∷ empty_step 2
     ∷ record (take_down 3 (1 ∷ 2 ∷ [])) { temp = stands_on shards_group (Some 0 ∷ Some 3 ∷ Some 4 ∷ []) }
     ∷ []
 
@@ -137,3 +145,34 @@ before_serving =
 -- then the map says that the first was up in epoch 1
 abbrev pub until_serving : List Entry
 until_serving = before_serving ++ entry.Inc (known_up 2 0 1) ∷ []
+
+-- ---- groups that served and serve again
+
+-- Both writes, in a log that begins after them, of the first group's copy on a device, sent at this epoch.
+abbrev pub with_both : ℕ → ℕ → Info
+with_both osd stamp = record (copy osd stamp) { last_update = at 1 2; log_tail = at 1 2 }
+
+-- The group of three copies served, and then one of its copies became enough.
+abbrev pub resized : List Entry
+resized = until_serving ++ entry.Inc (resize 3 3 1) ∷ []
+
+-- Each copy told of itself, and the map that the first was up in epoch 3.
+abbrev pub serving_again : List Entry
+serving_again = resized ++ infos_sent (with_both 0 3 ∷ with_both 1 3 ∷ with_both 2 3 ∷ []) ++ entry.Inc (known_up 4 0 3) ∷ []
+
+-- The group of three shards served on the devices 0, 1 and 2.
+abbrev pub shards_serving : List Entry
+shards_serving = maps (shards_on_three ∷ []) ++ infos_sent (shard 0 0 1 ∷ shard 1 1 1 ∷ shard 2 2 1 ∷ []) ++ entry.Inc (known_up 2 0 1) ∷ []
+
+-- All three went down, and pg_temp put the group on 3, 4 and 5.
+abbrev pub all_down : List Entry
+all_down =
+    shards_serving
+    ++ entry.Inc (record (take_down 3 (0 ∷ 1 ∷ 2 ∷ [])) { temp = stands_on shards_group (Some 3 ∷ Some 4 ∷ Some 5 ∷ []) }) ∷ []
+
+-- Then they were destroyed, the others told of themselves, and the map that the first of them was up in epoch 3.
+abbrev pub others_serve : List Entry
+others_serve =
+    all_down
+    ++ entry.Inc (record (empty_step 4) { gone = 0 ∷ 1 ∷ 2 ∷ [] }) ∷ []
+    ++ infos_sent (shard 3 0 4 ∷ shard 4 1 4 ∷ shard 5 2 4 ∷ []) ++ entry.Inc (known_up 5 3 3) ∷ []

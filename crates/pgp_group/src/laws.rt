@@ -6,6 +6,7 @@ pub mod growth;
 pub mod interleaving;
 pub mod later;
 pub mod reckoning;
+pub mod serving_again;
 pub mod touched;
 
 ghost use Rattle.std.specs.Prelude.{ℕ, ◌+◌, ◌-◌, ◌<◌, length, slice_get, ◌≡◌, ◌↔◌, List, [], ◌∷◌, ◌++◌, Some, None, is_some, true, false, option_map, codes, Contains};

@@ -17,18 +17,19 @@ ghost use Rattle.pgp_group.specs.GroupLog.{GroupLog, group_in, incs};
 ghost use Rattle.pgp_group.specs.Heard.{les};
 ghost use Rattle.pgp_group.specs.Later.{IsAfter};
 ghost use Rattle.pgp_group.specs.Peering.{past, prior};
-ghost use Rattle.pgp_group.specs.Reckoning.{IsRemembered, IsReckonedWith, IsAccountedFor, TakesNothingAway};
+ghost use Rattle.pgp_group.specs.Reckoning.{Remembers, IsStillCurrent, IsRemembered, IsReckonedWith, IsAccountedFor, TakesNothingAway};
 ghost use Rattle.pgp_group.specs.Verdict.{verdict};
 
 /// Where a group served, the interval that was current then is current still, or it is past and may have gone read-write, so
-/// that nobody forgets that writes may have been taken in it. A group that is there stays. It rests on two refusals of maps: up_thru never falls, and a
+/// that nobody forgets that writes may have been taken in it. It is named by its first epoch, its members, and the epoch in which
+/// the group served, which it holds. A group that is there stays. It rests on two refusals of maps: up_thru never falls, and a
 /// device that is up doesn't boot.
 #[tactic(auto, using(crate::proofs::ServedLemmas::served_laws))]
 pub fn served()
     ensures remembered { (g after : GroupLog) (later : List Entry) → IsAfter g later after → verdict g ≡ Serve
         → IsRemembered g after }
     ensures each { (g after : GroupLog) (later : List Entry) (interval : Past) → IsAfter g later after → verdict g ≡ Serve
-        → Contains (past after) interval → interval.first ≡ current_first g.history → interval.rw ≡ true }
+        → Contains (past after) interval → interval.first ≡ current_first g.history → Remembers g interval }
     ensures there { (pg : PgId) (log later : List Entry) → are_checked (incs_of (log ++ later)) ≡ true
         → is_some (group_in log pg) ≡ true → is_some (group_in (log ++ later) pg) ≡ true }
 {}
@@ -40,9 +41,9 @@ pub fn served()
 pub fn reckoned()
     ensures interval { (g after : GroupLog) (later : List Entry) (interval : Past) → IsAfter g later after → verdict g ≡ Serve
         → Contains (past after) interval → interval.first ≡ current_first g.history
-        → verdict after ≡ Serve → les after ≤ interval.last → IsReckonedWith after interval }
+        → verdict after ≡ Serve → les after ≤ interval.last → Remembers g interval × IsReckonedWith after interval }
     ensures again { (g after : GroupLog) (later : List Entry) → IsAfter g later after → verdict g ≡ Serve → verdict after ≡ Serve
-        → (current_first after.history ≡ current_first g.history) ⊎ IsAccountedFor (current_first g.history) after }
+        → IsStillCurrent g after ⊎ IsAccountedFor g after }
 {}
 
 /// A group that isn't down doesn't become so by an incremental that takes no device down, destroys none, and gives none up for
