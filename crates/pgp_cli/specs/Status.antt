@@ -1,55 +1,63 @@
--- What the program does beyond answering a script, how its runs and explanations end, and its exit statuses.
-use Rattle.std.specs.Prelude.{ℕ, List, Option, Bool, nat_eq}
+-- What the program did to its reader and writer, by how it ended.
+use Rattle.std.specs.Prelude.{◌≡◌, ◌⊎◌, List, ℕ, Bool, true, Option}
 use Rattle.std.specs.Io.KnownBytes.{Appends}
-use Rattle.pgp_compact_script.specs.Compaction.{IsCompacted}
+use Rattle.pgp_compact_script.specs.Compaction.{IsCompacted, IsCutShort as CompactIsCut}
 use Rattle.pgp_compact_script.specs.declared.compact.Compaction.{Compaction}
 use Rattle.pgp_core.specs.Account.{Account, NoCallFailed}
+use Rattle.pgp_core.specs.Output.{FrontWent}
 use Rattle.pgp_core.specs.Run.{AllAnswered, Stopped, script_bounds}
 use Rattle.pgp_core.specs.declared.fault.ScriptFault.{ScriptFault}
-use Rattle.pgp_explain.specs.Explanation.{IsCutShort, IsExplained}
+use Rattle.pgp_explain.specs.Explanation.{Question, IsExplained, IsCutShort as ExplainIsCut}
 use Rattle.pgp_cli.specs.declared.ending.Ending.{Ending}
-use Rattle.pgp_cli.specs.declared.ending.Ending.TheVariants.{Done, Usage, NoMemory, Fault}
-use Rattle.pgp_cli.specs.declared.explain_options.ExplainOptions.{ExplainOptions}
-use Rattle.pgp_cli.specs.Options.{Counts, question_of}
+use Rattle.pgp_cli.specs.declared.ending.Ending.TheVariants.{Done, Usage, Fault}
 
--- the exit status
-abbrev pub ending_status : Ending → ℕ
-ending_status Done = 0
-ending_status Usage = 2
-ending_status NoMemory = 2
-ending_status Fault = 3
+-- a script was answered to its end, by one thread alone or over an engine, and no call failed
+pub record RunIsDone (before after : Account) : Type 0 where
+  pub alone : Bool
+  pub answered : AllAnswered alone script_bounds before after
 
--- some text was written after what was there: perhaps none, since no clause of clap says a byte of its texts
-pub record Grows (old new : Option (List ℕ)) : Type 0 where
-  pub text : List ℕ
-  pub went : Appends old new text
-
--- nobody else submits where a run has no workers
-abbrev pub is_alone : Counts → Bool
-is_alone counts = nat_eq counts.workers 0
-
--- The script was answered to its end, and no call failed.
-abbrev pub RunIsDone : Counts → (before after : Account) → Type 0
-RunIsDone counts before after = AllAnswered (is_alone counts) script_bounds before after
-
--- A fault stopped the run, and what had been answered by then stands: a read or a write failed, the script is too large, or,
--- with workers, the engine answered no more.
-pub record RunIsStopped (counts : Counts) (before after : Account) : Type 0 where
+-- a fault stopped the run, and what had been answered by then stands
+pub record RunIsStopped (before after : Account) : Type 0 where
+  pub alone : Bool
   pub fault : ScriptFault
-  pub stopped : Stopped (is_alone counts) script_bounds before after fault
+  pub stopped : Stopped alone script_bounds before after fault
 
--- The reader is at its end, and the writer got what the options ask for, by the log that the reader's script makes. No call
--- failed.
-pub record ExplainIsDone (options : ExplainOptions) (before after : Account) : Type 0 where
-  pub explained : IsExplained (question_of options) before.remaining after.remaining before.contents after.contents
+-- a script was read to its end, the writer got what its log says of a group or of all, and no call failed
+pub record ExplainIsDone (before after : Account) : Type 0 where
+  pub asked : Question
+  pub explained : IsExplained asked before.remaining after.remaining before.contents after.contents
   pub quiet : NoCallFailed before after
 
--- The same, where a write failed: a first part of that went out.
-abbrev pub ExplainIsCutShort : ExplainOptions → (from to start now : Option (List ℕ)) → Type 0
-ExplainIsCutShort options from to start now = IsCutShort (question_of options) from to start now
-
--- The writer got the lines that remain of the reader's script, and no call failed.
+-- the writer got the lines that remain of the reader's script, and no call failed
 pub record CompactIsDone (before after : Account) : Type 0 where
   pub counts : Compaction
   pub compacted : IsCompacted counts before.remaining after.remaining before.contents after.contents
   pub quiet : NoCallFailed before after
+
+-- what help or a message about the words did to the writer, by how that ended: a text of help was written; nothing was; or a
+-- first part of help, where a write failed
+abbrev pub HasShown : Ending → (old new : Option (List ℕ)) → (failed_before failed_after : Bool) → Type 0
+HasShown Done old new failed_before failed_after = ((text : List ℕ) × Appends old new text) × (failed_after ≡ failed_before)
+HasShown Usage old new failed_before failed_after = (new ≡ old) × (failed_after ≡ failed_before)
+HasShown Fault old new failed_before failed_after = ((text : List ℕ) × FrontWent old new text) × (failed_after ≡ true)
+
+-- a text of help was written, nothing was read, and no call failed
+pub record HelpIsShown (before after : Account) : Type 0 where
+  pub shown : HasShown Done before.contents after.contents before.write_failed after.write_failed
+  pub unread : after.remaining ≡ before.remaining
+  pub quiet : after.read_failed ≡ before.read_failed
+
+-- a write failed: a first part went out of what a log says of a group or of all, of the lines that remain of a script, or of help
+pub record IsCut (before after : Account) : Type 0 where
+  pub part : ((asked : Question) × ExplainIsCut asked before.remaining after.remaining before.contents after.contents)
+      ⊎ (CompactIsCut before.remaining after.remaining before.contents after.contents after.write_failed
+      ⊎ ((text : List ℕ) × FrontWent before.contents after.contents text))
+  pub failed : after.write_failed ≡ true
+
+-- What the program did: one thing to its end (`Done`); nothing (`Usage`); or, where a fault ended it, a run as far as
+-- it came, nothing that was written, or a part that a failed write cut off.
+abbrev pub HasEnded : Ending → (before after : Account) → Type 0
+HasEnded Done before after =
+    RunIsDone before after ⊎ (ExplainIsDone before after ⊎ (CompactIsDone before after ⊎ HelpIsShown before after))
+HasEnded Usage before after = after ≡ before
+HasEnded Fault before after = RunIsStopped before after ⊎ ((after.contents ≡ before.contents) ⊎ IsCut before after)

@@ -1,12 +1,4 @@
 //! The program's command line and its help.
-ghost use Rattle.std.specs.Prelude.{◌≡◌, false, map, string_bytes, IfOk};
-ghost use Rattle.clap.specs.Faults.{fault_of};
-ghost use Rattle.clap.specs.Kinds.{FailsBy};
-ghost use Rattle.clap.specs.Simple.{app_of, subcommand_of, subcommand_rows_of};
-ghost use Rattle.clap.specs.Walk.{rule_of};
-ghost use Rattle.clap.specs.Values.{kind_of};
-ghost use Rattle.pgp_cli.specs.Options.{bare_app, pgpeer_app, run_app, explain_app, compact_app, group_word, json_flag, count_option};
-
 use clap::error::ErrorKind;
 use clap::{Arg, ArgAction, ArgMatches, Command, Error};
 use std::alloc::{AllocError, Global};
@@ -94,41 +86,26 @@ const OFFSET_HELP: &str =
 /// Parses a command line of the program. The first word is the program's name.
 ///
 /// A request for help is an error too, and its text belongs on the standard output.
-pub fn parse<'a>(alloc: Global, words: &'a [String]) -> Result<ArgMatches<'a>, Error>
-    ensures fails { FailsBy (fault_of pgpeer_app (map string_bytes words.now)) result }
-    ensures found { IfOk result (λ matches. subcommand_rows_of matches ≡ subcommand_of pgpeer_app (map string_bytes words.now)) }
-{
-    let mut pgpeer = pgpeer(alloc)?;
-    pgpeer.try_get_matches_from_mut(words)
+pub fn parse<'a>(alloc: Global, words: &'a [String]) -> Result<ArgMatches<'a>, Error> {
+    pgpeer(alloc)?.try_get_matches_from(words)
 }
 
 /// The program's command line.
-fn pgpeer<'a>(alloc: Global) -> Result<Command<'a>, AllocError>
-    ensures { IfOk result (λ command. app_of command ≡ pgpeer_app) }
-{
+fn pgpeer<'a>(alloc: Global) -> Result<Command<'a>, AllocError> {
     let run = run(alloc)?;
     let explain = explain(alloc)?;
-    bare(alloc)
-        .subcommand(run)?
-        .subcommand(explain)?
-        .subcommand(compact(alloc))
-}
-
-/// The same without its subcommands.
-fn bare<'a>(alloc: Global) -> Command<'a>
-    ensures { app_of result ≡ bare_app }
-{
     Command::new(alloc, "pgpeer")
         .version("0.1.0")
         .about("Says where objects lie and whether placement groups may serve, from lines of JSON")
         .after_help(HELP)
         .subcommand_required(true)
+        .subcommand(run)?
+        .subcommand(explain)?
+        .subcommand(compact(alloc))
 }
 
 /// `run [--shards N] [--workers N]`
-fn run<'a>(alloc: Global) -> Result<Command<'a>, AllocError>
-    ensures { IfOk result (λ command. app_of command ≡ run_app) }
-{
+fn run<'a>(alloc: Global) -> Result<Command<'a>, AllocError> {
     Command::new(alloc, "run")
         .about("Reads a script from standard input and answers it line by line")
         .after_help(RUN_HELP)
@@ -137,23 +114,23 @@ fn run<'a>(alloc: Global) -> Result<Command<'a>, AllocError>
 }
 
 /// `explain [PG] [--json] [--epoch-offset N]`
-fn explain<'a>(alloc: Global) -> Result<Command<'a>, AllocError>
-    ensures { IfOk result (λ command. app_of command ≡ explain_app) }
-{
+fn explain<'a>(alloc: Global) -> Result<Command<'a>, AllocError> {
+    let json = Arg::new(alloc, "json")
+        .long("json")
+        .action(ArgAction::SetTrue)
+        .help(JSON_HELP);
     Command::new(alloc, "explain")
         .about(
             "Reads a script from standard input and says why a group doesn't serve, and what brings it back",
         )
         .after_help(EXPLAIN_HELP)
-        .arg(group(alloc))?
-        .arg(json(alloc))?
+        .arg(Arg::new(alloc, "pg").value_name("PG").help(GROUP_HELP))?
+        .arg(json)?
         .arg(count(alloc, "epoch-offset", OFFSET_HELP))
 }
 
 /// `compact`
-fn compact<'a>(alloc: Global) -> Command<'a>
-    ensures { app_of result ≡ compact_app }
-{
+fn compact<'a>(alloc: Global) -> Command<'a> {
     Command::new(alloc, "compact")
         .about(
             "Reads a script from standard input and writes the lines that an answer can still need",
@@ -161,54 +138,19 @@ fn compact<'a>(alloc: Global) -> Command<'a>
         .after_help(COMPACT_HELP)
 }
 
-/// The word that names a group.
-fn group<'a>(alloc: Global) -> Arg<'a>
-    ensures rule { rule_of result ≡ group_word }
-    ensures local { result.global ≡ false }
-{
-    Arg::new(alloc, "pg").value_name("PG").help(GROUP_HELP)
-}
-
-/// The flag that asks for JSON.
-fn json<'a>(alloc: Global) -> Arg<'a>
-    ensures rule { rule_of result ≡ json_flag }
-    ensures local { result.global ≡ false }
-{
-    Arg::new(alloc, "json")
-        .long("json")
-        .action(ArgAction::SetTrue)
-        .help(JSON_HELP)
-}
-
 /// An option that takes a number.
-fn count<'a>(alloc: Global, name: &'a str, help: &'a str) -> Arg<'a>
-    ensures rule { rule_of result ≡ count_option name.entry.now }
-    ensures local { result.global ≡ false }
-{
+fn count<'a>(alloc: Global, name: &'a str, help: &'a str) -> Arg<'a> {
     Arg::new(alloc, name).long(name).value_name("N").help(help)
 }
 
 /// An error of `pgpeer run`, with its usage.
-pub fn run_error(alloc: Global, kind: ErrorKind, message: &str) -> Result<Error, AllocError>
-    ensures { IfOk result (λ error. kind_of error ≡ kind) }
-{
+pub fn run_error(alloc: Global, kind: ErrorKind, message: &str) -> Result<Error, AllocError> {
     run(alloc)?.bin_name("pgpeer run")?.error(kind, message)
 }
 
 /// An error of `pgpeer explain`, with its usage.
-pub fn explain_error(alloc: Global, kind: ErrorKind, message: &str) -> Result<Error, AllocError>
-    ensures { IfOk result (λ error. kind_of error ≡ kind) }
-{
+pub fn explain_error(alloc: Global, kind: ErrorKind, message: &str) -> Result<Error, AllocError> {
     explain(alloc)?
         .bin_name("pgpeer explain")?
-        .error(kind, message)
-}
-
-/// An error of `pgpeer compact`, with its usage.
-pub fn compact_error(alloc: Global, kind: ErrorKind, message: &str) -> Result<Error, AllocError>
-    ensures { IfOk result (λ error. kind_of error ≡ kind) }
-{
-    compact(alloc)
-        .bin_name("pgpeer compact")?
         .error(kind, message)
 }

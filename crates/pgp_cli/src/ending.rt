@@ -1,24 +1,20 @@
 //! How the program ends, and its exit statuses.
-ghost use Rattle.std.specs.Prelude.{◌≡◌};
-ghost use Rattle.pgp_cli.specs.Status.{ending_status};
 
 /// The script was answered, explained or compacted to its end, or help was shown.
 pub const DONE: u8 = 0;
-/// The command line is wrong, or there was no memory to read it.
+/// The command line is wrong, or there was no memory to read it or for the text of help.
 pub const USAGE: u8 = 2;
 /// A read or a write failed, the script is too large, there is no engine to answer it, no such group to explain, or no memory
 /// to explain or compact it.
 pub const FAULT: u8 = 3;
 
-/// How the program ended. A wrong command line and a lack of memory to read it have the same exit status.
+/// How the program ended.
 #[derive(Clone, Copy, Debug)]
 pub enum Ending {
     /// The script was answered, explained or compacted to its end, or help was shown.
     Done,
-    /// The command line is wrong.
+    /// The command line is wrong, or there was no memory to read it or for the text of help.
     Usage,
-    /// There was no memory to read the command line, or for the text of help.
-    NoMemory,
     /// A read or a write failed, the script is too large, there is no engine to answer it, no such group to explain, or no
     /// memory to explain or compact it.
     Fault,
@@ -26,12 +22,10 @@ pub enum Ending {
 
 impl Ending {
     /// The status to exit with.
-    pub fn status(self) -> u8
-        ensures { result ≡ ending_status self }
-    {
+    pub fn status(self) -> u8 {
         match self {
             Ending::Done => DONE,
-            Ending::Usage | Ending::NoMemory => USAGE,
+            Ending::Usage => USAGE,
             Ending::Fault => FAULT,
         }
     }

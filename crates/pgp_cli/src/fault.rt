@@ -1,9 +1,8 @@
 //! Why the program ended with a fault, and the message that says so.
-ghost use Rattle.std.specs.Prelude.{◌≡◌, if◌then◌else◌};
-ghost use Rattle.pgp_core.specs.declared.whole.WholeFault.TheVariants.{Read as ReadFailed, TooLarge};
-ghost use Rattle.pgp_cli.specs.declared.fault.Fault.TheVariants.{Script};
 
+use pgp_compact_script::CompactFault;
 use pgp_core::{Source, WholeFault};
+use pgp_explain::ExplainFault;
 use pgp_ids::PgId;
 use std::fmt;
 
@@ -22,14 +21,31 @@ pub enum Fault {
 
 impl Fault {
     /// Why the reader gave no more, if it did not come to its end. Where a read had failed before the run, it is told as that.
-    pub fn of_reader<R: Source>(reader: &R) -> Fault
-        ensures { result ≡ Script (if R.failed reader.now then ReadFailed else TooLarge) }
-    {
+    pub fn of_reader<R: Source>(reader: &R) -> Fault {
         Fault::Script(if reader.has_failed() {
             WholeFault::Read
         } else {
             WholeFault::TooLarge
         })
+    }
+}
+
+impl From<ExplainFault> for Fault {
+    fn from(why: ExplainFault) -> Fault {
+        match why {
+            ExplainFault::Script(why) => Fault::Script(why),
+            ExplainFault::Write => Fault::Write,
+            ExplainFault::UnknownGroup(pg) => Fault::UnknownGroup(pg),
+        }
+    }
+}
+
+impl From<CompactFault> for Fault {
+    fn from(why: CompactFault) -> Fault {
+        match why {
+            CompactFault::Script(why) => Fault::Script(why),
+            CompactFault::Write => Fault::Write,
+        }
     }
 }
 

@@ -7,29 +7,17 @@
 #![tactic(auto)]
 
 mod commands;
-mod compact_words;
 mod ending;
 mod engine_run;
-mod explain_options;
-mod explain_words;
 mod fault;
-pub mod laws;
-mod named;
 mod request;
-mod run_options;
 mod status;
 mod streams;
 mod tell;
-mod words;
 
-pub use compact_words::compaction;
 pub use ending::{DONE, Ending, FAULT, USAGE};
 pub use engine_run::run_engine;
-pub use explain_options::ExplainOptions;
-pub use explain_words::explanation;
-pub use request::{Request, read_request};
-pub use run_options::RunOptions;
+pub use request::{ExplainOptions, Request, RunOptions, options, read_request};
 pub use status::status_of;
 pub use streams::WatchedStream;
 pub use tell::without_words;
-pub use words::options;

@@ -1,10 +1,6 @@
 //! Help, and the messages where the program does not do what it is asked for.
-ghost use Rattle.std.specs.Prelude.{◌≡◌, ◌≢◌, ◌⊎◌, true};
-ghost use Rattle.std.specs.Io.KnownBytes.{Appends};
-ghost use Rattle.std.specs.declared.io.ErrorKind.TheVariants.{InvalidData};
-ghost use Rattle.clap.specs.Values.{kind_of};
-ghost use Rattle.pgp_cli.specs.Options.{IsRequest};
-ghost use Rattle.pgp_cli.specs.Status.{Grows};
+ghost use Rattle.std.specs.Prelude.{◌≡◌};
+ghost use Rattle.pgp_cli.specs.Status.{HasShown};
 
 use super::ending::Ending;
 use super::fault::Fault;
@@ -24,48 +20,27 @@ pub fn help_or_usage<W: Sink, E: Write>(
     writer: &mut W,
     errors: &mut E,
 ) -> Ending
-    ensures done { result ≡ Ending.Done → IsRequest (kind_of error.now) × Grows (W.contents writer.old) (W.contents writer.new) }
-    ensures kept { result ≡ Ending.Done → W.failed writer.new ≡ W.failed writer.old }
-    ensures quiet { result ≡ Ending.Done → errors.new ≡ errors.old }
-    ensures usage { result ≡ Ending.Usage → (kind_of error.now ≢ ErrorKind.OutOfMemory) × (IsRequest (kind_of error.now) → ⊥)
-        × (writer.new ≡ writer.old) }
-    ensures memory { result ≡ Ending.NoMemory → writer.new ≡ writer.old }
-    ensures fault { result ≡ Ending.Fault → IsRequest (kind_of error.now) × (W.failed writer.new ≡ true) }
+    ensures { HasShown result (W.contents writer.old) (W.contents writer.new) (W.failed writer.old) (W.failed writer.new) }
 {
     if error.use_stderr() {
         return usage(error, words, errors);
     }
     match format!(in alloc; "{error}") {
         Ok(help) => show_help(help.as_str(), writer, errors),
-        Err(_) => no_memory(errors),
+        Err(_) => usage(&Error::from(AllocError), words, errors),
     }
 }
 
 /// Says what is wrong with the command line, and where a script comes from if a superfluous word may be the name of one; or
 /// that there was no memory to read it.
 fn usage<E: Write>(error: &Error, words: &[String], errors: &mut E) -> Ending
-    ensures wrong { result ≡ Ending.Usage → kind_of error.now ≢ ErrorKind.OutOfMemory }
-    ensures memory { result ≡ Ending.NoMemory → kind_of error.now ≡ ErrorKind.OutOfMemory }
-    ensures only { (result ≡ Ending.Usage) ⊎ (result ≡ Ending.NoMemory) }
+    ensures { result ≡ Ending.Usage }
 {
     let _ = write!(errors, "{error}");
-    match error.kind() {
-        ErrorKind::OutOfMemory => Ending::NoMemory,
-        ErrorKind::UnknownArgument => {
-            tell_source(words, errors);
-            Ending::Usage
-        }
-        _ => Ending::Usage,
+    if error.kind() == ErrorKind::UnknownArgument {
+        tell_source(words, errors);
     }
-}
-
-/// Says that there was no memory for the text of help.
-fn no_memory<E: Write>(errors: &mut E) -> Ending
-    ensures { result ≡ Ending.NoMemory }
-{
-    let error = Error::from(AllocError);
-    let _ = write!(errors, "{error}");
-    Ending::NoMemory
+    Ending::Usage
 }
 
 /// Says where a script comes from, if a word that is no option follows the subcommand.
@@ -89,11 +64,7 @@ fn tell_source<E: Write>(words: &[String], errors: &mut E) {
 
 /// Shows the text of help.
 fn show_help<W: Sink, E: Write>(help: &str, writer: &mut W, errors: &mut E) -> Ending
-    ensures only { (result ≡ Ending.Done) ⊎ (result ≡ Ending.Fault) }
-    ensures fault { result ≡ Ending.Fault → W.failed writer.new ≡ true }
-    ensures shown { result ≡ Ending.Done → Appends (W.contents writer.old) (W.contents writer.new) help.now }
-    ensures kept { result ≡ Ending.Done → W.failed writer.new ≡ W.failed writer.old }
-    ensures quiet { result ≡ Ending.Done → errors.new ≡ errors.old }
+    ensures { HasShown result (W.contents writer.old) (W.contents writer.new) (W.failed writer.old) (W.failed writer.new) }
 {
     match pass_on(writer, help.as_bytes()) {
         Ok(()) => Ending::Done,
@@ -102,16 +73,13 @@ fn show_help<W: Sink, E: Write>(help: &str, writer: &mut W, errors: &mut E) -> E
 }
 
 /// Says why the words of the command line could not be read: one is no text, or there was no memory for them.
-pub fn without_words<E: Write>(kind: io::ErrorKind, errors: &mut E) -> Ending
-    ensures wrong { kind ≡ InvalidData → result ≡ Ending.Usage }
-    ensures memory { kind ≢ InvalidData → result ≡ Ending.NoMemory }
-{
-    let (why, ending) = match kind {
-        io::ErrorKind::InvalidData => ("an argument is not UTF-8", Ending::Usage),
-        _ => ("out of memory", Ending::NoMemory),
+pub fn without_words<E: Write>(kind: io::ErrorKind, errors: &mut E) -> Ending {
+    let why = match kind {
+        io::ErrorKind::InvalidData => "an argument is not UTF-8",
+        _ => "out of memory",
     };
     let _ = writeln!(errors, "error: {why}");
-    ending
+    Ending::Usage
 }
 
 /// Reports a fault.

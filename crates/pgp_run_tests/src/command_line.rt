@@ -1,5 +1,4 @@
-//! Command lines: what the program ends with that is given these words, and the text of help. Where words have no fault, a
-//! contract can't say that they are taken: the program may still say that there was no memory to read them.
+//! Command lines: what the program ends with that is given these words, and the text of help.
 
 use crate::program::{Row, Text, end_so};
 use pgp_cli::{DONE, FAULT, USAGE, without_words};
@@ -240,6 +239,6 @@ fn words_that_could_not_be_read_are_named(rt: HostRuntime) {
     for (kind, told) in &NO_WORDS {
         let mut errors = Vec::new(rt.alloc());
         let ending = without_words(*kind, &mut errors);
-        assert!(rt; ending.status() == USAGE && errors.as_slice() == *told);
+        assert!(rt; ending.status() == 2 && errors.as_slice() == *told);
     }
 }
