@@ -7,7 +7,7 @@ Without a DOCUMENT all files *.md of the repository are read. Looked up are
 
   links     [text](file), from the folder of the document; those to the web are left out
   sections  [text](file#section) and [text](#section), among the headings of that document
-  files     each name of a file in backticks, and each in a block of code
+  files     each name of a file in backticks, and each in a block of code; there a command also has to be executable
 
 In backticks a name of a file is one word of letters, digits and . _ - / *, which begins with a folder at the top of the repository,
 ends in a slash, or ends as sources do (.md, .py, .rt and others). It is looked up from the top of the repository, from the folder
@@ -21,6 +21,7 @@ Prints what isn't there, with the document and the line. The last line is `N nam
 
 import argparse
 import functools
+import os
 import pathlib
 import re
 import sys
@@ -35,6 +36,7 @@ BUILT = {"AnswersOffered.antt"}  # what the prover writes where it is asked to
 LINK = re.compile(r"\]\(([^()\s]+)\)")
 TICKED = re.compile(r"(`+)(.+?)\1")
 WORD = re.compile(r"[\w./*-]+")
+COMMAND = re.compile(r"(?:^|&&|[;|])\s*(?:\.\./)*([\w./-]+)")
 PLACEHOLDER = re.compile(r"(?<![A-Za-z0-9])[A-Z]{2,}(?![A-Za-z0-9]|\.md$)")
 
 
@@ -43,7 +45,7 @@ class Name(NamedTuple):
 
     line: int
     text: str
-    is_link: bool
+    kind: str  # "link", "file" or "command"
 
 
 def documents() -> List[pathlib.Path]:
@@ -70,12 +72,13 @@ def is_file_name(text: str) -> bool:
     return text.endswith("/") or text.split("/")[0] in top_folders() or text.endswith(SOURCES + DATA)
 
 
-def words_of_code(text: str) -> Iterator[str]:
+def names_in_code(number: int, text: str) -> Iterator[Name]:
     """The words of a line of code that begin with a folder at the top."""
+    commands = COMMAND.findall(text)
     for word in re.split(r"[\s=;|&<>()'\"]+", text):
         word = re.sub(r"^(\.\./)+", "", word).rstrip(",:")
         if "/" in word and word.split("/")[0] in top_folders() and is_file_name(word):
-            yield word
+            yield Name(number, word, "command" if word in commands else "file")
 
 
 def without_code(text: str) -> str:
@@ -98,12 +101,12 @@ def lines_of(text: str) -> Iterator[Tuple[int, str, bool]]:
 def names_in(text: str) -> Iterator[Name]:
     for number, line, is_code in lines_of(text):
         if is_code:
-            yield from (Name(number, word, False) for word in words_of_code(line))
+            yield from names_in_code(number, line)
             continue
-        yield from (Name(number, it, True) for it in LINK.findall(without_code(line)))
+        yield from (Name(number, it, "link") for it in LINK.findall(without_code(line)))
         # The text of a link may be in backticks: its file is that of the link.
         unlinked = re.sub(r"\[[^\[\]]*\]\([^()\s]+\)", "", line)
-        yield from (Name(number, it, False) for _, it in TICKED.findall(unlinked) if is_file_name(it))
+        yield from (Name(number, it, "file") for _, it in TICKED.findall(unlinked) if is_file_name(it))
 
 
 def sections(document: pathlib.Path) -> Set[str]:
@@ -150,10 +153,13 @@ def wrong_names(document: pathlib.Path) -> Tuple[int, List[str]]:
     count, wrong = 0, []
     for name in names_in(document.read_text()):
         count += 1
-        if name.is_link:
+        if name.kind == "link":
             why = wrong_link(document, name.text)
+        elif not is_there(document, name.text):
+            why = f"no file {name.text}"
         else:
-            why = "" if is_there(document, name.text) else f"no file {name.text}"
+            is_idle = name.kind == "command" and not os.access(ROOT / name.text, os.X_OK)
+            why = f"{name.text} isn't executable" if is_idle else ""
         if why:
             wrong.append(f"{document.relative_to(ROOT)}:{name.line}: {why}")
     return count, wrong

@@ -89,9 +89,17 @@ class Files(WithTree):
         self.assertEqual(self.wrong("`built.md`\n"), ["1: no file built.md"])
 
     def test_code_names_files_by_a_folder_at_the_top(self):
+        (self.root / "tools/check.py").chmod(0o755)
         self.assertEqual(self.wrong("a\n\n    cd tools && ../tools/check.py --x=examples/outage.jsonl < told.jsonl > out/x.md\n"), [])
-        found = self.wrong("a\n\n    tools/chek.py < ../../examples/outrage.jsonl\n\n    docs/RULES.md\n")
+        found = self.wrong("a\n\n    tools/chek.py < ../../examples/outrage.jsonl\n\n    cat docs/RULES.md\n")
         self.assertEqual(found, ["3: no file tools/chek.py", "3: no file examples/outrage.jsonl"])
+
+
+    def test_a_command_is_executable(self):
+        text = "a\n\n    cd tools && ../tools/check.py examples/outage.jsonl\n    python3 tools/check.py\n"
+        self.assertEqual(self.wrong(text), ["3: tools/check.py isn't executable"])
+        (self.root / "tools/check.py").chmod(0o755)
+        self.assertEqual(self.wrong(text), [])
 
 
 class All(WithTree):
