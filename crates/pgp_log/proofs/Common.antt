@@ -26,7 +26,7 @@ pub use Rattle.pgp_group.specs.GroupHistory.{AreNumbered, group_facts, group_his
 pub use Rattle.pgp_group.specs.GroupLog.{group_in, group_with}
 pub use Rattle.pgp_group.specs.GroupOf.{Follows, IsGroupOf, IsSilent, TellsNothingAhead}
 pub use Rattle.pgp_group.specs.Reaching.{reaching}
-pub use Rattle.pgp_group.specs.Reckoning.{TakesNothingAway, WentReadWrite}
+pub use Rattle.pgp_group.specs.Reckoning.{IsRemembered, TakesNothingAway, WentReadWrite}
 pub use Rattle.pgp_group.specs.Touched.{changed_devices, changes_pool, changes_temp, has_osd, has_to_do_with, is_touched, may_lie_on, may_move, moves_all, names, view_at, turned_devices}
 pub use Rattle.pgp_group.specs.View.{scratch, view_of}
 pub use Rattle.pgp_group.specs.declared.group.Group.{Group}

@@ -18,7 +18,7 @@ ghost use Rattle.pgp_sets.specs.Sets.{membership};
 ghost use Rattle.pgp_group.specs.Entries.{incs_of};
 ghost use Rattle.pgp_group.specs.Touched.{is_touched, view_at};
 ghost use Rattle.pgp_group.specs.View.{scratch};
-ghost use Rattle.pgp_group.specs.Examples.{at, in_slot, copy, copy_up_to, shard, known_up, maps, on_three, two_shards_down, entries_of_first, modify, before_serving, until_serving};
+ghost use Rattle.pgp_group.specs.Examples.{at, in_slot, copy, copy_up_to, shard, known_up, maps, on_three, two_shards_down, entries_of_first, modify, before_serving, until_serving, serving_again, others_serve};
 ghost use Rattle.pgp_log.specs.Fits.{fits, entry_fault, is_close, is_closed};
 ghost use Rattle.pgp_log.specs.Log.{epoch_of, is_taken_at, is_legal, EndsWithClose, EpochsCount};
 ghost use Rattle.pgp_log.specs.Shard.{shard_of};
@@ -146,9 +146,13 @@ pub fn stamps()
     ensures first { fits (maps (copies_on_three ∷ [])) (entry.Info (copy 0 2)) ≡ Some refusal.FutureStamp }
 {}
 
-/// The epochs and versions of an info have to go together.
+/// The epochs and versions of an info have to go together: no epoch is above the stamp.
 pub fn infos_that_contradict_themselves()
     ensures les { let info = record (copy 0 1) { les = 2 } in
+        fits (maps (copies_on_three ∷ [])) (entry.Info info) ≡ Some refusal.BadVersion }
+    ensures history_les { let info = record (copy 0 1) { history_les = 2 } in
+        fits (maps (copies_on_three ∷ [])) (entry.Info info) ≡ Some refusal.BadVersion }
+    ensures last_epoch_clean { let info = record (copy 0 1) { last_epoch_clean = 2 } in
         fits (maps (copies_on_three ∷ [])) (entry.Info info) ≡ Some refusal.BadVersion }
     ensures half_a_version { let info = copy_up_to 0 (at 1 0) in
         fits (maps (copies_on_three ∷ [])) (entry.Info info) ≡ Some refusal.BadVersion }
@@ -160,7 +164,7 @@ pub fn infos_that_contradict_themselves()
         fits (maps (copies_on_three ∷ [])) (entry.Info info) ≡ Some refusal.BadVersion }
     ensures one_number_twice { let info = record (copy 0 2) { last_update = at 2 1; log_tail = at 1 1 } in
         fits (maps (copies_on_three ∷ resize 2 3 1 ∷ [])) (entry.Info info) ≡ Some refusal.BadVersion }
-    ensures together { let info = record (copy 0 2) { last_update = at 2 2; log_tail = at 1 1 } in
+    ensures together { let info = record (copy 0 2) { les = 2; history_les = 2; last_epoch_clean = 2; last_update = at 2 2; log_tail = at 1 1 } in
         fits (maps (copies_on_three ∷ resize 2 3 1 ∷ [])) (entry.Info info) ≡ None }
 {}
 
@@ -180,10 +184,12 @@ pub fn closed_log()
     ensures open { fits [] entry.Close ≡ None }
 {}
 
-/// The log by which a group comes to serve is legal, and so is that by which one is down.
+/// The logs by which a group comes to serve, and serves again, are legal, and so is that by which one is down.
 pub fn legal_logs()
     ensures serving { is_legal until_serving ≡ true }
     ensures down { is_legal (maps two_shards_down) ≡ true }
+    ensures serving_again { is_legal serving_again ≡ true }
+    ensures others_serve { is_legal others_serve ≡ true }
     ensures closed { is_legal (until_serving ++ entry.Close ∷ []) ≡ true }
     ensures gap { is_legal (maps (empty_step 2 ∷ [])) ≡ false }
 {}
