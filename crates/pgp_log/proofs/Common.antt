@@ -45,20 +45,18 @@ pub use Rattle.pgp_lists.proofs.Bools.{and3_parts, or3_parts, same_tests}
 pub use Rattle.pgp_lists.proofs.Lists.{any-mapped, get-append, get-last, get-set_other, get-set_same, none-at, none-each, take-front}
 pub use Rattle.pgp_lists.proofs.Options.{if_none, map_some, none_is, some-weaker, some_is, some_mapped}
 pub use Rattle.pgp_lists.specs.Repeats.{has_repeat}
-pub use Rattle.pgp_log.specs.Bits.{HasLostBit}
 pub use Rattle.pgp_log.specs.Fits.{entry_fault, fits, full_fault, is_close, is_closed}
 pub use Rattle.pgp_log.specs.Groups.{HasOneMore, AreAtPlaces, AreGroupsOf, AreOwnGroupsOf, CanAbsorb, HasOwn, HasStill, IsKeptBeside, IsKeptIfOwn, IsOwnIfKept, IsStepping, KeepsAll, KeepsMarks, keeps, marks_of, owns, shard_with}
 pub use Rattle.pgp_log.specs.Judge.{IsJudgeOf}
-pub use Rattle.pgp_log.specs.KeptGroup.{AreAllMarked, AreKeptOf, AreRowsOf, IsChangesOf, IsKeptOf, IsPassedBy, IsPassedByRow, IsRowOf, IsStep, IsViewOf, devices_for, ids_of, is_marked, marks_in, may_concern, may_place}
+pub use Rattle.pgp_log.specs.KeptGroup.{AreAllMarked, AreKeptOf, IsKeptOf, IsStep, IsViewOf, ids_of, is_marked, marks_in}
+pub use Rattle.pgp_log.specs.Rows.{AreRowsOf, IsChangesOf, IsRowOf, devices_for, may_concern, may_place}
 pub use Rattle.pgp_log.specs.Log.{EndsWithClose, EpochsCount, HasInc, IsFrontOf, epoch_of, is_accepted, is_legal, is_taken_at}
 pub use Rattle.pgp_log.specs.MapBefore.{IsMapBefore, makes_heavier, only_lightens, renamed_devices, with_facts}
 pub use Rattle.pgp_log.specs.OsdFilter.{Covers, CoversStill, have_a_bit, may_meet}
 pub use Rattle.pgp_log.specs.RawSets.{AreRawSets, IsRawSet, moves_any}
 pub use Rattle.pgp_log.specs.ReportFault.{has_bad_info, has_future_stamp, has_unknown_group, has_unknown_member, info_fault, report_fault}
-pub use Rattle.pgp_log.specs.Rows.{AreInBlocks, AreIn, IsInBlock, IsInWideBlock}
 pub use Rattle.pgp_log.specs.Shard.{AreMarked, HasReadFewer, HasReadSame, HasReadSome, IsUnmarked, MarksOnlyTouched, Shard, has_own, having_read, having_read_all, having_read_front, is_among, is_own, opening_shard, shard_of, without}
 pub use Rattle.pgp_log.specs.Touch.{changes_no_pool, changes_nothing, changes_placement, changes_placements, moves_none, tells_nothing, turns_none}
-pub use Rattle.pgp_log.specs.WideFilter.{Has, HasNone, KeepsDevices, Meet}
 pub use Rattle.pgp_log.specs.World.{Reply, Step, World, after, after_absorb, after_all, after_submit, front_of, replies, reply_to, submit_reply, view_reply}
 pub use Rattle.pgp_log.specs.World.Reply.{Absorbed, Asked, Submitted}
 pub use Rattle.pgp_log.specs.World.Step.{Absorb, Ask, Submit}
@@ -70,9 +68,6 @@ pub use Rattle.pgp_log.specs.declared.kept_group.KeptGroup.{KeptGroup}
 pub use Rattle.pgp_log.specs.declared.osd_filter.OsdFilter.{OsdFilter}
 pub use Rattle.pgp_log.specs.declared.owner.Owner.{Owner}
 pub use Rattle.pgp_log.specs.declared.row.Row.{Row}
-pub use Rattle.pgp_log.specs.declared.rows.Block.{Block}
-pub use Rattle.pgp_log.specs.declared.rows.WideBlock.{WideBlock}
-pub use Rattle.pgp_log.specs.declared.wide_filter.WideFilter.{WideFilter}
 pub use Rattle.pgp_tables.proofs.Common.{same_group}
 pub use Rattle.pgp_map.proofs.CheckedLemmas.{checked-has_group, checked-more, pools-in_range}
 pub use Rattle.pgp_map.specs.Checked.{are_checked}

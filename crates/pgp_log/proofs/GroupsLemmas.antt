@@ -10,7 +10,7 @@ ids-set xs i old new at same =
 
 -- ---- the table of places
 
-pub at-places : (old groups : Groups) → groups.places ≡ old.places → ids_of groups.kept.items ≡ ids_of old.kept.items → AreRowsOf groups.rows groups.kept.items → AreAtPlaces old → AreAtPlaces groups
+pub at-places : (old groups : Groups) → groups.places ≡ old.places → ids_of groups.kept.items ≡ ids_of old.kept.items → AreRowsOf groups.rows.items groups.kept.items → AreAtPlaces old → AreAtPlaces groups
 at-places old groups same ids rows are = record {
   there = λ pg place is. ap (λ (l : List PgId). slice_get l place) ids ∙ are.there pg place (rw same at is);
   found = λ pg place is. rw same (are.found pg place (ap (λ (l : List PgId). slice_get l place) (sym ids) ∙ is));
@@ -25,8 +25,8 @@ place-within groups pg place are is =
 pub kept-within : (groups : Groups) (pg : PgId) (place : ℕ) → AreAtPlaces groups → hash.get is_same_group groups.places pg ≡ Some place → place < groups.kept.len
 kept-within groups pg place are is = omega (arith, place-within groups pg place are is, groups.kept.ok.0)
 
-pub row-within : (groups : Groups) (pg : PgId) (place : ℕ) → AreAtPlaces groups → hash.get is_same_group groups.places pg ≡ Some place → place < length groups.rows
-row-within groups pg place are is = omega (arith, place-within groups pg place are is, are.rows.long)
+pub row-within : (groups : Groups) (pg : PgId) (place : ℕ) → AreAtPlaces groups → hash.get is_same_group groups.places pg ≡ Some place → place < groups.rows.len
+row-within groups pg place are is = omega (arith, place-within groups pg place are is, are.rows.long, groups.rows.ok.0)
 
 -- the group that is read there
 pub kept-at : (groups : Groups) (pg : PgId) (place : ℕ) (kept : KeptGroup) → AreAtPlaces groups → hash.get is_same_group groups.places pg ≡ Some place → kept ≡ get_or groups.kept.items place kept → slice_get groups.kept.items place ≡ Some kept
@@ -73,14 +73,14 @@ groups-on log later groups map on are = record {
 pub groups-anew : (log later : List Entry) (old : Groups) (place : ℕ) (kept after : KeptGroup) (row : Row) (worked : Bool) → slice_get old.kept.items place ≡ Some kept
     → after.pg ≡ kept.pg → IsRowOf row after → (worked ≡ false → (old.some_worked_out ≡ false) × (is_marked after ≡ true)) → (IsKeptOf log kept → IsKeptOf later after)
     → ((j : ℕ) (other : KeptGroup) → (j ≡ place → ⊥) → slice_get old.kept.items j ≡ Some other → IsKeptOf log other → IsKeptOf later other)
-    → AreGroupsOf log old → AreGroupsOf later (record old { rows = set old.rows place row; kept = with_item old.kept place after; some_worked_out = worked })
+    → AreGroupsOf log old → AreGroupsOf later (record old { rows = with_item old.rows place row; kept = with_item old.kept place after; some_worked_out = worked })
 groups-anew log later old place kept after row worked at same shown marked takes others are =
     let within : place < length old.kept.items = slice_get_within old.kept.items place kept at in
     record {
       each = record {
         each = each-set (λ j z. IsKeptOf later z) old.kept.items place after within (takes (are.each.each place kept at)) (λ j z differs there. others j z differs there (are.each.each j z there));
       };
-      places_are = at-places old _ refl (ids-set old.kept.items place kept after at same) (rows-set old.rows old.kept.items place row after within shown are.places_are.rows) are.places_are;
+      places_are = at-places old _ refl (ids-set old.kept.items place kept after at same) (rows-set old.rows.items old.kept.items place row after within shown are.places_are.rows) are.places_are;
       marked_are = λ none. All-set (λ (k : KeptGroup). is_marked k ≡ true) old.kept.items place after (marked none).1 (are.marked_are (marked none).0);
     }
 
@@ -112,7 +112,7 @@ found-push ids pg old absent are q place at =
 pub groups-more : (later : List Entry) (old groups : Groups) (kept : KeptGroup) (row : Row) → is_some (hash.get is_same_group old.places kept.pg) ≡ false
     → ((q : PgId) → hash.get is_same_group groups.places q ≡ cond (is_same_group kept.pg q) (Some (length old.kept.items)) (hash.get is_same_group old.places q))
     → groups.kept.items ≡ old.kept.items ++ kept ∷ [] → groups.some_worked_out ≡ old.some_worked_out → is_marked kept ≡ true → IsKeptOf later kept
-    → IsRowOf row kept → groups.rows ≡ old.rows ++ row ∷ [] → AreGroupsOf later old → AreGroupsOf later groups
+    → IsRowOf row kept → groups.rows.items ≡ old.rows.items ++ row ∷ [] → AreGroupsOf later old → AreGroupsOf later groups
 groups-more later old groups kept row absent step items worked marked is shown rows are =
     let ids : ids_of groups.kept.items ≡ ids_of old.kept.items ++ kept.pg ∷ [] = ap ids_of items ∙ ids-push old.kept.items kept in
     let places : PgId → Option ℕ = hash.get is_same_group old.places in
@@ -126,7 +126,7 @@ groups-more later old groups kept row absent step items worked marked is shown r
             ∙ there-push (ids_of old.kept.items) kept.pg places are.places_are.there q place (is_same_group kept.pg q) refl (sym (grows q) ∙ found);
         found = λ q place at. grows q
             ∙ found-push (ids_of old.kept.items) kept.pg places absent are.places_are.found q place (ap (λ (l : List PgId). slice_get l place) (sym ids) ∙ at);
-        rows = rw (rows, items) (rows-push old.rows old.kept.items row kept shown are.places_are.rows);
+        rows = rw (rows, items) (rows-push old.rows.items old.kept.items row kept shown are.places_are.rows);
       };
       marked_are = λ none. rw items (All-push (λ (k : KeptGroup). is_marked k ≡ true) old.kept.items kept (are.marked_are (sym worked ∙ none)) marked);
     }

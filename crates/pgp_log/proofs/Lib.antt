@@ -12,10 +12,8 @@ pub mod ComingLemmas
 pub mod MapBeforeLemmas
 pub mod KeptLemmas
 pub mod OsdFilterLemmas
-pub mod WideFilterLemmas
 pub mod TouchLemmas
 pub mod RowLemmas
-pub mod RowsLemmas
 pub mod GroupsLemmas
 pub mod PassingLemmas
 pub mod MarksLemmas

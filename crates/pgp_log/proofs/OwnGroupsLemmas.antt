@@ -71,7 +71,7 @@ next-has_group owner log inc groups pg is there =
 -- one of the groups is worked out, or was to be
 pub worked-out : (owner : Owner) (log : List Entry) (old : Groups) (place : ℕ) (kept after : KeptGroup) (row : Row) → slice_get old.kept.items place ≡ Some kept → after.pg ≡ kept.pg → IsRowOf row after
     → (IsKeptOf log kept → IsMapOf (incs_of log) old.map → IsKeptOf log after) → AreOwnGroupsOf owner log old
-    → AreOwnGroupsOf owner log (record old { rows = set old.rows place row; kept = with_item old.kept place after; some_worked_out = true })
+    → AreOwnGroupsOf owner log (record old { rows = with_item old.rows place row; kept = with_item old.kept place after; some_worked_out = true })
 worked-out owner log old place kept after row at same shown takes is =
     own-stay owner log log old _ is.legal refl refl
     (groups-anew log log old place kept after row true at same shown (λ none. absurd (true≢false none)) (λ of. takes of is.map_is) (λ j other differs there of. of) is.groups_are)

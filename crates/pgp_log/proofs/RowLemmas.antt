@@ -1,5 +1,5 @@
 -- Rows of groups, and the incrementals by which they are passed by.
-use Rattle.pgp_log.proofs.Common.{may_concern, may_meet, changes_placement, ◌≡◌, ℕ, ◌+◌, ◌<◌, List, [], ◌∷◌, ◌++◌, Bool, true, false, ◌&&◌, not, ◌||◌, Option, Some, length, map, set, nat_eq, refl, sym, ap, ◌∙◌, subst, inl, inr, ◌⊎◌, is_some, arith, eq-eqb, length-append, list_any, option_map, option_map_or, slice_get, or-true, cases_Bool, cases_eq, cases_lt, true≢false, not-false, not-true, length-set, list_any-append, same_Some, slice_get_cases, slice_get_within, and3_parts, or3_parts, PoolSizes, any-mapped, get-append, get-last, get-set_other, get-set_same, Entry, DeviceEpoch, DeviceWeight, Incremental, PgId, pool, temp, OsdMap, then_with, may_place_elsewhere, raw_places, raw_set, switches_any, weighed, lighter-elsewhere, or3_false, unplaced, incs_of, group_in, changed_devices, changes_pool, changes_temp, has_osd, has_to_do_with, may_lie_on, moves_all, names, turned_devices, MapBefore, AreRowsOf, IsChangesOf, IsKeptOf, IsPassedBy, IsPassedByRow, IsRowOf, IsStep, devices_for, is_marked, may_place, Covers, CoversStill, makes_heavier, only_lightens, changes_no_pool, changes_placements, KeptGroup, OsdFilter, Row}
+use Rattle.pgp_log.proofs.Common.{may_concern, may_meet, changes_placement, ◌≡◌, ℕ, ◌+◌, ◌<◌, List, [], ◌∷◌, ◌++◌, Bool, true, false, ◌&&◌, not, ◌||◌, Option, Some, length, map, set, nat_eq, refl, sym, ap, ◌∙◌, subst, inl, inr, ◌⊎◌, is_some, arith, eq-eqb, length-append, list_any, option_map, option_map_or, slice_get, or-true, cases_Bool, cases_eq, cases_lt, true≢false, not-false, not-true, length-set, same_Some, slice_get_within, and3_parts, or3_parts, PoolSizes, any-mapped, get-append, get-last, get-set_other, get-set_same, Entry, DeviceWeight, Incremental, PgId, pool, temp, OsdMap, then_with, may_place_elsewhere, raw_places, raw_set, switches_any, weighed, lighter-elsewhere, or3_false, unplaced, incs_of, group_in, changed_devices, changes_pool, changes_temp, has_osd, has_to_do_with, may_lie_on, moves_all, names, turned_devices, MapBefore, AreRowsOf, IsChangesOf, IsKeptOf, IsRowOf, IsStep, is_marked, Covers, CoversStill, makes_heavier, only_lightens, changes_no_pool, changes_placements, KeptGroup, OsdFilter, Row, may_move, is_touched}
 use Rattle.pgp_ids.specs.declared.entry.Entry.TheVariants as entry
 use Rattle.pgp_log.specs.declared.row.Changes.{Changes}
 use Rattle.pgp_log.proofs.OsdFilterLemmas.{shared}
@@ -89,25 +89,9 @@ none-passes test (x ∷ xs) none = elim (cases_Bool (test x)) [
   | inr fails ↦ rw fails (none-passes test xs (λ osd passes there. none osd passes (ap (λ b. nat_eq osd x || b) there ∙ or-true (nat_eq osd x))))
 ]
 
--- a device that is turned is changed
-turned-changed : (inc : Incremental) (osd : ℕ) → list_any (nat_eq osd) (turned_devices inc) ≡ true → list_any (nat_eq osd) (changed_devices inc) ≡ true
-turned-changed inc osd turned =
-    let osd_of : DeviceEpoch → ℕ = λ told. told.osd in
-    list_any-append (nat_eq osd) (turned_devices inc ++ map osd_of inc.up_thru) (map osd_of inc.lost)
-    ∙ ap (λ b. b || list_any (nat_eq osd) (map osd_of inc.lost)) (list_any-append (nat_eq osd) (turned_devices inc) (map osd_of inc.up_thru))
-    ∙ ap (λ b. (b || list_any (nat_eq osd) (map osd_of inc.up_thru)) || list_any (nat_eq osd) (map osd_of inc.lost)) turned
-
--- a device that is turned concerns a group, marked or not
-turned-for : (marked : Bool) (changes : Changes) (inc : Incremental) (before : MapBefore) (after : OsdMap) (osd : ℕ) → IsChangesOf inc before after changes
-    → list_any (nat_eq osd) (turned_devices inc) ≡ true → Covers (devices_for marked changes) osd
-turned-for true changes inc before after osd says there = says.turned osd there
-turned-for false changes inc before after osd says there = says.devices osd (turned-changed inc osd there)
-
--- and one that is changed a group that isn't marked, however it was looked at
-changed-for : (marked : Bool) (changes : Changes) (inc : Incremental) (before : MapBefore) (after : OsdMap) (row : Row) (osd : ℕ) → (marked ≡ true → row.marked ≡ true) → row.marked ≡ false
-    → IsChangesOf inc before after changes → list_any (nat_eq osd) (changed_devices inc) ≡ true → Covers (devices_for marked changes) osd
-changed-for true changes inc before after row osd only worked_out says there = absurd (true≢false (sym (only refl) ∙ worked_out))
-changed-for false changes inc before after row osd only worked_out says there = says.devices osd there
+-- sets whose words share no bit have no device in common
+apart : (one two : OsdFilter) → may_meet one two ≡ false → (osd : ℕ) → Covers one osd → Covers two osd → ⊥
+apart one two none osd here there = true≢false (sym (shared one two osd here there) ∙ none)
 
 -- the places of the raw set are those of the group
 raw-is : (log : List Entry) (kept : KeptGroup) → IsKeptOf log kept → raw_places (incs_of log) kept.pg ≡ kept.raw
@@ -140,83 +124,57 @@ lightened log inc before after changes row kept says light is holds apart =
     parts.0 sizes (lighter-elsewhere (then_with (incs_of log) inc) kept.pg places (map (weighed (incs_of log)) inc.weight) parts.2
     (any-mapped (weighed (incs_of log)) (λ old. has_osd old.osd places) inc.weight ∙ sym (any-mapped osd_of (λ osd. has_osd osd places) inc.weight) ∙ none))
 
--- the devices of the row were compared with those that concern a marked group, if it is marked, or against all
-module _ (marked : Bool) (inc : Incremental) (changes : Changes) (before : MapBefore) (after : OsdMap) (row : Row) (kept : KeptGroup) (log : List Entry) (only : marked ≡ true → row.marked ≡ true)
-    (apart : (osd : ℕ) → Covers row.devices osd → Covers (devices_for marked changes) osd → ⊥) (says : IsChangesOf inc before after changes) (is : IsRowOf row kept) (holds : IsKeptOf log kept) where
-  none-turned : list_any (may_lie_on (incs_of log) kept.pg) (turned_devices inc) ≡ false
-  none-turned =
-      none-passes (may_lie_on (incs_of log) kept.pg) (turned_devices inc)
-      (λ osd lies there. apart osd (is.lies_on log holds osd lies) (turned-for marked changes inc before after osd says there))
-
-  -- no placement changes at all
-  passed-placed : (moves_all inc || changes_pool inc kept.pg.pool || changes_temp inc kept.pg) ≡ false → IsPassedBy log inc kept
-  passed-placed placed = record {
-    still =
-        let parts = or3_parts (moves_all inc) (changes_pool inc kept.pg.pool) (changes_temp inc kept.pg) placed in
-        rw (unplaced (incs_of log) inc kept.pg parts.0 parts.1, parts.1, parts.2) none-turned;
-    untouched = λ worked_out.
-        let none = none-passes (has_to_do_with log kept.pg) (changed_devices inc)
-        (λ osd knows there. apart osd (is.knows worked_out log holds osd knows) (changed-for marked changes inc before after row osd only (is.marked ∙ worked_out) says there)) in
-        ap (λ b. b || list_any (has_to_do_with log kept.pg) (changed_devices inc)) placed ∙ none;
-  }
-
-  -- or only devices get lighter, and the group is marked
-  passed-light : marked ≡ true → only_lightens (incs_of log) inc ≡ true → IsPassedBy log inc kept
-  passed-light here light = record {
-    still =
-        let pools = no-pools inc (light-parts (incs_of log) inc light).1 in
-        let own : changes_pool inc kept.pg.pool ≡ false = rw (pools.0, pools.1) refl in
-        rw (lightened log inc before after changes row kept says light is holds (subst (λ b. (osd : ℕ) → Covers row.devices osd → Covers (devices_for b changes) osd → ⊥) here apart), own, pools.2) none-turned;
-    untouched = λ worked_out. absurd (true≢false (sym (only here) ∙ is.marked ∙ worked_out));
-  }
+-- no placement of the group changes, and no device on which it may lie is turned
+lies-still : (incs : List Incremental) (inc : Incremental) (pg : PgId) → changes_placement inc pg ≡ false → list_any (may_lie_on incs pg) (turned_devices inc) ≡ false → may_move incs inc pg ≡ false
+lies-still incs inc pg placed turned =
+    let parts = or3_parts (moves_all inc) (changes_pool inc pg.pool) (changes_temp inc pg) placed in
+    rw (unplaced incs inc pg parts.0 parts.1, parts.1, parts.2) turned
 
 either : (placed light : Bool) → (placed && not light) ≡ false → (placed ≡ false) ⊎ (light ≡ true)
 either true light none = inr (not-false light none)
 either false light none = inl refl
 
-by-kind : (marked : Bool) (log : List Entry) (inc : Incremental) (changes : Changes) (before : MapBefore) (after : OsdMap) → IsStep log inc before after → IsChangesOf inc before after changes
-    → may_place marked changes ≡ false → (changes_placements inc ≡ false) ⊎ ((marked ≡ true) × (only_lightens (incs_of log) inc ≡ true))
-by-kind true log inc changes before after step says none =
-    elim (either (changes_placements inc) (only_lightens (incs_of log) inc) (sym (says.moves (incs_of log) step.before_is step.after_is) ∙ none)) [ inl placed ↦ inl placed | inr light ↦ inr (refl, light) ]
-by-kind false log inc changes before after step says none = inl (sym says.places ∙ none)
+concern-parts : (a b c : Bool) → (a && b || c) ≡ false → ((a ≡ false) ⊎ (b ≡ false)) × (c ≡ false)
+concern-parts true true c none = absurd (true≢false none)
+concern-parts true false c none = (inr refl, none)
+concern-parts false b c none = (inl refl, none)
 
--- no placement may change where the group is marked or not, as the row has it, or none of the group does
-pub passed-by : (marked : Bool) (inc : Incremental) (changes : Changes) (row : Row) → (marked ≡ true → row.marked ≡ true)
-    → (may_place marked changes ≡ false) ⊎ ((moves_all inc || changes_pool inc row.pg.pool || changes_temp inc row.pg) ≡ false)
-    → ((osd : ℕ) → Covers row.devices osd → Covers (devices_for marked changes) osd → ⊥) → IsPassedByRow changes inc row
-passed-by marked inc changes row only placed apart before after says kept is log holds step = elim placed [
-  | inl none ↦ elim (by-kind marked log inc changes before after step says none) [
-    | inl nothing ↦ passed-placed marked inc changes before after row kept log only apart says is holds (nothing-placed inc kept.pg nothing)
-    | inr light ↦ passed-light marked inc changes before after row kept log only apart says is holds light.0 light.1
+-- the incremental of these changes comes next, and doesn't concern the group by its row
+module _ (log : List Entry) (inc : Incremental) (before : MapBefore) (after : OsdMap) (changes : Changes) (row : Row) (kept : KeptGroup) (says : IsChangesOf inc before after changes) (is : IsRowOf row kept)
+    (holds : IsKeptOf log kept) (step : IsStep log inc before after) where
+  -- where the group is marked, it isn't moved
+  unmoved : (changes.moves && changes_placement inc row.pg || may_meet row.devices changes.movers) ≡ false → may_move (incs_of log) inc kept.pg ≡ false
+  unmoved none =
+      let parts = concern-parts changes.moves (changes_placement inc row.pg) (may_meet row.devices changes.movers) none in
+      let turned : list_any (may_lie_on (incs_of log) kept.pg) (turned_devices inc) ≡ false =
+      none-passes (may_lie_on (incs_of log) kept.pg) (turned_devices inc)
+      (λ osd lies there. apart row.devices changes.movers parts.1 osd (is.lies_on log holds osd lies) (says.turned osd there)) in
+      elim parts.0 [
+        | inl still ↦ elim (either (changes_placements inc) (only_lightens (incs_of log) inc) (sym (says.moves (incs_of log) step.before_is step.after_is) ∙ still)) [
+          | inl nothing ↦ lies-still (incs_of log) inc kept.pg (nothing-placed inc kept.pg nothing) turned
+          | inr light ↦
+              let pools = no-pools inc (light-parts (incs_of log) inc light).1 in
+              let own : changes_pool inc kept.pg.pool ≡ false = rw (pools.0, pools.1) refl in
+              rw (lightened log inc before after changes row kept says light is holds (apart row.devices changes.movers parts.1), own, pools.2) turned
+        ]
+        | inr own ↦ lies-still (incs_of log) inc kept.pg (subst (λ (pg : PgId). changes_placement inc pg ≡ false) is.pg own) turned
+      ]
+
+  -- where it isn't marked, it isn't touched
+  untouched : is_marked kept ≡ false → (changes.places && changes_placement inc row.pg || may_meet row.devices changes.devices) ≡ false → is_touched log (entry.Inc inc) kept.pg ≡ false
+  untouched worked_out none =
+      let parts = concern-parts changes.places (changes_placement inc row.pg) (may_meet row.devices changes.devices) none in
+      let placed : changes_placement inc kept.pg ≡ false = elim parts.0 [
+        | inl nothing ↦ nothing-placed inc kept.pg (sym says.places ∙ nothing)
+        | inr own ↦ subst (λ (pg : PgId). changes_placement inc pg ≡ false) is.pg own
+      ] in
+      ap (λ b. b || list_any (has_to_do_with log kept.pg) (changed_devices inc)) placed
+      ∙ none-passes (has_to_do_with log kept.pg) (changed_devices inc)
+      (λ osd knows there. apart row.devices changes.devices parts.1 osd (is.knows worked_out log holds osd knows) (says.devices osd there))
+
+  -- so it stays as it is
+  pub passed-stays : may_concern changes inc row ≡ false → IsKeptOf (log ++ entry.Inc inc ∷ []) kept
+  passed-stays none = elim (cases_Bool row.marked) [
+    | inl marked ↦ kept-unseen log inc before after kept (sym is.marked ∙ marked) step holds (unmoved (rw marked at none))
+    | inr worked_out ↦ kept-stays log inc before after kept step holds (untouched (sym is.marked ∙ worked_out) (rw worked_out at none))
   ]
-  | inr own ↦
-      passed-placed marked inc changes before after row kept log only apart says is holds
-      (subst (λ (pg : PgId). (moves_all inc || changes_pool inc pg.pool || changes_temp inc pg) ≡ false) is.pg own)
-]
-
-unconcerned-parts : (a b c : Bool) → (a && b || c) ≡ false → ((a ≡ false) ⊎ (b ≡ false)) × (c ≡ false)
-unconcerned-parts true true c none = absurd (true≢false none)
-unconcerned-parts true false c none = (inr refl, none)
-unconcerned-parts false b c none = (inl refl, none)
-
--- so it passes by a group whose row it doesn't concern
-pub unconcerned : (changes : Changes) (inc : Incremental) (row : Row) → may_concern changes inc row ≡ false → IsPassedByRow changes inc row
-unconcerned changes inc row none =
-    let parts = unconcerned-parts (may_place row.marked changes) (changes_placement inc row.pg) (may_meet row.devices (devices_for row.marked changes)) none in
-    passed-by row.marked inc changes row (λ marked. marked) parts.0
-    (λ osd one two. true≢false (sym (shared row.devices (devices_for row.marked changes) osd one two) ∙ parts.1))
-
--- it stays as it is
-pub passed-stays : (log : List Entry) (inc : Incremental) (before : MapBefore) (after : OsdMap) (kept : KeptGroup) → IsStep log inc before after → IsKeptOf log kept → IsPassedBy log inc kept → IsKeptOf (log ++ entry.Inc inc ∷ []) kept
-passed-stays log inc before after kept step is passed = elim (cases_Bool (is_marked kept)) [
-  | inl marked ↦ kept-unseen log inc before after kept marked step is passed.still
-  | inr worked_out ↦ kept-stays log inc before after kept step is (passed.untouched worked_out)
-]
-
--- a group at whose place the row is passed by stays as it is
-pub passed-at : (log : List Entry) (inc : Incremental) (changes : Changes) (before : MapBefore) (after : OsdMap) (rows : List Row) (groups : List KeptGroup) (place : ℕ) (kept : KeptGroup) → AreRowsOf rows groups → IsChangesOf inc before after changes
-    → ((row : Row) → slice_get rows place ≡ Some row → IsPassedByRow changes inc row) → IsStep log inc before after → slice_get groups place ≡ Some kept → IsKeptOf log kept → IsKeptOf (log ++ entry.Inc inc ∷ []) kept
-passed-at log inc changes before after rows groups place kept are says passed step at is = elim (slice_get_cases rows place).1 [
-  | inl found ↦ passed-stays log inc before after kept step is (passed found.0 found.2 before after says kept (are.each place found.0 kept found.2 at) log is step)
-  | inr past ↦ absurd (omega (arith, past.0, slice_get_within groups place kept at, are.long))
-]

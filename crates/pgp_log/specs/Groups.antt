@@ -14,7 +14,8 @@ use Rattle.pgp_group.specs.Entries.{incs_of}
 use Rattle.pgp_group.specs.GroupHistory.{makes}
 use Rattle.pgp_group.specs.Touched.{is_touched}
 use Rattle.pgp_log.specs.Fits.{fits}
-use Rattle.pgp_log.specs.KeptGroup.{AreAllMarked, AreKeptOf, AreRowsOf, IsRowOf, IsStep, ids_of, is_marked, marks_in}
+use Rattle.pgp_log.specs.KeptGroup.{AreAllMarked, AreKeptOf, IsStep, ids_of, is_marked, marks_in}
+use Rattle.pgp_log.specs.Rows.{AreRowsOf, IsRowOf}
 use Rattle.pgp_log.specs.Log.{is_legal}
 use Rattle.pgp_log.specs.Shard.{Shard, is_among, is_own}
 use Rattle.pgp_log.specs.declared.before.MapBefore.{MapBefore}
@@ -29,7 +30,7 @@ use Rattle.pgp_log.specs.declared.row.Row.{Row}
 pub record AreAtPlaces (groups : Groups) : Type 0 where
   pub there : (pg : PgId) (place : ℕ) → hash.get is_same_group groups.places pg ≡ Some place → slice_get (ids_of groups.kept.items) place ≡ Some pg
   pub found : (pg : PgId) (place : ℕ) → slice_get (ids_of groups.kept.items) place ≡ Some pg → hash.get is_same_group groups.places pg ≡ Some place
-  pub rows : AreRowsOf groups.rows groups.kept.items
+  pub rows : AreRowsOf groups.rows.items groups.kept.items
 
 -- until one of them is worked out, all are marked
 abbrev pub AreMarkedAtFirst : Groups → Type 0
@@ -132,7 +133,7 @@ pub record HasOneMore (kept : KeptGroup) (old new : Groups) : Type 0 where
   pub row : Row
   pub map : new.map ≡ old.map
   pub found : (pg : PgId) → hash.get is_same_group new.places pg ≡ (if is_same_group kept.pg pg then Some (length old.kept.items) else hash.get is_same_group old.places pg)
-  pub rows : new.rows ≡ old.rows ++ row ∷ []
+  pub rows : new.rows.items ≡ old.rows.items ++ row ∷ []
   pub row_is : IsRowOf row kept
   pub items : new.kept.items ≡ old.kept.items ++ kept ∷ []
   pub worked : new.some_worked_out ≡ old.some_worked_out
@@ -141,7 +142,7 @@ pub record HasOneMore (kept : KeptGroup) (old new : Groups) : Type 0 where
 pub record CanPassOn (groups : Groups) (inc : Incremental) (before : MapBefore) : Type 0 where
   pub log : List Entry
   pub are : AreKeptOf log groups.kept.items
-  pub rows : AreRowsOf groups.rows groups.kept.items
+  pub rows : AreRowsOf groups.rows.items groups.kept.items
   pub step : IsStep log inc before groups.map
 
 -- Each of the groups has taken the incremental, in each log that takes it next. It marks only groups that it touches, and takes
@@ -151,7 +152,7 @@ pub record HavePassedOn (inc : Incremental) (before : MapBefore) (old new : Grou
   pub places : new.places ≡ old.places
   pub worked : new.some_worked_out ≡ old.some_worked_out
   pub ids : ids_of new.kept.items ≡ ids_of old.kept.items
-  pub rows : AreRowsOf new.rows new.kept.items
+  pub rows : AreRowsOf new.rows.items new.kept.items
   pub each : (log : List Entry) → AreKeptOf log old.kept.items → IsStep log inc before old.map → AreKeptOf (log ++ entry.Inc inc ∷ []) new.kept.items
   pub marks : (log : List Entry) → AreKeptOf log old.kept.items → IsStep log inc before old.map → MarksTouched log (entry.Inc inc) old new
   pub kept : KeepsMarks old new

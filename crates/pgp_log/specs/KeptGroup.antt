@@ -1,6 +1,6 @@
 -- What a shard keeps of its groups, as far as the entries that it has read tell of them.
-use Rattle.std.specs.Prelude.{◌≡◌, ℕ, nat_eq, List, [], ◌∷◌, ◌++◌, length, map, slice_get, Bool, ◌&&◌, ◌||◌, is_none, Some, None, IfSome, true, false, if◌then◌else◌}
-use Rattle.std.specs.List.{All, filter, list_any}
+use Rattle.std.specs.Prelude.{◌≡◌, ℕ, List, [], ◌∷◌, ◌++◌, length, map, slice_get, Bool, is_none, Some, None, IfSome, true, false}
+use Rattle.std.specs.List.{All, filter}
 use Rattle.pgp_ids.specs.declared.entry.Entry.{Entry}
 use Rattle.pgp_ids.specs.declared.entry.Entry.TheVariants as entry
 use Rattle.pgp_ids.specs.declared.incremental.Incremental.{Incremental}
@@ -14,19 +14,14 @@ use Rattle.pgp_map.specs.declared.map.OsdMap.{OsdMap}
 use Rattle.pgp_group.specs.Entries.{incs_of}
 use Rattle.pgp_group.specs.GroupOf.{IsGroupOf}
 use Rattle.pgp_group.specs.Reaching.{reaching}
-use Rattle.pgp_group.specs.Touched.{changed_devices, has_to_do_with, is_touched, may_lie_on, may_move, view_at, turned_devices}
+use Rattle.pgp_group.specs.Touched.{is_touched, view_at}
 use Rattle.pgp_group.specs.View.{scratch}
 use Rattle.pgp_log.specs.Fits.{fits}
 use Rattle.pgp_log.specs.Log.{is_legal}
-use Rattle.pgp_log.specs.MapBefore.{IsMapBefore, moves_some}
-use Rattle.pgp_log.specs.OsdFilter.{Covers, may_meet}
+use Rattle.pgp_log.specs.MapBefore.{IsMapBefore}
 use Rattle.pgp_log.specs.RawSets.{IsRawSet}
-use Rattle.pgp_log.specs.Touch.{changes_placement, changes_placements}
 use Rattle.pgp_log.specs.declared.before.MapBefore.{MapBefore}
 use Rattle.pgp_log.specs.declared.kept_group.KeptGroup.{KeptGroup}
-use Rattle.pgp_log.specs.declared.osd_filter.OsdFilter.{OsdFilter}
-use Rattle.pgp_log.specs.declared.row.Changes.{Changes}
-use Rattle.pgp_log.specs.declared.row.Row.{Row}
 
 -- the view is what the log says of the group, except for count and epoch
 abbrev pub IsViewOf : List Entry → PgId → View → Type 0
@@ -73,52 +68,6 @@ pub record CanStep (kept : KeptGroup) (inc : Incremental) (before : MapBefore) (
   pub log : List Entry
   pub is : IsKeptOf log kept
   pub step : IsStep log inc before after
-
--- the row is that of the group: it says whether the group is marked, and has the devices on which the group may lie by each log
--- of which the group is kept, and where the group isn't marked, those with which it has to do
-pub record IsRowOf (row : Row) (kept : KeptGroup) : Type 0 where
-  pub pg : row.pg ≡ kept.pg
-  pub marked : row.marked ≡ is_marked kept
-  pub lies_on : (log : List Entry) → IsKeptOf log kept → (osd : ℕ) → may_lie_on (incs_of log) kept.pg osd ≡ true → Covers row.devices osd
-  pub knows : is_marked kept ≡ false → (log : List Entry) → IsKeptOf log kept → (osd : ℕ) → has_to_do_with log kept.pg osd ≡ true → Covers row.devices osd
-
--- each row is that of the group at its place
-pub record AreRowsOf (rows : List Row) (groups : List KeptGroup) : Type 0 where
-  pub long : length rows ≡ length groups
-  pub each : (place : ℕ) (row : Row) (kept : KeptGroup) → slice_get rows place ≡ Some row → slice_get groups place ≡ Some kept → IsRowOf row kept
-
--- this is what the incremental changes, which leads from the one map to the other
-pub record IsChangesOf (inc : Incremental) (before : MapBefore) (after : OsdMap) (changes : Changes) : Type 0 where
-  pub places : changes.places ≡ changes_placements inc
-  pub moves : (incs : List Incremental) → IsMapBefore incs inc before → IsMapOf (then_with incs inc) after → changes.moves ≡ moves_some incs inc
-  pub turned : (osd : ℕ) → list_any (nat_eq osd) (turned_devices inc) ≡ true → Covers changes.movers osd
-  pub weighed : (osd : ℕ) → list_any (λ given. nat_eq osd given.osd) inc.weight ≡ true → Covers changes.movers osd
-  pub devices : (osd : ℕ) → list_any (nat_eq osd) (changed_devices inc) ≡ true → Covers changes.devices osd
-
--- the devices of the changes that concern a group: all, or where it is marked those that may move it
-abbrev pub devices_for : Bool → Changes → OsdFilter
-devices_for marked changes = if marked then changes.movers else changes.devices
-
--- whether the incremental may change where some group lies, whatever becomes of devices; for a group that is marked, otherwise than by
--- weights by which no device gets heavier
-abbrev pub may_place : Bool → Changes → Bool
-may_place marked changes = if marked then changes.moves else changes.places
-
--- the incremental, of which these are the changes, may concern the group of the row
-abbrev pub may_concern : Changes → Incremental → Row → Bool
-may_concern changes inc row =
-    (may_place row.marked changes && changes_placement inc row.pg) || may_meet row.devices (devices_for row.marked changes)
-
--- the incremental doesn't move the group and, where it isn't marked, doesn't touch it
-pub record IsPassedBy (log : List Entry) (inc : Incremental) (kept : KeptGroup) : Type 0 where
-  pub still : may_move (incs_of log) inc kept.pg ≡ false
-  pub untouched : is_marked kept ≡ false → is_touched log (entry.Inc inc) kept.pg ≡ false
-
--- the incremental, of which these are the changes, passes by each group that has this row
-abbrev pub IsPassedByRow : Changes → Incremental → Row → Type 0
-IsPassedByRow changes inc row =
-    (before : MapBefore) (after : OsdMap) → IsChangesOf inc before after changes → (kept : KeptGroup) → IsRowOf row kept
-    → (log : List Entry) → IsKeptOf log kept → IsStep log inc before after → IsPassedBy log inc kept
 
 -- each group of the list is kept
 pub record AreKeptOf (log : List Entry) (groups : List KeptGroup) : Type 0 where

@@ -10,9 +10,7 @@ pub mod Locate
 pub mod RawSets
 pub mod Touch
 pub mod MapBefore
-pub mod Bits
 pub mod OsdFilter
-pub mod WideFilter
 pub mod KeptGroup
 pub mod Rows
 pub mod Groups

@@ -24,8 +24,7 @@ use super::before::MapBefore;
 use super::kept_group::KeptGroup;
 use super::owner::Owner;
 use super::place::has_group;
-use super::row::Changes;
-use super::rows::Rows;
+use super::row::{Changes, Row};
 use super::touch::{changes_nothing, moves_none};
 use pgp_ids::{Entry, Incremental, PgId, PoolId, View};
 use pgp_map::OsdMap;
@@ -42,7 +41,7 @@ pub(crate) struct Groups {
     /// At which place of the lists each group stands.
     places: HashMap<PgId, usize>,
     /// The row of each group, at its place.
-    rows: Rows,
+    rows: Vec<Row>,
     kept: Vec<KeptGroup>,
     /// Whether one of them was worked out: until then all are marked.
     some_worked_out: bool,
@@ -76,7 +75,7 @@ impl Groups {
             alloc,
             map: OsdMap::empty(alloc),
             places: HashMap::new(alloc),
-            rows: Rows::new(alloc),
+            rows: Vec::new(alloc),
             kept: Vec::new(alloc),
             some_worked_out: false,
         }
@@ -134,12 +133,13 @@ impl Groups {
         ensures { OnOk result (HavePassedOn inc.now before.now self.old self.new) }
     {
         let changes = Changes::of(before, &self.map, inc);
-        let mut from = 0;
-        while let Some(place) = self.rows.next(from, &changes, inc) {
+        for place in 0..self.rows.len() {
+            if self.rows[place].is_passed_by(&changes, inc) {
+                continue;
+            }
             let kept = &mut self.kept[place];
             kept.absorb_inc(before, &self.map, inc)?;
-            self.rows.set(place, kept.row());
-            from = place + 1;
+            self.rows[place] = kept.row();
         }
         Ok(())
     }
@@ -239,7 +239,7 @@ impl Groups {
             Some(place) => {
                 let kept = &mut self.kept[place];
                 let taken = kept.absorb_report(entry, self.map.epoch());
-                self.rows.set(place, kept.row());
+                self.rows[place] = kept.row();
                 taken
             }
             None => Ok(()),
@@ -280,7 +280,7 @@ impl Groups {
         self.some_worked_out = true;
         let group = &mut self.kept[place];
         let done = group.renew(&self.map, count);
-        self.rows.set(place, group.row());
+        self.rows[place] = group.row();
         done
     }
 

@@ -11,7 +11,6 @@
 #![tactic(auto)]
 
 mod before;
-mod bits;
 mod copies;
 mod entry;
 mod groups;
@@ -25,10 +24,8 @@ mod place;
 mod raw_sets;
 mod report;
 mod row;
-mod rows;
 mod shard;
 mod touch;
-mod wide_filter;
 mod world;
 
 pub use entry::{inc_of, is_close};

@@ -1,7 +1,6 @@
 //! Sets of devices of which two are compared in a few steps.
 
-ghost use Rattle.std.specs.Prelude.{◌≡◌, ◌↔◌, ℕ, ◌<◌, ◌/◌, ◌%◌, Some, true, nat_eq};
-ghost use Rattle.std.specs.Int.{bit_at};
+ghost use Rattle.std.specs.Prelude.{◌≡◌, ℕ, Some, true, nat_eq};
 ghost use Rattle.std.specs.List.{list_any};
 ghost use Rattle.std.specs.Option.{option_eq};
 ghost use Rattle.pgp_group.specs.Touched.{has_osd};
@@ -10,12 +9,12 @@ ghost use Rattle.pgp_log.specs.OsdFilter.{Covers, CoversStill, may_meet};
 use pgp_ids::{DeviceEpoch, DeviceWeight, OsdId, Place};
 
 /// A set of devices, in three words. It may say of a device that it is in the set when it isn't, and never the other way.
-#[derive(Clone, Copy, PartialEq, Eq)]
+#[derive(Clone, Copy)]
 pub(crate) struct OsdFilter {
     /// Bit `osd % 64` of each device.
     low: u64,
     /// Bit `osd / 64` of each device.
-    pub(crate) high: u64,
+    high: u64,
     /// Bit `(osd % 64 + osd / 64) % 64` of each device. Where one device has set the bit in `low` and another that in `high`,
     /// this one is mostly not set.
     sum: u64,
@@ -39,16 +38,6 @@ impl OsdFilter {
         self.low |= 1 << (number % 64);
         self.high |= 1 << (number / 64);
         self.sum |= 1 << ((number % 64 + number / 64) % 64);
-    }
-
-    /// Adds what the other set has.
-    pub(crate) fn add_set(&mut self, other: OsdFilter)
-        ensures there { CoversStill other self.new }
-        ensures still { CoversStill self.old self.new }
-    {
-        self.low |= other.low;
-        self.high |= other.high;
-        self.sum |= other.sum;
     }
 
     /// Adds each of the devices.
@@ -99,14 +88,6 @@ impl OsdFilter {
         if let Some(osd) = place.osd() {
             self.add(osd);
         }
-    }
-
-    /// Bit `osd % 64` of each device that the set has, or may have, among those of which `osd / 64` is the number of the word.
-    pub(crate) fn low_in(self, word: usize) -> u64
-        requires { word < 64 }
-        ensures { (osd : ℕ) → osd / 64 ≡ word → bit_at self.high word ≡ 1 → (bit_at result (osd % 64) ≡ 1 ↔ Covers self osd) }
-    {
-        self.low & self.sum.rotate_right(word as u32)
     }
 
     /// Whether some device may be in both sets: each word has a bit that the other set's has. The least of what the words share

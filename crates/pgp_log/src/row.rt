@@ -5,7 +5,7 @@ ghost use Rattle.pgp_ids.specs.declared.incremental.Incremental.{Incremental as 
 ghost use Rattle.pgp_map.specs.MapFault.{then_with};
 ghost use Rattle.pgp_map.specs.MapOf.{IsMapOf};
 ghost use Rattle.pgp_log.specs.MapBefore.{IsMapBefore, moves_some};
-ghost use Rattle.pgp_log.specs.KeptGroup.{IsChangesOf, devices_for, may_concern, may_place};
+ghost use Rattle.pgp_log.specs.Rows.{IsChangesOf, devices_for, may_concern, may_place};
 
 use super::before::MapBefore;
 use super::osd_filter::OsdFilter;
@@ -15,7 +15,7 @@ use pgp_map::OsdMap;
 
 /// What of a group an incremental is compared with first. Rows lie side by side in memory, so that a shard passes by the groups
 /// that an incremental doesn't touch without a look at what it keeps of them.
-#[derive(Clone, Copy, PartialEq, Eq)]
+#[derive(Clone, Copy)]
 pub(crate) struct Row {
     pub(crate) pg: PgId,
     /// The group has to be worked out: nothing but a move concerns it.
@@ -70,14 +70,14 @@ impl Changes {
     }
 
     /// The incremental may change where some group lies, whatever becomes of devices, by whether the group is marked.
-    pub(crate) fn may_place(&self, marked: bool) -> bool
+    fn may_place(&self, marked: bool) -> bool
         ensures { result ≡ may_place marked self.now }
     {
         if marked { self.moves } else { self.places }
     }
 
     /// The devices that concern a group, by whether it is marked.
-    pub(crate) fn devices_for(&self, marked: bool) -> OsdFilter
+    fn devices_for(&self, marked: bool) -> OsdFilter
         ensures { result ≡ devices_for marked self.now }
     {
         if marked { self.movers } else { self.devices }

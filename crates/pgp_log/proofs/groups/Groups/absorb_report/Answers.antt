@@ -11,8 +11,8 @@ use Rattle.pgp_log.proofs.groups.Groups.absorb_report.Goals as goal
 pub index_mut-kept-requires : goal.index_mut-kept-requires
 index_mut-kept-requires c = kept-within c.args.self.now c.args.pg.now c.in-Some.place c.requires (sym c.find.ensures ∙ c.in-Some.is)
 
-pub set-requires : goal.set-requires
-set-requires c = row-within c.args.self.now c.args.pg.now c.in-Some.place c.requires (sym c.find.ensures ∙ c.in-Some.is)
+pub index_mut-requires : goal.index_mut-requires
+index_mut-requires c = row-within c.args.self.now c.args.pg.now c.in-Some.place c.requires (sym c.find.ensures ∙ c.in-Some.is)
 
 pub returns-in-Some : goal.returns-in-Some
 returns-in-Some c =
@@ -25,7 +25,7 @@ returns-in-Some c =
     let taken = c.absorb_report-taken.ensures in
     let is : hash.get is_same_group old.places pg ≡ Some place = sym c.find.ensures ∙ c.in-Some.is in
     let at : slice_get old.kept.items place ≡ Some kept = kept-at old pg place kept c.requires is c.index_mut-kept.ensures.value in
-    rw c.set.ensures (record {
+    record {
       ok = on_ok_weaker c.absorb_report-taken.result
           (λ given owner log none fit untouched own.
           own-told owner log new old _ none fit refl
@@ -39,7 +39,7 @@ returns-in-Some c =
       kept = ok-anyhow c.absorb_report-taken.result _ (λ other was. marks-set-still old.kept.items place kept after other at taken.pg (λ _. taken.marked) was);
       marked = ok-anyhow c.absorb_report-taken.result _ (All-set (λ (k : KeptGroup). is_marked k ≡ true) old.kept.items place after taken.marked);
       wants = on_err c.absorb_report-taken.result _ (λ owner log own. kept-inc log kept (own.groups_are.each.each place kept at));
-    })
+    }
 
 pub returns-in-None-clause-ok : goal.returns-in-None-clause-ok
 returns-in-None-clause-ok c = λ owner log none fit untouched own.

@@ -10,7 +10,7 @@ returns c =
       map = refl;
       found = λ pg. c.in_ok-insert.ensures.updates.0 pg
           ∙ ap (λ (n : ℕ). cond (is_same_group c.args.kept.pg pg) (Some n) (hash.get is_same_group old.places pg)) (c.len-place.ensures ∙ old.kept.ok.0);
-      rows = c.in_ok-push.ensures.ok;
+      rows = c.in_ok-push.ensures.items;
       row_is = c.row.ensures;
       items = c.in_ok-push-2.ensures.items;
       worked = refl;
