@@ -46,13 +46,13 @@ pub use Rattle.pgp_lists.proofs.Lists.{any-mapped, get-append, get-last, get-set
 pub use Rattle.pgp_lists.proofs.Options.{if_none, map_some, none_is, some-weaker, some_is, some_mapped}
 pub use Rattle.pgp_lists.specs.Repeats.{has_repeat}
 pub use Rattle.pgp_log.specs.Fits.{entry_fault, fits, full_fault, is_close, is_closed}
-pub use Rattle.pgp_log.specs.Groups.{HasOneMore, AreAtPlaces, AreGroupsOf, AreOwnGroupsOf, CanAbsorb, HasOwn, HasStill, IsKeptBeside, IsKeptIfOwn, IsOwnIfKept, IsStepping, KeepsAll, KeepsMarks, keeps, marks_of, owns, shard_with}
+pub use Rattle.pgp_log.specs.kept.Groups.{HasOneMore, AreAtPlaces, AreGroupsOf, AreOwnGroupsOf, CanAbsorb, HasOwn, HasStill, IsKeptBeside, IsKeptIfOwn, IsOwnIfKept, IsStepping, KeepsAll, KeepsMarks, keeps, marks_of, owns, shard_with}
 pub use Rattle.pgp_log.specs.Judge.{IsJudgeOf}
-pub use Rattle.pgp_log.specs.KeptGroup.{AreAllMarked, AreKeptOf, IsKeptOf, IsStep, IsViewOf, ids_of, is_marked, marks_in}
-pub use Rattle.pgp_log.specs.Rows.{AreRowsOf, IsChangesOf, IsRowOf, devices_for, may_concern, may_place}
+pub use Rattle.pgp_log.specs.kept.KeptGroup.{AreAllMarked, AreKeptOf, IsKeptOf, IsStep, IsViewOf, ids_of, is_marked, marks_in}
+pub use Rattle.pgp_log.specs.kept.Rows.{AreRowsOf, IsChangesOf, IsRowOf, devices_for, may_concern, may_place}
 pub use Rattle.pgp_log.specs.Log.{EndsWithClose, EpochsCount, HasInc, IsFrontOf, epoch_of, is_accepted, is_legal, is_taken_at}
-pub use Rattle.pgp_log.specs.MapBefore.{IsMapBefore, makes_heavier, only_lightens, renamed_devices, with_facts}
-pub use Rattle.pgp_log.specs.OsdFilter.{Covers, CoversStill, have_a_bit, may_meet}
+pub use Rattle.pgp_log.specs.kept.MapBefore.{IsMapBefore, makes_heavier, only_lightens, renamed_devices, with_facts}
+pub use Rattle.pgp_log.specs.kept.OsdFilter.{Covers, CoversStill, have_a_bit, may_meet}
 pub use Rattle.pgp_log.specs.RawSets.{AreRawSets, IsRawSet, moves_any}
 pub use Rattle.pgp_log.specs.ReportFault.{has_bad_info, has_future_stamp, has_unknown_group, has_unknown_member, info_fault, report_fault}
 pub use Rattle.pgp_log.specs.Shard.{AreMarked, HasReadFewer, HasReadSame, HasReadSome, IsUnmarked, MarksOnlyTouched, Shard, has_own, having_read, having_read_all, having_read_front, is_among, is_own, opening_shard, shard_of, without}

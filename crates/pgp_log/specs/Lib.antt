@@ -9,10 +9,6 @@ pub mod Running
 pub mod Locate
 pub mod RawSets
 pub mod Touch
-pub mod MapBefore
-pub mod OsdFilter
-pub mod KeptGroup
-pub mod Rows
-pub mod Groups
+pub mod kept
 pub mod Examples
 pub mod Worked

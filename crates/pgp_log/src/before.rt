@@ -7,7 +7,7 @@ ghost use Rattle.pgp_map.specs.MapFault.{then_with};
 ghost use Rattle.pgp_map.specs.MapOf.{IsMapOf};
 ghost use Rattle.pgp_sets.specs.Sets.{may_place_elsewhere, moves, switches_any, weighed};
 ghost use Rattle.pgp_group.specs.GroupHistory.{primary_facts};
-ghost use Rattle.pgp_log.specs.MapBefore.{IsMapBefore, makes_heavier, with_facts};
+ghost use Rattle.pgp_log.specs.kept.MapBefore.{IsMapBefore, makes_heavier, with_facts};
 ghost use Rattle.pgp_log.specs.RawSets.{IsRawSet};
 
 use super::touch::has_sizes;

@@ -4,7 +4,7 @@ ghost use Rattle.std.specs.Prelude.{◌≡◌, ℕ, Some, true, nat_eq};
 ghost use Rattle.std.specs.List.{list_any};
 ghost use Rattle.std.specs.Option.{option_eq};
 ghost use Rattle.pgp_group.specs.Touched.{has_osd};
-ghost use Rattle.pgp_log.specs.OsdFilter.{Covers, CoversStill, may_meet};
+ghost use Rattle.pgp_log.specs.kept.OsdFilter.{Covers, CoversStill, may_meet};
 
 use pgp_ids::{DeviceEpoch, DeviceWeight, OsdId, Place};
 

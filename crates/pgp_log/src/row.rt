@@ -4,8 +4,8 @@ ghost use Rattle.std.specs.Prelude.{◌≡◌, List, not};
 ghost use Rattle.pgp_ids.specs.declared.incremental.Incremental.{Incremental as AnyIncremental};
 ghost use Rattle.pgp_map.specs.MapFault.{then_with};
 ghost use Rattle.pgp_map.specs.MapOf.{IsMapOf};
-ghost use Rattle.pgp_log.specs.MapBefore.{IsMapBefore, moves_some};
-ghost use Rattle.pgp_log.specs.Rows.{IsChangesOf, devices_for, may_concern, may_place};
+ghost use Rattle.pgp_log.specs.kept.MapBefore.{IsMapBefore, moves_some};
+ghost use Rattle.pgp_log.specs.kept.Rows.{IsChangesOf, devices_for, may_concern, may_place};
 
 use super::before::MapBefore;
 use super::osd_filter::OsdFilter;

@@ -9,7 +9,7 @@ ghost use Rattle.pgp_group.specs.Entries.{incs_of};
 ghost use Rattle.pgp_group.specs.Touched.{view_at};
 ghost use Rattle.pgp_group.specs.View.{scratch};
 ghost use Rattle.pgp_log.specs.Fits.{is_closed, fits};
-ghost use Rattle.pgp_log.specs.Groups.{AreOwnGroupsOf, CanReadOn, IsKeptBeside, marks_of, shard_with};
+ghost use Rattle.pgp_log.specs.kept.Groups.{AreOwnGroupsOf, CanReadOn, IsKeptBeside, marks_of, shard_with};
 ghost use Rattle.pgp_log.specs.Log.{HasInc, IsFrontOf, epoch_of, is_legal};
 ghost use Rattle.pgp_log.specs.Running.{IsReading};
 ghost use Rattle.pgp_log.specs.Shard.{opening_shard, having_read, having_read_all, having_read_front, HasReadFewer, HasReadSame, HasReadSome, shard_of, is_own, is_marked, AreMarked, MarksOnlyTouched, IsUnmarked, AreUnmarked};
@@ -49,7 +49,7 @@ impl Drop for ShardState {
 impl Model for ShardState {
     ghost use Rattle.std.specs.Prelude.{map};
     ghost use Rattle.std.specs.Arc.{arc_value};
-    ghost use Rattle.pgp_log.specs.Groups.{IsKeptBeside, shard_with};
+    ghost use Rattle.pgp_log.specs.kept.Groups.{IsKeptBeside, shard_with};
     ghost use Rattle.pgp_log.specs.Shard.{Shard};
 
     ghost Value = { Shard };

@@ -18,7 +18,7 @@ use Rattle.pgp_group.specs.Touched.{is_touched, view_at}
 use Rattle.pgp_group.specs.View.{scratch}
 use Rattle.pgp_log.specs.Fits.{fits}
 use Rattle.pgp_log.specs.Log.{is_legal}
-use Rattle.pgp_log.specs.MapBefore.{IsMapBefore}
+use Rattle.pgp_log.specs.kept.MapBefore.{IsMapBefore}
 use Rattle.pgp_log.specs.RawSets.{IsRawSet}
 use Rattle.pgp_log.specs.declared.before.MapBefore.{MapBefore}
 use Rattle.pgp_log.specs.declared.kept_group.KeptGroup.{KeptGroup}

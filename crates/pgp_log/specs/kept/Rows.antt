@@ -8,15 +8,15 @@ use Rattle.pgp_map.specs.MapOf.{IsMapOf}
 use Rattle.pgp_map.specs.declared.map.OsdMap.{OsdMap}
 use Rattle.pgp_group.specs.Entries.{incs_of}
 use Rattle.pgp_group.specs.Touched.{changed_devices, has_to_do_with, may_lie_on, turned_devices}
-use Rattle.pgp_log.specs.MapBefore.{IsMapBefore, moves_some}
-use Rattle.pgp_log.specs.OsdFilter.{Covers, may_meet}
+use Rattle.pgp_log.specs.kept.MapBefore.{IsMapBefore, moves_some}
+use Rattle.pgp_log.specs.kept.OsdFilter.{Covers, may_meet}
 use Rattle.pgp_log.specs.Touch.{changes_placement, changes_placements}
 use Rattle.pgp_log.specs.declared.before.MapBefore.{MapBefore}
 use Rattle.pgp_log.specs.declared.kept_group.KeptGroup.{KeptGroup}
 use Rattle.pgp_log.specs.declared.osd_filter.OsdFilter.{OsdFilter}
 use Rattle.pgp_log.specs.declared.row.Changes.{Changes}
 use Rattle.pgp_log.specs.declared.row.Row.{Row}
-use Rattle.pgp_log.specs.KeptGroup.{IsKeptOf, is_marked}
+use Rattle.pgp_log.specs.kept.KeptGroup.{IsKeptOf, is_marked}
 
 -- the row is that of the group: it says whether the group is marked, and has the devices on which the group may lie by each log
 -- of which the group is kept, and where the group isn't marked, those with which it has to do

@@ -14,8 +14,8 @@ use Rattle.pgp_group.specs.Entries.{incs_of}
 use Rattle.pgp_group.specs.GroupHistory.{makes}
 use Rattle.pgp_group.specs.Touched.{is_touched}
 use Rattle.pgp_log.specs.Fits.{fits}
-use Rattle.pgp_log.specs.KeptGroup.{AreAllMarked, AreKeptOf, IsStep, ids_of, is_marked, marks_in}
-use Rattle.pgp_log.specs.Rows.{AreRowsOf, IsRowOf}
+use Rattle.pgp_log.specs.kept.KeptGroup.{AreAllMarked, AreKeptOf, IsStep, ids_of, is_marked, marks_in}
+use Rattle.pgp_log.specs.kept.Rows.{AreRowsOf, IsRowOf}
 use Rattle.pgp_log.specs.Log.{is_legal}
 use Rattle.pgp_log.specs.Shard.{Shard, is_among, is_own}
 use Rattle.pgp_log.specs.declared.before.MapBefore.{MapBefore}

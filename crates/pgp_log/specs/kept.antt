@@ -1,0 +1,6 @@
+-- What a shard keeps beside the entries that it has read. Only contracts of private calls cite it.
+pub mod OsdFilter
+pub mod MapBefore
+pub mod KeptGroup
+pub mod Rows
+pub mod Groups
