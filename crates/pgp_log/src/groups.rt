@@ -14,7 +14,7 @@ ghost use Rattle.pgp_group.specs.Entries.{inc_of, incs_of};
 ghost use Rattle.pgp_group.specs.GroupHistory.{makes};
 ghost use Rattle.pgp_group.specs.Touched.{is_touched};
 ghost use Rattle.pgp_log.specs.Fits.{fits};
-ghost use Rattle.pgp_log.specs.kept.Groups.{AreAtPlaces, AreOwnGroupsOf, IsStepping, CanStepOn, CanAddTo, CanAbsorb, CanAbsorbInc, CanPassOn, HasOneMore, HavePassedOn, IsKeptIfOwn, HasOwn, HasStill, IsRenewedAt, KeepsMarks, MarksTouched, marks_of, owns};
+ghost use Rattle.pgp_log.specs.kept.Groups.{AreAtPlaces, AreOwnGroupsOf, IsStepping, OfOwnLog, FollowStill, CanStepOn, CanAddTo, CanAbsorb, CanAbsorbInc, CanPassOn, HasOneMore, HavePassedOn, IsKeptIfOwn, HasOwn, HasStill, IsRenewedAt, KeepsMarks, MarksTouched, marks_of, owns};
 ghost use Rattle.pgp_log.specs.kept.KeptGroup.{AreAllMarked, IsViewOf};
 ghost use Rattle.pgp_log.specs.Log.{HasInc, is_legal};
 ghost use Rattle.pgp_log.specs.Shard.{is_among, without};
@@ -108,10 +108,10 @@ impl Groups {
     /// After an `Err` they are of no further use.
     fn absorb_inc(&mut self, inc: &Incremental) -> Result<(), AllocError>
         requires { CanAbsorbInc self.old inc.now }
-        ensures ok { OnOk result ((owner : AnyOwner) (log : List AnyEntry) → AreOwnGroupsOf owner log self.old
-            → fits log (entry.Inc inc.now) ≡ None → IsStepping owner log inc.now self.new) }
-        ensures marks { OnOk result ((owner : AnyOwner) (log : List AnyEntry) → AreOwnGroupsOf owner log self.old
-            → fits log (entry.Inc inc.now) ≡ None → MarksTouched log (entry.Inc inc.now) self.old self.new) }
+        ensures ok { OnOk result (OfOwnLog self.old (λ owner log. fits log (entry.Inc inc.now) ≡ None
+            → IsStepping owner log inc.now self.new)) }
+        ensures marks { OnOk result (OfOwnLog self.old (λ owner log. fits log (entry.Inc inc.now) ≡ None
+            → MarksTouched log (entry.Inc inc.now) self.old self.new)) }
         ensures kept { OnOk result (KeepsMarks self.old self.new) }
         ensures marked { OnOk result (AreAllMarked self.old.kept.items → AreAllMarked self.new.kept.items) }
     {
@@ -233,7 +233,7 @@ impl Groups {
             → is_among other (marks_of self.new) ≡ is_among other (marks_of self.old)) }
         ensures kept { OnOk result (KeepsMarks self.old self.new) }
         ensures marked { OnOk result (AreAllMarked self.old.kept.items → AreAllMarked self.new.kept.items) }
-        ensures wants { OnErr result ((owner : AnyOwner) (log : List AnyEntry) → AreOwnGroupsOf owner log self.old → HasInc log) }
+        ensures wants { OnErr result (OfOwnLog self.old (λ owner log. HasInc log)) }
     {
         match self.find(pg) {
             Some(place) => {
@@ -250,14 +250,12 @@ impl Groups {
     /// of the entries. After an error they follow from the same entries.
     pub(crate) fn work_out(&mut self, pg: &PgId, count: usize) -> Result<bool, AllocError>
         requires { AreAtPlaces self.old }
-        ensures there { IfOk result (λ there. (owner : AnyOwner) (log : List AnyEntry) → AreOwnGroupsOf owner log self.old
-            → owns owner pg.now ≡ true → there ≡ has_group (incs_of log) pg.now) }
-        ensures is { (owner : AnyOwner) (log : List AnyEntry) → AreOwnGroupsOf owner log self.old → length log ≡ count
-            → AreOwnGroupsOf owner log self.new }
+        ensures there { IfOk result (λ there. OfOwnLog self.old (λ owner log. owns owner pg.now ≡ true
+            → there ≡ has_group (incs_of log) pg.now)) }
+        ensures is { FollowStill count self.old self.new }
         ensures marks { OnOk result (marks_of self.new ≡ without pg.now (marks_of self.old)) }
-        ensures wants { OnErr result ((owner : AnyOwner) (log : List AnyEntry) → AreOwnGroupsOf owner log self.old → HasInc log) }
-        ensures wants_there { OnErr result ((owner : AnyOwner) (log : List AnyEntry) → AreOwnGroupsOf owner log self.old
-            → has_group (incs_of log) pg.now ≡ true) }
+        ensures wants { OnErr result (OfOwnLog self.old (λ owner log. HasInc log)) }
+        ensures wants_there { OnErr result (OfOwnLog self.old (λ owner log. has_group (incs_of log) pg.now ≡ true)) }
         ensures wants_marked { OnErr result (is_among pg.now (marks_of self.old) ≡ true) }
     {
         let Some(place) = self.find(pg) else {
@@ -273,8 +271,7 @@ impl Groups {
         requires within { place < length self.old.kept.items }
         requires at { AreAtPlaces self.old }
         ensures at { AreAtPlaces self.new }
-        ensures is { (owner : AnyOwner) (log : List AnyEntry) → AreOwnGroupsOf owner log self.old → length log ≡ count
-            → AreOwnGroupsOf owner log self.new }
+        ensures is { FollowStill count self.old self.new }
         ensures one { IsRenewedAt place result self.old self.new }
     {
         self.some_worked_out = true;
@@ -287,10 +284,9 @@ impl Groups {
     /// What the entries say of a group of the owner, except for count and epoch, where the map has it and it isn't marked.
     pub(crate) fn view_of(&self, pg: &PgId) -> Option<&View>
         requires { AreAtPlaces self.now }
-        ensures view { IfSome result (λ view. (owner : AnyOwner) (log : List AnyEntry) → AreOwnGroupsOf owner log self.now
-            → IsViewOf log pg.now view.now) }
-        ensures there { (owner : AnyOwner) (log : List AnyEntry) → AreOwnGroupsOf owner log self.now → owns owner pg.now ≡ true
-            → is_some result ≡ (has_group (incs_of log) pg.now && not (is_among pg.now (marks_of self.now))) }
+        ensures view { IfSome result (λ view. OfOwnLog self.now (λ owner log. IsViewOf log pg.now view.now)) }
+        ensures there { OfOwnLog self.now (λ owner log. owns owner pg.now ≡ true
+            → is_some result ≡ (has_group (incs_of log) pg.now && not (is_among pg.now (marks_of self.now)))) }
     {
         let place = self.find(pg)?;
         self.kept[place].view.as_ref()
@@ -300,11 +296,10 @@ impl Groups {
     /// After an error they follow from the same entries.
     pub(crate) fn renew(&mut self, max: usize, count: usize) -> Result<usize, AllocError>
         requires { AreAtPlaces self.old }
-        ensures is { (owner : AnyOwner) (log : List AnyEntry) → AreOwnGroupsOf owner log self.old → length log ≡ count
-            → AreOwnGroupsOf owner log self.new }
+        ensures is { FollowStill count self.old self.new }
         ensures marks { OnOk result (marks_of self.new ≡ drop max (marks_of self.old)) }
         ensures left { IfOk result (λ left. left ≡ length (marks_of self.new)) }
-        ensures wants { OnErr result ((owner : AnyOwner) (log : List AnyEntry) → AreOwnGroupsOf owner log self.old → HasInc log) }
+        ensures wants { OnErr result (OfOwnLog self.old (λ owner log. HasInc log)) }
         ensures wants_marked { OnErr result (0 < min max (length (marks_of self.old))) }
     {
         let mut more = max;

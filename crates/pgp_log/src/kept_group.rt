@@ -13,7 +13,7 @@ ghost use Rattle.pgp_map.specs.declared.map.OsdMap.{OsdMap as AnyMap};
 ghost use Rattle.pgp_group.specs.Entries.{inc_of, incs_of};
 ghost use Rattle.pgp_group.specs.GroupOf.{TellsNothingAhead};
 ghost use Rattle.pgp_group.specs.Touched.{is_touched, has_to_do_with, may_lie_on, may_move};
-ghost use Rattle.pgp_log.specs.kept.KeptGroup.{IsKeptOf, IsStep, CanStep, StepsOn, IsTouchedBy, KeepsView, is_marked};
+ghost use Rattle.pgp_log.specs.kept.KeptGroup.{IsKeptOf, OfKeptLog, IsStep, CanStep, StepsOn, IsTouchedBy, KeepsView, is_marked};
 ghost use Rattle.pgp_log.specs.kept.Rows.{IsRowOf};
 ghost use Rattle.pgp_log.specs.Log.{epoch_of};
 ghost use Rattle.pgp_log.specs.RawSets.{IsRawSet};
@@ -157,8 +157,8 @@ impl KeptGroup {
     /// Takes the pg_temp list of the new map, and places the group anew where the tree may put it elsewhere.
     fn place_anew(&mut self, before: &MapBefore, after: &OsdMap, inc: &Incremental)
         requires { HasGroup after.now self.old.pg }
-        ensures raw { (log : List AnyEntry) → IsKeptOf log self.old → IsStep log inc.now before.now after.now
-            → IsRawSet (incs_of (log ++ entry.Inc inc.now ∷ [])) self.old.pg self.new.raw }
+        ensures raw { OfKeptLog self.old (λ log. IsStep log inc.now before.now after.now
+            → IsRawSet (incs_of (log ++ entry.Inc inc.now ∷ [])) self.old.pg self.new.raw) }
         ensures temp { (log : List AnyEntry) → IsStep log inc.now before.now after.now
             → self.new.temp ≡ temp (incs_of (log ++ entry.Inc inc.now ∷ [])) self.old.pg }
         ensures group { self.new.group ≡ self.old.group }
@@ -173,10 +173,9 @@ impl KeptGroup {
     /// Whether the group may lie elsewhere by the incremental, which leads from the map before to the one after.
     fn may_move(&self, before: &MapBefore, after: &OsdMap, inc: &Incremental) -> bool
         requires { HasGroup after.now self.now.pg }
-        ensures stays { result ≡ false → (log : List AnyEntry) → IsKeptOf log self.now → IsStep log inc.now before.now after.now
-            → may_move (incs_of log) inc.now self.now.pg ≡ false }
-        ensures touches { result ≡ true → (log : List AnyEntry) → IsKeptOf log self.now → IsStep log inc.now before.now after.now
-            → is_touched log (entry.Inc inc.now) self.now.pg ≡ true }
+        ensures stays { result ≡ false → OfKeptLog self.now (λ log. IsStep log inc.now before.now after.now
+            → may_move (incs_of log) inc.now self.now.pg ≡ false) }
+        ensures touches { result ≡ true → IsTouchedBy inc.now before.now after.now self.now }
     {
         before.places_anew(after, inc, &self.pg, self.raw.as_slice())
             || changes_pool(inc, self.pg.pool)
@@ -186,8 +185,8 @@ impl KeptGroup {
 
     /// Whether the group may lie on a device that the incremental boots, takes down or destroys.
     fn lies_on_turned(&self, inc: &Incremental) -> bool
-        ensures { (log : List AnyEntry) → IsKeptOf log self.now → let lies = may_lie_on (incs_of log) self.now.pg in
-            result ≡ (list_any lies inc.now.up || list_any lies inc.now.down || list_any lies inc.now.gone) }
+        ensures { OfKeptLog self.now (λ log. let lies = may_lie_on (incs_of log) self.now.pg in
+            result ≡ (list_any lies inc.now.up || list_any lies inc.now.down || list_any lies inc.now.gone)) }
     {
         self.lies_on_any(inc.up.as_slice())
             || self.lies_on_any(inc.down.as_slice())
@@ -196,7 +195,7 @@ impl KeptGroup {
 
     /// Whether the group may lie on one of these devices.
     fn lies_on_any(&self, osds: &[OsdId]) -> bool
-        ensures { (log : List AnyEntry) → IsKeptOf log self.now → result ≡ list_any (may_lie_on (incs_of log) self.now.pg) osds.now }
+        ensures { OfKeptLog self.now (λ log. result ≡ list_any (may_lie_on (incs_of log) self.now.pg) osds.now) }
     {
         for osd in osds {
             if self.lies_on(*osd) {
@@ -208,23 +207,23 @@ impl KeptGroup {
 
     /// Whether the group may lie on the device: it stands in the raw set or in pg_temp.
     fn lies_on(&self, osd: OsdId) -> bool
-        ensures { (log : List AnyEntry) → IsKeptOf log self.now → result ≡ may_lie_on (incs_of log) self.now.pg osd }
+        ensures { OfKeptLog self.now (λ log. result ≡ may_lie_on (incs_of log) self.now.pg osd) }
     {
         has_osd(self.raw.as_slice(), osd) || has_osd(self.temp.as_slice(), osd)
     }
 
     /// Whether the incremental touches the group.
     fn is_touched(&self, inc: &Incremental) -> bool
-        ensures { (log : List AnyEntry) → IsKeptOf log self.now → result ≡ is_touched log (entry.Inc inc.now) self.now.pg }
+        ensures { OfKeptLog self.now (λ log. result ≡ is_touched log (entry.Inc inc.now) self.now.pg) }
     {
         changes_placement(inc, &self.pg) || self.knows_changed(inc)
     }
 
     /// Whether the group has to do with a device whose state the incremental changes.
     fn knows_changed(&self, inc: &Incremental) -> bool
-        ensures { (log : List AnyEntry) → IsKeptOf log self.now → let knows = has_to_do_with log self.now.pg in
+        ensures { OfKeptLog self.now (λ log. let knows = has_to_do_with log self.now.pg in
             result ≡ (list_any knows inc.now.up || list_any knows inc.now.down || list_any knows inc.now.gone
-            || list_any (λ told. knows told.osd) inc.now.up_thru || list_any (λ told. knows told.osd) inc.now.lost) }
+            || list_any (λ told. knows told.osd) inc.now.up_thru || list_any (λ told. knows told.osd) inc.now.lost)) }
     {
         self.knows_any(inc.up.as_slice())
             || self.knows_any(inc.down.as_slice())
@@ -235,8 +234,7 @@ impl KeptGroup {
 
     /// Whether the group has to do with one of these devices.
     fn knows_any(&self, osds: &[OsdId]) -> bool
-        ensures { (log : List AnyEntry) → IsKeptOf log self.now
-            → result ≡ list_any (has_to_do_with log self.now.pg) osds.now }
+        ensures { OfKeptLog self.now (λ log. result ≡ list_any (has_to_do_with log self.now.pg) osds.now) }
     {
         for osd in osds {
             if self.knows(*osd) {
@@ -248,8 +246,7 @@ impl KeptGroup {
 
     /// Whether the group has to do with a device of which this is told.
     fn knows_dated(&self, all: &[DeviceEpoch]) -> bool
-        ensures { (log : List AnyEntry) → IsKeptOf log self.now
-            → result ≡ list_any (λ told. has_to_do_with log self.now.pg told.osd) all.now }
+        ensures { OfKeptLog self.now (λ log. result ≡ list_any (λ told. has_to_do_with log self.now.pg told.osd) all.now) }
     {
         for told in all {
             if self.knows(told.osd) {
@@ -262,7 +259,7 @@ impl KeptGroup {
     /// Whether the group has to do with the device: it stands in the raw set, in pg_temp or in a past interval, or sent a
     /// report.
     fn knows(&self, osd: OsdId) -> bool
-        ensures { (log : List AnyEntry) → IsKeptOf log self.now → result ≡ has_to_do_with log self.now.pg osd }
+        ensures { OfKeptLog self.now (λ log. result ≡ has_to_do_with log self.now.pg osd) }
     {
         self.lies_on(osd) || self.group.names(osd)
     }
@@ -284,8 +281,7 @@ impl KeptGroup {
     /// map, and `count` the number of entries. A group that isn't marked takes no memory. After an `Err` it stands for the same
     /// log.
     pub(crate) fn renew(&mut self, map: &OsdMap, count: usize) -> Result<(), AllocError>
-        ensures kept { (log : List AnyEntry) → IsKeptOf log self.old → IsMapOf (incs_of log) map.now → length log ≡ count
-            → IsKeptOf log self.new }
+        ensures kept { OfKeptLog self.old (λ log. IsMapOf (incs_of log) map.now → length log ≡ count → IsKeptOf log self.new) }
         ensures marks { OnOk result (is_some self.new.view ≡ true) }
         ensures wants { OnErr result (is_marked self.old ≡ true) }
         ensures pg { self.new.pg ≡ self.old.pg }

@@ -97,6 +97,14 @@ pub record AreOwnGroupsOf (owner : Owner) (log : List Entry) (groups : Groups) :
   pub groups_are : AreGroupsOf log groups
   pub own_are : HasOwn owner (incs_of log) groups
 
+-- this holds of each owner, and of each log from which the owner's groups follow
+abbrev pub OfOwnLog : Groups → (Owner → List Entry → Type 0) → Type 0
+OfOwnLog groups P = (owner : Owner) (log : List Entry) → AreOwnGroupsOf owner log groups → P owner log
+
+-- they follow still from each log of this many entries from which they followed before
+abbrev pub FollowStill : ℕ → Groups → Groups → Type 0
+FollowStill count before after = OfOwnLog before (λ owner log. length log ≡ count → AreOwnGroupsOf owner log after)
+
 -- the map has an incremental that comes next in the log; the owner's groups that the map before has are kept, and only groups
 -- of the owner that the map after has
 pub record IsStepping (owner : Owner) (log : List Entry) (inc : Incremental) (groups : Groups) : Type 0 where

@@ -36,6 +36,10 @@ pub record IsKeptOf (log : List Entry) (kept : KeptGroup) : Type 0 where
   pub temp_is : kept.temp ≡ temp (incs_of log) kept.pg
   pub view_is : IfSome kept.view (IsViewOf log kept.pg)
 
+-- this holds of each log of which the group is kept
+abbrev pub OfKeptLog : KeptGroup → (List Entry → Type 0) → Type 0
+OfKeptLog kept P = (log : List Entry) → IsKeptOf log kept → P log
+
 -- its view has to be worked out anew
 abbrev pub is_marked : KeptGroup → Bool
 is_marked kept = is_none kept.view
@@ -49,19 +53,16 @@ pub record IsStep (log : List Entry) (inc : Incremental) (before : MapBefore) (a
 
 -- where the incremental comes next in the log, what is kept of the group follows the log on
 abbrev pub StepsOn : Incremental → MapBefore → OsdMap → KeptGroup → KeptGroup → Type 0
-StepsOn inc before after old new =
-    (log : List Entry) → IsKeptOf log old → IsStep log inc before after → IsKeptOf (log ++ entry.Inc inc ∷ []) new
+StepsOn inc before after old new = OfKeptLog old (λ log. IsStep log inc before after → IsKeptOf (log ++ entry.Inc inc ∷ []) new)
 
 -- where it comes next, it touches the group
 abbrev pub IsTouchedBy : Incremental → MapBefore → OsdMap → KeptGroup → Type 0
-IsTouchedBy inc before after kept =
-    (log : List Entry) → IsKeptOf log kept → IsStep log inc before after → is_touched log (entry.Inc inc) kept.pg ≡ true
+IsTouchedBy inc before after kept = OfKeptLog kept (λ log. IsStep log inc before after → is_touched log (entry.Inc inc) kept.pg ≡ true)
 
 -- where it comes next and doesn't touch the group, the view that is kept stays as it was
 abbrev pub KeepsView : Incremental → MapBefore → OsdMap → KeptGroup → KeptGroup → Type 0
 KeepsView inc before after old new =
-    (log : List Entry) → IsKeptOf log old → IsStep log inc before after → is_touched log (entry.Inc inc) old.pg ≡ false
-    → new.view ≡ old.view
+    OfKeptLog old (λ log. IsStep log inc before after → is_touched log (entry.Inc inc) old.pg ≡ false → new.view ≡ old.view)
 
 -- it does in some log of which the group is kept
 pub record CanStep (kept : KeptGroup) (inc : Incremental) (before : MapBefore) (after : OsdMap) : Type 0 where

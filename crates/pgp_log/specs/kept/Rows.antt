@@ -1,7 +1,6 @@
 -- The rows of groups, by which an incremental passes by those that it can't touch (this project's own choice).
 use Rattle.std.specs.Prelude.{◌≡◌, ℕ, nat_eq, List, length, slice_get, Bool, ◌&&◌, ◌||◌, Some, true, false, if◌then◌else◌}
 use Rattle.std.specs.List.{list_any}
-use Rattle.pgp_ids.specs.declared.entry.Entry.{Entry}
 use Rattle.pgp_ids.specs.declared.incremental.Incremental.{Incremental}
 use Rattle.pgp_map.specs.MapFault.{then_with}
 use Rattle.pgp_map.specs.MapOf.{IsMapOf}
@@ -16,15 +15,15 @@ use Rattle.pgp_log.specs.declared.kept_group.KeptGroup.{KeptGroup}
 use Rattle.pgp_log.specs.declared.osd_filter.OsdFilter.{OsdFilter}
 use Rattle.pgp_log.specs.declared.row.Changes.{Changes}
 use Rattle.pgp_log.specs.declared.row.Row.{Row}
-use Rattle.pgp_log.specs.kept.KeptGroup.{IsKeptOf, is_marked}
+use Rattle.pgp_log.specs.kept.KeptGroup.{OfKeptLog, is_marked}
 
 -- the row is that of the group: it says whether the group is marked, and has the devices on which the group may lie by each log
 -- of which the group is kept, and where the group isn't marked, those with which it has to do
 pub record IsRowOf (row : Row) (kept : KeptGroup) : Type 0 where
   pub pg : row.pg ≡ kept.pg
   pub marked : row.marked ≡ is_marked kept
-  pub lies_on : (log : List Entry) → IsKeptOf log kept → (osd : ℕ) → may_lie_on (incs_of log) kept.pg osd ≡ true → Covers row.devices osd
-  pub knows : is_marked kept ≡ false → (log : List Entry) → IsKeptOf log kept → (osd : ℕ) → has_to_do_with log kept.pg osd ≡ true → Covers row.devices osd
+  pub lies_on : OfKeptLog kept (λ log. (osd : ℕ) → may_lie_on (incs_of log) kept.pg osd ≡ true → Covers row.devices osd)
+  pub knows : is_marked kept ≡ false → OfKeptLog kept (λ log. (osd : ℕ) → has_to_do_with log kept.pg osd ≡ true → Covers row.devices osd)
 
 -- each row is that of the group at its place
 pub record AreRowsOf (rows : List Row) (groups : List KeptGroup) : Type 0 where
