@@ -134,6 +134,9 @@ class Client:
         return self
 
     def __exit__(self, *_: object) -> None:
+        self.close()
+
+    def close(self) -> None:
         self.lines.close()
         self.link.close()
 

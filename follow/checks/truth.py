@@ -1,0 +1,149 @@
+"""Holds what followers answered against the program, run on the lines of the log."""
+
+import re
+import subprocess
+import threading
+import time
+from collections import defaultdict
+from typing import DefaultDict, Dict, List, NamedTuple, Sequence, Tuple
+
+import cluster  # noqa: F401  (finds the package)
+from pgpeer_follow.faults import Fault
+from pgpeer_follow.keys import Entry, Keys
+from pgpeer_follow.log import Log, join
+
+COUNT = re.compile(rb'"count":\d+')
+
+
+class Recorder:
+    """Reads the log from its first place on while it grows, so that it has what is deleted later."""
+
+    def __init__(self, made: "cluster.Cluster", prefix: str = "/pgpeer/"):
+        self.made, self.keys = made, Keys(prefix)
+        self.entries: List[Entry] = []
+        self.stopping = threading.Event()
+        self.thread = threading.Thread(target=self.run, daemon=True)
+        self.thread.start()
+
+    def run(self) -> None:
+        to_etcd = self.made.to_etcd()
+        while not self.stopping.is_set():
+            try:
+                log = Log(self.keys, join(self.keys, to_etcd), to_etcd)
+                while not self.stopping.wait(0.2):
+                    self.read(log)
+            except Fault:
+                time.sleep(0.2)
+
+    def read(self, log: Log) -> int:
+        """Reads to the end, and gives the last place."""
+        while True:
+            page = log.page(len(self.entries))
+            for entry in page.entries:
+                if entry.place != len(self.entries) + 1:
+                    raise AssertionError(f"place {entry.place} follows {len(self.entries)}")
+                self.entries.append(entry)
+            if len(self.entries) >= page.head:
+                return page.head
+
+    def finish(self, seconds: float = 60.0) -> List[Entry]:
+        """The whole log."""
+        self.stopping.set()
+        self.thread.join(10)
+        end = time.monotonic() + seconds
+        while True:
+            try:
+                to_etcd = self.made.to_etcd()
+                self.read(Log(self.keys, join(self.keys, to_etcd), to_etcd))
+                return self.entries
+            except Fault:
+                if time.monotonic() > end:
+                    raise
+                time.sleep(0.5)
+
+
+class Answer(NamedTuple):
+    """What a follower said to a question, or to an entry: then `line` is empty, and `at` is the entry's place."""
+
+    at: int
+    line: bytes
+    answer: bytes
+
+
+def piped(program: str, command: str, lines: Sequence[bytes]) -> List[bytes]:
+    text = b"".join(it + b"\n" for it in lines)
+    ended = subprocess.run([program, command], input=text, stdout=subprocess.PIPE, stderr=subprocess.DEVNULL, check=True)
+    return ended.stdout.split(b"\n")[:-1]
+
+
+def wanted_of(program: str, log: Sequence[Entry], asked: Dict[int, List[bytes]], follows_marks: bool) -> Tuple[Dict[int, bytes], Dict[int, List[bytes]]]:
+    """What the program answers to the entries, by their places, and to the questions at each place: on the lines of the log, and
+    with marks followed on what `compact` leaves at each with the lines since."""
+    script: List[bytes] = list(asked.get(0, []))
+    whose: List[Tuple[int, bool]] = [(0, False)] * len(script)
+    kept: List[bytes] = []  # lines of the log since the base, with the base
+    entries: Dict[int, bytes] = {}
+    questions: DefaultDict[int, List[bytes]] = defaultdict(list)
+
+    def play() -> None:
+        for (place, is_entry), answer in zip(whose, piped(program, "run", script)):
+            if is_entry:
+                entries[place] = answer
+            elif place >= 0:
+                questions[place].append(answer)
+
+    for entry in log:
+        if entry.is_mark and follows_marks:
+            play()
+            kept = piped(program, "compact", kept)
+            script, whose = list(kept), [(-1, False)] * len(kept)
+        elif entry.line:
+            kept.append(entry.line)
+            script.append(entry.line)
+            whose.append((entry.place, True))
+        here = asked.get(entry.place, [])
+        script.extend(here)
+        whose.extend([(entry.place, False)] * len(here))
+    play()
+    return entries, questions
+
+
+def faults_of(program: str, log: Sequence[Entry], answers: Sequence[Answer]) -> List[str]:
+    """What is wrong with answers: they aren't the program's on the log up to their place, byte for byte; or, but for the counts of
+    entries, on the log without its marks."""
+    asked: DefaultDict[int, List[bytes]] = defaultdict(list)
+    for it in answers:
+        if it.line:
+            asked[it.at].append(it.line)
+    faults: List[str] = []
+    for follows_marks in (True, False):
+        entries, questions = wanted_of(program, log, asked, follows_marks)
+        left = {place: iter(it) for place, it in questions.items()}
+        for it in answers:
+            wanted = next(left[it.at], b"") if it.line else entries.get(it.at, b"")
+            found = it.answer
+            if not follows_marks:
+                wanted, found = COUNT.sub(b"", wanted), COUNT.sub(b"", found)
+            if found != wanted:
+                faults.append(f"at {it.at}, {'with' if follows_marks else 'without'} marks: {it.line!r} is answered {found!r}, and not {wanted!r}")
+    return faults
+
+
+def misplaced(log: Sequence[Entry], told: Dict[str, Tuple[int, bytes]], unsure: Dict[str, bytes]) -> List[str]:
+    """What is wrong with the log: a line that was acknowledged isn't at its place, or a line is there twice, or nobody told it."""
+    faults, seen = [], {}
+    for entry in log:
+        if not entry.token:
+            if not entry.is_mark:
+                faults.append(f"place {entry.place} can't be read")
+            continue
+        if entry.token in seen:
+            faults.append(f"{entry.token} stands at {seen[entry.token]} and at {entry.place}")
+        seen[entry.token] = entry.place
+        line = told[entry.token][1] if entry.token in told else unsure.get(entry.token)
+        if line != entry.line:
+            faults.append(f"place {entry.place} has a line that nobody told: {entry}")
+    for token, (place, _) in told.items():
+        if seen.get(token) != place:
+            faults.append(f"{token} was acknowledged at {place}, and stands at {seen.get(token)}")
+    return faults
