@@ -85,7 +85,8 @@ class Cluster:
             urls = f"http://127.0.0.1:{port}"
             shown = "--advertise-client-urls" if kind == "client" else "--initial-advertise-peer-urls"
             words += [f"--listen-{kind}-urls", urls, shown, urls]
-        return Process([*words, "--logger", "zap", "--log-level", "error"], folder / f"n{at}.log")
+        words += ["--logger", "zap", "--log-level", "error", "--auto-compaction-mode", "revision", "--auto-compaction-retention", "1000"]
+        return Process(words, folder / f"n{at}.log")
 
     def __enter__(self) -> "Cluster":
         for it in [*self.nodes, *self.followers]:

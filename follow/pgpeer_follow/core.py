@@ -5,6 +5,7 @@ A pipe and not the library by ctypes: whatever becomes of the program, the follo
 """
 
 import collections
+import io
 import subprocess
 import threading
 import time
@@ -55,8 +56,7 @@ class Core:
 
     def hand_out(self) -> None:
         """Reads answers until the program ends."""
-        assert self.child.stdout
-        with open(self.child.stdout.fileno(), "rb", closefd=False) as out:
+        with io.BufferedReader(self.child.stdout) as out:  # type: ignore[arg-type]
             for line in out:
                 if not line.endswith(b"\n") or not self.waiting:
                     break
