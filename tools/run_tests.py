@@ -6,7 +6,7 @@
 In this order, each part with its count and its seconds:
 
   links of documents                what documents name is there: links, sections and files (check_links.py)
-  tests of tools/, tests of fuzz/   unit tests in Python, except those that need the built program
+  tests of tools/, fuzz/, follow/   unit tests in Python, except those that need the built program
   gate                              `rt ci`, with as many checks at once as there are processors, where there are 5 GB of
                                     memory for each of them
   tests of tools/, with the program all unit tests of tools/
@@ -18,6 +18,8 @@ In this order, each part with its count and its seconds:
                                     (fuzz/explain.py)
   compactions                       a script that `compact` wrote has the answers of the whole one, for half a minute at most
                                     (fuzz/compact.py)
+  followers of one log              three followers over three nodes of etcd answer as the program does on the lines of the log, while
+                                    one of each is killed (follow/checks/many.py)
   allocations refused               each allocation of a short script refused in turn, with and without workers
                                     (refuse_allocations.py), of an explanation and of a compaction (refuse_in_subcommands.py), and
                                     of tests of the feed, the engine and runs (refuse_in_tests.py)
@@ -27,8 +29,8 @@ In this order, each part with its count and its seconds:
 --quick runs what stands before the gate alone, and --after-gate what stands after it, on the program that an earlier gate or
 `rt run` left. --seed is that of the generated scripts, 1 if not said.
 
-Needs bash, Python and `rt`, and a C compiler for two of the statuses and for the last parts: what lacks one is left out, and a
-line says so. All parts except the gate take some twelve minutes on a quiet machine. Each part has a bound of its own, some four times
+Needs bash, Python and `rt`, a C compiler for two of the statuses and for the last parts, and etcd for the followers: what lacks one
+is left out, and a line says so. All parts except the gate take some fourteen minutes on a quiet machine. Each part has a bound of its own, some four times
 that, so that a busy machine fails none; one that takes longer has failed. The gate says its lines as they come, another part
 where it failed. Nothing is installed, and no file is left in the tree but in folders `out`. The last line is
 `N passed, M failed`, of all parts together, and the status is 1 where something failed.
@@ -168,6 +170,7 @@ def before_gate() -> List[Part]:
         Part("links of documents", python("tools/check_links.py"), 60, tried_and_wrong),
         Part("tests of tools/", tests_in("tools"), 900, unit_tests),
         Part("tests of fuzz/", tests_in("fuzz"), 900, unit_tests),
+        Part("tests of follow/", tests_in("follow"), 900, unit_tests),
     ]
 
 
@@ -185,6 +188,7 @@ def after_gate(seed: str) -> List[Part]:
     fuzz = python("fuzz/fuzz.py", "--lines", FUZZED_LINES, "--minutes", 1, "--seconds", 60, "--seed", seed)
     explain = python("fuzz/explain.py", "--logs", EXPLAINED_LOGS, "--minutes", 0.5, "--seed", seed)
     compact = python("fuzz/compact.py", "--lines", COMPACTED_LINES, "--minutes", 0.5, "--kinds", *COMPACTED_KINDS, "--seed", seed)
+    follow = python("follow/checks/many.py", "--program", PROGRAM, "--seed", seed)
     sweep = python("tools/refuse_allocations.py", PROGRAM)
     return [
         Part("tests of tools/, with the program", tests_in("tools"), 900, unit_tests, program=PROGRAM),
@@ -194,6 +198,7 @@ def after_gate(seed: str) -> List[Part]:
         Part(f"fuzz, seed {seed}", fuzz, 400, scripts),
         Part(f"explanations, seed {seed}", explain, 300, explanations),
         Part(f"compactions, seed {seed}", compact, 400, compactions),
+        Part("followers of one log", follow, 900, tried_and_wrong, ("etcd",)),
     ] + [
         Part(
             f"allocations refused, {script}.jsonl, {shards} shards, {workers} workers",

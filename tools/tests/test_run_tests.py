@@ -27,6 +27,7 @@ SAYS = {
     "tools/check_c_library.py": "names right\nRust skipped, since cargo isn't there\n9 checks, 0 wrong",
     "fuzz/fuzz.py": "1,060 scripts, 55,530 lines, 9 bytes, 0 wrong answers, 0 other statuses, 0 hangs.",
     "fuzz/explain.py": "60 logs, 125 ends\n1,352 groups, 800 subsets, 0 wrong",
+    "follow/checks/many.py": "5,000 lines in 40 s\n7600 checks, 0 wrong",
     "fuzz/compact.py": "Scripts: 9 story.\n9 scripts, 9,041 lines, 1,022 compactions which left out 5 of 9 entries, 8 answers after them, 0 wrong",
 }
 STUB = "import sys, time\n{before}\nprint({said!r})\nsys.exit({status})\n"
@@ -55,7 +56,8 @@ exit {status}
 """
 BUILT_C = 'mkdir -p "$2" && touch "$2/libpgpeer.so"'
 ON_C = 1 + 9  # the build of the library for C, and its checks
-ALL = 412 + ON_C + 2 + 110 + 2 + 47 + 14 + 24 + 1060 + 1352 + 1022 + 2 * 153 + 2 * 261 + 2 * 100
+FOLLOWED = 7600
+ALL = 412 + ON_C + 3 + 110 + 2 + 47 + 14 + 24 + 1060 + 1352 + 1022 + FOLLOWED + 2 * 153 + 2 * 261 + 2 * 100
 
 
 class WithTree(unittest.TestCase):
@@ -63,10 +65,11 @@ class WithTree(unittest.TestCase):
         room = tempfile.TemporaryDirectory()
         self.addCleanup(room.cleanup)
         self.root, self.bin = pathlib.Path(room.name) / "root", pathlib.Path(room.name) / "bin"
-        for folder in ("tools/tests", "fuzz/tests"):
+        for folder in ("tools/tests", "fuzz/tests", "follow/tests"):
             (self.root / folder).mkdir(parents=True)
             self.unit_test(folder, 2)
         self.bin.mkdir()
+        (self.root / "follow/checks").mkdir()
         for name, said in SAYS.items():
             self.stub(name, said)
         self.rt(BUILD, "110 passed, 0 failed", 0)
@@ -137,7 +140,7 @@ class Runs(WithTree):
     def test_a_name_that_is_not_there_fails(self):
         self.stub("tools/check_links.py", "README.md:3: no file docs/GONE.md\n412 names, 1 wrong", 1)
         status, lines = self.run_all("--quick")
-        self.assertEqual((status, lines[-1]), (1, "413 passed, 1 failed"))
+        self.assertEqual((status, lines[-1]), (1, "414 passed, 1 failed"))
         self.assertIn("README.md:3: no file docs/GONE.md", lines)
 
     def test_a_failing_unit_test_fails_and_all_else_is_run(self):
@@ -149,7 +152,7 @@ class Runs(WithTree):
     def test_a_gate_that_fails_and_builds_no_program_fails(self):
         self.rt("echo 'rt: FAILED: pgp_map'", "108 passed, 2 failed", 1)
         status, lines = self.run_all()
-        self.assertEqual((status, lines[-1]), (1, "522 passed, 3 failed"))
+        self.assertEqual((status, lines[-1]), (1, "523 passed, 3 failed"))
         self.assertIn("tests on the program: 0 passed, 1 failed, since there is no crates/pgpeer/out/pgpeer", lines)
 
     def test_a_gate_that_ends_early_fails(self):
@@ -168,7 +171,7 @@ class Runs(WithTree):
         for name in SAYS:
             self.stub(name, "Traceback", 1)
         status, lines = self.run_all()
-        self.assertEqual((status, lines[-1]), (1, "115 passed, 14 failed"))
+        self.assertEqual((status, lines[-1]), (1, "116 passed, 15 failed"))
 
     def test_a_part_without_end_is_stopped(self):
         self.stub("tools/check_statuses.py", "", before="time.sleep(600)")
@@ -178,10 +181,11 @@ class Runs(WithTree):
         self.assertEqual(status, 1)
         self.assertLess(time.monotonic() - start, 300)
 
-    def test_without_a_compiler_the_sweep_is_skipped(self):
+    def test_without_a_compiler_and_etcd_what_needs_them_is_skipped(self):
         with mock.patch.object(run_tests.shutil, "which", lambda name: None):
             status, lines = self.run_all()
-        self.assertEqual((status, lines[-1]), (0, f"{ALL - ON_C - 2 * 153 - 2 * 261 - 2 * 100} passed, 0 failed"))
+        self.assertEqual((status, lines[-1]), (0, f"{ALL - ON_C - FOLLOWED - 2 * 153 - 2 * 261 - 2 * 100} passed, 0 failed"))
+        self.assertIn("followers of one log: skipped, since etcd isn't there", lines)
         self.assertIn("allocations refused, first.jsonl, 1 shards, 0 workers: skipped, since cc isn't there", lines)
         self.assertIn("library for C, built: skipped, since cc isn't there", lines)
         self.assertIn("library for C: skipped, since cc isn't there", lines)
@@ -201,12 +205,12 @@ class Runs(WithTree):
 
     def test_the_parts_that_are_asked_for(self):
         status, lines = self.run_all("--quick")
-        self.assertEqual((status, len(lines), lines[-1]), (0, 4, "414 passed, 0 failed"))
+        self.assertEqual((status, len(lines), lines[-1]), (0, 5, "415 passed, 0 failed"))
         status, lines = self.run_all("--after-gate")
         self.assertEqual((status, lines[-1]), (1, "0 passed, 1 failed"))
         self.run_all()
         status, lines = self.run_all("--after-gate")
-        self.assertEqual((status, lines[-1]), (0, f"{ALL - 112 - 412} passed, 0 failed"))
+        self.assertEqual((status, lines[-1]), (0, f"{ALL - 113 - 412} passed, 0 failed"))
 
 
 class Environment(unittest.TestCase):
